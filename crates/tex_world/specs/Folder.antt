@@ -1,0 +1,92 @@
+-- What the calls of a folder give, when each may be refused, and which counts they raise.
+use Rattle.std.specs.Prelude.{◌≡◌, ◌⊎◌, ◌↔◌, ℕ, ◌+◌, ◌<◌, ◌≤◌, min, Bool, IsTrue, List}
+use Rattle.std.specs.Prelude.{Option, Some, None, IsSome, Result, Ok, Err, ⊤}
+use Rattle.std.specs.Option.{ForSome}
+use Rattle.tex_world.specs.Counts.{last_count, Rises, RisesByOne}
+use Rattle.tex_world.specs.World.{Files, HasNoFile, most_files}
+use Rattle.tex_world.specs.Tap.{TapState}
+use Rattle.tex_world.specs.declared.fault.EnterError.{EnterError}
+use Rattle.tex_world.specs.declared.fault.EnterError.TheVariants.{Failed, TooMany, NoMemory}
+
+-- The counts of a folder, none of which falls, and what is known of it.
+pub record FolderState : Type 0 where
+  -- failed calls, those of the taps given back among them
+  pub faults : ℕ
+  -- meetings of the taps given back with a newer generation
+  pub moves : ℕ
+  -- taps made
+  pub made : ℕ
+  -- taps given back
+  pub returned : ℕ
+  -- more than 4096 files were found
+  pub over : Bool
+  -- the path that was entered, if one was
+  pub entered : Option (List ℕ)
+  -- the number of files once entered, and 0 before
+  pub size : ℕ
+
+-- The laws of a folder: at most 4096 files, none before it is entered, and once entered those of a
+-- world that tells.
+pub record IsFolder (files : Files) (folder : FolderState) : Type 0 where
+  pub few : folder.size ≤ most_files
+  pub before : folder.entered ≡ None → folder.size ≡ 0
+  pub told : IsSome folder.entered → IsTrue files.tells → folder.size ≡ files.count
+
+-- which files there are stays, and whether there were too many
+pub record KeepsFiles (old new : FolderState) : Type 0 where
+  pub over : new.over ≡ old.over
+  pub entered : new.entered ≡ old.entered
+  pub size : new.size ≡ old.size
+
+-- ---- enter
+
+-- why an `enter` is refused
+abbrev pub EnterCause : Files → FolderState → FolderState → EnterError → Type 0
+EnterCause files old new Failed = Rises old.faults new.faults
+EnterCause files old new TooMany = IsTrue files.tells → ⊥
+EnterCause files old new NoMemory = ⊤
+
+-- After an answered `enter` the folder is entered, after a refused one it is not. `TooMany` alone
+-- sets the mark.
+pub record AfterEnter (path : List ℕ) (old new : FolderState)
+    (result : Result (Unit {0}) EnterError) : Type 0 where
+  pub faults : old.faults ≤ new.faults
+  pub moves : new.moves ≡ old.moves
+  pub made : new.made ≡ old.made
+  pub returned : new.returned ≡ old.returned
+  pub entered : result ≡ Ok tt → new.entered ≡ Some path
+  pub refused : (e : EnterError) → result ≡ Err e → new.entered ≡ None
+  pub over : IsTrue new.over ↔ (IsTrue old.over ⊎ (result ≡ Err TooMany))
+
+-- ---- find
+
+-- The number of the file of this name, exactly so where the world tells, and none before the
+-- folder is entered.
+pub record Finds (files : Files) (folder : FolderState) (name : List ℕ) (result : Option ℕ)
+    : Type 0 where
+  pub before : folder.entered ≡ None → result ≡ None
+  pub below : ForSome result (λ n. n < folder.size)
+  pub found : IsTrue files.tells → ForSome result (λ n. files.name n ≡ name)
+  pub absent : IsSome folder.entered → IsTrue files.tells → result ≡ None → HasNoFile files name
+
+-- ---- tap and back
+
+-- An answered `tap` raises the count of taps made by one, and nothing else.
+pub record AfterTap {T E : Type 0} (old new : FolderState) (result : Result T E) : Type 0 where
+  pub faults : old.faults ≤ new.faults
+  pub moves : new.moves ≡ old.moves
+  pub made : (t : T) → result ≡ Ok t → RisesByOne old.made new.made
+  pub not_made : (e : E) → result ≡ Err e → new.made ≡ old.made
+  pub returned : new.returned ≡ old.returned
+  pub files : KeepsFiles old new
+
+-- After a `back` the faults are at least those of the folder and of the tap together, and the moves
+-- just these.
+pub record AfterBack (tap : TapState) (old new : FolderState) : Type 0 where
+  pub faults_later : old.faults ≤ new.faults
+  pub faults : min (old.faults + tap.faults) last_count ≤ new.faults
+  pub moves_later : old.moves ≤ new.moves
+  pub moves : new.moves ≡ min (old.moves + tap.moves) last_count
+  pub made : new.made ≡ old.made
+  pub returned : RisesByOne old.returned new.returned
+  pub files : KeepsFiles old new

@@ -1,0 +1,14 @@
+pub mod Counts
+pub mod World
+pub mod Tap
+pub mod Folder
+pub mod Stream
+pub mod Table
+pub mod TableLaws
+pub mod Names
+pub mod Memory
+pub mod Plan
+pub mod MemHandle
+pub mod MemTap
+pub mod MemFolder
+pub mod FolderLaws

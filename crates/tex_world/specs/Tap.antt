@@ -1,0 +1,119 @@
+-- What the calls of a tap give, when each may be refused, and which counts they raise.
+use Rattle.std.specs.Prelude.{◌≡◌, ◌⊎◌, ℕ, ◌<◌, ◌≤◌, length, Result, Ok, Err, ⊤}
+use Rattle.std.specs.Option.{ForSome}
+use Rattle.tex_world.specs.Counts.{Rises, RisesByOne}
+use Rattle.tex_world.specs.World.{Files, IsReal}
+use Rattle.tex_world.specs.declared.fault.OpenError.{OpenError}
+use Rattle.tex_world.specs.declared.fault.OpenError.TheVariants as opening
+use Rattle.tex_world.specs.declared.fault.ReadError.{ReadError}
+use Rattle.tex_world.specs.declared.fault.ReadError.TheVariants as reading
+
+-- what a handle names, and its number of bytes
+pub record Named : Type 0 where
+  pub file : ℕ
+  pub generation : ℕ
+  pub len : ℕ
+
+-- A handle's generation is a real one of its file, and its length is that of those bytes.
+pub record IsHandle (files : Files) (handle : Named) : Type 0 where
+  pub real : IsReal files handle.file handle.generation
+  pub len : ForSome (files.held handle.file handle.generation) (λ bytes. handle.len ≡ length bytes)
+
+-- the least generation that a caller asks for: none, or a real one
+abbrev pub IsLeast : Files → ℕ → ℕ → Type 0
+IsLeast files file least = (least ≡ 0) ⊎ IsReal files file least
+
+-- The counts of a tap, none of which falls, and what it was last told.
+pub record TapState : Type 0 where
+  -- failed calls
+  pub faults : ℕ
+  -- calls
+  pub calls : ℕ
+  -- calls of `open`
+  pub opens : ℕ
+  -- answered calls of `newest`
+  pub asks : ℕ
+  -- meetings with a newer generation
+  pub moves : ℕ
+  -- the file and the generation of the latest answered `newest`
+  pub told : ℕ × ℕ
+
+-- the counts of a new tap
+pub record IsNew (tap : TapState) : Type 0 where
+  pub faults : tap.faults ≡ 0
+  pub calls : tap.calls ≡ 0
+  pub opens : tap.opens ≡ 0
+  pub asks : tap.asks ≡ 0
+  pub moves : tap.moves ≡ 0
+
+-- ---- open
+
+-- The handle names this file and a generation that is at least `least`.
+pub record Opens (files : Files) (file least : ℕ) (handle : Named) : Type 0 where
+  pub of_file : handle.file ≡ file
+  pub new_enough : least ≤ handle.generation
+  pub honest : IsHandle files handle
+
+-- why an `open` is refused
+abbrev pub OpenCause : TapState → TapState → OpenError → Type 0
+OpenCause old new opening.Failed = Rises old.faults new.faults
+OpenCause old new opening.NoMemory = ⊤
+
+-- the generation given is above a `least` that is not 0
+abbrev pub IsMove : ℕ → ℕ → Type 0
+IsMove least generation = (0 < least) × (least < generation)
+
+-- An `open` is a call and an opening. The moves rise exactly where it gives a newer generation than
+-- `least` asks for.
+pub record AfterOpen {H : Type 0} (named : H → Named) (least : ℕ) (old new : TapState)
+    (result : Result H OpenError) : Type 0 where
+  pub faults : old.faults ≤ new.faults
+  pub calls : RisesByOne old.calls new.calls
+  pub opens : RisesByOne old.opens new.opens
+  pub asks : new.asks ≡ old.asks
+  pub told : new.told ≡ old.told
+  pub moved : (h : H) → result ≡ Ok h → IsMove least (named h).generation
+      → Rises old.moves new.moves
+  pub unmoved : (h : H) → result ≡ Ok h → (IsMove least (named h).generation → ⊥)
+      → new.moves ≡ old.moves
+  pub refused : (e : OpenError) → result ≡ Err e → new.moves ≡ old.moves
+
+-- ---- newest
+
+-- An answered `newest` is a call and an ask, and the tap was then told its answer. A refused one is
+-- only a call.
+pub record AfterNewest {E : Type 0} (file : ℕ) (old new : TapState) (result : Result ℕ E)
+    : Type 0 where
+  pub faults : old.faults ≤ new.faults
+  pub calls : RisesByOne old.calls new.calls
+  pub opens : new.opens ≡ old.opens
+  pub moves : new.moves ≡ old.moves
+  pub asks : (g : ℕ) → result ≡ Ok g → RisesByOne old.asks new.asks
+  pub told : (g : ℕ) → result ≡ Ok g → new.told ≡ (file, g)
+  pub not_asked : (e : E) → result ≡ Err e → new.asks ≡ old.asks
+  pub not_told : (e : E) → result ≡ Err e → new.told ≡ old.told
+
+-- ---- read_at
+
+-- why a `read_at` is refused
+abbrev pub ReadCause : Files → Named → TapState → TapState → ReadError → Type 0
+ReadCause files handle old new reading.Failed = Rises old.faults new.faults
+ReadCause files handle old new (reading.Gone to) =
+    IsReal files handle.file to × (handle.generation < to) × Rises old.moves new.moves
+
+-- the refusal is not that the generation is gone
+abbrev pub IsFault : ReadError → Type 0
+IsFault reading.Failed = ⊤
+IsFault (reading.Gone to) = ⊥
+
+-- A `read_at` is a call, and neither an opening nor an ask. The moves rise exactly where it answers
+-- `Gone`.
+pub record AfterRead (old new : TapState) (result : Result (Unit {0}) ReadError) : Type 0 where
+  pub faults : old.faults ≤ new.faults
+  pub calls : RisesByOne old.calls new.calls
+  pub opens : new.opens ≡ old.opens
+  pub asks : new.asks ≡ old.asks
+  pub told : new.told ≡ old.told
+  pub answered : result ≡ Ok tt → new.moves ≡ old.moves
+  pub failed : (e : ReadError) → result ≡ Err e → IsFault e → new.moves ≡ old.moves
+  pub gone : (e : ReadError) → result ≡ Err e → (IsFault e → ⊥) → Rises old.moves new.moves

@@ -1,0 +1,44 @@
+ghost use Rattle.std.specs.Prelude.{◌≡◌, IfOk, IfErr};
+ghost use Rattle.tex_world.specs.Tap.{IsNew};
+ghost use Rattle.tex_world.specs.Folder.{FolderState, IsFolder, EnterCause, AfterEnter};
+ghost use Rattle.tex_world.specs.Folder.{Finds, AfterTap, AfterBack};
+
+use crate::fault::{EnterError, NoMemory};
+use crate::tap::Tap;
+use crate::world::World;
+use std::alloc::Global;
+
+/// A folder of files. It makes the taps that read them.
+pub trait Folder {
+    type W: World;
+
+    type Tap: Tap<W = Self::W>;
+
+    /// Its counts of faults, moves, taps made and taps given back, and what was entered.
+    ghost state: { Self → FolderState };
+
+    /// Lists the folder of this path.
+    fn enter(&mut self, alloc: Global, path: &str) -> Result<(), EnterError>
+        ensures cause { IfErr result (EnterCause Self.W.files (state self.old) (state self.new)) }
+        ensures after { AfterEnter path.now (state self.old) (state self.new) result };
+
+    /// The number of files once entered, at most 4096, and 0 before.
+    fn count(&self) -> u32
+        ensures { result ≡ (state self.now).size };
+
+    /// The number of the file of this name.
+    fn find(&self, name: &str) -> Option<u32>
+        ensures { Finds Self.W.files (state self.now) name.now result };
+
+    /// A worker's own source, numbered from 0 in the order in which they are made.
+    fn tap(&mut self, alloc: Global) -> Result<Self::Tap, NoMemory>
+        ensures new { IfOk result (λ t. IsNew (Self.Tap.state t)) }
+        ensures after { AfterTap (state self.old) (state self.new) result };
+
+    /// Takes a tap back, with its counts of faults and moves.
+    fn back(&mut self, tap: Self::Tap)
+        ensures { AfterBack (Self.Tap.state tap) (state self.old) (state self.new) };
+
+    /// Which files there are once it is entered.
+    ghost lawful: { (folder : Self) → IsFolder Self.W.files (state folder) };
+}

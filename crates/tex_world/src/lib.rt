@@ -1,0 +1,37 @@
+//! The world outside as the texture service sees it: folders of files in generations, taps that
+//! read them, a feed that gives the requests and a sink that takes the answers. And each of them in
+//! memory.
+#![tactic(auto)]
+
+mod fault;
+mod feed;
+mod folder;
+mod mem_feed;
+mod mem_folder;
+mod mem_handle;
+mod mem_sink;
+mod mem_tap;
+mod plan;
+mod planned;
+mod share;
+mod sink;
+mod table;
+mod tap;
+mod world;
+
+pub use fault::{EnterError, Failed, NoMemory, OpenError, ReadError};
+pub use feed::Feed;
+pub use folder::Folder;
+pub use mem_feed::MemFeed;
+pub use mem_folder::MemFolder;
+pub use mem_handle::MemHandle;
+pub use mem_sink::MemSink;
+pub use mem_tap::MemTap;
+pub use plan::{FailCall, Plan};
+pub use sink::Sink;
+pub use table::{FileTable, TableWorld};
+pub use tap::{Tap, TapHandle};
+pub use world::World;
+
+#[cfg(test)]
+mod tests;

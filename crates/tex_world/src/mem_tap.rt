@@ -1,0 +1,201 @@
+//! A tap in memory.
+ghost use Rattle.std.specs.Prelude.{◌≡◌, ◌↔◌, ℕ, ◌+◌, ◌<◌, ◌≤◌, max, slice_index, length};
+ghost use Rattle.std.specs.Prelude.{IfOk, IfErr, IsErr, OnOk};
+ghost use Rattle.std.specs.Option.{ForSome};
+ghost use Rattle.tex_world.specs.Counts.{Rises, RisesByOne};
+ghost use Rattle.tex_world.specs.World.{IsFile, IsReal, IsPartAt};
+ghost use Rattle.tex_world.specs.Tap.{IsNew, IsLeast, Opens, OpenCause, AfterOpen};
+ghost use Rattle.tex_world.specs.Tap.{AfterNewest, ReadCause, AfterRead};
+ghost use Rattle.tex_world.specs.MemHandle.{handle_named};
+ghost use Rattle.tex_world.specs.MemTap.{tap_state, planned_calls, IsPlannedCall};
+ghost use Rattle.tex_world.specs.MemTap.{AfterTapCall, CountsCall};
+
+use crate::fault::{Failed, OpenError, ReadError};
+use crate::mem_handle::MemHandle;
+use crate::share::Share;
+use crate::table::{FileTable, TableWorld};
+use crate::tap::{Tap, TapHandle};
+use crate::world::World;
+use std::alloc::Global;
+use std::marker::PhantomData;
+
+// The newest generation of each file.
+const NEWEST: u32 = 1;
+
+/// A source of the bytes of a table. Its calls fail where its share of the plan says so.
+#[derive(Drop)]
+pub struct MemTap<T: FileTable> {
+    share: Share,
+    faults: u64,
+    calls: u64,
+    opens: u64,
+    asks: u64,
+    moves: u64,
+    told: (u32, u32),
+    table: PhantomData<T>,
+}
+
+impl<T: FileTable> MemTap<T> {
+    /// A tap that has had no call.
+    pub(crate) fn new(share: Share) -> Self
+        ensures new { IsNew (tap_state result) }
+        ensures planned { planned_calls result ≡ share.fail_calls.items }
+    {
+        MemTap {
+            share,
+            faults: 0,
+            calls: 0,
+            opens: 0,
+            asks: 0,
+            moves: 0,
+            told: (0, 0),
+            table: PhantomData,
+        }
+    }
+
+    // Counts a call, and refuses it where it is planned to fail.
+    fn call(&mut self) -> Result<(), Failed>
+        ensures planned { IsErr result ↔ IsPlannedCall self.old }
+        ensures after { AfterTapCall self.old self.new result }
+        ensures counts { CountsCall (tap_state self.old) (tap_state self.new) }
+    {
+        let fails = self.share.fails_after(self.calls);
+        self.calls = self.calls.saturating_add(1);
+        if fails {
+            self.faults = self.faults.saturating_add(1);
+            return Err(Failed);
+        }
+        Ok(())
+    }
+
+    /// How many of its calls failed.
+    pub fn faults(&self) -> u64
+        ensures { result ≡ (tap_state self.now).faults }
+    {
+        self.faults
+    }
+
+    /// How often it met a newer generation.
+    pub fn moves(&self) -> u64
+        ensures { result ≡ (tap_state self.now).moves }
+    {
+        self.moves
+    }
+
+    /// How many calls it has had.
+    pub fn calls(&self) -> u64
+        ensures { result ≡ (tap_state self.now).calls }
+    {
+        self.calls
+    }
+
+    /// How many of its calls were openings.
+    pub fn opens(&self) -> u64
+        ensures { result ≡ (tap_state self.now).opens }
+    {
+        self.opens
+    }
+
+    /// How many answered calls asked for the newest generation.
+    pub fn asks(&self) -> u64
+        ensures { result ≡ (tap_state self.now).asks }
+    {
+        self.asks
+    }
+}
+
+impl<T: FileTable> Tap for MemTap<T> {
+    type W = TableWorld<T>;
+
+    type Handle = MemHandle<T>;
+
+    ghost state = { tap_state };
+
+    /// It takes no memory.
+    fn open(&mut self, _alloc: Global, file: u32, least: u32) -> Result<MemHandle<T>, OpenError>
+        requires file { IsFile ⟦<TableWorld<T> as World>⟧.files file }
+        requires least { IsLeast ⟦<TableWorld<T> as World>⟧.files file least }
+        ensures ok { IfOk result (λ h.
+            Opens ⟦<TableWorld<T> as World>⟧.files file least (handle_named h)) }
+        ensures cause { IfErr result (OpenCause (tap_state self.old) (tap_state self.new)) }
+        ensures counts { AfterOpen handle_named least
+            (tap_state self.old) (tap_state self.new) result }
+
+        // It fails just where it is planned to. The newest generation is 1 or what is asked for.
+        ensures planned { IsErr result ↔ IsPlannedCall self.old }
+        ensures after { AfterTapCall self.old self.new result }
+        ensures err { IfErr result (λ e. e ≡ OpenError.Failed) }
+        ensures newest { IfOk result (λ h. (handle_named h).generation ≡ max least 1) }
+    {
+        self.opens = self.opens.saturating_add(1);
+        if let Err(Failed) = self.call() {
+            return Err(OpenError::Failed);
+        }
+        let generation = least.max(NEWEST);
+        if 0 < least && least < generation {
+            self.moves = self.moves.saturating_add(1);
+        }
+        match T::len(file, generation) {
+            Some(len) => Ok(MemHandle::new(file, generation, len)),
+            None => unreachable!(),
+        }
+    }
+
+    fn newest(&mut self, file: u32, least: u32) -> Result<u32, Failed>
+        requires file { IsFile ⟦<TableWorld<T> as World>⟧.files file }
+        requires least { IsLeast ⟦<TableWorld<T> as World>⟧.files file least }
+        ensures real { IfOk result (IsReal ⟦<TableWorld<T> as World>⟧.files file) }
+        ensures least { IfOk result (λ g. least ≤ g) }
+        ensures cause { IfErr result
+            (λ _. Rises (tap_state self.old).faults (tap_state self.new).faults) }
+        ensures counts { AfterNewest file (tap_state self.old) (tap_state self.new) result }
+
+        // It fails just where it is planned to. The newest generation is 1 or what is asked for.
+        ensures planned { IsErr result ↔ IsPlannedCall self.old }
+        ensures after { AfterTapCall self.old self.new result }
+        ensures newest { IfOk result (λ g. g ≡ max least 1) }
+    {
+        self.call()?;
+        self.asks = self.asks.saturating_add(1);
+        let generation = least.max(NEWEST);
+        self.told = (file, generation);
+        Ok(generation)
+    }
+
+    fn read_at(&mut self, h: &mut MemHandle<T>, at: u64, buf: &mut [u8]) -> Result<(), ReadError>
+        requires { at + length buf.old ≤ (handle_named h.old).len }
+        ensures bytes { OnOk result (ForSome
+            (⟦<TableWorld<T> as World>⟧.files.held
+            (handle_named h.old).file (handle_named h.old).generation)
+            (λ bytes. IsPartAt bytes at buf.new)) }
+        ensures handle { handle_named h.new ≡ handle_named h.old }
+        ensures cause { IfErr result
+            (ReadCause ⟦<TableWorld<T> as World>⟧.files (handle_named h.old)
+            (tap_state self.old) (tap_state self.new)) }
+        ensures counts { AfterRead (tap_state self.old) (tap_state self.new) result }
+
+        // It fails just where it is planned to.
+        ensures planned { IsErr result ↔ IsPlannedCall self.old }
+        ensures after { AfterTapCall self.old self.new result }
+        ensures err { IfErr result (λ e. e ≡ ReadError.Failed) }
+    {
+        if let Err(Failed) = self.call() {
+            return Err(ReadError::Failed);
+        }
+        fill(h, at, buf);
+        Ok(())
+    }
+}
+
+// Fills the buffer with the bytes of the handle from a place on.
+fn fill<T: FileTable>(h: &MemHandle<T>, at: u64, buf: &mut [u8])
+    requires { at + length buf.old ≤ h.now.len }
+    ensures { (k : ℕ) → k < length buf.new →
+        slice_index buf.new k ≡ T.byte_of h.now.file h.now.generation (at + k) }
+{
+    let file = h.file();
+    let generation = h.generation();
+    for i in 0..buf.len() {
+        buf[i] = T::byte(file, generation, at + i as u64);
+    }
+}

@@ -1,0 +1,67 @@
+//! A world whose files are given by functions of numbers, as a test or a sample writes them down.
+ghost use Rattle.std.specs.Prelude.{◌≡◌, ℕ, ◌<◌, ◌≤◌, List, Option, IsSome, IsSomeAnd};
+ghost use Rattle.tex_world.specs.World.{most_files};
+ghost use Rattle.tex_world.specs.Table.{table_files};
+ghost use Rattle.tex_world.specs.TableLaws.{table_is_world};
+
+use crate::world::World;
+use std::marker::PhantomData;
+
+/// The files of a world that tells, in all their generations. It is a name without data.
+/// What it gives for a generation outside 1 to 1048575 counts as none.
+pub trait FileTable: Drop {
+    /// How many files there are.
+    ghost count_of: { ℕ };
+
+    /// The name of a file, as its bytes.
+    ghost name_of: { ℕ → List ℕ };
+
+    /// The number of bytes of a generation of a file, if there is one.
+    ghost len_of: { ℕ → ℕ → Option ℕ };
+
+    /// The byte of a generation of a file at a place.
+    ghost byte_of: { ℕ → ℕ → ℕ → ℕ };
+
+    /// There are at most 4096 files.
+    ghost few: { count_of ≤ most_files };
+
+    /// No two files have the same name. `distinct_names` of `specs/Names.antt` gives it for a list
+    /// of names.
+    ghost distinct: { (m n : ℕ) → m < count_of → n < count_of →
+        name_of m ≡ name_of n → m ≡ n };
+
+    /// The number of files, which are numbered from 0.
+    fn count() -> u32
+        ensures { result ≡ count_of };
+
+    /// The name of a file.
+    fn name(n: u32) -> &'static str
+        requires { n < count_of }
+        ensures { result.now ≡ name_of n };
+
+    /// The number of bytes of a generation of a file, if there is one.
+    fn len(n: u32, g: u32) -> Option<u64>
+        requires { n < count_of }
+        ensures { result ≡ len_of n g };
+
+    /// The byte of a generation of a file at a place below its length.
+    fn byte(n: u32, g: u32, at: u64) -> u8
+        requires file { n < count_of }
+        requires place { IsSomeAnd (len_of n g) (λ len. at < len) }
+        ensures { result ≡ byte_of n g at };
+
+    /// Each file has a first generation.
+    ghost first: { (n : ℕ) → n < count_of → IsSome (len_of n 1) };
+}
+
+/// The world of a table. It tells.
+#[derive(Drop)]
+pub struct TableWorld<T: FileTable> {
+    table: PhantomData<T>,
+}
+
+impl<T: FileTable> World for TableWorld<T> {
+    ghost files = { table_files T.count_of T.name_of T.len_of T.byte_of };
+
+    ghost lawful = { table_is_world T.count_of T.name_of T.len_of T.byte_of T.few T.distinct };
+}
