@@ -1,0 +1,13 @@
+pub mod Numbers
+pub mod Entries
+pub mod Covering
+pub mod Parts
+pub mod Saying
+pub mod FieldValues
+pub mod StripOffsets
+pub mod Nones
+pub mod SomeValues
+pub mod PlainFaults
+pub mod PlainLevel
+pub mod PlainParts
+pub mod PlainWhole

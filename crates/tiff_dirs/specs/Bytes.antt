@@ -1,0 +1,24 @@
+-- Which numbers stand in the bytes of a file?
+-- (TIFF 6.0, section 2, "Image File Header": the byte order)
+use Rattle.std.specs.Prelude.{ℕ, Bool, ◌==◌, ◌&&◌, List, slice_index, if◌then◌else◌}
+use Rattle.byteorder.specs.Endian.{big_from, little_from}
+
+-- the number that n bytes from a place on spell, the highest byte first where `big`
+unfoldable pub number_at : Bool → ℕ → List ℕ → ℕ → ℕ
+number_at big n bytes at = if big then big_from at n bytes else little_from at n bytes
+
+-- the two bytes at the head of the file are these
+unfoldable pub has_mark : ℕ → List ℕ → Bool
+has_mark letter bytes = (slice_index bytes 0 == letter) && (slice_index bytes 1 == letter)
+
+-- `II`: numbers stand lowest byte first
+abbrev pub is_little : List ℕ → Bool
+is_little bytes = has_mark 73 bytes
+
+-- `MM`: numbers stand highest byte first
+abbrev pub is_big : List ℕ → Bool
+is_big bytes = has_mark 77 bytes
+
+-- the number behind the mark, 42 in a TIFF file
+abbrev pub version : List ℕ → ℕ
+version bytes = number_at (is_big bytes) 2 bytes 2

@@ -1,0 +1,16 @@
+pub mod Bytes
+pub mod Directory
+pub mod Field
+pub mod Block
+pub mod Fault
+pub mod Level
+pub mod Texel
+pub mod Plain
+pub mod Code
+pub mod Facts
+pub mod Shown
+pub mod Reader
+pub mod Dirs
+pub mod Inside
+pub mod Calls
+pub mod Strips

@@ -1,0 +1,17 @@
+-- What does a reader of bytes give?
+use Rattle.std.specs.Prelude.{◌≡◌, ℕ, ◌+◌, ◌<◌, List, length, slice_index, Option}
+use Rattle.std.specs.Option.{ForSome}
+
+-- the part is the bytes from a place on
+abbrev pub IsPartAt : List ℕ → ℕ → List ℕ → Type 0
+IsPartAt bytes at part = (k : ℕ) → k < length part → slice_index part k ≡ slice_index bytes (at + k)
+
+-- The laws of a reader: what answered reads leave holds of a reader and itself, and chains; no read
+-- changes the length or the bytes; and where the bytes are told, the length is theirs.
+pub record IsReader {R : Type 0} (size : R → ℕ) (bytes : R → Option (List ℕ))
+    (keeps : R → R → Type 0) : Type 0 where
+  pub itself : (r : R) → keeps r r
+  pub chains : (r s t : R) → keeps r s → keeps s t → keeps r t
+  pub same_size : (r s : R) → keeps r s → size s ≡ size r
+  pub same_bytes : (r s : R) → keeps r s → bytes s ≡ bytes r
+  pub told : (r : R) → ForSome (bytes r) (λ b. length b ≡ size r)

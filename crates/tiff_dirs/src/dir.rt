@@ -1,0 +1,32 @@
+ghost use Rattle.std.specs.Prelude.{◌≤◌};
+ghost use Rattle.std.specs.Option.{ForNone};
+ghost use Rattle.tiff_dirs.specs.Facts.{IsSide, IsChannelCount, IsDepth, HasTileSides, HasOffsets};
+
+/// A directory that shows no fault: one level of the file (TIFF 6.0, section 2).
+#[derive(Debug, Drop)]
+pub struct Dir {
+    /// ImageWidth, 1 to 131072.
+    pub width: u32,
+    /// ImageLength, 1 to 131072.
+    pub height: u32,
+    /// SamplesPerPixel, 1 to 8.
+    pub channels: u32,
+    /// BitsPerSample, 8 or 16, the same for all samples.
+    pub depth: u32,
+    /// PhotometricInterpretation is 0, WhiteIsZero.
+    pub white: bool,
+    /// TileWidth and TileLength, multiples of 16 up to 131072,
+    /// where the directory is tiled (section 15).
+    pub tile: Option<(u32, u32)>,
+    /// RowsPerStrip, at least 1, where it is stripped. 2^32 - 1 where it is tiled.
+    pub rows_per_strip: u32,
+    /// The offset of each strip or tile, as many as there are.
+    pub offsets: Vec<u64>,
+    ghost width_in: { IsSide width },
+    ghost height_in: { IsSide height },
+    ghost channels_in: { IsChannelCount channels },
+    ghost depth_in: { IsDepth depth },
+    ghost tile_in: { HasTileSides tile },
+    ghost rows_in: { ForNone tile (1 ≤ rows_per_strip) },
+    ghost offsets_in: { HasOffsets width height channels depth tile rows_per_strip offsets.items },
+}

@@ -1,0 +1,16 @@
+ghost use Rattle.std.specs.Prelude.{map};
+ghost use Rattle.tiff_dirs.specs.Facts.{IsChain};
+ghost use Rattle.tiff_dirs.specs.Shown.{shown};
+
+use crate::dir::Dir;
+
+/// The levels of a file that shows no fault, the largest first.
+#[derive(Debug, Drop)]
+pub struct Dirs {
+    /// The file is big-endian (`MM`).
+    pub big: bool,
+    /// 1 to 18 levels. The sides halve from level to level,
+    /// and all have the same channels and depth.
+    pub levels: Vec<Dir>,
+    ghost chain: { IsChain (map shown levels.items) },
+}

@@ -1,0 +1,29 @@
+//! The directories of a TIFF file: its levels, or the first fault that its bytes show (TIFF 6.0).
+#![tactic(auto)]
+
+mod bytes;
+mod dir;
+mod directory;
+mod dirs;
+mod entry;
+mod fault;
+mod fields;
+mod first_values;
+mod found;
+mod header;
+mod level;
+mod offsets;
+mod picture;
+mod plain;
+mod read;
+mod reader;
+mod tag;
+
+pub use dir::Dir;
+pub use dirs::Dirs;
+pub use fault::{DirsError, TiffFault};
+pub use read::read_dirs;
+pub use reader::ByteReader;
+
+#[cfg(test)]
+mod tests;

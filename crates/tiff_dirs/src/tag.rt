@@ -1,0 +1,75 @@
+//! The tags that are read, and their defaults (TIFF 6.0, section 8).
+
+ghost use Rattle.std.specs.Prelude.{◌≡◌};
+ghost use Rattle.std.specs.Option.{option_to_list};
+ghost use Rattle.tiff_dirs.specs.Field.{default_of};
+
+pub const IMAGE_WIDTH: u16 = 256;
+
+pub const IMAGE_LENGTH: u16 = 257;
+
+pub const BITS_PER_SAMPLE: u16 = 258;
+
+pub const COMPRESSION: u16 = 259;
+
+pub const PHOTOMETRIC: u16 = 262;
+
+pub const STRIP_OFFSETS: u16 = 273;
+
+pub const SAMPLES_PER_PIXEL: u16 = 277;
+
+pub const ROWS_PER_STRIP: u16 = 278;
+
+pub const PLANAR_CONFIGURATION: u16 = 284;
+
+pub const TILE_WIDTH: u16 = 322;
+
+pub const TILE_LENGTH: u16 = 323;
+
+pub const TILE_OFFSETS: u16 = 324;
+
+pub const SAMPLE_FORMAT: u16 = 339;
+
+/// All of them.
+pub const TAGS: [u16; 13] = [
+    IMAGE_WIDTH,
+    IMAGE_LENGTH,
+    BITS_PER_SAMPLE,
+    COMPRESSION,
+    PHOTOMETRIC,
+    STRIP_OFFSETS,
+    SAMPLES_PER_PIXEL,
+    ROWS_PER_STRIP,
+    PLANAR_CONFIGURATION,
+    TILE_WIDTH,
+    TILE_LENGTH,
+    TILE_OFFSETS,
+    SAMPLE_FORMAT,
+];
+
+/// Those of fields that hold one number.
+pub const NUMBERS: [u16; 7] = [
+    IMAGE_WIDTH,
+    IMAGE_LENGTH,
+    COMPRESSION,
+    PHOTOMETRIC,
+    SAMPLES_PER_PIXEL,
+    ROWS_PER_STRIP,
+    PLANAR_CONFIGURATION,
+];
+
+/// The value of a field that is absent, where it has a default.
+pub fn default_value(tag: u16) -> Option<u32>
+    ensures { option_to_list result ≡ default_of tag }
+{
+    match tag {
+        BITS_PER_SAMPLE
+        | COMPRESSION
+        | PHOTOMETRIC
+        | SAMPLES_PER_PIXEL
+        | PLANAR_CONFIGURATION
+        | SAMPLE_FORMAT => Some(1),
+        ROWS_PER_STRIP => Some(u32::MAX),
+        _ => None,
+    }
+}

@@ -1,0 +1,5 @@
+pub mod FieldLemmas
+pub mod FindLemmas
+pub mod BlockLemmas
+pub mod LevelLemmas
+pub mod Sides
