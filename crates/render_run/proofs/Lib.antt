@@ -1,0 +1,17 @@
+pub mod Digits
+pub mod Texts
+pub mod Lines
+pub mod Leaves
+pub mod Counting
+pub mod Said
+pub mod OneMore
+pub mod PlainFacts
+pub mod Ranges
+pub mod Replies
+pub mod Spans
+pub mod Taken
+pub mod Written
+pub mod Rows
+pub mod Texels
+pub mod RowValues
+pub mod Regions

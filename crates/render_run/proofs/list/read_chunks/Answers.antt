@@ -1,0 +1,22 @@
+use Rattle.std.proofs.Common.{◌≡◌, ◌++◌, take, rules, arith}
+use Rattle.render_run.proofs.Taken.{taken_end, taken_more}
+use Rattle.render_run.proofs.list.read_chunks.Goals as goal
+
+pub returns-then-n-eq0-clause-all : goal.returns-then-n-eq0-clause-all
+returns-then-n-eq0-clause-all g c =
+    taken_end c.more.bytes.items c.read.new.buf c.in-Ok.n (g.I.Feed.left c.args.feed.now)
+    (g.I.Feed.left c.more.feed) (g.I.Feed.left c.read.new.self)
+    c.more.invariant.taken c.in-Ok.ensures.ok c.if-n-eq0.true
+
+pub more-preserved : goal.more-preserved
+more-preserved g c =
+    let bytes : c.extend_from_slice.new.self.items
+    ≡ c.more.bytes.items ++ take c.in-Ok.n c.read.new.buf = search rules in
+    record {
+      taken =
+          rw bytes
+          (taken_more c.more.bytes.items c.read.new.buf c.in-Ok.n (g.I.Feed.left c.args.feed.now)
+          (g.I.Feed.left c.more.feed) (g.I.Feed.left c.read.new.self)
+          c.more.invariant.taken c.in-Ok.ensures.ok);
+      faults = omega (arith, c.more.invariant.faults, c.read.ensures.faults);
+    }

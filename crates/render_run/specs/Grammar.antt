@@ -1,0 +1,72 @@
+-- What does a list of requests say? (docs/REQUESTS.md, "The list")
+use Rattle.std.specs.Prelude.{ℕ, ◌+◌, ◌-◌, ◌*◌, ◌^◌, ◌==◌, nat_le, codes, List, [], ◌∷◌, Option}
+use Rattle.std.specs.Prelude.{Some, None, Result, Ok, Err, if◌then◌else◌}
+use Rattle.std.specs.Str.{bytes_eq}
+use Rattle.render_run.specs.declared.request.Request.{Request}
+use Rattle.render_run.specs.declared.grammar.Region.{Region}
+use Rattle.render_run.specs.Field.{◌>>=◌, next_field, next_number, next_signed, name_of}
+
+-- ---- lines
+
+-- the byte goes in front of the first line
+abbrev pub in_front : ℕ → List (List ℕ) → List (List ℕ)
+in_front b [] = (b ∷ []) ∷ []
+in_front b (line ∷ lines) = (b ∷ line) ∷ lines
+
+-- the lines of a list: each ends at a line feed, which the last may lack
+abbrev pub lines_of : List ℕ → List (List ℕ)
+lines_of [] = []
+lines_of (b ∷ bytes) = if b == 10 then [] ∷ lines_of bytes else in_front b (lines_of bytes)
+
+-- ---- a line
+
+-- the most texels that a region has
+abbrev pub most_texels : ℕ
+most_texels = 1048576
+
+-- what the fields of a region say: `0 X Y W H NAME`, each after one space, of at most 1048576
+-- texels
+unfoldable pub region_of : List ℕ → Option Request
+region_of fields = do
+  level ← next_number 0 fields
+  x ← next_signed level.1
+  y ← next_signed x.1
+  w ← next_number (2 ^ 32 - 1) y.1
+  h ← next_number (2 ^ 32 - 1) w.1
+  name ← name_of h.1
+  if nat_le (w.0 * h.0) most_texels
+      then Some (record { x = x.0; y = y.0; w = w.0; h = h.0; name = name }) else None
+
+-- the request that is made of a region
+abbrev pub request_in : Region → Request
+request_in r = record { x = r.x; y = r.y; w = r.w; h = r.h; name = r.name.now }
+
+-- What a line says: its word is `pixels`, and its fields are those of a region.
+unfoldable pub request_of : List ℕ → Option Request
+request_of line = do
+  word ← next_field line
+  if bytes_eq word.0 (codes "pixels") then region_of word.1 else None
+
+-- ---- a list
+
+-- the request of a line in front of those of the lines behind it
+abbrev pub with_request : ℕ → Option Request → Result (List Request) ℕ → Result (List Request) ℕ
+with_request number None rest = Err number
+with_request number (Some r) (Ok rs) = Ok (r ∷ rs)
+with_request number (Some r) (Err line) = Err line
+
+-- The requests of the lines from a number on, or the number of the first line that is of another
+-- kind.
+unfoldable pub requests_of : ℕ → List (List ℕ) → Result (List Request) ℕ
+requests_of number [] = Ok []
+requests_of number (line ∷ lines) =
+    with_request number (request_of line) (requests_of (number + 1) lines)
+
+-- What a list says: its requests, or the number of the first line, counted from 1, that is of
+-- another kind.
+unfoldable pub list_of : List ℕ → Result (List Request) ℕ
+list_of bytes = requests_of 1 (lines_of bytes)
+
+-- the most bytes that a list has
+abbrev pub most_bytes : ℕ
+most_bytes = 16777216

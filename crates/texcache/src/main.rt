@@ -1,0 +1,68 @@
+//! The texture service over the files of one folder: it reads a list of requests from standard input and writes the
+//! answers to standard output.
+#![tactic(auto)]
+
+mod folder;
+mod handle;
+mod listed;
+mod listing;
+mod stamp;
+mod stream;
+mod tap;
+#[cfg(test)]
+mod tests;
+mod world;
+
+use crate::folder::RealFolder;
+use crate::stream::{RealFeed, RealSink};
+use render_run::run;
+use std::io::ErrorKind;
+use std::process::ExitCode;
+use std::{env, io};
+
+/// The status where no memory was found.
+const NO_MEMORY: u8 = 6;
+
+/// The status where standard output failed.
+const SINK_FAULT: u8 = 5;
+
+fn main(rt: HostRuntime) -> ExitCode {
+    ExitCode::from(status(&rt))
+}
+
+/// Answers the list on standard input, and gives the status that the program ends with.
+fn status(rt: &HostRuntime) -> u8 {
+    let words = match words(rt) {
+        Ok(words) => words,
+        Err(_) => return NO_MEMORY,
+    };
+    let mut out = match RealSink::new(rt.alloc(), rt.stdout()) {
+        Ok(out) => out,
+        Err(_) => return NO_MEMORY,
+    };
+    let mut folder = RealFolder::new(rt);
+    let mut feed = RealFeed::new(rt.stdin());
+    let status = run(
+        rt.alloc(),
+        words.as_slice(),
+        &mut folder,
+        &mut feed,
+        &mut out,
+    );
+    // What the sink still holds back can fail as a line can.
+    match out.flush() {
+        Ok(()) => status,
+        Err(_failed) => SINK_FAULT,
+    }
+}
+
+/// The words after the program's name. Where one is not UTF-8 there are none, which are not those of the command.
+fn words(rt: &HostRuntime) -> io::Result<Vec<String>> {
+    let mut words = match env::args(rt) {
+        Ok(words) => words,
+        Err(e) if e.kind() == ErrorKind::OutOfMemory => return Err(e),
+        Err(_) => return Ok(Vec::new(rt.alloc())),
+    };
+    let _program = words.next();
+    Ok(words.collect(rt.alloc())?)
+}

@@ -1,0 +1,16 @@
+//! Tests of the service as a whole: lists of requests over small files in memory, what is written
+//! for each, and the status.
+#![tactic(auto)]
+
+#[cfg(test)]
+mod failures;
+#[cfg(test)]
+mod lines;
+#[cfg(test)]
+mod lists;
+#[cfg(test)]
+mod other_files;
+#[cfg(test)]
+mod plain_files;
+#[cfg(test)]
+mod ran;
