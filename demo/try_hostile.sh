@@ -1,0 +1,55 @@
+#!/usr/bin/env bash
+# Runs the real program over files that are no pictures, or that lie about themselves, and compares what it prints.
+# Each gets its named line at once, in little memory. The sparse file has 5 GiB and takes no room on the disk.
+set -u
+top=$(cd "$(dirname "${BASH_SOURCE[0]}")/.." && pwd) || exit 1
+folder=$(mktemp -d) || exit 1
+trap 'chmod -R u+rw "$folder"; rm -rf "$folder"' EXIT
+picture=$top/crates/texcache/data/A.tif
+
+# a copy of the picture with other bytes at a place
+changed() { # NAME PLACE BYTES
+  cp "$picture" "$folder/$1"
+  printf "$3" | dd of="$folder/$1" bs=1 seek="$2" conv=notrunc status=none
+}
+
+: > "$folder/empty.tif"
+head -c 1 "$picture" > "$folder/one.tif"
+head -c 7 "$picture" > "$folder/seven.tif"
+head -c 8 "$picture" > "$folder/eight.tif"
+changed at_end.tif 4 '\x8a\x00\x00\x00'          # the first directory at the file's end
+changed past_end.tif 4 '\xff\xff\xff\xff'        # and far behind it
+changed in_header.tif 4 '\x00\x00\x00\x00'       # and at the header itself
+changed many_entries.tif 8 '\xff\xff'            # 65535 entries
+changed many_offsets.tif 74 '\xff\xff\xff\xff'   # 2^32 - 1 strip offsets
+changed no_offsets.tif 74 '\x00\x00\x00\x00'     # none
+changed far_strip.tif 78 '\xfb\xff\xff\xff'      # the strip near 2^32
+changed one_too_far.tif 78 '\x7b\x00\x00\x00'    # the strip one byte past the end
+changed itself.tif 118 '\x08\x00\x00\x00'        # a directory that names itself as the next: still a plain picture
+mkdir "$folder/folder.tif"
+cp "$picture" "$folder/secret.tif"; chmod 000 "$folder/secret.tif"
+cp "$picture" "$folder/sparse.tif"; truncate -s 5G "$folder/sparse.tif"
+truncate -s 5G "$folder/zeros.tif"
+
+secret='read fault'
+[ "$(id -u)" = 0 ] && secret='pixels 1 1 0' # root reads any file
+
+ask() { printf 'pixels 0 0 0 1 1 %s\n' "$1" >> "$folder.list"; printf '%s\n' "$2" >> "$folder.want"; }
+rm -f "$folder.list" "$folder.want"
+for name in empty one seven eight at_end past_end in_header many_entries many_offsets no_offsets far_strip one_too_far zeros; do
+  ask "$name.tif" 'bad file 1 7 0 0'
+done
+ask itself.tif 'pixels 1 1 0'
+ask sparse.tif 'pixels 1 1 0'
+ask folder.tif 'no such file'
+ask secret.tif "$secret"
+
+"$top/texcache" "$folder" < "$folder.list" > "$folder.got" 2> "$folder.error"
+status=$?
+result=0
+diff "$folder.want" "$folder.got" || result=1
+[ -s "$folder.error" ] && { cat "$folder.error"; result=1; }
+[ "$status" = 1 ] || { echo "status $status, not 1"; result=1; }
+rm -f "$folder.list" "$folder.want" "$folder.got" "$folder.error"
+[ "$result" = 0 ] && echo 'each hostile file got its line'
+exit "$result"
