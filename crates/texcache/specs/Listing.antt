@@ -12,7 +12,8 @@ listed_name file = string_bytes file.name
 
 -- no name is less than the one before it, byte by byte
 abbrev pub AreInOrder : List Listed → Type 0
-AreInOrder files = IsSortedBy (λ a b. is_lt (slice_cmp nat_cmp (listed_name a) (listed_name b))) files
+AreInOrder files =
+    IsSortedBy (λ a b. is_lt (slice_cmp nat_cmp (listed_name a) (listed_name b))) files
 
 -- no file has this name
 abbrev pub HasNone : List Listed → List ℕ → Type 0

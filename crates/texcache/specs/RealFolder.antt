@@ -1,5 +1,6 @@
 -- What are the counts of a real folder, and what is known of it?
-use Rattle.std.specs.Prelude.{◌≡◌, ℕ, ◌≤◌, false, List, [], length, Option, Some, None, string_bytes}
+use Rattle.std.specs.Prelude.{◌≡◌, ℕ, ◌≤◌, false, List, [], length, Option, Some, None}
+use Rattle.std.specs.Prelude.{string_bytes}
 use Rattle.std.proofs.Common.{arith, refl}
 use Rattle.std.specs.Arc.{arc_value}
 use Rattle.std.specs.declared.sync.Arc.{Arc}
@@ -51,12 +52,14 @@ few_listed : {A : Type 0} (listing : Option (Arc Listing A)) → listed_files li
 few_listed None = omega arith
 few_listed (Some listing) = (arc_value listing).few
 
-none_before : {A : Type 0} (listing : Option (Arc Listing A)) → listed_path listing ≡ None → listed_files listing ≡ 0
+none_before : {A : Type 0} (listing : Option (Arc Listing A)) → listed_path listing ≡ None
+    → listed_files listing ≡ 0
 none_before None same = refl
 none_before (Some listing) same = cc
 
 -- A listing has few files, and there are none where there is no listing.
-pub folder_is_lawful : {R : Type 0} (folder : RealFolder R) → IsFolder untold_files (folder_state folder)
+pub folder_is_lawful : {R : Type 0} (folder : RealFolder R)
+    → IsFolder untold_files (folder_state folder)
 folder_is_lawful folder = record {
   few = few_listed folder.listing;
   before = none_before folder.listing;

@@ -35,7 +35,8 @@ pub record CountsMove (old new : TapState) : Type 0 where
 abbrev pub tap_words : {R : Type 0} → RealTap R → List ℕ
 tap_words tap = tap.words.items
 
--- A file that looked so has this generation: its word was settled by the stamp, and the words of the others stay.
+-- A file that looked so has this generation: its word was settled by the stamp, and the words of
+-- the others stay.
 pub record Settles (file : ℕ) (old new : List ℕ) (generation : ℕ) (look : Look) : Type 0 where
   pub word : ℕ
   pub settled : settled_word (slice_index old file) look.stamp ≡ Some word

@@ -1,5 +1,6 @@
 -- Which generation has a file whose stamp is looked at?
-use Rattle.std.specs.Prelude.{◌≡◌, ℕ, ◌+◌, ◌*◌, ◌/◌, ◌%◌, ◌^◌, ◌==◌, nat_lt, ◌&&◌, Option, Some, None, if◌then◌else◌}
+use Rattle.std.specs.Prelude.{◌≡◌, ℕ, ◌+◌, ◌*◌, ◌/◌, ◌%◌, ◌^◌, ◌==◌, nat_lt, ◌&&◌}
+use Rattle.std.specs.Prelude.{Option, Some, None, if◌then◌else◌}
 use Rattle.tex_world.specs.World.{last_generation}
 
 -- how many stamps there are
@@ -23,9 +24,10 @@ word_generation word = word / stamps
 abbrev pub word_stamp : ℕ → ℕ
 word_stamp word = word % stamps
 
--- The word after a look: as it was where its generation is of this stamp, else of the next generation, and none after
--- the last one.
+-- The word after a look: as it was where its generation is of this stamp, else of the next
+-- generation, and none after the last one.
 abbrev pub settled_word : ℕ → ℕ → Option ℕ
 settled_word word stamp =
     if nat_lt 0 (word_generation word) && (word_stamp word == stamp) then Some word
-    else (if word_generation word == last_generation then None else Some ((word_generation word + 1) * stamps + stamp))
+    else (if word_generation word == last_generation then None
+    else Some ((word_generation word + 1) * stamps + stamp))

@@ -1,5 +1,5 @@
-//! The texture service over the files of one folder: it reads a list of requests from standard input and writes the
-//! answers to standard output.
+//! The texture service over the files of one folder: it reads a list of requests from standard
+//! input and writes the answers to standard output.
 #![tactic(auto)]
 
 mod folder;
@@ -56,7 +56,8 @@ fn status(rt: &HostRuntime) -> u8 {
     }
 }
 
-/// The words after the program's name. Where one is not UTF-8 there are none, which are not those of the command.
+/// The words after the program's name. Where one is not UTF-8 there are none, which are not those
+/// of the command.
 fn words(rt: &HostRuntime) -> io::Result<Vec<String>> {
     let mut words = match env::args(rt) {
         Ok(words) => words,

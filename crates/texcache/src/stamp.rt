@@ -1,4 +1,5 @@
-//! What shows that a file was changed: its stamp, and the word that keeps a generation beside its stamp.
+//! What shows that a file was changed: its stamp, and the word that keeps a generation beside its
+//! stamp.
 ghost use Rattle.std.specs.Prelude.{◌≡◌, ◌↔◌, ◌+◌, ◌*◌, ◌%◌, ◌^◌, ◌<◌, ◌≤◌, IsSome, IfSome};
 ghost use Rattle.std.specs.Fs.{metadata_len, file_type, IsFile};
 ghost use Rattle.tex_world.specs.World.{last_generation};
@@ -35,8 +36,8 @@ pub fn look_of(metadata: &Metadata) -> Option<Look>
     Some(Look { len, stamp })
 }
 
-/// When the file was changed, in nanoseconds since the start of 1970, and 0 where the system gives no time or an
-/// earlier one.
+/// When the file was changed, in nanoseconds since the start of 1970, and 0 where the system gives
+/// no time or an earlier one.
 fn modified(metadata: &Metadata) -> u128
     ensures { result < 2 ^ 94 }
 {
@@ -65,8 +66,8 @@ pub fn generation_in(word: u64) -> u32
     (word / STAMPS) as u32
 }
 
-/// The word after a look at a file: as it was where its generation is of this stamp, else of the next generation.
-/// None after the last generation.
+/// The word after a look at a file: as it was where its generation is of this stamp, else of the
+/// next generation. None after the last generation.
 pub fn settled(word: u64, stamp: u64) -> Option<u64>
     requires { stamp < 2 ^ 44 }
     ensures value { result ≡ settled_word word stamp }

@@ -42,7 +42,8 @@ impl<I: Read> Feed for RealFeed<I> {
 /// How many bytes the sink holds back at most, so that small lines go out together.
 const HELD_BACK: usize = 65536;
 
-/// A writer whose bytes are not told. It holds some bytes back until `flush`, and counts the writes that fail.
+/// A writer whose bytes are not told. It holds some bytes back until `flush`, and counts the writes
+/// that fail.
 #[derive(Drop)]
 pub struct RealSink<W: Write + Drop> {
     out: BufWriter<W>,

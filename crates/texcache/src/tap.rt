@@ -5,7 +5,8 @@ ghost use Rattle.tex_world.specs.World.{last_generation};
 ghost use Rattle.tex_world.specs.Tap.{IsNew};
 ghost use Rattle.texcache.specs.RealFolder.{listed_files};
 ghost use Rattle.texcache.specs.RealHandle.{handle_named};
-ghost use Rattle.texcache.specs.RealTap.{tap_state, tap_words, CountsFault, CountsMove, Settles, NamesNewer};
+ghost use Rattle.texcache.specs.RealTap.{tap_state, tap_words, CountsFault, CountsMove};
+ghost use Rattle.texcache.specs.RealTap.{Settles, NamesNewer};
 
 use crate::handle::RealHandle;
 use crate::listing::Listing;
@@ -18,8 +19,9 @@ use std::os::unix::fs::FileExt;
 use std::sync::Arc;
 use tex_world::{Failed, OpenError, ReadError, Tap, TapHandle};
 
-/// A source of the files of a folder as they were when it was listed. It keeps for each file the word of its stamp:
-/// the generation that the file was last seen in, and the stamp of that generation.
+/// A source of the files of a folder as they were when it was listed. It keeps for each file the
+/// word of its stamp: the generation that the file was last seen in, and the stamp of that
+/// generation.
 #[derive(Drop)]
 pub struct RealTap<R> {
     rt: R,
@@ -113,9 +115,9 @@ impl<R: Files<File = File>> RealTap<R> {
         }
     }
 
-    /// Looks at a file and settles its generation: that of its word where the stamp is as it was, else the next one,
-    /// which the word then keeps. None where there is no plain file, and where the generation would be below `least` or
-    /// past the last one.
+    /// Looks at a file and settles its generation: that of its word where the stamp is as it was,
+    /// else the next one, which the word then keeps. None where there is no plain file, and where
+    /// the generation would be below `least` or past the last one.
     fn settle(&mut self, file: u32, least: u32) -> Option<Settled>
         ensures state { tap_state self.new ≡ tap_state self.old }
         ensures settled { IfSome result (λ s.
@@ -135,7 +137,8 @@ impl<R: Files<File = File>> RealTap<R> {
         Some(Settled { generation, look })
     }
 
-    /// Settles the generation of a file and opens it. None where another file was put in its place meanwhile.
+    /// Settles the generation of a file and opens it. None where another file was put in its place
+    /// meanwhile.
     fn opened(&mut self, file: u32, least: u32) -> Option<RealHandle>
         ensures state { tap_state self.new ≡ tap_state self.old }
         ensures settled { IfSome result (λ h.
@@ -152,7 +155,8 @@ impl<R: Files<File = File>> RealTap<R> {
         }
     }
 
-    /// Fills the buffer from the open file, where the stamp is that of the handle before the read and after it.
+    /// Fills the buffer from the open file, where the stamp is that of the handle before the read
+    /// and after it.
     fn fill(&mut self, h: &RealHandle, at: u64, buf: &mut [u8]) -> Result<(), ReadError>
         ensures state { tap_state self.new ≡ tap_state self.old }
         ensures newer { IfErr result (NamesNewer (handle_named h.now)) }
@@ -166,8 +170,8 @@ impl<R: Files<File = File>> RealTap<R> {
         }
     }
 
-    /// Nothing where the file at the handle's path still has the stamp of its generation. Else the generation that the
-    /// file has now, if that is a newer one.
+    /// Nothing where the file at the handle's path still has the stamp of its generation. Else the
+    /// generation that the file has now, if that is a newer one.
     fn stay(&mut self, h: &RealHandle) -> Result<(), ReadError>
         ensures state { tap_state self.new ≡ tap_state self.old }
         ensures newer { IfErr result (NamesNewer (handle_named h.now)) }
@@ -203,8 +207,8 @@ impl<R: Files<File = File>> Tap for RealTap<R> {
 
     ghost state = { tap_state };
 
-    /// It takes no memory. It fails where the file that is opened has another stamp or length than the one that its
-    /// generation was settled by.
+    /// It takes no memory. It fails where the file that is opened has another stamp or length than
+    /// the one that its generation was settled by.
     fn open(&mut self, _alloc: Global, file: u32, least: u32) -> Result<RealHandle, OpenError> {
         self.calls = self.calls.saturating_add(1);
         self.opens = self.opens.saturating_add(1);
@@ -237,8 +241,9 @@ impl<R: Files<File = File>> Tap for RealTap<R> {
         }
     }
 
-    /// It looks at the stamp of the file at the path, before the read and after it, so that a file that was put in
-    /// its place is noticed as well as one that was rewritten. The bytes are those of the open file.
+    /// It looks at the stamp of the file at the path, before the read and after it, so that a file
+    /// that was put in its place is noticed as well as one that was rewritten. The bytes are those
+    /// of the open file.
     fn read_at(&mut self, h: &mut RealHandle, at: u64, buf: &mut [u8]) -> Result<(), ReadError> {
         self.calls = self.calls.saturating_add(1);
         match self.fill(h, at, buf) {

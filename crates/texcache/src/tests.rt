@@ -1,5 +1,7 @@
 use crate::folder::RealFolder;
 use crate::stream::{RealFeed, RealSink};
+use render_run::run;
+use std::fs::{File, Files};
 use std::io::{ErrorKind, Read, Write};
 use std::test::Fail;
 use std::{fs, io};
@@ -8,6 +10,8 @@ use tex_world::{Failed, Feed, Folder, OpenError, ReadError, Sink, Tap, TapHandle
 #[test]
 fn lists_the_plain_files_in_order(rt: HostRuntime) -> Result<(), Fail> {
     let alloc = rt.alloc();
+    // What a run that was cut off left behind.
+    let _ = fs::remove_dir_all(&rt, "ordered");
     fs::create_dir(&rt, "ordered")?;
     fs::create_dir(&rt, "ordered/a_folder")?;
     for name in [
@@ -26,12 +30,14 @@ fn lists_the_plain_files_in_order(rt: HostRuntime) -> Result<(), Fail> {
         assert_eq!(rt; folder.find(name), Some(n), "{name}");
     }
     assert_eq!(rt; folder.find("a_folder"), None);
+    fs::remove_dir_all(&rt, "ordered")?;
     Ok(())
 }
 
 #[test]
 fn a_changed_file_has_the_next_generation(rt: HostRuntime) -> Result<(), Fail> {
     let alloc = rt.alloc();
+    let _ = fs::remove_dir_all(&rt, "changed");
     fs::create_dir(&rt, "changed")?;
     fs::write(&rt, "changed/a.tif", "first")?;
     let mut folder = RealFolder::new(&rt);
@@ -51,8 +57,8 @@ fn a_changed_file_has_the_next_generation(rt: HostRuntime) -> Result<(), Fail> {
     // It is rewritten, and then another file takes its place.
     fs::write(&rt, "changed/a.tif", "second")?;
     assert_eq!(rt; tap.read_at(&mut h, 1, &mut buf), Err(ReadError::Gone(2)));
-    fs::write(&rt, "other", "the third")?;
-    fs::rename(&rt, "other", "changed/a.tif")?;
+    fs::write(&rt, "changed/other", "the third")?;
+    fs::rename(&rt, "changed/other", "changed/a.tif")?;
     assert_eq!(rt; tap.newest(0, 0), Ok(3));
     assert_eq!(rt; tap.faults(), 0);
 
@@ -63,6 +69,7 @@ fn a_changed_file_has_the_next_generation(rt: HostRuntime) -> Result<(), Fail> {
     assert!(rt; matches!(tap.open(alloc, 0, 0), Err(OpenError::Failed)));
     assert_eq!(rt; tap.faults(), 2);
     folder.back(tap);
+    fs::remove_dir_all(&rt, "changed")?;
     Ok(())
 }
 
@@ -109,5 +116,83 @@ fn a_stream_that_fails_goes_on_failing(rt: HostRuntime) -> Result<(), Fail> {
     assert_eq!(rt; sink.put(b"four"), Ok(()), "it is held back");
     assert_eq!(rt; sink.flush(), Err(Failed));
     assert_eq!(rt; sink.flush(), Err(Failed));
+    Ok(())
+}
+
+// 3 by 1 texels of one channel in one strip: 10, 21 and 30.
+static THREE: [u8; 125] = [
+    0x49, 0x49, 0x2a, 0x00, 0x08, 0x00, 0x00, 0x00, 0x09, 0x00, //
+    0x00, 0x01, 0x03, 0x00, 0x01, 0x00, 0x00, 0x00, 0x03, 0x00, 0x00, 0x00, //
+    0x01, 0x01, 0x03, 0x00, 0x01, 0x00, 0x00, 0x00, 0x01, 0x00, 0x00, 0x00, //
+    0x02, 0x01, 0x03, 0x00, 0x01, 0x00, 0x00, 0x00, 0x08, 0x00, 0x00, 0x00, //
+    0x03, 0x01, 0x03, 0x00, 0x01, 0x00, 0x00, 0x00, 0x01, 0x00, 0x00, 0x00, //
+    0x06, 0x01, 0x03, 0x00, 0x01, 0x00, 0x00, 0x00, 0x01, 0x00, 0x00, 0x00, //
+    0x11, 0x01, 0x03, 0x00, 0x01, 0x00, 0x00, 0x00, 0x7a, 0x00, 0x00, 0x00, //
+    0x15, 0x01, 0x03, 0x00, 0x01, 0x00, 0x00, 0x00, 0x01, 0x00, 0x00, 0x00, //
+    0x16, 0x01, 0x03, 0x00, 0x01, 0x00, 0x00, 0x00, 0x01, 0x00, 0x00, 0x00, //
+    0x17, 0x01, 0x03, 0x00, 0x01, 0x00, 0x00, 0x00, 0x03, 0x00, 0x00, 0x00, //
+    0x00, 0x00, 0x00, 0x00, //
+    0x0a, 0x15, 0x1e,
+];
+
+// A writer that puts other bytes into a file before the first bytes that it takes.
+#[derive(Drop)]
+struct Painter<R> {
+    rt: R,
+    path: &'static str,
+    picture: Option<Vec<u8>>,
+    taken: Vec<u8>,
+}
+
+impl<R: Files<File = File>> Write for Painter<R> {
+    fn write(&mut self, buf: &[u8]) -> io::Result<usize> {
+        if let Some(picture) = self.picture.take() {
+            fs::write(&self.rt, self.path, &picture)?;
+        }
+        self.taken.extend_from_slice(buf)?;
+        Ok(buf.len())
+    }
+
+    fn flush(&mut self) -> io::Result<()> {
+        Ok(())
+    }
+}
+
+// The first line is longer than what the sink holds back, so the file changes before the next one.
+#[test]
+fn lines_name_the_generation_that_they_were_read_from(rt: HostRuntime) -> Result<(), Fail> {
+    let alloc = rt.alloc();
+    let _ = fs::remove_dir_all(&rt, "painted");
+    fs::create_dir(&rt, "painted")?;
+    fs::write(&rt, "painted/three.tif", &THREE)?;
+    let mut picture = THREE.to_vec(alloc)?;
+    picture[122] = 7;
+    picture.push(0)?;
+    let mut painter = Painter {
+        rt: &rt,
+        path: "painted/three.tif",
+        picture: Some(picture),
+        taken: Vec::new(alloc),
+    };
+    let list =
+        "pixels 0 0 0 256 256 three.tif\npixels 0 0 0 1 1 two.tif\npixels 0 0 0 4 1 three.tif\n";
+    let mut words = Vec::new(alloc);
+    words.push(String::from_str(alloc, "painted")?)?;
+
+    let mut folder = RealFolder::new(&rt);
+    let mut feed = RealFeed::new(list.as_bytes());
+    let mut sink = RealSink::new(alloc, &mut painter)?;
+    let status = run(alloc, &words, &mut folder, &mut feed, &mut sink);
+    assert_eq!(rt; sink.flush(), Ok(()));
+    drop(sink);
+    assert_eq!(rt; status, 1);
+
+    let mut written = String::from_str(alloc, "pixels 1 1 2570 5397 7710")?;
+    for _ in 3..65536 {
+        written.push_str(" 0")?;
+    }
+    written.push_str("\nno such file\npixels 2 1 1799 5397 7710 0\n")?;
+    assert!(rt; painter.taken.as_slice() == written.as_bytes());
+    fs::remove_dir_all(&rt, "painted")?;
     Ok(())
 }

@@ -3,7 +3,8 @@ ghost use Rattle.texcache.specs.RealWorld.{untold_files, untold_is_world};
 
 use tex_world::World;
 
-/// The files that the system has. It tells nothing of them, since other programs may change them at any time.
+/// The files that the system has. It tells nothing of them, since other programs may change them
+/// at any time.
 #[derive(Drop)]
 pub struct RealWorld;
 

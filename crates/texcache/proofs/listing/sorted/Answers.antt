@@ -8,5 +8,7 @@ use Rattle.texcache.proofs.listing.sorted.Goals as goal
 
 pub returns-in-Ok-clause-in_order : goal.returns-in-Ok-clause-in_order
 returns-in-Ok-clause-in_order c =
-    c.in-Ok.ensures.sorted (λ a b. is_lt (slice_cmp nat_cmp (listed_name a) (listed_name b))) (ranks_by nat_list_cmp_total listed_name)
+    c.in-Ok.ensures.sorted
+    (λ a b. is_lt (slice_cmp nat_cmp (listed_name a) (listed_name b)))
+    (ranks_by nat_list_cmp_total listed_name)
     (answers_always _ _ _ (λ f a r f' k. search (rules, of_calls)))
