@@ -1,5 +1,6 @@
 //! The plain files of one folder.
-ghost use Rattle.std.specs.Prelude.{◌≡◌, ◌<◌, ◌≤◌, length, IfOk, IfSome, IsNone, string_bytes};
+ghost use Rattle.std.specs.Prelude.{◌≡◌, ◌<◌, ◌≤◌, length, IfOk, IfErr, IfSome, IsNone};
+ghost use Rattle.std.specs.Prelude.{string_bytes};
 ghost use Rattle.std.specs.List.{HoldsAt};
 ghost use Rattle.std.proofs.Props.{props};
 ghost use Rattle.tex_world.specs.World.{most_files};
@@ -65,8 +66,9 @@ impl Listing {
 
     /// The path that opens a file.
     pub fn path_of(&self, file: u32) -> Option<&str>
-        ensures { IfSome result (λ path.
+        ensures path { IfSome result (λ path.
             HoldsAt (λ listed. string_bytes listed.path ≡ path.now) self.now.files.items file) }
+        ensures absent { IsNone result → length self.now.files.items ≤ file }
     {
         Some(self.files.get(file as usize)?.path.as_str())
     }
@@ -96,6 +98,7 @@ fn plain_files<R: Files + AllocGlobal + Clone + Drop>(
 fn sorted(mut files: Vec<Listed>) -> Result<Vec<Listed>, EnterError>
     ensures len { IfOk result (λ after. length after.items ≡ length files.items) }
     ensures in_order { IfOk result (λ after. AreInOrder after.items) }
+    ensures cause { IfErr result (λ e. e ≡ EnterError.NoMemory) }
 {
     match files.sort_by(|a, b| a.name.as_str().cmp(b.name.as_str())) {
         Ok(()) => Ok(files),
