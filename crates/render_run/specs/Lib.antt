@@ -6,6 +6,7 @@ pub mod TapReader
 pub mod Region
 pub mod Overlap
 pub mod PlainLevel
+pub mod Plain
 pub mod RegionRead
 pub mod Line
 pub mod Reply

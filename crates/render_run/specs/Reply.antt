@@ -4,17 +4,18 @@ use Rattle.std.specs.Prelude.{Option, Some, None, ⊤, if◌then◌else◌}
 use Rattle.std.specs.Option.{ForSome}
 use Rattle.tex_world.specs.World.{Files, IsReal, HasNoFile}
 use Rattle.tiff_dirs.specs.declared.fault.TiffFault.TheVariants.{Unsupported}
-use Rattle.tiff_dirs.specs.Block.{Level, level_at}
-use Rattle.tiff_dirs.specs.Plain.{is_plain, plain_place}
+use Rattle.tiff_dirs.specs.Block.{Level}
+use Rattle.tiff_dirs.specs.Level.{level_of}
 use Rattle.render_run.specs.declared.request.Request.{Request}
 use Rattle.render_run.specs.declared.answer.Answer.{Answer}
 use Rattle.render_run.specs.declared.answer.Answer.TheVariants.{Pixels, NoSuchFile, BadFile, Again}
 use Rattle.render_run.specs.declared.answer.Answer.TheVariants.{ReadFault, NoMemory}
+use Rattle.render_run.specs.Plain.{is_plain}
 use Rattle.render_run.specs.Region.{region_values}
 
 -- level 0 of a plain file
 abbrev pub plain_level : List ℕ → Level
-plain_level bytes = level_at false bytes (plain_place bytes)
+plain_level bytes = level_of bytes 0
 
 -- What a request is answered on the bytes of one generation: the values of its region, or that the
 -- file is not plain.

@@ -11,6 +11,7 @@ mod grammar;
 mod line;
 mod list;
 mod overlap;
+mod plain;
 mod prepare;
 mod region;
 mod reply;

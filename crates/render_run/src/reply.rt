@@ -7,10 +7,11 @@ ghost use Rattle.render_run.specs.ReplyMade.{IsOn, IsRefusalFor};
 ghost use Rattle.render_run.specs.RegionRead.{LeavesRegion};
 
 use crate::answer::{Answer, Values};
+use crate::plain::plain_dirs;
 use crate::region::{RegionError, read_region};
 use crate::request::Request;
 use std::alloc::Global;
-use tiff_dirs::{ByteReader, DirsError, read_dirs};
+use tiff_dirs::{ByteReader, DirsError};
 
 /// The answer where the directories were not read: the fault that the bytes show, or why they were
 /// not told.
@@ -36,7 +37,7 @@ pub(crate) fn reply<B: ByteReader>(
     ensures generation { IfOk result (IsOn generation) }
     ensures reader { LeavesRegion B.keeps B.refuses reader.old reader.new result }
 {
-    let dirs = match read_dirs(alloc, reader) {
+    let dirs = match plain_dirs(alloc, reader) {
         Ok(dirs) => dirs,
         Err(e) => return refusal(generation, e),
     };

@@ -1,52 +1,43 @@
--- What one call says, from what another says.
-use Rattle.std.proofs.Common.{Result, Ok, Err}
+-- What one call finds, from what another finds.
+use Rattle.std.proofs.Common.{ℕ, List, ◌≡◌, Result, Ok, Err, Option, Some, None, ◌∙◌}
+use Rattle.tiff_dirs.specs.declared.fault.TiffFault.{TiffFault}
 use Rattle.tiff_dirs.specs.declared.fault.DirsError.{DirsError}
 use Rattle.tiff_dirs.specs.declared.fault.DirsError.TheVariants.{Fault, Reader, NoMemory}
-use Rattle.tiff_dirs.specs.Calls.{Says}
-use Rattle.tiff_dirs.specs.Dirs.{Leaves}
+use Rattle.tiff_dirs.specs.Calls.{Finds}
+use Rattle.tiff_dirs.specs.Dirs.{Tells, Leaves}
+use Rattle.tiff_dirs.specs.Level.{first_fault}
 
-pub says_so : {E T : Type 0} (P Q : Type 0) (seen wanted : T → Type 0) (r : Result T (DirsError E))
-    → Says P seen r → (P → Q) → (Q → P) → ((x : T) → seen x → wanted x) → Says Q wanted r
-says_so P Q seen wanted (Ok x) s on back view = (on s.0, view x s.1)
-says_so P Q seen wanted (Err (Fault fault)) s on back view = λ q. s (back q)
-says_so P Q seen wanted (Err (Reader e)) s on back view = tt
-says_so P Q seen wanted (Err NoMemory) s on back view = tt
-
--- the same where what is seen rests on the fact
-pub says_with : {E T : Type 0} (P Q : Type 0) (seen wanted : T → Type 0)
+-- the same fault, of what is seen otherwise
+pub finds_so : {E T : Type 0} (p q : Option TiffFault) (seen wanted : T → Type 0)
     (r : Result T (DirsError E))
-    → Says P seen r → (P → Q) → (Q → P) → ((x : T) → P → seen x → wanted x) → Says Q wanted r
-says_with P Q seen wanted (Ok x) s on back view = (on s.0, view x s.0 s.1)
-says_with P Q seen wanted (Err (Fault fault)) s on back view = λ q. s (back q)
-says_with P Q seen wanted (Err (Reader e)) s on back view = tt
-says_with P Q seen wanted (Err NoMemory) s on back view = tt
+    → Finds p seen r → q ≡ p → ((x : T) → p ≡ None → seen x → wanted x) → Finds q wanted r
+finds_so p q seen wanted (Ok x) s same view = (same ∙ s.0, view x s.0 s.1)
+finds_so p q seen wanted (Err (Fault fault)) s same view = same ∙ s
+finds_so p q seen wanted (Err (Reader e)) s same view = tt
+finds_so p q seen wanted (Err NoMemory) s same view = tt
 
 -- an error that is handed on
-pub says_err : {E T U : Type 0} (P Q : Type 0) (seen : T → Type 0)
+pub finds_err : {E T U : Type 0} (p q : Option TiffFault) (seen : T → Type 0)
     (wanted : U → Type 0) (e : DirsError E)
-    → Says P seen (Err e) → (Q → P) → Says Q wanted (Err e)
-says_err P Q seen wanted (Fault fault) s back = λ q. s (back q)
-says_err P Q seen wanted (Reader e) s back = tt
-says_err P Q seen wanted NoMemory s back = tt
+    → Finds p seen (Err e) → ((fault : TiffFault) → p ≡ Some fault → q ≡ Some fault)
+    → Finds q wanted (Err e)
+finds_err p q seen wanted (Fault fault) s on = on fault s
+finds_err p q seen wanted (Reader e) s on = tt
+finds_err p q seen wanted NoMemory s on = tt
+
+-- the same of the call that reads the directories
+pub tells_err : {E T : Type 0} (p : Option TiffFault) (bytes : List ℕ) (seen : T → Type 0)
+    (e : DirsError E)
+    → Finds p seen (Err e)
+    → ((fault : TiffFault) → p ≡ Some fault → first_fault bytes ≡ Some fault)
+    → Tells bytes (Err e)
+tells_err p bytes seen (Fault fault) s on = on fault s
+tells_err p bytes seen (Reader e) s on = tt
+tells_err p bytes seen NoMemory s on = tt
 
 -- ---- how a reader is left
 
--- what a call leaves after answered reads
-pub leaves_after : {R E T : Type 0} (keeps : R → R → Type 0) (refuses : R → E → R → Type 0)
-    (first mid last : R) (r : Result T (DirsError E))
-    → ((a b c : R) → keeps a b → keeps b c → keeps a c) → keeps first mid
-    → Leaves keeps refuses mid last r
-    → Leaves keeps refuses first last r
-leaves_after keeps refuses first mid last (Ok x) chains before leaves =
-    chains first mid last before leaves
-leaves_after keeps refuses first mid last (Err (Fault fault)) chains before leaves =
-    chains first mid last before leaves
-leaves_after keeps refuses first mid last (Err (Reader e)) chains before leaves =
-    (leaves.0, chains first mid leaves.0 before leaves.1, leaves.2)
-leaves_after keeps refuses first mid last (Err NoMemory) chains before leaves =
-    chains first mid last before leaves
-
--- the same where the error is handed on
+-- what a call leaves that hands an error on, after answered reads
 pub leaves_err : {R E : Type 0} (T U : Type 0) (keeps : R → R → Type 0)
     (refuses : R → E → R → Type 0) (first mid last : R) (e : DirsError E)
     → ((a b c : R) → keeps a b → keeps b c → keeps a c) → keeps first mid

@@ -27,6 +27,10 @@ most_side = 131072
 abbrev pub most_channels : ℕ
 most_channels = 8
 
+-- a side that a tile may have: a multiple of 16 that is not 0
+abbrev pub is_tile_side : ℕ → Bool
+is_tile_side side = nat_lt 0 side && (nat_le side most_side && (side % 16 == 0))
+
 -- ---- the faults of the directory at a place, in their order
 
 module _ (big : Bool) (bytes : List ℕ) (at : ℕ) where
@@ -110,10 +114,6 @@ module _ (big : Bool) (bytes : List ℕ) (at : ℕ) where
   large_fault = then_some
       (nat_lt most_side (field_value big bytes at 256)
       || (nat_lt most_side (field_value big bytes at 257) || nat_lt most_channels samples)) TooLarge
-
-  -- a side that a tile may have: a multiple of 16 that is not 0
-  abbrev pub is_tile_side : ℕ → Bool
-  is_tile_side side = nat_lt 0 side && (nat_le side most_side && (side % 16 == 0))
 
   -- 10: a tile has a side that it may not have
   unfoldable pub tile_fault : Option TiffFault

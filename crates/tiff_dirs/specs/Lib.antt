@@ -5,12 +5,14 @@ pub mod Block
 pub mod Fault
 pub mod Level
 pub mod Texel
-pub mod Plain
 pub mod Code
 pub mod Facts
 pub mod Shown
 pub mod Reader
+pub mod Header
 pub mod Dirs
 pub mod Inside
+pub mod Values
+pub mod Numbers
+pub mod Chain
 pub mod Calls
-pub mod Strips

@@ -1,15 +1,19 @@
 //! An entry of a directory, as far as it is kept.
 
 ghost use Rattle.std.specs.Prelude.{◌≡◌, ℕ, ◌+◌, ◌*◌, ◌^◌, ◌<◌, ◌≤◌, ◌==◌, ◌||◌, Bool, List};
-ghost use Rattle.std.specs.Prelude.{length, nat_le, IsTrue, OnOk, IfErr};
+ghost use Rattle.std.specs.Prelude.{length, nat_le, IsTrue};
 ghost use Rattle.std.specs.Option.{ForSome};
 ghost use Rattle.tiff_dirs.specs.Bytes.{number_at};
-ghost use Rattle.tiff_dirs.specs.Field.{type_size};
+ghost use Rattle.tiff_dirs.specs.Field.{type_size, entry_value};
 ghost use Rattle.tiff_dirs.specs.Reader.{IsPartAt};
 ghost use Rattle.tiff_dirs.specs.Inside.{IsEntry, is_shaped, is_read, part_value};
+ghost use Rattle.tiff_dirs.specs.Inside.{AreValues};
+ghost use Rattle.tiff_dirs.specs.Dirs.{Leaves};
+ghost use Rattle.tiff_dirs.specs.Calls.{Gives};
 
 use crate::bytes::{long_at, short_at};
-use crate::reader::ByteReader;
+use crate::fault::DirsError;
+use crate::reader::{ByteReader, read_at};
 
 /// The bytes of an entry.
 pub const ENTRY_BYTES: usize = 12;
@@ -86,16 +90,16 @@ impl Entry {
         b: &mut B,
         from: u32,
         part: &mut [u8],
-    ) -> Result<(), B::Error>
+    ) -> Result<(), DirsError<B::Error>>
         requires low { B.size b.old < 2 ^ 64 }
         requires shape { IsTrue (is_shaped (B.size b.old) self.now) }
         requires within { type_size self.now.kind * from + length part.old
             ≤ self.now.count * type_size self.now.kind }
         ensures told { ForSome (B.bytes b.old) (λ bytes.
-            (big : Bool) (place : ℕ) → IsEntry big bytes place self.now → OnOk result
-            (IsPartAt bytes (self.now.start + type_size self.now.kind * from) part.new)) }
-        ensures ok { OnOk result (B.keeps b.old b.new) }
-        ensures err { IfErr result (λ e. B.refuses b.old e b.new) }
+            (big : Bool) (place : ℕ) → IsEntry big bytes place self.now → Gives
+            (λ _. AreValues big self.now part.new (λ k. entry_value big bytes place (from + k)))
+            result) }
+        ensures reader { Leaves B.keeps B.refuses b.old b.new result }
     {
         let skip = self.value_size() * u64::from(from);
         if self.is_inner() {
@@ -103,7 +107,7 @@ impl Entry {
             part.copy_from_slice(&self.inner[at..at + part.len()]);
             return Ok(());
         }
-        b.read(self.start + skip, part)
+        read_at(b, self.start + skip, part)
     }
 
     /// Value k among the bytes of values.

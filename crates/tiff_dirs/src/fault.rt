@@ -2,6 +2,9 @@
 
 ghost use Rattle.std.specs.Prelude.{◌≡◌};
 ghost use Rattle.tiff_dirs.specs.Code.{code_of};
+ghost use Rattle.tiff_dirs.specs.declared.fault.DirsError.TheVariants.{Fault, NoMemory};
+
+use std::alloc::AllocError;
 
 /// The first fault that the bytes of a file show.
 /// The faults stand in the order in which they are looked for.
@@ -65,4 +68,20 @@ pub enum DirsError<E> {
     Reader(E),
     /// No memory was found.
     NoMemory,
+}
+
+impl<E> From<TiffFault> for DirsError<E> {
+    ghost from_gives = { λ fault e. e ≡ Fault fault };
+
+    fn from(fault: TiffFault) -> Self {
+        DirsError::Fault(fault)
+    }
+}
+
+impl<E> From<AllocError> for DirsError<E> {
+    ghost from_gives = { λ _ e. e ≡ NoMemory };
+
+    fn from(_: AllocError) -> Self {
+        DirsError::NoMemory
+    }
 }

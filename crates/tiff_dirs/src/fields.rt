@@ -1,149 +1,141 @@
-//! The values of fields.
+//! The first values of fields.
 
-ghost use Rattle.std.specs.Prelude.{◌≡◌, ℕ, ◌*◌, ◌^◌, ◌<◌, ◌≤◌, List, length, slice_index, IsTrue};
+ghost use Rattle.std.specs.Prelude.{◌≡◌, ℕ, ◌^◌, ◌<◌, ◌≤◌, List, IsTrue};
 ghost use Rattle.std.specs.Option.{ForSome};
-ghost use Rattle.tiff_dirs.specs.Bytes.{number_at};
-ghost use Rattle.tiff_dirs.specs.Field.{type_size, entry_values, field_values};
+ghost use Rattle.tiff_dirs.specs.Field.{entry_value, field_value};
+ghost use Rattle.tiff_dirs.specs.Block.{tile_of, strip_rows};
 ghost use Rattle.tiff_dirs.specs.Dirs.{Leaves};
-ghost use Rattle.tiff_dirs.specs.Inside.{IsFront, part_value, is_shaped, is_read, is_known};
-ghost use Rattle.tiff_dirs.specs.Inside.{HasNumbers, AreEither, numbers_at};
-ghost use Rattle.tiff_dirs.specs.Calls.{SaysOf, SaysAt};
+ghost use Rattle.tiff_dirs.specs.Inside.{is_shaped, is_known};
+ghost use Rattle.tiff_dirs.specs.Numbers.{numbers_at, AreNumbersAt};
+ghost use Rattle.tiff_dirs.specs.Calls.{GivesOf, GivesAt};
 
 use crate::entry::Entry;
-use crate::fault::{DirsError, TiffFault};
-use crate::first_values::FirstValues;
+use crate::fault::DirsError;
 use crate::found::Found;
+use crate::numbers::Numbers;
 use crate::reader::ByteReader;
-use crate::tag::{NUMBERS, default_value};
+use crate::tag::{NUMBERS, ROWS_PER_STRIP, TILE_LENGTH, TILE_WIDTH, default_value};
 
-/// The first values among their bytes.
-fn values_in(entry: &Entry, big: bool, part: &[u8], count: usize) -> FirstValues
-    requires kind { IsTrue (is_read entry.now.kind) }
-    requires few { count ≤ 8 }
-    requires room { type_size entry.now.kind * count ≤ length part.now }
-    ensures count { result.count ≡ count }
-    ensures values { (k : ℕ) → k < count → slice_index result.numbers k
-        ≡ part_value big entry.now part.now k }
-{
-    let mut numbers = [0u32; 8];
-    for k in 0..count {
-        numbers[k] = entry.value_in(big, part, k);
-    }
-    FirstValues { numbers, count }
-}
-
-/// The first values of an entry. It reads once, or not at all.
-fn values_of_entry<B: ByteReader>(
+/// The first value of an entry. It reads once, or not at all.
+fn value_of_entry<B: ByteReader>(
     b: &mut B,
     big: bool,
     entry: &Entry,
-    most: usize,
-) -> Result<FirstValues, DirsError<B::Error>>
+) -> Result<u32, DirsError<B::Error>>
     requires low { B.size b.old < 2 ^ 64 }
     requires shape { IsTrue (is_shaped (B.size b.old) entry.now) }
-    requires few { most ≤ 8 }
-    ensures told { SaysOf (B.bytes b.old) big entry.now (λ _ _. Unit {0})
-        (λ bytes place. IsFront most (entry_values big bytes place)) result }
+    ensures told { GivesOf (B.bytes b.old) big entry.now
+        (λ bytes place value. value ≡ entry_value big bytes place 0) result }
     ensures reader { Leaves B.keeps B.refuses b.old b.new result }
 {
-    let count = most.min(entry.count as usize);
-    let mut buffer = [0u8; 32];
-    let part = &mut buffer[..count * entry.value_size() as usize];
-    if let Err(e) = entry.read_part(b, 0, part) {
-        return Err(DirsError::Reader(e));
-    }
-    Ok(values_in(entry, big, part, count))
+    let mut buffer = [0u8; 4];
+    let part = &mut buffer[..entry.value_size() as usize];
+    entry.read_part(b, 0, part)?;
+    Ok(entry.value_in(big, part, 0))
 }
 
-/// The first values of a field: those of its entry, or its default.
-pub fn values<B: ByteReader>(
+/// The first value of a field: that of its entry, or its default. 0 where there is none.
+fn first_value<B: ByteReader>(
     b: &mut B,
     big: bool,
     found: &Found,
     tag: u16,
-    most: usize,
-) -> Result<FirstValues, DirsError<B::Error>>
+) -> Result<u32, DirsError<B::Error>>
     requires known { IsTrue (is_known tag) }
-    requires some { 1 ≤ most }
-    requires few { most ≤ 8 }
-    ensures told { SaysAt (B.bytes b.old) big found.now.entries
-        (λ bytes at. 0 < length (field_values big bytes at tag))
-        (λ bytes at. IsFront most (field_values big bytes at tag)) result }
+    ensures told { GivesAt (B.bytes b.old) big found.now.entries
+        (λ bytes at value. value ≡ field_value big bytes at tag) result }
     ensures reader { Leaves B.keeps B.refuses b.old b.new result }
 {
     match found.entry(tag) {
-        None => match default_value(tag) {
-            None => Err(DirsError::Fault(TiffFault::FieldMissing {
-                tag: u32::from(tag),
-            })),
-            Some(value) => Ok(FirstValues {
-                numbers: [value, 0, 0, 0, 0, 0, 0, 0],
-                count: 1,
-            }),
-        },
+        None => Ok(default_value(tag).unwrap_or(0)),
         Some(entry) => {
-            let file = b.len();
-            if entry.has_shape(file) {
-                values_of_entry(b, big, &entry, most)
+            if entry.has_shape(b.len()) {
+                value_of_entry(b, big, &entry)
             } else {
-                Err(DirsError::Fault(TiffFault::FieldShape {
-                    tag: u32::from(tag),
-                }))
+                Ok(0)
             }
         }
     }
 }
 
-/// The numbers of the fields that hold one, in the order of `NUMBERS`.
-pub fn numbers<B: ByteReader>(
+/// The first values of the fields that every directory reads, in the order of `NUMBERS`.
+fn first_values<B: ByteReader>(
     b: &mut B,
     big: bool,
     found: &Found,
 ) -> Result<[u32; 7], DirsError<B::Error>>
-    ensures told { SaysAt (B.bytes b.old) big found.now.entries
-        (λ bytes at. HasNumbers big bytes at)
-        (λ bytes at numbers. numbers ≡ numbers_at big bytes at) result }
+    ensures told { GivesAt (B.bytes b.old) big found.now.entries
+        (λ bytes at values. values ≡ numbers_at big bytes at) result }
     ensures reader { Leaves B.keeps B.refuses b.old b.new result }
 {
-    let mut numbers = [0u32; 7];
+    let mut values = [0u32; 7];
     for i in 0..7 {
-        match values(b, big, found, NUMBERS[i], 1) {
-            Ok(first) => numbers[i] = first.numbers[0],
-            Err(e) => return Err(e),
-        }
+        values[i] = first_value(b, big, found, NUMBERS[i])?;
     }
-    Ok(numbers)
+    Ok(values)
 }
 
-/// Tests that a field has one of two values for each sample of a pixel.
-pub fn test_samples<B: ByteReader>(
+/// Width and height of a tile, if the directory is tiled.
+fn tile_at<B: ByteReader>(
     b: &mut B,
     big: bool,
     found: &Found,
-    tag: u16,
-    samples: u32,
-    one: u32,
-    other: u32,
-) -> Result<(), DirsError<B::Error>>
-    requires known { IsTrue (is_known tag) }
-    requires some { 1 ≤ samples }
-    requires few { samples ≤ 8 }
-    ensures told { SaysAt (B.bytes b.old) big found.now.entries
-        (λ bytes at. AreEither one other samples (field_values big bytes at tag))
-        (λ _ _ _. Unit {0}) result }
+) -> Result<Option<(u32, u32)>, DirsError<B::Error>>
+    ensures told { GivesAt (B.bytes b.old) big found.now.entries
+        (λ bytes at tile. tile ≡ tile_of big bytes at) result }
     ensures reader { Leaves B.keeps B.refuses b.old b.new result }
 {
-    match values(b, big, found, tag, samples as usize) {
-        Ok(first) => {
-            if first.are_either(one, other) {
-                Ok(())
-            } else {
-                Err(DirsError::Fault(TiffFault::Unsupported {
-                    tag: u32::from(tag),
-                    value: u64::from(first.numbers[0]),
-                }))
-            }
-        }
-        Err(e) => Err(e),
+    if !found.is_tiled() {
+        return Ok(None);
     }
+    let width = first_value(b, big, found, TILE_WIDTH)?;
+    let height = first_value(b, big, found, TILE_LENGTH)?;
+    Ok(Some((width, height)))
+}
+
+/// The rows of a strip. A tiled directory has none, and they are not read there.
+fn rows_at<B: ByteReader>(b: &mut B, big: bool, found: &Found) -> Result<u32, DirsError<B::Error>>
+    ensures told { GivesAt (B.bytes b.old) big found.now.entries
+        (λ bytes at rows. rows ≡ strip_rows big bytes at) result }
+    ensures reader { Leaves B.keeps B.refuses b.old b.new result }
+{
+    if found.is_tiled() {
+        Ok(u32::MAX)
+    } else {
+        first_value(b, big, found, ROWS_PER_STRIP)
+    }
+}
+
+/// The numbers of a directory. Each that does not fit in its entry takes one read.
+pub fn numbers_of<B: ByteReader>(
+    b: &mut B,
+    big: bool,
+    found: &Found,
+) -> Result<Numbers, DirsError<B::Error>>
+    ensures told { GivesAt (B.bytes b.old) big found.now.entries
+        (λ bytes at. AreNumbersAt big bytes at) result }
+    ensures reader { Leaves B.keeps B.refuses b.old b.new result }
+{
+    let [
+        width,
+        height,
+        bits,
+        compression,
+        photometric,
+        samples,
+        planar,
+    ] = first_values(b, big, found)?;
+    let tile = tile_at(b, big, found)?;
+    let rows_per_strip = rows_at(b, big, found)?;
+    Ok(Numbers {
+        width,
+        height,
+        bits,
+        compression,
+        photometric,
+        samples,
+        planar,
+        tile,
+        rows_per_strip,
+    })
 }

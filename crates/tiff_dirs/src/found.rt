@@ -7,10 +7,17 @@ ghost use Rattle.tiff_dirs.specs.Bytes.{number_at};
 ghost use Rattle.tiff_dirs.specs.Field.{entry_of};
 ghost use Rattle.tiff_dirs.specs.Reader.{IsPartAt};
 ghost use Rattle.tiff_dirs.specs.Inside.{IsEntry, Covers, HasEntries, IsKept, is_known, noted};
+ghost use Rattle.std.specs.Prelude.{find, not, [], ◌∷◌};
+ghost use Rattle.std.specs.List.{list_all};
+ghost use Rattle.tiff_dirs.specs.Field.{has_field};
+ghost use Rattle.tiff_dirs.specs.Block.{is_tiled};
+ghost use Rattle.tiff_dirs.specs.Fault.{first_of, is_misshapen, missing_fault, shape_fault};
+ghost use Rattle.tiff_dirs.specs.Calls.{OfEntries, Judges};
 
 use crate::bytes::short_at;
 use crate::entry::{ENTRY_BYTES, Entry, entry_of as entry_from};
-use crate::tag::TAGS;
+use crate::fault::TiffFault;
+use crate::tag::{STRIPPED_READ, STRIPPED_REQUIRED, TAGS, TILE_WIDTH, TILED_READ, TILED_REQUIRED};
 
 /// The first entry of each tag, at the tag's place in `TAGS`.
 #[derive(Clone, Copy)]
@@ -69,5 +76,108 @@ impl Found {
             }
         }
         None
+    }
+
+    /// The directory has that tag.
+    fn has(&self, tag: u16) -> bool
+        requires { IsTrue (is_known tag) }
+        ensures { OfEntries self.now.entries (λ big bytes at. result ≡ has_field big bytes at tag) }
+    {
+        self.entry(tag).is_some()
+    }
+
+    /// The directory is tiled.
+    pub fn is_tiled(&self) -> bool
+        ensures { OfEntries self.now.entries (λ big bytes at. result ≡ is_tiled big bytes at) }
+    {
+        self.has(TILE_WIDTH)
+    }
+
+    /// The first tag of a list that the directory does not have.
+    fn first_absent(&self, wanted: &[u16]) -> Option<u16>
+        requires { IsTrue (list_all is_known wanted.now) }
+        ensures { OfEntries self.now.entries (λ big bytes at.
+            result ≡ find (λ tag. not (has_field big bytes at tag)) wanted.now) }
+    {
+        for tag in wanted {
+            if !self.has(*tag) {
+                return Some(*tag);
+            }
+        }
+        None
+    }
+
+    /// The directory has that tag, and its values can not be read in a file of that length.
+    fn is_misshapen(&self, tag: u16, file: u64) -> bool
+        requires { IsTrue (is_known tag) }
+        ensures { OfEntries self.now.entries (λ big bytes at. length bytes ≡ file
+            → result ≡ is_misshapen big bytes at tag) }
+    {
+        match self.entry(tag) {
+            Some(entry) => !entry.has_shape(file),
+            None => false,
+        }
+    }
+
+    /// The first tag of a list whose values can not be read in a file of that length.
+    fn first_misshapen(&self, wanted: &[u16], file: u64) -> Option<u16>
+        requires { IsTrue (list_all is_known wanted.now) }
+        ensures { OfEntries self.now.entries (λ big bytes at. length bytes ≡ file
+            → result ≡ find (is_misshapen big bytes at) wanted.now) }
+    {
+        for tag in wanted {
+            if self.is_misshapen(*tag, file) {
+                return Some(*tag);
+            }
+        }
+        None
+    }
+
+    /// Tests that the fields are there that the directory must have.
+    fn test_required(&self) -> Result<(), TiffFault>
+        ensures { OfEntries self.now.entries (λ big bytes at.
+            Judges (missing_fault big bytes at) (λ _. Unit {0}) result) }
+    {
+        let absent = if self.is_tiled() {
+            self.first_absent(&TILED_REQUIRED)
+        } else {
+            self.first_absent(&STRIPPED_REQUIRED)
+        };
+        match absent {
+            None => Ok(()),
+            Some(tag) => Err(TiffFault::FieldMissing {
+                tag: u32::from(tag),
+            }),
+        }
+    }
+
+    /// Tests that the fields that the directory reads can be read in a file of that length.
+    fn test_shapes(&self, file: u64) -> Result<(), TiffFault>
+        ensures { OfEntries self.now.entries (λ big bytes at. length bytes ≡ file
+            → Judges (shape_fault big bytes at) (λ _. Unit {0}) result) }
+    {
+        let misshapen = if self.is_tiled() {
+            self.first_misshapen(&TILED_READ, file)
+        } else {
+            self.first_misshapen(&STRIPPED_READ, file)
+        };
+        match misshapen {
+            None => Ok(()),
+            Some(tag) => Err(TiffFault::FieldShape {
+                tag: u32::from(tag),
+            }),
+        }
+    }
+
+    /// Tests that the fields are there that the directory must have, and then that those that it
+    /// reads can be read in a file of that length.
+    pub fn test_fields(&self, file: u64) -> Result<(), TiffFault>
+        ensures { OfEntries self.now.entries (λ big bytes at. length bytes ≡ file
+            → Judges (first_of (missing_fault big bytes at ∷ shape_fault big bytes at ∷ []))
+            (λ _. Unit {0}) result) }
+    {
+        self.test_required()?;
+        self.test_shapes(file)?;
+        Ok(())
     }
 }

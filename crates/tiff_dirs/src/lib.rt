@@ -2,21 +2,23 @@
 #![tactic(auto)]
 
 mod bytes;
+mod chain;
 mod dir;
 mod directory;
 mod dirs;
 mod entry;
 mod fault;
 mod fields;
-mod first_values;
 mod found;
 mod header;
 mod level;
+mod numbers;
 mod offsets;
+mod outside;
 mod picture;
-mod plain;
 mod read;
 mod reader;
+mod samples;
 mod tag;
 
 pub use dir::Dir;

@@ -1,168 +1,125 @@
-//! The offsets of the strips of a directory.
+//! The offsets of the strips or tiles of a directory.
 
 ghost use Rattle.std.specs.Prelude.{◌≡◌, ℕ, ◌+◌, ◌*◌, ◌^◌, ◌<◌, ◌≤◌, List, length, IsTrue, IfOk};
-ghost use Rattle.std.specs.Prelude.{OnOk, min, vec_len, vec_capacity, None, true, take};
+ghost use Rattle.std.specs.Prelude.{OnOk, min, vec_len, vec_capacity, take};
 ghost use Rattle.std.specs.Option.{ForSome};
-ghost use Rattle.tiff_dirs.specs.Block.{blocks_of};
-ghost use Rattle.tiff_dirs.specs.Bytes.{number_at};
+ghost use Rattle.tiff_dirs.specs.Block.{directory_blocks, offsets_tag};
+ghost use Rattle.tiff_dirs.specs.Fault.{count_fault};
 ghost use Rattle.tiff_dirs.specs.Dirs.{Leaves};
-ghost use Rattle.tiff_dirs.specs.Facts.{HasOffsets};
 ghost use Rattle.tiff_dirs.specs.Field.{type_size, entry_value, field_values};
 ghost use Rattle.tiff_dirs.specs.Inside.{IsEntry, HasEntries, is_shaped, is_read, part_value};
-ghost use Rattle.tiff_dirs.specs.Inside.{strips, fits};
-ghost use Rattle.tiff_dirs.specs.Strips.{HasStripOffsets, Appends, AreFirst, AreInside};
-ghost use Rattle.tiff_dirs.specs.Strips.{AreInsideFrom, AreKept, Grows, HasStrips};
-ghost use Rattle.tiff_dirs.specs.Calls.{Says, SaysOf, SaysAt, Judges};
+ghost use Rattle.tiff_dirs.specs.Values.{Appends, AreFirst, AreLow};
+ghost use Rattle.tiff_dirs.specs.Numbers.{IsPictureAt, picture_blocks};
+ghost use Rattle.tiff_dirs.specs.Calls.{Finds, Gives, GivesOf};
 
 use crate::entry::Entry;
 use crate::fault::{DirsError, TiffFault};
 use crate::found::Found;
 use crate::picture::Picture;
 use crate::reader::ByteReader;
-use crate::tag::STRIP_OFFSETS;
 use std::alloc::Global;
 
 /// How many offsets are read at once: as many LONGs as 64 KiB hold.
 const OFFSETS_AT_ONCE: usize = 16384;
 
-/// Appends the offsets among the bytes of values, where the next strips lie at them.
-fn append_offsets(
-    offsets: &mut Vec<u64>,
-    big: bool,
-    entry: &Entry,
-    part: &[u8],
-    more: usize,
-    picture: &Picture,
-    file: u64,
-) -> Result<(), TiffFault>
+/// Appends so many values that stand among bytes.
+fn append_values(values: &mut Vec<u64>, big: bool, entry: &Entry, part: &[u8], more: usize)
     requires kind { IsTrue (is_read entry.now.kind) }
     requires room { type_size entry.now.kind * more ≤ length part.now }
-    requires few { vec_len offsets.old + more ≤ 131072 }
-    requires reserved { vec_len offsets.old + more ≤ vec_capacity offsets.old }
-    ensures capacity { vec_capacity offsets.new ≡ vec_capacity offsets.old }
-    ensures told { let value = part_value big entry.now part.now in
-        let first = length offsets.old.items in
-        Judges ((k : ℕ) → k < more → fits file picture.now (first + k) (value k) ≡ true)
-        (λ _. Appends more value offsets.old.items offsets.new.items) result }
+    requires reserved { vec_len values.old + more ≤ vec_capacity values.old }
+    ensures capacity { vec_capacity values.new ≡ vec_capacity values.old }
+    ensures appends { Appends more (part_value big entry.now part.now)
+        values.old.items values.new.items }
+    ensures low { AreLow values.old.items → AreLow values.new.items }
 {
     for k in 0..more {
-        let offset = entry.value_in(big, part, k);
-        let i = offsets.len() as u32;
-        if !picture.has_block(i, offset, file) {
-            return Err(TiffFault::DataOutside { level: 0, index: i });
-        }
-        offsets.push_reserved(u64::from(offset));
+        values.push_reserved(u64::from(entry.value_in(big, part, k)));
     }
-    Ok(())
 }
 
-/// Reads so many more offsets of an entry, where the next strips lie at them.
+/// Reads so many more values of an entry.
 fn read_more<B: ByteReader>(
-    offsets: &mut Vec<u64>,
+    values: &mut Vec<u64>,
     b: &mut B,
     big: bool,
     entry: &Entry,
-    picture: &Picture,
     buffer: &mut [u8],
     more: usize,
 ) -> Result<(), DirsError<B::Error>>
     requires low { B.size b.old < 2 ^ 64 }
     requires shape { IsTrue (is_shaped (B.size b.old) entry.now) }
-    requires within { vec_len offsets.old + more ≤ entry.now.count }
+    requires within { vec_len values.old + more ≤ entry.now.count }
     requires room { type_size entry.now.kind * more ≤ length buffer.old }
-    requires few { vec_len offsets.old + more ≤ 131072 }
-    requires reserved { vec_len offsets.old + more ≤ vec_capacity offsets.old }
+    requires reserved { vec_len values.old + more ≤ vec_capacity values.old }
     ensures told { ForSome (B.bytes b.old) (λ bytes. (place : ℕ)
         → IsEntry big bytes place entry.now →
         let value = entry_value big bytes place in
-        let first = length offsets.old.items in
-        AreFirst first value offsets.old.items
-        → Says (AreInsideFrom first more (length bytes) picture.now value)
-        (λ _. AreFirst (length offsets.new.items) value offsets.new.items) result) }
-    ensures grown { AreKept (B.size b.old) picture.now offsets.old.items
-        → OnOk result (Grows more (B.size b.old) picture.now offsets.old.items offsets.new.items) }
-    ensures capacity { vec_capacity offsets.new ≡ vec_capacity offsets.old }
+        AreFirst (length values.old.items) value values.old.items
+        → Gives (λ _. AreFirst (length values.new.items) value values.new.items) result) }
+    ensures grown { OnOk result (length values.new.items ≡ length values.old.items + more) }
+    ensures low { AreLow values.old.items → OnOk result (AreLow values.new.items) }
+    ensures capacity { vec_capacity values.new ≡ vec_capacity values.old }
     ensures reader { Leaves B.keeps B.refuses b.old b.new result }
 {
-    let file = b.len();
     let part = &mut buffer[..more * entry.value_size() as usize];
-    if let Err(e) = entry.read_part(b, offsets.len() as u32, part) {
-        return Err(DirsError::Reader(e));
-    }
-    match append_offsets(offsets, big, entry, part, more, picture, file) {
-        Ok(()) => Ok(()),
-        Err(fault) => Err(DirsError::Fault(fault)),
-    }
+    entry.read_part(b, values.len() as u32, part)?;
+    append_values(values, big, entry, part, more);
+    Ok(())
 }
 
-/// Reads offsets of an entry until there is one for each strip.
+/// Reads the first values of an entry, so many.
 fn read_all<B: ByteReader>(
-    offsets: &mut Vec<u64>,
+    values: &mut Vec<u64>,
     b: &mut B,
     big: bool,
     entry: &Entry,
-    picture: &Picture,
+    count: usize,
     buffer: &mut [u8],
 ) -> Result<(), DirsError<B::Error>>
     requires low { B.size b.old < 2 ^ 64 }
     requires shape { IsTrue (is_shaped (B.size b.old) entry.now) }
-    requires enough { strips picture.now ≤ entry.now.count }
-    requires room { type_size entry.now.kind * min (strips picture.now) 16384 ≤ length buffer.old }
-    requires reserved { strips picture.now ≤ vec_capacity offsets.old }
-    requires none { length offsets.old.items ≡ 0 }
-    ensures told { SaysOf (B.bytes b.old) big entry.now
-        (λ bytes place. AreInside (length bytes) picture.now (entry_value big bytes place))
-        (λ bytes place _. AreFirst (strips picture.now) (entry_value big bytes place)
-        offsets.new.items)
-        result }
-    ensures kept { OnOk result (AreKept (B.size b.old) picture.now offsets.new.items) }
-    ensures count { OnOk result (length offsets.new.items ≡ strips picture.now) }
+    requires enough { count ≤ entry.now.count }
+    requires room { type_size entry.now.kind * min count 16384 ≤ length buffer.old }
+    requires reserved { count ≤ vec_capacity values.old }
+    requires none { length values.old.items ≡ 0 }
+    ensures told { GivesOf (B.bytes b.old) big entry.now
+        (λ bytes place _. AreFirst count (entry_value big bytes place) values.new.items) result }
+    ensures count { OnOk result (length values.new.items ≡ count) }
+    ensures low { OnOk result (AreLow values.new.items) }
     ensures reader { Leaves B.keeps B.refuses b.old b.new result }
 {
-    let blocks = picture.blocks() as usize;
-    'offsets: while offsets.len() < blocks {
-        let more = (blocks - offsets.len()).min(OFFSETS_AT_ONCE);
-        if let Err(e) = read_more(offsets, b, big, entry, picture, buffer, more) {
-            return Err(e);
-        }
+    'values: while values.len() < count {
+        let more = (count - values.len()).min(OFFSETS_AT_ONCE);
+        read_more(values, b, big, entry, buffer, more)?;
     }
     Ok(())
 }
 
-/// The offsets that an entry holds, one for each strip. Those beyond are not read.
-fn offsets_of_entry<B: ByteReader>(
+/// The first values of an entry, so many. Those beyond are not read.
+fn first_of_entry<B: ByteReader>(
     alloc: Global,
     b: &mut B,
     big: bool,
     entry: &Entry,
-    picture: &Picture,
+    count: usize,
 ) -> Result<Vec<u64>, DirsError<B::Error>>
     requires low { B.size b.old < 2 ^ 64 }
     requires shape { IsTrue (is_shaped (B.size b.old) entry.now) }
-    requires enough { strips picture.now ≤ entry.now.count }
-    ensures told { SaysOf (B.bytes b.old) big entry.now
-        (λ bytes place. AreInside (length bytes) picture.now (entry_value big bytes place))
-        (λ bytes place offsets. AreFirst (strips picture.now) (entry_value big bytes place)
-        offsets.items)
-        result }
-    ensures facts { IfOk result (λ offsets. HasStripOffsets picture.now offsets.items) }
+    requires enough { count ≤ entry.now.count }
+    ensures told { GivesOf (B.bytes b.old) big entry.now
+        (λ bytes place values. AreFirst count (entry_value big bytes place) values.items) result }
+    ensures count { IfOk result (λ values. length values.items ≡ count) }
+    ensures low { IfOk result (λ values. AreLow values.items) }
     ensures reader { Leaves B.keeps B.refuses b.old b.new result }
 {
-    let blocks = picture.blocks() as usize;
     let size = entry.value_size() as usize;
-    let Ok(mut offsets) = Vec::with_capacity(alloc, blocks) else {
-        return Err(DirsError::NoMemory);
-    };
-    let Ok(mut buffer) = vec![in alloc; 0u8; size * blocks.min(OFFSETS_AT_ONCE)] else {
-        return Err(DirsError::NoMemory);
-    };
-    match read_all(&mut offsets, b, big, entry, picture, &mut buffer) {
-        Ok(()) => Ok(offsets),
-        Err(e) => Err(e),
-    }
+    let mut values = Vec::with_capacity(alloc, count)?;
+    let mut buffer = vec![in alloc; 0u8; size * count.min(OFFSETS_AT_ONCE)]?;
+    read_all(&mut values, b, big, entry, count, &mut buffer)?;
+    Ok(values)
 }
 
-/// The offset of each strip of a picture.
+/// The offset of each strip or tile of a picture.
 pub fn offsets_at<B: ByteReader>(
     alloc: Global,
     b: &mut B,
@@ -170,26 +127,21 @@ pub fn offsets_at<B: ByteReader>(
     found: &Found,
     picture: &Picture,
 ) -> Result<Vec<u64>, DirsError<B::Error>>
-    ensures told { SaysAt (B.bytes b.old) big found.now.entries
-        (λ bytes at. HasStrips (length bytes) picture.now (field_values big bytes at 273))
-        (λ bytes at offsets. offsets.items
-        ≡ take (strips picture.now) (field_values big bytes at 273))
-        result }
-    ensures facts { IfOk result (λ offsets. HasStripOffsets picture.now offsets.items) }
+    ensures told { ForSome (B.bytes b.old) (λ bytes. (at : ℕ)
+        → HasEntries big bytes at found.now.entries → IsPictureAt big bytes at picture.now
+        → Finds (count_fault big bytes at) (λ offsets. offsets.items
+        ≡ take (directory_blocks big bytes at)
+        (field_values big bytes at (offsets_tag big bytes at))) result) }
+    ensures count { IfOk result (λ offsets. length offsets.items ≡ picture_blocks picture.now) }
+    ensures low { IfOk result (λ offsets. AreLow offsets.items) }
     ensures reader { Leaves B.keeps B.refuses b.old b.new result }
 {
-    let tag = u32::from(STRIP_OFFSETS);
-    match found.entry(STRIP_OFFSETS) {
-        None => Err(DirsError::Fault(TiffFault::FieldMissing { tag })),
-        Some(entry) => {
-            let file = b.len();
-            if !entry.has_shape(file) {
-                return Err(DirsError::Fault(TiffFault::FieldShape { tag }));
-            }
-            if entry.count < picture.blocks() {
-                return Err(DirsError::Fault(TiffFault::OffsetCount));
-            }
-            offsets_of_entry(alloc, b, big, &entry, picture)
-        }
+    let blocks = picture.blocks();
+    let Some(entry) = found.entry(picture.offsets_tag()) else {
+        return Err(DirsError::Fault(TiffFault::OffsetCount));
+    };
+    if !entry.has_shape(b.len()) || u64::from(entry.count) < blocks {
+        return Err(DirsError::Fault(TiffFault::OffsetCount));
     }
+    first_of_entry(alloc, b, big, &entry, blocks as usize)
 }

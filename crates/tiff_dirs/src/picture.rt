@@ -1,48 +1,88 @@
-//! How a stripped level of 8 bits lies in a file.
+//! How a level lies in a file, but for the offsets of its blocks.
 
-ghost use Rattle.std.specs.Prelude.{◌≤◌};
-ghost use Rattle.tiff_dirs.specs.Facts.{IsSide, IsChannelCount};
+ghost use Rattle.std.specs.Prelude.{◌≡◌, ◌≤◌};
+ghost use Rattle.std.specs.Option.{ForNone};
+ghost use Rattle.tiff_dirs.specs.Block.{pieces_over};
+ghost use Rattle.tiff_dirs.specs.Facts.{IsSide, IsChannelCount, IsDepth, HasTileSides};
 
-/// The numbers of a level that say where its samples stand in its strips.
+use crate::dir::Dir;
+use crate::tag::{STRIP_OFFSETS, TILE_OFFSETS};
+
+/// The numbers of a level that say where its samples stand in its strips or tiles.
 #[derive(Clone, Copy)]
 pub struct Picture {
     pub width: u32,
     pub height: u32,
     pub channels: u32,
+    /// Bits of a sample, 8 or 16.
+    pub depth: u32,
+    /// WhiteIsZero.
+    pub white: bool,
+    /// Width and height of a tile, if it is tiled.
+    pub tile: Option<(u32, u32)>,
+    /// 2^32 - 1 where it is tiled.
     pub rows_per_strip: u32,
     ghost width_in: { IsSide width },
     ghost height_in: { IsSide height },
     ghost channels_in: { IsChannelCount channels },
+    ghost depth_in: { IsDepth depth },
+    ghost tile_in: { HasTileSides tile },
     ghost rows_in: { 1 ≤ rows_per_strip },
 }
 
 impl Picture {
-    ghost use Rattle.std.specs.Prelude.{◌≡◌};
-    ghost use Rattle.tiff_dirs.specs.Inside.{strips, strip_bytes, fits};
+    ghost use Rattle.std.specs.Prelude.{length};
+    ghost use Rattle.tiff_dirs.specs.Values.{AreLow};
+    ghost use Rattle.tiff_dirs.specs.Numbers.{picture_blocks, tag_of_offsets, IsLevelOf};
 
-    /// The number of strips.
-    pub fn blocks(&self) -> u32
-        ensures count { result ≡ strips self.now }
-        ensures few { result ≤ self.now.height }
+    /// The number of strips or tiles.
+    pub fn blocks(&self) -> u64
+        ensures count { result ≡ picture_blocks self.now }
+        ensures some { 1 ≤ result }
     {
-        let rows = u64::from(self.rows_per_strip);
-        ((u64::from(self.height) + rows - 1) / rows) as u32
+        match self.tile {
+            None => pieces(self.height, self.rows_per_strip),
+            Some((width, height)) => pieces(self.width, width) * pieces(self.height, height),
+        }
     }
 
-    /// The bytes of strip i: the last may have fewer rows.
-    pub fn block_bytes(&self, i: u32) -> u64
-        ensures { result ≡ strip_bytes self.now i }
+    /// The tag of the field that holds the offsets of its blocks.
+    pub fn offsets_tag(&self) -> u16
+        ensures { result ≡ tag_of_offsets self.now.tile }
     {
-        let rows = u64::from(self.rows_per_strip);
-        let left = u64::from(self.height).saturating_sub(rows * u64::from(i));
-        rows.min(left) * (u64::from(self.width) * u64::from(self.channels))
+        match self.tile {
+            None => STRIP_OFFSETS,
+            Some(_) => TILE_OFFSETS,
+        }
     }
 
-    /// Strip i lies at that offset in a file of that length, behind the header.
-    #[tactic(auto, unfolding(crate::specs::Inside::fits))]
-    pub fn has_block(&self, i: u32, offset: u32, file: u64) -> bool
-        ensures { result ≡ fits file self.now i offset }
+    /// The level with these offsets.
+    pub fn level(&self, offsets: Vec<u64>) -> Dir
+        requires count { length offsets.items ≡ picture_blocks self.now }
+        requires low { AreLow offsets.items }
+        ensures { IsLevelOf self.now offsets.items result }
     {
-        offset >= 8 && u64::from(offset) + self.block_bytes(i) <= file
+        Dir {
+            width: self.width,
+            height: self.height,
+            channels: self.channels,
+            depth: self.depth,
+            white: self.white,
+            tile: self.tile,
+            rows_per_strip: self.rows_per_strip,
+            offsets,
+        }
     }
+}
+
+/// As many as it takes to cover a side by pieces of that length.
+fn pieces(side: u32, piece: u32) -> u64
+    requires side { IsSide side }
+    requires piece { 1 ≤ piece }
+    ensures count { result ≡ pieces_over side piece }
+    ensures some { 1 ≤ result }
+    ensures few { result ≤ side }
+{
+    let piece = u64::from(piece);
+    (u64::from(side) + piece - 1) / piece
 }

@@ -1,6 +1,10 @@
 ghost use Rattle.std.specs.Prelude.{◌≡◌, ℕ, ◌+◌, ◌≤◌, List, length, Option, OnOk, IfErr};
 ghost use Rattle.std.specs.Option.{ForSome};
 ghost use Rattle.tiff_dirs.specs.Reader.{IsPartAt, IsReader};
+ghost use Rattle.tiff_dirs.specs.Dirs.{Leaves};
+ghost use Rattle.tiff_dirs.specs.Calls.{Gives};
+
+use crate::fault::DirsError;
 
 /// The bytes of a file, read at places.
 pub trait ByteReader {
@@ -33,4 +37,17 @@ pub trait ByteReader {
 
     /// Answered reads chain, and change neither the length nor the bytes.
     ghost lawful: { IsReader size bytes keeps };
+}
+
+/// Fills all of the buffer with the bytes from a place on, in one read.
+pub fn read_at<B: ByteReader>(b: &mut B, at: u64, buf: &mut [u8]) -> Result<(), DirsError<B::Error>>
+    requires { at + length buf.old ≤ B.size b.old }
+    ensures told { ForSome (B.bytes b.old) (λ bytes.
+        Gives (λ _. IsPartAt bytes at buf.new) result) }
+    ensures reader { Leaves B.keeps B.refuses b.old b.new result }
+{
+    match b.read(at, buf) {
+        Ok(()) => Ok(()),
+        Err(e) => Err(DirsError::Reader(e)),
+    }
 }

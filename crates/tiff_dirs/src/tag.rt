@@ -47,14 +47,49 @@ pub const TAGS: [u16; 13] = [
     SAMPLE_FORMAT,
 ];
 
-/// Those of fields that hold one number.
-pub const NUMBERS: [u16; 7] = [
+/// Those that a stripped directory must have.
+pub const STRIPPED_REQUIRED: [u16; 3] = [IMAGE_WIDTH, IMAGE_LENGTH, STRIP_OFFSETS];
+
+/// Those that a tiled directory must have, beside TileWidth.
+pub const TILED_REQUIRED: [u16; 4] = [IMAGE_WIDTH, IMAGE_LENGTH, TILE_LENGTH, TILE_OFFSETS];
+
+/// Those that a stripped directory reads.
+pub const STRIPPED_READ: [u16; 10] = [
     IMAGE_WIDTH,
     IMAGE_LENGTH,
+    BITS_PER_SAMPLE,
+    COMPRESSION,
+    PHOTOMETRIC,
+    STRIP_OFFSETS,
+    SAMPLES_PER_PIXEL,
+    ROWS_PER_STRIP,
+    PLANAR_CONFIGURATION,
+    SAMPLE_FORMAT,
+];
+
+/// Those that a tiled directory reads.
+pub const TILED_READ: [u16; 11] = [
+    IMAGE_WIDTH,
+    IMAGE_LENGTH,
+    BITS_PER_SAMPLE,
     COMPRESSION,
     PHOTOMETRIC,
     SAMPLES_PER_PIXEL,
-    ROWS_PER_STRIP,
+    PLANAR_CONFIGURATION,
+    TILE_WIDTH,
+    TILE_LENGTH,
+    TILE_OFFSETS,
+    SAMPLE_FORMAT,
+];
+
+/// Those whose first value every directory reads.
+pub const NUMBERS: [u16; 7] = [
+    IMAGE_WIDTH,
+    IMAGE_LENGTH,
+    BITS_PER_SAMPLE,
+    COMPRESSION,
+    PHOTOMETRIC,
+    SAMPLES_PER_PIXEL,
     PLANAR_CONFIGURATION,
 ];
 

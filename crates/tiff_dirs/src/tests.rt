@@ -3,7 +3,7 @@ ghost use Rattle.std.proofs.Common.{sym, ◌∙◌, ap};
 ghost use Rattle.std.proofs.lemmas.Option.{same_Some};
 
 use super::*;
-use std::alloc::Global;
+use std::alloc::{AllocError, Global};
 use std::test::Fail;
 
 /// A read that was planned to fail.
@@ -16,6 +16,8 @@ struct MemReader<'a> {
     bytes: &'a [u8],
     failing: u64,
     reads: u64,
+    /// How many bytes were read.
+    filled: u64,
 }
 
 impl<'a> MemReader<'a> {
@@ -26,6 +28,7 @@ impl<'a> MemReader<'a> {
             bytes,
             failing,
             reads: 0,
+            filled: 0,
         }
     }
 }
@@ -58,13 +61,14 @@ impl<'a> ByteReader for MemReader<'a> {
         if self.reads == self.failing {
             return Err(Failed);
         }
+        self.filled = self.filled.saturating_add(buf.len() as u64);
         let at = at as usize;
         buf.copy_from_slice(&self.bytes[at..at + buf.len()]);
         Ok(())
     }
 }
 
-/// 4 by 4, 8 bits, one channel, one strip at 122. The two strips of `TWO` stand in its last bytes.
+/// 4 by 4, 8 bits, one channel, one strip at 122.
 const A: [u8; 138] = [
     0x49, 0x49, 0x2a, 0, 8, 0, 0, 0, 9, 0, // the header, nine entries
     0, 1, 3, 0, 1, 0, 0, 0, 4, 0, 0, 0, // ImageWidth 4
@@ -95,92 +99,12 @@ fn changed(changes: &[(usize, &[u8])]) -> [u8; 138] {
 }
 
 /// Two offsets for the one strip, which stand outside the entry.
-const FAR: [(usize, &[u8]); 2] = [(74, &[2, 0, 0, 0, 118]), (118, &[122])];
-
-#[test]
-fn plain_files(rt: HostRuntime) -> Result<(), Fail> {
-    let changes: [(&str, &[(usize, &[u8])], &[u64]); 7] = [
-        ("A", &[], &[122]),
-        ("the next directory is this one", &[(118, &[8])], &[122]),
-        ("RGB", &[(66, &[2])], &[122]),
-        ("more offsets than strips", &FAR, &[122]),
-        ("a SHORT offset", &[(72, &[3])], &[122]),
-        (
-            "more rows in a strip than there are",
-            &[(102, &[0xff, 0xff])],
-            &[122],
-        ),
-        (
-            "two strips",
-            &[(72, &[3, 0, 2, 0, 0, 0, 122, 0, 130, 0]), (102, &[2])],
-            &[122, 130],
-        ),
-    ];
-    for (what, changes, offsets) in changes {
-        let file = changed(changes);
-        let mut reader = MemReader::new(&file, 0);
-        let dirs = read_dirs(rt.alloc(), &mut reader).ok().ok_or(what)?;
-        assert_eq!(rt; dirs.levels.len(), 1, "{what}");
-        assert!(rt; !dirs.big, "{what}");
-        for level in &dirs.levels {
-            assert_eq!(rt; (level.width, level.height), (4, 4), "{what}");
-            assert_eq!(rt; (level.channels, level.depth), (1, 8), "{what}");
-            assert!(rt; !level.white && level.tile.is_none(), "{what}");
-            assert_eq!(rt; level.offsets.as_slice(), offsets, "{what}");
-        }
-    }
-    Ok(())
-}
-
-/// Bytes that are not plain.
-fn is_refused(alloc: Global, bytes: &[u8]) -> bool {
-    let mut reader = MemReader::new(bytes, 0);
-    matches!(
-        read_dirs(alloc, &mut reader),
-        Err(DirsError::Fault(TiffFault::Unsupported { tag: 0, value: 0 }))
-    )
-}
-
-#[test]
-fn other_files(rt: HostRuntime) {
-    let changes: [(&str, &[(usize, &[u8])], usize); 22] = [
-        ("no bytes", &[], 0),
-        ("seven bytes", &[], 7),
-        ("no directory", &[], 8),
-        ("no last sample", &[], 137),
-        ("MM", &[(0, &[0x4d, 0x4d])], 138),
-        ("43", &[(2, &[43])], 138),
-        ("a directory in the header", &[(4, &[7])], 138),
-        ("a directory at the end", &[(4, &[134])], 138),
-        ("too many entries", &[(8, &[11])], 138),
-        ("no ImageWidth", &[(11, &[2])], 138),
-        ("an ImageLength of BYTE", &[(24, &[1])], 138),
-        ("no value", &[(26, &[0])], 138),
-        ("16 bits", &[(42, &[16])], 138),
-        (
-            "bits that differ",
-            &[(38, &[2]), (42, &[8, 0, 16]), (90, &[2])],
-            138,
-        ),
-        ("compressed", &[(54, &[5])], 138),
-        ("WhiteIsZero", &[(66, &[0])], 138),
-        ("an offset in the header", &[(78, &[7])], 138),
-        ("an offset past the end", &[(78, &[123])], 138),
-        ("offsets past the end", &[(74, &[2, 0, 0, 0, 131])], 138),
-        ("no rows", &[(102, &[0])], 138),
-        ("fewer offsets than strips", &[(102, &[3])], 138),
-        ("a TileWidth", &[(106, &[0x42, 1, 3])], 138),
-    ];
-    for (what, changes, len) in changes {
-        let file = changed(changes);
-        assert!(rt; is_refused(rt.alloc(), &file[..len.min(138)]), "{what}");
-    }
-}
+const FAR: [(usize, &[u8]); 2] = [(74, &[2, 0, 0, 0, 122]), (122, &[122, 0, 0, 0])];
 
 #[test]
 fn failing_reads(rt: HostRuntime) {
-    // the header, the count, the entries, the offsets
-    for failing in 1..=4 {
+    // the header, the count, the entries, the offsets, the next offset
+    for failing in 1..=5 {
         let file = changed(&FAR);
         let mut reader = MemReader::new(&file, failing);
         let answer = read_dirs(rt.alloc(), &mut reader);
@@ -191,9 +115,9 @@ fn failing_reads(rt: HostRuntime) {
         assert_eq!(rt; reader.reads, failing);
     }
     let file = changed(&FAR);
-    let mut reader = MemReader::new(&file, 5);
+    let mut reader = MemReader::new(&file, 6);
     assert!(rt; read_dirs(rt.alloc(), &mut reader).is_ok());
-    assert_eq!(rt; reader.reads, 4);
+    assert_eq!(rt; reader.reads, 5);
 }
 
 #[test]
@@ -207,7 +131,77 @@ fn most_entries(rt: HostRuntime) -> Result<(), Fail> {
     file.extend_from_slice(&A[118..])?;
     let mut reader = MemReader::new(&file, 0);
     assert!(rt; read_dirs(rt.alloc(), &mut reader).is_ok());
-    // the header, the count, and the entries by 64 KiB
-    assert_eq!(rt; reader.reads, 15);
+    // the header, the count, the entries by 64 KiB, and the next offset
+    assert_eq!(rt; reader.reads, 16);
+    Ok(())
+}
+
+/// `A` with an array behind it, of so many copies of a value in two bytes.
+fn with_array(alloc: Global, changes: &[(usize, &[u8])], n: u32) -> Result<Vec<u8>, AllocError> {
+    let mut file = Vec::from_slice(alloc, &changed(changes))?;
+    for _ in 0..n {
+        file.extend_from_slice(&[8, 0])?;
+    }
+    Ok(file)
+}
+
+#[test]
+fn long_arrays(rt: HostRuntime) -> Result<(), Fail> {
+    // 60,000 offsets at 138, for the one strip
+    let offsets = [(72usize, [3u8, 0, 0x60, 0xea, 0, 0, 138].as_slice())];
+    let file = with_array(rt.alloc(), &offsets, 60000)?;
+    let mut reader = MemReader::new(&file, 0);
+    let dirs = read_dirs(rt.alloc(), &mut reader).ok().ok_or("offsets")?;
+    for level in &dirs.levels {
+        assert_eq!(rt; level.offsets.as_slice(), [8].as_slice());
+    }
+    // the header, the count, the nine entries, one offset and the next offset
+    assert_eq!(rt; (reader.reads, reader.filled), (5, 8 + 2 + 108 + 2 + 4));
+    // 60,000 samples at 138, of 8 bits each
+    let samples = [
+        (38usize, [0x60u8, 0xea, 0, 0, 138].as_slice()),
+        (90, [0x60, 0xea].as_slice()),
+    ];
+    let file = with_array(rt.alloc(), &samples, 60000)?;
+    let mut reader = MemReader::new(&file, 0);
+    let answer = read_dirs(rt.alloc(), &mut reader);
+    assert!(rt; matches!(answer, Err(DirsError::Fault(TiffFault::TooLarge))));
+    // the header, the count, the entries, the first value, and all values, 1024 of them at once
+    assert_eq!(rt; reader.reads, 4 + 59);
+    Ok(())
+}
+
+/// Levels of 131072 by 1 down to 1 by 1: a header, 18 directories of 54 bytes, and zeros. Each
+/// level has one strip at 8. The last directory leads to the first.
+fn levels_to_1(alloc: Global) -> Result<Vec<u8>, AllocError> {
+    let mut file = Vec::from_slice(alloc, &A[..8])?;
+    for level in 0..18u32 {
+        let width = 131_072u32 >> level;
+        let next = if level == 17 { 8 } else { 62 + 54 * level };
+        file.extend_from_slice(&[4, 0, 0, 1, 4, 0, 1, 0, 0, 0])?; // four entries, ImageWidth
+        file.extend_from_slice(&width.to_le_bytes())?;
+        file.extend_from_slice(&[1, 1, 3, 0, 1, 0, 0, 0, 1, 0, 0, 0])?; // ImageLength 1
+        file.extend_from_slice(&[2, 1, 3, 0, 1, 0, 0, 0, 8, 0, 0, 0])?; // BitsPerSample 8
+        file.extend_from_slice(&[0x11, 1, 4, 0, 1, 0, 0, 0, 8, 0, 0, 0])?; // StripOffsets 8
+        file.extend_from_slice(&next.to_le_bytes())?;
+    }
+    file.resize(131_080, 0)?;
+    Ok(file)
+}
+
+#[test]
+fn each_directory_is_read_once(rt: HostRuntime) -> Result<(), Fail> {
+    let file = levels_to_1(rt.alloc())?;
+    let mut reader = MemReader::new(&file, 0);
+    let dirs = read_dirs(rt.alloc(), &mut reader).ok().ok_or("levels")?;
+    assert_eq!(rt; dirs.levels.len(), 18);
+    let mut width = 131_072u32;
+    for dir in &dirs.levels {
+        assert_eq!(rt; (dir.width, dir.height), (width, 1));
+        width /= 2;
+    }
+    // the header, 18 times a count and the entries, and 17 next offsets: 1 by 1 is the last level
+    assert_eq!(rt; reader.reads, 1 + 18 * 2 + 17);
+    assert_eq!(rt; reader.filled, 8 + 18 * (2 + 48) + 17 * 4);
     Ok(())
 }

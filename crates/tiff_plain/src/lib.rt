@@ -11,6 +11,10 @@ mod level;
 mod levels;
 mod numbers;
 #[cfg(test)]
+mod pictures;
+#[cfg(test)]
+mod reading;
+#[cfg(test)]
 mod tests;
 mod texels;
 

@@ -1,8 +1,7 @@
-use Rattle.std.proofs.Common.{◌≡◌, ◌∙◌, ap, refl}
+use Rattle.std.proofs.Common.{◌∙◌, refl}
 use Rattle.tiff_dirs.specs.Shown.{shown}
-use Rattle.render_run.specs.Reply.{plain_level}
-use Rattle.render_run.proofs.PlainFacts.{plain_level_is}
-use Rattle.render_run.proofs.Replies.{refused_told, one_level, plain_reply}
+use Rattle.render_run.proofs.PlainFacts.{plain_level_is, first_is}
+use Rattle.render_run.proofs.Replies.{refused_told, plain_reply}
 use Rattle.render_run.proofs.reply.reply.Goals as goal
 
 pub returns-in-Err-clause-told : goal.returns-in-Err-clause-told
@@ -15,9 +14,7 @@ returns-in-Ok-read_region-clause-told g c =
     λ bytes told.
     let dir = c.index-dir.result.now in
     let read = c.in-Ok.ensures.told bytes told in
-    let level : shown dir ≡ plain_level bytes =
-    ap shown c.index-dir.ensures
-    ∙ one_level c.in-Ok.dirs.levels.items dir (plain_level bytes) read.2 in
+    let level = first_is bytes c.in-Ok.dirs.levels.items dir c.index-dir.ensures read.1 in
     let plain = plain_level_is bytes (shown dir) read.0 level dir.rows_in dir.offsets_in in
     let still = g.met.B.ByteReader.lawful.same_bytes _ _ c.in-Ok.ensures.reader ∙ told in
     plain_reply bytes c.args.generation c.args.request.now

@@ -1,4 +1,4 @@
-use Rattle.tiff_dirs.proofs.Numbers.{little_behind, big_behind}
+use Rattle.tiff_dirs.proofs.BytesOfParts.{little_behind, big_behind}
 use Rattle.tiff_dirs.proofs.bytes.short_at.Goals as goal
 
 pub returns-then-big : goal.returns-then-big

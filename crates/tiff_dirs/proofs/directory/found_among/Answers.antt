@@ -5,7 +5,7 @@ use Rattle.tiff_dirs.proofs.directory.found_among.Goals as goal
 pub blocks-2-init : goal.blocks-2-init
 blocks-2-init g c =
     let lawful = g.met.B.ByteReader.lawful in
-    let made = c.in-Ok.ensures in
+    let made = c.in_ok-buffer.ensures in
     let small = c.min.ensures in
     record {
       within = omega arith;
@@ -22,12 +22,12 @@ blocks-2-preserved g c =
     record {
       within = omega arith;
       room = so.room;
-      keeps = lawful.chains _ _ _ so.keeps c.in_default-read.ensures.ok;
+      keeps = lawful.chains _ _ _ so.keeps c.in_ok-read_at.ensures.reader;
       covers = λ bytes is.
-          let part = c.in_default-read.ensures.bytes bytes (lawful.same_bytes _ _ so.keeps ∙ is) in
-          let bytes-long : length c.read.new.buf ≡ c.min-more.result * 12 =
-          omega (arith, c.read.auto.buf, length-take {A = ℕ}, c.deref_mut.ensures.len, so.room) in
-          let entries : length c.read.new.buf / 12 ≡ c.min-more.result =
+          let part = (c.in_ok-read_at.ensures.told bytes (lawful.same_bytes _ _ so.keeps ∙ is)).1 in
+          let bytes-long : length c.read_at.new.buf ≡ c.min-more.result * 12 =
+          omega (arith, c.read_at.auto.buf, length-take {A = ℕ}, c.deref_mut.ensures.len, so.room) in
+          let entries : length c.read_at.new.buf / 12 ≡ c.min-more.result =
           omega (arith, bytes-long) in
           let scanned = c.scan.ensures bytes c.args.first c.blocks-2.done (omega arith) part
           (so.covers bytes is) in

@@ -1,21 +1,21 @@
-use Rattle.std.proofs.Common.{◌≡◌, true, ◌∙◌, ◌+◌}
-use Rattle.tiff_dirs.specs.declared.found.Found.{Found}
-use Rattle.tiff_dirs.specs.Directory.{lies_inside}
-use Rattle.tiff_dirs.specs.Inside.{Covers, HasEntries}
+use Rattle.std.proofs.Common.{◌∙◌, arith}
 use Rattle.tiff_dirs.proofs.Covering.{has_entries}
-use Rattle.tiff_dirs.proofs.Saying.{says_so}
+use Rattle.tiff_dirs.proofs.Shown.{no_outside}
 use Rattle.tiff_dirs.proofs.directory.found_at.Goals as goal
 
-pub returns-in-Ok-clause-told : goal.returns-in-Ok-clause-told
-returns-in-Ok-clause-told g c = λ bytes is.
+pub returns-clause-told : goal.returns-clause-told
+returns-clause-told g c = λ bytes is.
+    let big = c.args.big in
+    let at = c.args.place in
     let lawful = g.met.B.ByteReader.lawful in
-    let first = c.in-Ok.ensures.told bytes is in
-    let kept = c.in-Ok.ensures.reader in
-    let second = c.found_among.ensures.told bytes (lawful.same_bytes _ _ kept ∙ is) in
-    says_so (Unit {0}) (lies_inside c.args.big bytes c.args.place ≡ true)
-    (λ (found : Found). Covers c.args.big bytes (c.from.result + 2) c.in-Ok.count found.entries)
-    (λ (found : Found). HasEntries c.args.big bytes c.args.place found.entries)
-    c.found_among.result second
-    (λ _. first.0) (λ _. tt)
-    (λ found covers. has_entries c.args.big bytes c.args.place c.in-Ok.count found.entries first.1
-    (rw c.from.ensures at covers))
+    let count = c.in_ok-count.ensures.told bytes is in
+    let covers = (c.in_ok-found.ensures.told bytes
+    (lawful.same_bytes _ _ c.in_ok-count.ensures.reader ∙ is)).1 in (
+      count.0,
+      (
+        no_outside big bytes at count.0,
+        has_entries big bytes at c.in_ok-count.count c.in_ok-found.found.entries count.1
+            (rw c.from-first.ensures at covers),
+        omega (arith, count.1, c.from-first.ensures, c.from.ensures),
+      ),
+    )

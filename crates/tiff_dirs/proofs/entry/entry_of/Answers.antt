@@ -1,6 +1,6 @@
 use Rattle.std.proofs.Common.{◌∙◌, ap, arith, sym}
 use Rattle.tiff_dirs.specs.Field.{type_size, values_place}
-use Rattle.tiff_dirs.proofs.Numbers.{number_of_part}
+use Rattle.tiff_dirs.proofs.BytesOfParts.{number_of_part}
 use Rattle.tiff_dirs.proofs.Entries.{place_inner, place_far, four_of_raw}
 use Rattle.tiff_dirs.proofs.entry.entry_of.Goals as goal
 use Rattle.tiff_dirs.proofs.entry.entry_of.Goals.{then-fits, else-fits}

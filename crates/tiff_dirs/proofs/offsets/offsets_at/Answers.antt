@@ -1,72 +1,83 @@
-use Rattle.std.proofs.Common.{◌≡◌, ℕ, ◌<◌, ◌≤◌, true, false, length, get_or, take, List, Vec}
-use Rattle.std.proofs.Common.{Global, arith, refl, sym, ap, ◌∙◌}
-use Rattle.tiff_dirs.specs.Field.{field_values, entry_value, count_of, has_shape}
-use Rattle.tiff_dirs.specs.Inside.{is_shaped, strips}
-use Rattle.tiff_dirs.specs.Strips.{AreInside, AreFirst, HasStrips}
-use Rattle.tiff_dirs.proofs.Saying.{says_so}
-use Rattle.tiff_dirs.proofs.FieldValues.{absent_has_none, misshapen_has_none, shaped_is, shape_is}
-use Rattle.tiff_dirs.proofs.FieldValues.{entry_values_length, entry_values_at}
-use Rattle.tiff_dirs.proofs.StripOffsets.{strips_from, strips_are, first_is_taken}
+use Rattle.std.proofs.Common.{◌≡◌, ℕ, ◌<◌, ◌≤◌, Bool, true, false, length, get_or, take, List, [], Vec}
+use Rattle.std.proofs.Common.{Global, None, arith, sym, ap, ◌∙◌}
+use Rattle.tiff_dirs.specs.Field.{field_values, entry_value}
+use Rattle.tiff_dirs.specs.Block.{directory_blocks, offsets_tag}
+use Rattle.tiff_dirs.specs.Fault.{count_fault}
+use Rattle.tiff_dirs.specs.Inside.{is_shaped}
+use Rattle.tiff_dirs.specs.Values.{AreFirst}
+use Rattle.tiff_dirs.proofs.Saying.{finds_so}
+use Rattle.tiff_dirs.proofs.FieldValues.{absent_values, misshapen_values, shaped_values}
+use Rattle.tiff_dirs.proofs.Gathering.{first_is_taken}
+use Rattle.tiff_dirs.proofs.Blocks.{tag_is, blocks_are, too_few, enough, no_default}
 use Rattle.tiff_dirs.proofs.offsets.offsets_at.Goals as goal
 
-pub returns-in-None-clause-told : goal.returns-in-None-clause-told
-returns-in-None-clause-told g c = λ bytes is at has yes.
-    absent_has_none c.args.big bytes at 273
-    (c.in-None.ensures c.args.big bytes at has) refl yes.some
+pub returns-in_default-clause-told : goal.returns-in_default-clause-told
+returns-in_default-clause-told g c = λ bytes is at has picture.
+    let big = c.args.big in
+    let tag = c.offsets_tag.ensures ∙ tag_is big bytes at c.args.picture.now picture in
+    let kept = rw c.in_default.is at (c.entry.ensures big bytes at has) in
+    let none : field_values big bytes at c.offsets_tag.result ≡ [] =
+    absent_values big bytes at c.offsets_tag.result kept
+    ∙ rw c.offsets_tag.ensures (no_default c.args.picture.now.tile) in
+    let zero : length (field_values big bytes at (offsets_tag big bytes at)) ≡ 0 =
+    rw (← tag) (ap length none) in
+    let blocks = c.blocks-blocks.ensures.count
+    ∙ blocks_are big bytes at c.args.picture.now picture in
+    too_few big bytes at (omega (arith, zero, blocks, c.blocks-blocks.ensures.some))
 
 pub returns-then-not-has_shape-clause-told : goal.returns-then-not-has_shape-clause-told
-returns-then-not-has_shape-clause-told g c = λ bytes is at has yes.
-    let long : length bytes ≡ g.B.ByteReader.size c.args.b.now =
-    g.met.B.ByteReader.lawful.told c.args.b.now bytes is in
-    let bad : is_shaped (length bytes) c.in-Some.entry ≡ false =
-    ap (λ n. is_shaped n c.in-Some.entry) (long ∙ sym c.len-file.ensures)
-    ∙ sym c.if-not-has_shape.ensures in
-    misshapen_has_none c.args.big bytes at 273 c.in-Some.entry
-    (c.in-Some.ensures c.args.big bytes at has) bad yes.some
-
-pub returns-then-entry-blocks-clause-told : goal.returns-then-entry-blocks-clause-told
-returns-then-entry-blocks-clause-told g c = λ bytes is at has yes.
+returns-then-not-has_shape-clause-told g c = λ bytes is at has picture.
     let big = c.args.big in
     let entry = c.in-Some.entry in
+    let tag = c.offsets_tag.ensures ∙ tag_is big bytes at c.args.picture.now picture in
+    let kept = c.in-Some.ensures big bytes at has in
+    let long : length bytes ≡ g.B.ByteReader.size c.args.b.now =
+    g.met.B.ByteReader.lawful.told c.args.b.now bytes is in
+    let shape = λ (b : Bool) (is-b : c.has_shape.result ≡ b).
+    (ap (λ n. is_shaped n entry) (long ∙ sym c.len.ensures)
+    ∙ sym c.has_shape.ensures ∙ is-b) in
+    let blocks = c.blocks-blocks.ensures.count
+    ∙ blocks_are big bytes at c.args.picture.now picture in
+    elim c.then-not-has_shape.branch [
+      | goal.then-not-has_shape-via-then-not-has_shape w ↦
+          let none = misshapen_values big bytes at c.offsets_tag.result entry kept
+          (shape false w.if-not-has_shape.true) in
+          let zero : length (field_values big bytes at (offsets_tag big bytes at)) ≡ 0 =
+          rw (← tag) (ap length none) in
+          too_few big bytes at (omega (arith, zero, blocks, c.blocks-blocks.ensures.some))
+      | goal.then-not-has_shape-via-else-not-has_shape+then-from-blocks w ↦
+          let v = shaped_values big bytes at c.offsets_tag.result entry kept
+          (shape true w.if-not-has_shape.false) in
+          let few : length (field_values big bytes at (offsets_tag big bytes at)) ≡ entry.count =
+          rw (← tag) v.long in
+          too_few big bytes at (omega (arith, few, blocks, w.from.ensures, w.if-from-blocks.true))
+    ]
+
+pub returns-clause-told : goal.returns-clause-told
+returns-clause-told g c = λ bytes is at has picture.
+    let big = c.args.big in
+    let entry = c.in-Some.entry in
+    let tag = c.offsets_tag.ensures ∙ tag_is big bytes at c.args.picture.now picture in
+    let kept = c.in-Some.ensures big bytes at has in
     let long : length bytes ≡ g.B.ByteReader.size c.args.b.now =
     g.met.B.ByteReader.lawful.told c.args.b.now bytes is in
     let good : is_shaped (length bytes) entry ≡ true =
-    ap (λ n. is_shaped n entry) (long ∙ sym c.len-file.ensures) ∙ sym c.if-not-has_shape.ensures in
-    let s = shaped_is big bytes at 273 entry (c.in-Some.ensures big bytes at has) good in
-    let shape : has_shape big bytes s.0 ≡ true = sym (shape_is big bytes s.0 entry s.1) ∙ good in
-    omega (
-      arith,
-      yes.enough,
-      c.blocks-in-Some.ensures.count,
-      ap length s.2,
-      entry_values_length big bytes s.0 shape,
-      s.1.count,
-      c.if-entry-blocks.true,
-    )
-
-pub returns-else-entry-blocks-clause-told : goal.returns-else-entry-blocks-clause-told
-returns-else-entry-blocks-clause-told g c = λ bytes is at has.
-    let big = c.args.big in
-    let entry = c.in-Some.entry in
-    let picture = c.args.picture.now in
-    let long : length bytes ≡ g.B.ByteReader.size c.args.b.now =
-    g.met.B.ByteReader.lawful.told c.args.b.now bytes is in
-    let good : is_shaped (length bytes) entry ≡ true =
-    ap (λ n. is_shaped n entry) (long ∙ sym c.len-file.ensures) ∙ sym c.if-not-has_shape.ensures in
-    let s = shaped_is big bytes at 273 entry (c.in-Some.ensures big bytes at has) good in
-    let shape : has_shape big bytes s.0 ≡ true = sym (shape_is big bytes s.0 entry s.1) ∙ good in
-    let all : List ℕ = field_values big bytes at 273 in
-    let offset = entry_value big bytes s.0 in
-    let enough : strips picture ≤ count_of big bytes s.0 =
-    omega (arith, c.blocks-in-Some.ensures.count, s.1.count, c.if-entry-blocks.false) in
-    let enough-all : strips picture ≤ length all =
-    omega (arith, enough, ap length s.2, entry_values_length big bytes s.0 shape) in
-    let are = λ (i : ℕ) (lt : i < strips picture). ap (λ (xs : List ℕ). get_or xs i 0) s.2
-    ∙ entry_values_at big bytes s.0 shape i (omega arith) in
-    says_so (AreInside (length bytes) picture offset) (HasStrips (length bytes) picture all)
-    (λ (offsets : Vec ℕ Global). AreFirst (strips picture) offset offsets.items)
-    (λ (offsets : Vec ℕ Global). offsets.items ≡ take (strips picture) all)
-    c.offsets_of_entry.result (c.offsets_of_entry.ensures.told bytes is s.0 s.1)
-    (strips_from (length bytes) picture offset all s.3 enough-all are)
-    (strips_are (length bytes) picture offset all are)
-    (λ offsets first. first_is_taken (strips picture) offset all offsets.items enough-all are first)
+    ap (λ n. is_shaped n entry) (long ∙ sym c.len.ensures)
+    ∙ sym c.has_shape.ensures ∙ c.if-not-has_shape.false in
+    let v = shaped_values big bytes at c.offsets_tag.result entry kept good in
+    let all : List ℕ = field_values big bytes at (offsets_tag big bytes at) in
+    let n = directory_blocks big bytes at in
+    let value = entry_value big bytes v.place in
+    let blocks : c.blocks-blocks.result ≡ n = c.blocks-blocks.ensures.count
+    ∙ blocks_are big bytes at c.args.picture.now picture in
+    let all-long : length all ≡ entry.count = rw (← tag) v.long in
+    let le : n ≤ length all =
+    omega (arith, all-long, blocks, c.from.ensures, c.if-from-blocks.false) in
+    let are = λ (i : ℕ) (lt : i < n).
+    let there : get_or all i 0 ≡ value i = rw (← tag) (v.each i (omega (arith, all-long))) in there in
+    finds_so None (count_fault big bytes at)
+    (λ (offsets : Vec ℕ Global). AreFirst c.blocks-blocks.result value offsets.items)
+    (λ (offsets : Vec ℕ Global). offsets.items ≡ take n all)
+    c.first_of_entry.result (c.first_of_entry.ensures.told bytes is v.place v.is)
+    (enough big bytes at le)
+    (λ offsets none first. first_is_taken n value all offsets.items le are (rw blocks at first))

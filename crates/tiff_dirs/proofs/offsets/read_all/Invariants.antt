@@ -2,19 +2,19 @@ use Rattle.std.proofs.Common.{ℕ, ◌-◌, ◌≤◌, length, vec_len, vec_capa
 use Rattle.std.specs.Option.{ForSome}
 use Rattle.tiff_dirs.specs.Field.{entry_value}
 use Rattle.tiff_dirs.specs.Inside.{IsEntry}
-use Rattle.tiff_dirs.specs.Strips.{AreKept, AreFirst}
+use Rattle.tiff_dirs.specs.Values.{AreLow, AreFirst}
 use Rattle.tiff_dirs.proofs.offsets.read_all.Given as goal
 
-abbrev pub invariant-offsets : goal.invariant-offsets
-invariant-offsets g l = record {
-  within : length l.offsets.items ≤ l.blocks;
-  reserved : l.blocks ≤ vec_capacity l.offsets;
+abbrev pub invariant-values : goal.invariant-values
+invariant-values g l = record {
+  within : length l.values.items ≤ l.count;
+  reserved : l.count ≤ vec_capacity l.values;
   keeps : g.B.ByteReader.keeps l.fn.b l.b;
-  kept : AreKept (g.B.ByteReader.size l.fn.b) l.picture l.offsets.items;
+  low : AreLow l.values.items;
   told : ForSome (g.B.ByteReader.bytes l.fn.b)
       (λ bytes. (place : ℕ) → IsEntry l.big bytes place l.entry
-      → AreFirst (length l.offsets.items) (entry_value l.big bytes place) l.offsets.items);
+      → AreFirst (length l.values.items) (entry_value l.big bytes place) l.values.items);
 }
 
-abbrev pub decreases-offsets : goal.decreases-offsets
-decreases-offsets g l = l.blocks - vec_len l.offsets
+abbrev pub decreases-values : goal.decreases-values
+decreases-values g l = l.count - vec_len l.values

@@ -1,24 +1,43 @@
-use Rattle.std.proofs.Common.{true, leb, ◌≡◌, ◌+◌, ◌*◌, ◌≤◌, length, arith, ◌∙◌, sym, refl, ◌-◌}
+use Rattle.std.proofs.Common.{true, leb, ◌≡◌, ◌+◌, ◌*◌, ◌≤◌, length, arith, ◌∙◌, sym, refl, ◌-◌, None}
 use Rattle.std.proofs.lemmas.Bool.{leb-true}
-use Rattle.tiff_dirs.specs.Field.{type_size}
-use Rattle.tiff_dirs.proofs.Numbers.{part_of_part}
+use Rattle.tiff_dirs.specs.Field.{type_size, entry_value}
+use Rattle.tiff_dirs.specs.Inside.{AreValues}
+use Rattle.tiff_dirs.specs.Reader.{IsPartAt}
+use Rattle.tiff_dirs.proofs.Saying.{finds_so}
+use Rattle.tiff_dirs.proofs.BytesOfParts.{part_of_part}
 use Rattle.tiff_dirs.proofs.Entries.{place_inner, shape_parts}
+use Rattle.tiff_dirs.proofs.FieldValues.{value_of_part}
 use Rattle.tiff_dirs.proofs.entry.Entry.read_part.Goals as goal
 
 pub returns-then-is_inner-clause-told : goal.returns-then-is_inner-clause-told
-returns-then-is_inner-clause-told g c = λ bytes is big place entry.
-    let size = type_size c.args.self.now.kind in
-    let skip = c.value_size.result * c.from.result in
-    let skip-is : skip ≡ size * c.args.from = rw (c.value_size.ensures, c.from.ensures) refl in
-    let inner : leb (c.args.self.now.count * size) 4 ≡ true =
-    sym c.is_inner.ensures ∙ c.if-is_inner.true in
-    let fits : c.args.self.now.count * size ≤ 4 =
-    leb-true (c.args.self.now.count * size) 4 inner in
-    let fits-there = rw (entry.count, entry.kind) at fits in
-    let start-is = entry.start ∙ place_inner big bytes place fits-there in
-    let part = part_of_part bytes (place + 8) c.args.self.now.inner skip
-    (skip + length c.args.part.now - skip) entry.inner in
-    rw (c.copy_from_slice.ensures.after, start-is, ← skip-is) part
+returns-then-is_inner-clause-told g c = λ bytes is big place entry. (
+  refl,
+  λ k long.
+      let size = type_size c.args.self.now.kind in
+      let skip = c.value_size.result * c.from.result in
+      let skip-is : skip ≡ size * c.args.from = rw (c.value_size.ensures, c.from.ensures) refl in
+      let inner : leb (c.args.self.now.count * size) 4 ≡ true =
+      sym c.is_inner.ensures ∙ c.if-is_inner.true in
+      let fits : c.args.self.now.count * size ≤ 4 =
+      leb-true (c.args.self.now.count * size) 4 inner in
+      let fits-there = rw (entry.count, entry.kind) at fits in
+      let start-is = entry.start ∙ place_inner big bytes place fits-there in
+      let part = part_of_part bytes (place + 8) c.args.self.now.inner skip
+      (skip + length c.args.part.now - skip) entry.inner in
+      value_of_part big bytes place c.args.self.now entry c.args.from k _
+      (rw (c.copy_from_slice.ensures.after, start-is, ← skip-is) part) long,
+)
+
+pub returns-clause-told : goal.returns-clause-told
+returns-clause-told g c = λ bytes is big place entry.
+    finds_so None None
+    (λ _. IsPartAt bytes (c.args.self.now.start + c.value_size.result * c.from.result)
+    c.read_at.new.buf)
+    (λ _. AreValues big c.args.self.now c.read_at.new.buf
+    (λ k. entry_value big bytes place (c.args.from + k)))
+    c.read_at.result (c.read_at.ensures.told bytes is) refl
+    (λ _ none part k long. value_of_part big bytes place c.args.self.now entry c.args.from k
+    c.read_at.new.buf (rw (c.value_size.ensures, c.from.ensures) at part) long)
 
 pub overflow_add-self : goal.overflow_add-self
 overflow_add-self g c =

@@ -1,0 +1,111 @@
+-- What a search finds.
+use Rattle.std.proofs.Common.{◌≡◌, ℕ, zero, suc, ◌<◌, Bool, true, false, not, List, [], ◌∷◌, length}
+use Rattle.std.proofs.Common.{get_or, Option, Some, None, take, min, refl, sym, ap, ◌∙◌, arith, subst}
+use Rattle.std.proofs.Common.{zero-add, inl, inr, ◌+◌, ◌-◌, ◌≤◌}
+use Rattle.std.specs.Prelude.{find}
+use Rattle.std.specs.List.{list_all, range_with_len}
+use Rattle.std.proofs.lemmas.List.FromFn.{get_or-range_with_len, length-range_with_len}
+use Rattle.std.proofs.lemmas.Bool.{and_parts, cases_lt, not_from_true}
+use Rattle.std.proofs.lemmas.List.{get_or-take, length-take}
+use Rattle.tiff_dirs.specs.Values.{IsFirstOther}
+
+pub find_none : (test : ℕ → Bool) (xs : List ℕ)
+    → ((k : ℕ) → k < length xs → test (get_or xs k 0) ≡ false) → find test xs ≡ None
+find_none test [] h = refl
+find_none test (x ∷ xs) h =
+    let first : test x ≡ false = h 0 (omega arith) in
+    rw first (find_none test xs (λ k lt. h (suc k) (omega arith)))
+
+pub find_first : (test : ℕ → Bool) (xs : List ℕ) (k : ℕ) → k < length xs
+    → ((j : ℕ) → j < k → test (get_or xs j 0) ≡ false) → test (get_or xs k 0) ≡ true
+    → find test xs ≡ Some (get_or xs k 0)
+find_first test [] k lt before here = absurd (omega arith)
+find_first test (x ∷ xs) zero lt before here = rw here refl
+find_first test (x ∷ xs) (suc k) lt before here =
+    let first : test x ≡ false = before 0 (omega arith) in
+    rw first (find_first test xs k (omega arith) (λ j below. before (suc j) (omega arith)) here)
+
+pub find_same : (p q : ℕ → Bool) (xs : List ℕ) → ((v : ℕ) → p v ≡ q v) → find p xs ≡ find q xs
+find_same p q [] same = refl
+find_same p q (x ∷ xs) same = rw (same x, find_same p q xs same) refl
+
+pub all_at : (test : ℕ → Bool) (xs : List ℕ) → list_all test xs ≡ true → (k : ℕ) → k < length xs
+    → test (get_or xs k 0) ≡ true
+all_at test [] h k lt = absurd (omega arith)
+all_at test (x ∷ xs) h zero lt = (and_parts (test x) (list_all test xs) h).0
+all_at test (x ∷ xs) h (suc k) lt =
+    all_at test xs (and_parts (test x) (list_all test xs) h).1 k (omega arith)
+
+-- the first of so many values that fails a test is found among the first of a list
+pub other_found : (test : ℕ → Bool) (value : ℕ → ℕ) (n count : ℕ) (all : List ℕ) (o : Option ℕ)
+    → count ≡ min n (length all) → ((k : ℕ) → k < length all → get_or all k 0 ≡ value k)
+    → IsFirstOther test value count o → o ≡ find (λ v. not (test v)) (take n all)
+other_found test value n count all None is are passes =
+    sym (find_none (λ v. not (test v)) (take n all) (λ k lt.
+    let below : k < n = omega (arith, length-take n all) in
+    let within : k < length all = omega (arith, length-take n all) in
+    let same : get_or (take n all) k 0 ≡ value k = get_or-take n all k 0 below ∙ are k within in
+    ap (λ v. not (test v)) same ∙ not_from_true (test (value k)) (passes k (omega arith))))
+other_found test value n count all (Some v) is are other =
+    let k = other.0 in
+    let below : k < n = omega (arith, other.1) in
+    let within : k < length all = omega (arith, other.1) in
+    let same = λ (j : ℕ) (lt : j < count).
+    let j-below : j < n = omega arith in
+    (get_or-take n all j 0 j-below ∙ are j (omega arith)) in
+    let there : get_or (take n all) k 0 ≡ v = same k other.1 ∙ other.2 in
+    let long : k < length (take n all) = omega (arith, length-take n all) in
+    let before = λ (j : ℕ) (lt : j < k).
+    (ap (λ x. not (test x)) (same j (omega (arith, other.1)))
+    ∙ not_from_true (test (value j)) (other.4 j lt)) in
+    let here : not (test (get_or (take n all) k 0)) ≡ true =
+    ap (λ x. not (test x)) there ∙ rw other.3 refl in
+    sym (find_first (λ x. not (test x)) (take n all) k long before here ∙ ap (λ x. Some x) there)
+
+-- ---- block by block
+
+-- the first of the values behind those that pass
+pub other_behind : (test : ℕ → Bool) (value : ℕ → ℕ) (done more n v : ℕ) → done + more ≤ n
+    → ((k : ℕ) → k < done → test (value k) ≡ true)
+    → IsFirstOther test (λ k. value (done + k)) more (Some v) → IsFirstOther test value n (Some v)
+other_behind test value done more n v le before other = (
+  done + other.0,
+  omega (arith, other.1),
+  other.2,
+  other.3,
+  λ j lt. elim (cases_lt j done) [
+    | inl below ↦ before j below
+    | inr above ↦
+        let here : done + (j - done) ≡ j = omega arith in
+        subst (λ (i : ℕ). test (value i) ≡ true) here (other.4 (j - done) (omega arith))
+  ],
+)
+
+-- more values pass
+pub pass_more : (test : ℕ → Bool) (value : ℕ → ℕ) (done more n : ℕ) → n ≡ done + more
+    → ((k : ℕ) → k < done → test (value k) ≡ true)
+    → IsFirstOther test (λ k. value (done + k)) more None
+    → (k : ℕ) → k < n → test (value k) ≡ true
+pass_more test value done more n is before passes k lt = elim (cases_lt k done) [
+  | inl below ↦ before k below
+  | inr above ↦
+      let here : done + (k - done) ≡ k = omega arith in
+      subst (λ (i : ℕ). test (value i) ≡ true) here (passes (k - done) (omega arith))
+]
+
+-- ---- among the numbers below n
+
+pub none_below : (test : ℕ → Bool) (n : ℕ) → ((k : ℕ) → k < n → test k ≡ false)
+    → find test (range_with_len 0 n) ≡ None
+none_below test n h = find_none test (range_with_len 0 n) (λ k lt.
+    let below : k < n = rw length-range_with_len at lt in
+    ap test (get_or-range_with_len 0 n k 0 below ∙ zero-add k) ∙ h k below)
+
+pub first_below : (test : ℕ → Bool) (n k : ℕ) → k < n → ((j : ℕ) → j < k → test j ≡ false)
+    → test k ≡ true → find test (range_with_len 0 n) ≡ Some k
+first_below test n k lt before here =
+    let at = λ (j : ℕ) (below : j < n). (get_or-range_with_len 0 n j 0 below ∙ zero-add j) in
+    let within : k < length (range_with_len 0 n) = rw length-range_with_len lt in
+    find_first test (range_with_len 0 n) k within
+    (λ j less. ap test (at j (omega arith)) ∙ before j less) (ap test (at k lt) ∙ here)
+    ∙ ap (λ x. Some x) (at k lt)

@@ -1,0 +1,52 @@
+use Rattle.std.proofs.Common.{◌≡◌, false, refl, sym, ◌∙◌}
+use Rattle.std.proofs.lemmas.Bool.{ne_eqb}
+use Rattle.tiff_dirs.specs.Shown.{shown}
+use Rattle.tiff_dirs.proofs.NextLevel.{is_one, last_is_last, no_next, some_next, end_is_last}
+use Rattle.tiff_dirs.proofs.NextLevel.{fault_is_last, next_of_half}
+use Rattle.tiff_dirs.proofs.chain.next_level.Goals as goal
+
+pub returns-then-last-eq1-2-clause-told : goal.returns-then-last-eq1-2-clause-told
+returns-then-last-eq1-2-clause-told g c = λ bytes is one at first last. (
+  refl,
+  last_is_last c.args.big bytes one at (shown c.args.last.now) last.level c.if-last-eq1.true
+      c.if-last-eq1-2.true,
+)
+
+pub returns-then-place-eq0-clause-told : goal.returns-then-place-eq0-clause-told
+returns-then-place-eq0-clause-told g c = λ bytes is one at first last.
+    let place = c.in_ok-place.ensures.told bytes is in (
+      refl,
+      end_is_last c.args.big bytes one at (no_next c.args.big bytes at last.inside
+          (rw (← last.next) (sym place.1 ∙ c.if-place-eq0.true))),
+    )
+
+pub returns-in-Ok-clause-told : goal.returns-in-Ok-clause-told
+returns-in-Ok-clause-told g c = λ bytes is one at first last.
+    let place = c.in_ok-place.ensures.told bytes is in
+    let there = some_next c.args.big bytes at c.in_ok-place.place last.inside
+    (rw (← last.next) place.1) c.if-place-eq0.false in
+    let half = c.in-Ok.ensures.told bytes
+    (g.met.B.ByteReader.lawful.same_bytes _ _ c.in_ok-place.ensures.reader ∙ is) in
+    let more : is_one (shown c.args.last.now) ≡ false =
+    elim c.else-last-eq1.branch [
+      | goal.else-last-eq1-via-then-last-eq1+else-last-eq1-2 w ↦
+          rw (w.if-last-eq1.true, ne_eqb c.args.last.now.height 1 w.if-last-eq1-2.false) refl
+      | goal.else-last-eq1-via-else-last-eq1 w ↦
+          rw (ne_eqb c.args.last.now.width 1 w.if-last-eq1.false) refl
+    ] in (
+      refl,
+      next_of_half c.args.big bytes g.row.B-Error.Denot one at c.in_ok-place.place (shown c.args.first.now)
+          (shown c.args.last.now) c.in-Ok.next first last.level more there half,
+    )
+
+pub returns-in-Err-Fault-clause-told : goal.returns-in-Err-Fault-clause-told
+returns-in-Err-Fault-clause-told g c = λ bytes is one at first last.
+    let place = c.in_ok-place.ensures.told bytes is in
+    let there = some_next c.args.big bytes at c.in_ok-place.place last.inside
+    (rw (← last.next) place.1) c.if-place-eq0.false in
+    let shown-fault = rw c.in-Err-Fault.field-0-is at (c.in-Err-Fault.ensures.told bytes
+    (g.met.B.ByteReader.lawful.same_bytes _ _ c.in_ok-place.ensures.reader ∙ is)) in (
+      refl,
+      fault_is_last c.args.big bytes one at c.in_ok-place.place c.in-Err-Fault.field-0-0 there
+          shown-fault,
+    )
