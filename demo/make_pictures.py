@@ -1,46 +1,117 @@
 #!/usr/bin/env python3
-"""Makes the pictures of the demo: uncompressed TIFF 6.0, as docs/FORMAT.md has it. Run it in this folder."""
+"""Makes the pictures of the demo: uncompressed TIFF 6.0, as docs/FORMAT.md has it.
+Run it in this folder."""
+from collections import namedtuple
 import math
 import struct
 
 SHORT, LONG = 3, 4
+SIZE = {SHORT: 2, LONG: 4}
+LITTLE, BIG = "<", ">"
+WHITE_IS_ZERO, BLACK_IS_ZERO, RGB = 0, 1, 2
+
+# One picture of a file. `texel` gives the stored samples of a column and a row. The strips have so
+# many rows where `rows` is given, else there are tiles of that width and height.
+Page = namedtuple("Page", "width height texel photometric depth rows tile",
+                  defaults=(BLACK_IS_ZERO, 8, None, None))
 
 
-def tiff(width, height, channels, photometric, rows_per_strip, pixels):
-    """A little-endian, stripped, chunky file of 8-bit samples with one directory."""
-    row = width * channels
-    strips = [pixels[y * row:(y + rows_per_strip) * row] for y in range(0, height, rows_per_strip)]
-    fields = [
-        (256, SHORT, [width]), (257, SHORT, [height]), (258, SHORT, [8] * channels), (259, SHORT, [1]),
-        (262, SHORT, [photometric]), (273, LONG, [0] * len(strips)), (277, SHORT, [channels]),
-        (278, SHORT, [rows_per_strip]), (279, LONG, [len(s) for s in strips]),
+def block(order, page, left, top, width, height):
+    """The bytes of a strip or a tile. The padding of a tile, which is never answered, is full."""
+    padding = [2 ** page.depth - 1] * len(page.texel(0, 0))
+    samples = []
+    for y in range(top, top + height):
+        for x in range(left, left + width):
+            samples += page.texel(x, y) if x < page.width and y < page.height else padding
+    return struct.pack(order + ("B" if page.depth == 8 else "H") * len(samples), *samples)
+
+
+def blocks(order, page):
+    """The strips or the tiles: these left to right, then top to bottom."""
+    if page.tile:
+        across, down = page.tile
+        return [block(order, page, left, top, across, down)
+                for top in range(0, page.height, down) for left in range(0, page.width, across)]
+    return [block(order, page, 0, top, page.width, min(page.rows, page.height - top))
+            for top in range(0, page.height, page.rows)]
+
+
+def fields(page, offsets, sizes):
+    """The fields of a page, in the order of their tags."""
+    channels = len(page.texel(0, 0))
+    found = [
+        (256, SHORT, [page.width]), (257, SHORT, [page.height]),
+        (258, SHORT, [page.depth] * channels), (259, SHORT, [1]), (262, SHORT, [page.photometric]),
+        (277, SHORT, [channels]),
     ]
-    size = {SHORT: 2, LONG: 4}
-    behind = 8 + 2 + 12 * len(fields) + 4
-    place = behind + sum(len(v) * size[t] for _, t, v in fields if len(v) * size[t] > 4)
-    offsets = []
-    for strip in strips:
-        offsets.append(place)
-        place += len(strip)
+    if page.tile:
+        found += [(322, SHORT, [page.tile[0]]), (323, SHORT, [page.tile[1]]),
+                  (324, LONG, offsets), (325, LONG, sizes)]
+    else:
+        found += [(273, LONG, offsets), (278, SHORT, [page.rows]), (279, LONG, sizes)]
+    extra = channels - (3 if page.photometric == RGB else 1)
+    if extra:
+        found.append((338, SHORT, [0] * extra))
+    return sorted(found)
+
+
+def directory(order, page, at, last):
+    """A page from byte `at` on: its directory, the values that do not fit in the entries, its
+    blocks. The next directory is 0 on the last page, else it stands behind all of that, at an
+    even place."""
+    stored = blocks(order, page)
+    sizes = [len(b) for b in stored]
+    found = fields(page, sizes, sizes)
+    behind = at + 2 + 12 * len(found) + 4
+    place = behind + sum(n for n in (len(v) * SIZE[t] for _, t, v in found) if n > 4)
+    offsets = [place + sum(sizes[:i]) for i in range(len(sizes))]
     entries, values = b"", b""
-    for tag, kind, numbers in fields:
-        if tag == 273:
-            numbers = offsets
-        data = b"".join(struct.pack("<H" if kind == SHORT else "<I", n) for n in numbers)
+    for tag, kind, numbers in fields(page, offsets, sizes):
+        data = struct.pack(order + ("H" if kind == SHORT else "I") * len(numbers), *numbers)
+        entries += struct.pack(order + "HHI", tag, kind, len(numbers))
         if len(data) > 4:
-            entries += struct.pack("<HHII", tag, kind, len(numbers), behind + len(values))
+            entries += struct.pack(order + "I", behind + len(values))
             values += data
         else:
-            entries += struct.pack("<HHI", tag, kind, len(numbers)) + data.ljust(4, b"\0")
-    head = struct.pack("<2sHI", b"II", 42, 8) + struct.pack("<H", len(fields)) + entries + struct.pack("<I", 0)
-    return head + values + b"".join(strips)
+            entries += data.ljust(4, b"\0")
+    rest = values + b"".join(stored)
+    if not last and len(rest) % 2:
+        rest += b"\0"
+    count = struct.pack(order + "H", len(found))
+    return count + entries + struct.pack(order + "I", 0 if last else behind + len(rest)) + rest
+
+
+def tiff(order, pages):
+    """A file of these pages, the numbers of which stand in this order."""
+    made = struct.pack(order + "2sHI", b"II" if order == LITTLE else b"MM", 42, 8)
+    for page in pages:
+        made += directory(order, page, len(made), page is pages[-1])
+    return made
+
+
+def half(page):
+    """The picture of half the size: each texel is the rounded mean of four."""
+    def texel(x, y):
+        right, below = min(2 * x + 1, page.width - 1), min(2 * y + 1, page.height - 1)
+        four = [page.texel(i, j) for j in (2 * y, below) for i in (2 * x, right)]
+        return [(sum(samples) + 2) // 4 for samples in zip(*four)]
+    width, height = max(1, page.width // 2), max(1, page.height // 2)
+    return page._replace(width=width, height=height, texel=texel, rows=height)
+
+
+def chain(page):
+    """A page, and those of half the size down to 1 by 1."""
+    pages = [page]
+    while pages[-1].width > 1 or pages[-1].height > 1:
+        pages.append(half(pages[-1]))
+    return pages
 
 
 def byte(x):
     return max(0, min(255, int(round(x))))
 
 
-def sphere(x, y):
+def ball(x, y):
     """A lit ball on a dark ground."""
     u, v = (x - 31.5) / 28, (y - 31.5) / 28
     r = u * u + v * v
@@ -68,12 +139,41 @@ def squares(x, y):
     return [235 if (x // 4 + y // 4) % 2 == 0 else 20]
 
 
-def make(name, width, height, channels, photometric, rows_per_strip, texel):
-    pixels = bytes(sample for y in range(height) for x in range(width) for sample in texel(x, y))
+def bricks(x, y):
+    """A brick wall, lit from the right."""
+    if y % 4 == 3 or (x + y // 4 % 2 * 4) % 8 == 7:
+        return [150 + x, 166, 150 + y]
+    return [140 + x, 60 + x // 2, 45 + y]
+
+
+def dunes(x, y):
+    """Dunes, as heights of 16 bits."""
+    return [round(32000 + 20000 * math.sin(x / 6 + y / 9) + 300 * y)]
+
+
+def rings(x, y):
+    """Rings about the middle, of a colour that turns."""
+    r = math.hypot(x - 19.5, y - 11.5)
+    return [byte(128 + 120 * math.sin(r)), byte(128 + 120 * math.sin(r / 2)), byte(255 - 9 * r)]
+
+
+def ink(x, y):
+    """A stroke of ink, 255 where it is black, and beside it how wet the paper is."""
+    d = abs(y - 8 - 4 * math.sin(x / 4))
+    return [byte(255 - 80 * d), byte(10 * x)]
+
+
+def make(name, pages, order=LITTLE):
     with open(name, "wb") as out:
-        out.write(tiff(width, height, channels, photometric, rows_per_strip, pixels))
+        out.write(tiff(order, pages))
 
 
-make("ball.tif", 64, 64, 1, 1, 16, sphere)
-make("hills.tif", 96, 64, 3, 2, 10, hills)
-make("squares.tif", 32, 32, 1, 1, 32, squares)
+make("ball.tif", [Page(64, 64, ball, rows=16)])
+make("hills.tif", [Page(96, 64, hills, RGB, rows=10)])
+make("squares.tif", [Page(32, 32, squares, rows=32)])
+make("bricks.tif", [Page(40, 24, bricks, RGB, tile=(16, 16))])
+make("dunes.tif", [Page(32, 20, dunes, depth=16, rows=8)], BIG)
+make("rings.tif", chain(Page(40, 24, rings, RGB, rows=24)))
+make("ink.tif", [Page(24, 16, ink, WHITE_IS_ZERO, rows=5)])
+with open("dunes.tif", "rb") as whole, open("cut.tif", "wb") as cut:
+    cut.write(whole.read()[:-1])

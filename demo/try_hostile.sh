@@ -1,6 +1,7 @@
 #!/usr/bin/env bash
-# Runs the real program over files that are no pictures, or that lie about themselves, and compares what it prints.
-# Each gets its named line at once, in little memory. The sparse file has 5 GiB and takes no room on the disk.
+# Runs the real program over files that are no pictures, or that lie about themselves, and compares
+# what it prints. Each gets its named line at once, in little memory. The sparse file has 5 GiB and
+# takes no room on the disk.
 set -u
 top=$(cd "$(dirname "${BASH_SOURCE[0]}")/.." && pwd) || exit 1
 folder=$(mktemp -d) || exit 1
@@ -25,7 +26,9 @@ changed many_offsets.tif 74 '\xff\xff\xff\xff'   # 2^32 - 1 strip offsets
 changed no_offsets.tif 74 '\x00\x00\x00\x00'     # none
 changed far_strip.tif 78 '\xfb\xff\xff\xff'      # the strip near 2^32
 changed one_too_far.tif 78 '\x7b\x00\x00\x00'    # the strip one byte past the end
-changed itself.tif 118 '\x08\x00\x00\x00'        # a directory that names itself as the next: still a plain picture
+# still pictures: the next directory is the first one, or stands far behind the file
+changed itself.tif 118 '\x08\x00\x00\x00'
+changed next_far.tif 118 '\xff\xff\xff\xff'
 mkdir "$folder/folder.tif"
 cp "$picture" "$folder/secret.tif"; chmod 000 "$folder/secret.tif"
 cp "$picture" "$folder/sparse.tif"; truncate -s 5G "$folder/sparse.tif"
@@ -34,12 +37,18 @@ truncate -s 5G "$folder/zeros.tif"
 secret='read fault'
 [ "$(id -u)" = 0 ] && secret='pixels 1 1 0' # root reads any file
 
-ask() { printf 'pixels 0 0 0 1 1 %s\n' "$1" >> "$folder.list"; printf '%s\n' "$2" >> "$folder.want"; }
+ask() { # NAME LINE
+  printf 'pixels 0 0 0 1 1 %s\n' "$1" >> "$folder.list"
+  printf '%s\n' "$2" >> "$folder.want"
+}
 rm -f "$folder.list" "$folder.want"
-for name in empty one seven eight at_end past_end in_header many_entries many_offsets no_offsets far_strip one_too_far zeros; do
-  ask "$name.tif" 'bad file 1 7 0 0'
-done
+for name in empty one seven; do ask "$name.tif" 'bad file 1 1'; done
+ask zeros.tif 'bad file 1 2'
+for name in eight at_end past_end in_header many_entries; do ask "$name.tif" 'bad file 1 4'; done
+for name in many_offsets no_offsets; do ask "$name.tif" 'bad file 1 6 273'; done
+for name in far_strip one_too_far; do ask "$name.tif" 'bad file 1 12 0 0'; done
 ask itself.tif 'pixels 1 1 0'
+ask next_far.tif 'pixels 1 1 0'
 ask sparse.tif 'pixels 1 1 0'
 ask folder.tif 'no such file'
 ask secret.tif "$secret"

@@ -4,7 +4,7 @@ use Rattle.tex_world.specs.Counts.{Rises, RisesByAtLeast, last_count}
 use Rattle.tex_world.specs.Tap.{TapState}
 use Rattle.render_run.specs.declared.answer.Answer.{Answer}
 use Rattle.render_run.specs.declared.answer.Answer.TheVariants.{Pixels, NoSuchFile, BadFile, Again}
-use Rattle.render_run.specs.declared.answer.Answer.TheVariants.{ReadFault, NoMemory}
+use Rattle.render_run.specs.declared.answer.Answer.TheVariants.{NoLevel, ReadFault, NoMemory}
 use Rattle.render_run.specs.Reply.{is_read_fault, is_again}
 use Rattle.render_run.specs.Fresh.{AnswerCause, GoesOn}
 use Rattle.render_run.specs.Writing.{Says}
@@ -46,6 +46,8 @@ faults_more n old mid new answer line so_far (inl is) cause on = rw is (by_answe
     by_answer (Again from to) cause = rises_same n old.faults mid.faults new.faults so_far on.faults
     by_answer (BadFile generation fault) cause =
         rises_same n old.faults mid.faults new.faults so_far on.faults
+    by_answer (NoLevel generation levels) cause =
+        rises_same n old.faults mid.faults new.faults so_far on.faults
     by_answer (Pixels generation channels values) cause =
         rises_same n old.faults mid.faults new.faults so_far on.faults
 
@@ -65,6 +67,8 @@ moves_more n old mid new answer line so_far (inl is) cause on = rw is (by_answer
     by_answer NoMemory cause = rises_same n old.moves mid.moves new.moves so_far on.moves
     by_answer NoSuchFile cause = rises_same n old.moves mid.moves new.moves so_far on.moves
     by_answer (BadFile generation fault) cause =
+        rises_same n old.moves mid.moves new.moves so_far on.moves
+    by_answer (NoLevel generation levels) cause =
         rises_same n old.moves mid.moves new.moves so_far on.moves
     by_answer (Pixels generation channels values) cause =
         rises_same n old.moves mid.moves new.moves so_far on.moves

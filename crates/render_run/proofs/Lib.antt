@@ -5,13 +5,13 @@ pub mod Leaves
 pub mod Counting
 pub mod Said
 pub mod OneMore
-pub mod PlainFacts
 pub mod Ranges
+pub mod Appended
+pub mod Windows
+pub mod PieceValues
+pub mod GoodLevels
 pub mod Replies
-pub mod Spans
 pub mod Taken
 pub mod Written
-pub mod Rows
-pub mod Texels
 pub mod RowValues
 pub mod Regions

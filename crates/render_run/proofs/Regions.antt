@@ -1,5 +1,5 @@
 -- The rows that were read are those of the region.
-use Rattle.std.proofs.Common.{◌≡◌, ℕ, ◌+◌, ◌*◌, false}
+use Rattle.std.proofs.Common.{◌≡◌, ℕ, ◌+◌, ◌*◌, Bool}
 use Rattle.std.proofs.Common.{List, ◌++◌, replicate}
 use Rattle.std.proofs.Common.{Some, ℤ, pos, ◌+ℤ◌, refl, sym, ap, ◌∙◌, append_assoc}
 use Rattle.std.proofs.Common.{zero-add}
@@ -10,29 +10,29 @@ use Rattle.tiff_dirs.specs.Block.{Level}
 use Rattle.render_run.specs.Region.{index_in, row_values}
 use Rattle.render_run.specs.Region.{region_values}
 use Rattle.render_run.specs.Overlap.{IsOverlap}
-use Rattle.render_run.specs.PlainLevel.{IsPlainLevel, plain_row, plain_rows}
+use Rattle.render_run.specs.LevelRow.{level_row, level_rows}
 use Rattle.render_run.proofs.Ranges.{range_parts, flat_alike, no_values}
 use Rattle.render_run.proofs.Ranges.{flat_zeros}
 use Rattle.render_run.proofs.Ranges.{three_parts}
 use Rattle.render_run.proofs.RowValues.{row_on_level, row_beside}
 
-module _ (bytes : List ℕ) (level : Level) (x y : ℤ) (w h before first inside after : ℕ)
+module _ (big : Bool) (bytes : List ℕ) (level : Level) (x y : ℤ) (w h before first inside after : ℕ)
     (over : IsOverlap y h level.height before first inside after) where
   -- the values of a row of the region
   rows : ℕ → List ℕ
-  rows j = row_values false bytes level x w (index_in (y +ℤ pos j) level.height)
+  rows j = row_values big bytes level x w (index_in (y +ℤ pos j) level.height)
 
   -- the rows that lie on the level, from the first of them on
   abbrev pub inside_rows : ℕ → List ℕ
   inside_rows n =
-      flat_map (λ j. row_values false bytes level x w (Some (first + j))) (range_with_len 0 n)
+      flat_map (λ j. row_values big bytes level x w (Some (first + j))) (range_with_len 0 n)
 
   -- those above the level are zeros
   above : flat_map rows (range_with_len 0 before) ≡ replicate (before * (w * level.channels)) 0
   unfolding rows
   above =
       flat_alike rows (no_values (w * level.channels)) 0 0 before
-      (λ j lt. row_beside bytes level x w (index_in (y +ℤ pos (0 + j)) level.height)
+      (λ j lt. row_beside big bytes level x w (index_in (y +ℤ pos (0 + j)) level.height)
       (rw (zero-add j) (over.none_before j lt)))
       ∙ flat_zeros (w * level.channels) 0 before
 
@@ -42,7 +42,7 @@ module _ (bytes : List ℕ) (level : Level) (x y : ℤ) (w h before first inside
   unfolding rows
   below =
       flat_alike rows (no_values (w * level.channels)) (before + inside) 0 after
-      (λ j lt. row_beside bytes level x w
+      (λ j lt. row_beside big bytes level x w
       (index_in (y +ℤ pos (before + inside + j)) level.height) (over.none_after j lt))
       ∙ flat_zeros (w * level.channels) 0 after
 
@@ -50,12 +50,12 @@ module _ (bytes : List ℕ) (level : Level) (x y : ℤ) (w h before first inside
   between : flat_map rows (range_with_len before inside) ≡ inside_rows inside
   unfolding rows
   between =
-      flat_alike rows (λ j. row_values false bytes level x w (Some (first + j))) before 0 inside
+      flat_alike rows (λ j. row_values big bytes level x w (Some (first + j))) before 0 inside
       (λ j lt. rw (zero-add j, over.each_inside j lt) refl)
 
   -- the region is zeros above the level, its rows, and zeros below
   pub region_parts : replicate (before * (w * level.channels)) 0 ++ inside_rows inside
-      ++ replicate (after * (w * level.channels)) 0 ≡ region_values false bytes level x y w h
+      ++ replicate (after * (w * level.channels)) 0 ≡ region_values big bytes level x y w h
   unfolding rows region_values
   region_parts =
       sym (ap (λ (n : ℕ). flat_map rows (range_with_len 0 n)) (sym over.total)
@@ -64,21 +64,21 @@ module _ (bytes : List ℕ) (level : Level) (x y : ℤ) (w h before first inside
 
 -- ---- the rows as they were read
 
-module _ (bytes : List ℕ) (level : Level) (before first inside after top : ℕ) where
+module _ (big : Bool) (bytes : List ℕ) (level : Level) (before first inside after top : ℕ) where
   -- before the first row
-  pub plain_rows_none : (values : List ℕ)
-      → values ≡ values ++ plain_rows bytes level before first inside after top 0
-  unfolding plain_rows
-  plain_rows_none values = sym (append-nil values)
+  pub level_rows_none : (values : List ℕ)
+      → values ≡ values ++ level_rows big bytes level before first inside after top 0
+  unfolding level_rows
+  level_rows_none values = sym (append-nil values)
 
   -- one row more
-  pub plain_rows_more : (n : ℕ)
-      → plain_rows bytes level before first inside after top (n + 1)
-      ≡ plain_rows bytes level before first inside after top n
-      ++ plain_row bytes level before first inside after (top + n)
-  unfolding plain_rows
-  plain_rows_more n =
-      let rows : ℕ → List ℕ = λ j. plain_row bytes level before first inside after (top + j) in
+  pub level_rows_more : (n : ℕ)
+      → level_rows big bytes level before first inside after top (n + 1)
+      ≡ level_rows big bytes level before first inside after top n
+      ++ level_row big bytes level before first inside after (top + n)
+  unfolding level_rows
+  level_rows_more n =
+      let rows : ℕ → List ℕ = λ j. level_row big bytes level before first inside after (top + j) in
       ap (flat_map rows) (range_parts 0 n 1)
       ∙ flat_map-append rows (range_with_len 0 n) (range_with_len (0 + n) 1)
       ∙ rw (zero-add n)
@@ -86,32 +86,32 @@ module _ (bytes : List ℕ) (level : Level) (before first inside after top : ℕ
 
   -- one row more stands behind the values
   pub one_row_more : (n : ℕ) (old mid new : List ℕ)
-      → mid ≡ old ++ plain_rows bytes level before first inside after top n
-      → new ≡ mid ++ plain_row bytes level before first inside after (top + n)
-      → new ≡ old ++ plain_rows bytes level before first inside after top (n + 1)
+      → mid ≡ old ++ level_rows big bytes level before first inside after top n
+      → new ≡ mid ++ level_row big bytes level before first inside after (top + n)
+      → new ≡ old ++ level_rows big bytes level before first inside after top (n + 1)
   one_row_more n old mid new so_far row =
       row ∙ ap
-      (λ (m : List ℕ). m ++ plain_row bytes level before first inside after (top + n)) so_far
-      ∙ append_assoc old (plain_rows bytes level before first inside after top n)
-      (plain_row bytes level before first inside after (top + n))
-      ∙ ap (λ (r : List ℕ). old ++ r) (sym (plain_rows_more n))
+      (λ (m : List ℕ). m ++ level_row big bytes level before first inside after (top + n)) so_far
+      ∙ append_assoc old (level_rows big bytes level before first inside after top n)
+      (level_row big bytes level before first inside after (top + n))
+      ∙ ap (λ (r : List ℕ). old ++ r) (sym (level_rows_more n))
 
 -- all that was read is the region
-pub region_is : (bytes : List ℕ) (level : Level) (x y : ℤ) (w h : ℕ)
+pub region_is : (big : Bool) (bytes : List ℕ) (level : Level) (x y : ℤ) (w h : ℕ)
     (before first inside after above top rows below : ℕ) (a b c : List ℕ)
-    → IsPlainLevel bytes level → IsOverlap x w level.width before first inside after
+    → IsOverlap x w level.width before first inside after
     → IsOverlap y h level.height above top rows below
     → a ≡ replicate (above * (w * level.channels)) 0
-    → b ≡ a ++ plain_rows bytes level before first inside after top rows
+    → b ≡ a ++ level_rows big bytes level before first inside after top rows
     → c ≡ b ++ replicate (below * (w * level.channels)) 0
-    → c ≡ region_values false bytes level x y w h
-unfolding plain_rows
-region_is bytes level x y w h before first inside after above top rows below a b c plain columns
+    → c ≡ region_values big bytes level x y w h
+unfolding level_rows
+region_is big bytes level x y w h before first inside after above top rows below a b c columns
     over front middle back =
-    let each : flat_map (λ j. plain_row bytes level before first inside after (top + j))
-    (range_with_len 0 rows) ≡ inside_rows bytes level x y w h above top rows below over rows =
-    flat_alike (λ j. plain_row bytes level before first inside after (top + j))
-    (λ j. row_values false bytes level x w (Some (top + j))) 0 0 rows
-    (λ j lt. row_on_level bytes level x w before first inside after columns
-    (top + (0 + j)) plain) in
-    rw (back, middle, front, each) (region_parts bytes level x y w h above top rows below over)
+    let each : flat_map (λ j. level_row big bytes level before first inside after (top + j))
+    (range_with_len 0 rows) ≡ inside_rows big bytes level x y w h above top rows below over rows =
+    flat_alike (λ j. level_row big bytes level before first inside after (top + j))
+    (λ j. row_values big bytes level x w (Some (top + j))) 0 0 rows
+    (λ j lt. row_on_level big bytes level x w before first inside after columns
+    (top + (0 + j))) in
+    rw (back, middle, front, each) (region_parts big bytes level x y w h above top rows below over)

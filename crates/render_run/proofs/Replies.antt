@@ -1,17 +1,22 @@
 -- A reply that was made is the reply on the bytes.
 use Rattle.std.proofs.Common.{◌≡◌, ℕ, true, false, List, Result}
-use Rattle.std.proofs.Common.{Err, IfOk, refl, ap}
+use Rattle.std.proofs.Common.{Err, IfOk, refl, None, ◌<◌, ◌≤◌, ltb, map}
 use Rattle.tiff_dirs.specs.declared.fault.DirsError.{DirsError}
 use Rattle.tiff_dirs.specs.declared.fault.DirsError.TheVariants.{Fault, Reader, NoMemory}
 use Rattle.tiff_dirs.specs.declared.dirs.Dirs.{Dirs}
-use Rattle.tiff_dirs.specs.Block.{Level}
+use Rattle.std.specs.List.{range_with_len}
+use Rattle.tiff_dirs.specs.Shown.{shown}
+use Rattle.tile_layout.specs.Level.{Stored, stored_of, IsLayoutOf}
 use Rattle.render_run.specs.declared.request.Request.{Request}
 use Rattle.render_run.specs.declared.answer.Answer.{Answer}
-use Rattle.render_run.specs.declared.answer.Answer.TheVariants.{Pixels}
+use Rattle.render_run.specs.declared.answer.Answer.TheVariants.{Pixels, NoLevel}
 use Rattle.render_run.specs.declared.region.RegionError.{RegionError}
-use Rattle.render_run.specs.Plain.{is_plain, TellsPlain, IsOneFault}
+use Rattle.tiff_dirs.specs.Bytes.{is_big}
+use Rattle.tiff_dirs.specs.Level.{level_of, first_fault, stored_levels}
+use Rattle.tiff_dirs.specs.Dirs.{Tells}
+use Rattle.std.proofs.lemmas.Bool.{le-ltb, lt-ltb}
 use Rattle.render_run.specs.Region.{region_values}
-use Rattle.render_run.specs.Reply.{reply_on, plain_level}
+use Rattle.render_run.specs.Reply.{reply_on}
 use Rattle.render_run.specs.ReplyMade.{IsRefusalFor}
 
 -- what reading directories answers
@@ -25,21 +30,37 @@ refused E e = Err e
 -- a refusal that tells the bytes is the reply on them
 pub refused_told : (E : Type 0) (bytes : List ℕ) (generation : ℕ) (r : Request) (e : DirsError E)
     (result : Result Answer (RegionError E))
-    → IsRefusalFor generation e result → TellsPlain bytes (refused E e) → IsOneFault (refused E e)
+    → IsRefusalFor generation e result → Tells bytes (refused E e)
     → IfOk result (λ answer. answer ≡ reply_on bytes generation r)
 unfolding reply_on
-refused_told E bytes generation r (Fault fault) result is not_plain one =
-    rw is (rw (not_plain, one) refl)
-refused_told E bytes generation r (Reader e) result is told one = rw is tt
-refused_told E bytes generation r NoMemory result is told one = rw is tt
+refused_told E bytes generation r (Fault fault) result is shown = rw is (rw shown refl)
+refused_told E bytes generation r (Reader e) result is told = rw is tt
+refused_told E bytes generation r NoMemory result is told = rw is tt
 
--- the values of the region of a plain file are the reply
-pub plain_reply : (bytes : List ℕ) (generation : ℕ) (r : Request) (level : Level) (channels : ℕ)
-    (values : List ℕ) → is_plain bytes ≡ true → level ≡ plain_level bytes
-    → channels ≡ level.channels → values ≡ region_values false bytes level r.x r.y r.w r.h
+-- the layout of directories that are those of the bytes
+pub layout_of_read : (bytes : List ℕ) (dirs : Dirs) (layout : Stored) → layout ≡ stored_of dirs
+    → dirs.big ≡ is_big bytes
+    → map shown dirs.levels.items ≡ map (level_of bytes) (range_with_len 0 (stored_levels bytes))
+    → IsLayoutOf bytes layout
+layout_of_read bytes dirs layout of big levels = rw of (record { order = big; levels = levels })
+
+-- a level that is not stored
+pub no_level_reply : (bytes : List ℕ) (generation levels : ℕ) (r : Request)
+    → first_fault bytes ≡ None → levels ≡ stored_levels bytes → levels ≤ r.level
+    → NoLevel generation levels ≡ reply_on bytes generation r
+unfolding reply_on
+no_level_reply bytes generation levels r none count le =
+    let no : ltb r.level (stored_levels bytes) ≡ false = le-ltb r.level (stored_levels bytes)
+    (rw (← count) le) in
+    rw (none, no, count) refl
+
+-- the values of the region of a level that is stored
+pub pixels_reply : (bytes : List ℕ) (generation channels : ℕ) (values : List ℕ) (r : Request)
+    → first_fault bytes ≡ None → r.level < stored_levels bytes
+    → channels ≡ (level_of bytes r.level).channels
+    → values ≡ region_values (is_big bytes) bytes (level_of bytes r.level) r.x r.y r.w r.h
     → Pixels generation channels values ≡ reply_on bytes generation r
 unfolding reply_on
-plain_reply bytes generation r level channels values plain is count region =
-    rw (plain, count, region)
-    (ap (λ (l : Level). Pixels generation l.channels
-    (region_values false bytes l r.x r.y r.w r.h)) is)
+pixels_reply bytes generation channels values r none lt count region =
+    let yes : ltb r.level (stored_levels bytes) ≡ true = lt-ltb r.level (stored_levels bytes) lt in
+    rw (none, yes, count, region) refl

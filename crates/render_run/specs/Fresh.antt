@@ -4,13 +4,14 @@ use Rattle.tex_world.specs.Counts.{Rises}
 use Rattle.tex_world.specs.Tap.{TapState}
 use Rattle.render_run.specs.declared.answer.Answer.{Answer}
 use Rattle.render_run.specs.declared.answer.Answer.TheVariants.{Pixels, NoSuchFile, BadFile, Again}
-use Rattle.render_run.specs.declared.answer.Answer.TheVariants.{ReadFault, NoMemory}
+use Rattle.render_run.specs.declared.answer.Answer.TheVariants.{NoLevel, ReadFault, NoMemory}
 use Rattle.render_run.specs.Reply.{Placed}
 
 -- the line prints a generation
 abbrev pub prints_generation : Answer → Bool
 prints_generation (Pixels generation channels values) = true
 prints_generation (BadFile generation fault) = true
+prints_generation (NoLevel generation levels) = true
 prints_generation (Again from to) = true
 prints_generation NoSuchFile = false
 prints_generation ReadFault = false
@@ -20,6 +21,7 @@ prints_generation NoMemory = false
 abbrev pub early_generation : Answer → ℕ
 early_generation (Pixels generation channels values) = generation
 early_generation (BadFile generation fault) = generation
+early_generation (NoLevel generation levels) = generation
 early_generation (Again from to) = from
 early_generation NoSuchFile = 0
 early_generation ReadFault = 0
@@ -29,6 +31,7 @@ early_generation NoMemory = 0
 abbrev pub late_generation : Answer → ℕ
 late_generation (Pixels generation channels values) = generation
 late_generation (BadFile generation fault) = generation
+late_generation (NoLevel generation levels) = generation
 late_generation (Again from to) = to
 late_generation NoSuchFile = 0
 late_generation ReadFault = 0
@@ -54,6 +57,7 @@ AnswerCause old new (Again from to) = Rises old.moves new.moves
 AnswerCause old new (Pixels generation channels values) = Unit {0}
 AnswerCause old new NoSuchFile = Unit {0}
 AnswerCause old new (BadFile generation fault) = Unit {0}
+AnswerCause old new (NoLevel generation levels) = Unit {0}
 AnswerCause old new NoMemory = Unit {0}
 
 -- the counts of faults and of moves have not fallen

@@ -24,22 +24,24 @@ lines_of (b ∷ bytes) = if b == 10 then [] ∷ lines_of bytes else in_front b (
 abbrev pub most_texels : ℕ
 most_texels = 1048576
 
--- what the fields of a region say: `0 X Y W H NAME`, each after one space, of at most 1048576
+-- what the fields of a region say: `LEVEL X Y W H NAME`, each after one space, of at most 1048576
 -- texels
 unfoldable pub region_of : List ℕ → Option Request
 region_of fields = do
-  level ← next_number 0 fields
+  level ← next_number (2 ^ 32 - 1) fields
   x ← next_signed level.1
   y ← next_signed x.1
   w ← next_number (2 ^ 32 - 1) y.1
   h ← next_number (2 ^ 32 - 1) w.1
   name ← name_of h.1
   if nat_le (w.0 * h.0) most_texels
-      then Some (record { x = x.0; y = y.0; w = w.0; h = h.0; name = name }) else None
+      then Some (record { level = level.0; x = x.0; y = y.0; w = w.0; h = h.0; name = name })
+      else None
 
 -- the request that is made of a region
 abbrev pub request_in : Region → Request
-request_in r = record { x = r.x; y = r.y; w = r.w; h = r.h; name = r.name.now }
+request_in r =
+    record { level = r.level; x = r.x; y = r.y; w = r.w; h = r.h; name = r.name.now }
 
 -- What a line says: its word is `pixels`, and its fields are those of a region.
 unfoldable pub request_of : List ℕ → Option Request

@@ -5,8 +5,9 @@ pub mod Parse
 pub mod TapReader
 pub mod Region
 pub mod Overlap
-pub mod PlainLevel
-pub mod Plain
+pub mod Unpacked
+pub mod Window
+pub mod LevelRow
 pub mod RegionRead
 pub mod Line
 pub mod Reply

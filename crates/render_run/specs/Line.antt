@@ -8,7 +8,7 @@ use Rattle.tiff_dirs.specs.declared.fault.TiffFault.TheVariants.{FieldMissing, F
 use Rattle.tiff_dirs.specs.declared.fault.TiffFault.TheVariants.{Unsupported, DataOutside}
 use Rattle.render_run.specs.declared.answer.Answer.{Answer}
 use Rattle.render_run.specs.declared.answer.Answer.TheVariants.{Pixels, NoSuchFile, BadFile, Again}
-use Rattle.render_run.specs.declared.answer.Answer.TheVariants.{ReadFault, NoMemory}
+use Rattle.render_run.specs.declared.answer.Answer.TheVariants.{NoLevel, ReadFault, NoMemory}
 
 -- a number behind a space, in decimal without leading zeros
 abbrev pub field : ℕ → List ℕ
@@ -36,6 +36,7 @@ text_of (Pixels generation channels values) =
     codes "pixels" ++ field generation ++ field channels ++ fields values
 text_of NoSuchFile = codes "no such file"
 text_of (BadFile generation fault) = codes "bad file" ++ field generation ++ fault_text fault
+text_of (NoLevel generation levels) = codes "no level" ++ field generation ++ field levels
 text_of (Again from to) = codes "again" ++ field from ++ field to
 text_of ReadFault = codes "read fault"
 text_of NoMemory = codes "no memory"

@@ -1,30 +1,29 @@
 -- Which line may a request be answered with, over the files of a world?
-use Rattle.std.specs.Prelude.{◌≡◌, ◌⊎◌, ℕ, ◌<◌, Bool, true, false, IsTrue, List}
+use Rattle.std.specs.Prelude.{◌≡◌, ◌⊎◌, ℕ, ◌<◌, nat_lt, Bool, true, false, IsTrue, List}
 use Rattle.std.specs.Prelude.{Option, Some, None, ⊤, if◌then◌else◌}
-use Rattle.std.specs.Option.{ForSome}
+use Rattle.std.specs.Option.{ForSome, option_map_or}
 use Rattle.tex_world.specs.World.{Files, IsReal, HasNoFile}
-use Rattle.tiff_dirs.specs.declared.fault.TiffFault.TheVariants.{Unsupported}
-use Rattle.tiff_dirs.specs.Block.{Level}
-use Rattle.tiff_dirs.specs.Level.{level_of}
+use Rattle.tiff_dirs.specs.Bytes.{is_big}
+use Rattle.tiff_dirs.specs.Level.{level_of, first_fault, stored_levels}
 use Rattle.render_run.specs.declared.request.Request.{Request}
 use Rattle.render_run.specs.declared.answer.Answer.{Answer}
 use Rattle.render_run.specs.declared.answer.Answer.TheVariants.{Pixels, NoSuchFile, BadFile, Again}
-use Rattle.render_run.specs.declared.answer.Answer.TheVariants.{ReadFault, NoMemory}
-use Rattle.render_run.specs.Plain.{is_plain}
+use Rattle.render_run.specs.declared.answer.Answer.TheVariants.{NoLevel, ReadFault, NoMemory}
 use Rattle.render_run.specs.Region.{region_values}
 
--- level 0 of a plain file
-abbrev pub plain_level : List ℕ → Level
-plain_level bytes = level_of bytes 0
+-- the values of the region that a request asks for, of a level that the file stores
+abbrev pub pixels_on : List ℕ → ℕ → Request → Answer
+pixels_on bytes generation r =
+    Pixels generation (level_of bytes r.level).channels
+    (region_values (is_big bytes) bytes (level_of bytes r.level) r.x r.y r.w r.h)
 
--- What a request is answered on the bytes of one generation: the values of its region, or that the
--- file is not plain.
+-- What a request is answered on the bytes of one generation: the first fault that they show, that
+-- the level is none of those that they store, or the values of its region.
 unfoldable pub reply_on : List ℕ → ℕ → Request → Answer
 reply_on bytes generation r =
-    if is_plain bytes
-    then Pixels generation (plain_level bytes).channels
-    (region_values false bytes (plain_level bytes) r.x r.y r.w r.h)
-    else BadFile generation (Unsupported 0 0)
+    option_map_or (BadFile generation) (first_fault bytes)
+    (if nat_lt r.level (stored_levels bytes) then pixels_on bytes generation r
+    else NoLevel generation (stored_levels bytes))
 
 -- The line tells one real generation of the file, and is the reply on its bytes.
 pub record IsReplyOf (files : Files) (file : ℕ) (r : Request) (generation : ℕ) (line : Answer)
@@ -45,6 +44,8 @@ MeetsOn files file r (Pixels generation channels values) =
 MeetsOn files file r NoSuchFile = ⊥
 MeetsOn files file r (BadFile generation fault) =
     IsReplyOf files file r generation (BadFile generation fault)
+MeetsOn files file r (NoLevel generation levels) =
+    IsReplyOf files file r generation (NoLevel generation levels)
 MeetsOn files file r (Again from to) = IsAgainOf files file from to
 MeetsOn files file r ReadFault = ⊤
 MeetsOn files file r NoMemory = ⊤
@@ -75,6 +76,7 @@ abbrev pub is_refusal : Answer → Bool
 is_refusal (Pixels generation channels values) = false
 is_refusal NoSuchFile = true
 is_refusal (BadFile generation fault) = true
+is_refusal (NoLevel generation levels) = true
 is_refusal (Again from to) = true
 is_refusal ReadFault = true
 is_refusal NoMemory = true
@@ -85,6 +87,7 @@ is_read_fault ReadFault = true
 is_read_fault NoMemory = false
 is_read_fault (Again from to) = false
 is_read_fault (BadFile generation fault) = false
+is_read_fault (NoLevel generation levels) = false
 is_read_fault NoSuchFile = false
 is_read_fault (Pixels generation channels values) = false
 
@@ -94,5 +97,6 @@ is_again (Again from to) = true
 is_again ReadFault = false
 is_again NoMemory = false
 is_again (BadFile generation fault) = false
+is_again (NoLevel generation levels) = false
 is_again NoSuchFile = false
 is_again (Pixels generation channels values) = false

@@ -6,13 +6,14 @@ use Rattle.render_run.specs.declared.region.RegionError.{RegionError}
 use Rattle.render_run.specs.declared.region.RegionError.TheVariants as region
 use Rattle.render_run.specs.declared.answer.Answer.{Answer}
 use Rattle.render_run.specs.declared.answer.Answer.TheVariants.{Pixels, NoSuchFile, BadFile, Again}
-use Rattle.render_run.specs.declared.answer.Answer.TheVariants.{ReadFault, NoMemory}
+use Rattle.render_run.specs.declared.answer.Answer.TheVariants.{NoLevel, ReadFault, NoMemory}
 
 -- The answer is one on the bytes of this generation.
 abbrev pub IsOn : ℕ → Answer → Type 0
 IsOn generation (Pixels g channels values) = g ≡ generation
 IsOn generation NoSuchFile = ⊥
 IsOn generation (BadFile g fault) = g ≡ generation
+IsOn generation (NoLevel g levels) = g ≡ generation
 IsOn generation (Again from to) = ⊥
 IsOn generation ReadFault = ⊥
 IsOn generation NoMemory = ⊥

@@ -49,6 +49,11 @@ pub enum Answer {
         generation: u32,
         fault: TiffFault,
     },
+    /// The file has so many levels, and the level that was asked for is none of them.
+    NoLevel {
+        generation: u32,
+        levels: u32,
+    },
     /// The file was `from`, and `to` was met before it was read.
     Again {
         from: u32,

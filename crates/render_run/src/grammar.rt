@@ -77,8 +77,9 @@ fn next_line(bytes: &[u8]) -> Option<(&[u8], &[u8])>
     }
 }
 
-/// A region of level 0 of a file: w by h texels from (x, y) on.
+/// A region of a level of a file: w by h texels from (x, y) on.
 struct Region<'a> {
+    level: u32,
     x: i32,
     y: i32,
     w: u32,
@@ -97,11 +98,26 @@ fn request(alloc: Global, line: &[u8]) -> Result<Option<Request>, AllocError>
     if word != b"pixels".as_slice() {
         return Ok(None);
     }
-    let Some(Region { x, y, w, h, name }) = region_in(fields) else {
+    let Some(region) = region_in(fields) else {
         return Ok(None);
     };
+    let Region {
+        level,
+        x,
+        y,
+        w,
+        h,
+        name,
+    } = region;
     let name = Name::new(String::from_str(alloc, name)?);
-    Ok(Some(Request { x, y, w, h, name }))
+    Ok(Some(Request {
+        level,
+        x,
+        y,
+        w,
+        h,
+        name,
+    }))
 }
 
 /// The region that the fields behind a line's word are.
@@ -109,7 +125,7 @@ fn request(alloc: Global, line: &[u8]) -> Result<Option<Request>, AllocError>
 fn region_in(fields: &[u8]) -> Option<Region<'_>>
     ensures { option_map request_in result ≡ region_of fields.now }
 {
-    let (_, rest) = next_number(fields, 0)?;
+    let (level, rest) = next_number(fields, u32::MAX)?;
     let (x, rest) = next_signed(rest)?;
     let (y, rest) = next_signed(rest)?;
     let (w, rest) = next_number(rest, u32::MAX)?;
@@ -118,7 +134,14 @@ fn region_in(fields: &[u8]) -> Option<Region<'_>>
     if u64::from(w) * u64::from(h) > MOST_TEXELS {
         return None;
     }
-    Some(Region { x, y, w, h, name })
+    Some(Region {
+        level,
+        x,
+        y,
+        w,
+        h,
+        name,
+    })
 }
 
 #[cfg(test)]

@@ -11,13 +11,14 @@ mod grammar;
 mod line;
 mod list;
 mod overlap;
-mod plain;
 mod prepare;
 mod region;
 mod reply;
 mod request;
+mod samples;
 mod tap_reader;
 mod top;
+mod window;
 mod words;
 mod writing;
 

@@ -44,6 +44,7 @@ fn push_answer(text: &mut String, answer: &Answer) -> Result<(), AllocError>
             write!(text, "bad file {generation}")?;
             push_fault(text, fault)
         }
+        Answer::NoLevel { generation, levels } => write!(text, "no level {generation} {levels}"),
         Answer::Again { from, to } => write!(text, "again {from} {to}"),
         Answer::ReadFault => text.push_str("read fault"),
         Answer::NoMemory => text.push_str("no memory"),

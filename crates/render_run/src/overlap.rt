@@ -19,9 +19,9 @@ impl Overlap {
         let (before, first) = if start < 0 {
             (start.unsigned_abs().min(count), 0)
         } else {
-            (0, start as u32)
+            (0, (start as u32).min(size))
         };
-        let inside = (count - before).min(size.saturating_sub(first));
+        let inside = (count - before).min(size - first);
         Overlap {
             before,
             first,

@@ -7,11 +7,11 @@ ghost use Rattle.render_run.specs.ReplyMade.{IsOn, IsRefusalFor};
 ghost use Rattle.render_run.specs.RegionRead.{LeavesRegion};
 
 use crate::answer::{Answer, Values};
-use crate::plain::plain_dirs;
 use crate::region::{RegionError, read_region};
 use crate::request::Request;
 use std::alloc::Global;
-use tiff_dirs::{ByteReader, DirsError};
+use tiff_dirs::{ByteReader, DirsError, read_dirs};
+use tile_layout::Layout;
 
 /// The answer where the directories were not read: the fault that the bytes show, or why they were
 /// not told.
@@ -25,7 +25,8 @@ fn refusal<E>(generation: u32, error: DirsError<E>) -> Result<Answer, RegionErro
     }
 }
 
-/// The values of the region that the request asks for, or the fault that the bytes show.
+/// The values of the region that the request asks for, the fault that the bytes show, or that the
+/// level is not stored.
 pub(crate) fn reply<B: ByteReader>(
     alloc: Global,
     reader: &mut B,
@@ -37,15 +38,19 @@ pub(crate) fn reply<B: ByteReader>(
     ensures generation { IfOk result (IsOn generation) }
     ensures reader { LeavesRegion B.keeps B.refuses reader.old reader.new result }
 {
-    let dirs = match plain_dirs(alloc, reader) {
-        Ok(dirs) => dirs,
+    let layout = match read_dirs(alloc, reader) {
+        Ok(dirs) => Layout::of(dirs),
         Err(e) => return refusal(generation, e),
     };
-    let dir = &dirs.levels[0];
-    match read_region(alloc, reader, dir, request) {
+    let levels = layout.stored();
+    if request.level >= levels {
+        return Ok(Answer::NoLevel { generation, levels });
+    }
+    let channels = layout.channels();
+    match read_region(alloc, reader, &layout, request) {
         Ok(values) => Ok(Answer::Pixels {
             generation,
-            channels: dir.channels,
+            channels,
             values: Values::new(values),
         }),
         Err(e) => Err(e),

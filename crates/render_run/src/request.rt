@@ -33,9 +33,10 @@ impl Name {
     }
 }
 
-/// A region of level 0 of a file: w by h texels from (x, y) on.
+/// A region of a level of a file: w by h texels from (x, y) on.
 #[derive(Drop)]
 pub struct Request {
+    pub level: u32,
     pub x: i32,
     pub y: i32,
     pub w: u32,

@@ -2,7 +2,13 @@
 
 use crate::plain_files::PlainFiles;
 use crate::ran::{Failing, run_list};
+use crate::strip_files::StripFiles;
+use crate::tiled_files::TiledFiles;
+use crate::wall_file::WallFile;
+use std::alloc::Global;
+use std::process::Abort;
 use std::test::Fail;
+use tex_world::FileTable;
 
 // Two requests for the same region.
 const LIST: &str = "pixels 0 1 0 2 2 A.tif\npixels 0 1 0 2 2 A.tif\n";
@@ -36,21 +42,54 @@ fn says_what_failed(rt: HostRuntime) -> Result<(), Fail> {
 }
 
 // Whichever call of the tap fails, its request is answered `read fault`, and the other one as ever.
+fn each_call_fails<T: FileTable>(
+    rt: &impl Abort,
+    alloc: Global,
+    request: &str,
+    line: &str,
+) -> Result<(), Fail> {
+    let list = format!(in alloc; "{request}\n{request}\n")?;
+    let calm = run_list::<T>(alloc, &list, &Failing::NOTHING)?;
+    calm.is_calmly(rt, &format!(in alloc; "{line}\n{line}\n")?, 0, request);
+    assert_ne!(rt; calm.calls, 0, "in {request}");
+    for call in 1..=calm.calls {
+        let ran = run_list::<T>(alloc, &list, &Failing::tap(call))?;
+        let written = if call <= calm.calls / 2 {
+            format!(in alloc; "read fault\n{line}\n")?
+        } else {
+            format!(in alloc; "{line}\nread fault\n")?
+        };
+        let message = format!(in alloc; "call {call} for {request}")?;
+        ran.is(rt, &written, 1, &message);
+        assert_eq!(rt; (ran.faults, ran.moves), (1, 0), "in {message}");
+    }
+    Ok(())
+}
+
 #[test]
 fn says_which_read_failed(rt: HostRuntime) -> Result<(), Fail> {
     let alloc = rt.alloc();
-    let calm = run_list::<PlainFiles>(alloc, LIST, &Failing::NOTHING)?;
-    calm.is_calmly(&rt, &format!(in alloc; "{LINE}{LINE}")?, 0, LIST);
-    assert_ne!(rt; calm.calls, 0);
-    for call in 1..=calm.calls {
-        let ran = run_list::<PlainFiles>(alloc, LIST, &Failing::tap(call))?;
-        let written = if call <= calm.calls / 2 {
-            format!(in alloc; "read fault\n{LINE}")?
-        } else {
-            format!(in alloc; "{LINE}read fault\n")?
-        };
-        ran.is(&rt, &written, 1, &format!(in alloc; "call {call}")?);
-        assert_eq!(rt; (ran.faults, ran.moves), (1, 0), "in call {call}");
-    }
-    Ok(())
+    let (request, line) = ("pixels 0 1 0 2 2 A.tif", "pixels 1 1 257 514 4369 4626");
+    each_call_fails::<PlainFiles>(&rt, alloc, request, line)?;
+    let request = "pixels 0 4 1 2 3 low.tif";
+    each_call_fails::<StripFiles>(&rt, alloc, request, "pixels 1 1 1407 0 2407 0 3407 0")
+}
+
+// The region lies on several tiles, and some of its rows are read ahead.
+#[test]
+fn says_which_read_of_tiles_failed(rt: HostRuntime) -> Result<(), Fail> {
+    let alloc = rt.alloc();
+    let request = "pixels 0 63 30 2 4 B.tif";
+    let line = "pixels 1 3 3063 23063 43063 3064 23064 43064 3163 23163 43163 3164 23164 43164 \
+                3263 23263 43263 3264 23264 43264 3363 23363 43363 3364 23364 43364";
+    each_call_fails::<TiledFiles>(&rt, alloc, request, line)?;
+    let request = "pixels 0 15 12 2 6 seam.tif";
+    let line = "pixels 1 2 27756 32125 27499 31868 24929 30840 24672 30583 \
+                22102 29555 21845 29298 19275 28270 19018 28013 \
+                16448 26985 16191 26728 13621 25700 13364 25443";
+    each_call_fails::<TiledFiles>(&rt, alloc, request, line)?;
+    let request = "pixels 1 63 62 2 4 wall.tif";
+    let line = "pixels 1 3 5140 5397 5654 5140 5397 5654 5140 5397 5654 5140 5397 5654 \
+                5140 5397 5654 5140 5397 5654 5140 5397 5654 5140 5397 5654";
+    each_call_fails::<WallFile>(&rt, alloc, request, line)
 }

@@ -14,3 +14,11 @@ mod other_files;
 mod plain_files;
 #[cfg(test)]
 mod ran;
+#[cfg(test)]
+mod regions;
+#[cfg(test)]
+mod strip_files;
+#[cfg(test)]
+mod tiled_files;
+#[cfg(test)]
+mod wall_file;

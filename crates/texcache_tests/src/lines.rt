@@ -3,6 +3,9 @@
 use crate::other_files::{ChangedFiles, OtherFiles};
 use crate::plain_files::PlainFiles;
 use crate::ran::{Failing, run_list};
+use crate::strip_files::StripFiles;
+use crate::tiled_files::TiledFiles;
+use crate::wall_file::WallFile;
 use std::alloc::Global;
 use std::process::Abort;
 use std::test::Fail;
@@ -48,6 +51,140 @@ fn answers_regions(rt: HostRuntime) -> Result<(), Fail> {
     answers::<PlainFiles>(&rt, rt.alloc(), &rows)
 }
 
+// Strips of 16 bits in both orders, the second strip before the first; channel 0 alone is turned
+// round where 0 is white; regions over several strips, and beside the picture.
+#[test]
+fn answers_strips(rt: HostRuntime) -> Result<(), Fail> {
+    let rows = [
+        (
+            "pixels 0 0 0 5 4 low.tif\npixels 0 0 0 5 4 high.tif\n",
+            "pixels 1 1 7 107 207 307 407 1007 1107 1207 1307 1407 \
+             2007 2107 2207 2307 2407 3007 3107 3207 3307 3407\n\
+             pixels 1 1 7 107 207 307 407 1007 1107 1207 1307 1407 \
+             2007 2107 2207 2307 2407 3007 3107 3207 3307 3407\n",
+            0,
+        ),
+        (
+            "pixels 0 -1 2 4 2 low.tif\npixels 0 4 3 2 2 high.tif\n",
+            "pixels 1 1 0 2007 2107 2207 0 3007 3107 3207\npixels 1 1 3407 0 0 0\n",
+            0,
+        ),
+        (
+            "pixels 0 0 0 3 2 white.tif\n",
+            "pixels 1 3 65526 20009 40009 65426 20109 40109 65326 20209 40209 \
+             64526 21009 41009 64426 21109 41109 64326 21209 41209\n",
+            0,
+        ),
+        (
+            "pixels 0 2 -1 2 2 white.tif\n",
+            "pixels 1 3 0 0 0 0 0 0 65326 20209 40209 0 0 0\n",
+            0,
+        ),
+        (
+            "pixels 0 1 1 1 4 tall.tif\npixels 0 2 5 2 3 tall.tif\n",
+            "pixels 1 1 11565 19275 26985 34695\npixels 1 1 44975 0 52685 0 0 0\n",
+            0,
+        ),
+        (
+            "pixels 0 99 79 2 2 pages.tif\npixels 1 0 0 1 1 pages.tif\n",
+            "pixels 1 1 1799 0 0 0\nno level 1 1\n",
+            1,
+        ),
+    ];
+    answers::<StripFiles>(&rt, rt.alloc(), &rows)?;
+    let rows = [(
+        "pixels 0 0 0 2 1 W.tif\n",
+        "pixels 1 2 62965 5140 1285 15420\n",
+        0,
+    )];
+    answers::<OtherFiles>(&rt, rt.alloc(), &rows)
+}
+
+// The padding of a tile is never answered.
+#[test]
+fn answers_tiles(rt: HostRuntime) -> Result<(), Fail> {
+    let rows = [
+        (
+            "pixels 0 63 31 2 2 B.tif\npixels 0 79 47 2 1 B.tif\n",
+            "pixels 1 3 3163 23163 43163 3164 23164 43164 3263 23263 43263 3264 23264 43264\n\
+             pixels 1 3 4779 24779 44779 0 0 0\n",
+            0,
+        ),
+        (
+            "pixels 0 -1 -1 3 3 seam.tif\n",
+            "pixels 1 2 0 0 0 0 0 0 0 0 65535 51400 65278 51143 0 0 62708 50115 62451 49858\n",
+            0,
+        ),
+        (
+            "pixels 0 15 15 2 2 seam.tif\npixels 0 14 16 3 1 seam.tif\n",
+            "pixels 1 2 19275 28270 19018 28013 16448 26985 16191 26728\n\
+             pixels 1 2 16705 27242 16448 26985 16191 26728\n",
+            0,
+        ),
+        (
+            "pixels 0 18 14 3 5 seam.tif\n",
+            "pixels 1 2 21331 28784 21074 28527 0 0 18504 27499 18247 27242 0 0 \
+             15677 26214 15420 25957 0 0 12850 24929 12593 24672 0 0 0 0 0 0 0 0\n",
+            0,
+        ),
+        (
+            "pixels 0 0 0 1 1 cut.tif\npixels 0 0 0 1 1 B.tif\n",
+            "bad file 1 12 0 3\npixels 1 3 0 20000 40000\n",
+            1,
+        ),
+    ];
+    answers::<TiledFiles>(&rt, rt.alloc(), &rows)
+}
+
+#[test]
+fn answers_levels(rt: HostRuntime) -> Result<(), Fail> {
+    let rows = [
+        (
+            "pixels 10 0 0 1 1 wall.tif\n",
+            "pixels 1 3 51400 51657 51914\n",
+            0,
+        ),
+        ("pixels 11 0 0 1 1 wall.tif\n", "no level 1 11\n", 1),
+        (
+            "pixels 4294967295 0 0 1 1 wall.tif\npixels 0 0 0 1 1 wall.tif\n",
+            "no level 1 11\npixels 1 3 0 257 514\n",
+            1,
+        ),
+        (
+            "pixels 0 1023 1023 2 2 wall.tif\npixels 1 511 0 2 1 wall.tif\n",
+            "pixels 1 3 0 257 514 0 0 0 0 0 0 0 0 0\npixels 1 3 5140 5397 5654 0 0 0\n",
+            0,
+        ),
+        (
+            "pixels 3 63 63 2 2 wall.tif\npixels 4 63 63 2 1 wall.tif\n",
+            "pixels 1 3 15420 15677 15934 15420 15677 15934 \
+             15420 15677 15934 15420 15677 15934\n\
+             pixels 1 3 20560 20817 21074 0 0 0\n",
+            0,
+        ),
+        (
+            "pixels 5 -1 31 2 2 wall.tif\npixels 10 -1 0 3 1 wall.tif\n",
+            "pixels 1 3 0 0 0 25700 25957 26214 0 0 0 0 0 0\n\
+             pixels 1 3 0 0 0 51400 51657 51914 0 0 0\n",
+            0,
+        ),
+    ];
+    answers::<WallFile>(&rt, rt.alloc(), &rows)?;
+    let rows = [
+        (
+            "pixels 1 0 0 1 1 A.tif\npixels 1 0 0 1 1 loop.tif\n",
+            "no level 1 1\nno level 1 1\n",
+            1,
+        ),
+        (
+            "pixels 4294967295 -2147483648 2147483647 1024 1024 three.tif\n",
+            "no level 1 1\n",
+            1,
+        ),
+    ];
+    answers::<PlainFiles>(&rt, rt.alloc(), &rows)
+}
+
 #[test]
 fn refuses_names_and_files(rt: HostRuntime) -> Result<(), Fail> {
     let rows = [
@@ -60,18 +197,66 @@ fn refuses_names_and_files(rt: HostRuntime) -> Result<(), Fail> {
     ];
     answers::<PlainFiles>(&rt, rt.alloc(), &rows)?;
     let rows = [
-        (
-            "pixels 0 0 0 1 1 note.txt\npixels 0 0 0 1 1 B.tif\n",
-            "bad file 1 7 0 0\nbad file 1 7 0 0\n",
-            1,
-        ),
-        ("pixels 0 0 0 2 1 W.tif\n", "bad file 1 7 0 0\n", 1),
-        ("pixels 0 0 0 1 1 short.tif\n", "bad file 1 7 0 0\n", 1),
+        ("pixels 0 0 0 1 1 short.tif\n", "bad file 1 1\n", 1),
+        ("pixels 0 0 0 1 1 note.txt\n", "bad file 1 2\n", 1),
     ];
     answers::<OtherFiles>(&rt, rt.alloc(), &rows)?;
     let rows = [
-        ("pixels 0 0 0 4 4 v43.tif\n", "bad file 1 7 0 0\n", 1),
-        ("pixels 0 0 0 4 4 lzw.tif\n", "bad file 1 7 0 0\n", 1),
+        ("pixels 0 0 0 1 1 v43.tif\n", "bad file 1 3\n", 1),
+        ("pixels 0 0 0 1 1 lzw.tif\n", "bad file 1 7 259 5\n", 1),
     ];
     answers::<ChangedFiles>(&rt, rt.alloc(), &rows)
+}
+
+// A region without texels is answered as any other. The name comes first, then the fault of the
+// file, then the level.
+#[test]
+fn answers_empty_regions(rt: HostRuntime) -> Result<(), Fail> {
+    let rows = [
+        (
+            "pixels 0 0 0 0 0 A.tif\npixels 0 9 -9 4 0 A.tif\n\
+             pixels 0 -2147483648 -2147483648 0 4294967295 A.tif\n\
+             pixels 0 2147483647 0 4294967295 0 A.tif\n",
+            "pixels 1 1\npixels 1 1\npixels 1 1\npixels 1 1\n",
+            0,
+        ),
+        (
+            "pixels 1 0 0 0 0 A.tif\npixels 9 0 0 5 0 A.tif\npixels 9 0 0 0 5 none.tif\n",
+            "no level 1 1\nno level 1 1\nno such file\n",
+            1,
+        ),
+    ];
+    answers::<PlainFiles>(&rt, rt.alloc(), &rows)?;
+    let rows = [
+        (
+            "pixels 0 0 0 0 5 lzw.tif\npixels 0 0 0 5 0 lzw.tif\n",
+            "bad file 1 7 259 5\nbad file 1 7 259 5\n",
+            1,
+        ),
+        (
+            "pixels 9 0 0 1 1 v43.tif\npixels 9 0 0 0 0 v43.tif\n",
+            "bad file 1 3\nbad file 1 3\n",
+            1,
+        ),
+    ];
+    answers::<ChangedFiles>(&rt, rt.alloc(), &rows)?;
+    let rows = [
+        (
+            "pixels 0 63 31 0 2 B.tif\npixels 0 63 31 2 0 B.tif\n",
+            "pixels 1 3\npixels 1 3\n",
+            0,
+        ),
+        (
+            "pixels 1 0 0 0 0 cut.tif\npixels 1 0 0 0 0 B.tif\n",
+            "bad file 1 12 0 3\nno level 1 1\n",
+            1,
+        ),
+    ];
+    answers::<TiledFiles>(&rt, rt.alloc(), &rows)?;
+    let rows = [(
+        "pixels 10 0 0 0 1 wall.tif\npixels 11 0 0 0 1 wall.tif\n",
+        "pixels 1 3\nno level 1 11\n",
+        1,
+    )];
+    answers::<WallFile>(&rt, rt.alloc(), &rows)
 }

@@ -21,6 +21,11 @@ fn refuses_lists(rt: HostRuntime) -> Result<(), Fail> {
     let rows = [
         ("tex 0 0 0 clamp clamp closest 1 A.tif\n", "bad list 1 1\n"),
         ("pixels 0 0 0 4 4 A.tif\nsync\n", "bad list 2 1\n"),
+        ("pixels 4294967296 0 0 4 4 A.tif\n", "bad list 1 1\n"),
+        (
+            "pixels 9 0 0 4 4 A.tif\npixels -1 0 0 4 4 A.tif\n",
+            "bad list 2 1\n",
+        ),
     ];
     for (list, written) in rows {
         let ran = run_list::<PlainFiles>(rt.alloc(), list, &Failing::NOTHING)?;

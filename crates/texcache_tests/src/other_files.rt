@@ -1,9 +1,9 @@
-//! Files that are not plain.
-ghost use Rattle.std.specs.Prelude.{◌&&◌, ◌==◌, nat_lt, slice_index};
+//! Files with a fault, and one in which 0 is white.
+ghost use Rattle.std.specs.Prelude.{◌&&◌, ◌==◌, slice_index};
 ghost use Rattle.std.specs.Prelude.{[], ◌∷◌, Some, None, refl, if◌then◌else◌, codes};
 ghost use Rattle.std.proofs.Common.{arith, lit≤};
 ghost use Rattle.tex_world.specs.Names.{name_at, distinct_names};
-ghost use Rattle.texcache_tests.specs.declared.other_files.TheConstants.{NOTE, W, B_START};
+ghost use Rattle.texcache_tests.specs.declared.other_files.TheConstants.{NOTE, W};
 ghost use Rattle.texcache_tests.specs.declared.plain_files.TheConstants.{A};
 
 use crate::plain_files::A;
@@ -26,29 +26,6 @@ static W: [u8; 126] = [
     0x17, 0x01, 0x03, 0x00, 0x01, 0x00, 0x00, 0x00, 0x04, 0x00, 0x00, 0x00, //
     0x00, 0x00, 0x00, 0x00, //
     0x0a, 0x14, 0xfa, 0x3c,
-];
-
-// The header, the directory and its values of a picture in big-endian order: 80 by 48 texels of
-// three channels of 16 bits, in four tiles.
-static B_START: [u8; 184] = [
-    0x4d, 0x4d, 0x00, 0x2a, 0x00, 0x00, 0x00, 0x08, 0x00, 0x0b, //
-    0x01, 0x00, 0x00, 0x03, 0x00, 0x00, 0x00, 0x01, 0x00, 0x50, 0x00, 0x00, //
-    0x01, 0x01, 0x00, 0x03, 0x00, 0x00, 0x00, 0x01, 0x00, 0x30, 0x00, 0x00, //
-    0x01, 0x02, 0x00, 0x03, 0x00, 0x00, 0x00, 0x03, 0x00, 0x00, 0x00, 0x92, //
-    0x01, 0x03, 0x00, 0x03, 0x00, 0x00, 0x00, 0x01, 0x00, 0x01, 0x00, 0x00, //
-    0x01, 0x06, 0x00, 0x03, 0x00, 0x00, 0x00, 0x01, 0x00, 0x02, 0x00, 0x00, //
-    0x01, 0x15, 0x00, 0x03, 0x00, 0x00, 0x00, 0x01, 0x00, 0x03, 0x00, 0x00, //
-    0x01, 0x1c, 0x00, 0x03, 0x00, 0x00, 0x00, 0x01, 0x00, 0x01, 0x00, 0x00, //
-    0x01, 0x42, 0x00, 0x03, 0x00, 0x00, 0x00, 0x01, 0x00, 0x40, 0x00, 0x00, //
-    0x01, 0x43, 0x00, 0x03, 0x00, 0x00, 0x00, 0x01, 0x00, 0x20, 0x00, 0x00, //
-    0x01, 0x44, 0x00, 0x04, 0x00, 0x00, 0x00, 0x04, 0x00, 0x00, 0x00, 0x98, //
-    0x01, 0x45, 0x00, 0x04, 0x00, 0x00, 0x00, 0x04, 0x00, 0x00, 0x00, 0xa8, //
-    0x00, 0x00, 0x00, 0x00, //
-    0x00, 0x10, 0x00, 0x10, 0x00, 0x10, //
-    0x00, 0x00, 0x00, 0xb8, 0x00, 0x00, 0x30, 0xb8, //
-    0x00, 0x00, 0x60, 0xb8, 0x00, 0x00, 0x90, 0xb8, //
-    0x00, 0x00, 0x30, 0x00, 0x00, 0x00, 0x30, 0x00, //
-    0x00, 0x00, 0x30, 0x00, 0x00, 0x00, 0x30, 0x00,
 ];
 
 /// `A.tif` twice: `v43.tif` has 43, the number of BigTIFF, in the place of 42, and `lzw.tif` says
@@ -97,43 +74,37 @@ impl FileTable for ChangedFiles {
     ghost first = { λ n low. Prim.grind arith };
 }
 
-/// `note.txt`, which is a text, `short.tif`, which is the first 7 bytes of `A.tif`, `B.tif`, which
-/// is big-endian, tiled and of 16 bits, and `W.tif`, in which 0 is white. No call reads the tiles
-/// of `B.tif` so far, and all their bytes are 0.
+/// `note.txt`, which is a text, `short.tif`, which is the first 7 bytes of `A.tif`, and `W.tif`, in
+/// which 0 is white.
 #[derive(Drop)]
 pub(crate) struct OtherFiles;
 
 impl FileTable for OtherFiles {
-    ghost count_of = { 4 };
+    ghost count_of = { 3 };
 
-    ghost name_of = { name_at
-        (codes "note.txt" ∷ codes "short.tif" ∷ codes "B.tif" ∷ codes "W.tif" ∷ []) };
+    ghost name_of = { name_at (codes "note.txt" ∷ codes "short.tif" ∷ codes "W.tif" ∷ []) };
 
     ghost len_of = { λ n g.
-        if g == 1 then Some (if n == 0 then 13 else if n == 1 then 7
-        else if n == 2 then 49336 else 126)
-        else None };
+        if g == 1 then Some (if n == 0 then 13 else if n == 1 then 7 else 126) else None };
 
     ghost byte_of = { λ n g at.
         if n == 0 then slice_index NOTE at
         else if n == 1 then slice_index A at
-        else if n == 2 then (if nat_lt at 184 then slice_index B_START at else 0)
         else slice_index W at };
 
     ghost few = { lit≤ tt };
 
     ghost distinct = { distinct_names
-        (codes "note.txt" ∷ codes "short.tif" ∷ codes "B.tif" ∷ codes "W.tif" ∷ []) refl };
+        (codes "note.txt" ∷ codes "short.tif" ∷ codes "W.tif" ∷ []) refl };
 
     fn count() -> u32 {
-        4
+        3
     }
 
     fn name(n: u32) -> &'static str {
         match n {
             0 => "note.txt",
             1 => "short.tif",
-            2 => "B.tif",
             _ => "W.tif",
         }
     }
@@ -142,7 +113,6 @@ impl FileTable for OtherFiles {
         let len = match n {
             0 => 13,
             1 => 7,
-            2 => 49336,
             _ => 126,
         };
         if g == 1 { Some(len) } else { None }
@@ -152,7 +122,6 @@ impl FileTable for OtherFiles {
         match n {
             0 => NOTE[at as usize],
             1 => A[at as usize],
-            2 => { if at < 184 { B_START[at as usize] } else { 0 } }
             _ => W[at as usize],
         }
     }

@@ -18,10 +18,22 @@ fn bad_line(alloc: Global, list: &[u8]) -> Result<u32, AllocError>
 #[test]
 fn reads_a_region(rt: HostRuntime) -> Result<(), Fail> {
     let rows = [
-        ("pixels 0 -1 1 3 1 A.tif\n", -1, 1, 3, 1, "A.tif"),
-        ("pixels 0 -1 1 3 1 A.tif", -1, 1, 3, 1, "A.tif"),
+        ("pixels 0 -1 1 3 1 A.tif\n", 0, -1, 1, 3, 1, "A.tif"),
+        ("pixels 0 -1 1 3 1 A.tif", 0, -1, 1, 3, 1, "A.tif"),
+        ("pixels 17 2 -1 3 1 A.tif", 17, 2, -1, 3, 1, "A.tif"),
+        ("pixels 0000000010 0 0 1 1 A", 10, 0, 0, 1, 1, "A"),
         (
-            "pixels 0 0 0 1 1 my new file.tif\n",
+            "pixels 4294967295 0 0 0 0 1 2",
+            4294967295,
+            0,
+            0,
+            0,
+            0,
+            "1 2",
+        ),
+        (
+            "pixels 1 0 0 1 1 my new file.tif\n",
+            1,
             0,
             0,
             1,
@@ -31,6 +43,7 @@ fn reads_a_region(rt: HostRuntime) -> Result<(), Fail> {
         (
             "pixels 00 -0 007 0 4294967295  A\r.tif \n",
             0,
+            0,
             7,
             0,
             4294967295,
@@ -38,6 +51,7 @@ fn reads_a_region(rt: HostRuntime) -> Result<(), Fail> {
         ),
         (
             "pixels 0 -2147483648 2147483647 1024 1024 \u{e4}.tif\n",
+            0,
             -2147483648,
             2147483647,
             1024,
@@ -45,11 +59,12 @@ fn reads_a_region(rt: HostRuntime) -> Result<(), Fail> {
             "\u{e4}.tif",
         ),
     ];
-    for (list, x, y, w, h, name) in rows {
+    for (list, level, x, y, w, h, name) in rows {
         assert!(rt; list.len() < 100);
         let requests = parse(rt.alloc(), list.as_bytes())?;
         assert_eq!(rt; requests.len(), 1, "in {list}");
         let request = &requests[0];
+        assert_eq!(rt; request.level, level, "in {list}");
         assert_eq!(rt; request.x, x, "in {list}");
         assert_eq!(rt; request.y, y, "in {list}");
         assert_eq!(rt; request.w, w, "in {list}");
@@ -73,7 +88,7 @@ fn reads_lines_in_order(rt: HostRuntime) -> Result<(), Fail> {
 
 #[test]
 fn says_which_line_is_bad(rt: HostRuntime) -> Result<(), Fail> {
-    let rows: [(&[u8], u32); 22] = [
+    let rows: [(&[u8], u32); 31] = [
         (b"", 0),
         (b"pixels 0 0 0 1 1 A.tif\n", 0),
         (b"\n", 1),
@@ -87,7 +102,16 @@ fn says_which_line_is_bad(rt: HostRuntime) -> Result<(), Fail> {
         (b" pixels 0 0 0 1 1 A.tif", 1),
         (b"pixels 0 0 0 1 1 ", 1),
         (b"pixels 0 0 0 1 1", 1),
-        (b"pixels 1 0 0 1 1 A.tif", 1),
+        (b"pixels 1 0 0 1 1 A.tif", 0),
+        (b"pixels 4294967295 0 0 1 1 A.tif", 0),
+        (b"pixels 4294967296 0 0 1 1 A.tif", 1),
+        (b"pixels 9999999999 0 0 1 1 A.tif", 1),
+        (b"pixels 00000000001 0 0 1 1 A.tif", 1),
+        (b"pixels -0 0 0 1 1 A.tif", 1),
+        (b"pixels +1 0 0 1 1 A.tif", 1),
+        (b"pixels 1a 0 0 1 1 A.tif", 1),
+        (b"pixels  0 0 1 1 A.tif", 1),
+        (b"pixels 1 0 0 1 1", 1),
         (b"pixels 0 0 0 1048577 1 A.tif", 1),
         (b"pixels 0 0 0 65536 65536 A.tif", 1),
         (b"pixels 0 2147483648 0 1 1 A.tif", 1),

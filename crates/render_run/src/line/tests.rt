@@ -25,19 +25,31 @@ fn writes_each_answer(rt: HostRuntime) -> Result<(), Fail> {
         ),
         (Answer::NoSuchFile, "no such file\n"),
         (bad_file(TiffFault::Short), "bad file 1 1\n"),
+        (bad_file(TiffFault::BadMark), "bad file 1 2\n"),
+        (bad_file(TiffFault::BadVersion), "bad file 1 3\n"),
+        (bad_file(TiffFault::DirOutside), "bad file 1 4\n"),
         (
             bad_file(TiffFault::FieldMissing { tag: 257 }),
             "bad file 1 5 257\n",
         ),
         (
+            bad_file(TiffFault::FieldShape { tag: 324 }),
+            "bad file 1 6 324\n",
+        ),
+        (
             bad_file(TiffFault::Unsupported { tag: 259, value: 5 }),
             "bad file 1 7 259 5\n",
         ),
+        (bad_file(TiffFault::ZeroSize), "bad file 1 8\n"),
+        (bad_file(TiffFault::TooLarge), "bad file 1 9\n"),
+        (bad_file(TiffFault::TileShape), "bad file 1 10\n"),
         (bad_file(TiffFault::OffsetCount), "bad file 1 11\n"),
         (
             bad_file(TiffFault::DataOutside { level: 0, index: 3 }),
             "bad file 1 12 0 3\n",
         ),
+        (no_level(1, 11), "no level 1 11\n"),
+        (no_level(4294967295, 1), "no level 4294967295 1\n"),
         (Answer::Again { from: 1, to: 2 }, "again 1 2\n"),
         (Answer::ReadFault, "read fault\n"),
         (Answer::NoMemory, "no memory\n"),
@@ -53,6 +65,10 @@ fn bad_file(fault: TiffFault) -> Answer {
         generation: 1,
         fault,
     }
+}
+
+fn no_level(generation: u32, levels: u32) -> Answer {
+    Answer::NoLevel { generation, levels }
 }
 
 #[test]

@@ -1,0 +1,13 @@
+-- What does a window on a file hold?
+use Rattle.std.specs.Prelude.{ℕ, List, [], ◌∷◌, ⊤}
+use Rattle.tiff_dirs.specs.Reader.{IsPartAt}
+use Rattle.render_run.specs.declared.window.Window.{Window}
+
+-- its bytes are those of the file from its place on
+abbrev pub IsWindow : List ℕ → Window → Type 0
+IsWindow bytes window = IsPartAt bytes window.at window.bytes.items
+
+-- each of them is
+abbrev pub AreWindows : List ℕ → List Window → Type 0
+AreWindows bytes [] = ⊤
+AreWindows bytes (window ∷ windows) = IsWindow bytes window × AreWindows bytes windows

@@ -1,0 +1,3 @@
+-- The bytes of the larger files of the tests.
+pub mod Tiles
+pub mod Wall

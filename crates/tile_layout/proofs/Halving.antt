@@ -1,0 +1,68 @@
+-- Sides that are halved, and the size of a level by the last stored one.
+use Rattle.std.proofs.Common.{◌≡◌, ℕ, zero, suc, ◌+◌, ◌-◌, ◌/◌, ◌^◌, ◌≤◌, max, min, refl, sym, ap}
+use Rattle.std.proofs.Common.{◌∙◌, arith, inl, inr, add-zero, add-suc}
+use Rattle.std.proofs.lemmas.Nat.{shr-shr}
+use Rattle.std.proofs.lemmas.Bool.{cases_lt}
+use Rattle.tiff_dirs.specs.Level.{halved}
+use Rattle.tile_layout.specs.Level.{Stored, stored_count, level_in, width_in, height_in}
+use Rattle.tile_layout.proofs.LevelLemmas.{width_stored, height_stored, width_halved}
+use Rattle.tile_layout.proofs.LevelLemmas.{height_halved}
+
+-- ---- a side
+
+half_of_max : (q : ℕ) → max 1 (max 1 q / 2) ≡ max 1 (q / 2)
+half_of_max zero = refl
+half_of_max (suc q) = let e : max 1 (suc q) ≡ suc q = omega arith in rw e refl
+
+-- one halving more
+half_more : (side k : ℕ) → halved (max 1 (side / 2 ^ k)) ≡ max 1 (side / 2 ^ suc k)
+half_more side k =
+    let more : k + 1 ≡ suc k = omega arith in
+    let e : side / 2 ^ k / 2 ≡ side / 2 ^ suc k =
+    shr-shr side k 1 ∙ ap (λ j. side / 2 ^ j) more in
+    half_of_max (side / 2 ^ k) ∙ ap (λ q. max 1 q) e
+
+-- sides that are halved from `last` on
+pub halved_after : (side : ℕ → ℕ) (last : ℕ) → 1 ≤ side last
+    → ((l : ℕ) → last ≤ l → side (suc l) ≡ halved (side l))
+    → (k : ℕ) → side (last + k) ≡ max 1 (side last / 2 ^ k)
+halved_after side last some step zero =
+    let e : side last ≡ max 1 (side last / 1) = omega arith in rw add-zero e
+halved_after side last some step (suc k) =
+    rw add-suc (step (last + k) (omega arith) ∙ ap halved (halved_after side last some step k)
+    ∙ half_more (side last) k)
+
+-- ---- the size of a level, by the last stored one that is not below it
+
+module _ (file : Stored) (level last : ℕ) (is : last ≡ min level (stored_count file - 1))
+    (stored : 1 ≤ stored_count file) where
+  side_by : (side : ℕ → ℕ) → 1 ≤ side last
+      → ((l : ℕ) → stored_count file ≤ suc l → side (suc l) ≡ halved (side l))
+      → side level ≡ max 1 (side last / 2 ^ (level - last))
+  side_by side some step = elim (cases_lt level (stored_count file)) [
+    | inl lt ↦
+        let here : last ≡ level = omega arith in
+        let none : level - last ≡ 0 = omega arith in
+        let whole : side level ≡ max 1 (side level / 1) = omega (arith, ap side here) in
+        rw (none, here) whole
+    | inr le ↦
+        let there : last + (level - last) ≡ level = omega arith in
+        ap side (sym there)
+        ∙ halved_after side last some (λ l from. step l (omega arith)) (level - last)
+  ]
+
+  pub width_by : 1 ≤ (level_in file last).width
+      → width_in file level ≡ max 1 ((level_in file last).width / 2 ^ (level - last))
+  width_by some =
+      let own : width_in file last ≡ (level_in file last).width =
+      width_stored file last (omega arith) in
+      side_by (width_in file) (rw own some) (width_halved file)
+      ∙ ap (λ w. max 1 (w / 2 ^ (level - last))) own
+
+  pub height_by : 1 ≤ (level_in file last).height
+      → height_in file level ≡ max 1 ((level_in file last).height / 2 ^ (level - last))
+  height_by some =
+      let own : height_in file last ≡ (level_in file last).height =
+      height_stored file last (omega arith) in
+      side_by (height_in file) (rw own some) (height_halved file)
+      ∙ ap (λ h. max 1 (h / 2 ^ (level - last))) own

@@ -1,0 +1,56 @@
+-- Where the texels of a row stand.
+use Rattle.std.proofs.Common.{◌≡◌, ℕ, ◌+◌, ◌*◌, ◌/◌, ◌%◌, ◌<◌, Option, Some, None, get_or, refl}
+use Rattle.std.proofs.Common.{ap, arith}
+use Rattle.std.proofs.lemmas.Nat.{div-mul-add, mod-mul-add, div-add-mod'}
+use Rattle.tiff_dirs.specs.Block.{Level, pieces_over, sample_bytes}
+use Rattle.tiff_dirs.specs.Texel.{block_index, texels_before, sample_place}
+use Rattle.tile_layout.specs.Pieces.{texel_bytes, row_rest}
+
+-- ---- one side, cut into pieces
+
+-- j places on, in the same piece
+same_piece : (x piece j : ℕ) → x % piece + j < piece → (x + j) / piece ≡ x / piece
+same_piece x piece j fits =
+    let e : x + j ≡ x / piece * piece + (x % piece + j) = omega (arith, div-add-mod' x piece) in
+    rw e (div-mul-add (x / piece) piece (x % piece + j) fits)
+
+place_in_piece : (x piece j : ℕ) → x % piece + j < piece → (x + j) % piece ≡ x % piece + j
+place_in_piece x piece j fits =
+    let e : x + j ≡ x / piece * piece + (x % piece + j) = omega (arith, div-add-mod' x piece) in
+    rw e (mod-mul-add (x / piece) piece (x % piece + j) fits)
+
+-- ---- n texels side by side
+
+before_more : (width : ℕ) (tile : Option (ℕ × ℕ)) (rows x y j : ℕ) → j < row_rest width tile x
+    → texels_before width tile rows (x + j) y ≡ texels_before width tile rows x y + j
+before_more width None rows x y j lt = omega arith
+before_more width (Some tile) rows x y j lt =
+    omega (arith, place_in_piece x tile.0 j (omega arith))
+
+same_block : (width : ℕ) (tile : Option (ℕ × ℕ)) (rows x y j : ℕ) → j < row_rest width tile x
+    → block_index width tile rows (x + j) y ≡ block_index width tile rows x y
+same_block width None rows x y j lt = refl
+same_block width (Some tile) rows x y j lt =
+    ap (λ k. y / tile.1 * pieces_over width tile.0 + k) (same_piece x tile.0 j (omega arith))
+
+pub side_by_side : (level : Level) (x y j : ℕ) → j < row_rest level.width level.tile x
+    → sample_place level (x + j) y 0 ≡ sample_place level x y 0 + j * texel_bytes level
+unfolding sample_place
+side_by_side level x y j lt =
+    rw (
+      same_block level.width level.tile level.rows_per_strip x y j lt,
+      before_more level.width level.tile level.rows_per_strip x y j lt,
+    ) (omega arith)
+
+-- the samples of a texel, too
+pub of_channel : (level : Level) (x y c : ℕ)
+    → sample_place level x y c ≡ sample_place level x y 0 + c * sample_bytes level.depth
+unfolding sample_place
+of_channel level x y c = omega arith
+
+-- the place of a texel, from its block's
+pub place_is : (level : Level) (x y : ℕ) → sample_place level x y 0
+    ≡ get_or level.offsets (block_index level.width level.tile level.rows_per_strip x y) 0
+    + texels_before level.width level.tile level.rows_per_strip x y * texel_bytes level
+unfolding sample_place
+place_is level x y = omega arith

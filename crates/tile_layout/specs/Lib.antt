@@ -1,0 +1,4 @@
+pub mod Cut
+pub mod Level
+pub mod Pieces
+pub mod Inside

@@ -1,0 +1,92 @@
+//! Where the texels of a level stand in the file.
+
+ghost use Rattle.std.specs.Prelude.{◌≡◌, ◌^◌, ◌<◌, ◌≤◌, length};
+ghost use Rattle.tiff_dirs.specs.Block.{pieces_over};
+ghost use Rattle.tiff_dirs.specs.Shown.{shown};
+ghost use Rattle.tiff_dirs.specs.Texel.{block_index, texels_before, sample_place};
+ghost use Rattle.tile_layout.specs.Pieces.{texel_bytes, row_rest, LiesSideBySide};
+
+use crate::piece::Piece;
+use tiff_dirs::Dir;
+
+/// As many as it takes to cover a side by pieces of that length.
+fn pieces_over(side: u32, piece: u32) -> u64
+    requires { 1 ≤ piece }
+    ensures value { result ≡ pieces_over side piece }
+    ensures few { result < 2 ^ 33 }
+{
+    let piece = u64::from(piece);
+    (u64::from(side) + piece - 1) / piece
+}
+
+/// The strip or tile that holds texel (x, y).
+fn block_index(dir: &Dir, x: u32, y: u32) -> u64
+    requires across { x < dir.now.width }
+    requires down { y < dir.now.height }
+    ensures value { result ≡ block_index dir.now.width dir.now.tile dir.now.rows_per_strip x y }
+    ensures stored { result < length dir.now.offsets.items }
+{
+    match dir.tile {
+        None => u64::from(y / dir.rows_per_strip),
+        Some((width, height)) => {
+            let row = u64::from(y / height);
+            let column = u64::from(x / width);
+            row * pieces_over(dir.width, width) + column
+        }
+    }
+}
+
+/// The number of texels before texel (x, y) in its strip or tile.
+fn texels_before(dir: &Dir, x: u32, y: u32) -> u64
+    ensures { result ≡ texels_before dir.now.width dir.now.tile dir.now.rows_per_strip x y }
+{
+    match dir.tile {
+        None => u64::from(y % dir.rows_per_strip) * u64::from(dir.width) + u64::from(x),
+        Some((width, height)) => u64::from(y % height) * u64::from(width) + u64::from(x % width),
+    }
+}
+
+/// The bytes of a texel.
+fn texel_bytes(dir: &Dir) -> u64
+    ensures { result ≡ texel_bytes (shown dir.now) }
+{
+    let sample = if dir.depth == 8 { 1 } else { 2 };
+    u64::from(dir.channels) * sample
+}
+
+/// How many texels the row of the strip or tile has from texel x of the level's row on.
+fn row_rest(dir: &Dir, x: u32) -> u32
+    requires { x < dir.now.width }
+    ensures value { result ≡ row_rest dir.now.width dir.now.tile x }
+    ensures some { 1 ≤ result }
+{
+    match dir.tile {
+        None => dir.width - x,
+        Some((width, _)) => width - x % width,
+    }
+}
+
+/// The place of the sample of channel 0 of texel (x, y).
+fn place(dir: &Dir, x: u32, y: u32) -> u64
+    requires across { x < dir.now.width }
+    requires down { y < dir.now.height }
+    ensures { result ≡ sample_place (shown dir.now) x y 0 }
+{
+    let offset = dir.offsets[block_index(dir, x, y) as usize];
+    offset + texels_before(dir, x, y) * texel_bytes(dir)
+}
+
+/// The piece from (x, y) on of a row that ends before `right`.
+pub(crate) fn piece_at(dir: &Dir, x: u32, y: u32, right: u32) -> Piece
+    requires across { x < right × right ≤ dir.now.width }
+    requires down { y < dir.now.height }
+    ensures start { (result.x ≡ x) × (result.y ≡ y) }
+    ensures lies { LiesSideBySide (shown dir.now) right result }
+{
+    Piece {
+        at: place(dir, x, y),
+        x,
+        y,
+        n: row_rest(dir, x).min(right - x),
+    }
+}

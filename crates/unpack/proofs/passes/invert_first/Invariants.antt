@@ -1,0 +1,5 @@
+use Rattle.unpack.proofs.Pixels.{FollowTo}
+use Rattle.unpack.proofs.passes.invert_first.Given as goal
+
+abbrev pub invariant-loop-pixel : goal.invariant-loop-pixel
+invariant-loop-pixel l = FollowTo l.most l.channels l.pixel l.initial.dst l.dst

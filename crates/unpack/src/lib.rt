@@ -1,0 +1,7 @@
+//! The samples of a strip or a tile, from its bytes (TIFF 6.0).
+#![tactic(auto)]
+
+mod passes;
+mod samples;
+
+pub use samples::{unpack, unpack_as};
