@@ -3,7 +3,8 @@ use Rattle.std.proofs.Common.{◌≡◌, ℕ, suc, ◌+◌, ◌<◌, true, List,
 use Rattle.std.proofs.Common.{length, get_or, zero, refl, sym, ap, ◌∙◌, arith, inl, inr, ◌-◌, map}
 use Rattle.std.proofs.Math.ListN.{get_or-append}
 use Rattle.std.proofs.lemmas.Bool.{and_parts, eqb-true, cases_lt}
-use Rattle.std.proofs.lemmas.List.{get_or-append_right, length-append, get_or-map, length-map, map-append}
+use Rattle.std.proofs.lemmas.List.{get_or-append_right, length-append, get_or-map, length-map}
+use Rattle.std.proofs.lemmas.List.{map-append}
 use Rattle.tiff_dirs.specs.declared.dir.Dir.{Dir}
 use Rattle.tiff_dirs.specs.Shown.{shown}
 use Rattle.tiff_dirs.specs.Block.{Level}
@@ -79,7 +80,8 @@ module _ (levels : List Level) (next d0 : Level) (n : ℕ) (chain : IsChain leve
       | inr above ↦
           let k-is : k ≡ n = omega (arith, all-long) in
           let suc-is : suc k ≡ n + 1 = omega arith in
-          rw (suc-is, last d, before k d (omega arith), k-is, ← inside n d (omega arith)) parts.width
+          rw (suc-is, last d, before k d (omega arith), k-is, ← inside n d (omega arith))
+          parts.width
     ];
     height = λ k d lt. elim (cases_lt (suc k) (n + 1)) [
       | inl below ↦ rw (before (suc k) d below, before k d (omega arith))
@@ -87,7 +89,8 @@ module _ (levels : List Level) (next d0 : Level) (n : ℕ) (chain : IsChain leve
       | inr above ↦
           let k-is : k ≡ n = omega (arith, all-long) in
           let suc-is : suc k ≡ n + 1 = omega arith in
-          rw (suc-is, last d, before k d (omega arith), k-is, ← inside n d (omega arith)) parts.height
+          rw (suc-is, last d, before k d (omega arith), k-is, ← inside n d (omega arith))
+          parts.height
     ];
     channels = λ k d lt. elim (cases_lt k (n + 1)) [
       | inl below ↦ rw (before k d below, before 0 d (omega arith))
@@ -117,7 +120,8 @@ chain_next dirs n first last next chain long few first-is last-is half =
     get_or-map shown dirs 0 first d0 (omega arith) ∙ ap shown (sym first-is) in
     let last-there : get_or (map shown dirs) n d0 ≡ shown last =
     get_or-map shown dirs n last d0 (omega arith) ∙ ap shown (sym last-is) in
-    let there : is_half_of (get_or (map shown dirs) 0 d0) (get_or (map shown dirs) n d0) (shown next)
+    let there : is_half_of (get_or (map shown dirs) 0 d0)
+    (get_or (map shown dirs) n d0) (shown next)
     ≡ true = rw (first-there, last-there) half in
     rw (map-append shown dirs (next ∷ []))
     (chain_more (map shown dirs) (shown next) d0 n chain all few there)

@@ -33,7 +33,11 @@ pub has_offsets : (width height channels depth : ℕ) (tile : Option (ℕ × ℕ
     → HasOffsets width height channels depth tile rows offsets
 has_offsets width height channels depth tile rows offsets w h ch t count low = record {
   count = count;
-  ends = λ i lt. omega (arith, low i lt, block_small width height channels depth tile rows i w h ch t);
+  ends = λ i lt. omega (
+    arith,
+    low i lt,
+    block_small width height channels depth tile rows i w h ch t,
+  );
 }
 
 -- ---- a level has fewer than 2^32 blocks

@@ -51,7 +51,8 @@ module _ (bytes : List ℕ) (big : Bool) (big-is : big ≡ is_big bytes) where
       let yes = rw big-is at follows.2 in
       let stored = follows.3 in
       let at-place = place_more bytes k place there in
-      let level : is_level bytes (k + 1) ≡ true = followed_is bytes k true (are.each k (omega arith))
+      let level : is_level bytes (k + 1) ≡ true =
+      followed_is bytes k true (are.each k (omega arith))
       (ap (λ (o : Option ℕ). option_map_or (is_next_level (is_big bytes) bytes (level_place bytes 0)
       (level_place bytes k)) o false) there ∙ yes) in
       let same : shown next.dir ≡ level_of bytes (k + 1) =

@@ -75,7 +75,8 @@ module _ (big : Bool) (bytes : List ℕ) where
   end_is_last one at none = rw none refl
 
   -- nor one whose next directory shows a fault,
-  pub fault_is_last : (one at place : ℕ) (fault : TiffFault) → next_directory big bytes at ≡ Some place
+  pub fault_is_last : (one at place : ℕ) (fault : TiffFault)
+      → next_directory big bytes at ≡ Some place
       → directory_fault big bytes place ≡ Some fault → is_followed big bytes one at ≡ false
   fault_is_last one at place fault there shown =
       ap (λ (o : Option ℕ). option_map_or (is_next_level big bytes one at) o false) there
@@ -87,7 +88,8 @@ module _ (big : Bool) (bytes : List ℕ) where
       → next_directory big bytes at ≡ Some place
       → FindsHalf {E = E} big bytes place first last (Ok next) → IsNext big bytes one at next
   next_of_half E one at place first last None first-is last-is more there half =
-      let no : is_half_of (level_at big bytes one) (level_at big bytes at) (level_at big bytes place)
+      let no : is_half_of (level_at big bytes one) (level_at big bytes at)
+      (level_at big bytes place)
       ≡ false = rw (← first-is, ← last-is) half in
       ap (λ (o : Option ℕ). option_map_or (is_next_level big bytes one at) o false) there
       ∙ next_is one at place
@@ -97,7 +99,8 @@ module _ (big : Bool) (bytes : List ℕ) where
       (and_false (is_none (directory_fault big bytes place)))
       ∙ and_false (not (is_one (level_at big bytes at)))
   next_of_half E one at place first last (Some next) first-is last-is more there half =
-      let yes : is_half_of (level_at big bytes one) (level_at big bytes at) (level_at big bytes place)
+      let yes : is_half_of (level_at big bytes one) (level_at big bytes at)
+      (level_at big bytes place)
       ≡ true = rw (← first-is, ← last-is) half.1 in
       let some : is_one (level_at big bytes at) ≡ false = rw (← last-is) more in (
         place,

@@ -64,7 +64,8 @@ pub outside_is : (big : Bool) (bytes : List ℕ) (at : ℕ) → (lies_inside big
     → outside_fault big bytes at ≡ Some DirOutside
 unfolding outside_fault
 outside_is big bytes at not-inside =
-    let no : lies_inside big bytes at ≡ false = false_from_ne_true (lies_inside big bytes at) not-inside in
+    let no : lies_inside big bytes at ≡ false =
+    false_from_ne_true (lies_inside big bytes at) not-inside in
     rw no refl
 
 pub inside_is : (big : Bool) (bytes : List ℕ) (at : ℕ) → IsInside big bytes at

@@ -1,6 +1,7 @@
 //! The levels of a file: each directory leads to the next.
 
-ghost use Rattle.std.specs.Prelude.{◌≡◌, ℕ, ◌+◌, ◌≤◌, ◌<◌, length, map, IfOk, IfSome, IsTrue, OnOk, ◌++◌};
+ghost use Rattle.std.specs.Prelude.{◌≡◌, ℕ, ◌+◌, ◌≤◌, ◌<◌, length, map, IfOk, IfSome, IsTrue};
+ghost use Rattle.std.specs.Prelude.{OnOk, ◌++◌};
 ghost use Rattle.std.specs.Prelude.{List, [], ◌∷◌};
 ghost use Rattle.std.specs.Option.{ForSome};
 ghost use Rattle.tiff_dirs.specs.Bytes.{number_at, is_big};

@@ -175,9 +175,9 @@ fn reads_the_wall(rt: HostRuntime) -> Result<(), Fail> {
 
 #[test]
 fn each_read_fails_in_turn(rt: HostRuntime) -> Result<(), Fail> {
-    // The header, the count, the entries, the first BitsPerSample, all of them, the offsets, the
-    // next offset. Of the other file the header, and of both directories the count, the entries,
-    // the next offset.
+    // The header, the count, the entries, the first BitsPerSample, all of them, the offsets and the
+    // next offset. Of the other file the header, and of both directories the count, the entries
+    // and the next offset.
     for (file, reads) in [(File::B(&[]), 7), (File::Two(&[]), 7)] {
         let bytes = file.bytes(rt.alloc())?;
         let mut reader = MemReader::new(&bytes, 0);

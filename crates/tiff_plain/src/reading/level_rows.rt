@@ -63,7 +63,7 @@ const PAGE: Level = (
     &[236],
 );
 
-pub(crate) static LEVEL_ROWS: [Row; 24] = [
+pub(crate) static LEVEL_ROWS: [Row; 26] = [
     // one directory
     ("a loop", A(&[(118, 8)]), LevelOfA),
     ("next directory outside", A(&[(121, 0xff)]), LevelOfA),
@@ -81,6 +81,8 @@ pub(crate) static LEVEL_ROWS: [Row; 24] = [
         Two(&[(188, 3), (196, 5)]),
         LevelOfA,
     ),
+    ("2 by 4 of 4 by 4", Two(&[(160, 4)]), LevelOfA),
+    ("3 by 2 of 4 by 4", Two(&[(148, 3)]), LevelOfA),
     (
         "a third",
         Two(&[(18, 6), (30, 6), (102, 6)]),

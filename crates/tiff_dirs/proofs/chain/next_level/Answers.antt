@@ -35,7 +35,8 @@ returns-in-Ok-clause-told g c = λ bytes is one at first last.
           rw (ne_eqb c.args.last.now.width 1 w.if-last-eq1.false) refl
     ] in (
       refl,
-      next_of_half c.args.big bytes g.row.B-Error.Denot one at c.in_ok-place.place (shown c.args.first.now)
+      next_of_half c.args.big bytes g.row.B-Error.Denot
+          one at c.in_ok-place.place (shown c.args.first.now)
           (shown c.args.last.now) c.in-Ok.next first last.level more there half,
     )
 

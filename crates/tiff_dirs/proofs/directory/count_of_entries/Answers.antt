@@ -19,7 +19,8 @@ returns-then-file-place-2-clause-told g c = λ bytes is.
     let l = g.met.B.ByteReader.lawful.told c.args.b.now bytes is in
     let part = (c.in_ok-read_at.ensures.told bytes is).1 in
     let count = rw (add-zero, c.from-place.ensures) at
-    (number_of_part c.args.big 2 0 c.from-place.result bytes c.read_at.new.buf part (omega arith)) in
+    (number_of_part c.args.big 2 0 c.from-place.result bytes c.read_at.new.buf part
+    (omega arith)) in
     let count-is = c.short_at-count.ensures ∙ count in
     outside_is c.args.big bytes c.args.place (λ yes.
     let h = inside_parts c.args.big bytes c.args.place yes in
@@ -30,7 +31,8 @@ returns-clause-told g c = λ bytes is.
     let l = g.met.B.ByteReader.lawful.told c.args.b.now bytes is in
     let part = (c.in_ok-read_at.ensures.told bytes is).1 in
     let count = rw (add-zero, c.from-place.ensures) at
-    (number_of_part c.args.big 2 0 c.from-place.result bytes c.read_at.new.buf part (omega arith)) in
+    (number_of_part c.args.big 2 0 c.from-place.result bytes c.read_at.new.buf part
+    (omega arith)) in
     let count-is = c.short_at-count.ensures ∙ count in
     let inside : IsInside c.args.big bytes c.args.place =
     record { low = omega arith; high = omega (arith, l, count-is) } in

@@ -26,7 +26,13 @@ blocks-2-preserved g c =
       covers = λ bytes is.
           let part = (c.in_ok-read_at.ensures.told bytes (lawful.same_bytes _ _ so.keeps ∙ is)).1 in
           let bytes-long : length c.read_at.new.buf ≡ c.min-more.result * 12 =
-          omega (arith, c.read_at.auto.buf, length-take {A = ℕ}, c.deref_mut.ensures.len, so.room) in
+          omega (
+            arith,
+            c.read_at.auto.buf,
+            length-take {A = ℕ},
+            c.deref_mut.ensures.len,
+            so.room,
+          ) in
           let entries : length c.read_at.new.buf / 12 ≡ c.min-more.result =
           omega (arith, bytes-long) in
           let scanned = c.scan.ensures bytes c.args.first c.blocks-2.done (omega arith) part

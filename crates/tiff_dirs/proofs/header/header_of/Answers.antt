@@ -33,7 +33,8 @@ returns c = λ bytes long part.
     let two : 2 ≤ length c.args.head.now = omega arith in
     let big = c.is_marked-big.ensures ∙ mark_of_part 77 bytes c.args.head.now part two in
     let v = number_of_part c.is_marked-big.result 2 2 0 bytes c.args.head.now part (omega arith) in
-    let p = number_of_part c.is_marked-big.result 4 4 0 bytes c.args.head.now part (omega arith) in (
+    let p = number_of_part c.is_marked-big.result 4 4 0 bytes c.args.head.now part
+    (omega arith) in (
       header_is_good bytes long
           (λ not-big. elim c.else-not-big.branch [
             | goal.else-not-big-via-then-not-big+else-not-is_marked w ↦

@@ -1,4 +1,5 @@
-use Rattle.std.proofs.Common.{◌≡◌, ℕ, ◌<◌, ◌≤◌, Bool, true, false, length, get_or, take, List, [], Vec}
+use Rattle.std.proofs.Common.{◌≡◌, ℕ, ◌<◌, ◌≤◌, Bool, true, false, length, get_or, take, List}
+use Rattle.std.proofs.Common.{[], Vec}
 use Rattle.std.proofs.Common.{Global, None, arith, sym, ap, ◌∙◌}
 use Rattle.tiff_dirs.specs.Field.{field_values, entry_value}
 use Rattle.tiff_dirs.specs.Block.{directory_blocks, offsets_tag}
@@ -74,7 +75,8 @@ returns-clause-told g c = λ bytes is at has picture.
     let le : n ≤ length all =
     omega (arith, all-long, blocks, c.from.ensures, c.if-from-blocks.false) in
     let are = λ (i : ℕ) (lt : i < n).
-    let there : get_or all i 0 ≡ value i = rw (← tag) (v.each i (omega (arith, all-long))) in there in
+    let there : get_or all i 0 ≡ value i = rw (← tag) (v.each i
+    (omega (arith, all-long))) in there in
     finds_so None (count_fault big bytes at)
     (λ (offsets : Vec ℕ Global). AreFirst c.blocks-blocks.result value offsets.items)
     (λ (offsets : Vec ℕ Global). offsets.items ≡ take n all)

@@ -14,7 +14,8 @@ overflow_cast-i-end c =
       arith,
       c.len-i-end.ensures,
       d.offsets_in.count,
-      few_blocks d.width d.height d.tile d.rows_per_strip d.width_in d.height_in d.tile_in d.rows_in,
+      few_blocks d.width d.height d.tile d.rows_per_strip
+          d.width_in d.height_in d.tile_in d.rows_in,
     )
 
 pub returns-then-not-has_inside : goal.returns-then-not-has_inside

@@ -1,4 +1,5 @@
-use Rattle.std.proofs.Common.{true, leb, ◌≡◌, ◌+◌, ◌*◌, ◌≤◌, length, arith, ◌∙◌, sym, refl, ◌-◌, None}
+use Rattle.std.proofs.Common.{true, leb, ◌≡◌, ◌+◌, ◌*◌, ◌≤◌, length, arith, ◌∙◌, sym, refl, ◌-◌}
+use Rattle.std.proofs.Common.{None}
 use Rattle.std.proofs.lemmas.Bool.{leb-true}
 use Rattle.tiff_dirs.specs.Field.{type_size, entry_value}
 use Rattle.tiff_dirs.specs.Inside.{AreValues}
