@@ -163,17 +163,29 @@ def ink(x, y):
     return [byte(255 - 80 * d), byte(10 * x)]
 
 
-def make(name, pages, order=LITTLE):
-    with open(name, "wb") as out:
-        out.write(tiff(order, pages))
+# The pictures by the names of their files, with the order of their bytes.
+PICTURES = {
+    "ball.tif": (LITTLE, [Page(64, 64, ball, rows=16)]),
+    "hills.tif": (LITTLE, [Page(96, 64, hills, RGB, rows=10)]),
+    "squares.tif": (LITTLE, [Page(32, 32, squares, rows=32)]),
+    "bricks.tif": (LITTLE, [Page(40, 24, bricks, RGB, tile=(16, 16))]),
+    "dunes.tif": (BIG, [Page(32, 20, dunes, depth=16, rows=8)]),
+    "rings.tif": (LITTLE, chain(Page(40, 24, rings, RGB, rows=24))),
+    "ink.tif": (LITTLE, [Page(24, 16, ink, WHITE_IS_ZERO, rows=5)]),
+}
+
+# A file that is cut short: of this picture all but its last byte.
+CUT = {"cut.tif": "dunes.tif"}
 
 
-make("ball.tif", [Page(64, 64, ball, rows=16)])
-make("hills.tif", [Page(96, 64, hills, RGB, rows=10)])
-make("squares.tif", [Page(32, 32, squares, rows=32)])
-make("bricks.tif", [Page(40, 24, bricks, RGB, tile=(16, 16))])
-make("dunes.tif", [Page(32, 20, dunes, depth=16, rows=8)], BIG)
-make("rings.tif", chain(Page(40, 24, rings, RGB, rows=24)))
-make("ink.tif", [Page(24, 16, ink, WHITE_IS_ZERO, rows=5)])
-with open("dunes.tif", "rb") as whole, open("cut.tif", "wb") as cut:
-    cut.write(whole.read()[:-1])
+def main():
+    for name, (order, pages) in PICTURES.items():
+        with open(name, "wb") as out:
+            out.write(tiff(order, pages))
+    for name, whole in CUT.items():
+        with open(whole, "rb") as bytes_of, open(name, "wb") as out:
+            out.write(bytes_of.read()[:-1])
+
+
+if __name__ == "__main__":
+    main()

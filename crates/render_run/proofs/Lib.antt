@@ -9,9 +9,10 @@ pub mod Ranges
 pub mod Appended
 pub mod Windows
 pub mod PieceValues
-pub mod GoodLevels
+pub mod SampleValues
 pub mod Replies
 pub mod Taken
 pub mod Written
+pub mod Endings
 pub mod RowValues
 pub mod Regions

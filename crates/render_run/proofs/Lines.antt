@@ -1,13 +1,16 @@
 -- The lines of a list one after the other, as a loop reads them.
-use Rattle.std.proofs.Common.{◌≡◌, ℕ, zero, suc, ◌+◌, ◌-◌, ◌<◌, ◌==◌, Bool, true, false, cond, List}
-use Rattle.std.proofs.Common.{[], ◌∷◌, ◌++◌, length, get_or, take, drop, position, Some, None}
-use Rattle.std.proofs.Common.{Result, Ok, Err, refl, sym, ap, ◌∙◌, append_assoc, add-one, arith}
+use Rattle.std.proofs.Common.{◌≡◌, ℕ, zero, suc, ◌+◌, ◌-◌, ◌<◌, ◌≤◌, ◌==◌, Bool, true, false, cond}
+use Rattle.std.proofs.Common.{List, [], ◌∷◌, ◌++◌, length, get_or, take, drop, position, Some, None}
+use Rattle.std.proofs.Common.{Ok, Err, refl, sym, ap, ◌∙◌, append_assoc, add-one, arith}
 use borrow.Author.Tests.{ltb-false}
+use Rattle.std.proofs.lemmas.Bool.{le-leb, lt-leb}
 use Rattle.std.proofs.lemmas.List.{append-nil, take_rest}
 use Rattle.std.proofs.lemmas.List.Sums.{fails_before_first}
 use Rattle.std.proofs.lemmas.List.Quantifiers.{position-Some}
 use Rattle.render_run.specs.declared.request.Request.{Request}
-use Rattle.render_run.specs.Grammar.{lines_of, request_of, with_request, requests_of}
+use Rattle.render_run.specs.declared.grammar.BadList.{BadList}
+use Rattle.render_run.specs.Grammar.{lines_of, request_of, with_request, requests_of, list_of}
+use Rattle.render_run.specs.Grammar.{Parsed, max_list_bytes, other_line, too_long, whole_list}
 
 -- ---- the first line
 
@@ -54,24 +57,44 @@ pub ruleset first_line = (lines_of_first, lines_of_last)
 -- ---- the requests so far
 
 -- what was read before, in front of what is still read
-abbrev pub with_front : List Request → Result (List Request) ℕ → Result (List Request) ℕ
+abbrev pub with_front : List Request → Parsed → Parsed
 with_front front (Ok rs) = Ok (front ++ rs)
-with_front front (Err line) = Err line
+with_front front (Err bad) = Err bad
 
 -- one request more stands in front of the rest
-regroup : (front : List Request) (number : ℕ) (r : Request) (rest : Result (List Request) ℕ)
+regroup : (front : List Request) (number : ℕ) (r : Request) (rest : Parsed)
     → with_front front (with_request number (Some r) rest) ≡ with_front (front ++ r ∷ []) rest
 regroup front number r (Ok rs) =
     ap (λ (xs : List Request). Ok xs) (sym (append_assoc front (r ∷ []) rs))
-regroup front number r (Err line) = refl
+regroup front number r (Err bad) = refl
+
+-- a line of this number is of another kind
+abbrev other : ℕ → BadList
+other number = record { line = number; why = other_line }
+
+-- a list of few bytes is what its lines say
+few_bytes : (bytes : List ℕ) → length bytes ≤ max_list_bytes
+    → requests_of 1 (lines_of bytes) ≡ list_of bytes
+unfolding list_of
+few_bytes bytes few = rw (le-leb (length bytes) max_list_bytes few) refl
+
+-- more bytes are no list
+pub many_bytes : (bytes : List ℕ) → max_list_bytes < length bytes
+    → list_of bytes ≡ Err (record { line = whole_list; why = too_long })
+unfolding list_of
+many_bytes bytes many = rw (lt-leb (length bytes) max_list_bytes many) refl
 
 -- before the first line
-pub none_read : (total : Result (List Request) ℕ) → with_front [] total ≡ total
-none_read (Ok rs) = refl
-none_read (Err line) = refl
+none_before : (total : Parsed) → with_front [] total ≡ total
+none_before (Ok rs) = refl
+none_before (Err bad) = refl
+
+pub none_read : (bytes : List ℕ) → length bytes ≤ max_list_bytes
+    → with_front [] (requests_of 1 (lines_of bytes)) ≡ list_of bytes
+none_read bytes few = none_before (requests_of 1 (lines_of bytes)) ∙ few_bytes bytes few
 
 module _ (front : List Request) (number : ℕ) (bytes line : List ℕ) (lines : List (List ℕ))
-    (total : Result (List Request) ℕ) where
+    (total : Parsed) where
   -- after a line that is a request
   pub one_more : (r : Request) → with_front front (requests_of number (lines_of bytes)) ≡ total
       → lines_of bytes ≡ line ∷ lines → request_of line ≡ Some r
@@ -85,16 +108,16 @@ module _ (front : List Request) (number : ℕ) (bytes line : List ℕ) (lines : 
 
   -- at the first line that is none
   pub ends_at : with_front front (requests_of number (lines_of bytes)) ≡ total
-      → lines_of bytes ≡ line ∷ lines → request_of line ≡ None → total ≡ Err number
+      → lines_of bytes ≡ line ∷ lines → request_of line ≡ None → total ≡ Err (other number)
   unfolding requests_of
   ends_at so_far first e =
-      let one : with_front front (requests_of number (lines_of bytes)) ≡ Err number =
+      let one : with_front front (requests_of number (lines_of bytes)) ≡ Err (other number) =
       rw (first, e) refl in
       sym so_far ∙ one
 
 -- after the last line
 pub all_read : (front : List Request) (number : ℕ) (bytes : List ℕ)
-    (total : Result (List Request) ℕ)
+    (total : Parsed)
     → with_front front (requests_of number (lines_of bytes)) ≡ total → bytes ≡ [] → total ≡ Ok front
 unfolding requests_of
 all_read front number bytes total so_far none =
@@ -102,4 +125,4 @@ all_read front number bytes total so_far none =
     rw none (ap (λ (xs : List Request). Ok xs) (append-nil front)) in
     sym so_far ∙ one
 
-pub ruleset read_so_far = (none_read, one_more, ends_at, all_read)
+pub ruleset read_so_far = (many_bytes, none_read, one_more, ends_at, all_read)

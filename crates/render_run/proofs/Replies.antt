@@ -1,12 +1,9 @@
 -- A reply that was made is the reply on the bytes.
 use Rattle.std.proofs.Common.{◌≡◌, ℕ, true, false, List, Result}
-use Rattle.std.proofs.Common.{Err, IfOk, refl, None, ◌<◌, ◌≤◌, ltb, map}
+use Rattle.std.proofs.Common.{Err, IfOk, refl, None, ◌<◌, ◌≤◌, ltb}
 use Rattle.tiff_dirs.specs.declared.fault.DirsError.{DirsError}
 use Rattle.tiff_dirs.specs.declared.fault.DirsError.TheVariants.{Fault, Reader, NoMemory}
 use Rattle.tiff_dirs.specs.declared.dirs.Dirs.{Dirs}
-use Rattle.std.specs.List.{range_with_len}
-use Rattle.tiff_dirs.specs.Shown.{shown}
-use Rattle.tile_layout.specs.Level.{Stored, stored_of, IsLayoutOf}
 use Rattle.render_run.specs.declared.request.Request.{Request}
 use Rattle.render_run.specs.declared.answer.Answer.{Answer}
 use Rattle.render_run.specs.declared.answer.Answer.TheVariants.{Pixels, NoLevel}
@@ -37,13 +34,6 @@ refused_told E bytes generation r (Fault fault) result is shown = rw is (rw show
 refused_told E bytes generation r (Reader e) result is told = rw is tt
 refused_told E bytes generation r NoMemory result is told = rw is tt
 
--- the layout of directories that are those of the bytes
-pub layout_of_read : (bytes : List ℕ) (dirs : Dirs) (layout : Stored) → layout ≡ stored_of dirs
-    → dirs.big ≡ is_big bytes
-    → map shown dirs.levels.items ≡ map (level_of bytes) (range_with_len 0 (stored_levels bytes))
-    → IsLayoutOf bytes layout
-layout_of_read bytes dirs layout of big levels = rw of (record { order = big; levels = levels })
-
 -- a level that is not stored
 pub no_level_reply : (bytes : List ℕ) (generation levels : ℕ) (r : Request)
     → first_fault bytes ≡ None → levels ≡ stored_levels bytes → levels ≤ r.level
@@ -57,7 +47,7 @@ no_level_reply bytes generation levels r none count le =
 -- the values of the region of a level that is stored
 pub pixels_reply : (bytes : List ℕ) (generation channels : ℕ) (values : List ℕ) (r : Request)
     → first_fault bytes ≡ None → r.level < stored_levels bytes
-    → channels ≡ (level_of bytes r.level).channels
+    → channels ≡ (level_of bytes r.level).shape.channels
     → values ≡ region_values (is_big bytes) bytes (level_of bytes r.level) r.x r.y r.w r.h
     → Pixels generation channels values ≡ reply_on bytes generation r
 unfolding reply_on

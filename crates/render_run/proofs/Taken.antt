@@ -1,11 +1,11 @@
 -- Reading a feed piece by piece.
-use Rattle.std.proofs.Common.{◌≡◌, ℕ, ◌+◌, ◌≤◌, List, [], ◌++◌, length, take, drop}
+use Rattle.std.proofs.Common.{◌≡◌, ℕ, ◌+◌, ◌<◌, ◌≤◌, List, [], ◌++◌, length, take, drop}
 use Rattle.std.proofs.Common.{Option, Some, sym, ap, ◌∙◌, arith}
 use Rattle.std.proofs.Math.Seq.{take-add}
 use Rattle.std.proofs.lemmas.List.{take_all, drop-drop, length-take, length-drop, length-append}
 use Rattle.tex_world.specs.Stream.{Feeds}
-use Rattle.render_run.specs.ListRead.{IsTaken}
-use Rattle.render_run.specs.Run.{IsReadToEnd}
+use Rattle.render_run.specs.Grammar.{max_list_bytes}
+use Rattle.render_run.specs.ListRead.{IsTaken, IsRead}
 
 -- nothing is left behind the bytes
 none_left : (bytes left : List ℕ) → drop (length bytes) left ≡ [] → length left ≤ length bytes
@@ -13,15 +13,34 @@ none_left bytes left none = omega (arith, length-drop (length bytes) left, ap le
 
 -- the end of the feed
 pub taken_end : (bytes buf : List ℕ) (n : ℕ) (old mid new : Option (List ℕ)) → IsTaken bytes old mid
-    → Feeds n buf mid new → n ≡ 0 → IsReadToEnd bytes old new
+    → Feeds n buf mid new → n ≡ 0 → IsRead bytes old new
 taken_end bytes buf n old mid new taken feeds ended = record {
-  all = λ left is.
-      let none = (feeds.end (drop (length bytes) left) (taken.rest left is)).0 ended in
-      sym (taken.front left is ∙ take_all (length bytes) left (none_left bytes left none));
-  end = λ left is.
-      let none = (feeds.end (drop (length bytes) left) (taken.rest left is)).0 ended in
-      feeds.rest (drop (length bytes) left) (taken.rest left is)
-      ∙ ap (λ (l : List ℕ). Some (drop n l)) none ∙ ap (λ (k : ℕ). Some (drop k [])) ended;
+  taken = record {
+    front = taken.front;
+    enough = taken.enough;
+    rest = λ left is. none_more left is;
+  };
+  to_end = λ few. record {
+    all = λ left is.
+        let none = (feeds.end (drop (length bytes) left) (taken.rest left is)).0 ended in
+        sym (taken.front left is ∙ take_all (length bytes) left (none_left bytes left none));
+    end = λ left is.
+        let none = (feeds.end (drop (length bytes) left) (taken.rest left is)).0 ended in
+        none_more left is ∙ ap Some none;
+  };
+}
+  where
+    none_more : (left : List ℕ) → old ≡ Some left → new ≡ Some (drop (length bytes) left)
+    none_more left is =
+        feeds.rest (drop (length bytes) left) (taken.rest left is)
+        ∙ ap (λ (k : ℕ). Some (drop k (drop (length bytes) left))) ended
+
+-- more bytes than a list has
+pub taken_many : (bytes : List ℕ) (old new : Option (List ℕ)) → IsTaken bytes old new
+    → max_list_bytes < length bytes → IsRead bytes old new
+taken_many bytes old new taken many = record {
+  taken = taken;
+  to_end = λ few. absurd (omega (arith, few));
 }
 
 -- one piece more

@@ -4,8 +4,8 @@ use Rattle.std.proofs.Common.{subst, ◌∙◌}
 use Rattle.tex_world.specs.Stream.{Appends, AppendsPart}
 use Rattle.render_run.specs.declared.answer.Answer.{Answer}
 use Rattle.render_run.specs.Line.{line_of}
-use Rattle.render_run.specs.Reply.{is_refusal}
-use Rattle.render_run.specs.Writing.{Says, Writes, WritesPart}
+use Rattle.render_run.specs.Basis.{is_refusal}
+use Rattle.render_run.specs.Written.{Says, Writes, WritesPart}
 
 -- the text that was put is that of the line
 pub wrote : {E : Type 0} (answer line : Answer) (text : List ℕ) (refused : Bool)

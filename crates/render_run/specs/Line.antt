@@ -6,13 +6,16 @@ use Rattle.tiff_dirs.specs.Code.{code_of}
 use Rattle.tiff_dirs.specs.declared.fault.TiffFault.{TiffFault}
 use Rattle.tiff_dirs.specs.declared.fault.TiffFault.TheVariants.{FieldMissing, FieldShape}
 use Rattle.tiff_dirs.specs.declared.fault.TiffFault.TheVariants.{Unsupported, DataOutside}
+use Rattle.render_run.specs.declared.grammar.BadList.{BadList}
+use Rattle.render_run.specs.Field.{space}
+use Rattle.render_run.specs.Grammar.{line_feed}
 use Rattle.render_run.specs.declared.answer.Answer.{Answer}
 use Rattle.render_run.specs.declared.answer.Answer.TheVariants.{Pixels, NoSuchFile, BadFile, Again}
 use Rattle.render_run.specs.declared.answer.Answer.TheVariants.{NoLevel, ReadFault, NoMemory}
 
 -- a number behind a space, in decimal without leading zeros
 abbrev pub field : ℕ → List ℕ
-field n = 32 ∷ decimal n
+field n = space ∷ decimal n
 
 -- numbers, each behind a space
 abbrev pub fields : List ℕ → List ℕ
@@ -43,9 +46,9 @@ text_of NoMemory = codes "no memory"
 
 -- The line with its line feed.
 abbrev pub line_of : Answer → List ℕ
-line_of answer = text_of answer ++ 10 ∷ []
+line_of answer = text_of answer ++ line_feed ∷ []
 
--- The line that says which line of a list is no request, or 0 for all of the list, and why, with
--- its line feed.
-abbrev pub bad_list_of : ℕ → ℕ → List ℕ
-bad_list_of line why = codes "bad list" ++ field line ++ field why ++ 10 ∷ []
+-- The line that says at which line, or 0 for all of the list, and why a list is none, with its line
+-- feed.
+abbrev pub bad_list_line : BadList → List ℕ
+bad_list_line bad = codes "bad list" ++ field bad.line ++ field bad.why ++ line_feed ∷ []

@@ -1,20 +1,49 @@
--- What does reading a feed to its end say?
-use Rattle.std.specs.Prelude.{◌≡◌, ℕ, ◌<◌, ◌≤◌, List, length, take, drop, Option, Some}
-use Rattle.std.specs.Prelude.{⊤}
+-- What does reading a list from a feed say?
+use Rattle.std.specs.Prelude.{◌≡◌, ℕ, ◌≤◌, List, [], length, take, drop, Option, Some}
+use Rattle.std.specs.Prelude.{Result, Ok, Err, ⊤}
 use Rattle.std.specs.Option.{ForSome}
+use Rattle.std.specs.Global.{Vec}
 use Rattle.tex_world.specs.Counts.{Rises}
+use Rattle.render_run.specs.declared.request.Request.{Request}
 use Rattle.render_run.specs.declared.list.ListError.{ListError}
-use Rattle.render_run.specs.declared.list.ListError.TheVariants.{Failed, TooLong, NoMemory}
-use Rattle.render_run.specs.Grammar.{most_bytes}
+use Rattle.render_run.specs.declared.list.ListError.TheVariants as list
+use Rattle.render_run.specs.declared.grammar.ParseError.{ParseError}
+use Rattle.render_run.specs.declared.grammar.ParseError.TheVariants as parsing
+use Rattle.render_run.specs.Around.{FeedState}
+use Rattle.render_run.specs.Grammar.{Parsed, max_list_bytes, list_of}
 
--- the bytes came off the front of what the feed had left
+-- the bytes came off the front of what the feed had left, where it tells that
 pub record IsTaken (bytes : List ℕ) (old new : Option (List ℕ)) : Type 0 where
   pub front : ForSome old (λ left. bytes ≡ take (length bytes) left)
   pub enough : ForSome old (λ left. length bytes ≤ length left)
   pub rest : ForSome old (λ left. new ≡ Some (drop (length bytes) left))
 
--- Why the list was not read: the feed failed, or it gave more bytes than a list has.
-abbrev pub ListCause : ℕ → ℕ → Option (List ℕ) → ListError → Type 0
-ListCause old new left Failed = Rises old new
-ListCause old new left TooLong = ForSome left (λ bytes. most_bytes < length bytes)
-ListCause old new left NoMemory = ⊤
+-- the feed was read to its end, and these were its bytes, where it tells them
+pub record IsReadToEnd (bytes : List ℕ) (old new : Option (List ℕ)) : Type 0 where
+  pub all : ForSome old (λ left. left ≡ bytes)
+  pub end : ForSome old (λ left. new ≡ Some [])
+
+-- The bytes came off the front of the feed, and they are all that it had unless they are more than
+-- a list has.
+pub record IsRead (bytes : List ℕ) (old new : Option (List ℕ)) : Type 0 where
+  pub taken : IsTaken bytes old new
+  pub to_end : length bytes ≤ max_list_bytes → IsReadToEnd bytes old new
+
+-- The bytes that were read from the feed are a list that says so.
+pub record FeedSays (said : Parsed) (old new : FeedState) : Type 0 where
+  pub list : List ℕ
+  pub read : IsRead list old.left new.left
+  pub says : list_of list ≡ said
+
+-- ---- refusals
+
+-- why the bytes were not read
+abbrev pub ListCause : FeedState → FeedState → ListError → Type 0
+ListCause old new list.Failed = Rises old.faults new.faults
+ListCause old new list.NoMemory = ⊤
+
+-- exactly what the list says, want of memory aside
+abbrev pub Parses : List ℕ → Result (Vec Request) ParseError → Type 0
+Parses bytes (Ok requests) = list_of bytes ≡ Ok requests.items
+Parses bytes (Err (parsing.Bad bad)) = list_of bytes ≡ Err bad
+Parses bytes (Err parsing.NoMemory) = ⊤

@@ -1,88 +1,117 @@
 -- What has the top call done when it ends with a status? (docs/REQUESTS.md, "Statuses")
-use Rattle.std.specs.Prelude.{◌≡◌, ℕ, ◌+◌, ◌<◌, ◌≤◌, Bool, List, [], ◌∷◌, ◌++◌, take, Option, Some}
-use Rattle.std.specs.Prelude.{IsSome, Ok, ⊤, if◌then◌else◌}
-use Rattle.std.specs.Option.{ForSome}
+use Rattle.std.specs.Prelude.{◌≡◌, ◌⊎◌, ℕ, ◌+◌, ◌<◌, ◌≤◌, Bool, List, take, Option}
+use Rattle.std.specs.Prelude.{if◌then◌else◌}
 use Rattle.std.specs.List.{flat_map, list_any, count_by, AllPairs}
-use Rattle.tex_world.specs.Counts.{last_count, RisesByAtLeast}
+use Rattle.tex_world.specs.Counts.{last_count, Rises, RisesByAtLeast}
 use Rattle.tex_world.specs.World.{Files}
 use Rattle.tex_world.specs.Folder.{FolderState}
-use Rattle.tex_world.specs.Stream.{AppendsPart}
+use Rattle.tex_world.specs.Stream.{Appends, AppendsPart}
 use Rattle.render_run.specs.declared.request.Request.{Request}
-use Rattle.render_run.specs.Grammar.{list_of}
+use Rattle.render_run.specs.declared.prepare.Ending.{Ending}
+use Rattle.render_run.specs.Status as status
+use Rattle.render_run.specs.Around.{SourceState, Around, Inputs, Progress, Catalog, inputs_of}
+use Rattle.render_run.specs.Around.{progress_of, catalog_of, source_of_folder}
 use Rattle.render_run.specs.Line.{line_of}
-use Rattle.render_run.specs.Reply.{Placed, Meets, is_refusal, is_read_fault, is_again}
+use Rattle.render_run.specs.Basis.{is_refusal, basis_of, is_fault, is_move}
+use Rattle.render_run.specs.Reply.{Placed, MeetsAll}
 use Rattle.render_run.specs.Fresh.{IsFresher}
+use Rattle.render_run.specs.Ending.{IsPrepared, IsEnded, status_of, ending_text}
 
--- each request has one line that meets it, in order
-abbrev pub MeetsAll : Files → List Request → List Placed → Type 0
-MeetsAll files [] [] = ⊤
-MeetsAll files [] (line ∷ lines) = ⊥
-MeetsAll files (r ∷ requests) [] = ⊥
-MeetsAll files (r ∷ requests) (line ∷ lines) = Meets files r line × MeetsAll files requests lines
+-- ---- the lines
 
 -- some line is a refusal
 abbrev pub some_refused : List Placed → Bool
 some_refused lines = list_any (λ line. is_refusal line.answer) lines
 
--- how many lines are `read fault`
+-- how many lines rest on a fault of the source
 abbrev pub read_faults : List Placed → ℕ
-read_faults lines = count_by (λ line. is_read_fault line.answer) lines
+read_faults lines = count_by (λ line. is_fault (basis_of line.answer)) lines
 
--- how many lines are `again`
+-- how many lines rest on a newer generation that was met
 abbrev pub agains : List Placed → ℕ
-agains lines = count_by (λ line. is_again line.answer) lines
+agains lines = count_by (λ line. is_move (basis_of line.answer)) lines
 
 -- the text of the lines, each with its line feed
 abbrev pub lines_text : List Placed → List ℕ
 lines_text lines = flat_map (λ line. line_of line.answer) lines
 
--- The feed was read to its end, and these were its bytes, where it tells them.
-pub record IsReadToEnd (bytes : List ℕ) (old new : Option (List ℕ)) : Type 0 where
-  pub all : ForSome old (λ left. left ≡ bytes)
-  pub end : ForSome old (λ left. new ≡ Some [])
-
--- The bytes were appended to what the sink held, where it tells that.
-abbrev pub IsWritten : List ℕ → Option (List ℕ) → Option (List ℕ) → Type 0
-IsWritten bytes old new = ForSome old (λ held. new ≡ Some (held ++ bytes))
-
--- The requests were answered: the text of one line for each was written, and each meets its request
--- over the files of the world. No line is older than those before it on its file. The status is 1
--- where some line is a refusal, else 0. The `read fault` lines are at most as many as the folder's
--- faults rose, the `again` lines as its moves did.
-pub record Answers (files : Files) (requests : List Request) (held_old held_new : Option (List ℕ))
-    (old new : FolderState) (status : ℕ) : Type 0 where
-  pub lines : List Placed
-  pub met : MeetsAll files requests lines
+-- What the lines for the requests tell: each meets its request, and none is older than those before
+-- it on its file. The `read fault` lines are at most as many as the source's faults rose, the
+-- `again` lines as its moves did.
+pub record AreLinesFor (catalog : Catalog) (requests : List Request) (old new : SourceState)
+    (lines : List Placed) : Type 0 where
+  pub met : MeetsAll catalog requests lines
   pub fresh : AllPairs IsFresher lines
-  pub written : IsWritten (lines_text lines) held_old held_new
-  pub refusal : status ≡ (if some_refused lines then 1 else 0)
   pub faults : RisesByAtLeast (read_faults lines) old.faults new.faults
   pub moves : RisesByAtLeast (agains lines) old.moves new.moves
 
--- A first part of the lines for the first so many requests was written, each of which meets its
--- request.
-pub record AnswersPart (files : Files) (requests : List Request)
-    (held_old held_new : Option (List ℕ)) (old new : FolderState) : Type 0 where
+-- The requests were answered: one line for each was written. The status tells whether some line is
+-- a refusal.
+pub record Answers (catalog : Catalog) (requests : List Request) (old new : Progress) (ends : ℕ)
+    : Type 0 where
+  pub lines : List Placed
+  pub lines_for : AreLinesFor catalog requests old.source new.source lines
+  pub written : Appends (lines_text lines) old.sink.holds new.sink.holds
+  pub refusal : ends ≡ (if some_refused lines then status.with_refusals else status.all_answered)
+
+-- A first part of the lines for the first so many requests was written.
+pub record AnswersPart (catalog : Catalog) (requests : List Request) (old new : Progress)
+    : Type 0 where
   pub count : ℕ
   pub lines : List Placed
-  pub met : MeetsAll files (take count requests) lines
-  pub fresh : AllPairs IsFresher lines
-  pub part : AppendsPart (lines_text lines) held_old held_new
-  pub faults : RisesByAtLeast (read_faults lines) old.faults new.faults
-  pub moves : RisesByAtLeast (agains lines) old.moves new.moves
+  pub lines_for : AreLinesFor catalog (take count requests) old.source new.source lines
+  pub part : AppendsPart (lines_text lines) old.sink.holds new.sink.holds
+
+-- ---- the top call
+
+-- the folder and the feed around the call
+abbrev pub inputs_in : Around → Inputs
+inputs_in around = inputs_of around.folder around.feed
+
+-- the source of the files and the sink around the call
+abbrev pub progress_in : Around → Progress
+progress_in around = progress_of (source_of_folder around.folder) around.sink
 
 -- The folder of the path was entered, the feed was read to its end, its bytes are a list, and all
--- of that was answered.
-pub record IsAnswered (files : Files) (path : Option (List ℕ))
-    (fed_old fed_new held_old held_new : Option (List ℕ)) (old new : FolderState) (status : ℕ)
+-- of that was answered over the files of the folder.
+pub record IsAnswered (files : Files) (path : Option (List ℕ)) (old new : Around) (ends : ℕ)
     : Type 0 where
-  pub has_path : IsSome path
-  pub folder : new.entered ≡ path
-  pub list : List ℕ
-  pub fed : IsReadToEnd list fed_old fed_new
   pub requests : List Request
-  pub listed : list_of list ≡ Ok requests
-  pub answers : Answers files requests held_old held_new old new status
+  pub prepared : IsPrepared path (inputs_in old) (inputs_in new) requests
+  pub answers : Answers (catalog_of files new.folder) requests (progress_in old) (progress_in new)
+      ends
+
+-- No list was answered: an ending has its cause, and its text was written.
+pub record Stops (files : Files) (path : Option (List ℕ)) (old new : Around) (ends : ℕ)
+    : Type 0 where
+  pub ending : Ending
+  pub of_status : status_of ending ≡ ends
+  pub ended : IsEnded files path (inputs_in old) (inputs_in new) ending
+  pub written : Appends (ending_text ending) old.sink.holds new.sink.holds
+
+-- A first part of the text of an ending was written, which has its cause.
+pub record StopsPart (files : Files) (path : Option (List ℕ)) (old new : Around) : Type 0 where
+  pub ending : Ending
+  pub ended : IsEnded files path (inputs_in old) (inputs_in new) ending
+  pub part : AppendsPart (ending_text ending) old.sink.holds new.sink.holds
+
+-- A first part of the lines for a list was written.
+pub record ListPart (files : Files) (path : Option (List ℕ)) (old new : Around) : Type 0 where
+  pub requests : List Request
+  pub prepared : IsPrepared path (inputs_in old) (inputs_in new) requests
+  pub answers : AnswersPart (catalog_of files new.folder) requests (progress_in old)
+      (progress_in new)
+
+-- The sink failed, and a first part of what was to be written was: of an ending, or of the lines
+-- for a list.
+pub record BreaksOff (files : Files) (path : Option (List ℕ)) (old new : Around) : Type 0 where
+  pub failed : Rises old.sink.faults new.sink.faults
+  pub part : StopsPart files path old new ⊎ ListPart files path old new
+
+-- Nothing was written, and the mark for too many files stays.
+pub record WritesNothing (old new : Around) : Type 0 where
+  pub sink : new.sink.holds ≡ old.sink.holds
+  pub mark : new.folder.over ≡ old.folder.over
 
 -- As many taps were given back as were made.
 pub record GivesTapsBack (old new : FolderState) : Type 0 where
@@ -90,3 +119,20 @@ pub record GivesTapsBack (old new : FolderState) : Type 0 where
   pub returned : old.returned ≤ new.returned
   pub alike : new.made < last_count → new.returned < last_count
       → new.made + old.returned ≡ old.made + new.returned
+
+-- What the top call has done, by the status that it ends with.
+pub record Runs (files : Files) (path : Option (List ℕ)) (old new : Around) (ends : ℕ)
+    : Type 0 where
+  -- all of the list was answered
+  pub answered : ends ≤ status.with_refusals → IsAnswered files path old new ends
+  -- no list was answered, for the cause that is written
+  pub stopped : status.bad_words ≤ ends → ends ≤ status.input_fault
+      → Stops files path old new ends
+  -- the sink failed, and a first part of what was to be written was
+  pub cut : ends ≡ status.not_written → BreaksOff files path old new
+  -- no memory was found, and nothing was written
+  pub nothing : ends ≡ status.no_memory → WritesNothing old new
+  -- there is no other status
+  pub statuses : ends ≤ status.no_memory
+  -- however it ends, each tap that was made was given back
+  pub taps : GivesTapsBack old.folder new.folder

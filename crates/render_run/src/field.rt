@@ -6,6 +6,15 @@ ghost use Rattle.render_run.specs.Field as spec;
 
 use std::str::from_utf8;
 
+/// The most digits of a number.
+const MAX_DIGITS: usize = 10;
+
+/// The largest number that may have a `-` and has none.
+const MAX_ABOVE: u32 = i32::MAX as u32;
+
+/// The largest number behind a `-`.
+const MAX_BELOW: u32 = 1 << 31;
+
 /// The index of the first byte that equals `byte`.
 pub(crate) fn first_index(text: &[u8], byte: u8) -> Option<usize>
     ensures value { result ≡ position (λ b. b == byte) text.now }
@@ -52,12 +61,12 @@ pub(crate) fn name(text: &[u8]) -> Option<&str>
     from_utf8(text).ok()
 }
 
-#[tactic(auto, unfolding(crate::specs::Field::number_of))]
+#[tactic(auto, unfolding(crate::specs::Field::spelled_number))]
 fn number(text: &[u8], limit: u32) -> Option<u32>
-    ensures value { result ≡ spec.number_of limit text.now }
+    ensures value { result ≡ spec.spelled_number limit text.now }
     ensures within { IfSome result (λ n. n ≤ limit) }
 {
-    if text.is_empty() || text.len() > 10 {
+    if text.is_empty() || text.len() > MAX_DIGITS {
         return None;
     }
     let number = digits_number(text)?;
@@ -67,19 +76,19 @@ fn number(text: &[u8], limit: u32) -> Option<u32>
     Some(number as u32)
 }
 
-#[tactic(auto, unfolding(crate::specs::Field::signed_number_of))]
+#[tactic(auto, unfolding(crate::specs::Field::spelled_signed))]
 fn signed_number(text: &[u8]) -> Option<i32>
-    ensures { result ≡ spec.signed_number_of text.now }
+    ensures { result ≡ spec.spelled_signed text.now }
 {
     match text {
-        [b'-', digits @ ..] => number(digits, 1 << 31).map(|n| (-i64::from(n)) as i32),
-        _ => number(text, i32::MAX as u32).map(|n| n as i32),
+        [b'-', digits @ ..] => number(digits, MAX_BELOW).map(|n| (-i64::from(n)) as i32),
+        _ => number(text, MAX_ABOVE).map(|n| n as i32),
     }
 }
 
 #[tactic(auto, unfolding(crate::specs::Field::digits_number))]
 fn digits_number(text: &[u8]) -> Option<u64>
-    requires { length text.now ≤ 19 }
+    requires { length text.now ≤ spec.max_digits }
     ensures { result ≡ spec.digits_number text.now }
 {
     let mut number = 0u64;

@@ -2,21 +2,43 @@
 
 ghost use Rattle.std.specs.Prelude.{◌≡◌, ◌<◌, ◌≤◌, length, IfOk, [], ◌∷◌};
 ghost use Rattle.std.specs.Option.{IfNone, IfSome, option_map};
-ghost use Rattle.render_run.specs.Grammar.{lines_of, region_of, request_in, request_of, most_bytes};
-ghost use Rattle.render_run.specs.Parse.{Parses};
+ghost use Rattle.render_run.specs.Grammar.{lines_of, region_of, request_in, request_of};
+ghost use Rattle.render_run.specs.ListRead.{Parses};
 
 use crate::field::{first_index, name, next_field, next_number, next_signed};
 use crate::request::{Name, Request};
 use std::alloc::{AllocError, AllocFailed, Global};
 
-/// The most texels that a region has.
-const MOST_TEXELS: u64 = 1048576;
+/// The most bytes that a list has.
+pub(crate) const MAX_LIST_BYTES: usize = 16777216;
 
-/// Why a list was not read.
+/// The most texels that a region has.
+const MAX_TEXELS: u64 = 1048576;
+
+/// The largest number that may have no `-`.
+const MAX_NUMBER: u32 = u32::MAX;
+
+/// The cause where a line is of another kind.
+const OTHER_LINE: u32 = 1;
+
+/// The cause where the list has too many bytes.
+const TOO_LONG: u32 = 9;
+
+/// What stands for all of the list in place of a line.
+const WHOLE_LIST: u32 = 0;
+
+/// At which line bytes are no list, counted from 1, and why.
+#[derive(Clone, Copy, Debug, PartialEq, Eq)]
+pub(crate) struct BadList {
+    pub(crate) line: u32,
+    pub(crate) why: u32,
+}
+
+/// Why there are no requests.
 #[derive(Debug, Drop)]
 pub(crate) enum ParseError {
-    /// This line, counted from 1, is the first that is no request.
-    Bad { line: u32 },
+    /// The bytes are no list.
+    Bad(BadList),
     /// No memory was found.
     NoMemory,
 }
@@ -41,18 +63,26 @@ impl<T: Drop> From<AllocFailed<T>> for ParseError {
     }
 }
 
-/// The requests of a list, which has at most 16777216 bytes.
+/// The requests of the list that the bytes are.
 #[tactic(auto, unfolding(crate::specs::Grammar::list_of), using(crate::proofs::Lines::read_so_far))]
 pub(crate) fn parse(alloc: Global, bytes: &[u8]) -> Result<Vec<Request>, ParseError>
-    requires { length bytes.now ≤ most_bytes }
     ensures { Parses bytes.now result }
 {
+    if bytes.len() > MAX_LIST_BYTES {
+        return Err(ParseError::Bad(BadList {
+            line: WHOLE_LIST,
+            why: TOO_LONG,
+        }));
+    }
     let mut requests = Vec::new(alloc);
     let mut rest = bytes;
     let mut number = 1;
     'lines: while let Some((line, after)) = next_line(rest) {
         let Some(next) = request(alloc, line)? else {
-            return Err(ParseError::Bad { line: number });
+            return Err(ParseError::Bad(BadList {
+                line: number,
+                why: OTHER_LINE,
+            }));
         };
         requests.push(next)?;
         rest = after;
@@ -125,13 +155,13 @@ fn request(alloc: Global, line: &[u8]) -> Result<Option<Request>, AllocError>
 fn region_in(fields: &[u8]) -> Option<Region<'_>>
     ensures { option_map request_in result ≡ region_of fields.now }
 {
-    let (level, rest) = next_number(fields, u32::MAX)?;
+    let (level, rest) = next_number(fields, MAX_NUMBER)?;
     let (x, rest) = next_signed(rest)?;
     let (y, rest) = next_signed(rest)?;
-    let (w, rest) = next_number(rest, u32::MAX)?;
-    let (h, rest) = next_number(rest, u32::MAX)?;
+    let (w, rest) = next_number(rest, MAX_NUMBER)?;
+    let (h, rest) = next_number(rest, MAX_NUMBER)?;
     let name = name(rest)?;
-    if u64::from(w) * u64::from(h) > MOST_TEXELS {
+    if u64::from(w) * u64::from(h) > MAX_TEXELS {
         return None;
     }
     Some(Region {
@@ -143,6 +173,3 @@ fn region_in(fields: &[u8]) -> Option<Region<'_>>
         name,
     })
 }
-
-#[cfg(test)]
-mod tests;

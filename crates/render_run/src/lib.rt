@@ -3,25 +3,23 @@
 #![tactic(auto)]
 
 mod answer;
-mod answer_list;
 mod answering;
-mod ending;
 mod field;
 mod grammar;
+mod level_rows;
 mod line;
 mod list;
 mod overlap;
 mod prepare;
+mod reading;
 mod region;
 mod reply;
 mod request;
-mod samples;
-mod tap_reader;
+mod sample_values;
+mod span;
 mod top;
 mod window;
-mod words;
-mod writing;
 
 pub use answer::{Answer, Values};
 pub use request::{Name, Request};
-pub use top::run;
+pub use top::{NO_MEMORY, NOT_WRITTEN, run};

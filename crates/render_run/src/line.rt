@@ -1,16 +1,22 @@
-//! The text of an answer line.
+//! The lines of the answers: their text, and writing it.
 
-ghost use Rattle.std.specs.Prelude.{◌≡◌, ◌++◌, IfOk, OnOk};
+ghost use Rattle.std.specs.Prelude.{◌≡◌, ◌≤◌, ◌++◌, IfOk, OnOk, OnErr};
 ghost use Rattle.std.specs.String.{string_bytes};
-ghost use Rattle.render_run.specs.Line.{fields, fault_text, text_of, line_of, bad_list_of};
+ghost use Rattle.tex_world.specs.Counts.{Rises};
+ghost use Rattle.tex_world.specs.Stream.{Appends, AppendsPart};
+ghost use Rattle.render_run.specs.Basis.{is_refusal};
+ghost use Rattle.render_run.specs.Line.{fields, fault_text, text_of, line_of, bad_list_line};
+ghost use Rattle.render_run.specs.Written.{Writes, WritesPart};
 
 use crate::answer::Answer;
+use crate::grammar::BadList;
 use std::alloc::{AllocError, Global};
 use std::fmt::Write;
+use tex_world::{Failed, Sink};
 use tiff_dirs::TiffFault;
 
 /// The line of an answer, with its line feed.
-pub(crate) fn line_text(alloc: Global, answer: &Answer) -> Result<String, AllocError>
+fn line_text(alloc: Global, answer: &Answer) -> Result<String, AllocError>
     ensures { IfOk result (λ s. string_bytes s ≡ line_of answer.now) }
 {
     let mut text = String::new(alloc);
@@ -19,10 +25,11 @@ pub(crate) fn line_text(alloc: Global, answer: &Answer) -> Result<String, AllocE
     Ok(text)
 }
 
-/// The line that says why a list was not read, with its line feed.
-pub(crate) fn bad_list_text(alloc: Global, line: u32, why: u32) -> Result<String, AllocError>
-    ensures { IfOk result (λ s. string_bytes s ≡ bad_list_of line why) }
+/// The line that says why a list is none, with its line feed.
+pub(crate) fn bad_list_text(alloc: Global, bad: BadList) -> Result<String, AllocError>
+    ensures { IfOk result (λ s. string_bytes s ≡ bad_list_line bad) }
 {
+    let BadList { line, why } = bad;
     format!(in alloc; "bad list {line} {why}\n")
 }
 
@@ -74,5 +81,41 @@ fn push_fault(text: &mut String, fault: &TiffFault) -> Result<(), AllocError>
     }
 }
 
-#[cfg(test)]
-mod tests;
+/// The answer is a refusal.
+fn refuses(answer: &Answer) -> bool
+    ensures { result ≡ is_refusal answer.now }
+{
+    !matches!(answer, Answer::Pixels { .. })
+}
+
+/// Writes a text, and hands back whether it is a refusal.
+fn put_text<O: Sink>(out: &mut O, text: &[u8], refused: bool) -> Result<bool, Failed>
+    ensures ok { OnOk result (Appends text.now (O.holds out.old) (O.holds out.new)) }
+    ensures same { IfOk result (λ said. said ≡ refused) }
+    ensures part { OnErr result (AppendsPart text.now (O.holds out.old) (O.holds out.new)) }
+    ensures faults { O.faults out.old ≤ O.faults out.new }
+    ensures cause { OnErr result (Rises (O.faults out.old) (O.faults out.new)) }
+{
+    match out.put(text) {
+        Ok(()) => Ok(refused),
+        Err(failed) => Err(failed),
+    }
+}
+
+/// Writes the line of an answer, or `no memory` where no memory is found for its text, and says
+/// whether it is a refusal.
+pub(crate) fn put_answer<O: Sink>(
+    alloc: Global,
+    out: &mut O,
+    answer: &Answer,
+) -> Result<bool, Failed>
+    ensures ok { IfOk result (Writes answer.now (O.holds out.old) (O.holds out.new)) }
+    ensures part { OnErr result (WritesPart answer.now (O.holds out.old) (O.holds out.new)) }
+    ensures faults { O.faults out.old ≤ O.faults out.new }
+    ensures cause { OnErr result (Rises (O.faults out.old) (O.faults out.new)) }
+{
+    match line_text(alloc, answer) {
+        Ok(text) => put_text(out, text.as_bytes(), refuses(answer)),
+        Err(_) => put_text(out, b"no memory\n", true),
+    }
+}

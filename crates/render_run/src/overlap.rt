@@ -14,7 +14,7 @@ pub(crate) struct Overlap {
 impl Overlap {
     /// How `count` places from `start` on meet a side of `size` places.
     pub(crate) fn new(start: i32, count: u32, size: u32) -> Overlap
-        ensures { IsOverlap start count size result.before result.first result.inside result.after }
+        ensures { IsOverlap start count size result }
     {
         let (before, first) = if start < 0 {
             (start.unsigned_abs().min(count), 0)

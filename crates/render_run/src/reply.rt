@@ -2,8 +2,9 @@
 
 ghost use Rattle.std.specs.Prelude.{◌≡◌, IfOk};
 ghost use Rattle.std.specs.Option.{ForSome};
+ghost use Rattle.render_run.specs.Basis.{OnBytes, basis_of};
 ghost use Rattle.render_run.specs.Reply.{reply_on};
-ghost use Rattle.render_run.specs.ReplyMade.{IsOn, IsRefusalFor};
+ghost use Rattle.render_run.specs.ReplyMade.{IsRefusalFor};
 ghost use Rattle.render_run.specs.RegionRead.{LeavesRegion};
 
 use crate::answer::{Answer, Values};
@@ -27,7 +28,7 @@ fn refusal<E>(generation: u32, error: DirsError<E>) -> Result<Answer, RegionErro
 
 /// The values of the region that the request asks for, the fault that the bytes show, or that the
 /// level is not stored.
-pub(crate) fn reply<B: ByteReader>(
+pub(crate) fn reply_on_bytes<B: ByteReader>(
     alloc: Global,
     reader: &mut B,
     generation: u32,
@@ -35,7 +36,7 @@ pub(crate) fn reply<B: ByteReader>(
 ) -> Result<Answer, RegionError<B::Error>>
     ensures told { ForSome (B.bytes reader.old)
         (λ bytes. IfOk result (λ answer. answer ≡ reply_on bytes generation request.now)) }
-    ensures generation { IfOk result (IsOn generation) }
+    ensures basis { IfOk result (λ answer. basis_of answer ≡ OnBytes generation) }
     ensures reader { LeavesRegion B.keeps B.refuses reader.old reader.new result }
 {
     let layout = match read_dirs(alloc, reader) {

@@ -4,15 +4,19 @@ ghost use Rattle.std.specs.Prelude.{◌≡◌, ◌+◌, ◌<◌, ◌≤◌, ℕ,
 ghost use Rattle.std.specs.Option.{ForSome};
 ghost use Rattle.tiff_dirs.specs.Reader.{IsPartAt};
 ghost use Rattle.render_run.specs.RegionRead.{LeavesRegion};
-ghost use Rattle.render_run.specs.Window.{IsWindow, AreWindows};
+ghost use Rattle.render_run.specs.Window.{IsWindow, AreWindows, HoldsSpan};
 
 use crate::region::RegionError;
+use crate::span::Span;
 use std::alloc::{AllocError, Global};
 use tiff_dirs::ByteReader;
 
 /// The most bytes between the pieces of two rows that are read with them: reading them costs about
 /// what another call costs.
-const GAP: u64 = 4096;
+const MAX_GAP: u64 = 4096;
+
+/// The place of no piece: none stands behind it.
+const NO_PLACE: u64 = u64::MAX;
 
 /// Bytes of the file from a place on, which hold a piece of a row and what was read ahead of it.
 #[derive(Debug, Drop)]
@@ -34,28 +38,28 @@ impl Window {
         Window {
             at: 0,
             bytes: Vec::new(alloc),
-            last: u64::MAX,
+            last: NO_PLACE,
             ahead: 0,
         }
     }
 
-    /// The bytes of a piece that the window holds.
-    pub(crate) fn piece(&self, at: u64, size: usize) -> &[u8]
-        requires { self.now.at ≤ at × at + size ≤ self.now.at + length self.now.bytes.items }
-        ensures long { length result.now ≡ size }
-        ensures told { (bytes : List ℕ) → IsWindow bytes self.now → IsPartAt bytes at result.now }
+    /// The bytes of a span that the window holds.
+    pub(crate) fn piece(&self, span: &Span) -> &[u8]
+        requires { HoldsSpan self.now span.now }
+        ensures long { length result.now ≡ span.now.size }
+        ensures told { (bytes : List ℕ) → IsWindow bytes self.now
+            → IsPartAt bytes span.now.at result.now }
     {
-        let start = (at - self.at) as usize;
-        &self.bytes[start..start + size]
+        let start = (span.at - self.at) as usize;
+        &self.bytes[start..start + span.size]
     }
 
-    /// The window holds these bytes.
-    fn holds(&self, at: u64, size: usize) -> bool
-        ensures { IsTrue result →
-            (self.now.at ≤ at) × (at + size ≤ self.now.at + length self.now.bytes.items) }
+    /// The window holds the bytes of a span.
+    fn holds(&self, span: &Span) -> bool
+        ensures { IsTrue result → HoldsSpan self.now span.now }
     {
         let len = self.bytes.len();
-        at >= self.at && size <= len && at - self.at <= (len - size) as u64
+        span.at >= self.at && span.size <= len && span.at - self.at <= (len - span.size) as u64
     }
 
     /// How many bytes are read ahead of a piece of so many bytes that stands `stride` bytes behind
@@ -64,7 +68,7 @@ impl Window {
     fn more(&self, stride: u64, size: u64, rows: u32, most: u64) -> u64
         ensures { result ≤ most }
     {
-        if stride < size || stride - size > GAP {
+        if stride < size || stride - size > MAX_GAP {
             return 0;
         }
         let twice = self.ahead.saturating_mul(2).saturating_add(stride);
@@ -76,34 +80,33 @@ impl Window {
     pub(crate) fn fill<B: ByteReader>(
         &mut self,
         reader: &mut B,
-        at: u64,
-        size: usize,
+        span: &Span,
         rows: u32,
         most: u64,
     ) -> Result<(), RegionError<B::Error>>
-        ensures holds { OnOk result (self.new.at ≤ at
-            × at + size ≤ self.new.at + length self.new.bytes.items) }
+        ensures holds { OnOk result (HoldsSpan self.new span.now) }
         ensures told { ForSome (B.bytes reader.old) (λ bytes.
-            IsWindow bytes self.old → at + size ≤ length bytes
+            IsWindow bytes self.old → span.now.at + span.now.size ≤ length bytes
             → OnOk result (IsWindow bytes self.new)) }
         ensures reader { LeavesRegion B.keeps B.refuses reader.old reader.new result }
     {
-        let stride = at.saturating_sub(self.last);
-        self.last = at;
-        if self.holds(at, size) {
+        let stride = span.at.saturating_sub(self.last);
+        self.last = span.at;
+        if self.holds(span) {
             return Ok(());
         }
-        self.at = at;
+        self.at = span.at;
         let len = reader.len();
-        if at > len || size as u64 > len - at {
+        let size = span.size as u64;
+        if span.at > len || size > len - span.at {
             self.bytes.clear();
-            self.bytes.resize(size, 0)?;
+            self.bytes.resize(span.size, 0)?;
             return Ok(());
         }
-        self.ahead = self.more(stride, size as u64, rows, most);
-        let long = size + self.ahead.min(len - at - size as u64) as usize;
+        self.ahead = self.more(stride, size, rows, most);
+        let long = span.size + self.ahead.min(len - span.at - size) as usize;
         self.bytes.resize(long, 0)?;
-        match reader.read(at, &mut self.bytes) {
+        match reader.read(span.at, &mut self.bytes) {
             Ok(()) => Ok(()),
             Err(e) => Err(RegionError::Reader(e)),
         }

@@ -1,2 +1,2 @@
-mod PlanLemmas
 mod TableLemmas
+mod PlanLemmas

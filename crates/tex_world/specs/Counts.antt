@@ -1,4 +1,4 @@
--- How a count goes on: it never falls, and at the last value of a u64 it stands still.
+-- How does a count go on? It never falls, and at the last value of a u64 it stands still.
 use Rattle.std.specs.Prelude.{◌≡◌, ℕ, ◌+◌, ◌-◌, ◌^◌, ◌<◌, ◌≤◌}
 
 -- the last value of a u64, at which a count stands still

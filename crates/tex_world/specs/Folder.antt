@@ -1,9 +1,9 @@
--- What the calls of a folder give, when each may be refused, and which counts they raise.
-use Rattle.std.specs.Prelude.{◌≡◌, ◌⊎◌, ◌↔◌, ℕ, ◌+◌, ◌<◌, ◌≤◌, min, Bool, IsTrue, List}
+-- What do the calls of a folder give, when may each be refused, and which counts do they raise?
+use Rattle.std.specs.Prelude.{◌≡◌, ◌⊎◌, ◌↔◌, ℕ, ◌+◌, ◌<◌, ◌≤◌, min, Bool, false, IsTrue, List}
 use Rattle.std.specs.Prelude.{Option, Some, None, IsSome, Result, Ok, Err, ⊤}
 use Rattle.std.specs.Option.{ForSome}
 use Rattle.tex_world.specs.Counts.{last_count, Rises, RisesByOne}
-use Rattle.tex_world.specs.World.{Files, HasNoFile, most_files}
+use Rattle.tex_world.specs.World.{Files, HasNoFile, max_files}
 use Rattle.tex_world.specs.Tap.{TapState}
 use Rattle.tex_world.specs.declared.fault.EnterError.{EnterError}
 use Rattle.tex_world.specs.declared.fault.EnterError.TheVariants.{Failed, TooMany, NoMemory}
@@ -18,25 +18,46 @@ pub record FolderState : Type 0 where
   pub made : ℕ
   -- taps given back
   pub returned : ℕ
-  -- more than 4096 files were found
+  -- more files than `max_files` were found
   pub over : Bool
   -- the path that was entered, if one was
   pub entered : Option (List ℕ)
   -- the number of files once entered, and 0 before
   pub size : ℕ
+  -- the number of the file of a name, if there is one
+  pub number_of : List ℕ → Option ℕ
 
--- The laws of a folder: at most 4096 files, none before it is entered, and once entered those of a
--- world that tells.
+-- It is not entered, and its counts are 0.
+pub record IsNewFolder (folder : FolderState) : Type 0 where
+  pub faults : folder.faults ≡ 0
+  pub moves : folder.moves ≡ 0
+  pub made : folder.made ≡ 0
+  pub returned : folder.returned ≡ 0
+  pub over : folder.over ≡ false
+  pub entered : folder.entered ≡ None
+  pub size : folder.size ≡ 0
+
+-- The laws of a folder: it has at most `max_files` files, none before it is entered, and once
+-- entered those of a world that tells. A name's number is that of one of its files, and before it
+-- is entered no name has one. Over a world that tells it is that of the file of this name, and once
+-- entered a name has none only where no file is so called.
 pub record IsFolder (files : Files) (folder : FolderState) : Type 0 where
-  pub few : folder.size ≤ most_files
+  pub few : folder.size ≤ max_files
   pub before : folder.entered ≡ None → folder.size ≡ 0
   pub told : IsSome folder.entered → IsTrue files.tells → folder.size ≡ files.count
+  pub numbered : (name : List ℕ) → ForSome (folder.number_of name) (λ n. n < folder.size)
+  pub unnumbered : folder.entered ≡ None → (name : List ℕ) → folder.number_of name ≡ None
+  pub named : IsTrue files.tells → (name : List ℕ)
+      → ForSome (folder.number_of name) (λ n. files.name n ≡ name)
+  pub unnamed : IsSome folder.entered → IsTrue files.tells → (name : List ℕ)
+      → folder.number_of name ≡ None → HasNoFile files name
 
--- which files there are stays, and whether there were too many
+-- which files there are stays, with their numbers, and whether there were too many
 pub record KeepsFiles (old new : FolderState) : Type 0 where
   pub over : new.over ≡ old.over
   pub entered : new.entered ≡ old.entered
   pub size : new.size ≡ old.size
+  pub number_of : new.number_of ≡ old.number_of
 
 -- ---- enter
 
@@ -57,17 +78,6 @@ pub record AfterEnter (path : List ℕ) (old new : FolderState)
   pub entered : result ≡ Ok tt → new.entered ≡ Some path
   pub refused : (e : EnterError) → result ≡ Err e → new.entered ≡ None
   pub over : IsTrue new.over ↔ (IsTrue old.over ⊎ (result ≡ Err TooMany))
-
--- ---- find
-
--- The number of the file of this name, exactly so where the world tells, and none before the
--- folder is entered.
-pub record Finds (files : Files) (folder : FolderState) (name : List ℕ) (result : Option ℕ)
-    : Type 0 where
-  pub before : folder.entered ≡ None → result ≡ None
-  pub below : ForSome result (λ n. n < folder.size)
-  pub found : IsTrue files.tells → ForSome result (λ n. files.name n ≡ name)
-  pub absent : IsSome folder.entered → IsTrue files.tells → result ≡ None → HasNoFile files name
 
 -- ---- tap and back
 

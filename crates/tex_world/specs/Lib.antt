@@ -6,8 +6,12 @@ pub mod Stream
 pub mod Table
 pub mod TableLaws
 pub mod Names
+pub mod Number
+pub mod NumberLaws
 pub mod Memory
+pub mod TapPlan
 pub mod Plan
+pub mod Share
 pub mod MemHandle
 pub mod MemTap
 pub mod MemFolder

@@ -1,9 +1,12 @@
--- What the counts of a folder in memory are, and which of its calls fail.
-use Rattle.std.specs.Prelude.{◌≡◌, ℕ, Bool, true, false, IsTrue, IsFalse, List, Option, Some, None}
-use Rattle.std.specs.Prelude.{Result, Err, string_bytes, option_map}
+-- What are the counts of a folder in memory, and which of its calls fail?
+use Rattle.std.specs.Prelude.{◌≡◌, ℕ, Bool, true, false, IsTrue, IsFalse, List, []}
+use Rattle.std.specs.Prelude.{Option, Some, None, Result, Err, string_bytes, option_map}
 use Rattle.tex_world.specs.Counts.{RisesByOne}
 use Rattle.tex_world.specs.Folder.{FolderState}
-use Rattle.tex_world.specs.Plan.{calls_of_tap}
+use Rattle.tex_world.specs.Number.{number_in}
+use Rattle.tex_world.specs.Table.{table_names}
+use Rattle.tex_world.specs.TapPlan.{TapPlan}
+use Rattle.tex_world.specs.Plan.{share_of, IsUnnamed}
 use Rattle.tex_world.specs.declared.fault.EnterError.{EnterError}
 use Rattle.tex_world.specs.declared.fault.EnterError.TheVariants.{Failed}
 use Rattle.tex_world.specs.declared.plan.Plan.{Plan}
@@ -18,9 +21,15 @@ abbrev pub size_once_entered : {A : Type 0} → ℕ → Option A → ℕ
 size_once_entered count None = 0
 size_once_entered count (Some path) = count
 
--- The counts that its fields keep, over a table of `count` files. There are never too many files.
-abbrev pub folder_state : {T : Type 0} → ℕ → MemFolder T → FolderState
-folder_state count folder = record {
+-- the names of the files once entered, and none before
+abbrev pub names_once_entered : {A : Type 0} → ℕ → (ℕ → List ℕ) → Option A → List (List ℕ)
+names_once_entered count name None = []
+names_once_entered count name (Some path) = table_names count name
+
+-- The counts that its fields keep, over a table of so many files of these names. There are never
+-- too many files.
+abbrev pub folder_state : {T : Type 0} → ℕ → (ℕ → List ℕ) → MemFolder T → FolderState
+folder_state count name folder = record {
   faults = folder.faults;
   moves = folder.moves;
   made = folder.made;
@@ -28,6 +37,7 @@ folder_state count folder = record {
   over = false;
   entered = entered_path folder;
   size = size_once_entered count folder.entered;
+  number_of = number_in (names_once_entered count name folder.entered);
 }
 
 -- the calls of the taps given back
@@ -38,23 +48,17 @@ calls_returned folder = folder.calls
 abbrev pub folder_plan : {T : Type 0} → MemFolder T → Plan
 folder_plan folder = folder.plan
 
--- the numbers of the calls that the plan lets fail of the tap that is made next
-abbrev pub calls_of_next_tap : {T : Type 0} → MemFolder T → List ℕ
-calls_of_next_tap folder = calls_of_tap (folder_plan folder) folder.made
+-- what the plan says of the tap that is made next
+abbrev pub next_share : {T : Type 0} → MemFolder T → TapPlan
+next_share folder = share_of (folder_plan folder) folder.made
+
+-- the plan says nothing of the tap that is made next
+abbrev pub IsNextUnnamed : {T : Type 0} → MemFolder T → Type 0
+IsNextUnnamed folder = IsUnnamed (folder_plan folder) folder.made
 
 -- whether an `enter` was tried
 abbrev pub is_tried : {T : Type 0} → MemFolder T → Bool
 is_tried folder = folder.tried
-
--- It is not entered, and its counts are 0.
-pub record IsNewFolder (folder : FolderState) : Type 0 where
-  pub faults : folder.faults ≡ 0
-  pub moves : folder.moves ≡ 0
-  pub made : folder.made ≡ 0
-  pub returned : folder.returned ≡ 0
-  pub over : folder.over ≡ false
-  pub entered : folder.entered ≡ None
-  pub size : folder.size ≡ 0
 
 -- No call failed, and no tap came back.
 pub record IsSteady {T : Type 0} (old new : MemFolder T) : Type 0 where

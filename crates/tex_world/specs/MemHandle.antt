@@ -1,4 +1,4 @@
--- What a handle in memory names.
+-- What does a handle in memory name?
 use Rattle.tex_world.specs.Tap.{Named}
 use Rattle.tex_world.specs.declared.mem_handle.MemHandle.{MemHandle}
 

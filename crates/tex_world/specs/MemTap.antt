@@ -1,11 +1,15 @@
--- What the counts of a tap in memory are, and which of its calls fail.
-use Rattle.std.specs.Prelude.{◌≡◌, ℕ, ◌+◌, List, Result, IsOk, IsErr}
-use Rattle.std.specs.List.{Contains}
+-- What are the counts of a tap in memory, and which of its calls fail?
+use Rattle.std.specs.Prelude.{◌≡◌, ℕ, ◌+◌, IsTrue, length, List, Result, Err, IsOk, IsErr}
 use Rattle.tex_world.specs.Counts.{RisesByOne}
-use Rattle.tex_world.specs.Tap.{TapState}
+use Rattle.tex_world.specs.Tap.{TapState, Named, IsMove}
+use Rattle.tex_world.specs.TapPlan.{TapPlan, is_failing_call}
+use Rattle.tex_world.specs.Share.{share_plan}
+use Rattle.tex_world.specs.declared.fault.ReadError.{ReadError}
+use Rattle.tex_world.specs.declared.fault.ReadError.TheVariants.{Failed, Gone}
+use Rattle.tex_world.specs.declared.reading.Reading.{Reading}
 use Rattle.tex_world.specs.declared.mem_tap.MemTap.{MemTap}
 
--- the counts that its fields keep, and what it was last told
+-- the counts that its fields keep, and its latest answer of a newest generation
 abbrev pub tap_state : {T : Type 0} → MemTap T → TapState
 tap_state tap = record {
   faults = tap.faults;
@@ -13,27 +17,48 @@ tap_state tap = record {
   opens = tap.opens;
   asks = tap.asks;
   moves = tap.moves;
-  told = tap.told;
+  newest = tap.newest;
 }
 
--- the numbers of its calls that are planned to fail, counted from 1
-abbrev pub planned_calls : {T : Type 0} → MemTap T → List ℕ
-planned_calls tap = tap.share.fail_calls.items
+-- what is left of its share of the plan
+abbrev pub tap_plan : {T : Type 0} → MemTap T → TapPlan
+tap_plan tap = share_plan tap.share
 
--- the next call is one of those that are planned to fail
+-- the next call is one of those that are planned to fail by their number
 abbrev pub IsPlannedCall : {T : Type 0} → MemTap T → Type 0
-IsPlannedCall tap = Contains (planned_calls tap) ((tap_state tap).calls + 1)
+IsPlannedCall tap = IsTrue (is_failing_call (tap_plan tap) ((tap_state tap).calls + 1))
 
--- A failed call is counted among the faults, an answered one is not. Which calls are to fail stays.
+-- A failed call is counted among the faults, an answered one is not. Its share of the plan stays.
 pub record AfterTapCall {T R E : Type 0} (old new : MemTap T) (result : Result R E) : Type 0 where
   pub failed : IsErr result → RisesByOne (tap_state old).faults (tap_state new).faults
   pub answered : IsOk result → (tap_state new).faults ≡ (tap_state old).faults
-  pub planned : planned_calls new ≡ planned_calls old
+  pub planned : tap_plan new ≡ tap_plan old
 
--- The call was counted. The counts of opens, asks and moves stay, and what the tap was last told.
+-- The call was counted. The counts of opens, asks and moves stay, and the latest newest.
 pub record CountsCall (old new : TapState) : Type 0 where
   pub calls : RisesByOne old.calls new.calls
   pub opens : new.opens ≡ old.opens
   pub asks : new.asks ≡ old.asks
   pub moves : new.moves ≡ old.moves
-  pub told : new.told ≡ old.told
+  pub newest : new.newest ≡ old.newest
+
+-- an `open` that gives a newer generation than it was asked for raises the moves by one
+abbrev pub CountsMove : ℕ → TapState → TapState → Named → Type 0
+CountsMove least old new handle =
+    IsMove least handle.generation → RisesByOne old.moves new.moves
+
+-- the read of a buffer's length from a place on under a handle
+abbrev pub reading : Named → ℕ → List ℕ → Reading
+reading handle at buf = record {
+  file = handle.file;
+  generation = handle.generation;
+  at = at;
+  end = at + length buf;
+}
+
+-- A failed read raises the faults by one, and one that meets a newer generation the moves. Else
+-- the faults stay.
+pub record CountsRead (old new : TapState) (result : Result (Unit {0}) ReadError) : Type 0 where
+  pub failed : result ≡ Err Failed → RisesByOne old.faults new.faults
+  pub others : (result ≡ Err Failed → ⊥) → new.faults ≡ old.faults
+  pub gone : (to : ℕ) → result ≡ Err (Gone to) → RisesByOne old.moves new.moves

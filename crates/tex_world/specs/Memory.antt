@@ -1,4 +1,4 @@
--- What is seen of a feed and of a sink in memory, and what a call leaves of their counts.
+-- What is seen of a feed and of a sink in memory, and what does a call leave of their counts?
 use Rattle.std.specs.Prelude.{◌≡◌, ℕ, ◌+◌, min, List, Some, Result, IsOk, IsErr}
 use Rattle.tex_world.specs.Counts.{last_count, RisesByOne}
 use Rattle.tex_world.specs.declared.planned.Planned.{Planned}

@@ -1,4 +1,4 @@
--- When a list of names gives each file of a table a name of its own.
+-- When does a list of names give each file of a table a name of its own?
 use Rattle.std.specs.Prelude.{◌≡◌, ℕ, ◌<◌, Bool, true, IsTrue, ◌&&◌, not, List, [], ◌∷◌}
 use Rattle.std.specs.Prelude.{length, slice_index_or}
 use Rattle.std.specs.List.{list_any}

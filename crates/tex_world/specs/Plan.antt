@@ -1,13 +1,34 @@
--- Which entries of a plan are for a tap.
-use Rattle.std.specs.Prelude.{ℕ, ◌==◌, List, map}
+-- Which entries of a plan are for a tap?
+use Rattle.std.specs.Prelude.{◌≡◌, ℕ, ◌==◌, IsFalse, List, []}
 use Rattle.std.specs.List.{filter}
-use Rattle.tex_world.specs.declared.plan.FailCall.{FailCall}
+use Rattle.tex_world.specs.TapPlan.{TapPlan}
 use Rattle.tex_world.specs.declared.plan.Plan.{Plan}
 
--- the numbers of the calls that entries name for the tap of a number
-abbrev pub calls_named : List FailCall → ℕ → List ℕ
-calls_named entries tap = map (λ e. e.call) (filter (λ e. e.tap == tap) entries)
+-- the entries that name the tap of a number
+abbrev pub entries_of : {E : Type 0} → (E → ℕ) → List E → ℕ → List E
+entries_of tap_of entries tap = filter (λ e. tap_of e == tap) entries
 
--- the numbers of the calls that the plan lets fail of the tap of a number
-abbrev pub calls_of_tap : Plan → ℕ → List ℕ
-calls_of_tap plan tap = calls_named plan.fail_calls.items tap
+-- A new tap's share of a plan: the entries that name it. None of its rises has come.
+abbrev pub share_of : Plan → ℕ → TapPlan
+share_of plan tap = record {
+  fail_calls = entries_of (λ e. e.tap) plan.fail_calls.items tap;
+  fail_bytes = entries_of (λ e. e.tap) plan.fail_bytes.items tap;
+  newest = entries_of (λ e. e.tap) plan.newest.items tap;
+  rises = entries_of (λ e. e.tap) plan.rises.items tap;
+  risen = [];
+}
+
+-- no entry names the tap
+pub record IsUnnamed (plan : Plan) (tap : ℕ) : Type 0 where
+  pub fail_calls : entries_of (λ e. e.tap) plan.fail_calls.items tap ≡ []
+  pub fail_bytes : entries_of (λ e. e.tap) plan.fail_bytes.items tap ≡ []
+  pub newest : entries_of (λ e. e.tap) plan.newest.items tap ≡ []
+  pub rises : entries_of (λ e. e.tap) plan.rises.items tap ≡ []
+
+-- no call fails and no file changes
+pub record IsEmpty (plan : Plan) : Type 0 where
+  pub fail_enter : IsFalse plan.fail_enter
+  pub fail_calls : plan.fail_calls.items ≡ []
+  pub fail_bytes : plan.fail_bytes.items ≡ []
+  pub newest : plan.newest.items ≡ []
+  pub rises : plan.rises.items ≡ []

@@ -1,4 +1,4 @@
--- What a feed has left and a sink holds, where they tell it.
+-- What has a feed left, and what does a sink hold, where they tell it?
 use Rattle.std.specs.Prelude.{◌≡◌, ◌↔◌, ℕ, ◌≤◌, List, [], ◌++◌, length, take, drop, Option, Some}
 use Rattle.std.specs.Option.{ForSome}
 

@@ -1,4 +1,4 @@
--- What the files of a table are, and which bytes a generation of them has.
+-- What are the files of a table, and which bytes has a generation of them?
 use Rattle.std.specs.Prelude.{ℕ, Bool, true, ◌&&◌, nat_lt, nat_le, if◌then◌else◌, List, map}
 use Rattle.std.specs.Prelude.{Option, Some, None}
 use Rattle.std.specs.List.{range_with_len}
@@ -24,6 +24,10 @@ abbrev pub table_held :
     ℕ → (ℕ → ℕ → Option ℕ) → (ℕ → ℕ → ℕ → ℕ) → ℕ → ℕ → Option (List ℕ)
 table_held count len byte n g =
     if nat_lt n count && is_generation g then table_bytes (byte n g) (len n g) else None
+
+-- the names of the files of a table, by their numbers
+abbrev pub table_names : ℕ → (ℕ → List ℕ) → List (List ℕ)
+table_names count name = map name (range_with_len 0 count)
 
 -- the files of a table, which tells them
 abbrev pub table_files : ℕ → (ℕ → List ℕ) → (ℕ → ℕ → Option ℕ) → (ℕ → ℕ → ℕ → ℕ) → Files

@@ -1,12 +1,12 @@
--- Why the files of a table are a world, and a handle of theirs an honest one.
-use Rattle.std.specs.Prelude.{◌≡◌, ℕ, ◌<◌, ◌≤◌, List, Option, Some, IsSome}
+-- Why are the files of a table a world, and a handle of theirs an honest one?
+use Rattle.std.specs.Prelude.{◌≡◌, ℕ, ◌<◌, ◌≤◌, List, [], Option, Some, IsSome, IsTrue}
 use Rattle.std.proofs.Common.{length, get_or, sym, ap, ◌∙◌, arith}
 use Rattle.std.proofs.lemmas.List.FromFn.{length-map-range_with_len, get_or-map-range_with_len}
 use Rattle.std.proofs.lemmas.Option.{same_Some}
 use Rattle.std.proofs.lemmas.Bool.Decides.{nat_tests}
-use Rattle.tex_world.specs.World.{IsWorld, IsReal, last_generation, most_files}
+use Rattle.tex_world.specs.World.{IsWorld, IsReal, is_held, last_generation, max_files}
 use Rattle.tex_world.specs.Tap.{IsHandle}
-use Rattle.tex_world.specs.Table.{bytes_below, table_held, table_files}
+use Rattle.tex_world.specs.Table.{bytes_below, table_held, table_names, table_files}
 
 -- There are as many bytes as the length says.
 pub length-bytes_below : (len : ℕ) (byte : ℕ → ℕ) → length (bytes_below len byte) ≡ len
@@ -19,9 +19,18 @@ pub get_or-bytes_below : (len : ℕ) (byte : ℕ → ℕ) (at : ℕ) → at < le
 unfolding bytes_below
 get_or-bytes_below len byte at low = get_or-map-range_with_len byte 0 len at at 0 low (omega arith)
 
+module _ (count : ℕ) (name : ℕ → List ℕ) where
+  -- There are as many names as files.
+  pub length-table_names : length (table_names count name) ≡ count
+  length-table_names = length-map-range_with_len name 0 count
+
+  -- Each is that of its file.
+  pub get_or-table_names : (n : ℕ) → n < count → get_or (table_names count name) n [] ≡ name n
+  get_or-table_names n low = get_or-map-range_with_len name 0 count n n [] low (omega arith)
+
 module _ (count : ℕ) (name : ℕ → List ℕ) (len : ℕ → ℕ → Option ℕ) (byte : ℕ → ℕ → ℕ → ℕ) where
   -- They are a world if they are few and their names are distinct.
-  pub table_is_world : count ≤ most_files
+  pub table_is_world : count ≤ max_files
       → ((m n : ℕ) → m < count → n < count → name m ≡ name n → m ≡ n)
       → IsWorld (table_files count name len byte)
   table_is_world few distinct = record {
@@ -41,6 +50,15 @@ module _ (count : ℕ) (name : ℕ → List ℕ) (len : ℕ → ℕ → Option �
   real_where n g file low high there = record {
     low = low;
     high = high;
+    held = λ _. grind (arith, nat_tests);
+  }
+
+  -- A generation that is held is a real one.
+  pub held_is_real : (n g : ℕ) → IsTrue (is_held (table_files count name len byte) n g)
+      → IsReal (table_files count name len byte) n g
+  held_is_real n g held = record {
+    low = grind (arith, nat_tests);
+    high = grind (arith, nat_tests);
     held = λ _. grind (arith, nat_tests);
   }
 

@@ -1,4 +1,4 @@
--- What the calls of a tap give, when each may be refused, and which counts they raise.
+-- What do the calls of a tap give, when may each be refused, and which counts do they raise?
 use Rattle.std.specs.Prelude.{◌≡◌, ◌⊎◌, ℕ, ◌<◌, ◌≤◌, length, Result, Ok, Err, ⊤}
 use Rattle.std.specs.Option.{ForSome}
 use Rattle.tex_world.specs.Counts.{Rises, RisesByOne}
@@ -23,7 +23,7 @@ pub record IsHandle (files : Files) (handle : Named) : Type 0 where
 abbrev pub IsLeast : Files → ℕ → ℕ → Type 0
 IsLeast files file least = (least ≡ 0) ⊎ IsReal files file least
 
--- The counts of a tap, none of which falls, and what it was last told.
+-- The counts of a tap, none of which falls, and its latest answer of a newest generation.
 pub record TapState : Type 0 where
   -- failed calls
   pub faults : ℕ
@@ -35,8 +35,8 @@ pub record TapState : Type 0 where
   pub asks : ℕ
   -- meetings with a newer generation
   pub moves : ℕ
-  -- the file and the generation of the latest answered `newest`
-  pub told : ℕ × ℕ
+  -- the file and the generation that the latest answered `newest` gave
+  pub newest : ℕ × ℕ
 
 -- the counts of a new tap
 pub record IsNew (tap : TapState) : Type 0 where
@@ -71,7 +71,7 @@ pub record AfterOpen {H : Type 0} (named : H → Named) (least : ℕ) (old new :
   pub calls : RisesByOne old.calls new.calls
   pub opens : RisesByOne old.opens new.opens
   pub asks : new.asks ≡ old.asks
-  pub told : new.told ≡ old.told
+  pub newest : new.newest ≡ old.newest
   pub moved : (h : H) → result ≡ Ok h → IsMove least (named h).generation
       → Rises old.moves new.moves
   pub unmoved : (h : H) → result ≡ Ok h → (IsMove least (named h).generation → ⊥)
@@ -80,7 +80,7 @@ pub record AfterOpen {H : Type 0} (named : H → Named) (least : ℕ) (old new :
 
 -- ---- newest
 
--- An answered `newest` is a call and an ask, and the tap was then told its answer. A refused one is
+-- An answered `newest` is a call and an ask, and its answer is then the latest. A refused one is
 -- only a call.
 pub record AfterNewest {E : Type 0} (file : ℕ) (old new : TapState) (result : Result ℕ E)
     : Type 0 where
@@ -89,9 +89,9 @@ pub record AfterNewest {E : Type 0} (file : ℕ) (old new : TapState) (result : 
   pub opens : new.opens ≡ old.opens
   pub moves : new.moves ≡ old.moves
   pub asks : (g : ℕ) → result ≡ Ok g → RisesByOne old.asks new.asks
-  pub told : (g : ℕ) → result ≡ Ok g → new.told ≡ (file, g)
+  pub newest : (g : ℕ) → result ≡ Ok g → new.newest ≡ (file, g)
   pub not_asked : (e : E) → result ≡ Err e → new.asks ≡ old.asks
-  pub not_told : (e : E) → result ≡ Err e → new.told ≡ old.told
+  pub not_newest : (e : E) → result ≡ Err e → new.newest ≡ old.newest
 
 -- ---- read_at
 
@@ -113,7 +113,7 @@ pub record AfterRead (old new : TapState) (result : Result (Unit {0}) ReadError)
   pub calls : RisesByOne old.calls new.calls
   pub opens : new.opens ≡ old.opens
   pub asks : new.asks ≡ old.asks
-  pub told : new.told ≡ old.told
+  pub newest : new.newest ≡ old.newest
   pub answered : result ≡ Ok tt → new.moves ≡ old.moves
   pub failed : (e : ReadError) → result ≡ Err e → IsFault e → new.moves ≡ old.moves
   pub gone : (e : ReadError) → result ≡ Err e → (IsFault e → ⊥) → Rises old.moves new.moves

@@ -1,7 +1,7 @@
 ghost use Rattle.std.specs.Prelude.{◌≡◌, IfOk, IfErr};
 ghost use Rattle.tex_world.specs.Tap.{IsNew};
 ghost use Rattle.tex_world.specs.Folder.{FolderState, IsFolder, EnterCause, AfterEnter};
-ghost use Rattle.tex_world.specs.Folder.{Finds, AfterTap, AfterBack};
+ghost use Rattle.tex_world.specs.Folder.{AfterTap, AfterBack};
 
 use crate::fault::{EnterError, NoMemory};
 use crate::tap::Tap;
@@ -14,7 +14,7 @@ pub trait Folder {
 
     type Tap: Tap<W = Self::W>;
 
-    /// Its counts of faults, moves, taps made and taps given back, and what was entered.
+    /// Its counts of faults, moves, taps made and taps given back, and which files were found.
     ghost state: { Self → FolderState };
 
     /// Lists the folder of this path.
@@ -22,13 +22,13 @@ pub trait Folder {
         ensures cause { IfErr result (EnterCause Self.W.files (state self.old) (state self.new)) }
         ensures after { AfterEnter path.now (state self.old) (state self.new) result };
 
-    /// The number of files once entered, at most 4096, and 0 before.
+    /// The number of files once entered, and 0 before.
     fn count(&self) -> u32
         ensures { result ≡ (state self.now).size };
 
     /// The number of the file of this name.
     fn find(&self, name: &str) -> Option<u32>
-        ensures { Finds Self.W.files (state self.now) name.now result };
+        ensures { result ≡ (state self.now).number_of name.now };
 
     /// A worker's own source, numbered from 0 in the order in which they are made.
     fn tap(&mut self, alloc: Global) -> Result<Self::Tap, NoMemory>

@@ -3,6 +3,7 @@
 //! memory.
 #![tactic(auto)]
 
+mod entry;
 mod fault;
 mod feed;
 mod folder;
@@ -13,6 +14,8 @@ mod mem_sink;
 mod mem_tap;
 mod plan;
 mod planned;
+mod reading;
+mod rises;
 mod share;
 mod sink;
 mod table;
@@ -27,11 +30,8 @@ pub use mem_folder::MemFolder;
 pub use mem_handle::MemHandle;
 pub use mem_sink::MemSink;
 pub use mem_tap::MemTap;
-pub use plan::{FailCall, Plan};
+pub use plan::{FailByte, FailCall, Newest, Plan, Rise};
 pub use sink::Sink;
-pub use table::{FileTable, TableWorld};
+pub use table::{FIRST_GENERATION, FileTable, LAST_GENERATION, TableWorld};
 pub use tap::{Tap, TapHandle};
 pub use world::World;
-
-#[cfg(test)]
-mod tests;

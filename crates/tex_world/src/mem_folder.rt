@@ -3,10 +3,10 @@ ghost use Rattle.std.specs.Prelude.{◌≡◌, ◌↔◌, ◌⊎◌, ◌+◌, �
 ghost use Rattle.std.specs.Prelude.{Err, IfOk, IfErr, IsOk};
 ghost use Rattle.tex_world.specs.Counts.{last_count};
 ghost use Rattle.tex_world.specs.Tap.{IsNew};
-ghost use Rattle.tex_world.specs.Folder.{EnterCause, AfterEnter, Finds, AfterTap, AfterBack};
-ghost use Rattle.tex_world.specs.MemTap.{tap_state, planned_calls};
+ghost use Rattle.tex_world.specs.Folder.{IsNewFolder, EnterCause, AfterEnter, AfterTap, AfterBack};
+ghost use Rattle.tex_world.specs.MemTap.{tap_state, tap_plan};
 ghost use Rattle.tex_world.specs.MemFolder.{folder_state, calls_returned, folder_plan, is_tried};
-ghost use Rattle.tex_world.specs.MemFolder.{calls_of_next_tap, IsNewFolder, IsPlannedEnter};
+ghost use Rattle.tex_world.specs.MemFolder.{next_share, IsNextUnnamed, IsPlannedEnter};
 ghost use Rattle.tex_world.specs.MemFolder.{CountsEnter, IsSteady, KeepsPlan};
 ghost use Rattle.tex_world.specs.FolderLaws.{folder_is_lawful};
 
@@ -14,13 +14,13 @@ use crate::fault::{EnterError, NoMemory};
 use crate::folder::Folder;
 use crate::mem_tap::MemTap;
 use crate::plan::Plan;
-use crate::table::{FileTable, TableWorld};
+use crate::table::{FileTable, TableWorld, number_of};
 use crate::world::World;
 use std::alloc::Global;
 use std::marker::PhantomData;
 
 /// A folder with the files of a table, under any path. Its plan says which of its calls and of
-/// those of its taps fail.
+/// those of its taps fail, and which files change under its taps.
 #[derive(Drop)]
 pub struct MemFolder<T: FileTable> {
     plan: Plan,
@@ -37,7 +37,7 @@ pub struct MemFolder<T: FileTable> {
 impl<T: FileTable> MemFolder<T> {
     /// A folder that is not entered.
     pub fn new(plan: Plan) -> Self
-        ensures new { IsNewFolder (folder_state T.count_of result) }
+        ensures new { IsNewFolder (folder_state T.count_of T.name_of result) }
         ensures calls { calls_returned result ≡ 0 }
         ensures plan { folder_plan result ≡ plan }
         ensures tried { is_tried result ≡ false }
@@ -57,28 +57,28 @@ impl<T: FileTable> MemFolder<T> {
 
     /// The failed calls, those of the taps given back among them.
     pub fn faults(&self) -> u64
-        ensures { result ≡ (folder_state T.count_of self.now).faults }
+        ensures { result ≡ (folder_state T.count_of T.name_of self.now).faults }
     {
         self.faults
     }
 
     /// How often the taps given back met a newer generation.
     pub fn moves(&self) -> u64
-        ensures { result ≡ (folder_state T.count_of self.now).moves }
+        ensures { result ≡ (folder_state T.count_of T.name_of self.now).moves }
     {
         self.moves
     }
 
     /// How many taps it has made.
     pub fn made(&self) -> u64
-        ensures { result ≡ (folder_state T.count_of self.now).made }
+        ensures { result ≡ (folder_state T.count_of T.name_of self.now).made }
     {
         self.made
     }
 
     /// How many taps were given back.
     pub fn returned(&self) -> u64
-        ensures { result ≡ (folder_state T.count_of self.now).returned }
+        ensures { result ≡ (folder_state T.count_of T.name_of self.now).returned }
     {
         self.returned
     }
@@ -96,14 +96,15 @@ impl<T: FileTable> Folder for MemFolder<T> {
 
     type Tap = MemTap<T>;
 
-    ghost state = { folder_state T.count_of };
+    ghost state = { folder_state T.count_of T.name_of };
 
     /// It keeps the path, which takes memory.
     fn enter(&mut self, alloc: Global, path: &str) -> Result<(), EnterError>
-        ensures cause { IfErr result (EnterCause ⟦<TableWorld<T> as World>⟧.files
-            (folder_state T.count_of self.old) (folder_state T.count_of self.new)) }
-        ensures after { AfterEnter path.now
-            (folder_state T.count_of self.old) (folder_state T.count_of self.new) result }
+        ensures cause { let state = folder_state T.count_of T.name_of in
+            IfErr result (EnterCause ⟦<TableWorld<T> as World>⟧.files
+            (state self.old) (state self.new)) }
+        ensures after { let state = folder_state T.count_of T.name_of in
+            AfterEnter path.now (state self.old) (state self.new) result }
 
         // It fails just where it is the first and planned to. Else only memory can be wanting.
         ensures planned { (result ≡ Err EnterError.Failed) ↔ IsPlannedEnter self.old }
@@ -135,23 +136,21 @@ impl<T: FileTable> Folder for MemFolder<T> {
     }
 
     fn find(&self, name: &str) -> Option<u32> {
-        for n in 0..self.count() {
-            if T::name(n) == name {
-                return Some(n);
-            }
+        match &self.entered {
+            Some(_) => number_of::<T>(name),
+            None => None,
         }
-        None
     }
 
-    /// It takes memory only for calls of the tap that are planned to fail.
+    /// It takes memory only for entries of the plan that name the tap.
     fn tap(&mut self, alloc: Global) -> Result<MemTap<T>, NoMemory>
         ensures new { IfOk result (λ t. IsNew (tap_state t)) }
-        ensures after { AfterTap
-            (folder_state T.count_of self.old) (folder_state T.count_of self.new) result }
+        ensures after { let state = folder_state T.count_of T.name_of in
+            AfterTap (state self.old) (state self.new) result }
 
         // The plan's entries for its number are the tap's. Where there are none it is answered.
-        ensures planned { IfOk result (λ t. planned_calls t ≡ calls_of_next_tap self.old) }
-        ensures answers { calls_of_next_tap self.old ≡ [] → IsOk result }
+        ensures planned { IfOk result (λ t. tap_plan t ≡ next_share self.old) }
+        ensures answers { IsNextUnnamed self.old → IsOk result }
         ensures steady { IsSteady self.old self.new }
         ensures plan { KeepsPlan self.old self.new }
     {
@@ -161,12 +160,13 @@ impl<T: FileTable> Folder for MemFolder<T> {
     }
 
     fn back(&mut self, tap: MemTap<T>)
-        ensures after { AfterBack (tap_state tap)
-            (folder_state T.count_of self.old) (folder_state T.count_of self.new) }
+        ensures after { let state = folder_state T.count_of T.name_of in
+            AfterBack (tap_state tap) (state self.old) (state self.new) }
 
         // Its faults and calls are just its own and the tap's together.
-        ensures faults { (folder_state T.count_of self.new).faults ≡ min
-            ((folder_state T.count_of self.old).faults + (tap_state tap).faults) last_count }
+        ensures faults { let state = folder_state T.count_of T.name_of in
+            (state self.new).faults
+            ≡ min ((state self.old).faults + (tap_state tap).faults) last_count }
         ensures calls { calls_returned self.new
             ≡ min (calls_returned self.old + (tap_state tap).calls) last_count }
         ensures plan { KeepsPlan self.old self.new }

@@ -1,17 +1,21 @@
 //! A tap in memory.
 ghost use Rattle.std.specs.Prelude.{◌≡◌, ◌↔◌, ℕ, ◌+◌, ◌<◌, ◌≤◌, max, slice_index, length};
 ghost use Rattle.std.specs.Prelude.{IfOk, IfErr, IsErr, OnOk};
+ghost use Rattle.std.specs.List.{EachIndex};
 ghost use Rattle.std.specs.Option.{ForSome};
 ghost use Rattle.tex_world.specs.Counts.{Rises, RisesByOne};
-ghost use Rattle.tex_world.specs.World.{IsFile, IsReal, IsPartAt};
+ghost use Rattle.tex_world.specs.World.{IsFile, IsReal};
 ghost use Rattle.tex_world.specs.Tap.{IsNew, IsLeast, Opens, OpenCause, AfterOpen};
 ghost use Rattle.tex_world.specs.Tap.{AfterNewest, ReadCause, AfterRead};
 ghost use Rattle.tex_world.specs.MemHandle.{handle_named};
-ghost use Rattle.tex_world.specs.MemTap.{tap_state, planned_calls, IsPlannedCall};
-ghost use Rattle.tex_world.specs.MemTap.{AfterTapCall, CountsCall};
+ghost use Rattle.tex_world.specs.MemTap.{tap_state, tap_plan, IsPlannedCall};
+ghost use Rattle.tex_world.specs.MemTap.{AfterTapCall, CountsCall, CountsMove, CountsRead, reading};
+ghost use Rattle.tex_world.specs.Share.{share_plan};
+ghost use Rattle.tex_world.specs.TapPlan.{newest_of, planned_read, after_read};
 
 use crate::fault::{Failed, OpenError, ReadError};
 use crate::mem_handle::MemHandle;
+use crate::reading::Reading;
 use crate::share::Share;
 use crate::table::{FileTable, TableWorld};
 use crate::tap::{Tap, TapHandle};
@@ -19,10 +23,8 @@ use crate::world::World;
 use std::alloc::Global;
 use std::marker::PhantomData;
 
-// The newest generation of each file.
-const NEWEST: u32 = 1;
-
-/// A source of the bytes of a table. Its calls fail where its share of the plan says so.
+/// A source of the bytes of a table. Its calls fail where its share of the plan says so, and its
+/// reads meet the newer generations that are planned.
 #[derive(Drop)]
 pub struct MemTap<T: FileTable> {
     share: Share,
@@ -31,7 +33,7 @@ pub struct MemTap<T: FileTable> {
     opens: u64,
     asks: u64,
     moves: u64,
-    told: (u32, u32),
+    newest: (u32, u32),
     table: PhantomData<T>,
 }
 
@@ -39,7 +41,7 @@ impl<T: FileTable> MemTap<T> {
     /// A tap that has had no call.
     pub(crate) fn new(share: Share) -> Self
         ensures new { IsNew (tap_state result) }
-        ensures planned { planned_calls result ≡ share.fail_calls.items }
+        ensures plan { tap_plan result ≡ share_plan share }
     {
         MemTap {
             share,
@@ -48,7 +50,7 @@ impl<T: FileTable> MemTap<T> {
             opens: 0,
             asks: 0,
             moves: 0,
-            told: (0, 0),
+            newest: (0, 0),
             table: PhantomData,
         }
     }
@@ -121,17 +123,20 @@ impl<T: FileTable> Tap for MemTap<T> {
         ensures counts { AfterOpen handle_named least
             (tap_state self.old) (tap_state self.new) result }
 
-        // It fails just where it is planned to. The newest generation is 1 or what is asked for.
+        // It fails just where it is planned to. It gives the greater of `least` and its newest.
         ensures planned { IsErr result ↔ IsPlannedCall self.old }
         ensures after { AfterTapCall self.old self.new result }
         ensures err { IfErr result (λ e. e ≡ OpenError.Failed) }
-        ensures newest { IfOk result (λ h. (handle_named h).generation ≡ max least 1) }
+        ensures newest { IfOk result (λ h. (handle_named h).generation
+            ≡ max least (newest_of ⟦<TableWorld<T> as World>⟧.files (tap_plan self.old) file)) }
+        ensures moves { IfOk result (λ h.
+            CountsMove least (tap_state self.old) (tap_state self.new) (handle_named h)) }
     {
         self.opens = self.opens.saturating_add(1);
         if let Err(Failed) = self.call() {
             return Err(OpenError::Failed);
         }
-        let generation = least.max(NEWEST);
+        let generation = least.max(self.share.newest_of::<T>(file));
         if 0 < least && least < generation {
             self.moves = self.moves.saturating_add(1);
         }
@@ -150,15 +155,16 @@ impl<T: FileTable> Tap for MemTap<T> {
             (λ _. Rises (tap_state self.old).faults (tap_state self.new).faults) }
         ensures counts { AfterNewest file (tap_state self.old) (tap_state self.new) result }
 
-        // It fails just where it is planned to. The newest generation is 1 or what is asked for.
+        // It fails just where it is planned to. It gives the greater of `least` and its newest.
         ensures planned { IsErr result ↔ IsPlannedCall self.old }
         ensures after { AfterTapCall self.old self.new result }
-        ensures newest { IfOk result (λ g. g ≡ max least 1) }
+        ensures newest { IfOk result (λ g. g
+            ≡ max least (newest_of ⟦<TableWorld<T> as World>⟧.files (tap_plan self.old) file)) }
     {
         self.call()?;
         self.asks = self.asks.saturating_add(1);
-        let generation = least.max(NEWEST);
-        self.told = (file, generation);
+        let generation = least.max(self.share.newest_of::<T>(file));
+        self.newest = (file, generation);
         Ok(generation)
     }
 
@@ -167,23 +173,37 @@ impl<T: FileTable> Tap for MemTap<T> {
         ensures bytes { OnOk result (ForSome
             (⟦<TableWorld<T> as World>⟧.files.held
             (handle_named h.old).file (handle_named h.old).generation)
-            (λ bytes. IsPartAt bytes at buf.new)) }
+            (λ bytes. EachIndex buf.new (λ k.
+            slice_index buf.new k ≡ slice_index bytes (at + k)))) }
         ensures handle { handle_named h.new ≡ handle_named h.old }
         ensures cause { IfErr result
             (ReadCause ⟦<TableWorld<T> as World>⟧.files (handle_named h.old)
             (tap_state self.old) (tap_state self.new)) }
         ensures counts { AfterRead (tap_state self.old) (tap_state self.new) result }
 
-        // It fails just where it is planned to.
-        ensures planned { IsErr result ↔ IsPlannedCall self.old }
-        ensures after { AfterTapCall self.old self.new result }
-        ensures err { IfErr result (λ e. e ≡ ReadError.Failed) }
+        // It answers just what is planned, and what names this read is then spent.
+        ensures planned { result
+            ≡ planned_read ⟦<TableWorld<T> as World>⟧.files (tap_plan self.old)
+            (tap_state self.old).calls (reading (handle_named h.old) at buf.old) }
+        ensures plan { tap_plan self.new
+            ≡ after_read ⟦<TableWorld<T> as World>⟧.files
+            (reading (handle_named h.old) at buf.old) (tap_plan self.old) }
+        ensures exact { CountsRead (tap_state self.old) (tap_state self.new) result }
     {
-        if let Err(Failed) = self.call() {
-            return Err(ReadError::Failed);
+        let read = Reading {
+            file: h.file(),
+            generation: h.generation(),
+            at,
+            end: at + buf.len() as u64,
+        };
+        let met = self.share.meet::<T>(self.calls, read);
+        self.calls = self.calls.saturating_add(1);
+        match met {
+            Ok(()) => fill(h, at, buf),
+            Err(ReadError::Failed) => self.faults = self.faults.saturating_add(1),
+            Err(ReadError::Gone(_to)) => self.moves = self.moves.saturating_add(1),
         }
-        fill(h, at, buf);
-        Ok(())
+        met
     }
 }
 

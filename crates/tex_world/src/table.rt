@@ -1,11 +1,18 @@
 //! A world whose files are given by functions of numbers, as a test or a sample writes them down.
 ghost use Rattle.std.specs.Prelude.{◌≡◌, ℕ, ◌<◌, ◌≤◌, List, Option, IsSome, IsSomeAnd};
-ghost use Rattle.tex_world.specs.World.{most_files};
-ghost use Rattle.tex_world.specs.Table.{table_files};
+ghost use Rattle.tex_world.specs.World.{max_files, is_held};
+ghost use Rattle.tex_world.specs.Number.{number_in};
+ghost use Rattle.tex_world.specs.Table.{table_names, table_files};
 ghost use Rattle.tex_world.specs.TableLaws.{table_is_world};
 
 use crate::world::World;
 use std::marker::PhantomData;
+
+/// The first generation of a file.
+pub const FIRST_GENERATION: u32 = 1;
+
+/// The last generation that a file can have.
+pub const LAST_GENERATION: u32 = 1048575;
 
 /// The files of a world that tells, in all their generations. It is a name without data.
 /// What it gives for a generation outside 1 to 1048575 counts as none.
@@ -22,8 +29,8 @@ pub trait FileTable: Drop {
     /// The byte of a generation of a file at a place.
     ghost byte_of: { ℕ → ℕ → ℕ → ℕ };
 
-    /// There are at most 4096 files.
-    ghost few: { count_of ≤ most_files };
+    /// There are not too many files.
+    ghost few: { count_of ≤ max_files };
 
     /// No two files have the same name. `distinct_names` of `specs/Names.antt` gives it for a list
     /// of names.
@@ -58,6 +65,29 @@ pub trait FileTable: Drop {
 #[derive(Drop)]
 pub struct TableWorld<T: FileTable> {
     table: PhantomData<T>,
+}
+
+/// Whether the table holds a generation of a file.
+pub(crate) fn is_held<T: FileTable>(file: u32, generation: u32) -> bool
+    ensures { result
+        ≡ is_held (table_files T.count_of T.name_of T.len_of T.byte_of) file generation }
+{
+    file < T::count()
+        && FIRST_GENERATION <= generation
+        && generation <= LAST_GENERATION
+        && T::len(file, generation).is_some()
+}
+
+/// The number of the file of a name.
+pub(crate) fn number_of<T: FileTable>(name: &str) -> Option<u32>
+    ensures { result ≡ number_in (table_names T.count_of T.name_of) name.now }
+{
+    for n in 0..T::count() {
+        if T::name(n) == name {
+            return Some(n);
+        }
+    }
+    None
 }
 
 impl<T: FileTable> World for TableWorld<T> {

@@ -1,7 +1,8 @@
-ghost use Rattle.std.specs.Prelude.{◌≡◌, ◌+◌, ◌≤◌, length, IfOk, IfErr, OnOk};
+ghost use Rattle.std.specs.Prelude.{◌≡◌, ◌+◌, ◌≤◌, length, slice_index, IfOk, IfErr, OnOk};
+ghost use Rattle.std.specs.List.{EachIndex};
 ghost use Rattle.std.specs.Option.{ForSome};
 ghost use Rattle.tex_world.specs.Counts.{Rises};
-ghost use Rattle.tex_world.specs.World.{IsFile, IsReal, IsPartAt};
+ghost use Rattle.tex_world.specs.World.{IsFile, IsReal};
 ghost use Rattle.tex_world.specs.Tap.{Named, IsHandle, IsLeast, TapState, Opens, OpenCause};
 ghost use Rattle.tex_world.specs.Tap.{AfterOpen, AfterNewest, ReadCause, AfterRead};
 
@@ -39,7 +40,7 @@ pub trait Tap {
 
     type Handle: TapHandle<W = Self::W> + Drop;
 
-    /// Its counts of faults, calls, opens, asks and moves, and what it was last told.
+    /// Its counts of faults, calls, opens, asks and moves, and what `newest` last answered.
     ghost state: { Self → TapState };
 
     /// Opens a file at a generation that is at least `least`, where 0 asks for any.
@@ -66,7 +67,8 @@ pub trait Tap {
         requires { at + length buf.old ≤ (Self.Handle.named h.old).len }
         ensures bytes { OnOk result (ForSome
             (Self.W.files.held (Self.Handle.named h.old).file (Self.Handle.named h.old).generation)
-            (λ bytes. IsPartAt bytes at buf.new)) }
+            (λ bytes. EachIndex buf.new (λ k.
+            slice_index buf.new k ≡ slice_index bytes (at + k)))) }
         ensures handle { Self.Handle.named h.new ≡ Self.Handle.named h.old }
         ensures cause { IfErr result
             (ReadCause Self.W.files (Self.Handle.named h.old) (state self.old) (state self.new)) }

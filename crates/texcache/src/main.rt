@@ -2,29 +2,11 @@
 //! input and writes the answers to standard output.
 #![tactic(auto)]
 
-mod folder;
-mod handle;
-mod listed;
-mod listing;
-mod stamp;
-mod stream;
-mod tap;
-#[cfg(test)]
-mod tests;
-mod world;
-
-use crate::folder::RealFolder;
-use crate::stream::{RealFeed, RealSink};
-use render_run::run;
+use host_folder::{RealFeed, RealFolder, RealSink};
+use render_run::{NO_MEMORY, NOT_WRITTEN, run};
 use std::io::ErrorKind;
 use std::process::ExitCode;
 use std::{env, io};
-
-/// The status where no memory was found.
-const NO_MEMORY: u8 = 6;
-
-/// The status where standard output failed.
-const SINK_FAULT: u8 = 5;
 
 fn main(rt: HostRuntime) -> ExitCode {
     ExitCode::from(status(&rt))
@@ -52,7 +34,7 @@ fn status(rt: &HostRuntime) -> u8 {
     // What the sink still holds back can fail as a line can.
     match out.flush() {
         Ok(()) => status,
-        Err(_failed) => SINK_FAULT,
+        Err(_failed) => NOT_WRITTEN,
     }
 }
 

@@ -41,6 +41,23 @@ fn says_what_failed(rt: HostRuntime) -> Result<(), Fail> {
     Ok(())
 }
 
+// The file changes while it is read: at a byte of its directory, or of its samples. The request is
+// answered `again`, and from then on the file is answered in its second generation.
+#[test]
+fn says_which_generation_was_met(rt: HostRuntime) -> Result<(), Fail> {
+    for at in [8, 123] {
+        let ran = run_list::<PlainFiles>(rt.alloc(), LIST, &Failing::rise(at))?;
+        ran.is(
+            &rt,
+            "again 1 2\npixels 2 1 25957 26214 30069 30326\n",
+            1,
+            "a rise",
+        );
+        assert_eq!(rt; (ran.faults, ran.moves), (0, 1), "at byte {at}");
+    }
+    Ok(())
+}
+
 // Whichever call of the tap fails, its request is answered `read fault`, and the other one as ever.
 fn each_call_fails<T: FileTable>(
     rt: &impl Abort,

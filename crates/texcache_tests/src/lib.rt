@@ -9,11 +9,15 @@ mod lines;
 #[cfg(test)]
 mod lists;
 #[cfg(test)]
+mod odd_files;
+#[cfg(test)]
 mod other_files;
 #[cfg(test)]
 mod plain_files;
 #[cfg(test)]
 mod ran;
+#[cfg(test)]
+mod real_folder;
 #[cfg(test)]
 mod regions;
 #[cfg(test)]

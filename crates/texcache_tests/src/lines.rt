@@ -1,5 +1,6 @@
 //! The lines that requests are answered with where nothing fails.
 
+use crate::odd_files::OddFiles;
 use crate::other_files::{ChangedFiles, OtherFiles};
 use crate::plain_files::PlainFiles;
 use crate::ran::{Failing, run_list};
@@ -206,6 +207,29 @@ fn refuses_names_and_files(rt: HostRuntime) -> Result<(), Fail> {
         ("pixels 0 0 0 1 1 lzw.tif\n", "bad file 1 7 259 5\n", 1),
     ];
     answers::<ChangedFiles>(&rt, rt.alloc(), &rows)
+}
+
+// A name is the rest of its line, and a number may have leading zeros. Each fault has its number.
+#[test]
+fn answers_odd_files(rt: HostRuntime) -> Result<(), Fail> {
+    let rows = [
+        (
+            "pixels 0 0 0 1 1 1 2\npixels 00 -0 000 1 0000000001  A\r.tif \n\
+             pixels 0 0 0 1 1 \u{e4}.tif",
+            "pixels 1 1 1799\npixels 1 1 2056\npixels 1 1 2313\n",
+            0,
+        ),
+        (
+            "pixels 0 0 0 1 1 dir.tif\npixels 0 0 0 1 1 tag.tif\npixels 0 0 0 1 1 type.tif\n\
+             pixels 0 0 0 1 1 zero.tif\npixels 0 0 0 1 1 nine.tif\npixels 0 0 0 1 1 few.tif\n\
+             pixels 0 0 0 1 1 end.tif\n",
+            "bad file 1 4\nbad file 1 5 257\nbad file 1 6 256\n\
+             bad file 1 8\nbad file 1 9\nbad file 1 11\n\
+             bad file 1 12 0 0\n",
+            1,
+        ),
+    ];
+    answers::<OddFiles>(&rt, rt.alloc(), &rows)
 }
 
 // A region without texels is answered as any other. The name comes first, then the fault of the

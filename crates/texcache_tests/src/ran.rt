@@ -4,16 +4,18 @@ use render_run::run;
 use std::alloc::{AllocError, Global};
 use std::process::Abort;
 use std::str::from_utf8;
-use tex_world::{FailCall, FileTable, MemFeed, MemFolder, MemSink, Plan};
+use tex_world::{FailCall, FileTable, MemFeed, MemFolder, MemSink, Plan, Rise};
 
 /// What fails: the first `enter` of the folder, and of its tap, of the feed and of the sink the
-/// call of this number, counted from 1.
+/// call of this number, counted from 1. And at its first read of which byte the folder's first file
+/// is found to have its second generation.
 #[derive(Clone, Copy)]
 pub(crate) struct Failing {
     enter: bool,
     tap: Option<u64>,
     feed: Option<u64>,
     sink: Option<u64>,
+    rise: Option<u64>,
 }
 
 impl Failing {
@@ -22,6 +24,7 @@ impl Failing {
         tap: None,
         feed: None,
         sink: None,
+        rise: None,
     };
 
     pub(crate) fn enter() -> Failing {
@@ -48,6 +51,13 @@ impl Failing {
     pub(crate) fn sink(call: u64) -> Failing {
         Failing {
             sink: Some(call),
+            ..Failing::NOTHING
+        }
+    }
+
+    pub(crate) fn rise(at: u64) -> Failing {
+        Failing {
+            rise: Some(at),
             ..Failing::NOTHING
         }
     }
@@ -97,6 +107,14 @@ fn plan_of(alloc: Global, failing: &Failing) -> Result<Plan, AllocError> {
     plan.fail_enter = failing.enter;
     if let Some(call) = failing.tap {
         plan.fail_calls.push(FailCall { tap: 0, call })?;
+    }
+    if let Some(at) = failing.rise {
+        plan.rises.push(Rise {
+            tap: 0,
+            file: 0,
+            at,
+            to: 2,
+        })?;
     }
     Ok(plan)
 }

@@ -1,7 +1,7 @@
 //! Regions whose values are worked out in another way: by the formula of the picture, or by the
 //! plain program from the bytes of the file.
 ghost use Rattle.std.specs.Prelude.{◌≡◌, ◌<◌, None};
-ghost use Rattle.tiff_dirs.specs.Level.{first_fault as fault_of, stored_levels as levels_of};
+ghost use Rattle.tiff_dirs.specs.Level.{first_fault as fault_of, stored_levels as spec_levels};
 
 use crate::other_files::OtherFiles;
 use crate::plain_files::PlainFiles;
@@ -206,11 +206,11 @@ fn plain_values(
     region: Region,
 ) -> Result<Vec<u16>, AllocError>
     requires good { fault_of bytes.now ≡ None }
-    requires stored { level < levels_of bytes.now }
+    requires stored { level < spec_levels bytes.now }
 {
     let mut values = Vec::new(alloc);
-    for texel in &texels(alloc, region, kept.width, kept.height)? {
-        for c in 0..kept.channels {
+    for texel in &texels(alloc, region, kept.shape.width, kept.shape.height)? {
+        for c in 0..kept.shape.channels {
             let value = match *texel {
                 Some((x, y)) => value_at(bytes, level, x, y, c),
                 None => 0,
@@ -240,7 +240,13 @@ fn agrees<T: FileTable>(
         let kept = level_of(alloc, &bytes, level)?;
         for region in regions {
             let values = plain_values(alloc, &bytes, level, &kept, *region)?;
-            answers::<T>(rt, alloc, (level, *region, name), kept.channels, &values)?;
+            answers::<T>(
+                rt,
+                alloc,
+                (level, *region, name),
+                kept.shape.channels,
+                &values,
+            )?;
         }
     }
     Ok(())

@@ -1,4 +1,5 @@
 -- The first entries of the tags, one entry after the other.
+use Rattle.tiff_dirs.specs.declared.form.Form.{Form}
 use Rattle.std.proofs.Common.{◌≡◌, ℕ, zero, suc, ◌+◌, ◌*◌, ◌<◌, Bool, true, false, cond, eqb, List}
 use Rattle.std.proofs.Common.{get_or, Option, Some, None, ◌≤◌, ◌≢◌, length, set, get_or-set_other}
 use Rattle.std.proofs.Common.{get_or-set_same, length-set, below_more, add-one, eq-eqb, ne_eqb}
@@ -6,9 +7,10 @@ use Rattle.std.proofs.Common.{refl, ap, ◌∙◌, arith}
 use Rattle.std.specs.Option.{option_or}
 use Rattle.tiff_dirs.specs.declared.entry.Entry.{Entry}
 use Rattle.tiff_dirs.specs.Bytes.{number_at}
+use Rattle.tiff_dirs.specs.Form.{count_bytes, entry_bytes, tag_bytes}
 use Rattle.tiff_dirs.specs.Directory.{entry_count}
-use Rattle.tiff_dirs.specs.Field.{first_entry, entry_of}
-use Rattle.tiff_dirs.specs.Inside.{IsEntry, IsKept, Covers, HasEntries, tags, noted}
+use Rattle.tiff_dirs.specs.Field.{first_entry, field_place}
+use Rattle.tiff_dirs.specs.Entries.{IsEntry, IsKept, Covers, HasEntries, tags, tag_count, noted}
 
 or_of_cond : (b : Bool) (x : ℕ) (a c : Option ℕ)
     → cond b (Some x) (option_or a c) ≡ option_or (cond b (Some x) a) c
@@ -16,64 +18,64 @@ or_of_cond true x a c = refl
 or_of_cond false x a c = refl
 
 -- the first entry of a tag among one more entry
-first_entry_more : (big : Bool) (tag : ℕ) (bytes : List ℕ) (place n : ℕ)
-    → first_entry big tag bytes place (suc n)
-    ≡ option_or (first_entry big tag bytes place n)
-    (cond (eqb (number_at big 2 bytes (place + 12 * n)) tag) (Some (place + 12 * n)) None)
+first_entry_more : (form : Form) (tag : ℕ) (bytes : List ℕ) (place n : ℕ)
+    → first_entry form tag bytes place (suc n)
+    ≡ option_or (first_entry form tag bytes place n)
+    (cond (eqb (number_at form.big tag_bytes bytes (place + entry_bytes form * n)) tag) (Some (place + entry_bytes form * n)) None)
 unfolding first_entry
-first_entry_more big tag bytes place zero =
+first_entry_more form tag bytes place zero =
     let here : place + 12 * 0 ≡ place = omega arith in
     rw here refl
-first_entry_more big tag bytes place (suc n) =
+first_entry_more form tag bytes place (suc n) =
     let there : place + 12 + 12 * n ≡ place + 12 * suc n = omega arith in
-    let later = rw there at (first_entry_more big tag bytes (place + 12) n) in
-    ap (λ (f : Option ℕ). cond (eqb (number_at big 2 bytes place) tag) (Some place) f) later
-    ∙ or_of_cond (eqb (number_at big 2 bytes place) tag) place
-    (first_entry big tag bytes (place + 12) n)
-    (cond (eqb (number_at big 2 bytes (place + 12 * suc n)) tag) (Some (place + 12 * suc n)) None)
+    let later = rw there at (first_entry_more form tag bytes (place + 12) n) in
+    ap (λ (f : Option ℕ). cond (eqb (number_at form.big tag_bytes bytes place) tag) (Some place) f) later
+    ∙ or_of_cond (eqb (number_at form.big tag_bytes bytes place) tag) place
+    (first_entry form tag bytes (place + 12) n)
+    (cond (eqb (number_at form.big tag_bytes bytes (place + 12 * suc n)) tag) (Some (place + 12 * suc n)) None)
 
-kept_more : (big : Bool) (bytes : List ℕ) (b : Bool) (old : Option Entry) (entry : Entry)
+kept_more : (form : Form) (bytes : List ℕ) (b : Bool) (old : Option Entry) (entry : Entry)
     (f : Option ℕ) (place : ℕ)
-    → IsKept big bytes old f → IsEntry big bytes place entry
-    → IsKept big bytes (cond b (option_or old (Some entry)) old)
+    → IsKept form bytes old f → entry.form ≡ form → IsEntry bytes place entry
+    → IsKept form bytes (cond b (option_or old (Some entry)) old)
     (option_or f (cond b (Some place) None))
-kept_more big bytes true None entry None place kept is = is
-kept_more big bytes true (Some e) entry (Some p) place kept is = kept
-kept_more big bytes true None entry (Some p) place kept is = absurd kept
-kept_more big bytes true (Some e) entry None place kept is = absurd kept
-kept_more big bytes false None entry None place kept is = kept
-kept_more big bytes false (Some e) entry (Some p) place kept is = kept
-kept_more big bytes false None entry (Some p) place kept is = absurd kept
-kept_more big bytes false (Some e) entry None place kept is = absurd kept
+kept_more form bytes true None entry None place kept same is = (same, is)
+kept_more form bytes true (Some e) entry (Some p) place kept same is = kept
+kept_more form bytes true None entry (Some p) place kept same is = absurd kept
+kept_more form bytes true (Some e) entry None place kept same is = absurd kept
+kept_more form bytes false None entry None place kept same is = kept
+kept_more form bytes false (Some e) entry (Some p) place kept same is = kept
+kept_more form bytes false None entry (Some p) place kept same is = absurd kept
+kept_more form bytes false (Some e) entry None place kept same is = absurd kept
 
 -- after one more entry is noted, one more is covered
-pub covers_more : (big : Bool) (bytes : List ℕ) (first n tag : ℕ) (entry : Entry)
+pub covers_more : (form : Form) (bytes : List ℕ) (first n tag : ℕ) (entry : Entry)
     (old new : List (Option Entry))
-    → Covers big bytes first n old
-    → ((t : ℕ) → t < 13 → get_or new t None ≡ noted tag entry t (get_or old t None))
-    → tag ≡ number_at big 2 bytes (first + 12 * n) → IsEntry big bytes (first + 12 * n) entry
-    → Covers big bytes first (n + 1) new
-covers_more big bytes first n tag entry old new covers notes tag-is is t lt =
-    let k = kept_more big bytes (eqb tag (get_or tags t 0)) (get_or old t None) entry
-    (first_entry big (get_or tags t 0) bytes first n) (first + 12 * n) (covers t lt) is in
-    rw (add-one n, notes t lt, first_entry_more big (get_or tags t 0) bytes first n, ← tag-is) k
+    → Covers form bytes first n old
+    → ((t : ℕ) → t < tag_count → get_or new t None ≡ noted tag entry t (get_or old t None))
+    → tag ≡ number_at form.big tag_bytes bytes (first + 12 * n) → entry.form ≡ form → IsEntry bytes (first + 12 * n) entry
+    → Covers form bytes first (n + 1) new
+covers_more form bytes first n tag entry old new covers notes tag-is same is t lt =
+    let k = kept_more form bytes (eqb tag (get_or tags t 0)) (get_or old t None) entry
+    (first_entry form (get_or tags t 0) bytes first n) (first + 12 * n) (covers t lt) same is in
+    rw (add-one n, notes t lt, first_entry_more form (get_or tags t 0) bytes first n, ← tag-is) k
 
-pub covers_none : (big : Bool) (bytes : List ℕ) (first : ℕ) (entries : List (Option Entry))
-    → ((t : ℕ) → t < 13 → get_or entries t None ≡ None) → Covers big bytes first 0 entries
+pub covers_none : (form : Form) (bytes : List ℕ) (first : ℕ) (entries : List (Option Entry))
+    → ((t : ℕ) → t < tag_count → get_or entries t None ≡ None) → Covers form bytes first 0 entries
 unfolding first_entry
-covers_none big bytes first entries none t lt = rw (none t lt) tt
+covers_none form bytes first entries none t lt = rw (none t lt) tt
 
 -- ---- noting an entry, tag by tag
 
 -- what is said of the tags below and from t on while an entry is noted
 pub record IsNoted (tag : ℕ) (entry : Entry) (t : ℕ) (old new : List (Option Entry)) : Type 0 where
-  pub long : length new ≡ 13
+  pub long : length new ≡ tag_count
   pub below : (u : ℕ) → u < t → get_or new u None ≡ noted tag entry u (get_or old u None)
   pub above : (u : ℕ) → t ≤ u → get_or new u None ≡ get_or old u None
 
 pub noted_here : (tag : ℕ) (entry : Entry) (t : ℕ) (old mid : List (Option Entry))
     → IsNoted tag entry t old mid
-    → t < 13 → tag ≡ get_or tags t 0
+    → t < tag_count → tag ≡ get_or tags t 0
     → IsNoted tag entry (t + 1) old (set mid t (option_or (get_or mid t None) (Some entry)))
 noted_here tag entry t old mid so below is =
     let lt : t < length mid = omega (arith, so.long) in
@@ -102,10 +104,10 @@ noted_past tag entry t old mid so is = record {
 
 -- ---- the whole directory
 
-pub has_entries : (big : Bool) (bytes : List ℕ) (at n : ℕ) (entries : List (Option Entry))
-    → n ≡ entry_count big bytes at → Covers big bytes (at + 2) n entries
-    → HasEntries big bytes at entries
-unfolding entry_of
-has_entries big bytes at n entries n-is covers t lt =
+pub has_entries : (form : Form) (bytes : List ℕ) (at n : ℕ) (entries : List (Option Entry))
+    → n ≡ entry_count form bytes at → Covers form bytes (at + count_bytes form) n entries
+    → HasEntries form bytes at entries
+unfolding field_place
+has_entries form bytes at n entries n-is covers t lt =
     let first : at + 2 + 12 * 0 ≡ at + 2 = omega arith in
     rw (first, ← n-is) (covers t lt)

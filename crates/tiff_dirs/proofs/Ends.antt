@@ -1,44 +1,15 @@
--- No block ends past 2^64, and there are fewer than 2^32.
-use Rattle.std.proofs.Common.{◌+◌, ◌≡◌, ℕ, ◌-◌, ◌*◌, ◌≤◌, Bool, true, false, cond, eqb}
-use Rattle.std.proofs.Common.{List, length, Option, Some, None, min, refl, arith, lit≤, inl, inr}
+-- How many bytes and how many blocks there can be.
+use Rattle.std.proofs.Common.{◌+◌, ◌≡◌, ℕ, ◌-◌, ◌*◌, ◌<◌, ◌≤◌, true, leb}
+use Rattle.std.proofs.Common.{length, get_or, Option, Some, None, refl, sym, arith}
+use Rattle.std.proofs.Common.{inl, inr, ◌^◌}
 use Rattle.std.proofs.Math.Nat.{mul-le-mul, mul-le-mul_left, mul-div-le}
-use Rattle.std.proofs.lemmas.Bool.{cases_lt}
-use Rattle.std.specs.Option.{ForNone}
-use Rattle.tiff_dirs.specs.Block.{blocks_of, block_bytes, sample_bytes, pieces_over}
-use Rattle.tiff_dirs.specs.Facts.{IsSide, IsChannelCount, IsTileSide, HasTileSides}
-use Rattle.tiff_dirs.specs.Facts.{HasOffsets}
-use Rattle.tiff_dirs.specs.Values.{AreLow}
-
-one_or_two : (b : Bool) → cond b 1 2 ≤ 2
-one_or_two true = lit≤ tt
-one_or_two false = lit≤ tt
-
-few_bytes : (depth : ℕ) → sample_bytes depth ≤ 2
-few_bytes depth = one_or_two (eqb depth 8)
-
--- a block takes 2^38 bytes at most
-block_small : (width height channels depth : ℕ) (tile : Option (ℕ × ℕ)) (rows i : ℕ)
-    → IsSide width → IsSide height → IsChannelCount channels → HasTileSides tile
-    → block_bytes width height channels depth tile rows i ≤ 274877906944
-block_small width height channels depth None rows i w h ch t =
-    let few : min rows (height - rows * i) ≤ 131072 = omega (arith, h.high) in
-    mul-le-mul few (mul-le-mul (mul-le-mul w.high ch.high) (few_bytes depth))
-block_small width height channels depth (Some tile) rows i w h ch t =
-    let sides = t tile refl in
-    mul-le-mul (mul-le-mul (mul-le-mul sides.0.high sides.1.high) ch.high) (few_bytes depth)
-
-pub has_offsets : (width height channels depth : ℕ) (tile : Option (ℕ × ℕ)) (rows : ℕ)
-    (offsets : List ℕ) → IsSide width → IsSide height → IsChannelCount channels
-    → HasTileSides tile → length offsets ≡ blocks_of width height tile rows → AreLow offsets
-    → HasOffsets width height channels depth tile rows offsets
-has_offsets width height channels depth tile rows offsets w h ch t count low = record {
-  count = count;
-  ends = λ i lt. omega (
-    arith,
-    low i lt,
-    block_small width height channels depth tile rows i w h ch t,
-  );
-}
+use Rattle.std.proofs.lemmas.Bool.{cases_lt, and_parts, leb-true}
+use Rattle.tiff_dirs.specs.declared.form.Form.{Form}
+use Rattle.tiff_dirs.specs.Block.{LevelShape, Level, blocks_of, block_bytes, pieces_over}
+use Rattle.tiff_dirs.specs.Block.{blocks_by}
+use Rattle.tiff_dirs.specs.Facts.{IsSide, IsTileSide, HasTileSides, IsLevelShape, HasOffsets}
+use Rattle.tiff_dirs.specs.ReadLevel.{lies_within, first_outside}
+use Rattle.tiff_dirs.proofs.Finding.{none_of_range}
 
 -- ---- a level has fewer than 2^32 blocks
 
@@ -58,11 +29,32 @@ few_tiles side piece s p = elim (cases_lt 8193 (pieces_over side piece)) [
       absurd (omega (arith, more, s.high, p.low, mul-div-le (side + piece - 1) piece))
 ]
 
-pub few_blocks : (width height : ℕ) (tile : Option (ℕ × ℕ)) (rows : ℕ) → IsSide width
-    → IsSide height → HasTileSides tile → ForNone tile (1 ≤ rows)
-    → blocks_of width height tile rows ≤ 67125249
-few_blocks width height None rows w h t some =
-    omega (arith, few_strips height rows h (some refl))
-few_blocks width height (Some tile) rows w h t some =
+few_by : (shape : LevelShape) (tile : Option (ℕ × ℕ)) → IsSide shape.width → IsSide shape.height
+    → HasTileSides tile → 1 ≤ shape.rows_per_strip → blocks_by shape tile ≤ 67125249
+few_by shape None w h t some = omega (arith, few_strips shape.height shape.rows_per_strip h some)
+few_by shape (Some tile) w h t some =
     let sides = t tile refl in
-    mul-le-mul (few_tiles width tile.0 w sides.0) (few_tiles height tile.1 h sides.1)
+    mul-le-mul (few_tiles shape.width tile.0 w sides.0) (few_tiles shape.height tile.1 h sides.1)
+
+pub few_blocks : (shape : LevelShape) → IsLevelShape shape → blocks_of shape ≤ 67125249
+few_blocks shape is = few_by shape shape.tile is.width is.height is.tile is.rows
+
+-- ---- no block that lies in a file ends past 2^64
+
+end_of : (form : Form) (file : ℕ) (level : Level) (i : ℕ) → lies_within form file level i ≡ true
+    → get_or level.offsets i 0 + block_bytes level.shape i ≤ file
+end_of form file level i h =
+    leb-true (get_or level.offsets i 0 + block_bytes level.shape i) file
+    (and_parts _ (leb (get_or level.offsets i 0 + block_bytes level.shape i) file) h).1
+
+pub has_offsets : (form : Form) (file : ℕ) (level : Level) → file < 2 ^ 64
+    → length level.offsets ≡ blocks_of level.shape → None ≡ first_outside form file level
+    → HasOffsets level
+has_offsets form file level low count none = record {
+  count = count;
+  ends = λ i lt.
+      let within = none_of_range (lies_within form file level) (blocks_of level.shape) (sym none) i
+      (omega (arith, count)) in
+      let end = end_of form file level i within in
+      omega arith;
+}

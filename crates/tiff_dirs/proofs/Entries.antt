@@ -1,51 +1,31 @@
 -- What is kept of an entry.
-use Rattle.std.proofs.Common.{◌≡◌, ℕ, zero, suc, ◌+◌, ◌*◌, ◌<◌, ◌≤◌, Bool, true, false, List, []}
-use Rattle.std.proofs.Common.{◌∷◌, length, get_or, refl, arith, ltb, leb, eqb, cond, lit≤}
+use Rattle.tiff_dirs.specs.declared.form.Form.{Form}
+use Rattle.std.proofs.Common.{◌≡◌, ℕ, ◌+◌, ◌*◌, ◌<◌, ◌≤◌, Bool, true, false, List}
+use Rattle.std.proofs.Common.{refl, ltb, leb, eqb, cond, lit≤}
 use Rattle.std.specs.Prelude.{◌&&◌}
 use Rattle.std.proofs.lemmas.Bool.{le-leb, lt-leb, leb-true, ltb-true, and_parts}
-use Rattle.tiff_dirs.specs.Bytes.{number_at}
+use Rattle.tiff_dirs.specs.Form.{offset_bytes, offset_at, value_field_at}
 use Rattle.tiff_dirs.specs.Field.{count_of, type_size, value_size, values_place}
 use Rattle.tiff_dirs.specs.declared.entry.Entry.{Entry}
-use Rattle.tiff_dirs.specs.Inside.{is_read, is_shaped}
-use Rattle.tiff_dirs.specs.Reader.{IsPartAt}
+use Rattle.tiff_dirs.specs.Entries.{is_read, is_shaped}
 
 -- values that fit stand in the entry
-pub place_inner : (big : Bool) (bytes : List ℕ) (place : ℕ)
-    → count_of big bytes place * value_size big bytes place ≤ 4
-    → values_place big bytes place ≡ place + 8
+pub place_inner : (form : Form) (bytes : List ℕ) (place : ℕ)
+    → count_of form bytes place * value_size form bytes place ≤ offset_bytes form
+    → values_place form bytes place ≡ place + value_field_at form
 unfolding values_place
-place_inner big bytes place h =
-    let fits = le-leb (count_of big bytes place * value_size big bytes place) 4 h in
+place_inner form bytes place h =
+    let fits = le-leb (count_of form bytes place * value_size form bytes place) 4 h in
     rw fits refl
 
 -- others at the offset there
-pub place_far : (big : Bool) (bytes : List ℕ) (place : ℕ)
-    → 4 < count_of big bytes place * value_size big bytes place
-    → values_place big bytes place ≡ number_at big 4 bytes (place + 8)
+pub place_far : (form : Form) (bytes : List ℕ) (place : ℕ)
+    → offset_bytes form < count_of form bytes place * value_size form bytes place
+    → values_place form bytes place ≡ offset_at form bytes (place + value_field_at form)
 unfolding values_place
-place_far big bytes place h =
-    let fits = lt-leb (count_of big bytes place * value_size big bytes place) 4 h in
+place_far form bytes place h =
+    let fits = lt-leb (count_of form bytes place * value_size form bytes place) 4 h in
     rw fits refl
-
-part_at : (bytes : List ℕ) (place : ℕ) (raw : List ℕ) → IsPartAt bytes place raw
-    → (i j : ℕ) → i < length raw
-    → j ≡ place + i → get_or raw i 0 ≡ get_or bytes j 0
-part_at bytes place raw h i j lt e = rw e (h i lt)
-
--- the last four bytes of an entry
-pub four_of_raw : (bytes : List ℕ) (place : ℕ) (raw : List ℕ)
-    → IsPartAt bytes place raw → 12 ≤ length raw
-    → IsPartAt bytes (place + 8)
-    (get_or raw 8 0 ∷ get_or raw 9 0 ∷ get_or raw 10 0 ∷ get_or raw 11 0 ∷ [])
-four_of_raw bytes place raw h le zero lt =
-    part_at bytes place raw h 8 (place + 8 + 0) (omega arith) (omega arith)
-four_of_raw bytes place raw h le (suc zero) lt =
-    part_at bytes place raw h 9 (place + 8 + 1) (omega arith) (omega arith)
-four_of_raw bytes place raw h le (suc (suc zero)) lt =
-    part_at bytes place raw h 10 (place + 8 + 2) (omega arith) (omega arith)
-four_of_raw bytes place raw h le (suc (suc (suc zero))) lt =
-    part_at bytes place raw h 11 (place + 8 + 3) (omega arith) (omega arith)
-four_of_raw bytes place raw h le (suc (suc (suc (suc k)))) lt = absurd (omega arith)
 
 -- ---- the shape
 

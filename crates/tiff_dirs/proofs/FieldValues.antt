@@ -1,151 +1,152 @@
 -- The values of a field, from what is kept of its entry.
+use Rattle.tiff_dirs.specs.declared.form.Form.{Form}
 use Rattle.std.proofs.Common.{◌≡◌, ℕ}
-use Rattle.std.proofs.Common.{◌+◌, ◌*◌, ◌<◌, ◌≤◌, Bool, true, false, List, [], map}
+use Rattle.std.proofs.Common.{◌+◌, ◌*◌, ◌<◌, ◌≤◌, true, false, List, [], map}
 use Rattle.std.proofs.Common.{length, get_or, Option, Some, None, refl, sym, ap, ◌∙◌, arith}
 use Rattle.std.specs.Prelude.{is_some, not}
 use Rattle.std.specs.Option.{option_to_list, unwrap_or}
 use Rattle.std.specs.List.{range_with_len}
 use Rattle.std.proofs.lemmas.List.FromFn.{get_or-map-range_with_len, length-map-range_with_len}
 use Rattle.tiff_dirs.specs.declared.entry.Entry.{Entry}
-use Rattle.tiff_dirs.specs.Bytes.{number_at}
 use Rattle.tiff_dirs.specs.Field.{count_of, type_size, values_place, entry_value, has_shape}
-use Rattle.tiff_dirs.specs.Field.{entry_values, entry_of, field_values, default_of}
+use Rattle.tiff_dirs.specs.Field.{entry_values, field_place, field_values, default_of}
 use Rattle.tiff_dirs.specs.Fault.{is_misshapen}
 use Rattle.tiff_dirs.specs.Reader.{IsPartAt}
-use Rattle.tiff_dirs.specs.Inside.{IsEntry, IsKept, is_shaped}
+use Rattle.tiff_dirs.specs.Entries.{IsEntry, IsKept, is_shaped, part_value}
 use Rattle.tiff_dirs.proofs.BytesOfParts.{number_of_part}
 use Rattle.tiff_dirs.proofs.Entries.{shape_parts}
 
 -- ---- what is kept of an entry
 
-pub kept_none : (big : Bool) (bytes : List ℕ) (o : Option ℕ) → IsKept big bytes None o → o ≡ None
-kept_none big bytes None kept = refl
-kept_none big bytes (Some place) kept = absurd kept
+pub kept_none : (form : Form) (bytes : List ℕ) (o : Option ℕ) → IsKept form bytes None o → o ≡ None
+kept_none form bytes None kept = refl
+kept_none form bytes (Some place) kept = absurd kept
 
-pub kept_some : (big : Bool) (bytes : List ℕ) (entry : Entry) (o : Option ℕ)
-    → IsKept big bytes (Some entry) o
-    → (place : ℕ) × (o ≡ Some place) × IsEntry big bytes place entry
-kept_some big bytes entry None kept = absurd kept
-kept_some big bytes entry (Some place) kept = (place, refl, kept)
+pub kept_some : (form : Form) (bytes : List ℕ) (entry : Entry) (o : Option ℕ)
+    → IsKept form bytes (Some entry) o
+    → (place : ℕ) × (o ≡ Some place) × (entry.form ≡ form) × IsEntry bytes place entry
+kept_some form bytes entry None kept = absurd kept
+kept_some form bytes entry (Some place) kept = (place, refl, kept.0, kept.1)
 
-pub kept_there : (big : Bool) (bytes : List ℕ) (kept : Option Entry) (o : Option ℕ)
-    → IsKept big bytes kept o
+pub kept_there : (form : Form) (bytes : List ℕ) (kept : Option Entry) (o : Option ℕ)
+    → IsKept form bytes kept o
     → is_some kept ≡ is_some o
-kept_there big bytes None None is = refl
-kept_there big bytes (Some entry) (Some place) is = refl
-kept_there big bytes None (Some place) is = absurd is
-kept_there big bytes (Some entry) None is = absurd is
+kept_there form bytes None None is = refl
+kept_there form bytes (Some entry) (Some place) is = refl
+kept_there form bytes None (Some place) is = absurd is
+kept_there form bytes (Some entry) None is = absurd is
 
-pub shape_is : (big : Bool) (bytes : List ℕ) (place : ℕ) (entry : Entry)
-    → IsEntry big bytes place entry
-    → is_shaped (length bytes) entry ≡ has_shape big bytes place
+pub shape_is : (form : Form) (bytes : List ℕ) (place : ℕ) (entry : Entry)
+    → entry.form ≡ form → IsEntry bytes place entry
+    → is_shaped (length bytes) entry ≡ has_shape form bytes place
 unfolding has_shape
-shape_is big bytes place entry is = rw (is.kind, is.count, is.start) refl
+shape_is form bytes place entry same is = rw (is.kind, is.count, is.start, same) refl
 
 -- ---- the values of an entry
 
-pub entry_values_none : (big : Bool) (bytes : List ℕ) (place : ℕ)
-    → has_shape big bytes place ≡ false
-    → entry_values big bytes place ≡ []
+pub entry_values_none : (form : Form) (bytes : List ℕ) (place : ℕ)
+    → has_shape form bytes place ≡ false
+    → entry_values form bytes place ≡ []
 unfolding entry_values
-entry_values_none big bytes place h = rw h refl
+entry_values_none form bytes place h = rw h refl
 
-pub entry_values_some : (big : Bool) (bytes : List ℕ) (place : ℕ) → has_shape big bytes place ≡ true
-    → entry_values big bytes place
-    ≡ map (entry_value big bytes place) (range_with_len 0 (count_of big bytes place))
+pub entry_values_some : (form : Form) (bytes : List ℕ) (place : ℕ) → has_shape form bytes place ≡ true
+    → entry_values form bytes place
+    ≡ map (entry_value form bytes place) (range_with_len 0 (count_of form bytes place))
 unfolding entry_values
-entry_values_some big bytes place h = rw h refl
+entry_values_some form bytes place h = rw h refl
 
-pub entry_values_length : (big : Bool) (bytes : List ℕ) (place : ℕ)
-    → has_shape big bytes place ≡ true
-    → length (entry_values big bytes place) ≡ count_of big bytes place
-entry_values_length big bytes place h = rw (entry_values_some big bytes place h)
-    (length-map-range_with_len (entry_value big bytes place) 0 (count_of big bytes place))
+pub entry_values_length : (form : Form) (bytes : List ℕ) (place : ℕ)
+    → has_shape form bytes place ≡ true
+    → length (entry_values form bytes place) ≡ count_of form bytes place
+entry_values_length form bytes place h = rw (entry_values_some form bytes place h)
+    (length-map-range_with_len (entry_value form bytes place) 0 (count_of form bytes place))
 
-pub entry_values_at : (big : Bool) (bytes : List ℕ) (place : ℕ)
-    → has_shape big bytes place ≡ true → (k : ℕ)
-    → k < count_of big bytes place
-    → get_or (entry_values big bytes place) k 0 ≡ entry_value big bytes place k
-entry_values_at big bytes place h k lt =
-    rw (entry_values_some big bytes place h)
-    (get_or-map-range_with_len (entry_value big bytes place) 0 (count_of big bytes place) k k 0 lt
+pub entry_values_at : (form : Form) (bytes : List ℕ) (place : ℕ)
+    → has_shape form bytes place ≡ true → (k : ℕ)
+    → k < count_of form bytes place
+    → get_or (entry_values form bytes place) k 0 ≡ entry_value form bytes place k
+entry_values_at form bytes place h k lt =
+    rw (entry_values_some form bytes place h)
+    (get_or-map-range_with_len (entry_value form bytes place) 0 (count_of form bytes place) k k 0 lt
     (omega arith))
 
 -- value from + k of an entry, from the bytes of its values from one of them on
-pub value_of_part : (big : Bool) (bytes : List ℕ) (place : ℕ) (entry : Entry)
-    → IsEntry big bytes place entry
+pub value_of_part : (bytes : List ℕ) (place : ℕ) (entry : Entry) → IsEntry bytes place entry
     → (from k : ℕ) (part : List ℕ)
     → IsPartAt bytes (entry.start + type_size entry.kind * from) part
     → type_size entry.kind * k + type_size entry.kind ≤ length part
-    → number_at big (type_size entry.kind) part (type_size entry.kind * k)
-    ≡ entry_value big bytes place (from + k)
+    → part_value entry part k ≡ entry_value entry.form bytes place (from + k)
 unfolding entry_value
-value_of_part big bytes place entry is from k part here long =
+value_of_part bytes place entry is from k part here long =
     let size = type_size entry.kind in
-    let there = number_of_part big size (size * k)
+    let there = number_of_part entry.form.big size (size * k)
     (entry.start + size * from) bytes part here long in
     let at : entry.start + size * from + size * k
-    ≡ values_place big bytes place + size * (from + k) =
+    ≡ values_place entry.form bytes place + size * (from + k) =
     omega (arith, is.start) in
     there ∙ rw (at, is.kind) refl
 
 -- ---- the values of a field
 
-pub field_values_none : (big : Bool) (bytes : List ℕ) (at tag : ℕ)
-    → entry_of big bytes at tag ≡ None
-    → field_values big bytes at tag ≡ default_of tag
+pub field_values_none : (form : Form) (bytes : List ℕ) (at tag : ℕ)
+    → field_place form bytes at tag ≡ None
+    → field_values form bytes at tag ≡ default_of tag
 unfolding field_values
-field_values_none big bytes at tag h = rw h refl
+field_values_none form bytes at tag h = rw h refl
 
-pub field_values_some : (big : Bool) (bytes : List ℕ) (at tag place : ℕ)
-    → entry_of big bytes at tag ≡ Some place
-    → field_values big bytes at tag ≡ entry_values big bytes place
+pub field_values_some : (form : Form) (bytes : List ℕ) (at tag place : ℕ)
+    → field_place form bytes at tag ≡ Some place
+    → field_values form bytes at tag ≡ entry_values form bytes place
 unfolding field_values
-field_values_some big bytes at tag place h = rw h refl
+field_values_some form bytes at tag place h = rw h refl
 
 -- what is kept of a field tells its values: an absent one has its default,
-pub absent_values : (big : Bool) (bytes : List ℕ) (at tag : ℕ)
-    → IsKept big bytes None (entry_of big bytes at tag)
-    → field_values big bytes at tag ≡ default_of tag
-absent_values big bytes at tag kept =
-    field_values_none big bytes at tag (kept_none big bytes (entry_of big bytes at tag) kept)
+pub absent_values : (form : Form) (bytes : List ℕ) (at tag : ℕ)
+    → IsKept form bytes None (field_place form bytes at tag)
+    → field_values form bytes at tag ≡ default_of tag
+absent_values form bytes at tag kept =
+    field_values_none form bytes at tag (kept_none form bytes (field_place form bytes at tag) kept)
 
 -- a misshapen one has none,
-pub misshapen_values : (big : Bool) (bytes : List ℕ) (at tag : ℕ) (entry : Entry)
-    → IsKept big bytes (Some entry) (entry_of big bytes at tag)
+pub misshapen_values : (form : Form) (bytes : List ℕ) (at tag : ℕ) (entry : Entry)
+    → IsKept form bytes (Some entry) (field_place form bytes at tag)
     → is_shaped (length bytes) entry ≡ false
-    → field_values big bytes at tag ≡ []
-misshapen_values big bytes at tag entry kept bad =
-    let k = kept_some big bytes entry (entry_of big bytes at tag) kept in
-    let shape = sym (shape_is big bytes k.0 entry k.2) ∙ bad in
-    field_values_some big bytes at tag k.0 k.1 ∙ entry_values_none big bytes k.0 shape
+    → field_values form bytes at tag ≡ []
+misshapen_values form bytes at tag entry kept bad =
+    let k = kept_some form bytes entry (field_place form bytes at tag) kept in
+    let shape = sym (shape_is form bytes k.0 entry k.2 k.3) ∙ bad in
+    field_values_some form bytes at tag k.0 k.1 ∙ entry_values_none form bytes k.0 shape
 
 -- and another those of its entry
-pub record HasValues (big : Bool) (bytes : List ℕ) (at tag : ℕ) (entry : Entry) : Type 0 where
+pub record HasValues (form : Form) (bytes : List ℕ) (at tag : ℕ) (entry : Entry) : Type 0 where
   pub place : ℕ
-  pub is : IsEntry big bytes place entry
-  pub same : field_values big bytes at tag ≡ entry_values big bytes place
-  pub long : length (field_values big bytes at tag) ≡ entry.count
+  pub is : IsEntry bytes place entry
+  pub same : field_values form bytes at tag ≡ entry_values form bytes place
+  pub long : length (field_values form bytes at tag) ≡ entry.count
   pub some : 0 < entry.count
   pub each : (k : ℕ) → k < entry.count
-      → get_or (field_values big bytes at tag) k 0 ≡ entry_value big bytes place k
+      → get_or (field_values form bytes at tag) k 0 ≡ entry_value entry.form bytes place k
 
-pub shaped_values : (big : Bool) (bytes : List ℕ) (at tag : ℕ) (entry : Entry)
-    → IsKept big bytes (Some entry) (entry_of big bytes at tag)
-    → is_shaped (length bytes) entry ≡ true → HasValues big bytes at tag entry
-shaped_values big bytes at tag entry kept good =
-    let k = kept_some big bytes entry (entry_of big bytes at tag) kept in
-    let shape = sym (shape_is big bytes k.0 entry k.2) ∙ good in
-    let same = field_values_some big bytes at tag k.0 k.1 in
-    let long = entry_values_length big bytes k.0 shape in
+pub shaped_values : (form : Form) (bytes : List ℕ) (at tag : ℕ) (entry : Entry)
+    → IsKept form bytes (Some entry) (field_place form bytes at tag)
+    → is_shaped (length bytes) entry ≡ true → HasValues form bytes at tag entry
+shaped_values form bytes at tag entry kept good =
+    let k = kept_some form bytes entry (field_place form bytes at tag) kept in
+    let shape = sym (shape_is form bytes k.0 entry k.2 k.3) ∙ good in
+    let same = field_values_some form bytes at tag k.0 k.1 in
+    let long = entry_values_length form bytes k.0 shape in
+    let count : entry.count ≡ count_of form bytes k.0 =
+    k.3.count ∙ ap (λ (f : Form). count_of f bytes k.0) k.2 in
     record {
       place = k.0;
-      is = k.2;
+      is = k.3;
       same = same;
-      long = ap length same ∙ long ∙ sym k.2.count;
+      long = ap length same ∙ long ∙ sym count;
       some = (shape_parts (length bytes) entry good).some;
       each = λ i lt. ap (λ (xs : List ℕ). get_or xs i 0) same
-          ∙ entry_values_at big bytes k.0 shape i (omega (arith, k.2.count));
+          ∙ entry_values_at form bytes k.0 shape i (omega (arith, count))
+          ∙ ap (λ (f : Form). entry_value f bytes k.0 i) (sym k.2);
     }
 
 -- the first of the default's values, if any
@@ -154,9 +155,9 @@ default_first None = refl
 default_first (Some value) = refl
 
 -- a field is misshapen where what is kept of its entry is
-pub misshapen_is : (big : Bool) (bytes : List ℕ) (at tag : ℕ) (entry : Entry)
-    → IsKept big bytes (Some entry) (entry_of big bytes at tag)
-    → not (is_shaped (length bytes) entry) ≡ is_misshapen big bytes at tag
-misshapen_is big bytes at tag entry kept =
-    let k = kept_some big bytes entry (entry_of big bytes at tag) kept in
-    rw (k.1, shape_is big bytes k.0 entry k.2) refl
+pub misshapen_is : (form : Form) (bytes : List ℕ) (at tag : ℕ) (entry : Entry)
+    → IsKept form bytes (Some entry) (field_place form bytes at tag)
+    → not (is_shaped (length bytes) entry) ≡ is_misshapen form bytes at tag
+misshapen_is form bytes at tag entry kept =
+    let k = kept_some form bytes entry (field_place form bytes at tag) kept in
+    rw (k.1, shape_is form bytes k.0 entry k.2 k.3) refl

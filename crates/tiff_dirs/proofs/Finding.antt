@@ -8,6 +8,7 @@ use Rattle.std.specs.List.{list_all, range_with_len}
 use Rattle.std.proofs.lemmas.List.FromFn.{get_or-range_with_len, length-range_with_len}
 use Rattle.std.proofs.lemmas.Bool.{and_parts, cases_lt, not_from_true}
 use Rattle.std.proofs.lemmas.List.{get_or-take, length-take}
+use Rattle.std.proofs.lemmas.Option.{none-some}
 use Rattle.tiff_dirs.specs.Values.{IsFirstOther}
 
 pub find_none : (test : ℕ → Bool) (xs : List ℕ)
@@ -110,3 +111,25 @@ first_below test n k lt before here =
     find_first test (range_with_len 0 n) k within
     (λ j less. ap test (at j (omega arith)) ∙ before j less) (ap test (at k lt) ∙ here)
     ∙ ap (λ x. Some x) (at k lt)
+
+-- none fails among them, so each passes
+first_passes : (test : ℕ → Bool) (x : ℕ) (xs : List ℕ) (b : Bool) → test x ≡ b
+    → find (λ v. not (test v)) (x ∷ xs) ≡ None
+    → (test x ≡ true) × (find (λ v. not (test v)) xs ≡ None)
+first_passes test x xs true is none = (is, rw is at none)
+first_passes test x xs false is none = absurd (none-some x (sym (rw is at none)))
+
+each_passes : (test : ℕ → Bool) (xs : List ℕ) → find (λ v. not (test v)) xs ≡ None → (k : ℕ)
+    → k < length xs → test (get_or xs k 0) ≡ true
+each_passes test [] none k lt = absurd (omega arith)
+each_passes test (x ∷ xs) none zero lt = (first_passes test x xs (test x) refl none).0
+each_passes test (x ∷ xs) none (suc k) lt =
+    each_passes test xs (first_passes test x xs (test x) refl none).1 k (omega arith)
+
+pub none_of_range : (test : ℕ → Bool) (n : ℕ)
+    → find (λ x. not (test x)) (range_with_len 0 n) ≡ None → (k : ℕ) → k < n → test k ≡ true
+none_of_range test n none k lt =
+    let within : k < length (range_with_len 0 n) = rw length-range_with_len lt in
+    let there : get_or (range_with_len 0 n) k 0 ≡ k =
+    get_or-range_with_len 0 n k 0 lt ∙ zero-add k in
+    ap test (sym there) ∙ each_passes test (range_with_len 0 n) none k within

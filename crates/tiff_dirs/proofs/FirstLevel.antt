@@ -1,48 +1,49 @@
 -- The first level of a file stands where the header says.
-use Rattle.std.proofs.Common.{◌≡◌, ℕ, List, [], ◌∷◌, Some, None, refl, ap, ◌∙◌}
-use Rattle.std.specs.Prelude.{Option}
+use Rattle.std.proofs.Common.{◌≡◌, ℕ, List, [], ◌∷◌, refl, ap, ◌∙◌}
 use Rattle.std.specs.Option.{option_or}
-use Rattle.std.proofs.lemmas.Option.{none-some}
-use Rattle.tiff_dirs.specs.declared.header.Header.{Header}
-use Rattle.tiff_dirs.specs.declared.fault.TiffFault.{TiffFault}
-use Rattle.tiff_dirs.specs.declared.level.Stored.{Stored}
-use Rattle.tiff_dirs.specs.Bytes.{is_big}
+use Rattle.tiff_dirs.specs.declared.form.Form.{Form}
+use Rattle.tiff_dirs.specs.declared.place.Place.{Place}
+use Rattle.tiff_dirs.specs.declared.read_level.ReadLevel.{ReadLevel}
+use Rattle.tiff_dirs.specs.Form.{form_of}
 use Rattle.tiff_dirs.specs.Directory.{directory_place}
-use Rattle.tiff_dirs.specs.Fault.{directory_fault}
+use Rattle.tiff_dirs.specs.Block.{level_at}
+use Rattle.tiff_dirs.specs.Fault.{first_of, directory_fault}
 use Rattle.tiff_dirs.specs.Header.{IsHeader}
 use Rattle.tiff_dirs.specs.Level.{header_fault, level_place, level_of, data_faults, first_fault}
-use Rattle.tiff_dirs.specs.Chain.{IsStoredAt, IsEnd}
-use Rattle.tiff_dirs.specs.Shown.{shown}
+use Rattle.tiff_dirs.specs.Entries.{IsLinkAt}
+use Rattle.tiff_dirs.specs.ReadLevel.{IsLevelAt, seen_level}
+use Rattle.tiff_dirs.specs.Chain.{IsEnd}
 
-pub never : {q : Option TiffFault} (fault : TiffFault) → None ≡ Some fault → q ≡ Some fault
-never fault none = absurd (none-some fault none)
-
-module _ (bytes : List ℕ) (header : Header) (is : IsHeader bytes header) where
-  place_there : header.first ≡ level_place bytes 0
+module _ (bytes : List ℕ) (place : Place) (is : IsHeader bytes place) where
+  place_there : place.at ≡ level_place bytes 0
   unfolding directory_place
-  place_there = is.first
+  place_there = is.at
 
-  pub fault_there : directory_fault header.big bytes header.first
-      ≡ directory_fault (is_big bytes) bytes (level_place bytes 0)
-  fault_there = rw (is.big, place_there) refl
+  pub fault_there : directory_fault place.form bytes place.at
+      ≡ directory_fault (form_of bytes) bytes (level_place bytes 0)
+  fault_there =
+      ap (λ (f : Form). directory_fault f bytes place.at) is.form
+      ∙ ap (λ (p : ℕ). directory_fault (form_of bytes) bytes p) place_there
 
-  pub first_there : (first : Stored) → IsStoredAt header.big bytes header.first first
-      → shown first.dir ∷ [] ≡ level_of bytes 0 ∷ []
+  pub first_there : (read : ReadLevel) → IsLevelAt place.form bytes place.at read
+      → seen_level read ≡ level_of bytes 0
   unfolding level_of
-  first_there first stored =
-      ap (λ l. l ∷ []) (stored.level ∙ rw (is.big, place_there) refl)
+  first_there read at =
+      at.level
+      ∙ ap (λ (f : Form). level_at f bytes place.at) is.form
+      ∙ ap (λ (p : ℕ). level_at (form_of bytes) bytes p) place_there
 
-  pub end_there : (first : Stored) → IsStoredAt header.big bytes header.first first
-      → IsEnd bytes 0 first.next_at
-  end_there first stored = record {
-    inside = rw (← place_there, ← is.big) stored.inside;
-    next = rw (← place_there, ← is.big) stored.next;
-  }
+  pub end_there : (read : ReadLevel) → IsLevelAt place.form bytes place.at read
+      → IsEnd bytes 0 read.next
+  end_there read at =
+      let link : IsLinkAt (form_of bytes) bytes place.at read.next =
+      rw is.form at at.link in
+      rw (← place_there) link
 
 -- the first fault of a file, in the order in which its parts are read
 pub fault_is : (bytes : List ℕ) → first_fault bytes
-    ≡ option_or (header_fault bytes) (option_or
-    (directory_fault (is_big bytes) bytes (level_place bytes 0))
-    (option_or (data_faults bytes) None))
+    ≡ option_or (header_fault bytes)
+    (first_of (directory_fault (form_of bytes) bytes (level_place bytes 0)
+    ∷ data_faults bytes ∷ []))
 unfolding first_fault
 fault_is bytes = refl

@@ -1,15 +1,18 @@
 -- The levels that a file stores, one after the other.
 use Rattle.std.proofs.Common.{◌≡◌, ℕ, zero, suc, ◌+◌, ◌<◌, Bool, true, false, List, [], ◌∷◌, ◌++◌}
 use Rattle.std.proofs.Common.{Option, Some, None, refl, sym, ap, ◌∙◌, arith, add-zero, zero-add}
-use Rattle.std.proofs.Common.{add-one, below_more, get_or}
+use Rattle.std.proofs.Common.{add-one, below_more, get_or, ◌≤◌}
 use Rattle.std.specs.Option.{option_and_then, unwrap_or}
 use Rattle.std.proofs.lemmas.Option.{none-some}
 use Rattle.std.proofs.lemmas.List.FromFn.{map-range_with_len_more, get_or-map-range_with_len}
-use Rattle.tiff_dirs.specs.Bytes.{is_big}
+use Rattle.tiff_dirs.specs.Form.{form_of}
 use Rattle.tiff_dirs.specs.Directory.{lies_inside, next_directory, directory_place}
 use Rattle.tiff_dirs.specs.Block.{Level}
 use Rattle.tiff_dirs.specs.Level.{is_level, level_of, level_place, leading, stored_levels}
-use Rattle.tiff_dirs.specs.Chain.{AreLevels, is_followed, stored_of}
+use Rattle.tiff_dirs.specs.Level.{max_levels}
+use Rattle.tiff_dirs.specs.Fault.{data_fault}
+use Rattle.tiff_dirs.specs.NextLevel.{is_followed}
+use Rattle.tiff_dirs.specs.Chain.{AreLevels, AreAll}
 
 -- ---- how many pass in a row
 
@@ -36,21 +39,39 @@ all_pass test k (suc t) each =
     ap test e ∙ each (suc j) (omega arith)) in
     rw first (ap suc rest)
 
+-- at least as many as pass
+at_least : (test : ℕ → Bool) (k t m : ℕ) → m ≤ t → ((j : ℕ) → j < m → test (k + j) ≡ true)
+    → m ≤ leading test k t
+at_least test k t zero le each = omega arith
+at_least test k zero (suc m) le each = absurd (omega arith)
+at_least test k (suc t) (suc m) le each =
+    let first : test k ≡ true = rw add-zero at (each 0 (omega arith)) in
+    let rest = at_least test (suc k) t m (omega arith)
+    (λ j below. let e : suc k + j ≡ k + suc j = omega arith in
+    ap test e ∙ each (suc j) (omega arith)) in
+    let more : suc m ≤ suc (leading test (suc k) t) = omega arith in
+    rw first more
+
 module _ (bytes : List ℕ) where
   -- ---- the levels so far
 
-  pub one_level : (levels : List Level) → levels ≡ level_of bytes 0 ∷ [] → AreLevels bytes 1 levels
+  pub one_level : (levels : List Level) → levels ≡ level_of bytes 0 ∷ []
+      → data_fault (form_of bytes) bytes 0 (level_of bytes 0) ≡ None → AreLevels bytes 1 levels
   unfolding is_level
-  one_level levels is = record {
+  one_level levels is good = record {
+    blocks = λ k lt. let zero-is : k ≡ 0 = omega arith in
+        rw zero-is good;
     each = λ k lt. let zero-is : k ≡ 0 = omega arith in
         ap (is_level bytes) zero-is;
     same = is;
   }
 
   pub more_levels : (n : ℕ) (levels : List Level) (level : Level) → AreLevels bytes n levels
-      → is_level bytes n ≡ true → level ≡ level_of bytes n
+      → is_level bytes n ≡ true → data_fault (form_of bytes) bytes n (level_of bytes n) ≡ None
+      → level ≡ level_of bytes n
       → AreLevels bytes (n + 1) (levels ++ level ∷ [])
-  more_levels n levels level are is same = record {
+  more_levels n levels level are is good same = record {
+    blocks = below_more _ _ are.blocks good;
     each = below_more _ _ are.each is;
     same = rw (are.same, same)
         (sym (map-range_with_len_more (level_of bytes) 0 n n (zero-add n)));
@@ -64,41 +85,50 @@ module _ (bytes : List ℕ) where
       ∙ get_or-map-range_with_len (level_of bytes) 0 n k k d lt (zero-add k)
 
   pub followed_is : (k : ℕ) (b : Bool) → is_level bytes k ≡ true
-      → is_followed (is_big bytes) bytes (level_place bytes 0) (level_place bytes k) ≡ b
+      → is_followed (form_of bytes) bytes (level_place bytes 0) (level_place bytes k) ≡ b
       → is_level bytes (k + 1) ≡ b
   unfolding is_level
   followed_is k b is followed = rw (add-one k, is) followed
 
-  next_of_zero : next_directory (is_big bytes) bytes 0 ≡ None
+  next_of_zero : next_directory (form_of bytes) bytes 0 ≡ None
   unfolding next_directory lies_inside
   next_of_zero = refl
 
   place_step : (place : Option ℕ) (next : ℕ)
-      → next_directory (is_big bytes) bytes (unwrap_or place 0) ≡ Some next
-      → unwrap_or (option_and_then (next_directory (is_big bytes) bytes) place) 0 ≡ next
+      → next_directory (form_of bytes) bytes (unwrap_or place 0) ≡ Some next
+      → unwrap_or (option_and_then (next_directory (form_of bytes) bytes) place) 0 ≡ next
   place_step None next h = absurd (none-some next (sym next_of_zero ∙ h))
   place_step (Some at) next h = rw h refl
 
   -- the place after a level's place
   pub place_more : (k next : ℕ)
-      → next_directory (is_big bytes) bytes (level_place bytes k) ≡ Some next
+      → next_directory (form_of bytes) bytes (level_place bytes k) ≡ Some next
       → level_place bytes (k + 1) ≡ next
   unfolding directory_place
   place_more k next h =
-      rw (add-one k) (place_step (directory_place (is_big bytes) bytes k) next h)
+      rw (add-one k) (place_step (directory_place (form_of bytes) bytes k) next h)
 
   -- ---- all of them
 
-  pub all_stored : (levels : List Level) (n : ℕ) → n < 18 → AreLevels bytes n levels
-      → is_level bytes n ≡ false → levels ≡ stored_of bytes
+  pub all_stored : (levels : List Level) (n : ℕ) → n < max_levels → AreLevels bytes n levels
+      → is_level bytes n ≡ false → AreAll bytes levels
   unfolding stored_levels
   all_stored levels n lt are stop =
-      let count = stop_at (is_level bytes) 0 18 n lt
+      let count = stop_at (is_level bytes) 0 max_levels n lt
       (λ j below. rw zero-add (are.each j below)) (rw zero-add stop) in
-      rw count are.same
+      rw count (are.same, stop)
 
-  pub most_stored : (levels : List Level) → AreLevels bytes 18 levels → levels ≡ stored_of bytes
+  pub most_stored : (levels : List Level) → AreLevels bytes max_levels levels
+      → is_level bytes max_levels ≡ false → AreAll bytes levels
   unfolding stored_levels
-  most_stored levels are =
-      let count = all_pass (is_level bytes) 0 18 (λ j below. rw zero-add (are.each j below)) in
-      rw count are.same
+  most_stored levels are stop =
+      let count = all_pass (is_level bytes) 0 max_levels
+      (λ j below. rw zero-add (are.each j below)) in
+      rw count (are.same, stop)
+
+  -- the file stores the levels so far
+  pub stored_so_far : (n : ℕ) → n ≤ max_levels → ((k : ℕ) → k < n → is_level bytes k ≡ true)
+      → n ≤ stored_levels bytes
+  unfolding stored_levels
+  stored_so_far n le each =
+      at_least (is_level bytes) 0 max_levels n le (λ j below. rw zero-add (each j below))

@@ -1,47 +1,103 @@
 -- The first block of all levels that does not lie in the file.
-use Rattle.std.proofs.Common.{◌≡◌, ℕ, zero, suc, ◌+◌, ◌<◌, List, [], length, map, drop, get_or}
-use Rattle.std.proofs.Common.{Option, None, refl, ap, add-one, drop-cons, arith}
-use Rattle.std.specs.Prelude.{find, not}
-use Rattle.std.specs.Option.{option_or, option_map}
-use Rattle.tiff_dirs.specs.declared.fault.TiffFault.TheVariants.{DataOutside}
-use Rattle.tiff_dirs.specs.Fault.{block_inside}
+use Rattle.std.proofs.Common.{◌≡◌, ℕ, zero, suc, ◌+◌, ◌<◌, true, List, length, map}
+use Rattle.std.proofs.Common.{Option, Some, None, refl, ap, sym, ◌∙◌, arith, add-zero, zero-add}
+use Rattle.std.proofs.Common.{below_more}
 use Rattle.std.specs.List.{range_with_len}
-use Rattle.tiff_dirs.specs.declared.dir.Dir.{Dir}
-use Rattle.tiff_dirs.specs.Block.{Level, level_blocks}
+use Rattle.std.proofs.lemmas.List.FromFn.{length-map-range_with_len}
+use Rattle.tiff_dirs.specs.declared.form.Form.{Form}
+use Rattle.tiff_dirs.specs.declared.read_level.ReadLevel.{ReadLevel}
+use Rattle.tiff_dirs.specs.declared.fault.TiffFault.{TiffFault}
+use Rattle.tiff_dirs.specs.Form.{form_of}
+use Rattle.tiff_dirs.specs.Block.{Level}
 use Rattle.tiff_dirs.specs.Fault.{first_of, data_fault}
-use Rattle.tiff_dirs.specs.Level.{level_of, stored_levels, data_faults}
-use Rattle.tiff_dirs.specs.Chain.{levels_fault, stored_of}
-use Rattle.tiff_dirs.specs.Shown.{shown}
+use Rattle.tiff_dirs.specs.Level.{is_level, level_of, stored_levels, data_faults, max_levels}
+use Rattle.tiff_dirs.specs.ReadLevel.{blocks_fault, seen_level}
+use Rattle.tiff_dirs.specs.Chain.{AreLevels, AreAll}
+use Rattle.tiff_dirs.proofs.Leading.{stored_so_far}
 
-pub levels_step : (bytes : List ℕ) (dirs : List Dir) (k : ℕ) (d : Dir) → k < length dirs
-    → levels_fault bytes k (map shown (drop k dirs))
-    ≡ option_or (data_fault bytes k (shown (get_or dirs k d)))
-    (levels_fault bytes (k + 1) (map shown (drop (k + 1) dirs)))
-unfolding levels_fault
-levels_step bytes dirs k d lt = rw (drop-cons dirs k d, add-one k) refl
-
-pub levels_end : (bytes : List ℕ) (k : ℕ) → levels_fault bytes k [] ≡ None
-unfolding levels_fault
-levels_end bytes k = refl
-
--- the same of the levels of a file
-each_level : (bytes : List ℕ) (k j n : ℕ) → j ≡ k
-    → levels_fault bytes j (map (level_of bytes) (range_with_len k n))
-    ≡ first_of (map (λ i. data_fault bytes i (level_of bytes i)) (range_with_len k n))
-unfolding levels_fault
-each_level bytes k j zero is = refl
-each_level bytes k j (suc n) is =
-    let next : suc k ≡ k + 1 = omega arith in
-    rw is (ap (option_or (data_fault bytes k (level_of bytes k)))
-    (each_level bytes (k + 1) (suc k) n next))
-
-pub levels_are : (bytes : List ℕ) → levels_fault bytes 0 (stored_of bytes) ≡ data_faults bytes
-unfolding data_faults
-levels_are bytes = each_level bytes 0 0 (stored_levels bytes) refl
-
--- the data fault of a level, from a search for its first block outside
-pub data_by : (bytes : List ℕ) (k : ℕ) (level : Level) (o : Option ℕ)
-    → o ≡ find (λ i. not (block_inside bytes level i)) (range_with_len 0 (level_blocks level))
-    → data_fault bytes k level ≡ option_map (DataOutside k) o
+-- the fault of a level, by the length of the file
+pub blocks_are : (form : Form) (bytes : List ℕ) (number : ℕ) (level : Level)
+    → data_fault form bytes number level ≡ blocks_fault form (length bytes) number level
 unfolding data_fault
-data_by bytes k level o is = rw is refl
+blocks_are form bytes number level = refl
+
+-- ---- the first of a row
+
+none_of_row : (fault : ℕ → Option TiffFault) (k n : ℕ)
+    → ((j : ℕ) → j < n → fault (k + j) ≡ None) → first_of (map fault (range_with_len k n)) ≡ None
+none_of_row fault k zero none = refl
+none_of_row fault k (suc n) none =
+    let first : fault k ≡ None = rw add-zero at (none 0 (omega arith)) in
+    let next : suc k ≡ k + 1 = omega arith in
+    let rest = none_of_row fault (suc k) n
+    (λ j below. let e : suc k + j ≡ k + suc j = omega arith in
+    ap fault e ∙ none (suc j) (omega arith)) in
+    rw (first, ← next) rest
+
+first_of_row : (fault : ℕ → Option TiffFault) (k n m : ℕ) (f : TiffFault) → m < n
+    → ((j : ℕ) → j < m → fault (k + j) ≡ None) → fault (k + m) ≡ Some f
+    → first_of (map fault (range_with_len k n)) ≡ Some f
+first_of_row fault k zero m f lt none there = absurd (omega arith)
+first_of_row fault k (suc n) zero f lt none there =
+    let first : fault k ≡ Some f = rw add-zero at there in
+    rw first refl
+first_of_row fault k (suc n) (suc m) f lt none there =
+    let first : fault k ≡ None = rw add-zero at (none 0 (omega arith)) in
+    let next : suc k ≡ k + 1 = omega arith in
+    let end : suc k + m ≡ k + suc m = omega arith in
+    let rest = first_of_row fault (suc k) n m f (omega arith)
+    (λ j below. let e : suc k + j ≡ k + suc j = omega arith in
+    ap fault e ∙ none (suc j) (omega arith)) (ap fault end ∙ there) in
+    rw (first, ← next) rest
+
+-- ---- those of a file
+
+module _ (bytes : List ℕ) where
+  -- the blocks of level n lie outside, and those of the levels before it inside
+  pub faults_at : (n : ℕ) (levels : List Level) (f : TiffFault) → n < max_levels
+      → AreLevels bytes n levels → is_level bytes n ≡ true
+      → data_fault (form_of bytes) bytes n (level_of bytes n) ≡ Some f
+      → data_faults bytes ≡ Some f
+  unfolding data_faults
+  faults_at n levels f lt are level there =
+      let stored = stored_so_far bytes (n + 1) (omega arith) (below_more _ _ are.each level) in
+      first_of_row (λ k. data_fault (form_of bytes) bytes k (level_of bytes k)) 0
+      (stored_levels bytes) n f (omega arith)
+      (λ j below. rw zero-add (are.blocks j below)) (rw zero-add there)
+
+  -- those of level 0
+  pub faults_at_first : (f : TiffFault)
+      → data_fault (form_of bytes) bytes 0 (level_of bytes 0) ≡ Some f
+      → data_faults bytes ≡ Some f
+  unfolding is_level data_faults
+  faults_at_first f there =
+      let stored = stored_so_far bytes 1 (omega arith)
+      (λ k lt. let zero-is : k ≡ 0 = omega arith in ap (is_level bytes) zero-is) in
+      first_of_row (λ k. data_fault (form_of bytes) bytes k (level_of bytes k)) 0
+      (stored_levels bytes) 0 f (omega arith)
+      (λ j below. absurd (omega arith)) there
+
+  -- those of all levels lie inside
+  pub no_faults : (n : ℕ) (levels : List Level) → AreLevels bytes n levels → AreAll bytes levels
+      → data_faults bytes ≡ None
+  unfolding data_faults
+  no_faults n levels are all =
+      let count : stored_levels bytes ≡ n =
+      sym (length-map-range_with_len (level_of bytes) 0 (stored_levels bytes))
+      ∙ ap (λ (ls : List Level). length ls) (sym all.0 ∙ are.same)
+      ∙ length-map-range_with_len (level_of bytes) 0 n in
+      none_of_row (λ k. data_fault (form_of bytes) bytes k (level_of bytes k)) 0
+      (stored_levels bytes)
+      (λ j below. rw zero-add (are.blocks j (omega (arith, count))))
+
+  -- the fault that a test of what was read of level n shows
+  pub tested_is : (n file : ℕ) (read : ReadLevel) (o : Option TiffFault)
+      → read.next.form ≡ form_of bytes → seen_level read ≡ level_of bytes n
+      → length bytes ≡ file → blocks_fault read.next.form file n (seen_level read) ≡ o
+      → data_fault (form_of bytes) bytes n (level_of bytes n) ≡ o
+  tested_is n file read o same level long shown =
+      blocks_are (form_of bytes) bytes n (level_of bytes n)
+      ∙ ap (λ (f : Form). blocks_fault f (length bytes) n (level_of bytes n)) (sym same)
+      ∙ ap (λ (len : ℕ). blocks_fault read.next.form len n (level_of bytes n)) long
+      ∙ ap (λ (l : Level). blocks_fault read.next.form file n l) (sym level)
+      ∙ shown

@@ -3,27 +3,28 @@ use Rattle.std.proofs.Common.{◌≡◌, ℕ, Bool, true, false, not, eqb, List,
 use Rattle.std.proofs.Common.{Option, Some, None, take, refl, ap, ◌∙◌, sym, ◌⊎◌, inl, inr}
 use Rattle.std.specs.Prelude.{◌||◌}
 use Rattle.std.specs.Option.{option_or, option_map}
+use Rattle.tiff_dirs.specs.declared.form.Form.{Form}
 use Rattle.tiff_dirs.specs.declared.fault.TiffFault.{TiffFault}
 use Rattle.tiff_dirs.specs.declared.fault.TiffFault.TheVariants.{Unsupported}
 use Rattle.tiff_dirs.specs.declared.numbers.Numbers.{Numbers}
+use Rattle.tiff_dirs.specs.declared.sample_fields.SampleField.{SampleField}
+use Rattle.tiff_dirs.specs.Tag.{bits_per_sample_tag}
 use Rattle.tiff_dirs.specs.Field.{field_values}
-use Rattle.tiff_dirs.specs.Block.{is_tiled}
+use Rattle.tiff_dirs.specs.Block.{LevelShape, is_tiled, shape_at}
 use Rattle.tiff_dirs.specs.Fault.{first_of, directory_fault, outside_fault, missing_fault}
 use Rattle.tiff_dirs.specs.Fault.{shape_fault, unsupported_fault, zero_fault, large_fault}
 use Rattle.tiff_dirs.specs.Fault.{tile_fault, count_fault, bits_fault, compression_fault}
 use Rattle.tiff_dirs.specs.Fault.{photometric_fault, planar_fault, format_fault}
-use Rattle.tiff_dirs.specs.Values.{is_either, other_sample}
-use Rattle.tiff_dirs.specs.Numbers.{AreNumbersAt, value_fault, size_fault, picture_fault}
-use Rattle.tiff_dirs.specs.Numbers.{IsPictureOf, IsPictureAt}
-use Rattle.tiff_dirs.specs.declared.picture.Picture.{Picture}
-use Rattle.tiff_dirs.specs.Chain.{outline_fault}
+use Rattle.tiff_dirs.specs.Values.{first_other}
+use Rattle.tiff_dirs.specs.Numbers.{AreNumbersAt, value_fault, size_fault, entries_fault}
+use Rattle.tiff_dirs.specs.Numbers.{numbers_fault, fields_fault, numbers_shape}
 use Rattle.tiff_dirs.proofs.Finding.{find_same}
 
 or_assoc : (a b c : Option TiffFault) → option_or (option_or a b) c ≡ option_or a (option_or b c)
 or_assoc None b c = refl
 or_assoc (Some x) b c = refl
 
-or_none : (a : Option TiffFault) → option_or a None ≡ a
+pub or_none : (a : Option TiffFault) → option_or a None ≡ a
 or_none None = refl
 or_none (Some x) = refl
 
@@ -34,113 +35,111 @@ first_of_both [] ys = refl
 first_of_both (x ∷ xs) ys =
     ap (option_or x) (first_of_both xs ys) ∙ sym (or_assoc x (first_of xs) (first_of ys))
 
-pub directory_is : (big : Bool) (bytes : List ℕ) (at : ℕ)
-    → directory_fault big bytes at
-    ≡ option_or (outside_fault big bytes at)
-    (option_or (first_of (missing_fault big bytes at ∷ shape_fault big bytes at ∷ []))
-    (option_or (picture_fault big bytes at) (option_or (count_fault big bytes at) None)))
-unfolding directory_fault
-directory_is big bytes at =
-    let fields = missing_fault big bytes at ∷ shape_fault big bytes at ∷ [] in
-    let picture = unsupported_fault big bytes at ∷ zero_fault big bytes at
-    ∷ large_fault big bytes at ∷ tile_fault big bytes at ∷ [] in
-    let count = count_fault big bytes at ∷ [] in
-    ap (option_or (outside_fault big bytes at)) (first_of_both fields (picture ++ count)
-    ∙ ap (option_or (first_of fields)) (first_of_both picture count))
+module _ (form : Form) (bytes : List ℕ) (at : ℕ) where
+  -- those of its fields
+  pub fields_are : fields_fault form bytes at
+      ≡ option_or (entries_fault form bytes at) (numbers_fault form bytes at)
+  fields_are = ap (option_or (entries_fault form bytes at)) (or_none (numbers_fault form bytes at))
 
--- those before the last one, and the last one
-pub outline_is : (big : Bool) (bytes : List ℕ) (at : ℕ)
-    → directory_fault big bytes at
-    ≡ option_or (outline_fault big bytes at) (count_fault big bytes at)
-outline_is big bytes at =
-    directory_is big bytes at
-    ∙ first_of_both (outside_fault big bytes at
-    ∷ first_of (missing_fault big bytes at ∷ shape_fault big bytes at ∷ [])
-    ∷ picture_fault big bytes at ∷ []) (count_fault big bytes at ∷ [])
-    ∙ ap (option_or (outline_fault big bytes at)) (or_none (count_fault big bytes at))
+  -- all of them
+  pub directory_is : directory_fault form bytes at
+      ≡ option_or (outside_fault form bytes at)
+      (option_or (fields_fault form bytes at) (count_fault form bytes at))
+  unfolding directory_fault
+  directory_is =
+      let fields = missing_fault form bytes at ∷ shape_fault form bytes at ∷ [] in
+      let numbers = unsupported_fault form bytes at ∷ zero_fault form bytes at
+      ∷ large_fault form bytes at ∷ tile_fault form bytes at ∷ [] in
+      let count = count_fault form bytes at ∷ [] in
+      ap (option_or (outside_fault form bytes at))
+      (first_of_both fields (numbers ++ count)
+      ∙ ap (option_or (first_of fields)) (first_of_both numbers count)
+      ∙ sym (or_assoc (first_of fields) (first_of numbers) (first_of count))
+      ∙ ap (λ (f : Option TiffFault). option_or f (first_of count)) (sym fields_are)
+      ∙ ap (option_or (fields_fault form bytes at)) (or_none (count_fault form bytes at)))
 
--- ---- the faults of a picture, by its numbers
+  -- ---- those of the numbers
 
-values_are : (big : Bool) (bytes : List ℕ) (at : ℕ) (n : Numbers) → AreNumbersAt big bytes at n
-    → first_of (compression_fault big bytes at ∷ photometric_fault big bytes at
-    ∷ planar_fault big bytes at ∷ []) ≡ value_fault n
-values_are big bytes at n are =
-    rw (are.compression, are.photometric, are.planar, are.samples) refl
+  values_are : (n : Numbers) → AreNumbersAt form bytes at n
+      → first_of (compression_fault form bytes at ∷ photometric_fault form bytes at
+      ∷ planar_fault form bytes at ∷ []) ≡ value_fault n
+  values_are n are = rw (are.compression, are.photometric, are.planar, are.samples) refl
 
-tiled_sizes : (big : Bool) (bytes : List ℕ) (at : ℕ) (n : Numbers) (tiled : Bool)
-    → is_tiled big bytes at ≡ tiled → AreNumbersAt big bytes at n
-    → first_of (zero_fault big bytes at ∷ large_fault big bytes at ∷ tile_fault big bytes at ∷ [])
-    ≡ size_fault n
-unfolding zero_fault large_fault tile_fault
-tiled_sizes big bytes at n true is are =
-    rw (are.width, are.height, are.samples, are.tile, are.rows, is) refl
-tiled_sizes big bytes at n false is are =
-    rw (are.width, are.height, are.samples, are.tile, are.rows, is) refl
+  sizes_by : (n : Numbers) (tiled : Bool) → is_tiled form bytes at ≡ tiled
+      → AreNumbersAt form bytes at n
+      → first_of (zero_fault form bytes at ∷ large_fault form bytes at
+      ∷ tile_fault form bytes at ∷ []) ≡ size_fault n
+  unfolding zero_fault large_fault tile_fault
+  sizes_by n true is are = rw (are.width, are.height, are.samples, are.tile, are.rows, is) refl
+  sizes_by n false is are = rw (are.width, are.height, are.samples, are.tile, are.rows, is) refl
 
-pub picture_is : (big : Bool) (bytes : List ℕ) (at : ℕ) (n : Numbers) → AreNumbersAt big bytes at n
-    → picture_fault big bytes at
-    ≡ option_or (bits_fault big bytes at) (option_or (value_fault n)
-    (option_or (format_fault big bytes at) (option_or (size_fault n) None)))
-unfolding unsupported_fault
-picture_is big bytes at n are =
-    let bits = bits_fault big bytes at in
-    let format = format_fault big bytes at in
-    let values = first_of (compression_fault big bytes at ∷ photometric_fault big bytes at
-    ∷ planar_fault big bytes at ∷ []) in
-    let rest = first_of (compression_fault big bytes at ∷ photometric_fault big bytes at
-    ∷ planar_fault big bytes at ∷ format ∷ []) in
-    let sizes = first_of (zero_fault big bytes at ∷ large_fault big bytes at
-    ∷ tile_fault big bytes at ∷ []) in
-    let parts : rest ≡ option_or values (option_or format None) =
-    first_of_both (compression_fault big bytes at ∷ photometric_fault big bytes at
-    ∷ planar_fault big bytes at ∷ []) (format ∷ []) in
-    or_assoc bits rest sizes ∙ ap (option_or bits)
-    (ap (λ (f : Option TiffFault). option_or f sizes) parts
-    ∙ or_assoc values (option_or format None) sizes
-    ∙ ap (option_or values) (ap (λ (f : Option TiffFault). option_or f sizes) (or_none format)
-    ∙ ap (option_or format) (sym (or_none sizes)))
-    ∙ ap (λ (f : Option TiffFault). option_or f (option_or format (option_or sizes None)))
-    (values_are big bytes at n are)
-    ∙ ap (λ (f : Option TiffFault). option_or (value_fault n) (option_or format (option_or f None)))
-    (tiled_sizes big bytes at n (is_tiled big bytes at) refl are))
+  pub numbers_are : (n : Numbers) → AreNumbersAt form bytes at n → numbers_fault form bytes at
+      ≡ option_or (bits_fault form bytes at) (option_or (value_fault n)
+      (option_or (format_fault form bytes at) (option_or (size_fault n) None)))
+  unfolding unsupported_fault
+  numbers_are n are =
+      let bits = bits_fault form bytes at in
+      let format = format_fault form bytes at in
+      let values = first_of (compression_fault form bytes at ∷ photometric_fault form bytes at
+      ∷ planar_fault form bytes at ∷ []) in
+      let rest = first_of (compression_fault form bytes at ∷ photometric_fault form bytes at
+      ∷ planar_fault form bytes at ∷ format ∷ []) in
+      let sizes = first_of (zero_fault form bytes at ∷ large_fault form bytes at
+      ∷ tile_fault form bytes at ∷ []) in
+      let parts : rest ≡ option_or values (option_or format None) =
+      first_of_both (compression_fault form bytes at ∷ photometric_fault form bytes at
+      ∷ planar_fault form bytes at ∷ []) (format ∷ []) in
+      or_assoc bits rest sizes ∙ ap (option_or bits)
+      (ap (λ (f : Option TiffFault). option_or f sizes) parts
+      ∙ or_assoc values (option_or format None) sizes
+      ∙ ap (option_or values) (ap (λ (f : Option TiffFault). option_or f sizes) (or_none format)
+      ∙ ap (option_or format) (sym (or_none sizes)))
+      ∙ ap (λ (f : Option TiffFault). option_or f (option_or format (option_or sizes None)))
+      (values_are n are)
+      ∙ ap (λ (f : Option TiffFault).
+      option_or (value_fault n) (option_or format (option_or f None)))
+      (sizes_by n (is_tiled form bytes at) refl are))
 
--- ---- the samples
+  -- the shape that they say is that of the directory
+  pub shape_is_at : (n : Numbers) (shape : LevelShape) → AreNumbersAt form bytes at n
+      → shape ≡ numbers_shape n → shape ≡ shape_at form bytes at
+  shape_is_at n shape are is = is ∙ rw (
+    are.width,
+    are.height,
+    are.samples,
+    are.bits,
+    are.photometric,
+    are.tile,
+    are.rows,
+  ) refl
 
-either_twice : (n v : ℕ) → not (eqb v n || eqb v n) ≡ not (eqb v n)
-either_twice n v = twice (eqb v n)
-  where
-    twice : (b : Bool) → not (b || b) ≡ not b
-    twice true = refl
-    twice false = refl
+  -- ---- the samples
 
-pub bits_are : (big : Bool) (bytes : List ℕ) (at : ℕ) (n : Numbers) → AreNumbersAt big bytes at n
-    → (eqb n.bits 8 || eqb n.bits 16) ≡ true
-    → bits_fault big bytes at
-    ≡ option_map (Unsupported 258) (other_sample big bytes at 258 n.samples n.bits n.bits)
-bits_are big bytes at n are fits =
-    let same = find_same (λ (v : ℕ). not (is_either n.bits n.bits v)) (λ v. not (eqb v n.bits))
-    (take n.samples (field_values big bytes at 258)) (either_twice n.bits) in
-    rw (← are.bits, fits, ← are.samples, same) refl
+  either_twice : (n v : ℕ) → not (eqb v n || eqb v n) ≡ not (eqb v n)
+  either_twice n v = twice (eqb v n)
+    where
+      twice : (b : Bool) → not (b || b) ≡ not b
+      twice true = refl
+      twice false = refl
 
-pub other_bits_are : (big : Bool) (bytes : List ℕ) (at : ℕ) (n : Numbers)
-    → AreNumbersAt big bytes at n → (eqb n.bits 8 || eqb n.bits 16) ≡ false
-    → bits_fault big bytes at ≡ Some (Unsupported 258 n.bits)
-other_bits_are big bytes at n are other = rw (← are.bits, other) refl
+  -- BitsPerSample, where it may be that of the first sample alone
+  pub bits_are : (n : Numbers) (field : SampleField) → AreNumbersAt form bytes at n
+      → field.tag ≡ bits_per_sample_tag → field.one ≡ n.bits → field.other ≡ n.bits
+      → (eqb n.bits 8 || eqb n.bits 16) ≡ true
+      → bits_fault form bytes at
+      ≡ option_map (Unsupported field.tag) (first_other form bytes at field n.samples)
+  bits_are n field are tag one other fits =
+      let same = find_same (λ (v : ℕ). not (eqb v n.bits || eqb v n.bits))
+      (λ v. not (eqb v n.bits))
+      (take n.samples (field_values form bytes at bits_per_sample_tag)) (either_twice n.bits) in
+      rw (tag, one, other, ← are.bits, fits, ← are.samples, same) refl
+
+  pub other_bits_are : (n : Numbers) → AreNumbersAt form bytes at n
+      → (eqb n.bits 8 || eqb n.bits 16) ≡ false
+      → bits_fault form bytes at ≡ Some (Unsupported bits_per_sample_tag n.bits)
+  other_bits_are n are other = rw (← are.bits, other) refl
 
 pub is_depth : (bits : ℕ) → ((bits ≡ 8 → ⊥) × (bits ≡ 16)) ⊎ (bits ≡ 8)
     → (eqb bits 8 || eqb bits 16) ≡ true
 is_depth bits (inl is) = rw is.1 refl
 is_depth bits (inr is) = rw is refl
-
--- the picture of the numbers of a directory is its picture
-pub picture_of_numbers : (big : Bool) (bytes : List ℕ) (at : ℕ) (n : Numbers) (picture : Picture)
-    → AreNumbersAt big bytes at n → IsPictureOf n picture → IsPictureAt big bytes at picture
-picture_of_numbers big bytes at n picture are of = record {
-  width = of.width ∙ are.width;
-  height = of.height ∙ are.height;
-  channels = of.channels ∙ are.samples;
-  depth = of.depth ∙ are.bits;
-  white = of.white ∙ ap (λ (v : ℕ). eqb v 0) are.photometric;
-  tile = of.tile ∙ are.tile;
-  rows = of.rows ∙ are.rows;
-}

@@ -1,4 +1,5 @@
 -- What faults are shown.
+use Rattle.tiff_dirs.specs.declared.form.Form.{Form}
 use Rattle.std.proofs.Common.{◌≡◌, ℕ, ◌<◌, ◌≤◌, Bool, true, false, not, List, length}
 use Rattle.std.proofs.Common.{get_or, Some, None, refl, arith}
 use Rattle.std.specs.Prelude.{◌||◌}
@@ -6,7 +7,7 @@ use Rattle.std.specs.Bool.{then_some}
 use Rattle.std.proofs.lemmas.Bool.{le-ltb, lt-ltb, ne_eqb, eq-eqb, false_from_ne_true}
 use Rattle.tiff_dirs.specs.declared.fault.TiffFault.TheVariants.{Short, BadMark, BadVersion}
 use Rattle.tiff_dirs.specs.declared.fault.TiffFault.TheVariants.{DirOutside}
-use Rattle.tiff_dirs.specs.Bytes.{has_mark, is_big, is_little, version}
+use Rattle.tiff_dirs.specs.Bytes.{has_mark, is_big, is_little, version, tiff_version}
 use Rattle.tiff_dirs.specs.Directory.{lies_inside}
 use Rattle.tiff_dirs.specs.Fault.{outside_fault}
 use Rattle.tiff_dirs.specs.Level.{header_fault}
@@ -39,45 +40,45 @@ either_mark false true h = refl
 either_mark false false h = absurd (let e : false ≡ true = h refl in cc)
 
 pub version_is : (bytes : List ℕ) → 8 ≤ length bytes
-    → (is_big bytes ≡ false → is_little bytes ≡ true) → (version bytes ≡ 42 → ⊥)
+    → (is_big bytes ≡ false → is_little bytes ≡ true) → (version bytes ≡ tiff_version → ⊥)
     → header_fault bytes ≡ Some BadVersion
 unfolding header_fault
 version_is bytes le mark other = rw (
   le-ltb (length bytes) 8 le,
   either_mark (is_little bytes) (is_big bytes) mark,
-  ne_eqb (version bytes) 42 other,
+  ne_eqb (version bytes) tiff_version other,
 ) refl
 
 pub header_is_good : (bytes : List ℕ) → 8 ≤ length bytes
-    → (is_big bytes ≡ false → is_little bytes ≡ true) → version bytes ≡ 42
+    → (is_big bytes ≡ false → is_little bytes ≡ true) → version bytes ≡ tiff_version
     → header_fault bytes ≡ None
 unfolding header_fault
 header_is_good bytes le mark same = rw (
   le-ltb (length bytes) 8 le,
   either_mark (is_little bytes) (is_big bytes) mark,
-  eq-eqb (version bytes) 42 same,
+  eq-eqb (version bytes) tiff_version same,
 ) refl
 
 -- ---- the place of a directory
 
-pub outside_is : (big : Bool) (bytes : List ℕ) (at : ℕ) → (lies_inside big bytes at ≡ true → ⊥)
-    → outside_fault big bytes at ≡ Some DirOutside
+pub outside_is : (form : Form) (bytes : List ℕ) (at : ℕ) → (lies_inside form bytes at ≡ true → ⊥)
+    → outside_fault form bytes at ≡ Some DirOutside
 unfolding outside_fault
-outside_is big bytes at not-inside =
-    let no : lies_inside big bytes at ≡ false =
-    false_from_ne_true (lies_inside big bytes at) not-inside in
+outside_is form bytes at not-inside =
+    let no : lies_inside form bytes at ≡ false =
+    false_from_ne_true (lies_inside form bytes at) not-inside in
     rw no refl
 
-pub inside_is : (big : Bool) (bytes : List ℕ) (at : ℕ) → IsInside big bytes at
-    → outside_fault big bytes at ≡ None
+pub inside_is : (form : Form) (bytes : List ℕ) (at : ℕ) → IsInside form bytes at
+    → outside_fault form bytes at ≡ None
 unfolding outside_fault
-inside_is big bytes at inside = rw (inside_of_parts big bytes at inside) refl
+inside_is form bytes at inside = rw (inside_of_parts form bytes at inside) refl
 
 inside_by : (b : Bool) → then_some (not b) DirOutside ≡ None → b ≡ true
 inside_by true h = refl
 inside_by false h = absurd cc
 
-pub no_outside : (big : Bool) (bytes : List ℕ) (at : ℕ) → outside_fault big bytes at ≡ None
-    → lies_inside big bytes at ≡ true
+pub no_outside : (form : Form) (bytes : List ℕ) (at : ℕ) → outside_fault form bytes at ≡ None
+    → lies_inside form bytes at ≡ true
 unfolding outside_fault
-no_outside big bytes at none = inside_by (lies_inside big bytes at) none
+no_outside form bytes at none = inside_by (lies_inside form bytes at) none

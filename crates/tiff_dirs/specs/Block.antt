@@ -2,11 +2,16 @@
 -- "Rows and Columns", and 15, "Tiled Images")
 use Rattle.std.specs.Prelude.{ℕ, ◌+◌, ◌-◌, ◌*◌, ◌/◌, ◌==◌, Bool, min, List, take, Option, Some}
 use Rattle.std.specs.Prelude.{None, if◌then◌else◌}
-use Rattle.tiff_dirs.specs.Field.{field_value, field_values, has_field}
+use Rattle.tiff_dirs.specs.declared.form.Form.{Form}
+use Rattle.tiff_dirs.specs.Tag.{image_width_tag, image_length_tag, bits_per_sample_tag}
+use Rattle.tiff_dirs.specs.Tag.{photometric_tag, samples_per_pixel_tag, rows_per_strip_tag}
+use Rattle.tiff_dirs.specs.Tag.{strip_offsets_tag, tile_width_tag, tile_length_tag}
+use Rattle.tiff_dirs.specs.Tag.{tile_offsets_tag}
+use Rattle.tiff_dirs.specs.Field.{field_value, field_values, has_field, all_rows}
 
--- What is kept of a directory that shows no fault. A tiled one reads no RowsPerStrip:
--- it is 2^32 - 1 there.
-pub record Level : Type 0 where
+-- What is known of a level without the offsets of its blocks.
+-- A tiled one reads no RowsPerStrip: all rows stand there.
+pub record LevelShape : Type 0 where
   pub width : ℕ
   pub height : ℕ
   pub channels : ℕ
@@ -17,74 +22,98 @@ pub record Level : Type 0 where
   -- width and height of a tile, if it is tiled
   pub tile : Option (ℕ × ℕ)
   pub rows_per_strip : ℕ
-  -- one for each strip or tile, in order
+
+-- What is kept of a directory that shows no fault: its shape, and the offsets of its strips or
+-- tiles, in order.
+pub record Level : Type 0 where
+  pub shape : LevelShape
   pub offsets : List ℕ
+
+-- the shape with these fields
+abbrev pub shape_of : ℕ → ℕ → ℕ → ℕ → Bool → Option (ℕ × ℕ) → ℕ → LevelShape
+shape_of width height channels depth white tile rows = record {
+  width = width;
+  height = height;
+  channels = channels;
+  depth = depth;
+  white = white;
+  tile = tile;
+  rows_per_strip = rows;
+}
+
+-- the level of this shape with these offsets
+abbrev pub level_with : LevelShape → List ℕ → Level
+level_with shape offsets = record { shape = shape; offsets = offsets }
 
 -- as many as it takes to cover n places by pieces of that many
 abbrev pub pieces_over : ℕ → ℕ → ℕ
 pieces_over n piece = (n + piece - 1) / piece
 
--- how many strips or tiles it has
-abbrev pub blocks_of : ℕ → ℕ → Option (ℕ × ℕ) → ℕ → ℕ
-blocks_of width height None rows = pieces_over height rows
-blocks_of width height (Some tile) rows = pieces_over width tile.0 * pieces_over height tile.1
+-- how many strips there are, or tiles of this width and height
+abbrev pub blocks_by : LevelShape → Option (ℕ × ℕ) → ℕ
+blocks_by shape None = pieces_over shape.height shape.rows_per_strip
+blocks_by shape (Some tile) = pieces_over shape.width tile.0 * pieces_over shape.height tile.1
+
+-- how many strips or tiles a level has
+abbrev pub blocks_of : LevelShape → ℕ
+blocks_of shape = blocks_by shape shape.tile
 
 -- the bytes of a sample
 abbrev pub sample_bytes : ℕ → ℕ
 sample_bytes depth = if depth == 8 then 1 else 2
 
--- the bytes of strip or tile i: the last strip may have fewer rows,
--- a tile is padded to its full size
-abbrev pub block_bytes : ℕ → ℕ → ℕ → ℕ → Option (ℕ × ℕ) → ℕ → ℕ → ℕ
-block_bytes width height channels depth None rows i =
-    min rows (height - rows * i) * (width * channels * sample_bytes depth)
-block_bytes width height channels depth (Some tile) rows i =
-    tile.0 * tile.1 * channels * sample_bytes depth
+-- the bytes of a texel: its samples stand side by side
+abbrev pub texel_bytes : LevelShape → ℕ
+texel_bytes shape = shape.channels * sample_bytes shape.depth
 
--- the number of blocks of a level, and the bytes of block i
-abbrev pub level_blocks : Level → ℕ
-level_blocks level = blocks_of level.width level.height level.tile level.rows_per_strip
+-- how many texels strip i has, or a tile of this width and height:
+-- the last strip may have fewer rows, a tile is padded to its full size
+abbrev pub block_texels_by : LevelShape → Option (ℕ × ℕ) → ℕ → ℕ
+block_texels_by shape None i =
+    min shape.rows_per_strip (shape.height - shape.rows_per_strip * i) * shape.width
+block_texels_by shape (Some tile) i = tile.0 * tile.1
 
-abbrev pub level_block_bytes : Level → ℕ → ℕ
-level_block_bytes level i =
-    block_bytes level.width level.height level.channels level.depth level.tile
-    level.rows_per_strip i
+-- the bytes of strip or tile i
+abbrev pub block_bytes : LevelShape → ℕ → ℕ
+block_bytes shape i = block_texels_by shape shape.tile i * texel_bytes shape
+
+-- ---- of the directory at a place
 
 -- a directory is tiled where it has a TileWidth
-abbrev pub is_tiled : Bool → List ℕ → ℕ → Bool
-is_tiled big bytes at = has_field big bytes at 322
+abbrev pub is_tiled : Form → List ℕ → ℕ → Bool
+is_tiled form bytes at = has_field form bytes at tile_width_tag
 
 -- width and height of its tiles, if it is tiled
-abbrev pub tile_of : Bool → List ℕ → ℕ → Option (ℕ × ℕ)
-tile_of big bytes at =
-    if is_tiled big bytes at
-    then Some (field_value big bytes at 322, field_value big bytes at 323) else None
+abbrev pub tile_of : Form → List ℕ → ℕ → Option (ℕ × ℕ)
+tile_of form bytes at =
+    if is_tiled form bytes at
+    then Some (field_value form bytes at tile_width_tag, field_value form bytes at tile_length_tag)
+    else None
 
 -- the field that holds the offsets of its blocks
-abbrev pub offsets_tag : Bool → List ℕ → ℕ → ℕ
-offsets_tag big bytes at = if is_tiled big bytes at then 324 else 273
+abbrev pub offsets_tag : Form → List ℕ → ℕ → ℕ
+offsets_tag form bytes at =
+    if is_tiled form bytes at then tile_offsets_tag else strip_offsets_tag
 
 -- the rows of a strip
-abbrev pub strip_rows : Bool → List ℕ → ℕ → ℕ
-strip_rows big bytes at = if is_tiled big bytes at then 4294967295 else field_value big bytes at 278
+abbrev pub strip_rows : Form → List ℕ → ℕ → ℕ
+strip_rows form bytes at =
+    if is_tiled form bytes at then all_rows else field_value form bytes at rows_per_strip_tag
 
--- how many blocks the directory at a place has
-abbrev pub directory_blocks : Bool → List ℕ → ℕ → ℕ
-directory_blocks big bytes at =
-    blocks_of (field_value big bytes at 256) (field_value big bytes at 257) (tile_of big bytes at)
-    (strip_rows big bytes at)
+-- What is known of the directory at a place without its offsets.
+abbrev pub shape_at : Form → List ℕ → ℕ → LevelShape
+shape_at form bytes at = shape_of
+    (field_value form bytes at image_width_tag)
+    (field_value form bytes at image_length_tag)
+    (field_value form bytes at samples_per_pixel_tag)
+    (field_value form bytes at bits_per_sample_tag)
+    (field_value form bytes at photometric_tag == 0)
+    (tile_of form bytes at)
+    (strip_rows form bytes at)
 
 -- What is kept of the directory at a place.
 -- Offsets beyond the number of its blocks are passed over.
-unfoldable pub level_at : Bool → List ℕ → ℕ → Level
-level_at big bytes at = record {
-  width = field_value big bytes at 256;
-  height = field_value big bytes at 257;
-  channels = field_value big bytes at 277;
-  depth = field_value big bytes at 258;
-  white = field_value big bytes at 262 == 0;
-  tile = tile_of big bytes at;
-  rows_per_strip = strip_rows big bytes at;
-  offsets = take (directory_blocks big bytes at)
-      (field_values big bytes at (offsets_tag big bytes at));
-}
+unfoldable pub level_at : Form → List ℕ → ℕ → Level
+level_at form bytes at = level_with (shape_at form bytes at)
+    (take (blocks_of (shape_at form bytes at))
+    (field_values form bytes at (offsets_tag form bytes at)))

@@ -19,6 +19,10 @@ is_little bytes = has_mark 73 bytes
 abbrev pub is_big : List ℕ → Bool
 is_big bytes = has_mark 77 bytes
 
--- the number behind the mark, 42 in a TIFF file
+-- the number behind the mark in a TIFF file
+abbrev pub tiff_version : ℕ
+tiff_version = 42
+
+-- the number behind the mark
 abbrev pub version : List ℕ → ℕ
 version bytes = number_at (is_big bytes) 2 bytes 2

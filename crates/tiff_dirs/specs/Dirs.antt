@@ -1,19 +1,18 @@
 -- What does reading the directories of a file say of its bytes, and how does it leave its reader?
 use Rattle.std.specs.Prelude.{◌≡◌, ℕ, List, map, Some, None, Result, Ok, Err, ⊤}
-use Rattle.std.specs.List.{range_with_len}
 use Rattle.tiff_dirs.specs.declared.dirs.Dirs.{Dirs}
 use Rattle.tiff_dirs.specs.declared.fault.DirsError.{DirsError}
 use Rattle.tiff_dirs.specs.declared.fault.DirsError.TheVariants.{Fault, Reader, NoMemory}
 use Rattle.tiff_dirs.specs.Bytes.{is_big}
-use Rattle.tiff_dirs.specs.Level.{first_fault, level_of, stored_levels}
+use Rattle.tiff_dirs.specs.Level.{first_fault, levels_of, IsWholeChain}
 use Rattle.tiff_dirs.specs.Shown.{shown}
 
--- Of bytes that are told: the levels of the file exactly where it shows no fault, else the first
+-- Of bytes that are told: all levels of the file exactly where it shows no fault, else the first
 -- fault.
 abbrev pub Tells : {E : Type 0} → List ℕ → Result Dirs (DirsError E) → Type 0
 Tells bytes (Ok dirs) =
     (first_fault bytes ≡ None) × (dirs.big ≡ is_big bytes)
-    × (map shown dirs.levels.items ≡ map (level_of bytes) (range_with_len 0 (stored_levels bytes)))
+    × (map shown dirs.levels.items ≡ levels_of bytes) × IsWholeChain bytes
 Tells bytes (Err (Fault fault)) = first_fault bytes ≡ Some fault
 Tells bytes (Err (Reader e)) = ⊤
 Tells bytes (Err NoMemory) = ⊤

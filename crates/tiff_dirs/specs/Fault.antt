@@ -5,59 +5,77 @@ use Rattle.std.specs.Prelude.{if◌then◌else◌}
 use Rattle.std.specs.Option.{option_or, option_map, option_map_or}
 use Rattle.std.specs.Bool.{then_some}
 use Rattle.std.specs.List.{range_with_len}
+use Rattle.tiff_dirs.specs.declared.form.Form.{Form}
 use Rattle.tiff_dirs.specs.declared.fault.TiffFault.{TiffFault}
 use Rattle.tiff_dirs.specs.declared.fault.TiffFault.TheVariants.{DirOutside, FieldMissing}
 use Rattle.tiff_dirs.specs.declared.fault.TiffFault.TheVariants.{FieldShape, Unsupported, ZeroSize}
 use Rattle.tiff_dirs.specs.declared.fault.TiffFault.TheVariants.{TooLarge, TileShape, OffsetCount}
 use Rattle.tiff_dirs.specs.declared.fault.TiffFault.TheVariants.{DataOutside}
+use Rattle.tiff_dirs.specs.Form.{header_bytes}
+use Rattle.tiff_dirs.specs.Tag.{image_width_tag, image_length_tag, bits_per_sample_tag}
+use Rattle.tiff_dirs.specs.Tag.{compression_tag, photometric_tag, strip_offsets_tag}
+use Rattle.tiff_dirs.specs.Tag.{samples_per_pixel_tag, rows_per_strip_tag}
+use Rattle.tiff_dirs.specs.Tag.{planar_configuration_tag, tile_width_tag, tile_length_tag}
+use Rattle.tiff_dirs.specs.Tag.{tile_offsets_tag, sample_format_tag}
 use Rattle.tiff_dirs.specs.Directory.{lies_inside}
-use Rattle.tiff_dirs.specs.Field.{entry_of, has_field, has_shape, field_values, field_value}
-use Rattle.tiff_dirs.specs.Block.{Level, is_tiled, offsets_tag, directory_blocks, level_blocks}
-use Rattle.tiff_dirs.specs.Block.{level_block_bytes}
+use Rattle.tiff_dirs.specs.Field.{field_place, has_field, has_shape, field_values, field_value}
+use Rattle.tiff_dirs.specs.Block.{Level, is_tiled, offsets_tag, shape_at, blocks_of, block_bytes}
 
 -- the first of the faults that is shown
 abbrev pub first_of : List (Option TiffFault) → Option TiffFault
 first_of [] = None
 first_of (fault ∷ faults) = option_or fault (first_of faults)
 
--- the sides of an image and of a tile go to 131072, its channels to 8
-abbrev pub most_side : ℕ
-most_side = 131072
+-- the largest side of an image and of a tile, and the most channels
+abbrev pub max_side : ℕ
+max_side = 131072
 
-abbrev pub most_channels : ℕ
-most_channels = 8
+abbrev pub max_channels : ℕ
+max_channels = 8
 
--- a side that a tile may have: a multiple of 16 that is not 0
+-- the sides of a tile are multiples of 16
+abbrev pub tile_step : ℕ
+tile_step = 16
+
+-- a side that a tile may have: such a multiple that is not 0
 abbrev pub is_tile_side : ℕ → Bool
-is_tile_side side = nat_lt 0 side && (nat_le side most_side && (side % 16 == 0))
+is_tile_side side = nat_lt 0 side && (nat_le side max_side && (side % tile_step == 0))
 
 -- ---- the faults of the directory at a place, in their order
 
-module _ (big : Bool) (bytes : List ℕ) (at : ℕ) where
+module _ (form : Form) (bytes : List ℕ) (at : ℕ) where
   -- 4: it does not lie in the file
   unfoldable pub outside_fault : Option TiffFault
-  outside_fault = then_some (not (lies_inside big bytes at)) DirOutside
+  outside_fault = then_some (not (lies_inside form bytes at)) DirOutside
 
   -- the fields that it must have
   abbrev pub required_tags : List ℕ
-  required_tags = 256 ∷ 257 ∷ (if is_tiled big bytes at then 323 ∷ 324 ∷ [] else 273 ∷ [])
+  required_tags =
+      image_width_tag ∷ image_length_tag
+      ∷ (if is_tiled form bytes at then tile_length_tag ∷ tile_offsets_tag ∷ []
+      else strip_offsets_tag ∷ [])
 
   -- 5: the first of them that is absent
   unfoldable pub missing_fault : Option TiffFault
   missing_fault = option_map FieldMissing
-      (find (λ tag. not (has_field big bytes at tag)) required_tags)
+      (find (λ tag. not (has_field form bytes at tag)) required_tags)
 
   -- the fields that it reads, by their tags
   abbrev pub read_tags : List ℕ
   read_tags =
-      if is_tiled big bytes at
-      then 256 ∷ 257 ∷ 258 ∷ 259 ∷ 262 ∷ 277 ∷ 284 ∷ 322 ∷ 323 ∷ 324 ∷ 339 ∷ []
-      else 256 ∷ 257 ∷ 258 ∷ 259 ∷ 262 ∷ 273 ∷ 277 ∷ 278 ∷ 284 ∷ 339 ∷ []
+      if is_tiled form bytes at
+      then image_width_tag ∷ image_length_tag ∷ bits_per_sample_tag ∷ compression_tag
+      ∷ photometric_tag ∷ samples_per_pixel_tag ∷ planar_configuration_tag ∷ tile_width_tag
+      ∷ tile_length_tag ∷ tile_offsets_tag ∷ sample_format_tag ∷ []
+      else image_width_tag ∷ image_length_tag ∷ bits_per_sample_tag ∷ compression_tag
+      ∷ photometric_tag ∷ strip_offsets_tag ∷ samples_per_pixel_tag ∷ rows_per_strip_tag
+      ∷ planar_configuration_tag ∷ sample_format_tag ∷ []
 
   -- the field is there and has a bad shape
   abbrev pub is_misshapen : ℕ → Bool
   is_misshapen tag =
-      option_map_or (λ place. not (has_shape big bytes place)) (entry_of big bytes at tag) false
+      option_map_or (λ place. not (has_shape form bytes place)) (field_place form bytes at tag)
+      false
 
   -- 6: the lowest of them that is there and has a bad shape
   unfoldable pub shape_fault : Option TiffFault
@@ -65,37 +83,44 @@ module _ (big : Bool) (bytes : List ℕ) (at : ℕ) where
 
   -- the samples of a pixel
   abbrev pub samples : ℕ
-  samples = field_value big bytes at 277
+  samples = field_value form bytes at samples_per_pixel_tag
+
+  -- the first value of a field, among as many as a pixel has samples, that does not pass a test
+  abbrev pub other_sample : ℕ → (ℕ → Bool) → Option ℕ
+  other_sample tag test = find (λ v. not (test v)) (take samples (field_values form bytes at tag))
 
   -- 7, BitsPerSample: neither 8 nor 16, or not the same for all samples
   abbrev pub bits_fault : Option TiffFault
   bits_fault =
-      let bits = field_value big bytes at 258 in
+      let bits = field_value form bytes at bits_per_sample_tag in
       if (bits == 8) || (bits == 16)
-      then option_map (Unsupported 258)
-      (find (λ v. not (v == bits)) (take samples (field_values big bytes at 258)))
-      else Some (Unsupported 258 bits)
+      then option_map (Unsupported bits_per_sample_tag)
+      (other_sample bits_per_sample_tag (λ v. v == bits))
+      else Some (Unsupported bits_per_sample_tag bits)
 
   -- 7, Compression: 1 is uncompressed
   abbrev pub compression_fault : Option TiffFault
-  compression_fault = let v = field_value big bytes at 259 in
-      then_some (not (v == 1)) (Unsupported 259 v)
+  compression_fault =
+      let v = field_value form bytes at compression_tag in
+      then_some (not (v == 1)) (Unsupported compression_tag v)
 
   -- 7, PhotometricInterpretation: 0 WhiteIsZero, 1 BlackIsZero, 2 RGB
   abbrev pub photometric_fault : Option TiffFault
-  photometric_fault = let v = field_value big bytes at 262 in
-      then_some (nat_lt 2 v) (Unsupported 262 v)
+  photometric_fault =
+      let v = field_value form bytes at photometric_tag in
+      then_some (nat_lt 2 v) (Unsupported photometric_tag v)
 
   -- 7, PlanarConfiguration: 1 is chunky; 2, planar, is the same where a pixel has one sample
   abbrev pub planar_fault : Option TiffFault
   planar_fault =
-      let v = field_value big bytes at 284 in
-      then_some (not ((v == 1) || ((v == 2) && (samples == 1)))) (Unsupported 284 v)
+      let v = field_value form bytes at planar_configuration_tag in
+      then_some (not ((v == 1) || ((v == 2) && (samples == 1))))
+      (Unsupported planar_configuration_tag v)
 
   -- 7, SampleFormat: 1 is unsigned, and 4, undefined, is read as 1
   abbrev pub format_fault : Option TiffFault
-  format_fault = option_map (Unsupported 339)
-      (find (λ v. not ((v == 1) || (v == 4))) (take samples (field_values big bytes at 339)))
+  format_fault = option_map (Unsupported sample_format_tag)
+      (other_sample sample_format_tag (λ v. (v == 1) || (v == 4)))
 
   -- 7: the first of these cases
   unfoldable pub unsupported_fault : Option TiffFault
@@ -105,28 +130,30 @@ module _ (big : Bool) (bytes : List ℕ) (at : ℕ) where
   -- 8: a side, the samples of a pixel or the rows of a strip are 0
   unfoldable pub zero_fault : Option TiffFault
   zero_fault = then_some
-      ((field_value big bytes at 256 == 0) || ((field_value big bytes at 257 == 0)
-      || ((samples == 0)
-      || (not (is_tiled big bytes at) && (field_value big bytes at 278 == 0))))) ZeroSize
+      ((field_value form bytes at image_width_tag == 0)
+      || ((field_value form bytes at image_length_tag == 0) || ((samples == 0)
+      || (not (is_tiled form bytes at) && (field_value form bytes at rows_per_strip_tag == 0)))))
+      ZeroSize
 
   -- 9: a side or the samples of a pixel are above the limits
   unfoldable pub large_fault : Option TiffFault
   large_fault = then_some
-      (nat_lt most_side (field_value big bytes at 256)
-      || (nat_lt most_side (field_value big bytes at 257) || nat_lt most_channels samples)) TooLarge
+      (nat_lt max_side (field_value form bytes at image_width_tag)
+      || (nat_lt max_side (field_value form bytes at image_length_tag)
+      || nat_lt max_channels samples)) TooLarge
 
   -- 10: a tile has a side that it may not have
   unfoldable pub tile_fault : Option TiffFault
   tile_fault = then_some
-      (is_tiled big bytes at
-      && not (is_tile_side (field_value big bytes at 322)
-      && is_tile_side (field_value big bytes at 323))) TileShape
+      (is_tiled form bytes at
+      && not (is_tile_side (field_value form bytes at tile_width_tag)
+      && is_tile_side (field_value form bytes at tile_length_tag))) TileShape
 
   -- 11: there are fewer offsets than blocks
   unfoldable pub count_fault : Option TiffFault
   count_fault = then_some
-      (nat_lt (length (field_values big bytes at (offsets_tag big bytes at)))
-      (directory_blocks big bytes at)) OffsetCount
+      (nat_lt (length (field_values form bytes at (offsets_tag form bytes at)))
+      (blocks_of (shape_at form bytes at))) OffsetCount
 
   -- the first fault that the directory shows
   unfoldable pub directory_fault : Option TiffFault
@@ -137,13 +164,13 @@ module _ (big : Bool) (bytes : List ℕ) (at : ℕ) where
 -- ---- the blocks of a level
 
 -- block i lies in the file, behind the header
-abbrev pub block_inside : List ℕ → Level → ℕ → Bool
-block_inside bytes level i =
-    nat_le 8 (slice_index level.offsets i)
-    && nat_le (slice_index level.offsets i + level_block_bytes level i) (length bytes)
+abbrev pub block_inside : Form → List ℕ → Level → ℕ → Bool
+block_inside form bytes level i =
+    nat_le (header_bytes form) (slice_index level.offsets i)
+    && nat_le (slice_index level.offsets i + block_bytes level.shape i) (length bytes)
 
 -- 12: the first block of a level that does not lie in the file
-unfoldable pub data_fault : List ℕ → ℕ → Level → Option TiffFault
-data_fault bytes number level =
+unfoldable pub data_fault : Form → List ℕ → ℕ → Level → Option TiffFault
+data_fault form bytes number level =
     option_map (DataOutside number)
-    (find (λ i. not (block_inside bytes level i)) (range_with_len 0 (level_blocks level)))
+    (find (λ i. not (block_inside form bytes level i)) (range_with_len 0 (blocks_of level.shape)))

@@ -1,4 +1,6 @@
 pub mod Bytes
+pub mod Form
+pub mod Tag
 pub mod Directory
 pub mod Field
 pub mod Block
@@ -11,8 +13,11 @@ pub mod Shown
 pub mod Reader
 pub mod Header
 pub mod Dirs
-pub mod Inside
+pub mod Entries
 pub mod Values
+pub mod Shape
 pub mod Numbers
+pub mod ReadLevel
+pub mod NextLevel
 pub mod Chain
 pub mod Calls

@@ -1,16 +1,12 @@
 -- What does a directory that was read show?
 use Rattle.tiff_dirs.specs.declared.dir.Dir.{Dir}
-use Rattle.tiff_dirs.specs.Block.{Level}
+use Rattle.tiff_dirs.specs.Block.{LevelShape, Level, shape_of, level_with}
+
+-- its fields but for the offsets
+abbrev pub shown_shape : Dir → LevelShape
+shown_shape dir = shape_of dir.width dir.height dir.channels dir.depth dir.white dir.tile
+    dir.rows_per_strip
 
 -- its fields as plain data
 abbrev pub shown : Dir → Level
-shown dir = record {
-  width = dir.width;
-  height = dir.height;
-  channels = dir.channels;
-  depth = dir.depth;
-  white = dir.white;
-  tile = dir.tile;
-  rows_per_strip = dir.rows_per_strip;
-  offsets = dir.offsets.items;
-}
+shown dir = level_with (shown_shape dir) dir.offsets.items

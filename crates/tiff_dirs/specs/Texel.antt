@@ -3,36 +3,52 @@
 use Rattle.std.specs.Prelude.{ℕ, ◌+◌, ◌-◌, ◌*◌, ◌/◌, ◌%◌, ◌^◌, ◌==◌, ◌&&◌, Bool, List, slice_index}
 use Rattle.std.specs.Prelude.{Option, Some, None, if◌then◌else◌}
 use Rattle.tiff_dirs.specs.Bytes.{number_at, is_big}
-use Rattle.tiff_dirs.specs.Block.{Level, pieces_over, sample_bytes}
+use Rattle.tiff_dirs.specs.Block.{LevelShape, Level, pieces_over, sample_bytes}
 use Rattle.tiff_dirs.specs.Level.{level_of}
 
+-- ---- where a sample stands
+
+-- the strip, or the tile of this width and height, that holds texel (x, y)
+abbrev pub block_by : LevelShape → Option (ℕ × ℕ) → ℕ → ℕ → ℕ
+block_by shape None x y = y / shape.rows_per_strip
+block_by shape (Some tile) x y = y / tile.1 * pieces_over shape.width tile.0 + x / tile.0
+
 -- the block that holds texel (x, y)
-abbrev pub block_index : ℕ → Option (ℕ × ℕ) → ℕ → ℕ → ℕ → ℕ
-block_index width None rows x y = y / rows
-block_index width (Some tile) rows x y = y / tile.1 * pieces_over width tile.0 + x / tile.0
+abbrev pub block_index : LevelShape → ℕ → ℕ → ℕ
+block_index shape x y = block_by shape shape.tile x y
 
 -- the number of texels before texel (x, y) in its block: row by row of the strip,
 -- or of the padded tile
-abbrev pub texels_before : ℕ → Option (ℕ × ℕ) → ℕ → ℕ → ℕ → ℕ
-texels_before width None rows x y = y % rows * width + x
-texels_before width (Some tile) rows x y = y % tile.1 * tile.0 + x % tile.0
+abbrev pub texels_before_by : LevelShape → Option (ℕ × ℕ) → ℕ → ℕ → ℕ
+texels_before_by shape None x y = y % shape.rows_per_strip * shape.width + x
+texels_before_by shape (Some tile) x y = y % tile.1 * tile.0 + x % tile.0
+
+abbrev pub texels_before : LevelShape → ℕ → ℕ → ℕ
+texels_before shape x y = texels_before_by shape shape.tile x y
 
 -- the place of the sample of channel c of texel (x, y): the samples of a pixel stand side by side
 unfoldable pub sample_place : Level → ℕ → ℕ → ℕ → ℕ
 sample_place level x y c =
-    slice_index level.offsets (block_index level.width level.tile level.rows_per_strip x y)
-    + (texels_before level.width level.tile level.rows_per_strip x y * level.channels + c)
-    * sample_bytes level.depth
+    slice_index level.offsets (block_index level.shape x y)
+    + (texels_before level.shape x y * level.shape.channels + c) * sample_bytes level.shape.depth
 
--- The white rule: in a WhiteIsZero directory channel 0 is read as the greatest value of the depth
--- minus what is stored.
-abbrev pub unwhite : Level → ℕ → ℕ → ℕ
-unwhite level c stored = if level.white && (c == 0) then (2 ^ level.depth - 1) - stored else stored
+-- ---- which number it is
 
--- the sample of channel c of texel (x, y) of a level
+-- the greatest value of a sample of so many bits
+-- (section 8, PhotometricInterpretation: 2**BitsPerSample-1)
+abbrev pub greatest_sample : ℕ → ℕ
+greatest_sample depth = 2 ^ depth - 1
+
+-- The white rule: channel 0 of a WhiteIsZero level is read as the greatest value of the depth minus
+-- what is stored. Every other sample is what is stored.
+abbrev pub unwhite : Bool → ℕ → ℕ → ℕ
+unwhite is_white depth stored = if is_white then greatest_sample depth - stored else stored
+
+-- the sample of channel c of texel (x, y) of a level; its bytes stand highest first where `big`
 unfoldable pub sample_in : Bool → List ℕ → Level → ℕ → ℕ → ℕ → ℕ
 sample_in big bytes level x y c =
-    unwhite level c (number_at big (sample_bytes level.depth) bytes (sample_place level x y c))
+    unwhite (level.shape.white && (c == 0)) level.shape.depth
+    (number_at big (sample_bytes level.shape.depth) bytes (sample_place level x y c))
 
 -- a value is 16-bit: an 8-bit sample v counts as 257 * v
 abbrev pub value_of : ℕ → ℕ → ℕ

@@ -1,11 +1,19 @@
 -- What is said of the values of a field while they are read?
-use Rattle.std.specs.Prelude.{◌≡◌, ℕ, ◌+◌, ◌^◌, ◌<◌, ◌==◌, ◌||◌, not, Bool, true, false, List}
+use Rattle.std.specs.Prelude.{◌≡◌, ℕ, ◌+◌, ◌<◌, ◌==◌, ◌||◌, not, Bool, true, false, List}
 use Rattle.std.specs.Prelude.{length, take, find, slice_index, Option, Some, None}
+use Rattle.tiff_dirs.specs.declared.form.Form.{Form}
+use Rattle.tiff_dirs.specs.declared.sample_fields.SampleField.{SampleField}
 use Rattle.tiff_dirs.specs.Field.{field_values}
 
--- one of two numbers
-abbrev pub is_either : ℕ → ℕ → ℕ → Bool
-is_either one other v = (v == one) || (v == other)
+-- how many values are read at once: as many LONGs as 64 KiB hold
+abbrev pub max_values : ℕ
+max_values = 16384
+
+-- ---- for each sample of a pixel
+
+-- the field may have that value
+abbrev pub is_allowed : SampleField → ℕ → Bool
+is_allowed field v = (v == field.one) || (v == field.other)
 
 -- the first of n values that does not pass a test
 abbrev pub IsFirstOther : (ℕ → Bool) → (ℕ → ℕ) → ℕ → Option ℕ → Type 0
@@ -15,10 +23,12 @@ IsFirstOther test value n (Some v) =
     × ((j : ℕ) → j < k → test (value j) ≡ true)
 
 -- the first of the first values of a field, as many as a pixel has samples,
--- that is neither of two numbers
-abbrev pub other_sample : Bool → List ℕ → ℕ → ℕ → ℕ → ℕ → ℕ → Option ℕ
-other_sample big bytes at tag samples one other =
-    find (λ v. not (is_either one other v)) (take samples (field_values big bytes at tag))
+-- that it may not have
+abbrev pub first_other : Form → List ℕ → ℕ → SampleField → ℕ → Option ℕ
+first_other form bytes at field samples =
+    find (λ v. not (is_allowed field v)) (take samples (field_values form bytes at field.tag))
+
+-- ---- for each block
 
 -- n numbers stand behind the old ones
 pub record Appends (n : ℕ) (number : ℕ → ℕ) (old new : List ℕ) : Type 0 where
@@ -30,7 +40,3 @@ pub record Appends (n : ℕ) (number : ℕ → ℕ) (old new : List ℕ) : Type 
 pub record AreFirst (n : ℕ) (value : ℕ → ℕ) (kept : List ℕ) : Type 0 where
   pub long : length kept ≡ n
   pub same : (i : ℕ) → i < n → slice_index kept i ≡ value i
-
--- each fits in four bytes
-abbrev pub AreLow : List ℕ → Type 0
-AreLow kept = (i : ℕ) → i < length kept → slice_index kept i < 2 ^ 32

@@ -1,33 +1,38 @@
 //! The levels of a file: each directory leads to the next.
 
 ghost use Rattle.std.specs.Prelude.{◌≡◌, ℕ, ◌+◌, ◌≤◌, ◌<◌, length, map, IfOk, IfSome, IsTrue};
-ghost use Rattle.std.specs.Prelude.{OnOk, ◌++◌};
-ghost use Rattle.std.specs.Prelude.{List, [], ◌∷◌};
+ghost use Rattle.std.specs.Prelude.{OnOk, ◌++◌, None, List, [], ◌∷◌};
 ghost use Rattle.std.specs.Option.{ForSome};
-ghost use Rattle.tiff_dirs.specs.Bytes.{number_at, is_big};
-ghost use Rattle.tiff_dirs.specs.Fault.{directory_fault};
-ghost use Rattle.tiff_dirs.specs.Level.{halved as spec_halved, level_of as spec_level};
-ghost use Rattle.tiff_dirs.specs.Level.{level_place};
-ghost use Rattle.tiff_dirs.specs.Block.{level_at as spec_at};
+ghost use Rattle.tiff_dirs.specs.Form.{form_of, offset_bytes, offset_at};
+ghost use Rattle.tiff_dirs.specs.Block.{level_at};
+ghost use Rattle.tiff_dirs.specs.Fault.{first_of, directory_fault, data_fault};
+ghost use Rattle.tiff_dirs.specs.Level.{halved as spec_halved, level_of, level_place, data_faults};
 ghost use Rattle.tiff_dirs.specs.Facts.{IsChain};
 ghost use Rattle.tiff_dirs.specs.Dirs.{Leaves};
 ghost use Rattle.tiff_dirs.specs.Header.{IsHeader};
-ghost use Rattle.tiff_dirs.specs.Chain.{has_half_size, is_half_of, FindsHalf, IsLevelAt, IsNext};
-ghost use Rattle.tiff_dirs.specs.Chain.{IsStoredAt, IsEnd, stored_of};
-ghost use Rattle.tiff_dirs.specs.Shown.{shown};
-ghost use Rattle.tiff_dirs.specs.Calls.{Finds, Gives};
+ghost use Rattle.tiff_dirs.specs.Entries.{IsLinkAt};
+ghost use Rattle.tiff_dirs.specs.Shape.{seen_shape};
+ghost use Rattle.tiff_dirs.specs.ReadLevel.{IsLevelAt};
+ghost use Rattle.tiff_dirs.specs.NextLevel.{is_half_of, FindsHalf, IsNext};
+ghost use Rattle.tiff_dirs.specs.Chain.{IsEnd, AreAll};
+ghost use Rattle.tiff_dirs.specs.Shown.{shown, shown_shape};
+ghost use Rattle.tiff_dirs.specs.Calls.{Finds, Reads};
 
-use crate::bytes::long_at;
 use crate::dir::Dir;
+use crate::directory::read_directory;
 use crate::fault::DirsError;
-use crate::header::Header;
-use crate::level::{Stored, level_of, outline_at};
-use crate::picture::Picture;
+use crate::fields::first_value;
+use crate::form::OFFSET_BYTES;
+use crate::level::{read_level, read_shape};
+use crate::place::Place;
+use crate::read_level::ReadLevel;
 use crate::reader::{ByteReader, read_at};
+use crate::shape::LevelShape;
+use crate::tag::SAMPLES_PER_PIXEL;
 use std::alloc::{AllocError, Global};
 
 /// Sides go to 131072 and halve from level to level.
-const MOST_LEVELS: usize = 18;
+const MAX_LEVELS: usize = 18;
 
 /// Half of a side, rounded down, and 1 at least.
 fn halved(side: u32) -> u32
@@ -36,51 +41,56 @@ fn halved(side: u32) -> u32
     (side / 2).max(1)
 }
 
-/// The picture is half the size of the last level, with the samples of the first.
-fn is_half(picture: &Picture, first: &Dir, last: &Dir) -> bool
-    ensures { result ≡ has_half_size (shown first.now) (shown last.now) picture.now.width
-        picture.now.height picture.now.channels picture.now.depth }
+/// The shape is half the size of the last level, with the samples of the first.
+fn is_half(shape: &LevelShape, first: &Dir, last: &Dir) -> bool
+    ensures { result ≡ is_half_of (shown_shape first.now) (shown_shape last.now)
+        (seen_shape shape.now) }
 {
-    picture.width == halved(last.width)
-        && picture.height == halved(last.height)
-        && picture.channels == first.channels
-        && picture.depth == first.depth
+    shape.width == halved(last.width)
+        && shape.height == halved(last.height)
+        && shape.channels == first.channels
+        && shape.depth == first.depth
 }
 
-/// The place of the next directory, 0 for none.
-fn next_place<B: ByteReader>(b: &mut B, big: bool, next_at: u64) -> Result<u32, DirsError<B::Error>>
-    requires { next_at + 4 ≤ B.size b.old }
+/// The offset of the next directory, 0 for none.
+fn next_offset<B: ByteReader>(b: &mut B, next: Place) -> Result<u64, DirsError<B::Error>>
+    requires { next.at + offset_bytes next.form ≤ B.size b.old }
     ensures told { ForSome (B.bytes b.old) (λ bytes.
-        Gives (λ place. place ≡ number_at big 4 bytes next_at) result) }
+        Reads (λ at. at ≡ offset_at next.form bytes next.at) result) }
     ensures reader { Leaves B.keeps B.refuses b.old b.new result }
 {
-    let mut bytes = [0u8; 4];
-    read_at(b, next_at, &mut bytes)?;
-    Ok(long_at(big, &bytes, 0))
+    let mut bytes = [0u8; OFFSET_BYTES];
+    read_at(b, next.at, &mut bytes)?;
+    Ok(next.form.offset_at(&bytes, 0))
 }
 
-/// The directory at a place as a level, where it is half of the last one.
+/// The directory at a place as a level, where it is half of the last one. Of one with other samples
+/// per pixel than the first no further field is read.
 fn half_at<B: ByteReader>(
     alloc: Global,
     b: &mut B,
-    big: bool,
-    place: u32,
+    place: Place,
     first: &Dir,
     last: &Dir,
-) -> Result<Option<Stored>, DirsError<B::Error>>
-    ensures told { ForSome (B.bytes b.old) (λ bytes.
-        FindsHalf big bytes place (shown first.now) (shown last.now) result) }
-    ensures half { IfOk result (λ next. IfSome next (λ stored.
-        IsTrue (is_half_of (shown first.now) (shown last.now) (shown stored.dir)))) }
-    ensures inside { IfOk result (λ next. IfSome next (λ stored.
-        stored.next_at + 4 ≤ B.size b.new)) }
+) -> Result<Option<ReadLevel>, DirsError<B::Error>>
+    ensures told { ForSome (B.bytes b.old) (λ bytes. FindsHalf place.form bytes place.at
+        (shown_shape first.now) (shown_shape last.now) result) }
+    ensures half { IfOk result (λ next. IfSome next (λ read. IsTrue (is_half_of
+        (shown_shape first.now) (shown_shape last.now) (seen_shape read.shape)))) }
+    ensures inside { IfOk result (λ next. IfSome next (λ read.
+        read.next.at + offset_bytes read.next.form ≤ B.size b.new)) }
     ensures reader { Leaves B.keeps B.refuses b.old b.new result }
 {
-    let outline = outline_at(alloc, b, big, place)?;
-    if !is_half(&outline.picture, first, last) {
+    let directory = read_directory(alloc, b, place)?;
+    let channels = first_value(b, &directory.found, SAMPLES_PER_PIXEL)?;
+    if channels != first.channels {
         return Ok(None);
     }
-    let next = level_of(alloc, b, big, &outline)?;
+    let shape = read_shape(alloc, b, &directory.found)?;
+    if !is_half(&shape, first, last) {
+        return Ok(None);
+    }
+    let next = read_level(alloc, b, &directory, shape)?;
     Ok(Some(next))
 }
 
@@ -89,29 +99,34 @@ fn half_at<B: ByteReader>(
 fn next_level<B: ByteReader>(
     alloc: Global,
     b: &mut B,
-    big: bool,
+    next: Place,
     first: &Dir,
     last: &Dir,
-    next_at: u64,
-) -> Result<Option<Stored>, DirsError<B::Error>>
-    requires { next_at + 4 ≤ B.size b.old }
+) -> Result<Option<ReadLevel>, DirsError<B::Error>>
+    requires { next.at + offset_bytes next.form ≤ B.size b.old }
     ensures told { ForSome (B.bytes b.old) (λ bytes. (one at : ℕ)
-        → shown first.now ≡ spec_at big bytes one → IsLevelAt big bytes at (shown last.now) next_at
-        → Gives (IsNext big bytes one at) result) }
-    ensures half { IfOk result (λ next. IfSome next (λ stored.
-        IsTrue (is_half_of (shown first.now) (shown last.now) (shown stored.dir)))) }
-    ensures inside { IfOk result (λ next. IfSome next (λ stored.
-        stored.next_at + 4 ≤ B.size b.new)) }
+        → shown first.now ≡ level_at next.form bytes one
+        → shown last.now ≡ level_at next.form bytes at
+        → IsLinkAt next.form bytes at next
+        → Reads (IsNext next.form bytes one at) result) }
+    ensures half { IfOk result (λ next. IfSome next (λ read. IsTrue (is_half_of
+        (shown_shape first.now) (shown_shape last.now) (seen_shape read.shape)))) }
+    ensures inside { IfOk result (λ next. IfSome next (λ read.
+        read.next.at + offset_bytes read.next.form ≤ B.size b.new)) }
     ensures reader { Leaves B.keeps B.refuses b.old b.new result }
 {
     if last.width == 1 && last.height == 1 {
         return Ok(None);
     }
-    let place = next_place(b, big, next_at)?;
-    if place == 0 {
+    let at = next_offset(b, next)?;
+    if at == 0 {
         return Ok(None);
     }
-    match half_at(alloc, b, big, place, first, last) {
+    let place = Place {
+        form: next.form,
+        at,
+    };
+    match half_at(alloc, b, place, first, last) {
         Ok(next) => Ok(next),
         Err(DirsError::Fault(_)) => Ok(None),
         Err(DirsError::Reader(e)) => Err(DirsError::Reader(e)),
@@ -127,30 +142,32 @@ fn append(levels: &mut Vec<Dir>, dir: Dir) -> Result<(), AllocError>
     Ok(())
 }
 
-/// Appends the levels that follow the first.
+/// Appends the levels that follow the first. The blocks of each are tested before the next is
+/// looked for.
 fn follow<B: ByteReader>(
     alloc: Global,
     b: &mut B,
-    big: bool,
     levels: &mut Vec<Dir>,
-    first_next_at: u64,
+    first_next: Place,
 ) -> Result<(), DirsError<B::Error>>
     requires one { length levels.old.items ≡ 1 }
-    requires inside { first_next_at + 4 ≤ B.size b.old }
-    ensures told { ForSome (B.bytes b.old) (λ bytes. big ≡ is_big bytes
-        → map shown levels.old.items ≡ spec_level bytes 0 ∷ []
-        → IsEnd bytes 0 first_next_at
-        → Gives (λ _. map shown levels.new.items ≡ stored_of bytes) result) }
+    requires inside { first_next.at + offset_bytes first_next.form ≤ B.size b.old }
+    ensures told { ForSome (B.bytes b.old) (λ bytes.
+        map shown levels.old.items ≡ level_of bytes 0 ∷ []
+        → data_fault (form_of bytes) bytes 0 (level_of bytes 0) ≡ None
+        → IsEnd bytes 0 first_next
+        → Finds (data_faults bytes) (λ _. AreAll bytes (map shown levels.new.items)) result) }
     ensures chain { OnOk result (IsChain (map shown levels.new.items)) }
     ensures reader { Leaves B.keeps B.refuses b.old b.new result }
 {
-    let mut next_at = first_next_at;
-    for last in 0..MOST_LEVELS - 1 {
-        match next_level(alloc, b, big, &levels[0], &levels[last], next_at)? {
+    let mut next = first_next;
+    for last in 0..MAX_LEVELS - 1 {
+        match next_level(alloc, b, next, &levels[0], &levels[last])? {
             None => return Ok(()),
-            Some(next) => {
-                append(levels, next.dir)?;
-                next_at = next.next_at;
+            Some(read) => {
+                next = read.next;
+                let dir = read.tested(last as u32 + 1, b.len())?;
+                append(levels, dir)?;
             }
         }
     }
@@ -161,34 +178,39 @@ fn follow<B: ByteReader>(
 fn first_level<B: ByteReader>(
     alloc: Global,
     b: &mut B,
-    big: bool,
-    place: u32,
-) -> Result<Stored, DirsError<B::Error>>
+    place: Place,
+) -> Result<ReadLevel, DirsError<B::Error>>
     ensures told { ForSome (B.bytes b.old) (λ bytes.
-        Finds (directory_fault big bytes place) (IsStoredAt big bytes place) result) }
-    ensures inside { IfOk result (λ stored. stored.next_at + 4 ≤ B.size b.new) }
+        Finds (directory_fault place.form bytes place.at) (IsLevelAt place.form bytes place.at)
+        result) }
+    ensures inside { IfOk result (λ read.
+        read.next.at + offset_bytes read.next.form ≤ B.size b.new) }
     ensures reader { Leaves B.keeps B.refuses b.old b.new result }
 {
-    let outline = outline_at(alloc, b, big, place)?;
-    level_of(alloc, b, big, &outline)
+    let directory = read_directory(alloc, b, place)?;
+    let shape = read_shape(alloc, b, &directory.found)?;
+    read_level(alloc, b, &directory, shape)
 }
 
-/// The levels of a file with this header. Each directory is read once, and none behind the first
-/// that is no level.
+/// The levels of a file whose header names this place. Each directory is read once, and none behind
+/// the first that is no level.
 pub fn read_levels<B: ByteReader>(
     alloc: Global,
     b: &mut B,
-    header: Header,
+    place: Place,
 ) -> Result<Vec<Dir>, DirsError<B::Error>>
-    ensures told { ForSome (B.bytes b.old) (λ bytes. IsHeader bytes header
-        → Finds (directory_fault (is_big bytes) bytes (level_place bytes 0))
-        (λ levels. map shown levels.items ≡ stored_of bytes) result) }
+    ensures told { ForSome (B.bytes b.old) (λ bytes. IsHeader bytes place → Finds
+        (first_of (directory_fault (form_of bytes) bytes (level_place bytes 0)
+        ∷ data_faults bytes ∷ []))
+        (λ levels. AreAll bytes (map shown levels.items)) result) }
     ensures chain { IfOk result (λ levels. IsChain (map shown levels.items)) }
     ensures reader { Leaves B.keeps B.refuses b.old b.new result }
 {
-    let first = first_level(alloc, b, header.big, header.first)?;
+    let first = first_level(alloc, b, place)?;
+    let next = first.next;
+    let dir = first.tested(0, b.len())?;
     let mut levels = Vec::with_capacity(alloc, 1)?;
-    levels.push_reserved(first.dir);
-    follow(alloc, b, header.big, &mut levels, first.next_at)?;
+    levels.push_reserved(dir);
+    follow(alloc, b, &mut levels, next)?;
     Ok(levels)
 }

@@ -1,6 +1,5 @@
-ghost use Rattle.std.specs.Prelude.{◌≤◌};
-ghost use Rattle.std.specs.Option.{ForNone};
-ghost use Rattle.tiff_dirs.specs.Facts.{IsSide, IsChannelCount, IsDepth, HasTileSides, HasOffsets};
+ghost use Rattle.tiff_dirs.specs.Block.{shape_of, level_with};
+ghost use Rattle.tiff_dirs.specs.Facts.{IsLevelShape, HasOffsets};
 
 /// A directory that shows no fault: one level of the file (TIFF 6.0, section 2).
 #[derive(Debug, Drop)]
@@ -22,11 +21,8 @@ pub struct Dir {
     pub rows_per_strip: u32,
     /// The offset of each strip or tile, as many as there are.
     pub offsets: Vec<u64>,
-    ghost width_in: { IsSide width },
-    ghost height_in: { IsSide height },
-    ghost channels_in: { IsChannelCount channels },
-    ghost depth_in: { IsDepth depth },
-    ghost tile_in: { HasTileSides tile },
-    ghost rows_in: { ForNone tile (1 ≤ rows_per_strip) },
-    ghost offsets_in: { HasOffsets width height channels depth tile rows_per_strip offsets.items },
+    ghost shape_in: { IsLevelShape
+        (shape_of width height channels depth white tile rows_per_strip) },
+    ghost offsets_in: { HasOffsets (level_with
+        (shape_of width height channels depth white tile rows_per_strip) offsets.items) },
 }

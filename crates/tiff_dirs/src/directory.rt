@@ -2,43 +2,51 @@
 
 ghost use Rattle.std.specs.Prelude.{◌≡◌, ℕ, ◌+◌, ◌*◌, ◌^◌, ◌<◌, ◌≤◌, List, length, IfOk, true};
 ghost use Rattle.std.specs.Option.{ForSome};
-ghost use Rattle.tiff_dirs.specs.Directory.{entry_count, entry_place, next_place, lies_inside};
+ghost use Rattle.tiff_dirs.specs.Form.{entry_bytes, offset_bytes};
+ghost use Rattle.tiff_dirs.specs.Directory.{entry_count, entry_place};
 ghost use Rattle.tiff_dirs.specs.Dirs.{Leaves};
-ghost use Rattle.tiff_dirs.specs.Inside.{Covers, HasEntries};
+ghost use Rattle.tiff_dirs.specs.Entries.{Covers, IsDirectoryAt};
 ghost use Rattle.tiff_dirs.specs.Fault.{outside_fault};
-ghost use Rattle.tiff_dirs.specs.Calls.{Finds, Gives};
+ghost use Rattle.tiff_dirs.specs.Calls.{Finds, Reads};
 
-use crate::bytes::short_at;
-use crate::entry::ENTRY_BYTES;
 use crate::fault::{DirsError, TiffFault};
+use crate::form::{COUNT_BYTES, ENTRY_BYTES};
 use crate::found::Found;
-use crate::reader::{ByteReader, read_at};
+use crate::place::Place;
+use crate::reader::{ByteReader, MAX_READ_BYTES, read_at};
 use std::alloc::Global;
 
-/// How many entries are read at once: as many as 64 KiB hold.
-const ENTRIES_AT_ONCE: usize = 5461;
+/// How many entries are read at once.
+const MAX_ENTRIES: usize = MAX_READ_BYTES / ENTRY_BYTES;
+
+/// The entries of a directory that are read, and the place of its offset of the next one.
+#[derive(Clone, Copy)]
+pub struct Directory {
+    pub found: Found,
+    pub next: Place,
+}
 
 /// How many entries the directory at a place has, where all of it lies in the file.
-fn count_of_entries<B: ByteReader>(
-    b: &mut B,
-    big: bool,
-    place: u32,
-) -> Result<u16, DirsError<B::Error>>
+fn count_of_entries<B: ByteReader>(b: &mut B, place: Place) -> Result<u16, DirsError<B::Error>>
     ensures told { ForSome (B.bytes b.old) (λ bytes.
-        Finds (outside_fault big bytes place)
-        (λ count. count ≡ entry_count big bytes place) result) }
-    ensures inside { IfOk result (λ count. entry_place place count + 4 ≤ B.size b.new) }
+        Finds (outside_fault place.form bytes place.at)
+        (λ count. count ≡ entry_count place.form bytes place.at) result) }
+    ensures inside { IfOk result (λ count.
+        entry_place place.form place.at count + offset_bytes place.form ≤ B.size b.new) }
+    ensures low { IfOk result (λ count. B.size b.new < 2 ^ 64) }
     ensures reader { Leaves B.keeps B.refuses b.old b.new result }
 {
-    let place = u64::from(place);
+    let form = place.form;
     let file = b.len();
-    if place < 8 || file < place + 2 {
+    let head_bytes = form.count_bytes();
+    if place.at < form.header_bytes() || file < head_bytes || file - head_bytes < place.at {
         return Err(DirsError::Fault(TiffFault::DirOutside));
     }
-    let mut head = [0u8; 2];
-    read_at(b, place, &mut head)?;
-    let count = short_at(big, &head, 0);
-    if file < place + 2 + 12 * u64::from(count) + 4 {
+    let mut head = [0u8; COUNT_BYTES];
+    read_at(b, place.at, &mut head)?;
+    let count = form.short_at(&head, 0);
+    let left = file - head_bytes - place.at;
+    if left < form.entry_bytes() * u64::from(count) + form.offset_bytes() {
         return Err(DirsError::Fault(TiffFault::DirOutside));
     }
     Ok(count)
@@ -48,26 +56,25 @@ fn count_of_entries<B: ByteReader>(
 fn found_among<B: ByteReader>(
     alloc: Global,
     b: &mut B,
-    big: bool,
-    first: u64,
+    first: Place,
     count: u16,
 ) -> Result<Found, DirsError<B::Error>>
-    requires inside { first + 12 * count ≤ B.size b.old }
-    requires low { first < 2 ^ 63 }
+    requires inside { first.at + entry_bytes first.form * count ≤ B.size b.old }
+    requires low { B.size b.old < 2 ^ 64 }
     ensures told { ForSome (B.bytes b.old) (λ bytes.
-        Gives (λ found. Covers big bytes first count found.entries) result) }
+        Reads (λ found. Covers first.form bytes first.at count found.entries) result) }
     ensures reader { Leaves B.keeps B.refuses b.old b.new result }
 {
     let count = usize::from(count);
-    let mut buffer = vec![in alloc; 0u8; count.min(ENTRIES_AT_ONCE) * ENTRY_BYTES]?;
+    let mut buffer = vec![in alloc; 0u8; count.min(MAX_ENTRIES) * ENTRY_BYTES]?;
     let mut found = Found::nothing();
     let mut done = 0;
     'blocks: while done < count {
-        let more = (count - done).min(ENTRIES_AT_ONCE);
-        let place = first + (done * ENTRY_BYTES) as u64;
-        let block = &mut buffer[..more * ENTRY_BYTES];
-        read_at(b, place, block)?;
-        found.scan(big, block, place);
+        let more = (count - done).min(MAX_ENTRIES);
+        let place = first.at + (done * ENTRY_BYTES) as u64;
+        let part = &mut buffer[..more * ENTRY_BYTES];
+        read_at(b, place, part)?;
+        found.scan(first.form, part, place);
         done += more;
     }
     Ok(found)
@@ -75,20 +82,28 @@ fn found_among<B: ByteReader>(
 
 /// The first entry of each tag in the directory at a place, and the place of its offset of the next
 /// directory.
-pub fn found_at<B: ByteReader>(
+pub fn read_directory<B: ByteReader>(
     alloc: Global,
     b: &mut B,
-    big: bool,
-    place: u32,
-) -> Result<(Found, u64), DirsError<B::Error>>
-    ensures told { ForSome (B.bytes b.old) (λ bytes. Finds (outside_fault big bytes place)
-        (λ read. (lies_inside big bytes place ≡ true) × HasEntries big bytes place read.0.entries
-        × (read.1 ≡ next_place big bytes place)) result) }
-    ensures inside { IfOk result (λ read. read.1 + 4 ≤ B.size b.new) }
+    place: Place,
+) -> Result<Directory, DirsError<B::Error>>
+    ensures told { ForSome (B.bytes b.old) (λ bytes.
+        Finds (outside_fault place.form bytes place.at)
+        (IsDirectoryAt place.form bytes place.at) result) }
+    ensures inside { IfOk result (λ directory.
+        directory.next.at + offset_bytes directory.next.form ≤ B.size b.new) }
     ensures reader { Leaves B.keeps B.refuses b.old b.new result }
 {
-    let count = count_of_entries(b, big, place)?;
-    let first = u64::from(place) + 2;
-    let found = found_among(alloc, b, big, first, count)?;
-    Ok((found, first + 12 * u64::from(count)))
+    let form = place.form;
+    let count = count_of_entries(b, place)?;
+    let first = Place {
+        form,
+        at: place.at + form.count_bytes(),
+    };
+    let found = found_among(alloc, b, first, count)?;
+    let next = Place {
+        form,
+        at: first.at + form.entry_bytes() * u64::from(count),
+    };
+    Ok(Directory { found, next })
 }

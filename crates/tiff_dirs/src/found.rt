@@ -3,74 +3,79 @@
 ghost use Rattle.std.specs.Prelude.{◌≡◌, ℕ, ◌+◌, ◌*◌, ◌/◌, ◌^◌, ◌<◌, ◌≤◌, List, length};
 ghost use Rattle.std.specs.Prelude.{slice_index_or, Option, IsTrue, if◌then◌else◌, ◌==◌, Bool};
 ghost use Rattle.std.specs.Option.{option_or};
-ghost use Rattle.tiff_dirs.specs.Bytes.{number_at};
-ghost use Rattle.tiff_dirs.specs.Field.{entry_of};
+ghost use Rattle.tiff_dirs.specs.Field.{field_place};
 ghost use Rattle.tiff_dirs.specs.Reader.{IsPartAt};
-ghost use Rattle.tiff_dirs.specs.Inside.{IsEntry, Covers, HasEntries, IsKept, is_known, noted};
+ghost use Rattle.tiff_dirs.specs.declared.form.Form.{Form};
+ghost use Rattle.tiff_dirs.specs.Form.{entry_bytes};
+ghost use Rattle.tiff_dirs.specs.Entries.{Covers, IsKept, is_known, noted, tag_count};
 ghost use Rattle.std.specs.Prelude.{find, not, [], ◌∷◌};
 ghost use Rattle.std.specs.List.{list_all};
 ghost use Rattle.tiff_dirs.specs.Field.{has_field};
 ghost use Rattle.tiff_dirs.specs.Block.{is_tiled};
-ghost use Rattle.tiff_dirs.specs.Fault.{first_of, is_misshapen, missing_fault, shape_fault};
-ghost use Rattle.tiff_dirs.specs.Calls.{OfEntries, Judges};
+ghost use Rattle.tiff_dirs.specs.Fault.{is_misshapen, missing_fault, shape_fault};
+ghost use Rattle.tiff_dirs.specs.Numbers.{entries_fault};
+ghost use Rattle.tiff_dirs.specs.Calls.{OfEntries, Tests};
 
-use crate::bytes::short_at;
-use crate::entry::{ENTRY_BYTES, Entry, entry_of as entry_from};
+use crate::entry::Entry;
 use crate::fault::TiffFault;
-use crate::tag::{STRIPPED_READ, STRIPPED_REQUIRED, TAGS, TILE_WIDTH, TILED_READ, TILED_REQUIRED};
+use crate::form::{ENTRY_BYTES, Form};
+use crate::tag::{
+    STRIPPED_READ, STRIPPED_REQUIRED, TAG_COUNT, TAGS, TILE_WIDTH, TILED_READ, TILED_REQUIRED,
+};
 
 /// The first entry of each tag, at the tag's place in `TAGS`.
 #[derive(Clone, Copy)]
 pub struct Found {
-    pub entries: [Option<Entry>; 13],
+    pub entries: [Option<Entry>; TAG_COUNT],
 }
 
 impl Found {
     /// Nothing is found.
     pub fn nothing() -> Found
-        ensures { (big : Bool) (bytes : List ℕ) (first : ℕ)
-            → Covers big bytes first 0 result.entries }
+        ensures { (form : Form) (bytes : List ℕ) (first : ℕ)
+            → Covers form bytes first 0 result.entries }
     {
         Found {
-            entries: [None; 13],
+            entries: [None; TAG_COUNT],
         }
     }
 
     /// Keeps an entry where it is the first of its tag.
     fn note(&mut self, tag: u16, entry: Entry)
-        ensures { (t : ℕ) → t < 13 → slice_index_or self.new.entries t None
+        ensures { (t : ℕ) → t < tag_count → slice_index_or self.new.entries t None
             ≡ noted tag entry t (slice_index_or self.old.entries t None) }
     {
-        for t in 0..13 {
+        for t in 0..TAG_COUNT {
             if tag == TAGS[t] {
                 self.entries[t] = self.entries[t].or(Some(entry));
             }
         }
     }
 
-    /// Keeps what the entries in a block from a place of the file on are the first of.
-    pub fn scan(&mut self, big: bool, block: &[u8], place: u64)
-        requires { place + length block.now < 2 ^ 64 }
+    /// Keeps what the entries in a part from a place of a file of this form on are the first of.
+    pub fn scan(&mut self, form: Form, part: &[u8], place: u64)
+        requires { place + length part.now < 2 ^ 64 }
         ensures { (bytes : List ℕ) (first done : ℕ)
-            → place ≡ first + 12 * done → IsPartAt bytes place block.now
-            → Covers big bytes first done self.old.entries
-            → Covers big bytes first (done + length block.now / 12) self.new.entries }
+            → place ≡ first + entry_bytes form * done → IsPartAt bytes place part.now
+            → Covers form bytes first done self.old.entries
+            → Covers form bytes first (done + length part.now / entry_bytes form)
+            self.new.entries }
     {
-        for i in 0..block.len() / ENTRY_BYTES {
+        for i in 0..part.len() / ENTRY_BYTES {
             let at = i * ENTRY_BYTES;
-            let raw = &block[at..at + ENTRY_BYTES];
-            let entry = entry_from(big, raw, place + at as u64);
-            self.note(short_at(big, raw, 0), entry);
+            let raw = &part[at..at + ENTRY_BYTES];
+            let entry = Entry::from_bytes(form, raw, place + at as u64);
+            self.note(form.short_at(raw, 0), entry);
         }
     }
 
     /// The first entry of a tag.
     pub fn entry(&self, tag: u16) -> Option<Entry>
         requires { IsTrue (is_known tag) }
-        ensures { (big : Bool) (bytes : List ℕ) (at : ℕ) → HasEntries big bytes at self.now.entries
-            → IsKept big bytes result (entry_of big bytes at tag) }
+        ensures { (bytes : List ℕ) → OfEntries self.now.entries bytes (λ form at.
+            IsKept form bytes result (field_place form bytes at tag)) }
     {
-        for t in 0..13 {
+        for t in 0..TAG_COUNT {
             if tag == TAGS[t] {
                 return self.entries[t];
             }
@@ -81,14 +86,14 @@ impl Found {
     /// The directory has that tag.
     fn has(&self, tag: u16) -> bool
         requires { IsTrue (is_known tag) }
-        ensures { OfEntries self.now.entries (λ big bytes at. result ≡ has_field big bytes at tag) }
+        ensures { (bytes : List ℕ) → OfEntries self.now.entries bytes (λ form at. result ≡ has_field form bytes at tag) }
     {
         self.entry(tag).is_some()
     }
 
     /// The directory is tiled.
     pub fn is_tiled(&self) -> bool
-        ensures { OfEntries self.now.entries (λ big bytes at. result ≡ is_tiled big bytes at) }
+        ensures { (bytes : List ℕ) → OfEntries self.now.entries bytes (λ form at. result ≡ is_tiled form bytes at) }
     {
         self.has(TILE_WIDTH)
     }
@@ -96,8 +101,8 @@ impl Found {
     /// The first tag of a list that the directory does not have.
     fn first_absent(&self, wanted: &[u16]) -> Option<u16>
         requires { IsTrue (list_all is_known wanted.now) }
-        ensures { OfEntries self.now.entries (λ big bytes at.
-            result ≡ find (λ tag. not (has_field big bytes at tag)) wanted.now) }
+        ensures { (bytes : List ℕ) → OfEntries self.now.entries bytes (λ form at.
+            result ≡ find (λ tag. not (has_field form bytes at tag)) wanted.now) }
     {
         for tag in wanted {
             if !self.has(*tag) {
@@ -110,8 +115,8 @@ impl Found {
     /// The directory has that tag, and its values can not be read in a file of that length.
     fn is_misshapen(&self, tag: u16, file: u64) -> bool
         requires { IsTrue (is_known tag) }
-        ensures { OfEntries self.now.entries (λ big bytes at. length bytes ≡ file
-            → result ≡ is_misshapen big bytes at tag) }
+        ensures { (bytes : List ℕ) → OfEntries self.now.entries bytes (λ form at. length bytes ≡ file
+            → result ≡ is_misshapen form bytes at tag) }
     {
         match self.entry(tag) {
             Some(entry) => !entry.has_shape(file),
@@ -122,8 +127,8 @@ impl Found {
     /// The first tag of a list whose values can not be read in a file of that length.
     fn first_misshapen(&self, wanted: &[u16], file: u64) -> Option<u16>
         requires { IsTrue (list_all is_known wanted.now) }
-        ensures { OfEntries self.now.entries (λ big bytes at. length bytes ≡ file
-            → result ≡ find (is_misshapen big bytes at) wanted.now) }
+        ensures { (bytes : List ℕ) → OfEntries self.now.entries bytes (λ form at. length bytes ≡ file
+            → result ≡ find (is_misshapen form bytes at) wanted.now) }
     {
         for tag in wanted {
             if self.is_misshapen(*tag, file) {
@@ -135,8 +140,8 @@ impl Found {
 
     /// Tests that the fields are there that the directory must have.
     fn test_required(&self) -> Result<(), TiffFault>
-        ensures { OfEntries self.now.entries (λ big bytes at.
-            Judges (missing_fault big bytes at) (λ _. Unit {0}) result) }
+        ensures { (bytes : List ℕ) → OfEntries self.now.entries bytes (λ form at.
+            Tests (missing_fault form bytes at) (λ _. Unit {0}) result) }
     {
         let absent = if self.is_tiled() {
             self.first_absent(&TILED_REQUIRED)
@@ -153,8 +158,8 @@ impl Found {
 
     /// Tests that the fields that the directory reads can be read in a file of that length.
     fn test_shapes(&self, file: u64) -> Result<(), TiffFault>
-        ensures { OfEntries self.now.entries (λ big bytes at. length bytes ≡ file
-            → Judges (shape_fault big bytes at) (λ _. Unit {0}) result) }
+        ensures { (bytes : List ℕ) → OfEntries self.now.entries bytes (λ form at. length bytes ≡ file
+            → Tests (shape_fault form bytes at) (λ _. Unit {0}) result) }
     {
         let misshapen = if self.is_tiled() {
             self.first_misshapen(&TILED_READ, file)
@@ -172,9 +177,8 @@ impl Found {
     /// Tests that the fields are there that the directory must have, and then that those that it
     /// reads can be read in a file of that length.
     pub fn test_fields(&self, file: u64) -> Result<(), TiffFault>
-        ensures { OfEntries self.now.entries (λ big bytes at. length bytes ≡ file
-            → Judges (first_of (missing_fault big bytes at ∷ shape_fault big bytes at ∷ []))
-            (λ _. Unit {0}) result) }
+        ensures { (bytes : List ℕ) → OfEntries self.now.entries bytes (λ form at. length bytes ≡ file
+            → Tests (entries_fault form bytes at) (λ _. Unit {0}) result) }
     {
         self.test_required()?;
         self.test_shapes(file)?;

@@ -1,100 +1,80 @@
 //! The level that a directory holds.
 
-ghost use Rattle.std.specs.Prelude.{◌≡◌, ℕ, ◌+◌, ◌≤◌, length, IfOk};
+ghost use Rattle.std.specs.Prelude.{◌≡◌, ℕ, length, IfOk};
 ghost use Rattle.std.specs.Option.{ForSome};
+ghost use Rattle.tiff_dirs.specs.declared.form.Form.{Form};
+ghost use Rattle.tiff_dirs.specs.Block.{shape_at};
 ghost use Rattle.tiff_dirs.specs.Fault.{count_fault};
 ghost use Rattle.tiff_dirs.specs.Dirs.{Leaves};
-ghost use Rattle.tiff_dirs.specs.Inside.{HasEntries};
-ghost use Rattle.tiff_dirs.specs.Numbers.{IsPictureAt, picture_fault, IsLevelOf};
-ghost use Rattle.tiff_dirs.specs.Chain.{outline_fault, IsOutlineAt, IsStoredAt};
-ghost use Rattle.tiff_dirs.specs.Shown.{shown};
-ghost use Rattle.tiff_dirs.specs.Calls.{Finds, FindsAt};
+ghost use Rattle.tiff_dirs.specs.Entries.{IsDirectoryAt};
+ghost use Rattle.tiff_dirs.specs.Shape.{seen_shape};
+ghost use Rattle.tiff_dirs.specs.Numbers.{numbers_fault, fields_fault};
+ghost use Rattle.tiff_dirs.specs.ReadLevel.{IsLevelAt};
+ghost use Rattle.tiff_dirs.specs.Calls.{Finds, OfEntries};
 
-use crate::dir::Dir;
-use crate::directory::found_at;
+use crate::directory::Directory;
 use crate::fault::DirsError;
-use crate::fields::numbers_of;
+use crate::fields::read_numbers;
 use crate::found::Found;
-use crate::offsets::offsets_at;
-use crate::picture::Picture;
+use crate::offsets::read_offsets;
+use crate::read_level::ReadLevel;
 use crate::reader::ByteReader;
-use crate::samples::{test_bits, test_formats};
+use crate::sample_fields::{test_bits, test_formats};
+use crate::shape::LevelShape;
 use std::alloc::Global;
 
-/// What is read of a directory before its offsets.
-#[derive(Clone, Copy)]
-pub struct Outline {
-    pub found: Found,
-    pub picture: Picture,
-    /// The place of the offset of the next directory.
-    pub next_at: u64,
-}
-
-/// A level of a file, and the place of its directory's offset of the next one.
-#[derive(Drop)]
-pub struct Stored {
-    pub dir: Dir,
-    pub next_at: u64,
-}
-
-/// The picture of a directory.
-fn picture_at<B: ByteReader>(
+/// The shape that the numbers of a directory say.
+fn shape_of_numbers<B: ByteReader>(
+    alloc: Global,
     b: &mut B,
-    big: bool,
     found: &Found,
-) -> Result<Picture, DirsError<B::Error>>
-    ensures told { FindsAt (B.bytes b.old) big found.now.entries
-        (λ bytes at. picture_fault big bytes at)
-        (λ bytes at. IsPictureAt big bytes at) result }
-    ensures reader { Leaves B.keeps B.refuses b.old b.new result }
-{
-    let numbers = numbers_of(b, big, found)?;
-    test_bits(b, big, found, &numbers)?;
-    numbers.test_values()?;
-    test_formats(b, big, found, &numbers)?;
-    Ok(numbers.picture()?)
-}
-
-/// What stands in the directory at a place, but for its offsets.
-/// Here the faults of a directory stand in their order, but for the last of them.
-pub fn outline_at<B: ByteReader>(
-    alloc: Global,
-    b: &mut B,
-    big: bool,
-    place: u32,
-) -> Result<Outline, DirsError<B::Error>>
+) -> Result<LevelShape, DirsError<B::Error>>
     ensures told { ForSome (B.bytes b.old) (λ bytes.
-        Finds (outline_fault big bytes place) (IsOutlineAt big bytes place) result) }
-    ensures inside { IfOk result (λ outline. outline.next_at + 4 ≤ B.size b.new) }
+        OfEntries found.now.entries bytes (λ form at. Finds (numbers_fault form bytes at)
+        (λ shape. seen_shape shape ≡ shape_at form bytes at) result)) }
     ensures reader { Leaves B.keeps B.refuses b.old b.new result }
 {
-    let (found, next_at) = found_at(alloc, b, big, place)?;
-    found.test_fields(b.len())?;
-    let picture = picture_at(b, big, &found)?;
-    Ok(Outline {
-        found,
-        picture,
-        next_at,
-    })
+    let numbers = read_numbers(b, found)?;
+    test_bits(alloc, b, found, &numbers)?;
+    numbers.test_values()?;
+    test_formats(alloc, b, found, &numbers)?;
+    Ok(numbers.shape()?)
 }
 
-/// The level of a directory: its offsets are read, and may be too few.
-pub fn level_of<B: ByteReader>(
+/// The shape of a directory.
+/// Here the faults of its fields stand in their order, but for the last of them.
+pub fn read_shape<B: ByteReader>(
     alloc: Global,
     b: &mut B,
-    big: bool,
-    outline: &Outline,
-) -> Result<Stored, DirsError<B::Error>>
-    ensures told { ForSome (B.bytes b.old) (λ bytes. (at : ℕ) → IsOutlineAt big bytes at outline.now
-        → Finds (count_fault big bytes at) (IsStoredAt big bytes at) result) }
-    ensures picture { IfOk result (λ stored.
-        IsLevelOf outline.now.picture stored.dir.offsets.items stored.dir) }
-    ensures next { IfOk result (λ stored. stored.next_at ≡ outline.now.next_at) }
+    found: &Found,
+) -> Result<LevelShape, DirsError<B::Error>>
+    ensures told { ForSome (B.bytes b.old) (λ bytes.
+        OfEntries found.now.entries bytes (λ form at. Finds (fields_fault form bytes at)
+        (λ shape. seen_shape shape ≡ shape_at form bytes at) result)) }
     ensures reader { Leaves B.keeps B.refuses b.old b.new result }
 {
-    let offsets = offsets_at(alloc, b, big, &outline.found, &outline.picture)?;
-    Ok(Stored {
-        dir: outline.picture.level(offsets),
-        next_at: outline.next_at,
+    found.test_fields(b.len())?;
+    shape_of_numbers(alloc, b, found)
+}
+
+/// The level of a directory of this shape: its offsets are read, and may be too few.
+pub fn read_level<B: ByteReader>(
+    alloc: Global,
+    b: &mut B,
+    directory: &Directory,
+    shape: LevelShape,
+) -> Result<ReadLevel, DirsError<B::Error>>
+    ensures told { ForSome (B.bytes b.old) (λ bytes. (form : Form) (at : ℕ)
+        → IsDirectoryAt form bytes at directory.now → seen_shape shape ≡ shape_at form bytes at
+        → Finds (count_fault form bytes at) (IsLevelAt form bytes at) result) }
+    ensures shape { IfOk result (λ read. read.shape ≡ shape) }
+    ensures next { IfOk result (λ read. read.next ≡ directory.now.next) }
+    ensures reader { Leaves B.keeps B.refuses b.old b.new result }
+{
+    let offsets = read_offsets(alloc, b, &directory.found, &shape)?;
+    Ok(ReadLevel {
+        shape,
+        offsets,
+        next: directory.next,
     })
 }

@@ -3,17 +3,35 @@
 ghost use Rattle.std.specs.Prelude.{◌≡◌, ◌||◌, ◌==◌, IsTrue};
 ghost use Rattle.tiff_dirs.specs.Facts.{IsDepth};
 ghost use Rattle.tiff_dirs.specs.Fault.{is_tile_side as spec_tile_side};
-ghost use Rattle.tiff_dirs.specs.Calls.{Judges};
+ghost use Rattle.tiff_dirs.specs.Shape.{seen_shape};
+ghost use Rattle.tiff_dirs.specs.Calls.{Tests};
 ghost use Rattle.tiff_dirs.specs.declared.fault.TiffFault.TheVariants.{Unsupported};
-ghost use Rattle.tiff_dirs.specs.Numbers.{value_fault, size_fault, is_bad_tile, IsPictureOf};
+ghost use Rattle.tiff_dirs.specs.Numbers.{value_fault, size_fault, is_bad_tile, numbers_shape};
 
 use crate::fault::TiffFault;
-use crate::picture::Picture;
+use crate::shape::LevelShape;
 use crate::tag::{COMPRESSION, PHOTOMETRIC, PLANAR_CONFIGURATION};
 
-const MOST_SIDE: u32 = 131072;
+/// The largest side of an image and of a tile.
+const MAX_SIDE: u32 = 131072;
 
-const MOST_CHANNELS: u32 = 8;
+const MAX_CHANNELS: u32 = 8;
+
+/// The sides of a tile are multiples of it.
+const TILE_STEP: u32 = 16;
+
+/// Compression: the samples stand as they are.
+const UNCOMPRESSED: u32 = 1;
+
+/// PhotometricInterpretation: the greatest sample is black, white, and red, green and blue.
+const WHITE_IS_ZERO: u32 = 0;
+
+const RGB: u32 = 2;
+
+/// PlanarConfiguration: the samples of a pixel stand side by side, or each for itself.
+const CHUNKY: u32 = 1;
+
+const PLANAR: u32 = 2;
 
 /// The first values of the fields that hold one number, as they stand in the file.
 #[derive(Clone, Copy)]
@@ -46,7 +64,7 @@ pub fn unsupported(tag: u16, value: u32) -> TiffFault
 fn is_tile_side(side: u32) -> bool
     ensures { result ≡ spec_tile_side side }
 {
-    side != 0 && side <= MOST_SIDE && side % 16 == 0
+    side != 0 && side <= MAX_SIDE && side % TILE_STEP == 0
 }
 
 /// A tile has a side that it may not have.
@@ -60,42 +78,43 @@ fn is_bad(tile: Option<(u32, u32)>) -> bool
 }
 
 impl Numbers {
-    /// Tests the values that a picture may not have, but for those of each sample.
+    /// Tests the values that a level may not have, but for those of each sample.
     pub fn test_values(&self) -> Result<(), TiffFault>
-        ensures { Judges (value_fault self.now) (λ _. Unit {0}) result }
+        ensures { Tests (value_fault self.now) (λ _. Unit {0}) result }
     {
-        if self.compression != 1 {
+        if self.compression != UNCOMPRESSED {
             return Err(unsupported(COMPRESSION, self.compression));
         }
-        if self.photometric > 2 {
+        if self.photometric > RGB {
             return Err(unsupported(PHOTOMETRIC, self.photometric));
         }
-        if self.planar != 1 && (self.planar != 2 || self.samples != 1) {
+        if self.planar != CHUNKY && (self.planar != PLANAR || self.samples != 1) {
             return Err(unsupported(PLANAR_CONFIGURATION, self.planar));
         }
         Ok(())
     }
 
-    /// The picture of these sizes.
-    pub fn picture(&self) -> Result<Picture, TiffFault>
+    /// The shape of these sizes.
+    pub fn shape(&self) -> Result<LevelShape, TiffFault>
         requires { IsDepth self.now.bits }
-        ensures { Judges (size_fault self.now) (IsPictureOf self.now) result }
+        ensures { Tests (size_fault self.now)
+            (λ shape. seen_shape shape ≡ numbers_shape self.now) result }
     {
         if self.width == 0 || self.height == 0 || self.samples == 0 || self.rows_per_strip == 0 {
             return Err(TiffFault::ZeroSize);
         }
-        if self.width > MOST_SIDE || self.height > MOST_SIDE || self.samples > MOST_CHANNELS {
+        if self.width > MAX_SIDE || self.height > MAX_SIDE || self.samples > MAX_CHANNELS {
             return Err(TiffFault::TooLarge);
         }
         if is_bad(self.tile) {
             return Err(TiffFault::TileShape);
         }
-        Ok(Picture {
+        Ok(LevelShape {
             width: self.width,
             height: self.height,
             channels: self.samples,
             depth: self.bits,
-            white: self.photometric == 0,
+            white: self.photometric == WHITE_IS_ZERO,
             tile: self.tile,
             rows_per_strip: self.rows_per_strip,
         })

@@ -7,25 +7,25 @@ use crate::chain::read_levels;
 use crate::dirs::Dirs;
 use crate::fault::DirsError;
 use crate::header::read_header;
-use crate::outside::test_blocks;
 use crate::reader::ByteReader;
 use std::alloc::Global;
 
 /// The levels of a file, or the first fault that it shows.
 ///
 /// The header, and of each directory the count of its entries and the offset of the next one, are a
-/// read each. The entries and the offsets are read by 64 KiB, BitsPerSample and SampleFormat by
-/// 4 KiB. The first value of each field that does not fit in its entry is a read more. Memory is
-/// taken for the levels and their offsets, and for one block.
+/// read each. The entries, the offsets, and BitsPerSample and SampleFormat are read by 64 KiB. The
+/// first value of each field that does not fit in its entry is a read more. Of a directory whose
+/// samples per pixel are not those of the first only the entries and SamplesPerPixel are read.
+/// Memory is taken for the levels and their offsets, and for one block of 64 KiB. The strips and
+/// tiles of a level are tested before the next directory is read.
 pub fn read_dirs<B: ByteReader>(alloc: Global, b: &mut B) -> Result<Dirs, DirsError<B::Error>>
     ensures told { ForSome (B.bytes b.old) (λ bytes. Tells bytes result) }
     ensures reader { Leaves B.keeps B.refuses b.old b.new result }
 {
-    let header = read_header(b)?;
-    let levels = read_levels(alloc, b, header)?;
-    test_blocks(&levels, b.len())?;
+    let first = read_header(b)?;
+    let levels = read_levels(alloc, b, first)?;
     Ok(Dirs {
-        big: header.big,
+        big: first.form.big,
         levels,
     })
 }

@@ -2,9 +2,12 @@ ghost use Rattle.std.specs.Prelude.{◌≡◌, ℕ, ◌+◌, ◌≤◌, List, le
 ghost use Rattle.std.specs.Option.{ForSome};
 ghost use Rattle.tiff_dirs.specs.Reader.{IsPartAt, IsReader};
 ghost use Rattle.tiff_dirs.specs.Dirs.{Leaves};
-ghost use Rattle.tiff_dirs.specs.Calls.{Gives};
+ghost use Rattle.tiff_dirs.specs.Calls.{Reads};
 
 use crate::fault::DirsError;
+
+/// The most bytes that are read at once.
+pub const MAX_READ_BYTES: usize = 65536;
 
 /// The bytes of a file, read at places.
 pub trait ByteReader {
@@ -35,15 +38,15 @@ pub trait ByteReader {
         ensures bytes { OnOk result (ForSome (bytes self.old) (λ b. IsPartAt b at buf.new)) }
         ensures err { IfErr result (λ e. refuses self.old e self.new) };
 
-    /// Answered reads chain, and change neither the length nor the bytes.
-    ghost lawful: { IsReader size bytes keeps };
+    /// Answered reads chain, and no read changes the length or the bytes.
+    ghost lawful: { IsReader size bytes keeps refuses };
 }
 
 /// Fills all of the buffer with the bytes from a place on, in one read.
 pub fn read_at<B: ByteReader>(b: &mut B, at: u64, buf: &mut [u8]) -> Result<(), DirsError<B::Error>>
     requires { at + length buf.old ≤ B.size b.old }
     ensures told { ForSome (B.bytes b.old) (λ bytes.
-        Gives (λ _. IsPartAt bytes at buf.new) result) }
+        Reads (λ _. IsPartAt bytes at buf.new) result) }
     ensures reader { Leaves B.keeps B.refuses b.old b.new result }
 {
     match b.read(at, buf) {

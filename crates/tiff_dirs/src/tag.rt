@@ -30,8 +30,11 @@ pub const TILE_OFFSETS: u16 = 324;
 
 pub const SAMPLE_FORMAT: u16 = 339;
 
+/// How many they are.
+pub const TAG_COUNT: usize = 13;
+
 /// All of them.
-pub const TAGS: [u16; 13] = [
+pub const TAGS: [u16; TAG_COUNT] = [
     IMAGE_WIDTH,
     IMAGE_LENGTH,
     BITS_PER_SAMPLE,
@@ -82,8 +85,11 @@ pub const TILED_READ: [u16; 11] = [
     SAMPLE_FORMAT,
 ];
 
+/// How many of them are `NUMBERS`.
+pub const NUMBER_COUNT: usize = 7;
+
 /// Those whose first value every directory reads.
-pub const NUMBERS: [u16; 7] = [
+pub const NUMBERS: [u16; NUMBER_COUNT] = [
     IMAGE_WIDTH,
     IMAGE_LENGTH,
     BITS_PER_SAMPLE,
@@ -92,6 +98,9 @@ pub const NUMBERS: [u16; 7] = [
     SAMPLES_PER_PIXEL,
     PLANAR_CONFIGURATION,
 ];
+
+/// RowsPerStrip of a directory that does not say it: all rows are one strip.
+pub const ALL_ROWS: u32 = u32::MAX;
 
 /// The value of a field that is absent, where it has a default.
 pub fn default_value(tag: u16) -> Option<u32>
@@ -104,7 +113,7 @@ pub fn default_value(tag: u16) -> Option<u32>
         | SAMPLES_PER_PIXEL
         | PLANAR_CONFIGURATION
         | SAMPLE_FORMAT => Some(1),
-        ROWS_PER_STRIP => Some(u32::MAX),
+        ROWS_PER_STRIP => Some(ALL_ROWS),
         _ => None,
     }
 }

@@ -1,17 +1,18 @@
 -- A block that has no offset does not lie in the file.
-use Rattle.std.proofs.Common.{◌≡◌, ℕ, ◌≤◌, Bool, false, List, length, get_or, take, refl, arith}
+use Rattle.std.proofs.Common.{◌≡◌, ℕ, ◌≤◌, false, List, length, get_or, take, refl, arith}
 use Rattle.std.proofs.lemmas.List.{get_or_past, length-take}
+use Rattle.tiff_dirs.specs.declared.form.Form.{Form}
 use Rattle.tiff_dirs.specs.Field.{field_values}
-use Rattle.tiff_dirs.specs.Block.{offsets_tag, directory_blocks, level_at}
+use Rattle.tiff_dirs.specs.Block.{offsets_tag, blocks_of, shape_at, level_at}
 use Rattle.tiff_dirs.specs.Fault.{block_inside}
 
-pub past_is_outside : (big : Bool) (bytes : List ℕ) (at i : ℕ)
-    → length (field_values big bytes at (offsets_tag big bytes at)) ≤ i
-    → block_inside bytes (level_at big bytes at) i ≡ false
+pub past_is_outside : (form : Form) (bytes : List ℕ) (at i : ℕ)
+    → length (field_values form bytes at (offsets_tag form bytes at)) ≤ i
+    → block_inside form bytes (level_at form bytes at) i ≡ false
 unfolding level_at
-past_is_outside big bytes at i h =
-    let blocks = directory_blocks big bytes at in
-    let values = field_values big bytes at (offsets_tag big bytes at) in
+past_is_outside form bytes at i h =
+    let blocks = blocks_of (shape_at form bytes at) in
+    let values = field_values form bytes at (offsets_tag form bytes at) in
     let none : get_or (take blocks values) i 0 ≡ 0 =
     get_or_past _ i 0 (omega (arith, h, length-take blocks values)) in
     rw none refl

@@ -8,17 +8,19 @@ use Rattle.std.specs.List.{find}
 use Rattle.std.proofs.lemmas.Bool.{cases_Bool, false≢true}
 use Rattle.std.proofs.lemmas.Option.{none-some}
 use Rattle.tiff_dirs.specs.declared.fault.TiffFault.TheVariants.{Unsupported}
-use Rattle.tiff_dirs.specs.Bytes.{is_big}
+use Rattle.tiff_dirs.specs.declared.form.Form.{Form}
+use Rattle.tiff_dirs.specs.Form.{form_of}
+use Rattle.tiff_dirs.specs.Tag.{bits_per_sample_tag}
 use Rattle.tiff_dirs.specs.Directory.{lies_inside, next_directory, directory_place}
 use Rattle.tiff_dirs.specs.Field.{field_value, field_values}
-use Rattle.tiff_dirs.specs.Block.{level_at}
+use Rattle.tiff_dirs.specs.Block.{shape_at}
 use Rattle.tiff_dirs.specs.Facts.{IsDepth}
 use Rattle.tiff_dirs.specs.Fault.{first_of, samples, outside_fault, missing_fault, shape_fault}
 use Rattle.tiff_dirs.specs.Fault.{unsupported_fault, bits_fault, compression_fault}
 use Rattle.tiff_dirs.specs.Fault.{photometric_fault, planar_fault, format_fault, zero_fault}
 use Rattle.tiff_dirs.specs.Fault.{large_fault, tile_fault, count_fault, directory_fault}
 use Rattle.tiff_dirs.specs.Level.{first_fault, is_level, is_next_level, leading, stored_levels}
-use Rattle.tiff_dirs.specs.Level.{level_place}
+use Rattle.tiff_dirs.specs.Level.{level_place, max_levels}
 
 -- where neither of two is there, the first is not, nor the second
 none_of_or : {A : Type 0} (a b : Option A) → option_or a b ≡ None → (a ≡ None) × (b ≡ None)
@@ -42,25 +44,26 @@ passing None test h = absurd (false≢true h)
 passing (Some x) test h = (x, refl, h)
 
 -- a directory without a fault has samples of 8 or 16 bits
-pub depth_is : (big : Bool) (bytes : List ℕ) (at : ℕ) → directory_fault big bytes at ≡ None
-    → IsDepth (level_at big bytes at).depth
-unfolding directory_fault unsupported_fault level_at
-depth_is big bytes at h =
-    let missing = none_of_or (outside_fault big bytes at) _ h in
-    let shape = none_of_or (missing_fault big bytes at) _ missing.1 in
-    let unsupported = none_of_or (shape_fault big bytes at) _ shape.1 in
-    let after = zero_fault big bytes at ∷ large_fault big bytes at ∷ tile_fault big bytes at
-    ∷ count_fault big bytes at ∷ [] in
-    let cases = none_of_or (unsupported_fault big bytes at) (first_of after) unsupported.1 in
+pub depth_is : (form : Form) (bytes : List ℕ) (at : ℕ) → directory_fault form bytes at ≡ None
+    → IsDepth (shape_at form bytes at).depth
+unfolding directory_fault unsupported_fault
+depth_is form bytes at h =
+    let missing = none_of_or (outside_fault form bytes at) _ h in
+    let shape = none_of_or (missing_fault form bytes at) _ missing.1 in
+    let unsupported = none_of_or (shape_fault form bytes at) _ shape.1 in
+    let after = zero_fault form bytes at ∷ large_fault form bytes at ∷ tile_fault form bytes at
+    ∷ count_fault form bytes at ∷ [] in
+    let cases = none_of_or (unsupported_fault form bytes at) (first_of after) unsupported.1 in
     let others =
-    compression_fault big bytes at ∷ photometric_fault big bytes at ∷ planar_fault big bytes at
-    ∷ format_fault big bytes at ∷ [] in
-    let bits = none_of_or (bits_fault big bytes at) (first_of others) cases.0 in
-    let depth : ℕ = field_value big bytes at 258 in
+    compression_fault form bytes at ∷ photometric_fault form bytes at ∷ planar_fault form bytes at
+    ∷ format_fault form bytes at ∷ [] in
+    let bits = none_of_or (bits_fault form bytes at) (first_of others) cases.0 in
+    let depth : ℕ = field_value form bytes at bits_per_sample_tag in
     let other = find (λ v. not (v == depth))
-    (take (samples big bytes at) (field_values big bytes at 258)) in
-    none_of_cond ((depth == 8) || (depth == 16)) (option_map (Unsupported 258) other)
-    (Unsupported 258 depth) bits.0
+    (take (samples form bytes at) (field_values form bytes at bits_per_sample_tag)) in
+    none_of_cond ((depth == 8) || (depth == 16))
+    (option_map (Unsupported bits_per_sample_tag) other)
+    (Unsupported bits_per_sample_tag depth) bits.0
 
 -- one more, which passes or does not
 leading_passes_step : (test : ℕ → Bool) (k n i : ℕ) → i < leading test k (suc n)
@@ -83,7 +86,7 @@ leading_passes test k (suc n) i l =
 
 -- directory 0 of a good file shows no fault
 first_is_good : (bytes : List ℕ) → first_fault bytes ≡ None
-    → directory_fault (is_big bytes) bytes (level_place bytes 0) ≡ None
+    → directory_fault (form_of bytes) bytes (level_place bytes 0) ≡ None
 unfolding first_fault
 first_is_good bytes h =
     let rest = none_of_or _ _ h in
@@ -99,52 +102,52 @@ and_right true b h = h
 and_right false b h = absurd (false≢true h)
 
 -- a directory that is the next level shows no fault
-next_is_good : (big : Bool) (bytes : List ℕ) (first at next : ℕ)
-    → is_next_level big bytes first at next ≡ true
-    → directory_fault big bytes next ≡ None
+next_is_good : (form : Form) (bytes : List ℕ) (first at next : ℕ)
+    → is_next_level form bytes first at next ≡ true
+    → directory_fault form bytes next ≡ None
 unfolding is_next_level
-next_is_good big bytes first at next h =
-    none_of_is_none (directory_fault big bytes next) (and_left _ _ (and_right _ _ h))
+next_is_good form bytes first at next h =
+    none_of_is_none (directory_fault form bytes next) (and_left _ _ (and_right _ _ h))
 
 -- a directory stands at 0 only where there is none
-next_of_zero : (big : Bool) (bytes : List ℕ) → next_directory big bytes 0 ≡ None
+next_of_zero : (form : Form) (bytes : List ℕ) → next_directory form bytes 0 ≡ None
 unfolding next_directory lies_inside
-next_of_zero big bytes = refl
+next_of_zero form bytes = refl
 
 -- the place after a place that is there
-place_step : (big : Bool) (bytes : List ℕ) (place : Option ℕ) (next : ℕ)
-    → next_directory big bytes (unwrap_or place 0) ≡ Some next
-    → unwrap_or (option_and_then (next_directory big bytes) place) 0 ≡ next
-place_step big bytes None next h = absurd (none-some next (sym (next_of_zero big bytes) ∙ h))
-place_step big bytes (Some at) next h = rw h refl
+place_step : (form : Form) (bytes : List ℕ) (place : Option ℕ) (next : ℕ)
+    → next_directory form bytes (unwrap_or place 0) ≡ Some next
+    → unwrap_or (option_and_then (next_directory form bytes) place) 0 ≡ next
+place_step form bytes None next h = absurd (none-some next (sym (next_of_zero form bytes) ∙ h))
+place_step form bytes (Some at) next h = rw h refl
 
 -- after a directory's place comes that of the next
 place_after : (bytes : List ℕ) (k next : ℕ)
-    → next_directory (is_big bytes) bytes (level_place bytes k) ≡ Some next
+    → next_directory (form_of bytes) bytes (level_place bytes k) ≡ Some next
     → level_place bytes (suc k) ≡ next
 unfolding directory_place
 place_after bytes k next h =
-    place_step (is_big bytes) bytes (directory_place (is_big bytes) bytes k) next h
+    place_step (form_of bytes) bytes (directory_place (form_of bytes) bytes k) next h
 
 -- where directory k + 1 is a level, it is the one that follows directory k
 next_of_level : (bytes : List ℕ) (k : ℕ) → is_level bytes (suc k) ≡ true
-    → (next : ℕ) × (next_directory (is_big bytes) bytes (level_place bytes k) ≡ Some next)
-    × (is_next_level (is_big bytes) bytes (level_place bytes 0) (level_place bytes k) next ≡ true)
+    → (next : ℕ) × (next_directory (form_of bytes) bytes (level_place bytes k) ≡ Some next)
+    × (is_next_level (form_of bytes) bytes (level_place bytes 0) (level_place bytes k) next ≡ true)
 unfolding is_level
 next_of_level bytes k h =
-    let big = is_big bytes in
+    let form = form_of bytes in
     let at = level_place bytes k in
-    passing (next_directory big bytes at) (is_next_level big bytes (level_place bytes 0) at)
+    passing (next_directory form bytes at) (is_next_level form bytes (level_place bytes 0) at)
     (and_right (is_level bytes k) _ h)
 
 -- no stored level of a good file shows a fault
 pub level_is_good : (bytes : List ℕ) (l : ℕ) → first_fault bytes ≡ None → l < stored_levels bytes
-    → directory_fault (is_big bytes) bytes (level_place bytes l) ≡ None
+    → directory_fault (form_of bytes) bytes (level_place bytes l) ≡ None
 unfolding stored_levels
 level_is_good bytes zero good l = first_is_good bytes good
 level_is_good bytes (suc k) good l =
     let level : is_level bytes (suc k) ≡ true =
-    rw zero-add at (leading_passes (is_level bytes) 0 18 (suc k) l) in
+    rw zero-add at (leading_passes (is_level bytes) 0 max_levels (suc k) l) in
     let next = next_of_level bytes k level in
     rw (place_after bytes k next.0 next.1)
-    (next_is_good (is_big bytes) bytes (level_place bytes 0) (level_place bytes k) next.0 next.2)
+    (next_is_good (form_of bytes) bytes (level_place bytes 0) (level_place bytes k) next.0 next.2)

@@ -2,4 +2,3 @@ pub mod FieldLemmas
 pub mod FindLemmas
 pub mod BlockLemmas
 pub mod LevelLemmas
-pub mod Sides

@@ -1,16 +1,13 @@
 -- What does a level that was read show?
+use Rattle.tiff_plain.specs.declared.shape.PlainShape.{PlainShape}
 use Rattle.tiff_plain.specs.declared.level.PlainLevel.{PlainLevel}
-use Rattle.tiff_dirs.specs.Block.{Level}
+use Rattle.tiff_dirs.specs.Block.{LevelShape, Level, shape_of, level_with}
 
--- its fields as plain data
+-- its shape as plain data
+abbrev pub shown_shape : PlainShape → LevelShape
+shown_shape shape = shape_of shape.width shape.height shape.channels shape.depth shape.white
+    shape.tile shape.rows_per_strip
+
+-- its shape and its offsets as plain data
 abbrev pub shown : PlainLevel → Level
-shown level = record {
-  width = level.width;
-  height = level.height;
-  channels = level.channels;
-  depth = level.depth;
-  white = level.white;
-  tile = level.tile;
-  rows_per_strip = level.rows_per_strip;
-  offsets = level.offsets.items;
-}
+shown level = level_with (shown_shape level.shape) level.offsets.items

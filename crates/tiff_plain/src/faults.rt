@@ -1,21 +1,32 @@
 //! Which fault a directory shows first, and which block of a level does not lie in the file.
 
-ghost use Rattle.std.specs.Prelude.{◌≡◌, ◌%◌, ◌==◌, ◌&&◌, ◌||◌, not, nat_le, nat_lt, take, find};
+ghost use Rattle.std.specs.Prelude.{◌≡◌, ◌==◌, ◌||◌, not, take, find};
 ghost use Rattle.std.specs.List.{range_with_len};
 ghost use Rattle.tiff_dirs.specs.Block as block;
 ghost use Rattle.tiff_dirs.specs.Fault as spec;
 ghost use Rattle.tiff_dirs.specs.Field as field;
+ghost use Rattle.tiff_dirs.specs.Tag.{bits_per_sample_tag, sample_format_tag};
 
-use crate::blocks::{block_bytes, directory_blocks, is_tiled, offset_of, offsets_tag};
 use crate::directories::lies_inside;
-use crate::fields::{entry_of, field_length, field_number, field_value, has_field, has_shape};
-use tiff_dirs::TiffFault;
+use crate::fields::{field_length, field_number, field_place, field_value, has_field, has_shape};
+use crate::form::header_bytes;
+use crate::level::offset_of;
+use crate::shape::{block_bytes, blocks_at, is_tiled, offsets_tag, shape_at};
+use crate::tags::{
+    BITS_PER_SAMPLE, COMPRESSION, IMAGE_LENGTH, IMAGE_WIDTH, PHOTOMETRIC, PLANAR_CONFIGURATION,
+    ROWS_PER_STRIP, SAMPLE_FORMAT, SAMPLES_PER_PIXEL, STRIP_OFFSETS, TILE_LENGTH, TILE_OFFSETS,
+    TILE_WIDTH,
+};
+use tiff_dirs::{Form, TiffFault};
 
-/// The greatest side of an image or a tile.
-const SIDE_LIMIT: u32 = 131_072;
+/// The largest side of an image and of a tile.
+const MAX_SIDE: u32 = 131_072;
 
 /// The most samples of a pixel.
-const CHANNEL_LIMIT: u32 = 8;
+const MAX_CHANNELS: u32 = 8;
+
+/// The sides of a tile are multiples of this.
+const TILE_STEP: u32 = 16;
 
 /// The first of the faults that is shown.
 pub fn first_of(faults: &[Option<TiffFault>]) -> Option<TiffFault>
@@ -28,90 +39,114 @@ pub fn first_of(faults: &[Option<TiffFault>]) -> Option<TiffFault>
 }
 
 #[tactic(auto, unfolding(tiff_dirs::specs::Fault::outside_fault))]
-fn outside_fault(big: bool, bytes: &[u8], at: u32) -> Option<TiffFault>
-    ensures { result ≡ spec.outside_fault big bytes.now at }
+fn outside_fault(form: Form, bytes: &[u8], at: u32) -> Option<TiffFault>
+    ensures { result ≡ spec.outside_fault form bytes.now at }
 {
-    (!lies_inside(big, bytes, at)).then_some(TiffFault::DirOutside)
+    (!lies_inside(form, bytes, at)).then_some(TiffFault::DirOutside)
 }
 
 /// The fields that a directory must have.
-fn required_tags(big: bool, bytes: &[u8], at: u32) -> &'static [u32]
-    ensures { result.now ≡ spec.required_tags big bytes.now at }
+fn required_tags(form: Form, bytes: &[u8], at: u32) -> &'static [u32]
+    ensures { result.now ≡ spec.required_tags form bytes.now at }
 {
-    if is_tiled(big, bytes, at) {
-        &[256, 257, 323, 324]
+    if is_tiled(form, bytes, at) {
+        &[IMAGE_WIDTH, IMAGE_LENGTH, TILE_LENGTH, TILE_OFFSETS]
     } else {
-        &[256, 257, 273]
+        &[IMAGE_WIDTH, IMAGE_LENGTH, STRIP_OFFSETS]
     }
 }
 
 /// The first of these fields that is absent.
-fn first_absent(big: bool, bytes: &[u8], at: u32, tags: &[u32]) -> Option<u32>
-    ensures { result ≡ find (λ tag. not (field.has_field big bytes.now at tag)) tags.now }
+fn first_absent(form: Form, bytes: &[u8], at: u32, tags: &[u32]) -> Option<u32>
+    ensures { result ≡ find (λ tag. not (field.has_field form bytes.now at tag)) tags.now }
 {
     tags.iter()
         .copied()
-        .find(|tag| !has_field(big, bytes, at, *tag))
+        .find(|tag| !has_field(form, bytes, at, *tag))
 }
 
 #[tactic(auto, unfolding(tiff_dirs::specs::Fault::missing_fault))]
-fn missing_fault(big: bool, bytes: &[u8], at: u32) -> Option<TiffFault>
-    ensures { result ≡ spec.missing_fault big bytes.now at }
+fn missing_fault(form: Form, bytes: &[u8], at: u32) -> Option<TiffFault>
+    ensures { result ≡ spec.missing_fault form bytes.now at }
 {
-    match first_absent(big, bytes, at, required_tags(big, bytes, at)) {
+    match first_absent(form, bytes, at, required_tags(form, bytes, at)) {
         Some(tag) => Some(TiffFault::FieldMissing { tag }),
         None => None,
     }
 }
 
 /// The fields that a directory reads, by their tags.
-fn read_tags(big: bool, bytes: &[u8], at: u32) -> &'static [u32]
-    ensures { result.now ≡ spec.read_tags big bytes.now at }
+fn read_tags(form: Form, bytes: &[u8], at: u32) -> &'static [u32]
+    ensures { result.now ≡ spec.read_tags form bytes.now at }
 {
-    if is_tiled(big, bytes, at) {
-        &[256, 257, 258, 259, 262, 277, 284, 322, 323, 324, 339]
+    if is_tiled(form, bytes, at) {
+        &[
+            IMAGE_WIDTH,
+            IMAGE_LENGTH,
+            BITS_PER_SAMPLE,
+            COMPRESSION,
+            PHOTOMETRIC,
+            SAMPLES_PER_PIXEL,
+            PLANAR_CONFIGURATION,
+            TILE_WIDTH,
+            TILE_LENGTH,
+            TILE_OFFSETS,
+            SAMPLE_FORMAT,
+        ]
     } else {
-        &[256, 257, 258, 259, 262, 273, 277, 278, 284, 339]
+        &[
+            IMAGE_WIDTH,
+            IMAGE_LENGTH,
+            BITS_PER_SAMPLE,
+            COMPRESSION,
+            PHOTOMETRIC,
+            STRIP_OFFSETS,
+            SAMPLES_PER_PIXEL,
+            ROWS_PER_STRIP,
+            PLANAR_CONFIGURATION,
+            SAMPLE_FORMAT,
+        ]
     }
 }
 
 /// The field is there and has a bad shape.
-fn is_misshapen(big: bool, bytes: &[u8], at: u32, tag: u32) -> bool
-    ensures { result ≡ spec.is_misshapen big bytes.now at tag }
+fn is_misshapen(form: Form, bytes: &[u8], at: u32, tag: u32) -> bool
+    ensures { result ≡ spec.is_misshapen form bytes.now at tag }
 {
-    match entry_of(big, bytes, at, tag) {
-        Some(place) => !has_shape(big, bytes, place),
+    match field_place(form, bytes, at, tag) {
+        Some(place) => !has_shape(form, bytes, place),
         None => false,
     }
 }
 
 /// The first of these fields that is there and has a bad shape.
-fn first_misshapen(big: bool, bytes: &[u8], at: u32, tags: &[u32]) -> Option<u32>
-    ensures { result ≡ find (spec.is_misshapen big bytes.now at) tags.now }
+fn first_misshapen(form: Form, bytes: &[u8], at: u32, tags: &[u32]) -> Option<u32>
+    ensures { result ≡ find (spec.is_misshapen form bytes.now at) tags.now }
 {
     tags.iter()
         .copied()
-        .find(|tag| is_misshapen(big, bytes, at, *tag))
+        .find(|tag| is_misshapen(form, bytes, at, *tag))
 }
 
 #[tactic(auto, unfolding(tiff_dirs::specs::Fault::shape_fault))]
-fn shape_fault(big: bool, bytes: &[u8], at: u32) -> Option<TiffFault>
-    ensures { result ≡ spec.shape_fault big bytes.now at }
+fn shape_fault(form: Form, bytes: &[u8], at: u32) -> Option<TiffFault>
+    ensures { result ≡ spec.shape_fault form bytes.now at }
 {
-    match first_misshapen(big, bytes, at, read_tags(big, bytes, at)) {
+    match first_misshapen(form, bytes, at, read_tags(form, bytes, at)) {
         Some(tag) => Some(TiffFault::FieldShape { tag }),
         None => None,
     }
 }
 
 /// The first BitsPerSample, of those of the samples of a pixel, that is another than these bits.
-fn first_other_bits(big: bool, bytes: &[u8], at: u32, bits: u32) -> Option<u32>
-    ensures { result ≡ find (λ v. not (v == bits)) (take (spec.samples big bytes.now at)
-        (field.field_values big bytes.now at 258)) }
+fn first_other_bits(form: Form, bytes: &[u8], at: u32, bits: u32) -> Option<u32>
+    ensures { result ≡ find (λ v. not (v == bits)) (take (spec.samples form bytes.now at)
+        (field.field_values form bytes.now at bits_per_sample_tag)) }
 {
-    let count = field_value(big, bytes, at, 277).min(field_length(big, bytes, at, 258));
+    let samples = field_value(form, bytes, at, SAMPLES_PER_PIXEL);
+    let count = samples.min(field_length(form, bytes, at, BITS_PER_SAMPLE));
     for i in 0..count {
-        let value = field_number(big, bytes, at, 258, u128::from(i));
+        let value = field_number(form, bytes, at, BITS_PER_SAMPLE, u128::from(i));
         if value != bits {
             return Some(value);
         }
@@ -119,63 +154,65 @@ fn first_other_bits(big: bool, bytes: &[u8], at: u32, bits: u32) -> Option<u32>
     None
 }
 
-fn bits_fault(big: bool, bytes: &[u8], at: u32) -> Option<TiffFault>
-    ensures { result ≡ spec.bits_fault big bytes.now at }
+fn bits_fault(form: Form, bytes: &[u8], at: u32) -> Option<TiffFault>
+    ensures { result ≡ spec.bits_fault form bytes.now at }
 {
-    let bits = field_value(big, bytes, at, 258);
+    let bits = field_value(form, bytes, at, BITS_PER_SAMPLE);
     let wrong = if bits == 8 || bits == 16 {
-        first_other_bits(big, bytes, at, bits)
+        first_other_bits(form, bytes, at, bits)
     } else {
         Some(bits)
     };
     match wrong {
         Some(value) => Some(TiffFault::Unsupported {
-            tag: 258,
+            tag: BITS_PER_SAMPLE,
             value: u64::from(value),
         }),
         None => None,
     }
 }
 
-fn compression_fault(big: bool, bytes: &[u8], at: u32) -> Option<TiffFault>
-    ensures { result ≡ spec.compression_fault big bytes.now at }
+fn compression_fault(form: Form, bytes: &[u8], at: u32) -> Option<TiffFault>
+    ensures { result ≡ spec.compression_fault form bytes.now at }
 {
-    let value = field_value(big, bytes, at, 259);
+    let value = field_value(form, bytes, at, COMPRESSION);
     (value != 1).then_some(TiffFault::Unsupported {
-        tag: 259,
+        tag: COMPRESSION,
         value: u64::from(value),
     })
 }
 
-fn photometric_fault(big: bool, bytes: &[u8], at: u32) -> Option<TiffFault>
-    ensures { result ≡ spec.photometric_fault big bytes.now at }
+fn photometric_fault(form: Form, bytes: &[u8], at: u32) -> Option<TiffFault>
+    ensures { result ≡ spec.photometric_fault form bytes.now at }
 {
-    let value = field_value(big, bytes, at, 262);
+    let value = field_value(form, bytes, at, PHOTOMETRIC);
     (value > 2).then_some(TiffFault::Unsupported {
-        tag: 262,
+        tag: PHOTOMETRIC,
         value: u64::from(value),
     })
 }
 
-fn planar_fault(big: bool, bytes: &[u8], at: u32) -> Option<TiffFault>
-    ensures { result ≡ spec.planar_fault big bytes.now at }
+fn planar_fault(form: Form, bytes: &[u8], at: u32) -> Option<TiffFault>
+    ensures { result ≡ spec.planar_fault form bytes.now at }
 {
-    let value = field_value(big, bytes, at, 284);
-    let is_read = value == 1 || (value == 2 && field_value(big, bytes, at, 277) == 1);
+    let value = field_value(form, bytes, at, PLANAR_CONFIGURATION);
+    let is_read = value == 1
+        || (value == 2 && field_value(form, bytes, at, SAMPLES_PER_PIXEL) == 1);
     (!is_read).then_some(TiffFault::Unsupported {
-        tag: 284,
+        tag: PLANAR_CONFIGURATION,
         value: u64::from(value),
     })
 }
 
 /// The first SampleFormat, of those of the samples of a pixel, that is neither 1 nor 4.
-fn first_other_format(big: bool, bytes: &[u8], at: u32) -> Option<u32>
-    ensures { result ≡ find (λ v. not ((v == 1) || (v == 4))) (take (spec.samples big bytes.now at)
-        (field.field_values big bytes.now at 339)) }
+fn first_other_format(form: Form, bytes: &[u8], at: u32) -> Option<u32>
+    ensures { result ≡ find (λ v. not ((v == 1) || (v == 4))) (take (spec.samples form bytes.now at)
+        (field.field_values form bytes.now at sample_format_tag)) }
 {
-    let count = field_value(big, bytes, at, 277).min(field_length(big, bytes, at, 339));
+    let samples = field_value(form, bytes, at, SAMPLES_PER_PIXEL);
+    let count = samples.min(field_length(form, bytes, at, SAMPLE_FORMAT));
     for i in 0..count {
-        let value = field_number(big, bytes, at, 339, u128::from(i));
+        let value = field_number(form, bytes, at, SAMPLE_FORMAT, u128::from(i));
         if value != 1 && value != 4 {
             return Some(value);
         }
@@ -183,12 +220,12 @@ fn first_other_format(big: bool, bytes: &[u8], at: u32) -> Option<u32>
     None
 }
 
-fn format_fault(big: bool, bytes: &[u8], at: u32) -> Option<TiffFault>
-    ensures { result ≡ spec.format_fault big bytes.now at }
+fn format_fault(form: Form, bytes: &[u8], at: u32) -> Option<TiffFault>
+    ensures { result ≡ spec.format_fault form bytes.now at }
 {
-    match first_other_format(big, bytes, at) {
+    match first_other_format(form, bytes, at) {
         Some(value) => Some(TiffFault::Unsupported {
-            tag: 339,
+            tag: SAMPLE_FORMAT,
             value: u64::from(value),
         }),
         None => None,
@@ -196,98 +233,100 @@ fn format_fault(big: bool, bytes: &[u8], at: u32) -> Option<TiffFault>
 }
 
 #[tactic(auto, unfolding(tiff_dirs::specs::Fault::unsupported_fault))]
-fn unsupported_fault(big: bool, bytes: &[u8], at: u32) -> Option<TiffFault>
-    ensures { result ≡ spec.unsupported_fault big bytes.now at }
+fn unsupported_fault(form: Form, bytes: &[u8], at: u32) -> Option<TiffFault>
+    ensures { result ≡ spec.unsupported_fault form bytes.now at }
 {
     first_of(&[
-        bits_fault(big, bytes, at),
-        compression_fault(big, bytes, at),
-        photometric_fault(big, bytes, at),
-        planar_fault(big, bytes, at),
-        format_fault(big, bytes, at),
+        bits_fault(form, bytes, at),
+        compression_fault(form, bytes, at),
+        photometric_fault(form, bytes, at),
+        planar_fault(form, bytes, at),
+        format_fault(form, bytes, at),
     ])
 }
 
 #[tactic(auto, unfolding(tiff_dirs::specs::Fault::zero_fault))]
-fn zero_fault(big: bool, bytes: &[u8], at: u32) -> Option<TiffFault>
-    ensures { result ≡ spec.zero_fault big bytes.now at }
+fn zero_fault(form: Form, bytes: &[u8], at: u32) -> Option<TiffFault>
+    ensures { result ≡ spec.zero_fault form bytes.now at }
 {
-    let is_zero = field_value(big, bytes, at, 256) == 0
-        || field_value(big, bytes, at, 257) == 0
-        || field_value(big, bytes, at, 277) == 0
-        || (!is_tiled(big, bytes, at) && field_value(big, bytes, at, 278) == 0);
+    let is_zero = field_value(form, bytes, at, IMAGE_WIDTH) == 0
+        || field_value(form, bytes, at, IMAGE_LENGTH) == 0
+        || field_value(form, bytes, at, SAMPLES_PER_PIXEL) == 0
+        || (!is_tiled(form, bytes, at) && field_value(form, bytes, at, ROWS_PER_STRIP) == 0);
     is_zero.then_some(TiffFault::ZeroSize)
 }
 
 #[tactic(auto, unfolding(tiff_dirs::specs::Fault::large_fault))]
-fn large_fault(big: bool, bytes: &[u8], at: u32) -> Option<TiffFault>
-    ensures { result ≡ spec.large_fault big bytes.now at }
+fn large_fault(form: Form, bytes: &[u8], at: u32) -> Option<TiffFault>
+    ensures { result ≡ spec.large_fault form bytes.now at }
 {
-    let is_large = field_value(big, bytes, at, 256) > SIDE_LIMIT
-        || field_value(big, bytes, at, 257) > SIDE_LIMIT
-        || field_value(big, bytes, at, 277) > CHANNEL_LIMIT;
+    let is_large = field_value(form, bytes, at, IMAGE_WIDTH) > MAX_SIDE
+        || field_value(form, bytes, at, IMAGE_LENGTH) > MAX_SIDE
+        || field_value(form, bytes, at, SAMPLES_PER_PIXEL) > MAX_CHANNELS;
     is_large.then_some(TiffFault::TooLarge)
 }
 
 /// A side that a tile may have.
 fn is_tile_side(side: u32) -> bool
-    ensures { result ≡ (nat_lt 0 side && (nat_le side 131072 && (side % 16 == 0))) }
+    ensures { result ≡ spec.is_tile_side side }
 {
-    0 < side && side <= SIDE_LIMIT && side % 16 == 0
+    0 < side && side <= MAX_SIDE && side % TILE_STEP == 0
 }
 
 #[tactic(auto, unfolding(tiff_dirs::specs::Fault::tile_fault))]
-fn tile_fault(big: bool, bytes: &[u8], at: u32) -> Option<TiffFault>
-    ensures { result ≡ spec.tile_fault big bytes.now at }
+fn tile_fault(form: Form, bytes: &[u8], at: u32) -> Option<TiffFault>
+    ensures { result ≡ spec.tile_fault form bytes.now at }
 {
-    let fits = is_tile_side(field_value(big, bytes, at, 322))
-        && is_tile_side(field_value(big, bytes, at, 323));
-    (is_tiled(big, bytes, at) && !fits).then_some(TiffFault::TileShape)
+    let fits = is_tile_side(field_value(form, bytes, at, TILE_WIDTH))
+        && is_tile_side(field_value(form, bytes, at, TILE_LENGTH));
+    (is_tiled(form, bytes, at) && !fits).then_some(TiffFault::TileShape)
 }
 
 #[tactic(auto, unfolding(tiff_dirs::specs::Fault::count_fault))]
-fn count_fault(big: bool, bytes: &[u8], at: u32) -> Option<TiffFault>
-    ensures { result ≡ spec.count_fault big bytes.now at }
+fn count_fault(form: Form, bytes: &[u8], at: u32) -> Option<TiffFault>
+    ensures { result ≡ spec.count_fault form bytes.now at }
 {
-    let count = field_length(big, bytes, at, offsets_tag(big, bytes, at));
-    (u128::from(count) < directory_blocks(big, bytes, at)).then_some(TiffFault::OffsetCount)
+    let count = field_length(form, bytes, at, offsets_tag(form, bytes, at));
+    (u128::from(count) < blocks_at(form, bytes, at)).then_some(TiffFault::OffsetCount)
 }
 
 /// The first fault that the directory at a place shows.
 #[tactic(auto, unfolding(tiff_dirs::specs::Fault::directory_fault))]
-pub fn directory_fault(big: bool, bytes: &[u8], at: u32) -> Option<TiffFault>
-    ensures { result ≡ spec.directory_fault big bytes.now at }
+pub fn directory_fault(form: Form, bytes: &[u8], at: u32) -> Option<TiffFault>
+    ensures value { result ≡ spec.directory_fault form bytes.now at }
 {
     first_of(&[
-        outside_fault(big, bytes, at),
-        missing_fault(big, bytes, at),
-        shape_fault(big, bytes, at),
-        unsupported_fault(big, bytes, at),
-        zero_fault(big, bytes, at),
-        large_fault(big, bytes, at),
-        tile_fault(big, bytes, at),
-        count_fault(big, bytes, at),
+        outside_fault(form, bytes, at),
+        missing_fault(form, bytes, at),
+        shape_fault(form, bytes, at),
+        unsupported_fault(form, bytes, at),
+        zero_fault(form, bytes, at),
+        large_fault(form, bytes, at),
+        tile_fault(form, bytes, at),
+        count_fault(form, bytes, at),
     ])
 }
 
 /// Block i of the level at a place lies in the file, behind the header.
-fn block_inside(big: bool, bytes: &[u8], at: u32, i: u32) -> bool
-    ensures { result ≡ spec.block_inside bytes.now (block.level_at big bytes.now at) i }
+#[tactic(auto, unfolding(tiff_dirs::specs::Block::level_at))]
+fn block_inside(form: Form, bytes: &[u8], at: u32, i: u32) -> bool
+    ensures { result ≡ spec.block_inside form bytes.now (block.level_at form bytes.now at) i }
 {
-    let offset = u128::from(offset_of(big, bytes, at, u128::from(i)));
-    8 <= offset && offset + block_bytes(big, bytes, at, i) <= bytes.len() as u128
+    let offset = u128::from(offset_of(form, bytes, at, u128::from(i)));
+    let end = offset + block_bytes(shape_at(form, bytes, at), i);
+    u128::from(header_bytes(form)) <= offset && end <= bytes.len() as u128
 }
 
 /// The first block of the level at a place that does not lie in the file.
-fn first_outside(big: bool, bytes: &[u8], at: u32) -> Option<u32>
-    ensures { result ≡ (let level = block.level_at big bytes.now at in
-        find (λ i. not (spec.block_inside bytes.now level i))
-        (range_with_len 0 (block.level_blocks level))) }
+fn first_outside(form: Form, bytes: &[u8], at: u32) -> Option<u32>
+    ensures { result ≡ (let level = block.level_at form bytes.now at in
+        find (λ i. not (spec.block_inside form bytes.now level i))
+        (range_with_len 0 (block.blocks_of level.shape))) }
 {
-    let length = field_length(big, bytes, at, offsets_tag(big, bytes, at));
-    for i in 0..directory_blocks(big, bytes, at) {
+    let length = field_length(form, bytes, at, offsets_tag(form, bytes, at));
+    for i in 0..blocks_at(form, bytes, at) {
         // A block without an offset is outside.
-        if i >= u128::from(length) || !block_inside(big, bytes, at, i as u32) {
+        if i >= u128::from(length) || !block_inside(form, bytes, at, i as u32) {
             return Some(i as u32);
         }
     }
@@ -296,10 +335,10 @@ fn first_outside(big: bool, bytes: &[u8], at: u32) -> Option<u32>
 
 /// The first fault of the blocks of the level at a place, which has this number.
 #[tactic(auto, unfolding(tiff_dirs::specs::Fault::data_fault))]
-pub fn data_fault(big: bool, bytes: &[u8], number: u32, at: u32) -> Option<TiffFault>
-    ensures { result ≡ spec.data_fault bytes.now number (block.level_at big bytes.now at) }
+pub fn data_fault(form: Form, bytes: &[u8], number: u32, at: u32) -> Option<TiffFault>
+    ensures value { result ≡ spec.data_fault form bytes.now number (block.level_at form bytes.now at) }
 {
-    match first_outside(big, bytes, at) {
+    match first_outside(form, bytes, at) {
         Some(index) => Some(TiffFault::DataOutside {
             level: number,
             index,

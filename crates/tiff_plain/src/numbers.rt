@@ -81,14 +81,14 @@ fn has_mark(letter: u8, bytes: &[u8]) -> bool
 
 /// The file begins with `II`.
 pub fn is_little(bytes: &[u8]) -> bool
-    ensures { result ≡ spec.is_little bytes.now }
+    ensures value { result ≡ spec.is_little bytes.now }
 {
     has_mark(b'I', bytes)
 }
 
 /// The file begins with `MM`.
 pub fn is_big(bytes: &[u8]) -> bool
-    ensures { result ≡ spec.is_big bytes.now }
+    ensures value { result ≡ spec.is_big bytes.now }
 {
     has_mark(b'M', bytes)
 }

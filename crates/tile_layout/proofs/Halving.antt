@@ -1,12 +1,13 @@
--- Sides that are halved, and the size of a level by the last stored one.
+-- Sides that are halved, and the side of a level by the last stored one.
 use Rattle.std.proofs.Common.{◌≡◌, ℕ, zero, suc, ◌+◌, ◌-◌, ◌/◌, ◌^◌, ◌≤◌, max, min, refl, sym, ap}
 use Rattle.std.proofs.Common.{◌∙◌, arith, inl, inr, add-zero, add-suc}
 use Rattle.std.proofs.lemmas.Nat.{shr-shr}
 use Rattle.std.proofs.lemmas.Bool.{cases_lt}
+use Rattle.tiff_dirs.specs.Block.{LevelShape}
 use Rattle.tiff_dirs.specs.Level.{halved}
-use Rattle.tile_layout.specs.Level.{Stored, stored_count, level_in, width_in, height_in}
-use Rattle.tile_layout.proofs.LevelLemmas.{width_stored, height_stored, width_halved}
-use Rattle.tile_layout.proofs.LevelLemmas.{height_halved}
+use Rattle.tile_layout.specs.Kept.{Kept, stored_count, level_in}
+use Rattle.tile_layout.specs.Level.{side_in}
+use Rattle.tile_layout.proofs.LevelLemmas.{side_stored, side_halved}
 
 -- ---- a side
 
@@ -32,37 +33,29 @@ halved_after side last some step (suc k) =
     rw add-suc (step (last + k) (omega arith) ∙ ap halved (halved_after side last some step k)
     ∙ half_more (side last) k)
 
--- ---- the size of a level, by the last stored one that is not below it
+-- ---- the side of a level, by the last stored one that is not below it
 
-module _ (file : Stored) (level last : ℕ) (is : last ≡ min level (stored_count file - 1))
-    (stored : 1 ≤ stored_count file) where
-  side_by : (side : ℕ → ℕ) → 1 ≤ side last
-      → ((l : ℕ) → stored_count file ≤ suc l → side (suc l) ≡ halved (side l))
-      → side level ≡ max 1 (side last / 2 ^ (level - last))
-  side_by side some step = elim (cases_lt level (stored_count file)) [
+module _ (side : LevelShape → ℕ) (file : Kept) (level last : ℕ)
+    (is : last ≡ min level (stored_count file - 1)) (stored : 1 ≤ stored_count file) where
+  by_last : 1 ≤ side_in side file last
+      → side_in side file level ≡ max 1 (side_in side file last / 2 ^ (level - last))
+  by_last some = elim (cases_lt level (stored_count file)) [
     | inl lt ↦
         let here : last ≡ level = omega arith in
         let none : level - last ≡ 0 = omega arith in
-        let whole : side level ≡ max 1 (side level / 1) = omega (arith, ap side here) in
+        let whole : side_in side file level ≡ max 1 (side_in side file level / 1) =
+        omega (arith, ap (side_in side file) here) in
         rw (none, here) whole
     | inr le ↦
         let there : last + (level - last) ≡ level = omega arith in
-        ap side (sym there)
-        ∙ halved_after side last some (λ l from. step l (omega arith)) (level - last)
+        ap (side_in side file) (sym there)
+        ∙ halved_after (side_in side file) last some
+        (λ l from. side_halved side file l (omega arith)) (level - last)
   ]
 
-  pub width_by : 1 ≤ (level_in file last).width
-      → width_in file level ≡ max 1 ((level_in file last).width / 2 ^ (level - last))
-  width_by some =
-      let own : width_in file last ≡ (level_in file last).width =
-      width_stored file last (omega arith) in
-      side_by (width_in file) (rw own some) (width_halved file)
-      ∙ ap (λ w. max 1 (w / 2 ^ (level - last))) own
-
-  pub height_by : 1 ≤ (level_in file last).height
-      → height_in file level ≡ max 1 ((level_in file last).height / 2 ^ (level - last))
-  height_by some =
-      let own : height_in file last ≡ (level_in file last).height =
-      height_stored file last (omega arith) in
-      side_by (height_in file) (rw own some) (height_halved file)
-      ∙ ap (λ h. max 1 (h / 2 ^ (level - last))) own
+  pub side_by : 1 ≤ side (level_in file last).shape
+      → side_in side file level ≡ max 1 (side (level_in file last).shape / 2 ^ (level - last))
+  side_by some =
+      let own : side_in side file last ≡ side (level_in file last).shape =
+      side_stored side file last (omega arith) in
+      by_last (rw own some) ∙ ap (λ n. max 1 (n / 2 ^ (level - last))) own

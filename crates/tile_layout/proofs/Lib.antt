@@ -5,3 +5,4 @@ pub mod TexelLemmas
 pub mod PlaceLemmas
 pub mod BlockLemmas
 pub mod WalkLemmas
+pub mod GoodLevels

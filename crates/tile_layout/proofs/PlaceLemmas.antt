@@ -2,9 +2,10 @@
 use Rattle.std.proofs.Common.{◌≡◌, ℕ, ◌+◌, ◌*◌, ◌/◌, ◌%◌, ◌<◌, Option, Some, None, get_or, refl}
 use Rattle.std.proofs.Common.{ap, arith}
 use Rattle.std.proofs.lemmas.Nat.{div-mul-add, mod-mul-add, div-add-mod'}
-use Rattle.tiff_dirs.specs.Block.{Level, pieces_over, sample_bytes}
-use Rattle.tiff_dirs.specs.Texel.{block_index, texels_before, sample_place}
-use Rattle.tile_layout.specs.Pieces.{texel_bytes, row_rest}
+use Rattle.tiff_dirs.specs.Block.{LevelShape, Level, pieces_over, sample_bytes, texel_bytes}
+use Rattle.tiff_dirs.specs.Texel.{block_by, block_index, texels_before_by, texels_before}
+use Rattle.tiff_dirs.specs.Texel.{sample_place}
+use Rattle.tile_layout.specs.Pieces.{row_rest_by, row_rest}
 
 -- ---- one side, cut into pieces
 
@@ -21,36 +22,38 @@ place_in_piece x piece j fits =
 
 -- ---- n texels side by side
 
-before_more : (width : ℕ) (tile : Option (ℕ × ℕ)) (rows x y j : ℕ) → j < row_rest width tile x
-    → texels_before width tile rows (x + j) y ≡ texels_before width tile rows x y + j
-before_more width None rows x y j lt = omega arith
-before_more width (Some tile) rows x y j lt =
+before_more : (shape : LevelShape) (tile : Option (ℕ × ℕ)) (x y j : ℕ)
+    → j < row_rest_by shape tile x
+    → texels_before_by shape tile (x + j) y ≡ texels_before_by shape tile x y + j
+before_more shape None x y j lt = omega arith
+before_more shape (Some tile) x y j lt =
     omega (arith, place_in_piece x tile.0 j (omega arith))
 
-same_block : (width : ℕ) (tile : Option (ℕ × ℕ)) (rows x y j : ℕ) → j < row_rest width tile x
-    → block_index width tile rows (x + j) y ≡ block_index width tile rows x y
-same_block width None rows x y j lt = refl
-same_block width (Some tile) rows x y j lt =
-    ap (λ k. y / tile.1 * pieces_over width tile.0 + k) (same_piece x tile.0 j (omega arith))
+same_block : (shape : LevelShape) (tile : Option (ℕ × ℕ)) (x y j : ℕ)
+    → j < row_rest_by shape tile x
+    → block_by shape tile (x + j) y ≡ block_by shape tile x y
+same_block shape None x y j lt = refl
+same_block shape (Some tile) x y j lt =
+    ap (λ k. y / tile.1 * pieces_over shape.width tile.0 + k) (same_piece x tile.0 j (omega arith))
 
-pub side_by_side : (level : Level) (x y j : ℕ) → j < row_rest level.width level.tile x
-    → sample_place level (x + j) y 0 ≡ sample_place level x y 0 + j * texel_bytes level
+pub side_by_side : (level : Level) (x y j : ℕ) → j < row_rest level.shape x
+    → sample_place level (x + j) y 0 ≡ sample_place level x y 0 + j * texel_bytes level.shape
 unfolding sample_place
 side_by_side level x y j lt =
     rw (
-      same_block level.width level.tile level.rows_per_strip x y j lt,
-      before_more level.width level.tile level.rows_per_strip x y j lt,
+      same_block level.shape level.shape.tile x y j lt,
+      before_more level.shape level.shape.tile x y j lt,
     ) (omega arith)
 
 -- the samples of a texel, too
 pub of_channel : (level : Level) (x y c : ℕ)
-    → sample_place level x y c ≡ sample_place level x y 0 + c * sample_bytes level.depth
+    → sample_place level x y c ≡ sample_place level x y 0 + c * sample_bytes level.shape.depth
 unfolding sample_place
 of_channel level x y c = omega arith
 
 -- the place of a texel, from its block's
 pub place_is : (level : Level) (x y : ℕ) → sample_place level x y 0
-    ≡ get_or level.offsets (block_index level.width level.tile level.rows_per_strip x y) 0
-    + texels_before level.width level.tile level.rows_per_strip x y * texel_bytes level
+    ≡ get_or level.offsets (block_index level.shape x y) 0
+    + texels_before level.shape x y * texel_bytes level.shape
 unfolding sample_place
 place_is level x y = omega arith

@@ -9,9 +9,11 @@ use Rattle.std.proofs.Math.Nat.{pow-suc, pow-le-pow_right}
 use Rattle.std.proofs.lemmas.Nat.{pow_pos, div_below, le-div}
 use Rattle.std.proofs.lemmas.Bool.{cases_lt, cases_Bool, eq-eqb, ne_eqb, and_from, and_left}
 use Rattle.std.proofs.lemmas.Bool.{and_right}
-use Rattle.tile_layout.specs.Level.{Stored, stored_count, level_in, width_in, height_in}
-use Rattle.tile_layout.specs.Level.{levels_down, count_to_single}
-use Rattle.tile_layout.proofs.Halving.{width_by, height_by}
+use Rattle.tiff_dirs.specs.Fault.{max_side}
+use Rattle.tiff_dirs.specs.Level.{max_levels}
+use Rattle.tile_layout.specs.Kept.{Kept, stored_count, level_in}
+use Rattle.tile_layout.specs.Level.{width_in, height_in, levels_down}
+use Rattle.tile_layout.proofs.Halving.{side_by}
 
 -- a number is found below the end of a range
 find_within : (test : ℕ → Bool) (a n : ℕ)
@@ -37,9 +39,10 @@ find_first test a (suc n) (suc k) lt before here =
     (λ j below. ap test (one j) ∙ before (suc j) (omega arith)) (ap test (one k) ∙ here)
     ∙ ap (λ v. Some v) (one k))
 
-pub levels_down_few : (file : Stored) → levels_down file ≤ 18
+pub levels_down_few : (file : Kept) → levels_down file ≤ max_levels
 unfolding levels_down
-levels_down_few file = find_within (λ l. (width_in file l == 1) && (height_in file l == 1)) 0 18
+levels_down_few file =
+    find_within (λ l. (width_in file l == 1) && (height_in file l == 1)) 0 max_levels
 
 -- a side is 1 from here on, and not before
 side_single : (side k : ℕ) → side < 2 * 2 ^ k → max 1 (side / 2 ^ k) ≡ 1
@@ -51,11 +54,11 @@ side_long side k e lt le is =
     let two : 2 * 2 ^ k ≤ side = omega (arith, pow-suc 2 k) in
     omega (arith, le-div 2 side (2 ^ k) (pow_pos k) two)
 
-pub few_halvings : (side e : ℕ) → side ≤ 131072 → 2 ^ e ≤ side → e < 18
-few_halvings side e few le = elim (cases_lt e 18) [
+pub few_halvings : (side e : ℕ) → side ≤ max_side → 2 ^ e ≤ side → e < max_levels
+few_halvings side e few le = elim (cases_lt e max_levels) [
   | inl lt ↦ lt
   | inr ge ↦
-      let more : 2 ^ 18 ≤ 2 ^ e = pow-le-pow_right (lit≤ tt) ge in
+      let more : 2 ^ max_levels ≤ 2 ^ e = pow-le-pow_right (lit≤ tt) ge in
       absurd (omega (arith, more))
 ]
 
@@ -70,29 +73,37 @@ side_before width height w h e wide high le j below = elim (cases_lt w (2 ^ e)) 
       (ne_eqb (width j) 1 (λ one. side_long w j e below broad (sym (wide j) ∙ one)))
 ]
 
-single_count : (width height : ℕ → ℕ) (w h e : ℕ) → ((l : ℕ) → width l ≡ max 1 (w / 2 ^ l))
-    → ((l : ℕ) → height l ≡ max 1 (h / 2 ^ l)) → e < 18 → 2 ^ e ≤ max w h → max w h < 2 * 2 ^ e
-    → count_to_single width height ≡ e + 1
-single_count width height w h e wide high few le lt =
+-- the first of both sides 1 is found there
+single_found : (width height : ℕ → ℕ) (w h e : ℕ) → ((l : ℕ) → width l ≡ max 1 (w / 2 ^ l))
+    → ((l : ℕ) → height l ≡ max 1 (h / 2 ^ l)) → e < max_levels → 2 ^ e ≤ max w h
+    → max w h < 2 * 2 ^ e
+    → find (λ l. (width l == 1) && (height l == 1)) (range_with_len 0 max_levels) ≡ Some e
+single_found width height w h e wide high few le lt =
     let test : ℕ → Bool = λ l. (width l == 1) && (height l == 1) in
     let here : test e ≡ true =
     and_from (width e == 1) (height e == 1)
     (eq-eqb (width e) 1 (wide e ∙ side_single w e (omega arith)))
     (eq-eqb (height e) 1 (high e ∙ side_single h e (omega arith))) in
-    let found : find test (range_with_len 0 18) ≡ Some e =
-    find_first test 0 18 e few
+    find_first test 0 max_levels e few
     (λ j lt. ap test (zero-add j) ∙ side_before width height w h e wide high le j lt)
-    (ap test (zero-add e) ∙ here) ∙ ap (λ v. Some v) (zero-add e) in
-    rw found (omega arith)
+    (ap test (zero-add e) ∙ here) ∙ ap (λ v. Some v) (zero-add e)
 
 -- the levels of a file that stores one: the longer of its sides is halved e times until it is 1
-pub levels_down_is : (file : Stored) (e : ℕ) → stored_count file ≡ 1 → 1 ≤ (level_in file 0).width
-    → 1 ≤ (level_in file 0).height → e < 18
-    → 2 ^ e ≤ max (level_in file 0).width (level_in file 0).height
-    → max (level_in file 0).width (level_in file 0).height < 2 * 2 ^ e → levels_down file ≡ e + 1
-unfolding levels_down
-levels_down_is file e one w h few le lt =
-    let same = λ (l : ℕ). (let e : l - 0 ≡ l = omega arith in e) in
-    single_count (width_in file) (height_in file) (level_in file 0).width (level_in file 0).height e
-    (λ l. rw (same l) at (width_by file l 0 (omega arith) (omega arith) w))
-    (λ l. rw (same l) at (height_by file l 0 (omega arith) (omega arith) h)) few le lt
+module _ (file : Kept) (e : ℕ) (one : stored_count file ≡ 1) where
+  abbrev width : ℕ
+  width = (level_in file 0).shape.width
+
+  abbrev height : ℕ
+  height = (level_in file 0).shape.height
+
+  pub levels_down_is : 1 ≤ width → 1 ≤ height → e < max_levels → 2 ^ e ≤ max width height
+      → max width height < 2 * 2 ^ e → levels_down file ≡ e + 1
+  unfolding levels_down
+  levels_down_is w h few le lt =
+      let same = λ (l : ℕ). (let e : l - 0 ≡ l = omega arith in e) in
+      let found = single_found (width_in file) (height_in file) width height e
+      (λ l. rw (same l) at
+      (side_by (λ shape. shape.width) file l 0 (omega arith) (omega arith) w))
+      (λ l. rw (same l) at
+      (side_by (λ shape. shape.height) file l 0 (omega arith) (omega arith) h)) few le lt in
+      rw found (omega arith)

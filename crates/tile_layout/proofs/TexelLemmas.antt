@@ -6,7 +6,7 @@ use Rattle.std.specs.List.{range_with_len, flat_map}
 use Rattle.std.proofs.lemmas.List.FromFn.{length-map-range_with_len}
 use Rattle.tile_layout.specs.declared.rect.Rect.{Rect}
 use Rattle.tile_layout.specs.Pieces.{row_texels, rect_texels}
-use Rattle.tile_layout.specs.Inside.{texels_left}
+use Rattle.tile_layout.specs.Walk.{texels_left}
 
 -- ---- one row
 
@@ -65,18 +65,19 @@ no_texels : (x : ℕ) (rows : List ℕ) → flat_map (λ j. row_texels x j 0) ro
 no_texels x [] = refl
 no_texels x (y ∷ rows) = no_texels x rows
 
-pub rect_left : (rect : Rect) (right bottom : ℕ) → right ≡ rect.x + rect.w
-    → bottom ≡ rect.y + rect.h
-    → texels_left rect.x right rect.x rect.y (bottom - rect.y) ≡ rect_texels rect
-rect_left rect right bottom wide high =
-    let across : right - rect.x ≡ rect.w = omega arith in
-    let down : bottom - rect.y ≡ rect.h = omega arith in
-    all_rows rect.x right rect.y (bottom - rect.y) ∙ rw (across, down) refl
+pub rect_left : (rect : Rect) (rows : ℕ) → rows ≡ rect.h
+    → texels_left rect.x (rect.x + rect.w) rect.x rect.y (rect.y + rows - rect.y)
+    ≡ rect_texels rect
+rect_left rect rows high =
+    let across : rect.x + rect.w - rect.x ≡ rect.w = omega arith in
+    let down : rect.y + rows - rect.y ≡ rect.h = omega arith in
+    all_rows rect.x (rect.x + rect.w) rect.y (rect.y + rows - rect.y) ∙ rw (across, down) refl
 
-pub nothing_left : (rect : Rect) (right bottom : ℕ) → rect.w ≡ 0 → bottom ≡ rect.y
-    → texels_left rect.x right rect.x rect.y (bottom - rect.y) ≡ rect_texels rect
-nothing_left rect right bottom narrow high =
-    let down : bottom - rect.y ≡ 0 = omega arith in
+pub nothing_left : (rect : Rect) (rows : ℕ) → rect.w ≡ 0 → rows ≡ 0
+    → texels_left rect.x (rect.x + rect.w) rect.x rect.y (rect.y + rows - rect.y)
+    ≡ rect_texels rect
+nothing_left rect rows narrow none =
+    let down : rect.y + rows - rect.y ≡ 0 = omega arith in
     rw (down, narrow) (sym (no_texels rect.x (range_with_len rect.y rect.h)))
 
 -- ---- how many there are

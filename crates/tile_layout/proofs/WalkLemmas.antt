@@ -5,18 +5,18 @@ use Rattle.std.specs.Prelude.{⊤}
 use Rattle.std.specs.Iterator.{at_most, MakesProgress}
 use Rattle.tiff_dirs.specs.Block.{Level}
 use Rattle.tile_layout.specs.declared.piece.Piece.{Piece}
+use Rattle.tile_layout.specs.declared.rect.Rect.{Rect}
 use Rattle.tile_layout.specs.Pieces.{Walk, Takes, LiesSideBySide, row_texels}
-use Rattle.tile_layout.specs.Inside.{walk_at}
+use Rattle.tile_layout.specs.Walk.{walk_at}
 use Rattle.tile_layout.proofs.TexelLemmas.{piece_taken, row_done, length-row_texels}
 
-module _ (level : Level) (left right bottom x y : ℕ) (piece : Piece) (column : piece.x ≡ x)
-    (row : piece.y ≡ y) (fits : x + piece.n ≤ right) (below : y < bottom)
-    (lies : LiesSideBySide level right piece) where
+module _ (level : Level) (rect : Rect) (x y : ℕ) (piece : Piece) (column : piece.x ≡ x)
+    (row : piece.y ≡ y) (fits : x + piece.n ≤ rect.x + rect.w) (below : y < rect.y + rect.h)
+    (lies : LiesSideBySide level (rect.x + rect.w) piece) where
   -- to a texel of the same row
-  pub goes_on : Takes (walk_at level left right bottom x y) piece
-      (walk_at level left right bottom (x + piece.n) y)
+  pub goes_on : Takes (walk_at level rect x y) piece (walk_at level rect (x + piece.n) y)
   goes_on = record {
-    texels = piece_taken left right bottom x y piece.n fits below
+    texels = piece_taken rect.x (rect.x + rect.w) (rect.y + rect.h) x y piece.n fits below
         ∙ rw (column, row) refl;
     lies = lies;
     level = refl;
@@ -24,11 +24,11 @@ module _ (level : Level) (left right bottom x y : ℕ) (piece : Piece) (column :
   }
 
   -- to the next row
-  pub turns : x + piece.n ≡ right → Takes (walk_at level left right bottom x y) piece
-      (walk_at level left right bottom left (y + 1))
+  pub turns : x + piece.n ≡ rect.x + rect.w
+      → Takes (walk_at level rect x y) piece (walk_at level rect rect.x (y + 1))
   turns done = record {
     texels = goes_on.texels ∙ ap (λ texels. row_texels piece.x piece.y piece.n ++ texels)
-        (row_done left right bottom (x + piece.n) y done below);
+        (row_done rect.x (rect.x + rect.w) (rect.y + rect.h) (x + piece.n) y done below);
     lies = lies;
     level = refl;
     right = refl;

@@ -1,8 +1,16 @@
 -- Which cuts of the levels of a file may be asked for?
-use Rattle.std.specs.Prelude.{◌≡◌, ◌%◌, ◌≤◌}
+use Rattle.std.specs.Prelude.{◌≡◌, ℕ, ◌%◌, ◌≤◌}
 use Rattle.tile_layout.specs.declared.cut.Cut.{Cut}
 
--- a side is 0 or a multiple of 16, and 4096 at most
+-- the sides of the cells of stripped levels are multiples of this
+abbrev pub autotile_step : ℕ
+autotile_step = 16
+
+-- and no longer than this
+abbrev pub max_autotile : ℕ
+max_autotile = 4096
+
+-- a side of that kind, or 0
 pub record IsCut (cut : Cut) : Type 0 where
-  pub multiple : cut.autotile % 16 ≡ 0
-  pub high : cut.autotile ≤ 4096
+  pub multiple : cut.autotile % autotile_step ≡ 0
+  pub high : cut.autotile ≤ max_autotile

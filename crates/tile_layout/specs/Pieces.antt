@@ -1,13 +1,14 @@
 -- Where do the texels of a rectangle of a level stand in the file?
 use Rattle.std.specs.Prelude.{◌≡◌, ℕ, ◌+◌, ◌-◌, ◌*◌, ◌%◌, ◌^◌, ◌<◌, ◌≤◌, min, List, [], ◌++◌}
-use Rattle.std.specs.Prelude.{map, MatchOption, Option, Some, None}
+use Rattle.std.specs.Prelude.{map, slice_index, MatchOption, Option, Some, None}
 use Rattle.std.specs.List.{range_with_len, flat_map}
-use Rattle.std.specs.Prelude.{slice_index}
-use Rattle.tiff_dirs.specs.Block.{Level, sample_bytes, level_blocks, level_block_bytes}
+use Rattle.tiff_dirs.specs.Block.{LevelShape, Level, sample_bytes, texel_bytes, blocks_of}
+use Rattle.tiff_dirs.specs.Block.{block_bytes}
 use Rattle.tiff_dirs.specs.Texel.{block_index, sample_place}
 use Rattle.tile_layout.specs.declared.rect.Rect.{Rect}
 use Rattle.tile_layout.specs.declared.piece.Piece.{Piece}
-use Rattle.tile_layout.specs.Level.{Stored, width_in, height_in}
+use Rattle.tile_layout.specs.Kept.{Kept}
+use Rattle.tile_layout.specs.Level.{width_in, height_in}
 
 -- n texels of a row, from (x, y) on
 abbrev pub row_texels : ℕ → ℕ → ℕ → List (ℕ × ℕ)
@@ -17,46 +18,48 @@ row_texels x y n = map (λ j. (x + j, y)) (range_with_len 0 n)
 abbrev pub rect_texels : Rect → List (ℕ × ℕ)
 rect_texels rect = flat_map (λ y. row_texels rect.x y rect.w) (range_with_len rect.y rect.h)
 
--- the rectangle lies inside the level
-pub record IsInside (file : Stored) (level : ℕ) (rect : Rect) : Type 0 where
-  pub across : rect.x + rect.w ≤ width_in file level
-  pub down : rect.y + rect.h ≤ height_in file level
+-- the rectangle lies on a level of this width and height
+pub record LiesOn (width height : ℕ) (rect : Rect) : Type 0 where
+  pub across : rect.x + rect.w ≤ width
+  pub down : rect.y + rect.h ≤ height
 
--- the bytes of a texel: its samples stand side by side
-abbrev pub texel_bytes : Level → ℕ
-texel_bytes level = level.channels * sample_bytes level.depth
+-- the rectangle lies on this level of the file
+abbrev pub LiesOnLevel : Kept → ℕ → Rect → Type 0
+LiesOnLevel file l rect = LiesOn (width_in file l) (height_in file l) rect
 
--- how many texels the row of a block has from texel x of the level's row on:
+-- how many texels the row of a strip has from texel x of the level's row on, or the row of a tile:
 -- the row of a strip is that of the level, the row of a tile is the tile's
-abbrev pub row_rest : ℕ → Option (ℕ × ℕ) → ℕ → ℕ
-row_rest width None x = width - x
-row_rest width (Some tile) x = tile.0 - x % tile.0
+abbrev pub row_rest_by : LevelShape → Option (ℕ × ℕ) → ℕ → ℕ
+row_rest_by shape None x = shape.width - x
+row_rest_by shape (Some tile) x = tile.0 - x % tile.0
+
+abbrev pub row_rest : LevelShape → ℕ → ℕ
+row_rest shape x = row_rest_by shape shape.tile x
 
 -- the strip or tile that holds the first texel of a piece
-abbrev pub block_of : Level → Piece → ℕ
-block_of level piece =
-    block_index level.width level.tile level.rows_per_strip piece.x piece.y
+abbrev pub block_of : LevelShape → Piece → ℕ
+block_of shape piece = block_index shape piece.x piece.y
 
 -- the bytes of a piece lie in that strip or tile
 pub record LiesInBlock (level : Level) (piece : Piece) : Type 0 where
-  pub is : block_of level piece < level_blocks level
-  pub from : slice_index level.offsets (block_of level piece) ≤ piece.at
-  pub to : piece.at + piece.n * texel_bytes level
-      ≤ slice_index level.offsets (block_of level piece)
-      + level_block_bytes level (block_of level piece)
+  pub is : block_of level.shape piece < blocks_of level.shape
+  pub from : slice_index level.offsets (block_of level.shape piece) ≤ piece.at
+  pub to : piece.at + piece.n * texel_bytes level.shape
+      ≤ slice_index level.offsets (block_of level.shape piece)
+      + block_bytes level.shape (block_of level.shape piece)
 
 -- The piece has a texel at least, and reaches as far as its row before `right` and the row of its
 -- block allow. Its texels stand side by side in the file from `at` on, with their samples side by
 -- side. Its bytes lie in its block, and none stands past 2^64.
 pub record LiesSideBySide (level : Level) (right : ℕ) (piece : Piece) : Type 0 where
   pub some : 1 ≤ piece.n
-  pub long : piece.n ≡ min (right - piece.x) (row_rest level.width level.tile piece.x)
+  pub long : piece.n ≡ min (right - piece.x) (row_rest level.shape piece.x)
   pub place : (j : ℕ) → j < piece.n
-      → sample_place level (piece.x + j) piece.y 0 ≡ piece.at + j * texel_bytes level
+      → sample_place level (piece.x + j) piece.y 0 ≡ piece.at + j * texel_bytes level.shape
   pub samples : (j c : ℕ) → j < piece.n → sample_place level (piece.x + j) piece.y c
-      ≡ piece.at + j * texel_bytes level + c * sample_bytes level.depth
+      ≡ piece.at + j * texel_bytes level.shape + c * sample_bytes level.shape.depth
   pub block : LiesInBlock level piece
-  pub ends : piece.at + piece.n * texel_bytes level < 2 ^ 64
+  pub ends : piece.at + piece.n * texel_bytes level.shape < 2 ^ 64
 
 -- What is left of a walk over a rectangle of a level: the texels to come, in rows that end
 -- before `right`.

@@ -1,17 +1,19 @@
-ghost use Rattle.std.specs.Prelude.{◌≡◌, ℕ, ◌/◌, ◌^◌, ◌<◌, max};
-ghost use Rattle.tiff_dirs.specs.Bytes.{is_big};
-ghost use Rattle.tiff_dirs.specs.Level.{level_of, stored_levels, level_width, level_height};
+ghost use Rattle.std.specs.Prelude.{◌≡◌, ℕ, ◌/◌, ◌^◌, ◌<◌, max, List};
+ghost use Rattle.tiff_dirs.specs.Level.{max_levels};
 ghost use Rattle.tiff_dirs.specs.Facts.{IsSide, IsChannelCount, IsDepth};
 ghost use Rattle.tiff_dirs.specs.Shown.{shown};
 ghost use Rattle.tile_layout.specs.Cut.{IsCut};
-ghost use Rattle.tile_layout.specs.Level.{stored_of, stored_count, level_in, width_in, height_in};
-ghost use Rattle.tile_layout.specs.Level.{level_count_in, levels_down, level_count, HasLevel};
-ghost use Rattle.tile_layout.specs.Level.{IsLevelCount, IsOfEach, OfBytes};
-ghost use Rattle.tile_layout.specs.Pieces.{IsInside, walk_over};
+ghost use Rattle.tile_layout.specs.Kept.{kept_of, kept_in, AreDirsOf, stored_count, level_in};
+ghost use Rattle.tile_layout.specs.Level.{width_in, height_in, level_count_in, levels_down};
+ghost use Rattle.tile_layout.specs.Level.{HasLevel, IsLevelCount, IsOfEach};
+ghost use Rattle.tile_layout.specs.Pieces.{LiesOnLevel, walk_over};
+ghost use Rattle.tile_layout.specs.FormatOf.{IsFormatOf};
 
 use crate::cut::Cut;
 use crate::pieces::Pieces;
+use crate::place::texel_bytes;
 use crate::rect::Rect;
+use crate::texel_format::TexelFormat;
 use std::marker::Model;
 use tiff_dirs::{Dir, Dirs};
 
@@ -24,17 +26,19 @@ pub struct Layout {
 }
 
 impl Model for Layout {
-    ghost use Rattle.tile_layout.specs.Level.{Stored, stored_of};
+    ghost use Rattle.tile_layout.specs.Kept.{Kept, kept_in};
 
-    ghost Value = { Stored };
+    ghost Value = { Kept };
 
-    ghost view = { λ a. stored_of a.dirs };
+    ghost view = { λ a. kept_in a.dirs };
 }
 
 impl Layout {
-    /// The layout of a file, by its directories.
+    /// The layout of a file, by its directories. Over the directories of told bytes it is what is
+    /// kept of these bytes, and what each call below says of it, it says of them.
     pub fn of(dirs: Dirs) -> Layout
-        ensures value { result ≡ stored_of dirs }
+        ensures value { result ≡ kept_in dirs }
+        ensures told { (bytes : List ℕ) → AreDirsOf bytes dirs → result ≡ kept_of bytes }
     {
         Layout { dirs }
     }
@@ -42,7 +46,6 @@ impl Layout {
     /// The numbers of the file stand highest byte first.
     pub fn big(&self) -> bool
         ensures value { result ≡ self.now.big }
-        ensures told { OfBytes self.now (λ bytes. result ≡ is_big bytes) }
     {
         self.dirs.big
     }
@@ -50,7 +53,6 @@ impl Layout {
     /// The number of stored levels.
     pub fn stored(&self) -> u32
         ensures value { result ≡ stored_count self.now }
-        ensures told { OfBytes self.now (λ bytes. result ≡ stored_levels bytes) }
         ensures in_range { IsLevelCount result }
     {
         self.dirs.levels.len() as u32
@@ -61,7 +63,6 @@ impl Layout {
     pub fn levels(&self, cut: Cut) -> u32
         requires { IsCut cut }
         ensures value { result ≡ level_count_in self.now cut.automip }
-        ensures told { OfBytes self.now (λ bytes. result ≡ level_count bytes cut.automip) }
         ensures has { (l : ℕ) → l < result → HasLevel self.now l }
         ensures in_range { IsLevelCount result }
     {
@@ -77,8 +78,6 @@ impl Layout {
     pub fn size(&self, level: u32) -> (u32, u32)
         requires { HasLevel self.now level }
         ensures value { result ≡ (width_in self.now level, height_in self.now level) }
-        ensures told { OfBytes self.now (λ bytes.
-            result ≡ (level_width bytes level, level_height bytes level)) }
         ensures in_range { IsSide result.0 × IsSide result.1 }
     {
         let last = level.min(self.stored() - 1);
@@ -91,10 +90,7 @@ impl Layout {
 
     /// The samples of a texel, the same in every level.
     pub fn channels(&self) -> u32
-        ensures value { IsOfEach (stored_count self.now) (level_in self.now)
-            (λ l. l.channels) result }
-        ensures told { OfBytes self.now (λ bytes.
-            IsOfEach (stored_levels bytes) (level_of bytes) (λ l. l.channels) result) }
+        ensures value { IsOfEach self.now (λ shape. shape.channels) result }
         ensures in_range { IsChannelCount result }
     {
         self.dirs.levels[0].channels
@@ -102,31 +98,41 @@ impl Layout {
 
     /// The bits of a sample, the same in every level.
     pub fn depth(&self) -> u32
-        ensures value { IsOfEach (stored_count self.now) (level_in self.now)
-            (λ l. l.depth) result }
-        ensures told { OfBytes self.now (λ bytes.
-            IsOfEach (stored_levels bytes) (level_of bytes) (λ l. l.depth) result) }
+        ensures value { IsOfEach self.now (λ shape. shape.depth) result }
         ensures in_range { IsDepth result }
     {
         self.dirs.levels[0].depth
     }
 
     /// The stored level is WhiteIsZero.
-    #[tactic(auto, using(crate::proofs::LevelLemmas::level_told))]
     pub fn white(&self, level: u32) -> bool
         requires { level < stored_count self.now }
-        ensures value { result ≡ (level_in self.now level).white }
-        ensures told { OfBytes self.now (λ bytes. result ≡ (level_of bytes level).white) }
+        ensures value { result ≡ (level_in self.now level).shape.white }
     {
         self.dir(level).white
+    }
+
+    /// How the samples of a stored level are stored.
+    pub fn format(&self, level: u32) -> TexelFormat
+        requires { level < stored_count self.now }
+        ensures value { IsFormatOf self.now.big (level_in self.now level).shape result }
+    {
+        let dir = self.dir(level);
+        let channels = dir.channels as usize;
+        TexelFormat {
+            depth: dir.depth,
+            big: self.big(),
+            channels,
+            invert: if dir.white { channels } else { 0 },
+            texel_bytes: texel_bytes(dir) as usize,
+        }
     }
 
     /// The pieces of a rectangle of a stored level, row by row and in each row from left to right.
     pub fn pieces(&self, level: u32, rect: Rect) -> Pieces<'_>
         requires stored { level < stored_count self.now }
-        requires inside { IsInside self.now level rect }
+        requires inside { LiesOnLevel self.now level rect }
         ensures value { result ≡ walk_over (level_in self.now level) rect }
-        ensures told { OfBytes self.now (λ bytes. result ≡ walk_over (level_of bytes level) rect) }
     {
         Pieces::over(self.dir(level), rect)
     }
@@ -153,7 +159,7 @@ impl Layout {
 /// A side, halved so many times.
 fn halved(side: u32, times: u32) -> u32
     requires side { IsSide side }
-    requires times { times < 18 }
+    requires times { times < max_levels }
     ensures value { result ≡ max 1 (side / 2 ^ times) }
     ensures in_range { IsSide result }
 {

@@ -8,12 +8,11 @@ mod piece;
 mod pieces;
 mod place;
 mod rect;
+mod texel_format;
 
 pub use cut::Cut;
 pub use layout::Layout;
 pub use piece::Piece;
 pub use pieces::Pieces;
 pub use rect::Rect;
-
-#[cfg(test)]
-mod tests;
+pub use texel_format::TexelFormat;

@@ -1,6 +1,6 @@
-ghost use Rattle.std.specs.Prelude.{◌≡◌, ◌+◌, ◌≤◌};
+ghost use Rattle.std.specs.Prelude.{◌≡◌};
 ghost use Rattle.tiff_dirs.specs.Shown.{shown};
-ghost use Rattle.tile_layout.specs.Pieces.{walk_over};
+ghost use Rattle.tile_layout.specs.Pieces.{LiesOn, walk_over};
 
 use crate::piece::Piece;
 use crate::place::piece_at;
@@ -15,41 +15,35 @@ use tiff_dirs::Dir;
 #[derive(Debug, Drop)]
 pub struct Pieces<'a> {
     dir: &'a Dir,
-    /// The columns of the rectangle, the last one excluded, and the row behind its last one.
-    left: u32,
-    right: u32,
-    bottom: u32,
-    /// The texel that comes next. None does where y is `bottom`.
+    /// The rectangle, of no rows where it has no columns.
+    rect: Rect,
+    /// The texel that comes next. None does where y is the row behind the last.
     x: u32,
     y: u32,
 }
 
 impl<'a> Model for Pieces<'a> {
-    ghost use Rattle.tiff_dirs.specs.Shown.{shown};
+    ghost use Rattle.tiff_dirs.specs.Shown.{shown, shown_shape};
     ghost use Rattle.tile_layout.specs.Pieces.{Walk};
-    ghost use Rattle.tile_layout.specs.Inside.{walk_at, IsWalk};
+    ghost use Rattle.tile_layout.specs.Walk.{walk_at, IsWalk};
 
     ghost Value = { Walk };
 
-    ghost view = { λ a. walk_at (shown a.dir.now) a.left a.right a.bottom a.x a.y };
+    ghost view = { λ a. walk_at (shown a.dir.now) a.rect a.x a.y };
 
-    ghost invariant = { λ a.
-        IsWalk a.dir.now.width a.dir.now.height a.left a.right a.bottom a.x a.y };
+    ghost invariant = { λ a. IsWalk (shown_shape a.dir.now) a.rect a.x a.y };
 }
 
 impl<'a> Pieces<'a> {
     pub(crate) fn over(dir: &'a Dir, rect: Rect) -> Self
-        requires across { rect.x + rect.w ≤ dir.now.width }
-        requires down { rect.y + rect.h ≤ dir.now.height }
+        requires { LiesOn dir.now.width dir.now.height rect }
         ensures { result ≡ walk_over (shown dir.now) rect }
     {
         // a row without texels has no piece
         let rows = if rect.w == 0 { 0 } else { rect.h };
         Pieces {
             dir,
-            left: rect.x,
-            right: rect.x + rect.w,
-            bottom: rect.y + rows,
+            rect: Rect { h: rows, ..rect },
             x: rect.x,
             y: rect.y,
         }
@@ -68,13 +62,14 @@ impl<'a> Iterator for Pieces<'a> {
     ghost remaining = { λ walk. at_most (length walk.texels) };
 
     fn next(&mut self) -> Option<Piece> {
-        if self.y == self.bottom {
+        if self.y == self.rect.y + self.rect.h {
             return None;
         }
-        let piece = piece_at(self.dir, self.x, self.y, self.right);
+        let right = self.rect.x + self.rect.w;
+        let piece = piece_at(self.dir, self.x, self.y, right);
         self.x += piece.n;
-        if self.x == self.right {
-            self.x = self.left;
+        if self.x == right {
+            self.x = self.rect.x;
             self.y += 1;
         }
         Some(piece)

@@ -1,10 +1,10 @@
 //! Where the texels of a level stand in the file.
 
 ghost use Rattle.std.specs.Prelude.{◌≡◌, ◌^◌, ◌<◌, ◌≤◌, length};
-ghost use Rattle.tiff_dirs.specs.Block.{pieces_over};
-ghost use Rattle.tiff_dirs.specs.Shown.{shown};
+ghost use Rattle.tiff_dirs.specs.Block.{pieces_over, texel_bytes};
+ghost use Rattle.tiff_dirs.specs.Shown.{shown, shown_shape};
 ghost use Rattle.tiff_dirs.specs.Texel.{block_index, texels_before, sample_place};
-ghost use Rattle.tile_layout.specs.Pieces.{texel_bytes, row_rest, LiesSideBySide};
+ghost use Rattle.tile_layout.specs.Pieces.{row_rest, LiesSideBySide};
 
 use crate::piece::Piece;
 use tiff_dirs::Dir;
@@ -23,7 +23,7 @@ fn pieces_over(side: u32, piece: u32) -> u64
 fn block_index(dir: &Dir, x: u32, y: u32) -> u64
     requires across { x < dir.now.width }
     requires down { y < dir.now.height }
-    ensures value { result ≡ block_index dir.now.width dir.now.tile dir.now.rows_per_strip x y }
+    ensures value { result ≡ block_index (shown_shape dir.now) x y }
     ensures stored { result < length dir.now.offsets.items }
 {
     match dir.tile {
@@ -38,7 +38,7 @@ fn block_index(dir: &Dir, x: u32, y: u32) -> u64
 
 /// The number of texels before texel (x, y) in its strip or tile.
 fn texels_before(dir: &Dir, x: u32, y: u32) -> u64
-    ensures { result ≡ texels_before dir.now.width dir.now.tile dir.now.rows_per_strip x y }
+    ensures { result ≡ texels_before (shown_shape dir.now) x y }
 {
     match dir.tile {
         None => u64::from(y % dir.rows_per_strip) * u64::from(dir.width) + u64::from(x),
@@ -47,8 +47,8 @@ fn texels_before(dir: &Dir, x: u32, y: u32) -> u64
 }
 
 /// The bytes of a texel.
-fn texel_bytes(dir: &Dir) -> u64
-    ensures { result ≡ texel_bytes (shown dir.now) }
+pub(crate) fn texel_bytes(dir: &Dir) -> u64
+    ensures { result ≡ texel_bytes (shown_shape dir.now) }
 {
     let sample = if dir.depth == 8 { 1 } else { 2 };
     u64::from(dir.channels) * sample
@@ -57,7 +57,7 @@ fn texel_bytes(dir: &Dir) -> u64
 /// How many texels the row of the strip or tile has from texel x of the level's row on.
 fn row_rest(dir: &Dir, x: u32) -> u32
     requires { x < dir.now.width }
-    ensures value { result ≡ row_rest dir.now.width dir.now.tile x }
+    ensures value { result ≡ row_rest (shown_shape dir.now) x }
     ensures some { 1 ≤ result }
 {
     match dir.tile {

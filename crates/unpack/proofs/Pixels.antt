@@ -1,16 +1,17 @@
 -- The white rule, applied pixel by pixel.
 use Rattle.std.proofs.Common.{◌≡◌, ℕ, ◌+◌, ◌-◌, ◌*◌, ◌%◌, ◌<◌, ◌≤◌, List, length, get_or, set}
-use Rattle.std.proofs.Common.{if◌then◌else◌, true, false, arith, ◌∙◌, inl, inr}
+use Rattle.std.proofs.Common.{true, false, arith, ◌∙◌, inl, inr}
 use Rattle.std.proofs.lemmas.Bool.{cases_order, and_from, and_right, ne_eqb, eq-eqb, not_from_false}
 use Rattle.std.proofs.lemmas.List.{get_or-set_other, get_or-set_same}
 use Rattle.std.proofs.lemmas.Nat.{mod-mul-add}
 use Rattle.std.proofs.Math.Nat.{mul-mod_left}
+use Rattle.tiff_dirs.specs.Texel.{greatest_sample, unwhite}
 use Rattle.unpack.specs.Sample.{is_white}
 
 -- the first n pixels follow the rule, and the samples behind them are as they were
-pub record FollowTo (most channels n : ℕ) (old new : List ℕ) : Type 0 where
-  pub below : (k : ℕ) → k < length old → k < n * channels → get_or new k 0
-      ≡ (if is_white channels k then most - get_or old k 0 else get_or old k 0)
+pub record FollowTo (depth channels n : ℕ) (old new : List ℕ) : Type 0 where
+  pub below : (k : ℕ) → k < length old → k < n * channels
+      → get_or new k 0 ≡ unwhite (is_white channels k) depth (get_or old k 0)
   pub above : (k : ℕ) → n * channels ≤ k → get_or new k 0 ≡ get_or old k 0
 
 -- the first sample of a pixel is of channel 0
@@ -28,11 +29,11 @@ white_other channels n k low high =
     and_right _ _ (ne_eqb (k % channels) 0 (λ e. omega (arith, place)))
 
 -- one pixel more
-pub pixel_more : (most channels n v : ℕ) (old new : List ℕ) → 0 < channels
-    → n * channels < length new → v ≡ most - get_or new (n * channels) 0
-    → FollowTo most channels n old new
-    → FollowTo most channels (n + 1) old (set new (n * channels) v)
-pixel_more most channels n v old new some inside is before = record {
+pub pixel_more : (depth channels n v : ℕ) (old new : List ℕ) → 0 < channels
+    → n * channels < length new → v ≡ greatest_sample depth - get_or new (n * channels) 0
+    → FollowTo depth channels n old new
+    → FollowTo depth channels (n + 1) old (set new (n * channels) v)
+pixel_more depth channels n v old new some inside is before = record {
   below = λ k within lt. elim (cases_order k (n * channels)) [
     | inl here ↦
         let white = white_first channels n some in

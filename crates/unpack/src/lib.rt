@@ -2,6 +2,6 @@
 #![tactic(auto)]
 
 mod passes;
-mod samples;
+mod unpacking;
 
-pub use samples::{unpack, unpack_as};
+pub use unpacking::{unpack, unpack_as};

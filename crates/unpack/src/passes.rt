@@ -1,8 +1,9 @@
 //! The two passes over the samples of a block: the stored numbers, and the white rule.
 
 ghost use Rattle.std.specs.Prelude.{◌≡◌, ◌*◌, ◌<◌, ℕ, length, slice_index};
-ghost use Rattle.unpack.specs.Inside.{AreInverted, AreLow, AreStored};
-ghost use Rattle.unpack.specs.Sample.{greatest, sample_size};
+ghost use Rattle.tiff_dirs.specs.Texel.{greatest_sample};
+ghost use Rattle.unpack.specs.Sample.{depth_of, sample_size};
+ghost use Rattle.unpack.specs.Passes.{AreLow, AreStored, AreUnwhite};
 
 use byteorder::{BigEndian, ByteOrder, LittleEndian};
 
@@ -10,7 +11,7 @@ use byteorder::{BigEndian, ByteOrder, LittleEndian};
 pub fn read_stored(wide: bool, big: bool, src: &[u8], dst: &mut [u16])
     requires { length src.now ≡ sample_size wide * length dst.old }
     ensures stored { AreStored wide big src.now dst.new }
-    ensures low { AreLow (greatest wide) dst.new }
+    ensures low { AreLow wide dst.new }
 {
     if !wide {
         widen(src, dst)
@@ -31,34 +32,44 @@ fn widen(src: &[u8], dst: &mut [u16])
     }
 }
 
-/// Inverts the samples of channel 0 of so many channels, or none where that is 0.
-pub fn invert_white(most: u16, channels: usize, dst: &mut [u16])
-    requires { AreLow most dst.old }
-    ensures { AreInverted most channels dst.old dst.new }
+/// Applies the white rule to the samples of channel 0 of so many channels,
+/// or to none where that is 0.
+pub fn invert_white(wide: bool, channels: usize, dst: &mut [u16])
+    requires { AreLow wide dst.old }
+    ensures { AreUnwhite wide channels dst.old dst.new }
 {
     match channels {
         0 => {}
-        1 => invert_all(most, dst),
-        _ => invert_first(most, channels, dst),
+        1 => invert_all(wide, dst),
+        _ => invert_first(wide, channels, dst),
     }
 }
 
-/// Inverts every sample. It is a case of its own since its loop becomes vector code.
-fn invert_all(most: u16, dst: &mut [u16])
-    requires { AreLow most dst.old }
-    ensures { AreInverted most 1 dst.old dst.new }
+/// The greatest value of a sample.
+fn greatest(wide: bool) -> u16
+    ensures { result ≡ greatest_sample (depth_of wide) }
 {
+    if wide { u16::MAX } else { u16::from(u8::MAX) }
+}
+
+/// Inverts every sample. It is a case of its own since its loop becomes vector code.
+fn invert_all(wide: bool, dst: &mut [u16])
+    requires { AreLow wide dst.old }
+    ensures { AreUnwhite wide 1 dst.old dst.new }
+{
+    let most = greatest(wide);
     for sample in dst.iter_mut() {
         *sample = most - *sample;
     }
 }
 
 /// Inverts the first sample of each pixel.
-fn invert_first(most: u16, channels: usize, dst: &mut [u16])
+fn invert_first(wide: bool, channels: usize, dst: &mut [u16])
     requires some { 0 < channels }
-    requires low { AreLow most dst.old }
-    ensures { AreInverted most channels dst.old dst.new }
+    requires low { AreLow wide dst.old }
+    ensures { AreUnwhite wide channels dst.old dst.new }
 {
+    let most = greatest(wide);
     for pixel in 0..dst.len().div_ceil(channels) {
         let k = pixel * channels;
         dst[k] = most - dst[k];

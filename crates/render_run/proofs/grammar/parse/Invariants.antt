@@ -1,12 +1,12 @@
 use Rattle.std.proofs.Common.{◌≡◌, ◌+◌, ◌≤◌, length}
-use Rattle.render_run.specs.Grammar.{lines_of, requests_of, list_of, most_bytes}
+use Rattle.render_run.specs.Grammar.{lines_of, requests_of, list_of, max_list_bytes}
 use Rattle.render_run.proofs.Lines.{with_front}
 use Rattle.render_run.proofs.grammar.parse.Given as goal
 
 abbrev pub invariant-lines : goal.invariant-lines
 invariant-lines l = record {
   so_far : with_front l.requests.items (requests_of l.number (lines_of l.rest)) ≡ list_of l.bytes;
-  small : l.number + length l.rest ≤ most_bytes + 1;
+  small : l.number + length l.rest ≤ max_list_bytes + 1;
 }
 
 abbrev pub decreases-lines : goal.decreases-lines

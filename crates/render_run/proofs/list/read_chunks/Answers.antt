@@ -2,8 +2,8 @@ use Rattle.std.proofs.Common.{◌≡◌, ◌++◌, take, rules, arith}
 use Rattle.render_run.proofs.Taken.{taken_end, taken_more}
 use Rattle.render_run.proofs.list.read_chunks.Goals as goal
 
-pub returns-then-n-eq0-clause-all : goal.returns-then-n-eq0-clause-all
-returns-then-n-eq0-clause-all g c =
+pub returns-then-n-eq0-clause-read : goal.returns-then-n-eq0-clause-read
+returns-then-n-eq0-clause-read g c =
     taken_end c.more.bytes.items c.read.new.buf c.in-Ok.n (g.I.Feed.left c.args.feed.now)
     (g.I.Feed.left c.more.feed) (g.I.Feed.left c.read.new.self)
     c.more.invariant.taken c.in-Ok.ensures.ok c.if-n-eq0.true

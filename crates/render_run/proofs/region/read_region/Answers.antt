@@ -1,66 +1,77 @@
-use Rattle.std.proofs.Common.{◌≡◌, ℕ, ◌*◌, ◌++◌, ap, arith, replicate, FitsSigned, w32, rules}
+use Rattle.std.proofs.Common.{◌≡◌, ℕ, ◌+◌, ◌*◌, ◌≤◌, ◌++◌, ap, sym, arith, replicate, FitsSigned}
+use Rattle.std.proofs.Common.{w32, rules}
 use Rattle.std.proofs.lemmas.Int.{to_z-of_z}
-use Rattle.tile_layout.specs.Level.{level_in, width_in, height_in}
-use Rattle.tile_layout.proofs.LevelLemmas.{width_stored, height_stored}
+use Rattle.tile_layout.specs.Kept.{level_in}
+use Rattle.tile_layout.specs.Level.{width_in, height_in}
+use Rattle.tile_layout.proofs.LevelLemmas.{side_stored}
 use Rattle.render_run.specs.LevelRow.{level_rows}
 use Rattle.render_run.proofs.Regions.{region_is}
 use Rattle.render_run.proofs.region.read_region.Goals as goal
 
-pub read_rows-requires-clause-columns : goal.read_rows-requires-clause-columns
-read_rows-requires-clause-columns g c =
+pub invariant_of-level_rows : goal.invariant_of-level_rows
+invariant_of-level_rows g c =
+    let file = c.args.layout.now in
     let level = c.args.request.now.level in
-    let width : c.size-width.result.0 ≡ width_in c.args.layout.now level =
+    let width : c.size-width.result.0 ≡ width_in file level =
     ap (λ (s : ℕ × ℕ). s.0) c.size-width.ensures.value in
+    let columns : c.new.result.first + c.new.result.inside ≤ (level_in file level).shape.width =
     omega (
       arith,
-      c.new-columns.ensures.within,
+      c.new.ensures.within,
       width,
-      width_stored c.args.layout.now level c.requires,
-    )
+      side_stored (λ shape. shape.width) file level c.requires,
+    ) in
+    record {
+      known = record {
+        stored = c.requires;
+        format_is = c.format.ensures.value;
+        columns_in = columns;
+      };
+    }
 
-pub read_rows-requires-clause-rows : goal.read_rows-requires-clause-rows
-read_rows-requires-clause-rows g c =
+pub read-requires-clause-rows : goal.read-requires-clause-rows
+read-requires-clause-rows g c =
+    let file = c.args.layout.now in
     let level = c.args.request.now.level in
-    let height : c.size-width.result.1 ≡ height_in c.args.layout.now level =
+    let height : c.size-width.result.1 ≡ height_in file level =
     ap (λ (s : ℕ × ℕ). s.1) c.size-width.ensures.value in
     omega (
       arith,
       c.new-rows.ensures.within,
       height,
-      height_stored c.args.layout.now level c.requires,
+      side_stored (λ shape. shape.height) file level c.requires,
     )
 
 pub returns-clause-told : goal.returns-clause-told
 returns-clause-told g c = λ bytes told holds.
-    let big = c.args.layout.now.big in
+    let file = c.args.layout.now in
     let request = c.args.request.now in
-    let level = level_in c.args.layout.now request.level in
-    let columns = c.new-columns.result in
+    let level = level_in file request.level in
+    let columns = c.new.result in
     let rows = c.new-rows.result in
-    let width : c.size-width.result.0 ≡ width_in c.args.layout.now request.level =
+    let width : c.size-width.result.0 ≡ width_in file request.level =
     ap (λ (s : ℕ × ℕ). s.0) c.size-width.ensures.value in
-    let height : c.size-width.result.1 ≡ height_in c.args.layout.now request.level =
+    let height : c.size-width.result.1 ≡ height_in file request.level =
     ap (λ (s : ℕ × ℕ). s.1) c.size-width.ensures.value in
     let x-fits : FitsSigned w32 request.x = search rules in
     let y-fits : FitsSigned w32 request.y = search rules in
-    let across = rw (width, width_stored c.args.layout.now request.level c.requires) at
-    (simp to_z-of_z at c.new-columns.ensures) in
-    let down = rw (height, height_stored c.args.layout.now request.level c.requires) at
+    let across = rw (width, side_stored (λ shape. shape.width) file request.level c.requires) at
+    (simp to_z-of_z at c.new.ensures) in
+    let down = rw (height, side_stored (λ shape. shape.height) file request.level c.requires) at
     (simp to_z-of_z at c.new-rows.ensures) in
-    let channels = c.channels.ensures.value.each request.level c.requires in
-    let front : c.push_zeros.new.values.items
-    ≡ replicate (rows.before * (request.w * level.channels)) 0 =
+    let channels = sym (c.channels.ensures.value request.level c.requires) in
+    let front : c.push_zeros.new.self.values.items
+    ≡ replicate (rows.before * (request.w * level.shape.channels)) 0 =
     search (rules, channels) in
-    let middle : c.read_rows.new.values.items
-    ≡ c.push_zeros.new.values.items
-    ++ level_rows big bytes level columns.before columns.first columns.inside columns.after
-    rows.first rows.inside = c.in_ok-read_rows.ensures.told bytes told holds in
-    let back : c.push_zeros-2.new.values.items
-    ≡ c.read_rows.new.values.items
-    ++ replicate (rows.after * (request.w * level.channels)) 0 =
+    let middle : c.read.new.reading.values.items
+    ≡ c.push_zeros.new.self.values.items
+    ++ level_rows file.big bytes level columns rows.first rows.inside =
+    c.in_ok-read.ensures.told bytes told
+    (rw (c.in_ok-push_zeros.ensures.same, c.new-reading.ensures.windows) tt) holds in
+    let back : c.push_zeros-2.new.self.values.items
+    ≡ c.read.new.reading.values.items
+    ++ replicate (rows.after * (request.w * level.shape.channels)) 0 =
     search (rules, channels) in
-    region_is big bytes level request.x request.y request.w request.h
-    columns.before columns.first columns.inside columns.after rows.before rows.first rows.inside
-    rows.after
-    c.push_zeros.new.values.items c.read_rows.new.values.items c.push_zeros-2.new.values.items
-    across down front middle back
+    region_is file.big bytes level request.x request.y request.w request.h columns rows across
+    down c.push_zeros.new.self.values.items c.read.new.reading.values.items
+    c.push_zeros-2.new.self.values.items front middle back

@@ -1,27 +1,18 @@
-use Rattle.std.proofs.Common.{inl}
 use Rattle.render_run.specs.Ending.{ending_text}
 use Rattle.render_run.proofs.top.put_ending.Goals as goal
 
 pub returns-in-BadWords : goal.returns-in-BadWords
 unfolding ending_text
-returns-in-BadWords g c = rw c.in-BadWords.is (inl c.put_status.ensures)
+returns-in-BadWords g c = rw c.in-BadWords.is c.put_status.ensures
 
 pub returns-in-FolderFault : goal.returns-in-FolderFault
 unfolding ending_text
-returns-in-FolderFault g c = rw c.in-FolderFault.is (inl c.put_status-in-FolderFault.ensures)
+returns-in-FolderFault g c = rw c.in-FolderFault.is c.put_status-in-FolderFault.ensures
 
 pub returns-in-TooManyFiles : goal.returns-in-TooManyFiles
 unfolding ending_text
-returns-in-TooManyFiles g c = rw c.in-TooManyFiles.is (inl c.put_status-in-TooManyFiles.ensures)
+returns-in-TooManyFiles g c = rw c.in-TooManyFiles.is c.put_status-in-TooManyFiles.ensures
 
 pub returns-in-ListFault : goal.returns-in-ListFault
 unfolding ending_text
-returns-in-ListFault g c = rw c.in-ListFault.is (inl c.put_status-in-ListFault.ensures)
-
-pub returns-in-ListTooLong : goal.returns-in-ListTooLong
-unfolding ending_text
-returns-in-ListTooLong g c = rw c.in-ListTooLong.is c.put_bad_list.ensures
-
-pub returns-in-BadLine : goal.returns-in-BadLine
-unfolding ending_text
-returns-in-BadLine g c = rw c.in-BadLine.is c.put_bad_list-in-BadLine.ensures
+returns-in-ListFault g c = rw c.in-ListFault.is c.put_status-in-ListFault.ensures

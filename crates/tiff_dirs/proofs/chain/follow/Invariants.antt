@@ -1,6 +1,7 @@
-use Rattle.std.proofs.Common.{◌≡◌, ◌+◌, ◌≤◌, [], ◌∷◌, length, map}
+use Rattle.std.proofs.Common.{◌≡◌, ◌+◌, ◌≤◌, [], ◌∷◌, length, map, None}
 use Rattle.std.specs.Option.{ForSome}
-use Rattle.tiff_dirs.specs.Bytes.{is_big}
+use Rattle.tiff_dirs.specs.Form.{form_of, offset_bytes}
+use Rattle.tiff_dirs.specs.Fault.{data_fault}
 use Rattle.tiff_dirs.specs.Facts.{IsChain}
 use Rattle.tiff_dirs.specs.Level.{level_of}
 use Rattle.tiff_dirs.specs.Chain.{AreLevels, IsEnd}
@@ -11,10 +12,11 @@ abbrev pub invariant-loop-last : goal.invariant-loop-last
 invariant-loop-last g l = record {
   long : length l.levels.items ≡ l.last + 1;
   chain : IsChain (map shown l.levels.items);
-  inside : l.next_at + 4 ≤ g.B.ByteReader.size l.b;
+  inside : l.next.at + offset_bytes l.next.form ≤ g.B.ByteReader.size l.b;
   keeps : g.B.ByteReader.keeps l.fn.b l.b;
   told : ForSome (g.B.ByteReader.bytes l.fn.b)
-      (λ bytes. l.big ≡ is_big bytes → map shown l.fn.levels.items ≡ level_of bytes 0 ∷ []
-      → IsEnd bytes 0 l.first_next_at
-      → AreLevels bytes (l.last + 1) (map shown l.levels.items) × IsEnd bytes l.last l.next_at);
+      (λ bytes. map shown l.fn.levels.items ≡ level_of bytes 0 ∷ []
+      → data_fault (form_of bytes) bytes 0 (level_of bytes 0) ≡ None
+      → IsEnd bytes 0 l.fn.first_next
+      → AreLevels bytes (l.last + 1) (map shown l.levels.items) × IsEnd bytes l.last l.next);
 }

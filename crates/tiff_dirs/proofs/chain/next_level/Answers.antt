@@ -1,33 +1,36 @@
 use Rattle.std.proofs.Common.{◌≡◌, false, refl, sym, ◌∙◌}
 use Rattle.std.proofs.lemmas.Bool.{ne_eqb}
-use Rattle.tiff_dirs.specs.Shown.{shown}
-use Rattle.tiff_dirs.proofs.NextLevel.{is_one, last_is_last, no_next, some_next, end_is_last}
-use Rattle.tiff_dirs.proofs.NextLevel.{fault_is_last, next_of_half}
+use Rattle.tiff_dirs.specs.Level.{is_single}
+use Rattle.tiff_dirs.specs.Shown.{shown, shown_shape}
+use Rattle.tiff_dirs.proofs.NextLevel.{last_is_last, no_next, some_next, end_is_last}
+use Rattle.tiff_dirs.proofs.NextLevel.{fault_is_last, next_of_half, shape_of_level}
 use Rattle.tiff_dirs.proofs.chain.next_level.Goals as goal
 
 pub returns-then-last-eq1-2-clause-told : goal.returns-then-last-eq1-2-clause-told
-returns-then-last-eq1-2-clause-told g c = λ bytes is one at first last. (
+returns-then-last-eq1-2-clause-told g c = λ bytes is one at first last link. (
   refl,
-  last_is_last c.args.big bytes one at (shown c.args.last.now) last.level c.if-last-eq1.true
+  last_is_last c.args.next.form bytes one at (shown c.args.last.now) last c.if-last-eq1.true
       c.if-last-eq1-2.true,
 )
 
-pub returns-then-place-eq0-clause-told : goal.returns-then-place-eq0-clause-told
-returns-then-place-eq0-clause-told g c = λ bytes is one at first last.
-    let place = c.in_ok-place.ensures.told bytes is in (
+pub returns-then-at-eq0-clause-told : goal.returns-then-at-eq0-clause-told
+returns-then-at-eq0-clause-told g c = λ bytes is one at first last link.
+    let form = c.args.next.form in
+    let place = c.in_ok-at.ensures.told bytes is in (
       refl,
-      end_is_last c.args.big bytes one at (no_next c.args.big bytes at last.inside
-          (rw (← last.next) (sym place.1 ∙ c.if-place-eq0.true))),
+      end_is_last form bytes one at (no_next form bytes at link.inside
+          (rw (← link.next) (sym place.1 ∙ c.if-at-eq0.true))),
     )
 
 pub returns-in-Ok-clause-told : goal.returns-in-Ok-clause-told
-returns-in-Ok-clause-told g c = λ bytes is one at first last.
-    let place = c.in_ok-place.ensures.told bytes is in
-    let there = some_next c.args.big bytes at c.in_ok-place.place last.inside
-    (rw (← last.next) place.1) c.if-place-eq0.false in
-    let half = c.in-Ok.ensures.told bytes
-    (g.met.B.ByteReader.lawful.same_bytes _ _ c.in_ok-place.ensures.reader ∙ is) in
-    let more : is_one (shown c.args.last.now) ≡ false =
+returns-in-Ok-clause-told g c = λ bytes is one at first last link.
+    let form = c.args.next.form in
+    let place = c.in_ok-at.ensures.told bytes is in
+    let there = some_next form bytes at c.in_ok-at.at link.inside
+    (rw (← link.next) place.1) c.if-at-eq0.false in
+    let half = (c.in-Ok.ensures.told bytes
+    (g.met.B.ByteReader.lawful.same_bytes _ _ c.in_ok-at.ensures.reader ∙ is)) in
+    let more : is_single (shown_shape c.args.last.now) ≡ false =
     elim c.else-last-eq1.branch [
       | goal.else-last-eq1-via-then-last-eq1+else-last-eq1-2 w ↦
           rw (w.if-last-eq1.true, ne_eqb c.args.last.now.height 1 w.if-last-eq1-2.false) refl
@@ -35,19 +38,21 @@ returns-in-Ok-clause-told g c = λ bytes is one at first last.
           rw (ne_eqb c.args.last.now.width 1 w.if-last-eq1.false) refl
     ] in (
       refl,
-      next_of_half c.args.big bytes g.row.B-Error.Denot
-          one at c.in_ok-place.place (shown c.args.first.now)
-          (shown c.args.last.now) c.in-Ok.next first last.level more there half,
+      next_of_half form bytes g.row.B-Error.Denot one at c.in_ok-at.at
+          (shown_shape c.args.first.now) (shown_shape c.args.last.now) c.in-Ok.next
+          (shape_of_level form bytes one (shown c.args.first.now) first)
+          (shape_of_level form bytes at (shown c.args.last.now) last) more there half,
     )
 
 pub returns-in-Err-Fault-clause-told : goal.returns-in-Err-Fault-clause-told
-returns-in-Err-Fault-clause-told g c = λ bytes is one at first last.
-    let place = c.in_ok-place.ensures.told bytes is in
-    let there = some_next c.args.big bytes at c.in_ok-place.place last.inside
-    (rw (← last.next) place.1) c.if-place-eq0.false in
+returns-in-Err-Fault-clause-told g c = λ bytes is one at first last link.
+    let form = c.args.next.form in
+    let place = c.in_ok-at.ensures.told bytes is in
+    let there = some_next form bytes at c.in_ok-at.at link.inside
+    (rw (← link.next) place.1) c.if-at-eq0.false in
     let shown-fault = rw c.in-Err-Fault.field-0-is at (c.in-Err-Fault.ensures.told bytes
-    (g.met.B.ByteReader.lawful.same_bytes _ _ c.in_ok-place.ensures.reader ∙ is)) in (
+    (g.met.B.ByteReader.lawful.same_bytes _ _ c.in_ok-at.ensures.reader ∙ is)) in (
       refl,
-      fault_is_last c.args.big bytes one at c.in_ok-place.place c.in-Err-Fault.field-0-0 there
+      fault_is_last form bytes one at c.in_ok-at.at c.in-Err-Fault.field-0-0 there
           shown-fault,
     )

@@ -11,7 +11,7 @@ blocks-2-init g c =
       within = omega arith;
       room = omega (arith, made.len, small);
       keeps = lawful.itself c.args.b.now;
-      covers = λ bytes is. c.nothing-found.ensures c.args.big bytes c.args.first;
+      covers = λ bytes is. c.nothing-found.ensures c.args.first.form bytes c.args.first.at;
     }
 
 pub blocks-2-preserved : goal.blocks-2-preserved
@@ -35,7 +35,7 @@ blocks-2-preserved g c =
           ) in
           let entries : length c.read_at.new.buf / 12 ≡ c.min-more.result =
           omega (arith, bytes-long) in
-          let scanned = c.scan.ensures bytes c.args.first c.blocks-2.done (omega arith) part
+          let scanned = c.scan.ensures bytes c.args.first.at c.blocks-2.done (omega arith) part
           (so.covers bytes is) in
           rw (← entries) scanned;
     }

@@ -1,6 +1,6 @@
 use Rattle.std.proofs.Common.{◌≡◌, ◌-◌, ◌*◌, ◌≤◌, min, vec_len}
 use Rattle.std.specs.Option.{ForSome}
-use Rattle.tiff_dirs.specs.Inside.{Covers}
+use Rattle.tiff_dirs.specs.Entries.{Covers}
 use Rattle.tiff_dirs.proofs.directory.found_among.Given as goal
 
 abbrev pub invariant-blocks-2 : goal.invariant-blocks-2
@@ -9,7 +9,7 @@ invariant-blocks-2 g l = record {
   room : vec_len l.buffer ≡ min l.count 5461 * 12;
   keeps : g.B.ByteReader.keeps l.fn.b l.b;
   covers : ForSome (g.B.ByteReader.bytes l.fn.b)
-      (λ bytes. Covers l.big bytes l.first l.done l.found.entries);
+      (λ bytes. Covers l.first.form bytes l.first.at l.done l.found.entries);
 }
 
 abbrev pub decreases-blocks-2 : goal.decreases-blocks-2

@@ -1,8 +1,8 @@
 use Rattle.std.proofs.Common.{ℕ, ◌-◌, ◌≤◌, length, vec_len, vec_capacity}
 use Rattle.std.specs.Option.{ForSome}
 use Rattle.tiff_dirs.specs.Field.{entry_value}
-use Rattle.tiff_dirs.specs.Inside.{IsEntry}
-use Rattle.tiff_dirs.specs.Values.{AreLow, AreFirst}
+use Rattle.tiff_dirs.specs.Entries.{IsEntry}
+use Rattle.tiff_dirs.specs.Values.{AreFirst}
 use Rattle.tiff_dirs.proofs.offsets.read_all.Given as goal
 
 abbrev pub invariant-values : goal.invariant-values
@@ -10,10 +10,9 @@ invariant-values g l = record {
   within : length l.values.items ≤ l.count;
   reserved : l.count ≤ vec_capacity l.values;
   keeps : g.B.ByteReader.keeps l.fn.b l.b;
-  low : AreLow l.values.items;
   told : ForSome (g.B.ByteReader.bytes l.fn.b)
-      (λ bytes. (place : ℕ) → IsEntry l.big bytes place l.entry
-      → AreFirst (length l.values.items) (entry_value l.big bytes place) l.values.items);
+      (λ bytes. (place : ℕ) → IsEntry bytes place l.entry
+      → AreFirst (length l.values.items) (entry_value l.entry.form bytes place) l.values.items);
 }
 
 abbrev pub decreases-values : goal.decreases-values

@@ -11,7 +11,7 @@ returns-clause-told g c = λ bytes is place entry first.
     let e = c.args.entry.now in
     let size = type_size e.kind in
     let old = c.args.values.now.items in
-    let values = (c.in_ok-read_part.ensures.told bytes is c.args.big place entry).1 in
+    let values = (c.in_ok-read_part.ensures.told bytes is place entry).1 in
     let room : c.args.more * c.value_size.result ≤ length c.args.buffer.now =
     rw c.value_size.ensures (omega (arith, c.requires.room)) in
     let taken : c.args.more * c.value_size.result ≤ length c.read_part.new.part =
@@ -21,8 +21,8 @@ returns-clause-told g c = λ bytes is place entry first.
     let from-is : c.len.result ≡ length old =
     omega (arith, c.len.ensures, c.args.values.now.ok.0) in (
       refl,
-      first_more c.args.more (λ k. number_at c.args.big size c.read_part.new.part (size * k))
-          (entry_value c.args.big bytes place) old c.append_values.new.values.items first
+      first_more c.args.more (λ k. number_at e.form.big size c.read_part.new.part (size * k))
+          (entry_value e.form bytes place) old c.append_values.new.values.items first
           c.append_values.ensures.appends
           (λ k lt.
           let more-than : size * (k + 1) ≤ size * c.args.more =

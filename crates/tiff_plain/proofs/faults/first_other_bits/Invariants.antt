@@ -2,10 +2,12 @@ use Rattle.std.proofs.Common.{◌≡◌, ◌==◌, not, drop, take}
 use Rattle.std.specs.List.{find}
 use Rattle.tiff_dirs.specs.Fault.{samples}
 use Rattle.tiff_dirs.specs.Field.{field_values}
+use Rattle.tiff_dirs.specs.Tag.{bits_per_sample_tag}
 use Rattle.tiff_plain.proofs.faults.first_other_bits.Given as goal
 
 -- The values so far are these bits.
 abbrev pub invariant-loop-i : goal.invariant-loop-i
 invariant-loop-i l =
-    let values = take (samples l.big l.bytes l.at) (field_values l.big l.bytes l.at 258) in
+    let values = take (samples l.form l.bytes l.at)
+    (field_values l.form l.bytes l.at bits_per_sample_tag) in
     find (λ v. not (v == l.bits)) (drop l.i values) ≡ find (λ v. not (v == l.bits)) values

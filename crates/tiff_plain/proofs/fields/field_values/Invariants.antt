@@ -4,4 +4,4 @@ use Rattle.tiff_plain.proofs.fields.field_values.Given as goal
 
 -- The values so far.
 abbrev pub invariant-loop-i : goal.invariant-loop-i
-invariant-loop-i l = l.values.items ≡ take l.i (field_values l.big l.bytes l.at l.tag)
+invariant-loop-i l = l.values.items ≡ take l.i (field_values l.form l.bytes l.at l.tag)

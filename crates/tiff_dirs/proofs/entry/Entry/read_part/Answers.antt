@@ -2,7 +2,8 @@ use Rattle.std.proofs.Common.{true, leb, ◌≡◌, ◌+◌, ◌*◌, ◌≤◌,
 use Rattle.std.proofs.Common.{None}
 use Rattle.std.proofs.lemmas.Bool.{leb-true}
 use Rattle.tiff_dirs.specs.Field.{type_size, entry_value}
-use Rattle.tiff_dirs.specs.Inside.{AreValues}
+use Rattle.tiff_dirs.specs.Entries.{AreValues}
+use Rattle.tiff_dirs.specs.Form.{value_field_at}
 use Rattle.tiff_dirs.specs.Reader.{IsPartAt}
 use Rattle.tiff_dirs.proofs.Saying.{finds_so}
 use Rattle.tiff_dirs.proofs.BytesOfParts.{part_of_part}
@@ -11,7 +12,7 @@ use Rattle.tiff_dirs.proofs.FieldValues.{value_of_part}
 use Rattle.tiff_dirs.proofs.entry.Entry.read_part.Goals as goal
 
 pub returns-then-is_inner-clause-told : goal.returns-then-is_inner-clause-told
-returns-then-is_inner-clause-told g c = λ bytes is big place entry. (
+returns-then-is_inner-clause-told g c = λ bytes is place entry. (
   refl,
   λ k long.
       let size = type_size c.args.self.now.kind in
@@ -22,22 +23,22 @@ returns-then-is_inner-clause-told g c = λ bytes is big place entry. (
       let fits : c.args.self.now.count * size ≤ 4 =
       leb-true (c.args.self.now.count * size) 4 inner in
       let fits-there = rw (entry.count, entry.kind) at fits in
-      let start-is = entry.start ∙ place_inner big bytes place fits-there in
-      let part = part_of_part bytes (place + 8) c.args.self.now.inner skip
+      let start-is = entry.start ∙ place_inner c.args.self.now.form bytes place fits-there in
+      let part = part_of_part bytes (place + value_field_at c.args.self.now.form) c.args.self.now.inner skip
       (skip + length c.args.part.now - skip) entry.inner in
-      value_of_part big bytes place c.args.self.now entry c.args.from k _
+      value_of_part bytes place c.args.self.now entry c.args.from k _
       (rw (c.copy_from_slice.ensures.after, start-is, ← skip-is) part) long,
 )
 
 pub returns-clause-told : goal.returns-clause-told
-returns-clause-told g c = λ bytes is big place entry.
+returns-clause-told g c = λ bytes is place entry.
     finds_so None None
     (λ _. IsPartAt bytes (c.args.self.now.start + c.value_size.result * c.from.result)
     c.read_at.new.buf)
-    (λ _. AreValues big c.args.self.now c.read_at.new.buf
-    (λ k. entry_value big bytes place (c.args.from + k)))
+    (λ _. AreValues c.args.self.now c.read_at.new.buf
+    (λ k. entry_value c.args.self.now.form bytes place (c.args.from + k)))
     c.read_at.result (c.read_at.ensures.told bytes is) refl
-    (λ _ none part k long. value_of_part big bytes place c.args.self.now entry c.args.from k
+    (λ _ none part k long. value_of_part bytes place c.args.self.now entry c.args.from k
     c.read_at.new.buf (rw (c.value_size.ensures, c.from.ensures) at part) long)
 
 pub overflow_add-self : goal.overflow_add-self

@@ -1,5 +1,5 @@
 use Rattle.std.proofs.Common.{◌≡◌, ℕ, ◌<◌, eqb, get_or, false}
-use Rattle.tiff_dirs.specs.Inside.{tags}
+use Rattle.tiff_dirs.specs.Entries.{tags}
 use Rattle.tiff_dirs.proofs.found.Found.entry.Given as goal
 
 abbrev pub invariant-loop-t : goal.invariant-loop-t

@@ -4,12 +4,12 @@ use Rattle.tiff_dirs.proofs.Finding.{find_none, find_first}
 use Rattle.tiff_dirs.proofs.found.Found.first_misshapen.Goals as goal
 
 pub returns-then-is_misshapen : goal.returns-then-is_misshapen
-returns-then-is_misshapen c = λ big bytes at has long.
-    sym (find_first (is_misshapen big bytes at) c.args.wanted.now c.loop-tag.tag-index
-    c.loop-tag-test.true (c.loop-tag.invariant big bytes at has long)
-    (sym (c.is_misshapen.ensures big bytes at has long) ∙ c.if-is_misshapen.true))
+returns-then-is_misshapen c = λ bytes form at has long.
+    sym (find_first (is_misshapen form bytes at) c.args.wanted.now c.loop-tag.tag-index
+    c.loop-tag-test.true (c.loop-tag.invariant bytes form at has long)
+    (sym (c.is_misshapen.ensures bytes form at has long) ∙ c.if-is_misshapen.true))
 
 pub returns : goal.returns
-returns c = λ big bytes at has long.
-    sym (find_none (is_misshapen big bytes at) c.args.wanted.now
-    (λ k lt. c.loop-tag.invariant big bytes at has long k (omega arith)))
+returns c = λ bytes form at has long.
+    sym (find_none (is_misshapen form bytes at) c.args.wanted.now
+    (λ k lt. c.loop-tag.invariant bytes form at has long k (omega arith)))

@@ -4,4 +4,4 @@ use Rattle.tiff_dirs.proofs.found.Found.nothing.Goals as goal
 
 pub returns : goal.returns
 unfolding first_entry
-returns c = λ big bytes first t lt. search rules
+returns c = λ form bytes first t lt. search rules

@@ -1,10 +1,11 @@
 use Rattle.std.proofs.Common.{◌≡◌, ℕ, ◌+◌, ◌*◌, List}
+use Rattle.tiff_dirs.specs.Form.{entry_bytes}
 use Rattle.tiff_dirs.specs.Reader.{IsPartAt}
-use Rattle.tiff_dirs.specs.Inside.{Covers}
+use Rattle.tiff_dirs.specs.Entries.{Covers}
 use Rattle.tiff_dirs.proofs.found.Found.scan.Given as goal
 
 abbrev pub invariant-loop-i : goal.invariant-loop-i
 invariant-loop-i l =
-    (bytes : List ℕ) (first done : ℕ) → l.place ≡ first + 12 * done → IsPartAt bytes l.place l.block
-    → Covers l.big bytes first done l.fn.self.entries
-    → Covers l.big bytes first (done + l.i) l.self.entries
+    (bytes : List ℕ) (first done : ℕ) → l.place ≡ first + entry_bytes l.form * done → IsPartAt bytes l.place l.part
+    → Covers l.form bytes first done l.fn.self.entries
+    → Covers l.form bytes first (done + l.i) l.self.entries

@@ -5,13 +5,13 @@ use Rattle.tiff_dirs.proofs.found.Found.test_required.Goals.{then-is_tiled, else
 
 pub returns-in-None : goal.returns-in-None
 unfolding missing_fault
-returns-in-None c = λ big bytes at has.
+returns-in-None c = λ bytes form at has.
     elim c.if-is_tiled.branch [
       | then-is_tiled w ↦ (
         rw (
-          ← c.is_tiled.ensures big bytes at has,
+          ← c.is_tiled.ensures bytes form at has,
           w.if-is_tiled.true,
-          ← w.first_absent-absent.ensures big bytes at has,
+          ← w.first_absent-absent.ensures bytes form at has,
           ← w.absent-is,
           c.in-None.is,
         ) refl,
@@ -19,9 +19,9 @@ returns-in-None c = λ big bytes at has.
       )
       | else-is_tiled w ↦ (
         rw (
-          ← c.is_tiled.ensures big bytes at has,
+          ← c.is_tiled.ensures bytes form at has,
           w.if-is_tiled.false,
-          ← w.first_absent-absent-else-is_tiled.ensures big bytes at has,
+          ← w.first_absent-absent-else-is_tiled.ensures bytes form at has,
           ← w.absent-is,
           c.in-None.is,
         ) refl,
@@ -31,22 +31,22 @@ returns-in-None c = λ big bytes at has.
 
 pub returns-in-Some : goal.returns-in-Some
 unfolding missing_fault
-returns-in-Some c = λ big bytes at has.
+returns-in-Some c = λ bytes form at has.
     elim c.if-is_tiled.branch [
       | then-is_tiled w ↦
           rw (
-            ← c.is_tiled.ensures big bytes at has,
+            ← c.is_tiled.ensures bytes form at has,
             w.if-is_tiled.true,
-            ← w.first_absent-absent.ensures big bytes at has,
+            ← w.first_absent-absent.ensures bytes form at has,
             ← w.absent-is,
             c.in-Some.is,
             c.from.ensures,
           ) refl
       | else-is_tiled w ↦
           rw (
-            ← c.is_tiled.ensures big bytes at has,
+            ← c.is_tiled.ensures bytes form at has,
             w.if-is_tiled.false,
-            ← w.first_absent-absent-else-is_tiled.ensures big bytes at has,
+            ← w.first_absent-absent-else-is_tiled.ensures bytes form at has,
             ← w.absent-is,
             c.in-Some.is,
             c.from.ensures,

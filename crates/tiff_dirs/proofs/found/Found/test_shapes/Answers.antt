@@ -5,13 +5,13 @@ use Rattle.tiff_dirs.proofs.found.Found.test_shapes.Goals.{then-is_tiled, else-i
 
 pub returns-in-None : goal.returns-in-None
 unfolding shape_fault
-returns-in-None c = λ big bytes at has long.
+returns-in-None c = λ bytes form at has long.
     elim c.if-is_tiled.branch [
       | then-is_tiled w ↦ (
         rw (
-          ← c.is_tiled.ensures big bytes at has,
+          ← c.is_tiled.ensures bytes form at has,
           w.if-is_tiled.true,
-          ← w.first_misshapen-misshapen.ensures big bytes at has long,
+          ← w.first_misshapen-misshapen.ensures bytes form at has long,
           ← w.misshapen-is,
           c.in-None.is,
         ) refl,
@@ -19,9 +19,9 @@ returns-in-None c = λ big bytes at has long.
       )
       | else-is_tiled w ↦ (
         rw (
-          ← c.is_tiled.ensures big bytes at has,
+          ← c.is_tiled.ensures bytes form at has,
           w.if-is_tiled.false,
-          ← w.first_misshapen-misshapen-else-is_tiled.ensures big bytes at has long,
+          ← w.first_misshapen-misshapen-else-is_tiled.ensures bytes form at has long,
           ← w.misshapen-is,
           c.in-None.is,
         ) refl,
@@ -31,22 +31,22 @@ returns-in-None c = λ big bytes at has long.
 
 pub returns-in-Some : goal.returns-in-Some
 unfolding shape_fault
-returns-in-Some c = λ big bytes at has long.
+returns-in-Some c = λ bytes form at has long.
     elim c.if-is_tiled.branch [
       | then-is_tiled w ↦
           rw (
-            ← c.is_tiled.ensures big bytes at has,
+            ← c.is_tiled.ensures bytes form at has,
             w.if-is_tiled.true,
-            ← w.first_misshapen-misshapen.ensures big bytes at has long,
+            ← w.first_misshapen-misshapen.ensures bytes form at has long,
             ← w.misshapen-is,
             c.in-Some.is,
             c.from.ensures,
           ) refl
       | else-is_tiled w ↦
           rw (
-            ← c.is_tiled.ensures big bytes at has,
+            ← c.is_tiled.ensures bytes form at has,
             w.if-is_tiled.false,
-            ← w.first_misshapen-misshapen-else-is_tiled.ensures big bytes at has long,
+            ← w.first_misshapen-misshapen-else-is_tiled.ensures bytes form at has long,
             ← w.misshapen-is,
             c.in-Some.is,
             c.from.ensures,

@@ -3,23 +3,23 @@ use Rattle.tiff_dirs.specs.Shown.{shown}
 use Rattle.tile_layout.proofs.WalkLemmas.{goes_on, turns, progress}
 use Rattle.tile_layout.proofs.pieces.PiecesIterator.next.Goals as goal
 
-pub returns-then-self-2-clause-steps : goal.returns-then-self-2-clause-steps
-returns-then-self-2-clause-steps c =
+pub returns-then-self-right-clause-steps : goal.returns-then-self-right-clause-steps
+returns-then-self-right-clause-steps c =
     let a = c.self.inside in
     let piece = c.piece_at-piece in
-    rw (← c.self.view_is) (turns (shown a.dir.now) a.left a.right a.bottom a.x a.y piece.result
+    rw (← c.self.view_is) (turns (shown a.dir.now) a.rect a.x a.y piece.result
     piece.ensures.start.0 piece.ensures.start.1 (omega arith) (omega arith) piece.ensures.lies
-    c.if-self-2.true)
+    c.if-self-right.true)
 
-pub returns-then-self-2-clause-goes : goal.returns-then-self-2-clause-goes
-returns-then-self-2-clause-goes c = progress _ _ _ (returns-then-self-2-clause-steps c)
+pub returns-then-self-right-clause-goes : goal.returns-then-self-right-clause-goes
+returns-then-self-right-clause-goes c = progress _ _ _ (returns-then-self-right-clause-steps c)
 
-pub returns-else-self-2-clause-steps : goal.returns-else-self-2-clause-steps
-returns-else-self-2-clause-steps c =
+pub returns-else-self-right-clause-steps : goal.returns-else-self-right-clause-steps
+returns-else-self-right-clause-steps c =
     let a = c.self.inside in
     let piece = c.piece_at-piece in
-    rw (← c.self.view_is) (goes_on (shown a.dir.now) a.left a.right a.bottom a.x a.y piece.result
+    rw (← c.self.view_is) (goes_on (shown a.dir.now) a.rect a.x a.y piece.result
     piece.ensures.start.0 piece.ensures.start.1 (omega arith) (omega arith) piece.ensures.lies)
 
-pub returns-else-self-2-clause-goes : goal.returns-else-self-2-clause-goes
-returns-else-self-2-clause-goes c = progress _ _ _ (returns-else-self-2-clause-steps c)
+pub returns-else-self-right-clause-goes : goal.returns-else-self-right-clause-goes
+returns-else-self-right-clause-goes c = progress _ _ _ (returns-else-self-right-clause-steps c)

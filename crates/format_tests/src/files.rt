@@ -1,0 +1,164 @@
+//! The files of the tests. A file is made by a text: the name of one of those that are written out
+//! here and in `built_files`, and then changes of it, as `A 18=5 102=2,0`.
+
+use crate::built_files::{chain, pages};
+use std::alloc::{AllocError, Global};
+use std::test::Fail;
+
+/// 4 by 4, 8 bits, one channel, one strip, little-endian; the texel (x, y) is 16 * y + x.
+const SMALL: [u8; 138] = [
+    0x49, 0x49, 0x2a, 0, 8, 0, 0, 0, // header, the directory at 8
+    9, 0, // entries
+    0x00, 1, 3, 0, 1, 0, 0, 0, 4, 0, 0, 0, // at 10: ImageWidth 4
+    0x01, 1, 3, 0, 1, 0, 0, 0, 4, 0, 0, 0, // at 22: ImageLength 4
+    0x02, 1, 3, 0, 1, 0, 0, 0, 8, 0, 0, 0, // at 34: BitsPerSample 8
+    0x03, 1, 3, 0, 1, 0, 0, 0, 1, 0, 0, 0, // at 46: Compression 1
+    0x06, 1, 3, 0, 1, 0, 0, 0, 1, 0, 0, 0, // at 58: BlackIsZero
+    0x11, 1, 4, 0, 1, 0, 0, 0, 122, 0, 0, 0, // at 70: StripOffsets 122
+    0x15, 1, 3, 0, 1, 0, 0, 0, 1, 0, 0, 0, // at 82: SamplesPerPixel 1
+    0x16, 1, 3, 0, 1, 0, 0, 0, 4, 0, 0, 0, // at 94: RowsPerStrip 4
+    0x17, 1, 4, 0, 1, 0, 0, 0, 16, 0, 0, 0, // at 106: StripByteCounts 16
+    0, 0, 0, 0, // at 118: no further directory
+    0x00, 0x01, 0x02, 0x03, 0x10, 0x11, 0x12, 0x13, // at 122: samples
+    0x20, 0x21, 0x22, 0x23, 0x30, 0x31, 0x32, 0x33,
+];
+
+/// The same file, big-endian.
+const SMALL_BIG: [u8; 138] = [
+    0x4d, 0x4d, 0, 0x2a, 0, 0, 0, 8, // header, the directory at 8
+    0, 9, // entries
+    1, 0x00, 0, 3, 0, 0, 0, 1, 0, 4, 0, 0, // at 10: ImageWidth 4
+    1, 0x01, 0, 3, 0, 0, 0, 1, 0, 4, 0, 0, // at 22: ImageLength 4
+    1, 0x02, 0, 3, 0, 0, 0, 1, 0, 8, 0, 0, // at 34: BitsPerSample 8
+    1, 0x03, 0, 3, 0, 0, 0, 1, 0, 1, 0, 0, // at 46: Compression 1
+    1, 0x06, 0, 3, 0, 0, 0, 1, 0, 1, 0, 0, // at 58: BlackIsZero
+    1, 0x11, 0, 4, 0, 0, 0, 1, 0, 0, 0, 122, // at 70: StripOffsets 122
+    1, 0x15, 0, 3, 0, 0, 0, 1, 0, 1, 0, 0, // at 82: SamplesPerPixel 1
+    1, 0x16, 0, 3, 0, 0, 0, 1, 0, 4, 0, 0, // at 94: RowsPerStrip 4
+    1, 0x17, 0, 4, 0, 0, 0, 1, 0, 0, 0, 16, // at 106: StripByteCounts 16
+    0, 0, 0, 0, // at 118: no further directory
+    0x00, 0x01, 0x02, 0x03, 0x10, 0x11, 0x12, 0x13, // at 122: samples
+    0x20, 0x21, 0x22, 0x23, 0x30, 0x31, 0x32, 0x33,
+];
+
+/// A second directory, to stand at 138: 2 by 2, 8 bits, one strip at 204, all else by default.
+const HALF: [u8; 70] = [
+    5, 0, // entries
+    0x00, 1, 3, 0, 1, 0, 0, 0, 2, 0, 0, 0, // at 140: ImageWidth 2
+    0x01, 1, 3, 0, 1, 0, 0, 0, 2, 0, 0, 0, // at 152: ImageLength 2
+    0x02, 1, 3, 0, 1, 0, 0, 0, 8, 0, 0, 0, // at 164: BitsPerSample 8
+    0x11, 1, 3, 0, 1, 0, 0, 0, 204, 0, 0, 0, // at 176: StripOffsets 204
+    0x11, 1, 3, 0, 1, 0, 0, 0, 6, 0, 0, 0, // at 188: the same tag again, which does not count
+    0, 0, 0, 0, // at 200: no further directory
+    200, 201, 202, 203, // at 204: samples
+];
+
+/// 80 by 48, 16 bits, three channels, big-endian, tiles of 64 by 32; channel c of the texel (x, y)
+/// is 20000 * c + 100 * y + x, and the padding 65535.
+fn tiled(alloc: Global) -> Result<Vec<u8>, AllocError> {
+    let head: [u8; 184] = [
+        0x4d, 0x4d, 0, 0x2a, 0, 0, 0, 8, // header, the directory at 8
+        0, 11, // entries
+        1, 0x00, 0, 3, 0, 0, 0, 1, 0, 80, 0, 0, // ImageWidth 80
+        1, 0x01, 0, 3, 0, 0, 0, 1, 0, 48, 0, 0, // ImageLength 48
+        1, 0x02, 0, 3, 0, 0, 0, 3, 0, 0, 0, 146, // BitsPerSample, three values at 146
+        1, 0x03, 0, 3, 0, 0, 0, 1, 0, 1, 0, 0, // Compression 1
+        1, 0x06, 0, 3, 0, 0, 0, 1, 0, 2, 0, 0, // RGB
+        1, 0x15, 0, 3, 0, 0, 0, 1, 0, 3, 0, 0, // SamplesPerPixel 3
+        1, 0x1c, 0, 3, 0, 0, 0, 1, 0, 1, 0, 0, // chunky
+        1, 0x42, 0, 3, 0, 0, 0, 1, 0, 64, 0, 0, // TileWidth 64
+        1, 0x43, 0, 3, 0, 0, 0, 1, 0, 32, 0, 0, // TileLength 32
+        1, 0x44, 0, 4, 0, 0, 0, 4, 0, 0, 0, 152, // TileOffsets, four values at 152
+        1, 0x45, 0, 4, 0, 0, 0, 4, 0, 0, 0, 168, // TileByteCounts
+        0, 0, 0, 0, // at 142: no further directory
+        0, 16, 0, 16, 0, 16, // at 146
+        0, 0, 0, 0xb8, 0, 0, 0x30, 0xb8, // at 152: 184, 12472,
+        0, 0, 0x60, 0xb8, 0, 0, 0x90, 0xb8, // 24760, 37048
+        0, 0, 0x30, 0, 0, 0, 0x30, 0, 0, 0, 0x30, 0, 0, 0, 0x30, 0, // at 168: 12288 each
+    ];
+    let mut bytes = Vec::from_slice(alloc, &head)?;
+    for (left, top) in [(0u16, 0u16), (64, 0), (0, 32), (64, 32)] {
+        for row in 0..32u16 {
+            for column in 0..64u16 {
+                let x = left.wrapping_add(column);
+                let y = top.wrapping_add(row);
+                for c in 0..3u16 {
+                    let value = if x < 80 && y < 48 {
+                        20000 * c + 100 * y + x
+                    } else {
+                        65535
+                    };
+                    bytes.extend_from_slice(&value.to_be_bytes())?;
+                }
+            }
+        }
+    }
+    Ok(bytes)
+}
+
+/// The small file, its next offset leading to its half behind it.
+fn two(alloc: Global) -> Result<Vec<u8>, AllocError> {
+    let mut file = Vec::from_slice(alloc, &SMALL)?;
+    file.extend_from_slice(&HALF)?;
+    if let Some(next) = file.get_mut(118) {
+        *next = 138;
+    }
+    Ok(file)
+}
+
+/// The file of a name.
+fn named(alloc: Global, name: &str) -> Result<Vec<u8>, Fail> {
+    match name {
+        "A" => Ok(Vec::from_slice(alloc, &SMALL)?),
+        "BigA" => Ok(Vec::from_slice(alloc, &SMALL_BIG)?),
+        "B" => Ok(tiled(alloc)?),
+        "Two" => Ok(two(alloc)?),
+        "Pages" => Ok(pages(alloc)?),
+        "Chain" => Ok(chain(alloc)?),
+        _ => Err("no file of this name".into()),
+    }
+}
+
+/// Other bytes from a place on, their numbers with commas between them.
+fn put(file: &mut [u8], place: usize, bytes: &str) -> Result<(), Fail> {
+    let mut at = place;
+    for byte in bytes.split(',') {
+        let there = file.get_mut(at).ok_or("a change past the end")?;
+        *there = byte.parse()?;
+        at = at.wrapping_add(1);
+    }
+    Ok(())
+}
+
+/// So many times a number, in two bytes and lowest first, behind the file.
+fn push_shorts(file: &mut Vec<u8>, short: u16, count: u32) -> Result<(), AllocError> {
+    for _ in 0..count {
+        file.extend_from_slice(&short.to_le_bytes())?;
+    }
+    Ok(())
+}
+
+/// One change: `to=7` leaves the first 7 bytes, or as many as there are and zeros behind them;
+/// `8*3000` puts 3000 times the number 8 behind the file; `18=5,0` puts 5 and 0 at 18 and 19.
+fn change(file: &mut Vec<u8>, word: &str) -> Result<(), Fail> {
+    if let Some((short, count)) = word.split_once('*') {
+        push_shorts(file, short.parse()?, count.parse()?)?;
+        return Ok(());
+    }
+    let (place, bytes) = word.split_once('=').ok_or("no change")?;
+    if place == "to" {
+        file.resize(bytes.parse()?, 0)?;
+        return Ok(());
+    }
+    put(file, place.parse()?, bytes)
+}
+
+/// The file of a text.
+pub(crate) fn file_of(alloc: Global, text: &str) -> Result<Vec<u8>, Fail> {
+    let mut words = text.split_whitespace();
+    let mut file = named(alloc, words.next().ok_or("no name")?)?;
+    for word in words {
+        change(&mut file, word)?;
+    }
+    Ok(file)
+}

@@ -1,0 +1,71 @@
+//! The samples of bytes, worked out by hand.
+
+use std::process::Abort;
+use std::test::Fail;
+use unpack::{unpack, unpack_as};
+
+/// The channels of a WhiteIsZero picture, or 0; the bytes; the samples.
+type Row = (usize, &'static [u8], &'static [u16]);
+
+/// 8 bits, where the byte order says nothing.
+const BYTES: [Row; 8] = [
+    (0, &[], &[]),
+    (2, &[], &[]),
+    (0, &[0, 1, 127, 128, 255], &[0, 1, 127, 128, 255]),
+    (1, &[0, 1, 255], &[255, 254, 0]),
+    (1, &[100], &[155]),
+    (2, &[0, 1, 2, 3, 4], &[255, 1, 253, 3, 251]),
+    (3, &[10, 20, 30, 40, 50], &[245, 20, 30, 215, 50]),
+    (usize::MAX, &[7, 8], &[248, 8]),
+];
+
+/// 16 bits, lowest byte first.
+const LOWEST_FIRST: [Row; 6] = [
+    (0, &[], &[]),
+    (0, &[1, 0, 0, 1, 0xff, 0xfe], &[1, 256, 65279]),
+    (1, &[0, 0, 0xff, 0xff, 0x34, 0x12], &[65535, 0, 60875]),
+    (2, &[1, 0, 2, 0, 3, 0], &[65534, 2, 65532]),
+    (3, &[0, 1, 0, 2, 0, 3, 0, 4], &[65279, 512, 768, 64511]),
+    (usize::MAX, &[0, 1, 0, 1], &[65279, 256]),
+];
+
+/// 16 bits, highest byte first.
+const HIGHEST_FIRST: [Row; 6] = [
+    (3, &[], &[]),
+    (0, &[1, 0, 0, 1, 0xff, 0xfe], &[256, 1, 65534]),
+    (1, &[0, 0, 0xff, 0xff, 0x12, 0x34], &[65535, 0, 60875]),
+    (2, &[0, 1, 0, 2, 0, 3], &[65534, 2, 65532]),
+    (3, &[1, 0, 2, 0, 3, 0, 4, 0], &[65279, 512, 768, 64511]),
+    (usize::MAX, &[1, 0, 1, 0], &[65279, 256]),
+];
+
+fn unpack_rows(
+    rt: &(impl Abort + AllocGlobal),
+    wide: bool,
+    big: bool,
+    rows: &[Row],
+) -> Result<(), Fail> {
+    let size = if wide { 2 } else { 1 };
+    for (k, (invert, bytes, samples)) in rows.iter().enumerate() {
+        let mut dst = vec![in rt.alloc(); 1u16; samples.len()]?;
+        assert_eq!(rt; bytes.len(), size * dst.len(), "row {k}");
+        unpack_as(wide, big, bytes, *invert, &mut dst);
+        assert_eq!(rt; dst.as_slice(), *samples, "row {k} of {wide}, {big}");
+    }
+    Ok(())
+}
+
+#[test]
+fn unpacks_rows(rt: HostRuntime) -> Result<(), Fail> {
+    unpack_rows(&rt, false, false, &BYTES)?;
+    unpack_rows(&rt, false, true, &BYTES)?;
+    unpack_rows(&rt, true, false, &LOWEST_FIRST)?;
+    unpack_rows(&rt, true, true, &HIGHEST_FIRST)
+}
+
+#[test]
+fn unpacks_one_case(rt: HostRuntime) {
+    let mut dst = [0; 3];
+    unpack::<true, true>(&[0x12, 0x34, 0xff, 0xfe, 0, 1], 2, &mut dst);
+    assert_eq!(rt; dst, [60875, 65534, 65534]);
+}

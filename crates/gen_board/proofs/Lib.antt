@@ -1,0 +1,4 @@
+mod BoardLemmas
+mod ListLemmas
+mod RuleLemmas
+mod ViewLemmas

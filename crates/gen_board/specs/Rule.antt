@@ -1,0 +1,67 @@
+-- What holds of a board between any two steps, and what each kind of step tells its seat.
+use Rattle.std.specs.Prelude.{◌≡◌, ℕ, ◌+◌, ◌≤◌, max, List, [], ◌∷◌, length, replicate}
+use Rattle.std.specs.Prelude.{slice_index, slice_set}
+use mathlib.Core.Option.{some}
+use lib.ListN.{get_elem?}
+use Rattle.atomic_table.specs.Table.{State, Me, Step}
+use Rattle.tex_world.specs.World.{Files}
+use Rattle.tex_world.specs.Tap.{IsLeast}
+use Rattle.gen_board.specs.declared.sight.Sight.{Sight}
+
+-- one word for each file, and one at least
+abbrev pub word_count : ℕ → ℕ
+word_count files = max 1 files
+
+-- nothing was seen, and no step was made
+abbrev pub first_sight : ℕ → Sight
+first_sight files = record { seen = replicate files 0; steps = replicate files 0 }
+
+-- a spent seat claims nothing
+abbrev pub spent_sight : Sight
+spent_sight = record { seen = []; steps = [] }
+
+-- the number is none or a real generation of the file, and at most the word
+abbrev pub IsSeen : Files → List ℕ → ℕ → ℕ → Type 0
+IsSeen world words file seen = IsLeast world file seen × (seen ≤ slice_index words file)
+
+-- The rule: each word is 0 or a real generation of its file, and so is each number that a seat has
+-- seen, which is at most the word.
+pub record Kept (world : Files) (files : ℕ) (s : State (Unit {0}) Sight) : Type 0 where
+  pub count : length s.words ≡ word_count files
+  pub words : (file : ℕ) → IsLeast world file (slice_index s.words file)
+  pub views : (seat : ℕ) (sight : Sight) → get_elem? s.views seat ≡ some sight
+      → (file : ℕ) → IsSeen world s.words file (slice_index sight.seen file)
+
+-- the sight after a step on the word of a file, which has then been seen to be this number
+abbrev pub stepped_sight : Sight → ℕ → ℕ → Sight
+stepped_sight old file n = record {
+  seen = slice_set old.seen file n;
+  steps = slice_set old.steps file (slice_index old.steps file + 1);
+}
+
+-- A look finds 0 or a real generation, at least what was seen, and has then seen it.
+pub record Looked (world : Files) (step : Step (Unit {0})) (old : Me (Unit {0}) Sight) (found : ℕ)
+    (new : Me (Unit {0}) Sight) : Type 0 where
+  pub real : IsLeast world step.word found
+  pub newer : slice_index old.0.seen step.word ≤ found
+  pub sight : new.0 ≡ stepped_sight old.0 step.word found
+  pub slots : new.1 ≡ old.1
+
+-- A raise finds 0 or a real generation, at least what was seen, and has then seen the greater of it
+-- and the generation given.
+pub record Raised (world : Files) (step : Step (Unit {0})) (old : Me (Unit {0}) Sight) (found : ℕ)
+    (new : Me (Unit {0}) Sight) : Type 0 where
+  pub real : IsLeast world step.word found
+  pub newer : slice_index old.0.seen step.word ≤ found
+  pub sight : new.0 ≡ stepped_sight old.0 step.word (max found step.first)
+  pub slots : new.1 ≡ old.1
+
+-- for each file the greater number of both
+abbrev pub later_of : List ℕ → List ℕ → List ℕ
+later_of [] ys = []
+later_of (x ∷ xs) [] = x ∷ xs
+later_of (x ∷ xs) (y ∷ ys) = max x y ∷ later_of xs ys
+
+-- what two seats have seen together, with the counts of the first
+abbrev pub both_sights : Sight → Sight → Sight
+both_sights own other = record { seen = later_of own.seen other.seen; steps = own.steps }

@@ -1,0 +1,128 @@
+ghost use Rattle.std.specs.Prelude.{◌≡◌, ◌<◌, ◌≤◌, IfOk};
+ghost use Rattle.tex_world.specs.World.{IsReal};
+ghost use Rattle.tex_world.specs.Tap.{IsLeast};
+ghost use Rattle.gen_board.specs.View.{IsNewView, AfterStep, IsSameView, AfterJoin};
+
+use crate::later::take_later;
+use crate::rule::Generations;
+use crate::sight::Sight;
+use crate::steps::{Copied, Joined, Look, Raise};
+use crate::view::View;
+use atomic_table::Table;
+use std::alloc::{AllocError, Global};
+use std::cmp::max;
+use std::marker::{Model, PhantomData};
+use tex_world::{NoMemory, World};
+
+/// The newest known generation of each file, 0 where none is known yet. In a clause it is which
+/// board it is.
+#[derive(Drop)]
+pub struct Board<W: World> {
+    table: Table<(), Sight, u32, Generations<W>, Global>,
+    files: u32,
+}
+
+impl<W: World> Model for Board<W> {
+    ghost use Rattle.gen_board.specs.View.{BoardId};
+    ghost use Rattle.gen_board.specs.Seated.{IsLaid};
+
+    ghost Value = { BoardId };
+
+    ghost view = { λ b. record { files = b.files; table = b.table.shared.table_id } };
+
+    ghost invariant = { λ b. IsLaid b.files b.table.shared.key b.table.shared.table_id.words };
+}
+
+fn made<W: World>(alloc: Global, files: u32) -> Result<(Board<W>, View<W>), AllocError>
+    ensures { IfOk result (λ made. IsNewView files made.0 made.1) }
+{
+    let words = vec![in alloc; 0u64; max(1, files) as usize]?;
+    let seen = vec![in alloc; 0u32; files as usize]?;
+    let (table, seat) = Table::of_words(alloc, words.as_slice(), &files)?;
+    let view = View {
+        seat,
+        seen,
+        world: PhantomData,
+    };
+    Ok((Board { table, files }, view))
+}
+
+impl<W: World> Board<W> {
+    /// A board of so many files, none of which is known yet, and its first view.
+    pub fn new(alloc: Global, files: u32) -> Result<(Board<W>, View<W>), NoMemory>
+        ensures ok { IfOk result (λ made. IsNewView files made.0 made.1) }
+    {
+        match made(alloc, files) {
+            Ok(made) => Ok(made),
+            Err(_) => Err(NoMemory),
+        }
+    }
+
+    /// The number of its files.
+    pub fn files(&self) -> u32
+        ensures { result ≡ self.now.files }
+    {
+        self.files
+    }
+
+    /// The newest generation that is known of a file, or 0. One load.
+    pub fn look(&self, v: &mut View<W>, file: u32) -> u32
+        requires board { v.old.board ≡ self.now }
+        requires file { file < self.now.files }
+        ensures real { IsLeast W.files file result }
+        ensures seen { AfterStep file result v.old v.new }
+    {
+        let shared = &self.table.shared;
+        let found = shared.load::<Look<W>>(&mut v.seat, file as usize) as u32;
+        v.seen[file as usize] = found;
+        found
+    }
+
+    /// Makes a generation known, and answers the newest one that is then known. One fetch-and-max.
+    pub fn raise(&self, v: &mut View<W>, file: u32, g: u32) -> u32
+        requires board { v.old.board ≡ self.now }
+        requires file { file < self.now.files }
+        requires real { IsReal W.files file g }
+        ensures real { IsReal W.files file result }
+        ensures least { g ≤ result }
+        ensures seen { AfterStep file result v.old v.new }
+    {
+        let shared = &self.table.shared;
+        let found = shared.fetch_max::<Raise<W>>(&mut v.seat, file as usize, g as u64) as u32;
+        let newest = max(found, g);
+        v.seen[file as usize] = newest;
+        newest
+    }
+
+    /// A second view, which has seen and counted the same.
+    pub fn split(&self, v: &mut View<W>) -> Result<View<W>, NoMemory>
+        requires board { v.old.board ≡ self.now }
+        ensures ok { IfOk result (IsSameView v.old) }
+        ensures same { IsSameView v.old v.new }
+    {
+        let Ok(seen) = v.seen.clone() else {
+            return Err(NoMemory);
+        };
+        let seat = self.table.shared.split_seat::<Copied>(&mut v.seat);
+        Ok(View {
+            seat,
+            seen,
+            world: PhantomData,
+        })
+    }
+
+    /// The view has then seen the greater of both for each file. The other view ends.
+    pub fn join(&self, v: &mut View<W>, other: View<W>)
+        requires board { v.old.board ≡ self.now }
+        requires other { other.board ≡ self.now }
+        ensures seen { AfterJoin other v.old v.new }
+    {
+        let View {
+            seat,
+            seen,
+            world: _,
+        } = other;
+        take_later(&mut v.seen, seen.as_slice());
+        self.table.shared.join_seat::<Joined>(&mut v.seat, seat);
+    }
+}

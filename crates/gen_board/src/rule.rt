@@ -1,0 +1,18 @@
+ghost use Rattle.gen_board.specs.Rule.{Kept, first_sight};
+
+use crate::sight::Sight;
+use atomic_table::TableRule;
+use std::marker::PhantomData;
+use tex_world::World;
+
+/// What holds between any two steps: each word and each number that a seat has seen is 0 or a real
+/// generation, and what is seen is at most the word.
+pub(crate) struct Generations<W> {
+    world: PhantomData<W>,
+}
+
+impl<W: World> TableRule<(), Sight, u32> for Generations<W> {
+    ghost holds = { Kept W.files };
+
+    ghost first = { first_sight };
+}

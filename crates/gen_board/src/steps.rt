@@ -1,0 +1,44 @@
+//! The four kinds of step, and what each tells its seat.
+ghost use Rattle.gen_board.specs.Rule.{Looked, Raised, both_sights, spent_sight};
+
+use crate::sight::Sight;
+use atomic_table::{Join, Play, Split};
+use std::marker::PhantomData;
+use tex_world::World;
+
+/// A load: the number found is what the seat has then seen.
+pub(crate) struct Look<W> {
+    world: PhantomData<W>,
+}
+
+impl<W: World> Play<(), Sight> for Look<W> {
+    ghost then = { Looked W.files };
+}
+
+/// A fetch-and-max: the greater of the number found and the one given is what the seat has then
+/// seen.
+pub(crate) struct Raise<W> {
+    world: PhantomData<W>,
+}
+
+impl<W: World> Play<(), Sight> for Raise<W> {
+    ghost then = { Raised W.files };
+}
+
+/// The new seat has seen the same.
+pub(crate) struct Copied;
+
+impl Split<Sight> for Copied {
+    ghost left = { λ sight. sight };
+
+    ghost right = { λ sight. sight };
+}
+
+/// The seat has then seen the greater of both, and the other is spent.
+pub(crate) struct Joined;
+
+impl Join<Sight> for Joined {
+    ghost both = { both_sights };
+
+    ghost spent = { spent_sight };
+}

@@ -1,0 +1,6 @@
+pub mod RealWorld
+pub mod Stamp
+pub mod Listing
+pub mod RealHandle
+pub mod RealTap
+pub mod RealFolder

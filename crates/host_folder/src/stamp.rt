@@ -1,0 +1,84 @@
+//! What shows that a file was changed: its stamp, and the word that keeps a generation beside its
+//! stamp.
+ghost use Rattle.std.specs.Prelude.{◌≡◌, ◌↔◌, ◌+◌, ◌*◌, ◌%◌, ◌^◌, ◌<◌, ◌≤◌, IsSome, IfSome};
+ghost use Rattle.std.specs.Fs.{metadata_len, file_type, IsFile};
+ghost use Rattle.host_folder.specs.Stamp.{stamps, nanos_end, HasStamp, stamp_of_file};
+ghost use Rattle.host_folder.specs.Stamp.{word_generation, settled_word};
+
+use std::fs::Metadata;
+use std::time::UNIX_EPOCH;
+use tex_world::LAST_GENERATION;
+
+/// One more than the greatest stamp: a stamp has 44 bits.
+const STAMPS: u64 = 1 << 44;
+
+/// How much a nanosecond counts in a stamp. It is a prime.
+const NANO_WEIGHT: u128 = 1_000_003;
+
+/// What was seen of a plain file: its length in bytes and its stamp.
+#[derive(Clone, Copy)]
+pub struct Look {
+    pub len: u64,
+    pub stamp: u64,
+    ghost in_range: { stamp < stamps },
+}
+
+/// What the system says of a file, and none where it is not a plain one.
+pub fn look_of(metadata: &Metadata) -> Option<Look>
+    ensures plain { IsSome result ↔ IsFile (file_type metadata.now) }
+    ensures len { IfSome result (λ look. look.len ≡ metadata_len metadata.now) }
+    ensures stamp { IfSome result (λ look. HasStamp look.len look.stamp) }
+{
+    if !metadata.is_file() {
+        return None;
+    }
+    let len = metadata.len();
+    let stamp = stamp_of(len, modified(metadata));
+    Some(Look { len, stamp })
+}
+
+/// When the file was changed, in nanoseconds since the start of 1970, and 0 where the system gives
+/// no time or an earlier one.
+fn modified(metadata: &Metadata) -> u128
+    ensures { result < nanos_end }
+{
+    match metadata.modified() {
+        Ok(time) => match time.duration_since(UNIX_EPOCH) {
+            Ok(since) => since.as_nanos(),
+            Err(_) => 0,
+        },
+        Err(_) => 0,
+    }
+}
+
+/// The stamp of a file of this length in bytes that was changed at this time in nanoseconds.
+fn stamp_of(len: u64, nanos: u128) -> u64
+    requires { nanos < nanos_end }
+    ensures value { result ≡ stamp_of_file len nanos }
+    ensures in_range { result < stamps }
+{
+    ((u128::from(len) + NANO_WEIGHT * nanos) % u128::from(STAMPS)) as u64
+}
+
+/// The generation that a word keeps, 0 where it keeps none.
+pub fn generation_in(word: u64) -> u32
+    ensures { result ≡ word_generation word }
+{
+    (word / STAMPS) as u32
+}
+
+/// The word after a look at a file: as it was where its generation is of this stamp, else of the
+/// next generation. None after the last generation.
+pub fn settled(word: u64, stamp: u64) -> Option<u64>
+    requires { stamp < stamps }
+    ensures value { result ≡ settled_word word stamp }
+{
+    let generation = generation_in(word);
+    if generation != 0 && word % STAMPS == stamp {
+        return Some(word);
+    }
+    if generation == LAST_GENERATION {
+        return None;
+    }
+    Some((u64::from(generation) + 1) * STAMPS + stamp)
+}

@@ -1,0 +1,27 @@
+use Rattle.std.proofs.Common.{◌≡◌, ◌++◌, ◌≤◌, length}
+use Rattle.std.specs.Option.{ForSome}
+use Rattle.std.specs.List.{flat_map}
+use Rattle.tile_layout.specs.FormatOf.{IsFormatOf}
+use Rattle.tile_layout.specs.Blocks.{HoldsBlocks}
+use Rattle.render_run.specs.LevelRow.{values_at}
+use Rattle.render_run.specs.Window.{AreWindows}
+use Rattle.render_run.proofs.reading.Reading.read_pieces.Given as goal
+
+-- the values so far, and those of the texels to come, are those of all texels
+abbrev pub invariant-pieces : goal.invariant-pieces
+invariant-pieces g l = record {
+  keeps : g.B.ByteReader.keeps l.initial.reader l.reader;
+  some : l.k ≤ length l.self.windows.items;
+  level : l.pieces.level ≡ l.initial.pieces.level;
+  told : ForSome (g.B.ByteReader.bytes l.initial.reader) (λ bytes.
+      AreWindows bytes l.initial.self.windows.items
+      → IsFormatOf l.format.big l.initial.pieces.level.shape l.format
+      → HoldsBlocks bytes l.initial.pieces.level
+      → AreWindows bytes l.self.windows.items × (l.self.values.items
+      ++ flat_map (values_at l.format.big bytes l.initial.pieces.level) l.pieces.texels
+      ≡ l.initial.self.values.items
+      ++ flat_map (values_at l.format.big bytes l.initial.pieces.level) l.initial.pieces.texels));
+}
+
+abbrev pub decreases-pieces : goal.decreases-pieces
+decreases-pieces g l = length l.pieces.texels

@@ -1,0 +1,46 @@
+//! What a lock keeps under its word: the value, or none while it is taken.
+ghost use Rattle.std.specs.Prelude.{◌≡◌, Some, None, IfSome};
+
+use crate::rule::TagRule;
+use counted_slot::Fits;
+use std::marker::PhantomData;
+
+/// The value that is at home in the lock, if it is.
+#[derive(Drop)]
+pub(crate) struct Place<T, F: TagRule<T>> {
+    value: Option<T>,
+    rule: PhantomData<F>,
+}
+
+impl<T, F: TagRule<T>> Fits for Place<T, F> {
+    type Tag = u64;
+
+    ghost fits = { λ tag place. IfSome place.value (F.fits tag) };
+}
+
+impl<T, F: TagRule<T>> Place<T, F> {
+    pub(crate) fn of(value: T) -> Place<T, F>
+        ensures { result.value ≡ Some value }
+    {
+        Place {
+            value: Some(value),
+            rule: PhantomData,
+        }
+    }
+
+    pub(crate) fn empty() -> Place<T, F>
+        ensures { result.value ≡ None }
+    {
+        Place {
+            value: None,
+            rule: PhantomData,
+        }
+    }
+
+    pub(crate) fn into_value(self) -> Option<T>
+        ensures { result ≡ self.value }
+    {
+        let Place { value, rule: _ } = self;
+        value
+    }
+}

@@ -1,0 +1,2 @@
+pub mod TapReader
+pub mod TapReaderLaws

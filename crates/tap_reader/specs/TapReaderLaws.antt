@@ -1,0 +1,46 @@
+-- Which laws hold of what reads through a tap leave?
+use Rattle.std.specs.Prelude.{◌≡◌, refl}
+use Rattle.std.proofs.Common.{◌∙◌, ap, arith}
+use Rattle.tex_world.specs.World.{Files}
+use Rattle.tex_world.specs.Tap.{Named}
+use Rattle.tap_reader.specs.TapReader.{Lent, OnlyReads, KeepsTap}
+
+-- without a read all stays
+pub KeepsTap-itself : (lent : Lent) → KeepsTap lent lent
+KeepsTap-itself lent = record {
+  reads = record {
+    handle = refl;
+    faults = omega arith;
+    calls = omega arith;
+    opens = refl;
+    asks = refl;
+    newest = refl;
+  };
+  moves = refl;
+}
+
+-- reads after reads are reads
+OnlyReads-chains : (a b c : Lent) → OnlyReads a b → OnlyReads b c → OnlyReads a c
+OnlyReads-chains a b c p q = record {
+  handle = q.handle ∙ p.handle;
+  faults = omega (arith, p.faults, q.faults);
+  calls = omega (arith, p.calls, q.calls);
+  opens = q.opens ∙ p.opens;
+  asks = q.asks ∙ p.asks;
+  newest = q.newest ∙ p.newest;
+}
+
+pub KeepsTap-chains : (a b c : Lent) → KeepsTap a b → KeepsTap b c → KeepsTap a c
+KeepsTap-chains a b c p q = record {
+  reads = OnlyReads-chains a b c p.reads q.reads;
+  moves = q.moves ∙ p.moves;
+}
+
+-- a handle that names the same has the same length
+pub same_len : (h i : Named) → i ≡ h → i.len ≡ h.len
+same_len h i e = ap (λ (n : Named). n.len) e
+
+-- and reads the same bytes
+pub same_held : (files : Files) (h i : Named) → i ≡ h
+    → files.held i.file i.generation ≡ files.held h.file h.generation
+same_held files h i e = ap (λ (n : Named). files.held n.file n.generation) e

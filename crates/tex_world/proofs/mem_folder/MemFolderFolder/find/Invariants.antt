@@ -1,6 +1,0 @@
-use Rattle.std.proofs.Common.{◌≡◌, ℕ, ◌<◌}
-use Rattle.tex_world.proofs.mem_folder.MemFolderFolder.find.Given as goal
-
--- None of the files so far has the name.
-abbrev pub invariant-loop-n : goal.invariant-loop-n
-invariant-loop-n g l = (k : ℕ) → k < l.n → g.T.FileTable.name_of k ≡ l.name → ⊥

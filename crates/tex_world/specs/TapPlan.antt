@@ -1,0 +1,92 @@
+-- What is left of a tap's share of a plan, and what does it say of a call?
+use Rattle.std.specs.Prelude.{ℕ, ◌+◌, max, Bool, ◌&&◌, ◌||◌, not, nat_lt, nat_le, ◌==◌}
+use Rattle.std.specs.Prelude.{List, [], ◌∷◌, ◌++◌, if◌then◌else◌, Result, Ok, Err}
+use Rattle.std.specs.List.{filter, fold, list_any}
+use Rattle.tex_world.specs.World.{Files, is_held, first_generation}
+use Rattle.tex_world.specs.declared.fault.ReadError.{ReadError}
+use Rattle.tex_world.specs.declared.fault.ReadError.TheVariants.{Failed, Gone}
+use Rattle.tex_world.specs.declared.plan.FailCall.{FailCall}
+use Rattle.tex_world.specs.declared.plan.FailByte.{FailByte}
+use Rattle.tex_world.specs.declared.plan.Newest.{Newest}
+use Rattle.tex_world.specs.declared.plan.Rise.{Rise}
+use Rattle.tex_world.specs.declared.reading.Reading.{Reading}
+
+-- What is left of a tap's share of a plan.
+pub record TapPlan : Type 0 where
+  -- the calls that fail
+  pub fail_calls : List FailCall
+  -- the bytes at which a read is still to fail
+  pub fail_bytes : List FailByte
+  -- the newest generations at first
+  pub newest : List Newest
+  -- the rises that are still to come
+  pub rises : List Rise
+  -- the rises that have come
+  pub risen : List Rise
+
+-- ---- which entries name a call
+
+-- the call of this number, counted from 1, is to fail
+abbrev pub is_failing_call : TapPlan → ℕ → Bool
+is_failing_call plan call = list_any (λ e. e.call == call) plan.fail_calls
+
+-- the bytes that are read include that at a place of a file
+abbrev pub covers : Reading → ℕ → ℕ → Bool
+covers read file at = (file == read.file) && (nat_le read.at at && nat_lt at read.end)
+
+-- the read is to fail at this entry's byte
+abbrev pub is_failing_byte : Reading → FailByte → Bool
+is_failing_byte read e = covers read e.file e.at
+
+-- the read, which is the call of this number, is to fail by its number or at a byte
+abbrev pub is_failing_read : TapPlan → ℕ → Reading → Bool
+is_failing_read plan call read =
+    is_failing_call plan call || list_any (is_failing_byte read) plan.fail_bytes
+
+-- This entry's generation is held and newer than the read's, and its byte is read.
+abbrev pub is_rising : Files → Reading → Rise → Bool
+is_rising files read e =
+    is_held files e.file e.to && (nat_lt read.generation e.to && covers read e.file e.at)
+
+-- ---- what a call gives
+
+-- what a read answers that meets these rises alone: one is met as it says, several fail
+abbrev pub met : List Rise → Result (Unit {0}) ReadError
+met [] = Ok tt
+met (e ∷ []) = Err (Gone e.to)
+met (e ∷ f ∷ es) = Err Failed
+
+-- The answer to a read after so many calls: it fails where an entry says so, or several entries
+-- name it, and one rise alone it meets.
+abbrev pub planned_read : Files → TapPlan → ℕ → Reading → Result (Unit {0}) ReadError
+planned_read files plan calls read =
+    if is_failing_read plan (calls + 1) read then Err Failed
+    else met (filter (is_rising files read) plan.rises)
+
+-- What is left after a read: the entries that name it are spent, and its rises have come.
+abbrev pub after_read : Files → Reading → TapPlan → TapPlan
+after_read files read plan = record {
+  fail_calls = plan.fail_calls;
+  fail_bytes = filter (λ e. not (is_failing_byte read e)) plan.fail_bytes;
+  newest = plan.newest;
+  rises = filter (λ e. not (is_rising files read e)) plan.rises;
+  risen = plan.risen ++ filter (is_rising files read) plan.rises;
+}
+
+-- the generation of the first entry that names a file and a generation that is held, and else the
+-- first generation
+abbrev pub newest_at_first : Files → List Newest → ℕ → ℕ
+newest_at_first files [] file = first_generation
+newest_at_first files (e ∷ entries) file =
+    if (e.file == file) && is_held files file e.generation
+    then e.generation else newest_at_first files entries file
+
+-- a generation of a file after a rise has come
+abbrev pub raised : Files → ℕ → ℕ → Rise → ℕ
+raised files file generation e =
+    if (e.file == file) && is_held files file e.to then max generation e.to else generation
+
+-- the tap's newest generation of a file: that at first, raised by all rises that have come
+abbrev pub newest_of : Files → TapPlan → ℕ → ℕ
+newest_of files plan file =
+    fold (raised files file) (newest_at_first files plan.newest file) plan.risen

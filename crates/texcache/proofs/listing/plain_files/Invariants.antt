@@ -1,6 +1,0 @@
-use Rattle.std.proofs.Common.{◌≤◌, length}
-use Rattle.tex_world.specs.World.{most_files}
-use Rattle.texcache.proofs.listing.plain_files.Given as goal
-
-abbrev pub invariant-loop-entry : goal.invariant-loop-entry
-invariant-loop-entry g l = length l.files.items ≤ most_files

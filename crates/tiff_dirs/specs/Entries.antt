@@ -1,0 +1,99 @@
+-- What is kept of the entries of a directory?
+use Rattle.std.specs.Prelude.{◌≡◌, ℕ, ◌+◌, ◌*◌, ◌<◌, ◌≤◌, ◌==◌, ◌&&◌, ◌||◌, nat_le, nat_lt}
+use Rattle.std.specs.Prelude.{Bool, List, length, slice_index_or, Option, Some, None, ⊤, true}
+use Rattle.std.specs.Prelude.{if◌then◌else◌}
+use Rattle.std.specs.Option.{option_or}
+use Rattle.std.specs.List.{list_any}
+use Rattle.tiff_dirs.specs.declared.form.Form.{Form}
+use Rattle.tiff_dirs.specs.declared.place.Place.{Place}
+use Rattle.tiff_dirs.specs.declared.tag.TheConstants.{TAGS}
+use Rattle.tiff_dirs.specs.declared.entry.Entry.{Entry}
+use Rattle.tiff_dirs.specs.declared.directory.Directory.{Directory}
+use Rattle.tiff_dirs.specs.Bytes.{number_at}
+use Rattle.tiff_dirs.specs.Form.{value_field_at}
+use Rattle.tiff_dirs.specs.Directory.{lies_inside, next_place}
+use Rattle.tiff_dirs.specs.Field.{short_type, long_type, type_of, count_of, type_size}
+use Rattle.tiff_dirs.specs.Field.{values_place, first_entry, field_place}
+use Rattle.tiff_dirs.specs.Reader.{IsPartAt}
+
+-- ---- an entry
+
+-- an entry as it is kept is the one at a place of a file of its form
+pub record IsEntry (bytes : List ℕ) (place : ℕ) (entry : Entry) : Type 0 where
+  pub kind : entry.kind ≡ type_of entry.form bytes place
+  pub count : entry.count ≡ count_of entry.form bytes place
+  pub start : entry.start ≡ values_place entry.form bytes place
+  pub inner : IsPartAt bytes (place + value_field_at entry.form) entry.inner
+
+-- SHORT and LONG are read
+abbrev pub is_read : ℕ → Bool
+is_read kind = (kind == short_type) || (kind == long_type)
+
+-- its values are of a type that is read, there is one at least,
+-- and they lie in a file of that length
+abbrev pub is_shaped : ℕ → Entry → Bool
+is_shaped file entry =
+    is_read entry.kind
+    && (nat_lt 0 entry.count && nat_le (entry.start + entry.count * type_size entry.kind) file)
+
+-- value k among the bytes of its values
+abbrev pub part_value : Entry → List ℕ → ℕ → ℕ
+part_value entry part k =
+    number_at entry.form.big (type_size entry.kind) part (type_size entry.kind * k)
+
+-- the bytes are those of these values
+abbrev pub AreValues : Entry → List ℕ → (ℕ → ℕ) → Type 0
+AreValues entry part value =
+    (k : ℕ) → type_size entry.kind * k + type_size entry.kind ≤ length part
+    → part_value entry part k ≡ value k
+
+-- ---- the entries that are found
+
+-- the tags that are read
+abbrev pub tags : List ℕ
+tags = TAGS
+
+-- how many they are
+abbrev pub tag_count : ℕ
+tag_count = 13
+
+-- the tag is one of them
+abbrev pub is_known : ℕ → Bool
+is_known tag = list_any (λ t. tag == t) tags
+
+-- an entry of a file of this form is kept where there is one
+abbrev pub IsKept : Form → List ℕ → Option Entry → Option ℕ → Type 0
+IsKept form bytes None None = ⊤
+IsKept form bytes (Some entry) (Some place) = (entry.form ≡ form) × IsEntry bytes place entry
+IsKept form bytes None (Some place) = ⊥
+IsKept form bytes (Some entry) None = ⊥
+
+-- of the first n entries behind a place, the first of each tag is kept at its tag's place
+abbrev pub Covers : Form → List ℕ → ℕ → ℕ → List (Option Entry) → Type 0
+Covers form bytes first n entries =
+    (t : ℕ) → t < tag_count → IsKept form bytes (slice_index_or entries t None)
+    (first_entry form (slice_index_or tags t 0) bytes first n)
+
+-- the same of all entries of the directory at a place
+abbrev pub HasEntries : Form → List ℕ → ℕ → List (Option Entry) → Type 0
+HasEntries form bytes at entries =
+    (t : ℕ) → t < tag_count → IsKept form bytes (slice_index_or entries t None)
+    (field_place form bytes at (slice_index_or tags t 0))
+
+-- what is kept at a tag's place after one more entry
+abbrev pub noted : ℕ → Entry → ℕ → Option Entry → Option Entry
+noted tag entry t old = if tag == slice_index_or tags t 0 then option_or old (Some entry) else old
+
+-- ---- the directory
+
+-- the place is that of the offset of the next one in the directory at a place
+pub record IsLinkAt (form : Form) (bytes : List ℕ) (at : ℕ) (link : Place) : Type 0 where
+  pub same : link.form ≡ form
+  pub inside : lies_inside form bytes at ≡ true
+  pub next : link.at ≡ next_place form bytes at
+
+-- what is kept of the directory at a place before its fields are read
+pub record IsDirectoryAt (form : Form) (bytes : List ℕ) (at : ℕ) (directory : Directory) : Type 0
+  where
+    pub link : IsLinkAt form bytes at directory.next
+    pub entries : HasEntries form bytes at directory.found.entries

@@ -1,0 +1,48 @@
+-- In which form does a file stand: the order of its bytes, and how wide its parts are?
+-- (TIFF 6.0, section 2, "Image File Header" and "Image File Directory")
+-- The sizes are words of the form, so that a form with wider offsets changes them here alone.
+use Rattle.std.specs.Prelude.{ℕ, ◌-◌, ◌+◌, List}
+use Rattle.tiff_dirs.specs.declared.form.Form.{Form}
+use Rattle.tiff_dirs.specs.Bytes.{number_at, is_big}
+
+-- the form of a file with these bytes
+abbrev pub form_of : List ℕ → Form
+form_of bytes = record { big = is_big bytes }
+
+-- the bytes of the header
+abbrev pub header_bytes : Form → ℕ
+header_bytes form = 8
+
+-- the bytes of a directory's count of entries
+abbrev pub count_bytes : Form → ℕ
+count_bytes form = 2
+
+-- the bytes of an entry
+abbrev pub entry_bytes : Form → ℕ
+entry_bytes form = 12
+
+-- the bytes of an offset, and of an entry's count of values
+abbrev pub offset_bytes : Form → ℕ
+offset_bytes form = 4
+
+-- the bytes of an entry's tag, and those of its type
+abbrev pub tag_bytes : ℕ
+tag_bytes = 2
+
+abbrev pub type_bytes : ℕ
+type_bytes = 2
+
+-- where in an entry its count of values stands, and behind it its values or their offset
+abbrev pub values_count_at : ℕ
+values_count_at = tag_bytes + type_bytes
+
+abbrev pub value_field_at : Form → ℕ
+value_field_at form = values_count_at + offset_bytes form
+
+-- the number that the bytes of an offset spell
+abbrev pub offset_at : Form → List ℕ → ℕ → ℕ
+offset_at form bytes at = number_at form.big (offset_bytes form) bytes at
+
+-- the place of the first directory: the last bytes of the header say it
+abbrev pub first_place : Form → List ℕ → ℕ
+first_place form bytes = offset_at form bytes (header_bytes form - offset_bytes form)

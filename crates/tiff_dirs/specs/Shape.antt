@@ -1,0 +1,8 @@
+-- What does the shape of a level that was read show?
+use Rattle.tiff_dirs.specs.declared.shape.LevelShape.{LevelShape as ReadShape}
+use Rattle.tiff_dirs.specs.Block.{LevelShape, shape_of}
+
+-- its fields as plain data
+abbrev pub seen_shape : ReadShape → LevelShape
+seen_shape shape = shape_of shape.width shape.height shape.channels shape.depth shape.white
+    shape.tile shape.rows_per_strip

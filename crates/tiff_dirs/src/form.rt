@@ -1,0 +1,91 @@
+//! The form of a file, and its numbers among bytes.
+
+ghost use Rattle.std.specs.Prelude.{◌≡◌, ◌+◌, ◌≤◌, length};
+ghost use Rattle.tiff_dirs.specs.Bytes.{number_at};
+ghost use Rattle.tiff_dirs.specs.Form.{header_bytes, count_bytes, entry_bytes, offset_bytes};
+ghost use Rattle.tiff_dirs.specs.Form.{offset_at};
+
+use byteorder::{BigEndian, ByteOrder, LittleEndian};
+
+/// The bytes of the header.
+pub const HEADER_BYTES: usize = 8;
+
+/// The bytes of a directory's count of entries.
+pub const COUNT_BYTES: usize = 2;
+
+/// The bytes of an entry.
+pub const ENTRY_BYTES: usize = 12;
+
+/// The bytes of an offset, and of an entry's count of values.
+pub const OFFSET_BYTES: usize = 4;
+
+/// The form of a file: the order of its bytes.
+#[derive(Clone, Copy, Debug, PartialEq, Eq)]
+pub struct Form {
+    /// Numbers stand highest byte first (`MM`).
+    pub big: bool,
+}
+
+impl Form {
+    /// The bytes of the header.
+    pub fn header_bytes(self) -> u64
+        ensures value { result ≡ header_bytes self }
+    {
+        HEADER_BYTES as u64
+    }
+
+    /// The bytes of a directory's count of entries.
+    pub fn count_bytes(self) -> u64
+        ensures value { result ≡ count_bytes self }
+    {
+        COUNT_BYTES as u64
+    }
+
+    /// The bytes of an entry.
+    pub fn entry_bytes(self) -> u64
+        ensures value { result ≡ entry_bytes self }
+    {
+        ENTRY_BYTES as u64
+    }
+
+    /// The bytes of an offset.
+    pub fn offset_bytes(self) -> u64
+        ensures value { result ≡ offset_bytes self }
+    {
+        OFFSET_BYTES as u64
+    }
+
+    /// The number in the two bytes from a place on.
+    pub fn short_at(self, bytes: &[u8], at: usize) -> u16
+        requires { at + 2 ≤ length bytes.now }
+        ensures value { result ≡ number_at self.big 2 bytes.now at }
+    {
+        let from = &bytes[at..];
+        if self.big {
+            BigEndian::read_u16(from)
+        } else {
+            LittleEndian::read_u16(from)
+        }
+    }
+
+    /// The number in the four bytes from a place on.
+    pub fn long_at(self, bytes: &[u8], at: usize) -> u32
+        requires { at + 4 ≤ length bytes.now }
+        ensures value { result ≡ number_at self.big 4 bytes.now at }
+    {
+        let from = &bytes[at..];
+        if self.big {
+            BigEndian::read_u32(from)
+        } else {
+            LittleEndian::read_u32(from)
+        }
+    }
+
+    /// The offset in the bytes from a place on.
+    pub fn offset_at(self, bytes: &[u8], at: usize) -> u64
+        requires { at + offset_bytes self ≤ length bytes.now }
+        ensures value { result ≡ offset_at self bytes.now at }
+    {
+        u64::from(self.long_at(bytes, at))
+    }
+}

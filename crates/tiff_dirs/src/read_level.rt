@@ -1,0 +1,47 @@
+//! A level as it was read.
+
+ghost use Rattle.std.specs.Prelude.{◌≡◌, length};
+ghost use Rattle.tiff_dirs.specs.Block.{blocks_of};
+ghost use Rattle.tiff_dirs.specs.Shape.{seen_shape};
+
+use crate::dir::Dir;
+use crate::fault::TiffFault;
+use crate::place::Place;
+use crate::shape::LevelShape;
+
+/// A level of which no block was tested yet.
+#[derive(Drop)]
+pub struct ReadLevel {
+    pub shape: LevelShape,
+    pub offsets: Vec<u64>,
+    /// The place of its directory's offset of the next one.
+    pub next: Place,
+    ghost count_in: { length offsets.items ≡ blocks_of (seen_shape shape) },
+}
+
+impl ReadLevel {
+    ghost use Rattle.std.specs.Prelude.{◌<◌, ◌≤◌, ◌^◌};
+    ghost use Rattle.tiff_dirs.specs.ReadLevel.{seen_level, blocks_fault};
+    ghost use Rattle.tiff_dirs.specs.Shown.{shown};
+    ghost use Rattle.tiff_dirs.specs.Calls.{Tests};
+
+    /// The directory of the level of that number, where its strips and tiles lie in a file of that
+    /// length.
+    pub fn tested(self, number: u32, file: u64) -> Result<Dir, TiffFault>
+        ensures { Tests (blocks_fault self.next.form file number (seen_level self))
+            (λ dir. shown dir ≡ seen_level self) result }
+    {
+        let ReadLevel {
+            shape,
+            offsets,
+            next,
+        } = self;
+        if let Some(index) = shape.first_outside(next.form, &offsets, file) {
+            return Err(TiffFault::DataOutside {
+                level: number,
+                index,
+            });
+        }
+        Ok(shape.dir(offsets))
+    }
+}

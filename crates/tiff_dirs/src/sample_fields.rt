@@ -1,0 +1,234 @@
+//! The fields that have a value for each sample of a pixel.
+
+ghost use Rattle.std.specs.Prelude.{◌≡◌, ℕ, ◌+◌, ◌*◌, ◌^◌, ◌<◌, ◌≤◌, List, length, IsTrue, OnOk};
+ghost use Rattle.std.specs.Prelude.{take, find, not};
+ghost use Rattle.std.specs.Option.{ForSome, option_map};
+ghost use Rattle.tiff_dirs.specs.declared.form.Form.{Form};
+ghost use Rattle.tiff_dirs.specs.declared.fault.TiffFault.TheVariants.{Unsupported};
+ghost use Rattle.tiff_dirs.specs.Field.{type_size, entry_value, default_of};
+ghost use Rattle.tiff_dirs.specs.Dirs.{Leaves};
+ghost use Rattle.tiff_dirs.specs.Facts.{IsDepth};
+ghost use Rattle.tiff_dirs.specs.Fault.{bits_fault, format_fault};
+ghost use Rattle.tiff_dirs.specs.Entries.{IsEntry, HasEntries, is_shaped, is_read, is_known};
+ghost use Rattle.tiff_dirs.specs.Entries.{part_value};
+ghost use Rattle.tiff_dirs.specs.Values.{is_allowed, IsFirstOther, first_other};
+ghost use Rattle.tiff_dirs.specs.Numbers.{AreNumbersAt};
+ghost use Rattle.tiff_dirs.specs.Calls.{Finds, Reads, OfEntries};
+
+use crate::entry::Entry;
+use crate::fault::DirsError;
+use crate::found::Found;
+use crate::numbers::{Numbers, unsupported};
+use crate::offsets::MAX_VALUES;
+use crate::reader::ByteReader;
+use crate::shape::BYTE_BITS;
+use crate::tag::{BITS_PER_SAMPLE, SAMPLE_FORMAT, default_value};
+use std::alloc::Global;
+
+/// The bits of a sample that takes two.
+const SHORT_BITS: u32 = 16;
+
+/// SampleFormat of the samples that are read.
+const UNSIGNED: u32 = 1;
+
+const UNDEFINED: u32 = 4;
+
+/// A field that has a value for each sample of a pixel, and the two numbers that it may be.
+#[derive(Clone, Copy)]
+pub struct SampleField {
+    pub tag: u16,
+    pub one: u32,
+    pub other: u32,
+}
+
+/// Some values of an entry: so many, from one of them on.
+#[derive(Clone, Copy)]
+struct Stretch {
+    from: u32,
+    count: u32,
+}
+
+impl SampleField {
+    /// The field may have that value.
+    fn allows(&self, value: u32) -> bool
+        ensures { result ≡ is_allowed self.now value }
+    {
+        value == self.one || value == self.other
+    }
+
+    /// The first of so many values among bytes that it may not have.
+    fn other_among(&self, entry: &Entry, part: &[u8], count: usize) -> Option<u32>
+        requires kind { IsTrue (is_read entry.now.kind) }
+        requires room { type_size entry.now.kind * count ≤ length part.now }
+        ensures { IsFirstOther (is_allowed self.now) (part_value entry.now part.now) count result }
+    {
+        for k in 0..count {
+            let value = entry.value_in(part, k);
+            if !self.allows(value) {
+                return Some(value);
+            }
+        }
+        None
+    }
+
+    /// The first value of a stretch of an entry that it may not have.
+    fn other_in_stretch<B: ByteReader>(
+        &self,
+        b: &mut B,
+        entry: &Entry,
+        buffer: &mut [u8],
+        stretch: Stretch,
+    ) -> Result<Option<u32>, DirsError<B::Error>>
+        requires low { B.size b.old < 2 ^ 64 }
+        requires shape { IsTrue (is_shaped (B.size b.old) entry.now) }
+        requires within { stretch.from + stretch.count ≤ entry.now.count }
+        requires room { type_size entry.now.kind * stretch.count ≤ length buffer.old }
+        ensures told { ForSome (B.bytes b.old) (λ bytes. (place : ℕ)
+            → IsEntry bytes place entry.now → Reads (IsFirstOther (is_allowed self.now)
+            (λ k. entry_value entry.now.form bytes place (stretch.from + k)) stretch.count)
+            result) }
+        ensures reader { Leaves B.keeps B.refuses b.old b.new result }
+    {
+        let count = stretch.count as usize;
+        let part = &mut buffer[..count * entry.value_size() as usize];
+        entry.read_part(b, stretch.from, part)?;
+        Ok(self.other_among(entry, part, count))
+    }
+
+    /// The first of the first values of an entry that it may not have.
+    fn other_of_entry<B: ByteReader>(
+        &self,
+        alloc: Global,
+        b: &mut B,
+        entry: &Entry,
+        count: u32,
+    ) -> Result<Option<u32>, DirsError<B::Error>>
+        requires low { B.size b.old < 2 ^ 64 }
+        requires shape { IsTrue (is_shaped (B.size b.old) entry.now) }
+        requires within { count ≤ entry.now.count }
+        ensures told { ForSome (B.bytes b.old) (λ bytes. (place : ℕ)
+            → IsEntry bytes place entry.now → Reads (IsFirstOther (is_allowed self.now)
+            (entry_value entry.now.form bytes place) count) result) }
+        ensures reader { Leaves B.keeps B.refuses b.old b.new result }
+    {
+        let most = count.min(MAX_VALUES as u32);
+        let mut buffer = vec![in alloc; 0u8; entry.value_size() as usize * most as usize]?;
+        let mut done = 0;
+        'blocks: while done < count {
+            let more = (count - done).min(most);
+            let stretch = Stretch {
+                from: done,
+                count: more,
+            };
+            if let Some(value) = self.other_in_stretch(b, entry, &mut buffer, stretch)? {
+                return Ok(Some(value));
+            }
+            done += more;
+        }
+        Ok(None)
+    }
+
+    /// The default of the field, where it may not have it and a pixel has samples.
+    fn other_default(&self, samples: u32) -> Option<u32>
+        ensures { result
+            ≡ find (λ v. not (is_allowed self.now v)) (take samples (default_of self.now.tag)) }
+    {
+        match default_value(self.tag) {
+            Some(value) if samples != 0 && !self.allows(value) => Some(value),
+            _ => None,
+        }
+    }
+
+    /// The first of the first values of the field, as many as a pixel has samples, that it may not
+    /// have.
+    fn first_other<B: ByteReader>(
+        &self,
+        alloc: Global,
+        b: &mut B,
+        found: &Found,
+        samples: u32,
+    ) -> Result<Option<u32>, DirsError<B::Error>>
+        requires known { IsTrue (is_known self.now.tag) }
+        ensures told { ForSome (B.bytes b.old) (λ bytes.
+            OfEntries found.now.entries bytes (λ form at.
+            Reads (λ value. value ≡ first_other form bytes at self.now samples) result)) }
+        ensures reader { Leaves B.keeps B.refuses b.old b.new result }
+    {
+        match found.entry(self.tag) {
+            None => Ok(self.other_default(samples)),
+            Some(entry) => {
+                if entry.has_shape(b.len()) {
+                    self.other_of_entry(alloc, b, &entry, samples.min(entry.count))
+                } else {
+                    Ok(None)
+                }
+            }
+        }
+    }
+
+    /// Tests that the field has a value that it may have for each sample.
+    fn test<B: ByteReader>(
+        &self,
+        alloc: Global,
+        b: &mut B,
+        found: &Found,
+        samples: u32,
+    ) -> Result<(), DirsError<B::Error>>
+        requires known { IsTrue (is_known self.now.tag) }
+        ensures told { ForSome (B.bytes b.old) (λ bytes.
+            OfEntries found.now.entries bytes (λ form at. Finds
+            (option_map (Unsupported self.now.tag) (first_other form bytes at self.now samples))
+            (λ _. Unit {0}) result)) }
+        ensures reader { Leaves B.keeps B.refuses b.old b.new result }
+    {
+        match self.first_other(alloc, b, found, samples)? {
+            None => Ok(()),
+            Some(value) => Err(DirsError::Fault(unsupported(self.tag, value))),
+        }
+    }
+}
+
+/// Tests that each sample has the bits of the first, 8 or 16.
+pub fn test_bits<B: ByteReader>(
+    alloc: Global,
+    b: &mut B,
+    found: &Found,
+    numbers: &Numbers,
+) -> Result<(), DirsError<B::Error>>
+    ensures told { ForSome (B.bytes b.old) (λ bytes. (form : Form) (at : ℕ)
+        → HasEntries form bytes at found.now.entries → AreNumbersAt form bytes at numbers.now
+        → Finds (bits_fault form bytes at) (λ _. Unit {0}) result) }
+    ensures depth { OnOk result (IsDepth numbers.now.bits) }
+    ensures reader { Leaves B.keeps B.refuses b.old b.new result }
+{
+    let bits = numbers.bits;
+    if bits != BYTE_BITS && bits != SHORT_BITS {
+        return Err(DirsError::Fault(unsupported(BITS_PER_SAMPLE, bits)));
+    }
+    let field = SampleField {
+        tag: BITS_PER_SAMPLE,
+        one: bits,
+        other: bits,
+    };
+    field.test(alloc, b, found, numbers.samples)
+}
+
+/// Tests that each sample is unsigned.
+pub fn test_formats<B: ByteReader>(
+    alloc: Global,
+    b: &mut B,
+    found: &Found,
+    numbers: &Numbers,
+) -> Result<(), DirsError<B::Error>>
+    ensures told { ForSome (B.bytes b.old) (λ bytes. (form : Form) (at : ℕ)
+        → HasEntries form bytes at found.now.entries → AreNumbersAt form bytes at numbers.now
+        → Finds (format_fault form bytes at) (λ _. Unit {0}) result) }
+    ensures reader { Leaves B.keeps B.refuses b.old b.new result }
+{
+    let field = SampleField {
+        tag: SAMPLE_FORMAT,
+        one: UNSIGNED,
+        other: UNDEFINED,
+    };
+    field.test(alloc, b, found, numbers.samples)
+}

@@ -1,0 +1,146 @@
+//! How a level lies in a file, but for the offsets of its blocks.
+
+ghost use Rattle.std.specs.Prelude.{◌≡◌, ◌≤◌};
+ghost use Rattle.tiff_dirs.specs.Block.{shape_of, pieces_over};
+ghost use Rattle.tiff_dirs.specs.Facts.{IsLevelShape, IsSide};
+
+use crate::dir::Dir;
+use crate::form::Form;
+use crate::tag::{STRIP_OFFSETS, TILE_OFFSETS};
+
+/// The numbers of a level that say where its samples stand in its strips or tiles.
+#[derive(Clone, Copy)]
+pub struct LevelShape {
+    pub width: u32,
+    pub height: u32,
+    pub channels: u32,
+    /// Bits of a sample, 8 or 16.
+    pub depth: u32,
+    /// WhiteIsZero.
+    pub white: bool,
+    /// Width and height of a tile, if it is tiled.
+    pub tile: Option<(u32, u32)>,
+    /// 2^32 - 1 where it is tiled.
+    pub rows_per_strip: u32,
+    ghost shape_in: { IsLevelShape
+        (shape_of width height channels depth white tile rows_per_strip) },
+}
+
+/// The bits of a sample that takes one byte.
+pub const BYTE_BITS: u32 = 8;
+
+impl LevelShape {
+    ghost use Rattle.std.specs.Prelude.{ℕ, ◌*◌, ◌<◌, length};
+    ghost use Rattle.tiff_dirs.specs.Block.{blocks_of, sample_bytes, texel_bytes, block_bytes};
+    ghost use Rattle.tiff_dirs.specs.Block.{block_texels_by, level_with};
+    ghost use Rattle.tiff_dirs.specs.Facts.{HasOffsets};
+    ghost use Rattle.tiff_dirs.specs.Fault.{max_side, max_channels};
+    ghost use Rattle.tiff_dirs.specs.Shape.{seen_shape};
+    ghost use Rattle.tiff_dirs.specs.Shown.{shown};
+    ghost use Rattle.tiff_dirs.specs.Numbers.{tag_of_offsets};
+    ghost use Rattle.tiff_dirs.specs.ReadLevel.{lies_within, first_outside};
+
+    /// The number of strips or tiles.
+    pub fn blocks(&self) -> u64
+        ensures count { result ≡ blocks_of (seen_shape self.now) }
+        ensures some { 1 ≤ result }
+    {
+        match self.tile {
+            None => pieces(self.height, self.rows_per_strip),
+            Some((width, height)) => pieces(self.width, width) * pieces(self.height, height),
+        }
+    }
+
+    /// The tag of the field that holds the offsets of its blocks.
+    pub fn offsets_tag(&self) -> u16
+        ensures { result ≡ tag_of_offsets self.now.tile }
+    {
+        match self.tile {
+            None => STRIP_OFFSETS,
+            Some(_) => TILE_OFFSETS,
+        }
+    }
+
+    /// The bytes of a texel.
+    fn texel_bytes(&self) -> u64
+        ensures value { result ≡ texel_bytes (seen_shape self.now) }
+        ensures few { result ≤ max_channels * 2 }
+    {
+        let sample = if self.depth == BYTE_BITS { 1 } else { 2 };
+        u64::from(self.channels) * sample
+    }
+
+    /// How many texels strip or tile i has: the last strip may have fewer rows, a tile is padded.
+    fn block_texels(&self, i: u32) -> u64
+        ensures value { result ≡ block_texels_by (seen_shape self.now) self.now.tile i }
+        ensures few { result ≤ max_side * max_side }
+    {
+        match self.tile {
+            None => {
+                let rows = u64::from(self.rows_per_strip);
+                let left = u64::from(self.height).saturating_sub(rows * u64::from(i));
+                rows.min(left) * u64::from(self.width)
+            }
+            Some((width, height)) => u64::from(width) * u64::from(height),
+        }
+    }
+
+    /// The bytes of strip or tile i.
+    fn block_bytes(&self, i: u32) -> u64
+        ensures { result ≡ block_bytes (seen_shape self.now) i }
+    {
+        self.block_texels(i) * self.texel_bytes()
+    }
+
+    /// Block i lies in a file of that length, behind the header.
+    fn has_within(&self, form: Form, offsets: &[u64], i: u32, file: u64) -> bool
+        requires { i < length offsets.now }
+        ensures { result ≡ lies_within form file (level_with (seen_shape self.now) offsets.now) i }
+    {
+        let size = self.block_bytes(i);
+        let offset = offsets[i as usize];
+        form.header_bytes() <= offset && size <= file && offset <= file - size
+    }
+
+    /// The first strip or tile that does not lie in a file of that length, behind the header.
+    pub fn first_outside(&self, form: Form, offsets: &[u64], file: u64) -> Option<u32>
+        requires { length offsets.now ≡ blocks_of (seen_shape self.now) }
+        ensures { result ≡ first_outside form file (level_with (seen_shape self.now) offsets.now) }
+    {
+        for i in 0..offsets.len() as u32 {
+            if !self.has_within(form, offsets, i, file) {
+                return Some(i);
+            }
+        }
+        None
+    }
+
+    /// The directory of the level with these offsets.
+    pub fn dir(&self, offsets: Vec<u64>) -> Dir
+        requires { HasOffsets (level_with (seen_shape self.now) offsets.items) }
+        ensures { shown result ≡ level_with (seen_shape self.now) offsets.items }
+    {
+        Dir {
+            width: self.width,
+            height: self.height,
+            channels: self.channels,
+            depth: self.depth,
+            white: self.white,
+            tile: self.tile,
+            rows_per_strip: self.rows_per_strip,
+            offsets,
+        }
+    }
+}
+
+/// As many as it takes to cover a side by pieces of that length.
+fn pieces(side: u32, piece: u32) -> u64
+    requires side { IsSide side }
+    requires piece { 1 ≤ piece }
+    ensures count { result ≡ pieces_over side piece }
+    ensures some { 1 ≤ result }
+    ensures few { result ≤ side }
+{
+    let piece = u64::from(piece);
+    (u64::from(side) + piece - 1) / piece
+}

@@ -1,0 +1,74 @@
+//! The form of a file, and how wide its parts are.
+
+ghost use Rattle.std.specs.Prelude.{◌≡◌, ◌<◌, ◌^◌};
+ghost use Rattle.tiff_dirs.specs.Form as spec;
+
+use crate::numbers::{is_big, number_at};
+use tiff_dirs::Form;
+
+/// The bytes of an entry's tag.
+pub const TAG_BYTES: u32 = 2;
+
+/// The bytes of an entry's type.
+pub const TYPE_BYTES: u32 = 2;
+
+/// Where in an entry its count of values stands.
+pub const VALUES_COUNT_AT: u32 = TAG_BYTES + TYPE_BYTES;
+
+/// The form of a file with these bytes.
+pub fn form_of(bytes: &[u8]) -> Form
+    ensures value { result ≡ spec.form_of bytes.now }
+{
+    Form { big: is_big(bytes) }
+}
+
+/// The bytes of the header.
+pub fn header_bytes(form: Form) -> u32
+    ensures { result ≡ spec.header_bytes form }
+{
+    8
+}
+
+/// The bytes of a directory's count of entries.
+pub fn count_bytes(form: Form) -> u32
+    ensures { result ≡ spec.count_bytes form }
+{
+    2
+}
+
+/// The bytes of an entry.
+pub fn entry_bytes(form: Form) -> u32
+    ensures { result ≡ spec.entry_bytes form }
+{
+    12
+}
+
+/// The bytes of an offset, and of an entry's count of values.
+pub fn offset_bytes(form: Form) -> u32
+    ensures { result ≡ spec.offset_bytes form }
+{
+    4
+}
+
+/// Where in an entry its values or their offset stand.
+pub fn value_field_at(form: Form) -> u32
+    ensures { result ≡ spec.value_field_at form }
+{
+    VALUES_COUNT_AT + offset_bytes(form)
+}
+
+/// The number that the bytes of an offset spell.
+pub fn offset_at(form: Form, bytes: &[u8], at: u128) -> u32
+    requires { at < 2 ^ 120 }
+    ensures { result ≡ spec.offset_at form bytes.now at }
+{
+    number_at(form.big, offset_bytes(form), bytes, at)
+}
+
+/// The place of the first directory.
+pub fn first_place(form: Form, bytes: &[u8]) -> u32
+    ensures { result ≡ spec.first_place form bytes.now }
+{
+    let at = header_bytes(form) - offset_bytes(form);
+    offset_at(form, bytes, u128::from(at))
+}

@@ -1,0 +1,11 @@
+-- How are the samples of a level stored?
+use Rattle.std.specs.Prelude.{◌≡◌, Bool, if◌then◌else◌}
+use Rattle.tiff_dirs.specs.Block.{LevelShape}
+use Rattle.tile_layout.specs.declared.texel_format.TexelFormat.{TexelFormat}
+
+-- the format is that of a level of this shape, in a file of this byte order
+pub record IsFormatOf (big : Bool) (shape : LevelShape) (format : TexelFormat) : Type 0 where
+  pub depth : format.depth ≡ shape.depth
+  pub order : format.big ≡ big
+  pub channels : format.channels ≡ shape.channels
+  pub invert : format.invert ≡ (if shape.white then shape.channels else 0)

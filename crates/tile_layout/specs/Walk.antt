@@ -1,0 +1,29 @@
+-- What do the functions of this crate say of the fields of a walk?
+use Rattle.std.specs.Prelude.{ℕ, zero, suc, ◌+◌, ◌-◌, ◌<◌, ◌≤◌, List, [], ◌++◌}
+use Rattle.std.specs.List.{range_with_len, flat_map}
+use Rattle.tiff_dirs.specs.Block.{LevelShape, Level}
+use Rattle.tile_layout.specs.declared.rect.Rect.{Rect}
+use Rattle.tile_layout.specs.Pieces.{Walk, LiesOn, row_texels}
+
+-- the texels to come of so many rows from row y on: of that row those from x on, of each later one
+-- those from `left` on, all before `right`
+abbrev pub texels_left : ℕ → ℕ → ℕ → ℕ → ℕ → List (ℕ × ℕ)
+texels_left left right x y zero = []
+texels_left left right x y (suc rows) =
+    row_texels x y (right - x)
+    ++ flat_map (λ j. row_texels left j (right - left)) (range_with_len (y + 1) rows)
+
+-- what is left of a walk over a rectangle, where (x, y) comes next
+abbrev pub walk_at : Level → Rect → ℕ → ℕ → Walk
+walk_at level rect x y = record {
+  level = level;
+  right = rect.x + rect.w;
+  texels = texels_left rect.x (rect.x + rect.w) x y (rect.y + rect.h - y);
+}
+
+-- the rectangle lies on a level of that shape, and the texel to come, if there is one,
+-- is in a column
+pub record IsWalk (shape : LevelShape) (rect : Rect) (x y : ℕ) : Type 0 where
+  pub on : LiesOn shape.width shape.height rect
+  pub row : y ≤ rect.y + rect.h
+  pub next : y < rect.y + rect.h → (rect.x ≤ x) × (x < rect.x + rect.w)

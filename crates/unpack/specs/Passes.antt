@@ -1,0 +1,20 @@
+-- What do the two passes over the samples of a block do?
+use Rattle.std.specs.Prelude.{◌≡◌, ℕ, ◌<◌, ◌≤◌, Bool, List, length, slice_index}
+use Rattle.tiff_dirs.specs.Texel.{greatest_sample, unwhite}
+use Rattle.unpack.specs.Sample.{depth_of, is_white, stored_sample}
+
+-- they are the stored samples of these bytes
+abbrev pub AreStored : Bool → Bool → List ℕ → List ℕ → Type 0
+AreStored wide big bytes samples =
+    (k : ℕ) → k < length samples → slice_index samples k ≡ stored_sample wide big bytes k
+
+-- none is above the greatest of their depth
+abbrev pub AreLow : Bool → List ℕ → Type 0
+AreLow wide samples =
+    (k : ℕ) → k < length samples → slice_index samples k ≤ greatest_sample (depth_of wide)
+
+-- the white rule was applied to each
+abbrev pub AreUnwhite : Bool → ℕ → List ℕ → List ℕ → Type 0
+AreUnwhite wide channels old new =
+    (k : ℕ) → k < length old
+    → slice_index new k ≡ unwhite (is_white channels k) (depth_of wide) (slice_index old k)
