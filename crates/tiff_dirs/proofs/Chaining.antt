@@ -1,6 +1,7 @@
 -- Levels that halve.
 use Rattle.std.proofs.Common.{◌≡◌, ℕ, suc, ◌+◌, ◌<◌, ◌≤◌, true, List, [], ◌∷◌, ◌++◌}
-use Rattle.std.proofs.Common.{eqb, length, get_or, zero, refl, sym, ap, ◌∙◌, arith, inl, inr, ◌-◌, map}
+use Rattle.std.proofs.Common.{eqb, length, get_or, zero, refl, sym, ap, ◌∙◌, arith, inl, inr}
+use Rattle.std.proofs.Common.{◌-◌, map}
 use Rattle.std.proofs.Math.ListN.{get_or-append}
 use Rattle.std.proofs.lemmas.Bool.{and_parts, eqb-true, cases_lt, eq-eqb}
 use Rattle.std.proofs.lemmas.List.{get_or-append_right, length-append, get_or-map, length-map}
@@ -14,7 +15,10 @@ use Rattle.tiff_dirs.specs.Facts.{IsChain}
 use Rattle.tiff_dirs.specs.NextLevel.{is_half_of}
 
 same_samples : (shape : LevelShape) → has_samples_of shape shape ≡ true
-same_samples shape = rw (eq-eqb shape.channels shape.channels refl, eq-eqb shape.depth shape.depth refl) refl
+same_samples shape = rw (
+  eq-eqb shape.channels shape.channels refl,
+  eq-eqb shape.depth shape.depth refl,
+) refl
 
 pub chain_one : (levels : List Level) → length levels ≡ 1 → IsChain levels
 chain_one levels one = record {
@@ -131,6 +135,10 @@ chain_next dirs n first last next chain long few first-is last-is half =
 
 -- ---- the last level that there can be is one texel
 
+-- the number of the last level that there can be
+abbrev pub last_number : ℕ
+last_number = 17
+
 -- the largest side of level k
 side_at : ℕ → ℕ
 side_at zero = max_side
@@ -176,15 +184,15 @@ pub record IsSingle (dir : Dir) : Type 0 where
 
 -- a chain of so many levels ends with one texel
 pub single_last : (dirs : List Dir) (last : Dir) → IsChain (map shown dirs)
-    → length dirs ≡ max_levels → last ≡ get_or dirs 17 last → IsSingle last
+    → length dirs ≡ max_levels → last ≡ get_or dirs last_number last → IsSingle last
 unfolding side_at
 single_last dirs last chain long is =
     let d = shown last in
     let first = get_or dirs 0 last in
     let first-there : get_or (map shown dirs) 0 d ≡ shown first =
     get_or-map shown dirs 0 last d (omega arith) in
-    let last-there : get_or (map shown dirs) 17 d ≡ shown last =
-    get_or-map shown dirs 17 last d (omega arith) ∙ ap shown (sym is) in
+    let last-there : get_or (map shown dirs) last_number d ≡ shown last =
+    get_or-map shown dirs last_number last d (omega arith) ∙ ap shown (sym is) in
     let first-sides : HasSides 0 (shown_shape first) = record {
       low_width = first.shape_in.width.low;
       width = first.shape_in.width.high;
@@ -192,7 +200,7 @@ single_last dirs last chain long is =
       height = first.shape_in.height.high;
     } in
     let all : length (map shown dirs) ≡ 18 = length-map dirs shown ∙ long in
-    let sides = sides_all (map shown dirs) d chain (rw first-there first-sides) 17
+    let sides = sides_all (map shown dirs) d chain (rw first-there first-sides) last_number
     (omega arith) in
-    let there : HasSides 17 (shown_shape last) = rw last-there at sides in
+    let there : HasSides last_number (shown_shape last) = rw last-there at sides in
     record { width = omega arith; height = omega arith }

@@ -21,7 +21,8 @@ or_of_cond false x a c = refl
 first_entry_more : (form : Form) (tag : ℕ) (bytes : List ℕ) (place n : ℕ)
     → first_entry form tag bytes place (suc n)
     ≡ option_or (first_entry form tag bytes place n)
-    (cond (eqb (number_at form.big tag_bytes bytes (place + entry_bytes form * n)) tag) (Some (place + entry_bytes form * n)) None)
+    (cond (eqb (number_at form.big tag_bytes bytes (place + entry_bytes form * n)) tag)
+    (Some (place + entry_bytes form * n)) None)
 unfolding first_entry
 first_entry_more form tag bytes place zero =
     let here : place + 12 * 0 ≡ place = omega arith in
@@ -29,10 +30,12 @@ first_entry_more form tag bytes place zero =
 first_entry_more form tag bytes place (suc n) =
     let there : place + 12 + 12 * n ≡ place + 12 * suc n = omega arith in
     let later = rw there at (first_entry_more form tag bytes (place + 12) n) in
-    ap (λ (f : Option ℕ). cond (eqb (number_at form.big tag_bytes bytes place) tag) (Some place) f) later
+    ap (λ (f : Option ℕ).
+    cond (eqb (number_at form.big tag_bytes bytes place) tag) (Some place) f) later
     ∙ or_of_cond (eqb (number_at form.big tag_bytes bytes place) tag) place
     (first_entry form tag bytes (place + 12) n)
-    (cond (eqb (number_at form.big tag_bytes bytes (place + 12 * suc n)) tag) (Some (place + 12 * suc n)) None)
+    (cond (eqb (number_at form.big tag_bytes bytes (place + 12 * suc n)) tag)
+    (Some (place + 12 * suc n)) None)
 
 kept_more : (form : Form) (bytes : List ℕ) (b : Bool) (old : Option Entry) (entry : Entry)
     (f : Option ℕ) (place : ℕ)
@@ -53,7 +56,8 @@ pub covers_more : (form : Form) (bytes : List ℕ) (first n tag : ℕ) (entry : 
     (old new : List (Option Entry))
     → Covers form bytes first n old
     → ((t : ℕ) → t < tag_count → get_or new t None ≡ noted tag entry t (get_or old t None))
-    → tag ≡ number_at form.big tag_bytes bytes (first + 12 * n) → entry.form ≡ form → IsEntry bytes (first + 12 * n) entry
+    → tag ≡ number_at form.big tag_bytes bytes (first + 12 * n) → entry.form ≡ form
+    → IsEntry bytes (first + 12 * n) entry
     → Covers form bytes first (n + 1) new
 covers_more form bytes first n tag entry old new covers notes tag-is same is t lt =
     let k = kept_more form bytes (eqb tag (get_or tags t 0)) (get_or old t None) entry

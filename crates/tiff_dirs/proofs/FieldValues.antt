@@ -50,7 +50,8 @@ pub entry_values_none : (form : Form) (bytes : List ℕ) (place : ℕ)
 unfolding entry_values
 entry_values_none form bytes place h = rw h refl
 
-pub entry_values_some : (form : Form) (bytes : List ℕ) (place : ℕ) → has_shape form bytes place ≡ true
+pub entry_values_some : (form : Form) (bytes : List ℕ) (place : ℕ)
+    → has_shape form bytes place ≡ true
     → entry_values form bytes place
     ≡ map (entry_value form bytes place) (range_with_len 0 (count_of form bytes place))
 unfolding entry_values

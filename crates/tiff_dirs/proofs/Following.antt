@@ -15,7 +15,7 @@ use Rattle.tiff_dirs.specs.Chain.{AreLevels, AreAll, IsEnd}
 use Rattle.tiff_dirs.specs.Shown.{shown}
 use Rattle.tiff_dirs.proofs.Leading.{more_levels, level_of_all, followed_is, place_more}
 use Rattle.tiff_dirs.proofs.Leading.{all_stored, most_stored}
-use Rattle.tiff_dirs.proofs.Chaining.{IsSingle, single_last, any_default}
+use Rattle.tiff_dirs.proofs.Chaining.{IsSingle, single_last, any_default, last_number}
 use Rattle.tiff_dirs.specs.Facts.{IsChain}
 use Rattle.tiff_dirs.proofs.NextLevel.{last_is_last}
 
@@ -81,20 +81,20 @@ module _ (bytes : List ℕ) where
 
   -- as many as there can be
   no_further_by : (dirs : List Dir) (last : Dir) → AreLevels bytes max_levels (map shown dirs)
-      → length dirs ≡ max_levels → last ≡ get_or dirs 17 last → IsSingle last
+      → length dirs ≡ max_levels → last ≡ get_or dirs last_number last → IsSingle last
       → AreAll bytes (map shown dirs)
   no_further_by dirs last are long is single =
-      let there = dir_is max_levels 17 dirs last are long (omega arith) is in
+      let there = dir_is max_levels last_number dirs last are long (omega arith) is in
       most_stored bytes (map shown dirs) are
-      (followed_is bytes 17 false (are.each 17 (omega arith))
-      (last_is_last (form_of bytes) bytes (level_place bytes 0) (level_place bytes 17)
+      (followed_is bytes last_number false (are.each last_number (omega arith))
+      (last_is_last (form_of bytes) bytes (level_place bytes 0) (level_place bytes last_number)
       (shown last) there single.width single.height))
 
   pub no_further : (dirs : List Dir) → AreLevels bytes max_levels (map shown dirs)
       → length dirs ≡ max_levels → IsChain (map shown dirs) → AreAll bytes (map shown dirs)
   no_further [] are long chain = absurd (omega arith)
   no_further (d ∷ dirs) are long chain =
-      let last = get_or (d ∷ dirs) 17 d in
-      let is : last ≡ get_or (d ∷ dirs) 17 last =
-      any_default (d ∷ dirs) 17 d last (omega (arith, long)) in
+      let last = get_or (d ∷ dirs) last_number d in
+      let is : last ≡ get_or (d ∷ dirs) last_number last =
+      any_default (d ∷ dirs) last_number d last (omega (arith, long)) in
       no_further_by (d ∷ dirs) last are long is (single_last (d ∷ dirs) last chain long is)

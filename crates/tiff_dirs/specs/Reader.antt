@@ -6,9 +6,9 @@ use Rattle.std.specs.Option.{ForSome}
 abbrev pub IsPartAt : List ℕ → ℕ → List ℕ → Type 0
 IsPartAt bytes at part = (k : ℕ) → k < length part → slice_index part k ≡ slice_index bytes (at + k)
 
--- The laws of a reader: what answered reads leave holds of a reader and itself, and chains; no read,
--- answered or refused, changes the length or the bytes; and where the bytes are told, the length is
--- theirs.
+-- The laws of a reader: what answered reads leave holds of a reader and itself, and chains; no
+-- read, answered or refused, changes the length or the bytes; and where the bytes are told, the
+-- length is theirs.
 pub record IsReader {R E : Type 0} (size : R → ℕ) (bytes : R → Option (List ℕ))
     (keeps : R → R → Type 0) (refuses : R → E → R → Type 0) : Type 0 where
   pub itself : (r : R) → keeps r r

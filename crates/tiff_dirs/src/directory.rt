@@ -38,14 +38,14 @@ fn count_of_entries<B: ByteReader>(b: &mut B, place: Place) -> Result<u16, DirsE
 {
     let form = place.form;
     let file = b.len();
-    let head_bytes = form.count_bytes();
-    if place.at < form.header_bytes() || file < head_bytes || file - head_bytes < place.at {
+    let size = form.count_bytes();
+    if place.at < form.header_bytes() || file < size || file - size < place.at {
         return Err(DirsError::Fault(TiffFault::DirOutside));
     }
     let mut head = [0u8; COUNT_BYTES];
     read_at(b, place.at, &mut head)?;
     let count = form.short_at(&head, 0);
-    let left = file - head_bytes - place.at;
+    let left = file - size - place.at;
     if left < form.entry_bytes() * u64::from(count) + form.offset_bytes() {
         return Err(DirsError::Fault(TiffFault::DirOutside));
     }

@@ -86,14 +86,16 @@ impl Found {
     /// The directory has that tag.
     fn has(&self, tag: u16) -> bool
         requires { IsTrue (is_known tag) }
-        ensures { (bytes : List ℕ) → OfEntries self.now.entries bytes (λ form at. result ≡ has_field form bytes at tag) }
+        ensures { (bytes : List ℕ) → OfEntries self.now.entries bytes (λ form at.
+            result ≡ has_field form bytes at tag) }
     {
         self.entry(tag).is_some()
     }
 
     /// The directory is tiled.
     pub fn is_tiled(&self) -> bool
-        ensures { (bytes : List ℕ) → OfEntries self.now.entries bytes (λ form at. result ≡ is_tiled form bytes at) }
+        ensures { (bytes : List ℕ) → OfEntries self.now.entries bytes (λ form at.
+            result ≡ is_tiled form bytes at) }
     {
         self.has(TILE_WIDTH)
     }
@@ -115,8 +117,8 @@ impl Found {
     /// The directory has that tag, and its values can not be read in a file of that length.
     fn is_misshapen(&self, tag: u16, file: u64) -> bool
         requires { IsTrue (is_known tag) }
-        ensures { (bytes : List ℕ) → OfEntries self.now.entries bytes (λ form at. length bytes ≡ file
-            → result ≡ is_misshapen form bytes at tag) }
+        ensures { (bytes : List ℕ) → OfEntries self.now.entries bytes (λ form at.
+            length bytes ≡ file → result ≡ is_misshapen form bytes at tag) }
     {
         match self.entry(tag) {
             Some(entry) => !entry.has_shape(file),
@@ -127,8 +129,8 @@ impl Found {
     /// The first tag of a list whose values can not be read in a file of that length.
     fn first_misshapen(&self, wanted: &[u16], file: u64) -> Option<u16>
         requires { IsTrue (list_all is_known wanted.now) }
-        ensures { (bytes : List ℕ) → OfEntries self.now.entries bytes (λ form at. length bytes ≡ file
-            → result ≡ find (is_misshapen form bytes at) wanted.now) }
+        ensures { (bytes : List ℕ) → OfEntries self.now.entries bytes (λ form at.
+            length bytes ≡ file → result ≡ find (is_misshapen form bytes at) wanted.now) }
     {
         for tag in wanted {
             if self.is_misshapen(*tag, file) {
@@ -158,8 +160,8 @@ impl Found {
 
     /// Tests that the fields that the directory reads can be read in a file of that length.
     fn test_shapes(&self, file: u64) -> Result<(), TiffFault>
-        ensures { (bytes : List ℕ) → OfEntries self.now.entries bytes (λ form at. length bytes ≡ file
-            → Tests (shape_fault form bytes at) (λ _. Unit {0}) result) }
+        ensures { (bytes : List ℕ) → OfEntries self.now.entries bytes (λ form at.
+            length bytes ≡ file → Tests (shape_fault form bytes at) (λ _. Unit {0}) result) }
     {
         let misshapen = if self.is_tiled() {
             self.first_misshapen(&TILED_READ, file)
@@ -177,8 +179,8 @@ impl Found {
     /// Tests that the fields are there that the directory must have, and then that those that it
     /// reads can be read in a file of that length.
     pub fn test_fields(&self, file: u64) -> Result<(), TiffFault>
-        ensures { (bytes : List ℕ) → OfEntries self.now.entries bytes (λ form at. length bytes ≡ file
-            → Tests (entries_fault form bytes at) (λ _. Unit {0}) result) }
+        ensures { (bytes : List ℕ) → OfEntries self.now.entries bytes (λ form at.
+            length bytes ≡ file → Tests (entries_fault form bytes at) (λ _. Unit {0}) result) }
     {
         self.test_required()?;
         self.test_shapes(file)?;

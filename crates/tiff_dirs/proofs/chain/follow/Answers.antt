@@ -153,9 +153,10 @@ loop-last-preserved g c =
           let one = level_place bytes 0 in
           let at = level_place bytes k in
           let now = so.told bytes is levels good end in
-          let told = c.in_ok-next_level.ensures.told bytes (lawful.same_bytes _ _ so.keeps ∙ is) one at
-          (rw now.1.same (dir_is bytes (k + 1) 0 items c.index.result.now now.0 so.long (omega arith)
-          c.index.ensures))
+          let told = c.in_ok-next_level.ensures.told bytes
+          (lawful.same_bytes _ _ so.keeps ∙ is) one at
+          (rw now.1.same (dir_is bytes (k + 1) 0 items c.index.result.now now.0 so.long
+          (omega arith) c.index.ensures))
           (rw now.1.same (dir_is bytes (k + 1) k items c.index-in-loop-last.result.now now.0 so.long
           (omega arith) c.index-in-loop-last.ensures))
           (subst (λ (f : Form). IsLinkAt f bytes at c.loop-last.next) (sym now.1.same) now.1) in

@@ -26,10 +26,9 @@ returns-then-place-header_bytes-clause-told g c = λ bytes is.
     let h = inside_parts c.args.place.form bytes c.args.place.at yes in
     elim c.then-place-header_bytes.branch [
       | goal.then-place-header_bytes-via-then-place-header_bytes w ↦ omega (arith, h.low)
-      | goal.then-place-header_bytes-via-else-place-header_bytes+then-file-head_bytes w ↦
+      | goal.then-place-header_bytes-via-else-place-header_bytes+then-file-size w ↦
           omega (arith, h.high, l)
-      | goal.then-place-header_bytes-via-else-place-header_bytes+else-file-head_bytes+then-file-head_bytes-2
-          w ↦
+      | goal.then-place-header_bytes-via-else-place-header_bytes+else-file-size+then-file-size-2 w ↦
           omega (arith, h.high, l)
     ])
 

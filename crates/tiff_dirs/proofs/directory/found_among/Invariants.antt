@@ -1,12 +1,14 @@
 use Rattle.std.proofs.Common.{◌≡◌, ◌-◌, ◌*◌, ◌≤◌, min, vec_len}
 use Rattle.std.specs.Option.{ForSome}
+use Rattle.tiff_dirs.specs.declared.form.TheConstants.{ENTRY_BYTES}
+use Rattle.tiff_dirs.specs.declared.directory.TheConstants.{MAX_ENTRIES}
 use Rattle.tiff_dirs.specs.Entries.{Covers}
 use Rattle.tiff_dirs.proofs.directory.found_among.Given as goal
 
 abbrev pub invariant-blocks-2 : goal.invariant-blocks-2
 invariant-blocks-2 g l = record {
   within : l.done ≤ l.count;
-  room : vec_len l.buffer ≡ min l.count 5461 * 12;
+  room : vec_len l.buffer ≡ min l.count MAX_ENTRIES * ENTRY_BYTES;
   keeps : g.B.ByteReader.keeps l.fn.b l.b;
   covers : ForSome (g.B.ByteReader.bytes l.fn.b)
       (λ bytes. Covers l.first.form bytes l.first.at l.done l.found.entries);

@@ -1,14 +1,14 @@
 use Rattle.std.proofs.Common.{◌≡◌, ℕ, ◌<◌, get_or, length}
 use Rattle.std.specs.Option.{ForSome}
 use Rattle.tiff_dirs.specs.declared.form.Form.{Form}
-use Rattle.tiff_dirs.specs.declared.tag.TheConstants.{NUMBERS}
+use Rattle.tiff_dirs.specs.declared.tag.TheConstants.{NUMBER_COUNT, NUMBERS}
 use Rattle.tiff_dirs.specs.Field.{field_value}
 use Rattle.tiff_dirs.specs.Entries.{HasEntries}
 use Rattle.tiff_dirs.proofs.fields.first_values.Given as goal
 
 abbrev pub invariant-loop-i : goal.invariant-loop-i
 invariant-loop-i g l = record {
-  long : length l.values ≡ 7;
+  long : length l.values ≡ NUMBER_COUNT;
   keeps : g.B.ByteReader.keeps l.fn.b l.b;
   told : ForSome (g.B.ByteReader.bytes l.fn.b)
       (λ bytes. (form : Form) (at : ℕ) → HasEntries form bytes at l.found.entries → (i : ℕ)

@@ -18,7 +18,8 @@ returns-in_err-test_bits-clause-told g c = λ bytes is form at has.
     let told = c.in_err-test_bits.ensures.told bytes
     (same _ _ c.in_ok-numbers.ensures.reader ∙ is) form at has n in
     rw (p.1, p.2) (finds_err (bits_fault form bytes at) (numbers_fault form bytes at)
-    (λ (x : Unit {0}). Unit {0}) (λ (s : LevelShape). seen_shape s ≡ shape_at form bytes at) c.in_err-test_bits.field-0.0 told
+    (λ (x : Unit {0}). Unit {0}) (λ (s : LevelShape). seen_shape s ≡ shape_at form bytes at)
+    c.in_err-test_bits.field-0.0 told
     (λ fault shown. numbers_are form bytes at c.in_ok-numbers.numbers n ∙ rw shown refl))
 
 pub returns-in_err-test_values-clause-told : goal.returns-in_err-test_values-clause-told
@@ -43,7 +44,8 @@ returns-in_err-test_formats-clause-told g c = λ bytes is form at has.
     let told = c.in_err-test_formats.ensures.told bytes
     (same _ _ c.in_ok-test_bits.ensures.reader ∙ is-2) form at has n in
     rw (p.1, p.2) (finds_err (format_fault form bytes at) (numbers_fault form bytes at)
-    (λ (x : Unit {0}). Unit {0}) (λ (s : LevelShape). seen_shape s ≡ shape_at form bytes at) c.in_err-test_formats.field-0.0 told
+    (λ (x : Unit {0}). Unit {0}) (λ (s : LevelShape). seen_shape s ≡ shape_at form bytes at)
+    c.in_err-test_formats.field-0.0 told
     (λ fault shown. numbers_are form bytes at c.in_ok-numbers.numbers n
     ∙ rw (bits, c.in_ok-test_values.ensures.0, shown) refl))
 
@@ -71,5 +73,6 @@ returns-clause-told g c = λ bytes is form at has.
     let shape = c.in_ok-shape.ensures in (
       numbers_are form bytes at c.in_ok-numbers.numbers n
           ∙ rw (bits, c.in_ok-test_values.ensures.0, formats, shape.0) refl,
-      shape_is_at form bytes at c.in_ok-numbers.numbers (seen_shape c.in_ok-shape.field-0) n shape.1,
+      shape_is_at form bytes at c.in_ok-numbers.numbers (seen_shape c.in_ok-shape.field-0) n
+          shape.1,
     )

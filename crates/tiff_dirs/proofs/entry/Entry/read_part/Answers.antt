@@ -24,7 +24,8 @@ returns-then-is_inner-clause-told g c = λ bytes is place entry. (
       leb-true (c.args.self.now.count * size) 4 inner in
       let fits-there = rw (entry.count, entry.kind) at fits in
       let start-is = entry.start ∙ place_inner c.args.self.now.form bytes place fits-there in
-      let part = part_of_part bytes (place + value_field_at c.args.self.now.form) c.args.self.now.inner skip
+      let part = part_of_part bytes (place + value_field_at c.args.self.now.form)
+      c.args.self.now.inner skip
       (skip + length c.args.part.now - skip) entry.inner in
       value_of_part bytes place c.args.self.now entry c.args.from k _
       (rw (c.copy_from_slice.ensures.after, start-is, ← skip-is) part) long,

@@ -1,0 +1,2 @@
+-- The sizes of the pictures of the tests.
+pub mod Sides

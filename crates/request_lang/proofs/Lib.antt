@@ -1,0 +1,5 @@
+mod DigitLemmas
+mod LineLemmas
+mod TextLemmas
+mod AppendLemmas
+mod ValueLemmas

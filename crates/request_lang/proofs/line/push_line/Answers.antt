@@ -1,0 +1,10 @@
+use Rattle.std.proofs.Common.{ℕ, List, ◌++◌, ap}
+use Rattle.request_lang.specs.Line.{fields}
+use Rattle.request_lang.proofs.AppendLemmas.{pushes_then}
+use Rattle.request_lang.proofs.line.push_line.Goals as goal
+
+pub returns : goal.returns
+returns c =
+    pushes_then _ _ _ _ _ _ _
+    (ap (λ (xs : List ℕ). xs ++ fields c.args.numbers.now) c.as_bytes.ensures.value)
+    c.in_ok-push_text.ensures c.push_numbers.ensures

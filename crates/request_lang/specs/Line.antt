@@ -1,0 +1,104 @@
+-- What is the text of an answer? (docs/REQUESTS.md, "The answer lines")
+use Rattle.std.specs.Prelude.{ℕ, codes, List, [], ◌∷◌, ◌++◌}
+use Rattle.std.specs.List.{flat_map}
+use Rattle.std.specs.Fmt.{decimal}
+use Rattle.tiff_dirs.specs.Code.{code_of}
+use Rattle.tiff_dirs.specs.declared.fault.TiffFault.{TiffFault}
+use Rattle.tiff_dirs.specs.declared.fault.TiffFault.TheVariants.{FieldMissing, FieldShape}
+use Rattle.tiff_dirs.specs.declared.fault.TiffFault.TheVariants.{Unsupported, DataOutside}
+use Rattle.tile_layout.specs.declared.info.Info as layout
+use Rattle.tile_layout.specs.declared.rect.Rect.{Rect}
+use Rattle.tile_layout.specs.declared.shard_count.ShardCount.{ShardCount}
+use Rattle.request_lang.specs.declared.cause.BadList.{BadList}
+use Rattle.request_lang.specs.Field.{space}
+use Rattle.request_lang.specs.Grammar.{line_feed}
+use Rattle.request_lang.specs.declared.answer.Answer.{Answer}
+use Rattle.request_lang.specs.declared.answer.Answer.TheVariants.{Tex, Pixels, Info, Held, Dropped}
+use Rattle.request_lang.specs.declared.answer.Answer.TheVariants.{Invalidated, Renewed}
+use Rattle.request_lang.specs.declared.answer.Answer.TheVariants.{InvalidatedAll, Stat, Synced}
+use Rattle.request_lang.specs.declared.answer.Answer.TheVariants.{NoSuchFile, BadFile, TileTooLarge}
+use Rattle.request_lang.specs.declared.answer.Answer.TheVariants.{NoLevel, Outside, RegionTooLarge}
+use Rattle.request_lang.specs.declared.answer.Answer.TheVariants.{HoldsFull, NothingHeld, Again}
+use Rattle.request_lang.specs.declared.answer.Answer.TheVariants.{ReadFault, NoMemory}
+
+-- ---- numbers
+
+-- a number behind a byte, in decimal without leading zeros
+abbrev pub number_behind : ℕ → ℕ → List ℕ
+number_behind byte n = byte ∷ decimal n
+
+-- numbers, each behind the byte
+abbrev pub numbers_behind : ℕ → List ℕ → List ℕ
+numbers_behind byte ns = flat_map (number_behind byte) ns
+
+-- numbers, each behind a space
+abbrev pub fields : List ℕ → List ℕ
+fields ns = numbers_behind space ns
+
+-- ---- what stands in a line
+
+-- the numbers that a fault carries
+abbrev pub own_numbers : TiffFault → List ℕ
+own_numbers (FieldMissing tag) = tag ∷ []
+own_numbers (FieldShape tag) = tag ∷ []
+own_numbers (Unsupported tag value) = tag ∷ value ∷ []
+own_numbers (DataOutside level index) = level ∷ index ∷ []
+own_numbers _ = []
+
+-- the numbers of a fault: its place in the order of faults, and then its own
+abbrev pub fault_numbers : TiffFault → List ℕ
+fault_numbers fault = code_of fault ∷ own_numbers fault
+
+-- the numbers of what a file is
+abbrev pub info_numbers : layout.Info → List ℕ
+info_numbers i =
+    i.generation ∷ i.width ∷ i.height ∷ i.channels ∷ i.depth ∷ i.stored ∷ i.levels ∷ []
+
+-- the numbers of a rectangle
+abbrev pub rect_numbers : Rect → List ℕ
+rect_numbers rect = rect.x ∷ rect.y ∷ rect.w ∷ rect.h ∷ []
+
+-- the byte between the numbers of a shard
+abbrev pub comma : ℕ
+comma = 44
+
+-- what a shard has: the first number behind a space, the others behind commas
+abbrev pub shard_text : ShardCount → List ℕ
+shard_text shard =
+    fields (shard.tiles ∷ []) ++ numbers_behind comma (shard.pins ∷ shard.loose ∷ shard.share ∷ [])
+
+-- ---- a line
+
+-- The line of an answer, without its line feed.
+unfoldable pub text_of : Answer → List ℕ
+text_of (Tex generation values) = codes "tex" ++ fields (generation ∷ values)
+text_of (Pixels generation channels values) =
+    codes "pixels" ++ fields (generation ∷ channels ∷ values)
+text_of (Info info) = codes "info" ++ fields (info_numbers info)
+text_of (Held generation rect) = codes "held" ++ fields (generation ∷ rect_numbers rect)
+text_of Dropped = codes "dropped"
+text_of (Invalidated generation) = codes "invalidated" ++ fields (generation ∷ [])
+text_of (Renewed generation) = codes "renewed" ++ fields (generation ∷ [])
+text_of InvalidatedAll = codes "invalidated all"
+text_of (Stat shards) = codes "stat" ++ flat_map shard_text shards
+text_of Synced = codes "sync"
+text_of NoSuchFile = codes "no such file"
+text_of (BadFile generation fault) = codes "bad file" ++ fields (generation ∷ fault_numbers fault)
+text_of (TileTooLarge generation) = codes "tile too large" ++ fields (generation ∷ [])
+text_of (NoLevel generation levels) = codes "no level" ++ fields (generation ∷ levels ∷ [])
+text_of (Outside generation) = codes "outside" ++ fields (generation ∷ [])
+text_of RegionTooLarge = codes "region too large"
+text_of HoldsFull = codes "holds full"
+text_of NothingHeld = codes "nothing held"
+text_of (Again from to) = codes "again" ++ fields (from ∷ to ∷ [])
+text_of ReadFault = codes "read fault"
+text_of NoMemory = codes "no memory"
+
+-- The line with its line feed.
+abbrev pub line_of : Answer → List ℕ
+line_of answer = text_of answer ++ line_feed ∷ []
+
+-- The line that says at which line, or 0 for all of the list, and why a list is none, with its line
+-- feed.
+abbrev pub bad_list_line : BadList → List ℕ
+bad_list_line bad = codes "bad list" ++ fields (bad.line ∷ bad.why ∷ []) ++ line_feed ∷ []

@@ -1,0 +1,20 @@
+//! The language of the requests and of their answers: what a list of requests says, and the line of
+//! each answer.
+#![tactic(auto)]
+
+mod answer;
+mod cause;
+mod digits;
+mod field;
+mod form;
+mod line;
+mod list;
+mod number;
+mod request;
+mod values;
+
+pub use answer::{Answer, Shards, Values};
+pub use cause::{BadList, ParseError};
+pub use line::{bad_list_text, line_text};
+pub use list::parse;
+pub use request::{Name, Request};

@@ -1,0 +1,221 @@
+//! The lines of the answers.
+
+ghost use Rattle.std.specs.Prelude.{◌≡◌, ◌≤◌, ◌++◌, ◌∷◌, [], codes, take, length};
+ghost use Rattle.std.specs.Prelude.{OnOk, OnErr, IsOk};
+ghost use Rattle.std.specs.List.{flat_map};
+ghost use Rattle.request_lang.specs.Grammar.{line_feed};
+ghost use Rattle.request_lang.specs.Line as spec;
+ghost use Rattle.request_lang.specs.Appending.{Pushes};
+
+use crate::answer::Answer;
+use crate::cause::BadList;
+use crate::number::{push_numbers, push_text};
+use crate::values::push_values;
+use std::alloc::AllocError;
+use tex_world::NoMemory;
+use tiff_dirs::TiffFault;
+use tile_layout::{Info, ShardCount};
+
+/// Appends a word and numbers, each behind a space.
+#[tactic(auto, using(crate::proofs::AppendLemmas::kept))]
+fn push_line(out: &mut Vec<u8>, word: &str, numbers: &[u64]) -> Result<(), AllocError>
+    ensures { Pushes (word.now ++ spec.fields numbers.now) out.old.items out.new.items result }
+{
+    push_text(out, word.as_bytes())?;
+    push_numbers(out, b' ', numbers)
+}
+
+/// Appends a word, numbers and values, each number and value behind a space.
+#[tactic(auto, using(crate::proofs::AppendLemmas::kept))]
+fn push_values_line(
+    out: &mut Vec<u8>,
+    word: &str,
+    numbers: &[u64],
+    values: &[u16],
+) -> Result<(), AllocError>
+    ensures { Pushes (word.now ++ spec.fields (numbers.now ++ values.now))
+        out.old.items out.new.items result }
+{
+    push_line(out, word, numbers)?;
+    push_values(out, values)
+}
+
+/// Appends what a shard has.
+#[tactic(auto, using(crate::proofs::AppendLemmas::kept))]
+fn push_shard(out: &mut Vec<u8>, shard: &ShardCount) -> Result<(), AllocError>
+    ensures { Pushes (spec.shard_text shard.now) out.old.items out.new.items result }
+{
+    push_numbers(out, b' ', &[u64::from(shard.tiles)])?;
+    push_numbers(
+        out,
+        b',',
+        &[u64::from(shard.pins), shard.loose, shard.share],
+    )
+}
+
+/// Appends what the shards have, in their order.
+#[tactic(auto, using(crate::proofs::AppendLemmas::kept))]
+fn push_shards(out: &mut Vec<u8>, shards: &[ShardCount]) -> Result<(), AllocError>
+    ensures { Pushes (flat_map spec.shard_text shards.now) out.old.items out.new.items result }
+{
+    for shard in shards {
+        push_shard(out, shard)?;
+    }
+    Ok(())
+}
+
+/// Appends a word and what the shards have.
+#[tactic(auto, using(crate::proofs::AppendLemmas::kept))]
+fn push_shards_line(out: &mut Vec<u8>, word: &str, shards: &[ShardCount]) -> Result<(), AllocError>
+    ensures { Pushes (word.now ++ flat_map spec.shard_text shards.now)
+        out.old.items out.new.items result }
+{
+    push_text(out, word.as_bytes())?;
+    push_shards(out, shards)
+}
+
+/// Appends what a file is.
+#[tactic(auto, using(crate::proofs::AppendLemmas::kept))]
+fn push_info(out: &mut Vec<u8>, info: &Info) -> Result<(), AllocError>
+    ensures { Pushes (codes "info" ++ spec.fields (spec.info_numbers info.now))
+        out.old.items out.new.items result }
+{
+    let numbers = [
+        u64::from(info.generation),
+        u64::from(info.width),
+        u64::from(info.height),
+        u64::from(info.channels),
+        u64::from(info.depth),
+        u64::from(info.stored),
+        u64::from(info.levels),
+    ];
+    push_line(out, "info", &numbers)
+}
+
+/// Appends what a fault is: its place in the order of faults, and its own numbers.
+#[tactic(auto, using(crate::proofs::AppendLemmas::kept))]
+fn push_fault(out: &mut Vec<u8>, generation: u32, fault: &TiffFault) -> Result<(), AllocError>
+    ensures { Pushes
+        (codes "bad file" ++ spec.fields (generation ∷ spec.fault_numbers fault.now))
+        out.old.items out.new.items result }
+{
+    let generation = u64::from(generation);
+    let code = u64::from(fault.code());
+    match *fault {
+        TiffFault::FieldMissing { tag } | TiffFault::FieldShape { tag } => {
+            push_line(out, "bad file", &[generation, code, u64::from(tag)])
+        }
+        TiffFault::Unsupported { tag, value } => {
+            push_line(out, "bad file", &[generation, code, u64::from(tag), value])
+        }
+        TiffFault::DataOutside { level, index } => {
+            push_line(
+                out,
+                "bad file",
+                &[generation, code, u64::from(level), u64::from(index)],
+            )
+        }
+        _ => push_line(out, "bad file", &[generation, code]),
+    }
+}
+
+/// Appends the line of an answer without its line feed.
+#[tactic(auto, unfolding(crate::specs::Line::text_of), using(crate::proofs::AppendLemmas::kept))]
+fn push_answer(out: &mut Vec<u8>, answer: &Answer) -> Result<(), AllocError>
+    ensures { Pushes (spec.text_of answer.now) out.old.items out.new.items result }
+{
+    match answer {
+        Answer::Tex { generation, values } => {
+            push_values_line(out, "tex", &[u64::from(*generation)], values.as_slice())
+        }
+        Answer::Pixels {
+            generation,
+            channels,
+            values,
+        } => push_values_line(
+            out,
+            "pixels",
+            &[u64::from(*generation), u64::from(*channels)],
+            values.as_slice(),
+        ),
+        Answer::Info(info) => push_info(out, info),
+        Answer::Held { generation, rect } => push_line(
+            out,
+            "held",
+            &[
+                u64::from(*generation),
+                u64::from(rect.x),
+                u64::from(rect.y),
+                u64::from(rect.w),
+                u64::from(rect.h),
+            ],
+        ),
+        Answer::Dropped => push_line(out, "dropped", &[]),
+        Answer::Invalidated { generation } => {
+            push_line(out, "invalidated", &[u64::from(*generation)])
+        }
+        Answer::Renewed { generation } => push_line(out, "renewed", &[u64::from(*generation)]),
+        Answer::InvalidatedAll => push_line(out, "invalidated all", &[]),
+        Answer::Stat { shards } => push_shards_line(out, "stat", shards.as_slice()),
+        Answer::Synced => push_line(out, "sync", &[]),
+        Answer::NoSuchFile => push_line(out, "no such file", &[]),
+        Answer::BadFile { generation, fault } => push_fault(out, *generation, fault),
+        Answer::TileTooLarge { generation } => {
+            push_line(out, "tile too large", &[u64::from(*generation)])
+        }
+        Answer::NoLevel { generation, levels } => {
+            push_line(
+                out,
+                "no level",
+                &[u64::from(*generation), u64::from(*levels)],
+            )
+        }
+        Answer::Outside { generation } => push_line(out, "outside", &[u64::from(*generation)]),
+        Answer::RegionTooLarge => push_line(out, "region too large", &[]),
+        Answer::HoldsFull => push_line(out, "holds full", &[]),
+        Answer::NothingHeld => push_line(out, "nothing held", &[]),
+        Answer::Again { from, to } => {
+            push_line(out, "again", &[u64::from(*from), u64::from(*to)])
+        }
+        Answer::ReadFault => push_line(out, "read fault", &[]),
+        Answer::NoMemory => push_line(out, "no memory", &[]),
+    }
+}
+
+/// Ends a line: its text was appended behind the first `before` bytes, or not all of it was, and
+/// then it is taken away.
+fn end_line(
+    out: &mut Vec<u8>,
+    before: usize,
+    pushed: Result<(), AllocError>,
+) -> Result<(), NoMemory>
+    requires { before ≤ length out.old.items }
+    ensures ok { OnOk result (IsOk pushed × (out.new.items ≡ out.old.items ++ line_feed ∷ [])) }
+    ensures err { OnErr result (out.new.items ≡ take before out.old.items) }
+{
+    if pushed.is_ok() && out.push(b'\n').is_ok() {
+        return Ok(());
+    }
+    out.truncate(before);
+    Err(NoMemory)
+}
+
+/// Appends the line of an answer, with its line feed.
+pub fn line_text(answer: &Answer, out: &mut Vec<u8>) -> Result<(), NoMemory>
+    ensures ok { OnOk result (out.new.items ≡ out.old.items ++ spec.line_of answer.now) }
+    ensures err { OnErr result (out.new.items ≡ out.old.items) }
+{
+    let before = out.as_slice().len();
+    let pushed = push_answer(out, answer);
+    end_line(out, before, pushed)
+}
+
+/// Appends the line that says why a list is none, with its line feed.
+pub fn bad_list_text(bad: BadList, out: &mut Vec<u8>) -> Result<(), NoMemory>
+    ensures ok { OnOk result (out.new.items ≡ out.old.items ++ spec.bad_list_line bad) }
+    ensures err { OnErr result (out.new.items ≡ out.old.items) }
+{
+    let before = out.as_slice().len();
+    let pushed = push_line(out, "bad list", &[u64::from(bad.line), u64::from(bad.why)]);
+    end_line(out, before, pushed)
+}

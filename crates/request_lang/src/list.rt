@@ -1,0 +1,105 @@
+//! A list of requests: its lines, and what they say.
+
+ghost use Rattle.std.specs.Prelude.{◌≡◌, ◌<◌, length, IfOk, [], ◌∷◌};
+ghost use Rattle.std.specs.Option.{IfNone, IfSome};
+ghost use Rattle.request_lang.specs.Form as form;
+ghost use Rattle.request_lang.specs.Grammar as spec;
+ghost use Rattle.request_lang.specs.Parsing.{Parses, Gives, refused_at};
+
+use crate::cause::{Cause, ParseError, Refusal};
+use crate::form::request_of;
+use crate::request::Request;
+use memchr::memchr;
+use std::alloc::Global;
+
+/// The most bytes that a list has.
+const MAX_LIST_BYTES: usize = 16777216;
+
+/// The most requests that it has.
+const MAX_REQUESTS: usize = 1048576;
+
+/// What stands for all of the list in place of a line.
+const WHOLE_LIST: u32 = 0;
+
+/// The first line of what is left of a list, and what stands behind it.
+#[tactic(auto, using(crate::proofs::LineLemmas::first_line))]
+fn next_line(bytes: &[u8]) -> Option<(&[u8], &[u8])>
+    ensures none { IfNone result (bytes.now ≡ []) }
+    ensures first { IfSome result (λ l. spec.lines_of bytes.now ≡ l.0.now ∷ spec.lines_of l.1.now) }
+    ensures shorter { IfSome result (λ l. length l.1.now < length bytes.now) }
+{
+    if bytes.is_empty() {
+        return None;
+    }
+    match memchr(b'\n', bytes) {
+        Some(at) => Some((&bytes[..at], &bytes[at + 1..])),
+        None => Some((bytes, &[])),
+    }
+}
+
+/// A line without the one carriage return that it may end with.
+#[tactic(auto, unfolding(crate::specs::Grammar::content))]
+fn content(line: &[u8]) -> &[u8]
+    ensures { result.now ≡ spec.content line.now }
+{
+    match line {
+        [front @ .., b'\r'] => front,
+        _ => line,
+    }
+}
+
+/// The line says nothing.
+fn is_passed_over(line: &[u8]) -> bool
+    ensures { result ≡ spec.is_passed_over line.now }
+{
+    line.is_empty() || line[0] == b'#'
+}
+
+/// The request that a line is behind so many requests.
+fn next_request(alloc: Global, count: usize, line: &[u8]) -> Result<Request, Refusal>
+    ensures { Gives result (spec.behind count (form.request_of line.now)) }
+{
+    let request = request_of(alloc, line)?;
+    if count >= MAX_REQUESTS {
+        return Err(Refusal::Bad(Cause::TooManyRequests));
+    }
+    Ok(request)
+}
+
+/// Why there are no requests where the line of this number was refused.
+fn at_line(number: u32, refusal: Refusal) -> ParseError
+    ensures { result ≡ refused_at number refusal }
+{
+    match refusal {
+        Refusal::Bad(cause) => ParseError::Bad {
+            line: number,
+            why: cause.number(),
+        },
+        Refusal::NoMemory => ParseError::NoMemory,
+    }
+}
+
+/// The requests of the list that the bytes are.
+#[tactic(auto, unfolding(crate::specs::Grammar::list_of), using(crate::proofs::LineLemmas::read_so_far))]
+pub fn parse(alloc: Global, bytes: &[u8]) -> Result<Vec<Request>, ParseError>
+    ensures exact { Parses bytes.now result }
+{
+    if bytes.len() > MAX_LIST_BYTES {
+        return Err(at_line(WHOLE_LIST, Refusal::Bad(Cause::TooLong)));
+    }
+    let mut requests = Vec::new(alloc);
+    let mut rest = bytes;
+    let mut number = 1;
+    'lines: while let Some((line, after)) = next_line(rest) {
+        let line = content(line);
+        if !is_passed_over(line) {
+            match next_request(alloc, requests.len(), line) {
+                Ok(request) => requests.push(request)?,
+                Err(refusal) => return Err(at_line(number, refusal)),
+            }
+        }
+        rest = after;
+        number += 1;
+    }
+    Ok(requests)
+}

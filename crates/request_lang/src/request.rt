@@ -1,0 +1,81 @@
+//! A request, as a line of the list says it.
+
+ghost use Rattle.std.specs.Prelude.{◌≡◌, List, ℕ};
+ghost use Rattle.std.specs.String.{string_bytes};
+
+use std::marker::Model;
+use texel_filter::TexRequest;
+
+/// The name of a file. Contracts see it as its bytes, which are UTF-8.
+#[derive(Drop)]
+pub struct Name {
+    text: String,
+}
+
+impl Model for Name {
+    ghost Value = { List ℕ };
+
+    ghost view = { λ name. string_bytes name.text };
+}
+
+impl Name {
+    /// The name of this text.
+    pub fn new(text: String) -> Name
+        ensures { result ≡ string_bytes text }
+    {
+        Name { text }
+    }
+
+    /// Its text.
+    pub fn as_str(&self) -> &str
+        ensures { result.now ≡ self.now }
+    {
+        self.text.as_str()
+    }
+}
+
+/// What a line of the list asks for.
+#[derive(Drop)]
+pub enum Request {
+    /// A lookup in a file.
+    Tex {
+        request: TexRequest,
+        name: Name,
+    },
+    /// A region of a level: w by h texels from (x, y) on.
+    Pixels {
+        level: u32,
+        x: i32,
+        y: i32,
+        w: u32,
+        h: u32,
+        name: Name,
+    },
+    /// The size and the levels of a file.
+    Info {
+        name: Name,
+    },
+    /// The worker holds the cell of the texel (x, y) of a level.
+    Hold {
+        level: u32,
+        x: u32,
+        y: u32,
+        name: Name,
+    },
+    /// The worker lets go of its oldest hold.
+    Drop,
+    /// What is kept of a file is looked at again, if the file has changed.
+    Invalidate {
+        name: Name,
+    },
+    /// What is kept of a file is read again.
+    Renew {
+        name: Name,
+    },
+    /// `Invalidate` for every file that was opened.
+    InvalidateAll,
+    /// What each shard of the cache has.
+    Stat,
+    /// The end of the round.
+    Sync,
+}

@@ -1,0 +1,61 @@
+-- From a level's texels to the value of a lookup.
+use Rattle.std.proofs.Common.{◌≡◌, ℕ, ◌+◌, ◌-◌, ◌*◌, ◌/◌, ◌^◌, ◌≢◌, Option, List}
+use Rattle.std.proofs.Common.{sym, ◌∙◌, arith}
+use Rattle.std.proofs.Math.Nat.{mul-div-mul_left}
+use Rattle.std.proofs.lemmas.Bool.{ne_eqb}
+use Rattle.texel_filter.specs.declared.request.TexRequest.{TexRequest}
+use Rattle.texel_filter.specs.declared.coordinate.LevelPair.{LevelPair}
+use Rattle.texel_filter.specs.Image.{Sizes, Image, AreValues}
+use Rattle.texel_filter.specs.Coordinate.{index_at, level_before, share_of_next_level}
+use Rattle.texel_filter.specs.WrapMode.{wrapped_index}
+use Rattle.texel_filter.specs.Filter.{value_in, closest_in_level, blended, bilinear_in_level}
+use Rattle.texel_filter.specs.Filter.{trilinear_value}
+use Rattle.texel_filter.specs.Visits.{square_visits, trilinear_visits}
+use Rattle.texel_filter.specs.Inside.{between_value, between_visits}
+
+pub closest_at : (image : Image) (r : TexRequest) (l : ℕ) (x y : Option ℕ) (c : ℕ)
+    → x ≡ wrapped_index r.swrap (index_at r.s (image.sizes.width l)) (image.sizes.width l)
+    → y ≡ wrapped_index r.twrap (index_at r.t (image.sizes.height l)) (image.sizes.height l)
+    → value_in (image.values l) x y c ≡ closest_in_level image r l c
+unfolding closest_in_level
+closest_at image r l x y c across down = rw (across, down)
+
+-- where the next level has no share
+pub blended_alone : (first next : ℕ) → blended 0 first next ≡ (first + 2 ^ 31) / 2 ^ 32
+blended_alone first next =
+    let e : (65536 - 0) * first + 0 * next + 2 ^ 47 ≡ 65536 * (first + 2 ^ 31) = omega arith in
+    rw e (mul-div-mul_left {m = 65536} (first + 2 ^ 31) (2 ^ 32) (omega arith))
+
+pub trilinear_alone : (image : Image) (r : TexRequest) (l q c : ℕ)
+    → l ≡ level_before r.lod image.sizes.levels
+    → q ≡ share_of_next_level r.lod image.sizes.levels → q ≡ 0
+    → bilinear_in_level image r l c ≡ trilinear_value image r c
+unfolding trilinear_value
+trilinear_alone image r l q c first share none =
+    rw (← share, none, ← first) (sym (blended_alone _ _))
+
+pub trilinear_between : (image : Image) (r : TexRequest) (levels : LevelPair) (c : ℕ)
+    → levels.first ≡ level_before r.lod image.sizes.levels
+    → levels.share ≡ share_of_next_level r.lod image.sizes.levels
+    → between_value image r levels c ≡ trilinear_value image r c
+unfolding trilinear_value
+trilinear_between image r levels c first share = rw (← share, ← first)
+
+pub visits_alone : (sizes : Sizes) (r : TexRequest) (l q : ℕ) → l ≡ level_before r.lod sizes.levels
+    → q ≡ share_of_next_level r.lod sizes.levels → q ≡ 0
+    → square_visits sizes r l ≡ trilinear_visits sizes r
+unfolding trilinear_visits
+visits_alone sizes r l q first share none = rw (← share, none, ← first)
+
+pub visits_between : (sizes : Sizes) (r : TexRequest) (levels : LevelPair)
+    → levels.first ≡ level_before r.lod sizes.levels
+    → levels.share ≡ share_of_next_level r.lod sizes.levels → levels.share ≢ 0
+    → between_visits sizes r levels ≡ trilinear_visits sizes r
+unfolding trilinear_visits
+visits_between sizes r levels first share some =
+    rw (← share, ne_eqb levels.share 0 some, ← first)
+
+-- values that are equal to others
+pub values_like : (v w : ℕ → ℕ) (listed : List ℕ) → ((c : ℕ) → v c ≡ w c) → AreValues v listed
+    → AreValues w listed
+values_like v w listed same are c below = are c below ∙ same c

@@ -1,0 +1,5 @@
+pub mod WrapLemmas
+pub mod CallLemmas
+pub mod SumLemmas
+pub mod RoundLemmas
+pub mod FilterLemmas

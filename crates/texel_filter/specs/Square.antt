@@ -1,0 +1,27 @@
+-- Which texels has a square, and which values are its corners'?
+use Rattle.std.specs.Prelude.{ℕ, List, [], ◌∷◌}
+use Rattle.texel_filter.specs.declared.square.Square.{Square}
+use Rattle.texel_filter.specs.declared.square.Corners.{Corners}
+use Rattle.texel_filter.specs.Image.{Sizes, Values, Texel, texel_of, IsInside, AreFirst}
+
+-- the four texels, the upper row first
+abbrev pub texels_of : Square → List Texel
+texels_of square =
+    texel_of square.level square.left square.top ∷ texel_of square.level square.right square.top
+    ∷ texel_of square.level square.left square.bottom
+    ∷ texel_of square.level square.right square.bottom ∷ []
+
+-- all four are of the image
+pub record HasSquare (sizes : Sizes) (square : Square) : Type 0 where
+  pub left_top : IsInside sizes (texel_of square.level square.left square.top)
+  pub right_bottom : IsInside sizes (texel_of square.level square.right square.bottom)
+
+-- the corners have the values of the square in the first so many channels
+pub record AreCorners (values : Values) (square : Square) (channels : ℕ) (corners : Corners)
+    : Type 0 where
+  pub left_top : AreFirst channels (values square.level square.left square.top) corners.left_top
+  pub right_top : AreFirst channels (values square.level square.right square.top) corners.right_top
+  pub left_bottom : AreFirst channels (values square.level square.left square.bottom)
+      corners.left_bottom
+  pub right_bottom : AreFirst channels (values square.level square.right square.bottom)
+      corners.right_bottom

@@ -1,0 +1,157 @@
+ghost use Rattle.std.specs.Prelude.{◌≡◌, ℕ, ◌+◌, ◌^◌, ◌<◌, ◌≤◌, pos, neg_ℤ, ◌≤ℤ◌, IfSome};
+ghost use Rattle.texel_filter.specs.Image.{IsSide};
+ghost use Rattle.texel_filter.specs.Coordinate.{unit, rounded_down, left_over};
+ghost use Rattle.texel_filter.specs.Coordinate.{from_first_edge, index_at, index_before};
+ghost use Rattle.texel_filter.specs.Coordinate.{share_of_next, nearest_level};
+ghost use Rattle.texel_filter.specs.WrapMode.{wrapped_index};
+ghost use Rattle.texel_filter.specs.Inside.{IsPairAt, AreLevelsAt};
+
+use crate::index::wrap;
+use crate::mode::Wrap;
+
+/// 1 in a coordinate, an LOD and a share.
+pub const UNIT: u64 = 65536;
+
+const HALF_UNIT: u64 = 32768;
+
+// The same beside signed numbers, and the bits below the unit.
+const SIGNED_UNIT: i64 = 65536;
+
+const SIGNED_HALF_UNIT: i64 = 32768;
+
+const UNIT_BITS: u32 = 16;
+
+// A number of 1/65536: whole units, and what is left.
+#[derive(Drop)]
+struct Parts {
+    whole: i64,
+    rest: u32,
+}
+
+#[inline(always)]
+fn parts_of(z: i64) -> Parts
+    requires low { neg_ℤ (pos (2 ^ 62)) ≤ℤ z }
+    requires high { z ≤ℤ pos (2 ^ 62) }
+    ensures whole { result.whole ≡ rounded_down z unit }
+    ensures high { result.whole ≤ℤ pos (2 ^ 62) }
+    ensures rest { result.rest ≡ left_over z unit }
+{
+    let whole = z >> UNIT_BITS;
+    Parts {
+        whole,
+        rest: (z - whole * SIGNED_UNIT) as u32,
+    }
+}
+
+// How far a coordinate lies from the edge of the first of so many texels, in 1/65536 of a texel.
+#[inline(always)]
+fn from_edge(coordinate: i32, side: u32) -> i64
+    requires { IsSide side }
+    ensures value { result ≡ from_first_edge coordinate side }
+    ensures low { neg_ℤ (pos (2 ^ 48)) ≤ℤ result }
+    ensures high { result ≤ℤ pos (2 ^ 48) }
+{
+    i64::from(coordinate) * i64::from(side)
+}
+
+/// The column or row in which a coordinate lies, of so many, if the wrap leaves one.
+#[inline(always)]
+pub fn place_of(mode: Wrap, coordinate: i32, side: u32) -> Option<u32>
+    requires { IsSide side }
+    ensures value { result ≡ wrapped_index mode (index_at coordinate side) side }
+    ensures inside { IfSome result (λ x. x < side) }
+{
+    wrap(mode, parts_of(from_edge(coordinate, side)).whole, side)
+}
+
+/// Where a coordinate lies between the middles of texels.
+#[derive(Drop)]
+pub struct Between {
+    /// The index of the texel before it.
+    pub before: i64,
+    /// How far it lies from there to the next, in 1/65536.
+    pub share: u32,
+}
+
+impl Between {
+    #[inline(always)]
+    pub fn at(coordinate: i32, side: u32) -> Between
+        requires { IsSide side }
+        ensures before { result.before ≡ index_before coordinate side }
+        ensures share { result.share ≡ share_of_next coordinate side }
+        ensures high { result.before ≤ℤ pos (2 ^ 62) }
+    {
+        let parts = parts_of(from_edge(coordinate, side) - SIGNED_HALF_UNIT);
+        Between {
+            before: parts.whole,
+            share: parts.rest,
+        }
+    }
+
+    /// The texel before, where it and the next one are two of so many.
+    #[inline(always)]
+    pub fn first_inside(&self, side: u32) -> Option<u32>
+        requires { self.now.before ≤ℤ pos (2 ^ 62) }
+        ensures before { IfSome result (λ x. self.now.before ≡ pos x) }
+        ensures inside { IfSome result (λ x. x + 1 < side) }
+    {
+        if self.before >= 0 && self.before + 1 < i64::from(side) {
+            Some(self.before as u32)
+        } else {
+            None
+        }
+    }
+}
+
+/// The two columns or rows between whose middles a coordinate lies.
+#[derive(Drop)]
+pub struct Pair {
+    pub first: Option<u32>,
+    pub second: Option<u32>,
+}
+
+impl Pair {
+    pub fn at(mode: Wrap, coordinate: i32, side: u32) -> Pair
+        requires { IsSide side }
+        ensures { IsPairAt mode coordinate side result }
+    {
+        let before = Between::at(coordinate, side).before;
+        Pair {
+            first: wrap(mode, before, side),
+            second: wrap(mode, before + 1, side),
+        }
+    }
+}
+
+/// The level nearest to an LOD, of so many levels.
+#[inline(always)]
+pub fn level_near(lod: u32, levels: u32) -> u32
+    requires { 1 ≤ levels }
+    ensures value { result ≡ nearest_level lod levels }
+    ensures inside { result < levels }
+{
+    let nearest = (u64::from(lod) + HALF_UNIT) / UNIT;
+    (nearest as u32).min(levels - 1)
+}
+
+/// The two levels between which an LOD lies: the first, and the one after it.
+#[derive(Drop)]
+pub struct LevelPair {
+    pub first: u32,
+    /// How far the LOD lies from the first to the second, in 1/65536.
+    pub share: u32,
+}
+
+impl LevelPair {
+    #[inline(always)]
+    pub fn at(lod: u32, levels: u32) -> LevelPair
+        requires { 1 ≤ levels }
+        ensures { AreLevelsAt lod levels result }
+    {
+        let within = u64::from(lod).min(UNIT * u64::from(levels - 1));
+        LevelPair {
+            first: (within / UNIT) as u32,
+            share: (within % UNIT) as u32,
+        }
+    }
+}

@@ -1,0 +1,21 @@
+//! Lookups of filtered values in an image with levels: the wraps, and the filters closest, bilinear
+//! and trilinear.
+#![tactic(auto)]
+
+mod coordinate;
+mod fetch;
+mod filters;
+mod index;
+mod mode;
+mod request;
+mod round;
+mod square;
+mod weighted;
+mod weights;
+
+pub use fetch::{Fetch, MAX_CHANNELS};
+pub use filters::{bilinear, closest, lookup, trilinear};
+pub use index::wrap;
+pub use mode::Wrap;
+pub use request::{Filter, TexRequest};
+pub use square::{Corners, Square};

@@ -1,0 +1,31 @@
+use crate::mode::Wrap;
+
+/// How the value of a lookup follows from the texels round it.
+#[derive(Clone, Copy, Debug, PartialEq, Eq)]
+pub enum Filter {
+    /// The texel in which the coordinates lie, in the level nearest to the LOD.
+    Closest,
+    /// The weighted mean of four texels, in the level nearest to the LOD.
+    Bilinear,
+    /// The weighted mean of four texels of each of the two levels about the LOD.
+    Trilinear,
+}
+
+/// A lookup.
+#[derive(Clone, Copy, Debug, PartialEq, Eq)]
+pub struct TexRequest {
+    /// The coordinate across, from left to right, in 1/65536 of the width.
+    pub s: i32,
+    /// The coordinate down, from top to bottom, in 1/65536 of the height.
+    pub t: i32,
+    /// The level asked for, in 1/65536. Level 0 is the largest.
+    pub lod: u32,
+    /// The wrap across.
+    pub swrap: Wrap,
+    /// The wrap down.
+    pub twrap: Wrap,
+    /// The filter.
+    pub filter: Filter,
+    /// The number of channels, from channel 0 on: 1 to 8.
+    pub nch: u32,
+}

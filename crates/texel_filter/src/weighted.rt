@@ -1,0 +1,149 @@
+ghost use Rattle.std.specs.Prelude.{◌≡◌, ℕ, ◌+◌, ◌/◌, ◌^◌, ◌<◌, ◌≤◌, length, OnOk, IfOk};
+ghost use Rattle.std.specs.Option.{ForSome};
+ghost use Rattle.texel_filter.specs.Image.{IsChannelCount, AreValues, max_channels, image_of};
+ghost use Rattle.texel_filter.specs.Coordinate.{unit};
+ghost use Rattle.texel_filter.specs.Filter.{blended};
+ghost use Rattle.texel_filter.specs.Visits.{square_visits};
+ghost use Rattle.texel_filter.specs.Calls.{LeftBy};
+ghost use Rattle.texel_filter.specs.Inside.{sum_of, max_sum, HasSums};
+
+use crate::coordinate::{Between, UNIT};
+use crate::fetch::Fetch;
+use crate::request::TexRequest;
+use crate::round::fetch_wrapped;
+use crate::square::{Corners, Square};
+use crate::weights::Weights;
+
+// A weighted sum has 32 bits below the value, one over two levels 48; and a half of a value.
+const SUM_BITS: u32 = 32;
+
+const HALF_SUM: u64 = 1 << 31;
+
+const BLEND_BITS: u32 = 48;
+
+const HALF_BLEND: u64 = 1 << 47;
+
+/// The values of four texels, with their weights.
+#[derive(Drop)]
+pub struct Weighted {
+    corners: Corners,
+    weights: Weights,
+}
+
+impl Weighted {
+    /// The value 0 four times.
+    #[inline(always)]
+    pub fn black() -> Weighted {
+        Weighted {
+            corners: Corners::BLACK,
+            weights: Weights::of(0, 0),
+        }
+    }
+
+    /// Takes the four texels round the coordinates of a lookup, in a level.
+    #[inline(always)]
+    pub fn fetch<F: Fetch>(
+        &mut self,
+        f: &mut F,
+        r: &TexRequest,
+        level: u32,
+        channels: usize,
+    ) -> Result<(), F::Error>
+        requires level { level < (F.sizes f.old).levels }
+        requires channels { IsChannelCount channels }
+        ensures told { ForSome (F.values f.old) (λ v. OnOk result
+            (HasSums (image_of (F.sizes f.old) v) r.now level channels self.new)) }
+        ensures left { LeftBy F.leaves F.refuses f.old
+            (square_visits (F.sizes f.old) r.now level) f.new result }
+    {
+        let (width, height) = f.size(level);
+        let across = Between::at(r.s, width);
+        let down = Between::at(r.t, height);
+        self.weights = Weights::of(across.share, down.share);
+        // Mostly all four are there, and no wrap is asked.
+        match (across.first_inside(width), down.first_inside(height)) {
+            (Some(left), Some(top)) => {
+                let square = Square {
+                    level,
+                    left,
+                    right: left + 1,
+                    top,
+                    bottom: top + 1,
+                };
+                f.square(&square, channels, &mut self.corners)
+            }
+            _ => fetch_wrapped(f, r, level, channels, &mut self.corners),
+        }
+    }
+
+    // The weighted sum of a channel.
+    #[inline(always)]
+    fn sum(&self, c: usize) -> u64
+        requires { c < max_channels }
+        ensures value { result ≡ sum_of self.now c }
+        ensures high { result ≤ max_sum }
+    {
+        self.weights.left_top * u64::from(self.corners.left_top[c])
+            + self.weights.right_top * u64::from(self.corners.right_top[c])
+            + self.weights.left_bottom * u64::from(self.corners.left_bottom[c])
+            + self.weights.right_bottom * u64::from(self.corners.right_bottom[c])
+    }
+
+    /// Writes the weighted means of the first channels, rounded to the nearest.
+    #[inline(always)]
+    pub fn mean(&self, out: &mut [u16])
+        requires { IsChannelCount (length out.old) }
+        ensures { AreValues (λ c. (sum_of self.now c + 2 ^ 31) / 2 ^ 32) out.new }
+    {
+        match out.len() {
+            1 => self.mean_upto(1, out),
+            2 => self.mean_upto(2, out),
+            3 => self.mean_upto(3, out),
+            4 => self.mean_upto(4, out),
+            n => self.mean_upto(n, out),
+        }
+    }
+
+    // Of n channels, inlined where the compiler knows how many.
+    #[inline(always)]
+    fn mean_upto(&self, n: usize, out: &mut [u16])
+        requires channels { IsChannelCount n }
+        requires count { length out.old ≡ n }
+        ensures { AreValues (λ c. (sum_of self.now c + 2 ^ 31) / 2 ^ 32) out.new }
+    {
+        for c in 0..n {
+            out[c] = ((self.sum(c) + HALF_SUM) >> SUM_BITS) as u16;
+        }
+    }
+
+    /// The same over two levels, by the share of the next one.
+    #[inline(always)]
+    pub fn blend(&self, next: &Weighted, share: u32, out: &mut [u16])
+        requires share { share < unit }
+        requires channels { IsChannelCount (length out.old) }
+        ensures { AreValues (λ c. blended share (sum_of self.now c) (sum_of next.now c)) out.new }
+    {
+        match out.len() {
+            1 => self.blend_upto(next, share, 1, out),
+            2 => self.blend_upto(next, share, 2, out),
+            3 => self.blend_upto(next, share, 3, out),
+            4 => self.blend_upto(next, share, 4, out),
+            n => self.blend_upto(next, share, n, out),
+        }
+    }
+
+    // The same of n channels, inlined where the compiler knows how many.
+    #[inline(always)]
+    fn blend_upto(&self, next: &Weighted, share: u32, n: usize, out: &mut [u16])
+        requires share { share < unit }
+        requires channels { IsChannelCount n }
+        requires count { length out.old ≡ n }
+        ensures { AreValues (λ c. blended share (sum_of self.now c) (sum_of next.now c)) out.new }
+    {
+        let (of_next, of_first) = (u64::from(share), UNIT - u64::from(share));
+        for c in 0..n {
+            let sum = of_first * self.sum(c) + of_next * next.sum(c);
+            out[c] = ((sum + HALF_BLEND) >> BLEND_BITS) as u16;
+        }
+    }
+}
