@@ -1,12 +1,19 @@
 #!/usr/bin/env bash
-# Compares what the program prints for the demo's requests with expected.txt, which is made from the
-# formulas of the pictures. Some lines are refusals, so the program ends with status 1.
+# Compares what the program prints for the demo's lists with what the formulas of the pictures say:
+# requests.txt, of which some lines are refusals, so the program ends with status 1, and
+# bad_requests.txt, which is no list, so it ends with status 3.
 set -u
 here=$(cd "$(dirname "${BASH_SOURCE[0]}")" && pwd) || exit 1
 got=$(mktemp) || exit 1
 trap 'rm -f "$got"' EXIT
-"$here/../texcache" "$here" < "$here/requests.txt" > "$got"
-status=$?
-diff "$here/expected.txt" "$got" || exit 1
-[ "$status" = 1 ] || { echo "demo: the program ended with status $status, and not with 1"; exit 1; }
-echo "demo: each of the $(wc -l < "$here/requests.txt") requests has the answer of expected.txt"
+
+compare() {
+  "$here/../texcache" "$here" < "$here/$1" > "$got"
+  status=$?
+  diff "$here/$2" "$got" || exit 1
+  [ "$status" = "$3" ] || { echo "demo: $1 ended with status $status, and not with $3"; exit 1; }
+}
+
+compare requests.txt expected.txt 1
+compare bad_requests.txt bad_expected.txt 3
+echo "demo: each of the $(wc -l < "$here/expected.txt") requests has the answer of expected.txt"

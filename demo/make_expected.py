@@ -3,6 +3,7 @@
 the program: `python3 make_expected.py > expected.txt` in this folder."""
 from pathlib import Path
 
+from lookups import Lookup
 from make_pictures import CUT, PICTURES, WHITE_IS_ZERO
 
 # each file is in the first generation that the program meets
@@ -34,18 +35,42 @@ def last_block(page):
     return (page.height + page.rows - 1) // page.rows - 1
 
 
-def answer(request):
-    word, *numbers, name = request.split(" ", 6)
-    assert word == "pixels", request
+def value(page, x, y, channel):
+    """The value of one channel, 0 where the picture lacks it."""
+    found = values(page, x, y)
+    return found[channel] if channel < len(found) else 0
+
+
+def on_pages(word, numbers, pages):
+    """What a request is answered on the pages of a picture."""
+    if word == "info":
+        page = pages[0]
+        facts = [page.width, page.height, len(page.texel(0, 0)), page.depth, len(pages), len(pages)]
+        return ["info", GENERATION, *facts]
+    if word == "tex":
+        s, t, lod = map(int, numbers[:3])
+        lookup = Lookup(pages, value, s, t, lod, *numbers[3:6])
+        return ["tex", GENERATION, *map(lookup.answer, range(int(numbers[6])))]
     level, x, y, w, h = map(int, numbers)
+    if level >= len(pages):
+        return ["no level", GENERATION, len(pages)]
+    return ["pixels", GENERATION, *region(pages[level], x, y, w, h)]
+
+
+# how many fields stand between the word of a request and its name
+FIELDS = {"tex": 7, "pixels": 5, "info": 0}
+
+
+def answer(request):
+    if request == "sync":
+        return ["sync"]
+    word = request.split(" ", 1)[0]
+    _, *numbers, name = request.split(" ", FIELDS[word] + 1)
     if name in CUT:
         page = PICTURES[CUT[name]][1][0]
         return ["bad file", GENERATION, DATA_OUTSIDE, 0, last_block(page)]
     if name in PICTURES:
-        pages = PICTURES[name][1]
-        if level >= len(pages):
-            return ["no level", GENERATION, len(pages)]
-        return ["pixels", GENERATION, *region(pages[level], x, y, w, h)]
+        return on_pages(word, numbers, PICTURES[name][1])
     if Path(name).is_file():
         # the one other file that is asked for begins with no mark
         assert Path(name).read_bytes()[:2] not in (b"II", b"MM"), name
@@ -53,6 +78,12 @@ def answer(request):
     return ["no such file"]
 
 
+def requests(name):
+    """The requests of a list: its lines without those that are passed over."""
+    lines = Path(name).read_text(encoding="utf-8").splitlines()
+    return [line for line in lines if line and not line.startswith("#")]
+
+
 if __name__ == "__main__":
-    for request in Path("requests.txt").read_text(encoding="utf-8").splitlines():
+    for request in requests("requests.txt"):
         print(*answer(request))

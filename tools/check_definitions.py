@@ -2,15 +2,18 @@
 """Checks that docs/DEFINITIONS.md lists what has to be believed: each definition that the contracts
 of the public calls reach, and no other.
 
-A public call is a function that a library of the program hands out, a method of a type or of a trait
-that it hands out, or a ghost member or field of one. What its clauses name in a crate's specs/ is
-reached, and so is what that names in turn. Laws and lemmas in specs/ have a proof in place of a
-meaning, so they are not followed.
+A public call is a function that a library of the repository hands out, a method of a type or of a
+trait that it hands out, or a ghost member or field of one. It need not be a library that the program
+stands on already: whoever takes one believes its definitions. The crates that crates.txt has under its
+heading `Tests` are left out. What the clauses of a public call name in a crate's specs/ is reached, and
+so is what that names in turn. Laws and lemmas in specs/ have a proof in place of a meaning, so they are
+not followed.
 
 Each stands on the page under its file, with its line to read aloud. Prints what is lacking and what is
 listed without need, and ends with status 1 where there is any. With --write it writes the rows of the
-page anew and leaves the text beside them. With --list it prints each definition that is reached, with
-its crate, its file and its line.
+page anew and leaves the text beside them; a file that has no heading yet gets one behind those of its
+crate, else at the end of the page, with the question that the file opens with as its text. With --list
+it prints each definition that is reached, with its crate, its file and its line.
 """
 
 import re
@@ -20,7 +23,7 @@ from pathlib import Path
 TOP = Path(__file__).resolve().parent.parent
 CRATES = TOP / "crates"
 PAGE = TOP / "docs" / "DEFINITIONS.md"
-PROGRAM = "texcache"
+TESTS = "Tests"
 
 WORD = re.compile(r"[\w\-◌>=+*/<≤≡∷']+(?:\.[\w\-]+)*", re.UNICODE)
 USE = re.compile(r"^\s*(?:pub |ghost )?use Rattle\.([\w.]+?)(?:\.\{([^}]*)\}| as (\w+))?;?\s*$", re.M)
@@ -34,21 +37,16 @@ def fail(text):
     sys.exit(f"check_definitions: {text}")
 
 
-def crates_of_program():
-    """The crates that the program stands on, as crates.txt lists them."""
-    stands_on = {}
+def libraries():
+    """The libraries of the repository, in the order of crates.txt, without those for tests."""
+    found, heading = [], ""
     for line in (TOP / "crates.txt").read_text(encoding="utf-8").splitlines():
-        line = line.split("#")[0]
-        if ":" in line:
-            name, below = line.split(":")
-            stands_on[name.split()[0]] = below.split()
-    found, wanted = [], [PROGRAM]
-    while wanted:
-        name = wanted.pop()
-        if name in stands_on and name not in found:
-            found.append(name)
-            wanted += stands_on[name]
-    return [name for name in stands_on if name in found]
+        if line.startswith("#"):
+            heading = line.lstrip("# 0123456789").strip()
+        name = line.split("#")[0].partition(":")[0].split()
+        if name and heading != TESTS and (CRATES / name[0] / "src" / "lib.rt").is_file():
+            found.append(name[0])
+    return found
 
 
 def imports(text):
@@ -69,13 +67,23 @@ def imports(text):
     return found
 
 
+def opening(text):
+    """The comment that a file opens with."""
+    found = []
+    for line in text.splitlines():
+        if not line.startswith("--"):
+            break
+        found.append(line[2:].strip())
+    return " ".join(found)
+
+
 class Spec:
     """A file of specs/: its definitions, and what the words of each stand for."""
 
     def __init__(self, crate, file):
         self.crate, self.module = crate, file.stem
         text = file.read_text(encoding="utf-8")
-        self.imports = imports(text)
+        self.imports, self.question = imports(text), opening(text)
         self.bodies, self.kinds, self.says = {}, {}, {}
         comment, name = [], None
         for line in text.splitlines():
@@ -218,19 +226,21 @@ def contracts(src, names):
             yield from functions(rest[found.start() : end.start() if end else len(rest)], False)
 
 
-def reached():
+def specs():
+    """The files of definitions of the libraries, by crate and name, in their order."""
+    return {
+        (crate, file.stem): Spec(crate, file)
+        for crate in libraries()
+        for file in sorted((CRATES / crate / "specs").rglob("*.antt"))
+        if file.stem != "Lib"
+    }
+
+
+def reached(spec_of):
     """Each definition that has to be believed, in the order of crates and files."""
-    crates = crates_of_program()
-    spec_of = {}
-    for crate in crates:
-        for file in sorted((CRATES / crate / "specs").rglob("*.antt")):
-            if file.stem != "Lib":
-                spec_of[crate, file.stem] = Spec(crate, file)
     found, wanted = set(), []
-    for crate in crates:
+    for crate in libraries():
         lib = CRATES / crate / "src" / "lib.rt"
-        if not lib.is_file():
-            continue
         names = handed_out(lib.read_text(encoding="utf-8"))
         for file in sorted((CRATES / crate / "src").rglob("*.rt")):
             src = file.read_text(encoding="utf-8")
@@ -282,14 +292,29 @@ def parsed():
     return lines, found
 
 
-def rewritten(wanted):
+def with_headings(lines, wanted, spec_of):
+    """The lines of the page, and a heading for each file that has none."""
+    lines = list(lines)
+    for key in sections(wanted):
+        headings = [HEADING.format(*it) for it in spec_of if it[0] == key[0]]
+        if HEADING.format(*key) in lines:
+            continue
+        there = [place for place, line in enumerate(lines) if line in headings]
+        text = [HEADING.format(*key), "", spec_of[key].question, "", *TABLE, ""]
+        if there:
+            rest = range(there[-1] + 1, len(lines))
+            place = next((it for it in rest if lines[it].startswith("#")), len(lines))
+        else:
+            place, text = len(lines), [f"## {key[0]}", "", *text]
+        gap = [""] if place and lines[place - 1] else []
+        lines[place:place] = [*gap, *text]
+    return lines
+
+
+def rewritten(wanted, spec_of):
     """The page with the rows that it has to have; what is written beside them stays."""
-    lines, there = parsed()
-    lacking = [key for key in sections(wanted) if key not in there]
-    if lacking:
-        fail("no heading for " + ", ".join(HEADING.format(*key) for key in lacking))
     text, key = [], None
-    for line in lines:
+    for line in with_headings(parsed()[0], wanted, spec_of):
         heading = re.fullmatch(r"### `crates/(\w+)/specs/(\w+)\.antt`", line)
         if heading:
             key = heading[1], heading[2]
@@ -300,17 +325,18 @@ def rewritten(wanted):
             text += [*TABLE, *(row(*it) for it in rows)]
         elif not (key and line.startswith("|")):
             text.append(line)
-    PAGE.write_text("\n".join(text) + "\n", encoding="utf-8")
+    PAGE.write_text("\n".join(text).rstrip("\n") + "\n", encoding="utf-8")
 
 
 def main(words):
-    wanted = reached()
+    spec_of = specs()
+    wanted = reached(spec_of)
     if words == ["--list"]:
         for it in wanted:
             print(*it, sep="\t")
         return 0
     if words == ["--write"]:
-        rewritten(wanted)
+        rewritten(wanted, spec_of)
         return 0
     if words:
         fail("it takes no words, --list or --write")
@@ -328,6 +354,9 @@ def main(words):
             if it not in should:
                 print("listed without need:", HEADING.format(*key), it)
                 status = 1
+        if not should and not rows:
+            print("a heading without definitions:", HEADING.format(*key))
+            status = 1
     if not status:
         print(f"docs/DEFINITIONS.md lists the {len(wanted)} definitions that the public calls reach")
     return status

@@ -1,6 +1,7 @@
 //! Many lookups, compared with an independent program.
 
 ghost use Rattle.std.specs.Prelude.{◌≡◌, ◌+◌, ◌≤◌, ◌<◌, ◌%◌};
+ghost use Rattle.texel_filter.specs.Image.{IsChannelCount};
 
 use crate::picture::{Asked, Picture, Refused, Shows};
 use std::alloc::Global;
@@ -8,10 +9,13 @@ use texel_filter::{Filter, MAX_CHANNELS, TexRequest, Wrap, lookup};
 
 const WRAPS: [Wrap; 4] = [Wrap::Black, Wrap::Clamp, Wrap::Periodic, Wrap::Mirror];
 
-// The lookups of a picture and a filter, and of each pair of wraps among them.
-const LOOKUPS: u32 = 256;
+// The lookups of a picture and a filter that are drawn, and of each pair of wraps among them.
+const DRAWN: u32 = 256;
 
 const EACH: u32 = 16;
+
+// Those with the coordinates and the LOD at their ends.
+const ENDS: u32 = 128;
 
 // Numbers that show no order.
 #[derive(Drop)]
@@ -47,59 +51,81 @@ impl Draws {
     }
 }
 
-// The values of the lookups, each times 31 to the power of how many come after it, modulo 2^64.
-fn sum_of(alloc: Global, picture: &Picture, filter: Filter) -> Result<u64, Refused> {
-    let mut draws = Draws(1);
-    let mut asked = Asked::new(alloc, *picture, 0);
-    let mut sum: u64 = 0;
-    for k in 0..LOOKUPS {
-        let request = draws.request(filter, k);
-        let mut out = [0; MAX_CHANNELS];
-        let values = &mut out[..request.nch as usize];
-        lookup(&mut asked, &request, values)?;
-        for value in values.iter() {
-            sum = sum.wrapping_mul(31).wrapping_add(u64::from(*value));
-        }
+// Lookup number k of those at the ends, each pair of wraps with each of them.
+fn request_at_end(filter: Filter, k: u32) -> TexRequest
+    ensures { result.nch ≡ 1 + k % 8 }
+{
+    TexRequest {
+        s: if k % 2 == 0 { i32::MIN } else { i32::MAX },
+        t: if k / 2 % 2 == 0 { i32::MIN } else { i32::MAX },
+        lod: if k / 4 % 2 == 0 { 0 } else { u32::MAX },
+        swrap: WRAPS[(k / 32 % 4) as usize],
+        twrap: WRAPS[(k / 8 % 4) as usize],
+        filter,
+        nch: 1 + k % 8,
+    }
+}
+
+// The sum before times 31 and a value of the lookup, for each of its channels, modulo 2^64.
+fn sum_with(asked: &mut Asked, request: &TexRequest, before: u64) -> Result<u64, Refused>
+    requires { IsChannelCount request.now.nch }
+{
+    let mut out = [0; MAX_CHANNELS];
+    let values = &mut out[..request.nch as usize];
+    lookup(asked, request, values)?;
+    let mut sum = before;
+    for value in values.iter() {
+        sum = sum.wrapping_mul(31).wrapping_add(u64::from(*value));
     }
     Ok(sum)
 }
 
-// The sums are those of a program in Python, whose whole numbers have no bound and whose division
-// rounds down, written after the formulas of docs/FILTERING.md alone: 3072 lookups.
+// The sum over all lookups of a picture and a filter.
+fn checksum(alloc: Global, picture: &Picture, filter: Filter) -> Result<u64, Refused> {
+    let mut draws = Draws(1);
+    let mut asked = Asked::new(alloc, *picture, 0);
+    let mut sum: u64 = 0;
+    for k in 0..DRAWN {
+        sum = sum_with(&mut asked, &draws.request(filter, k), sum)?;
+    }
+    for k in 0..ENDS {
+        sum = sum_with(&mut asked, &request_at_end(filter, k), sum)?;
+    }
+    Ok(sum)
+}
+
+// The sums are those that tools/lookup_sums.py prints, which follows the formulas of
+// docs/FILTERING.md alone: 4608 lookups.
 #[test]
 fn looks_up_many(rt: HostRuntime) {
     let rows = [
         (
             (1, 1, 1),
             (
-                16499145608658525615,
-                14629548374770618136,
-                14629548374770618136,
+                17115431350132130334,
+                4166253145330461575,
+                4166253145330461575,
             ),
         ),
         (
             (5, 3, 3),
             (
-                3903555991517766589,
-                4891742933663692937,
-                17736011373389724125,
+                6120796259408425826,
+                15953618547412785825,
+                610820107125865461,
             ),
         ),
         (
             (64, 33, 7),
             (
-                17321511222428833923,
-                10724447401971306420,
-                1816160722786238987,
+                13280801013564783534,
+                10593051453451064691,
+                15613091667094491082,
             ),
         ),
         (
             (131072, 3, 18),
-            (
-                986782004001966136,
-                12095521490273529117,
-                4162993797424724992,
-            ),
+            (89251372654990485, 9639681903850007299, 13869346987903328742),
         ),
     ];
     for ((width, height, levels), (closest, bilinear, trilinear)) in rows {
@@ -110,9 +136,9 @@ fn looks_up_many(rt: HostRuntime) {
             levels,
         };
         let got = (
-            sum_of(rt.alloc(), &picture, Filter::Closest),
-            sum_of(rt.alloc(), &picture, Filter::Bilinear),
-            sum_of(rt.alloc(), &picture, Filter::Trilinear),
+            checksum(rt.alloc(), &picture, Filter::Closest),
+            checksum(rt.alloc(), &picture, Filter::Bilinear),
+            checksum(rt.alloc(), &picture, Filter::Trilinear),
         );
         assert_eq!(rt;
             got,

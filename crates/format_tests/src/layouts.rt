@@ -28,7 +28,7 @@ const AS_STORED: Cut = Cut {
     automip: false,
 };
 
-fn layout_of(alloc: Global, file: &str) -> Result<Layout, Fail> {
+pub(crate) fn layout_of(alloc: Global, file: &str) -> Result<Layout, Fail> {
     let bytes = file_of(alloc, file)?;
     let dirs = read_dirs(alloc, &mut MemReader::new(&bytes, 0))?;
     Ok(Layout::of(dirs))

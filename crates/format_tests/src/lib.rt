@@ -8,6 +8,8 @@ mod answers;
 #[cfg(test)]
 mod built_files;
 #[cfg(test)]
+mod cells;
+#[cfg(test)]
 mod directory_rows;
 #[cfg(test)]
 mod files;
@@ -19,6 +21,8 @@ mod level_rows;
 mod mem_reader;
 #[cfg(test)]
 mod reads;
+#[cfg(test)]
+mod rects;
 #[cfg(test)]
 mod texels;
 #[cfg(test)]

@@ -10,7 +10,7 @@ use Rattle.atomic_table.proofs.Lists.{at_set, at_snoc}
 use Rattle.tex_world.specs.World.{Files, IsReal}
 use Rattle.tex_world.specs.Tap.{IsLeast}
 use Rattle.gen_board.specs.declared.sight.Sight.{Sight}
-use Rattle.gen_board.specs.Rule.{Kept, IsSeen, word_count, first_sight, spent_sight}
+use Rattle.gen_board.specs.Rule.{IsBoard, IsSeen, word_count, first_sight, spent_sight}
 use Rattle.gen_board.specs.Rule.{stepped_sight, both_sights, Looked, Raised}
 use Rattle.gen_board.proofs.ListLemmas.{set_keeps, max_keeps, later_keeps, zero_at}
 
@@ -41,10 +41,10 @@ module _ (world : Files) (files : ℕ) where
   )
 
   -- A step that raises a word to a real generation, which its seat has then seen.
-  steps : (s : State (Unit {0}) Sight) (id i m : ℕ) (old : Sight) → Kept world files s
+  steps : (s : State (Unit {0}) Sight) (id i m : ℕ) (old : Sight) → IsBoard world files s
       → get_elem? s.views id ≡ some old → i < word_count files → slice_index s.words i ≤ m
       → IsLeast world i m
-      → Kept world files (record {
+      → IsBoard world files (record {
         words = set s.words i m;
         homes = s.homes;
         views = set s.views id (stepped_sight old i m);
@@ -62,7 +62,8 @@ module _ (world : Files) (files : ℕ) where
       }
 
   pub looks : (slots id : ℕ) (me : Me (Unit {0}) Sight) (i : ℕ) → i < word_count files
-      → Allows (Kept world files) slots id me i (λ n. n) (Looked world (step slots i 0 0 none) me)
+      → Allows (IsBoard world files) slots id me i (λ n. n)
+      (Looked world (step slots i 0 0 none) me)
   looks slots id me i inside s kept homes at fits =
       let n : ℕ = slice_index s.words i in (
         stepped_sight me.0 i n,
@@ -79,7 +80,7 @@ module _ (world : Files) (files : ℕ) where
 
   pub raises : (slots id : ℕ) (me : Me (Unit {0}) Sight) (i g : ℕ) → i < word_count files
       → IsReal world i g
-      → Allows (Kept world files) slots id me i (λ n. max n g)
+      → Allows (IsBoard world files) slots id me i (λ n. max n g)
       (Raised world (step slots i g 0 none) me)
   raises slots id me i g inside real s kept homes at fits =
       let n : ℕ = slice_index s.words i in (
@@ -96,7 +97,7 @@ module _ (world : Files) (files : ℕ) where
         },
       )
 
-  pub splits : (id : ℕ) (v : Sight) → Splits (Kept world files) id v v v
+  pub splits : (id : ℕ) (v : Sight) → Splits (IsBoard world files) id v v v
   splits id v s kept at = record {
     count = kept.count;
     words = kept.words;
@@ -110,7 +111,7 @@ module _ (world : Files) (files : ℕ) where
   }
 
   pub joins : (id : ℕ) (v : Sight) (other : ℕ) (w : Sight)
-      → Joins (Kept world files) id v other w (both_sights v w) spent_sight
+      → Joins (IsBoard world files) id v other w (both_sights v w) spent_sight
   joins id v other w s kept at apart there =
       let theirs : get_elem? s.views other ≡ some w = ⊎_elim
       (λ (t : (other ≡ id) × (both_sights v w ≡ w)). absurd (apart t.0))
@@ -126,7 +127,7 @@ module _ (world : Files) (files : ℕ) where
             (λ file. (inl refl, zero-le));
       }
 
-  pub opens : Kept world files (opening (replicate (word_count files) 0) [] (first_sight files))
+  pub opens : IsBoard world files (opening (replicate (word_count files) 0) [] (first_sight files))
   opens = record {
     count = length-replicate (word_count files) 0;
     words = λ file. inl (zero_at (word_count files) file);

@@ -26,7 +26,7 @@ IsSeen world words file seen = IsLeast world file seen × (seen ≤ slice_index 
 
 -- The rule: each word is 0 or a real generation of its file, and so is each number that a seat has
 -- seen, which is at most the word.
-pub record Kept (world : Files) (files : ℕ) (s : State (Unit {0}) Sight) : Type 0 where
+pub record IsBoard (world : Files) (files : ℕ) (s : State (Unit {0}) Sight) : Type 0 where
   pub count : length s.words ≡ word_count files
   pub words : (file : ℕ) → IsLeast world file (slice_index s.words file)
   pub views : (seat : ℕ) (sight : Sight) → get_elem? s.views seat ≡ some sight

@@ -1,4 +1,4 @@
-ghost use Rattle.gen_board.specs.Rule.{Kept, first_sight};
+ghost use Rattle.gen_board.specs.Rule.{IsBoard, first_sight};
 
 use crate::sight::Sight;
 use atomic_table::TableRule;
@@ -12,7 +12,7 @@ pub(crate) struct Generations<W> {
 }
 
 impl<W: World> TableRule<(), Sight, u32> for Generations<W> {
-    ghost holds = { Kept W.files };
+    ghost holds = { IsBoard W.files };
 
     ghost first = { first_sight };
 }

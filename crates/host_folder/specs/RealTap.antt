@@ -22,12 +22,12 @@ tap_state tap = record {
 }
 
 -- the count of faults rose, and nothing else changed
-pub record CountsFault (old new : TapState) : Type 0 where
+pub record AddsFault (old new : TapState) : Type 0 where
   pub faults : Rises old.faults new.faults
   pub others : new ≡ record old { faults = new.faults }
 
 -- the count of moves rose, and nothing else changed
-pub record CountsMove (old new : TapState) : Type 0 where
+pub record AddsMove (old new : TapState) : Type 0 where
   pub moves : Rises old.moves new.moves
   pub others : new ≡ record old { moves = new.moves }
 

@@ -5,7 +5,7 @@ ghost use Rattle.tex_world.specs.World.{last_generation};
 ghost use Rattle.tex_world.specs.Tap.{IsNew};
 ghost use Rattle.host_folder.specs.RealFolder.{listed_files};
 ghost use Rattle.host_folder.specs.RealHandle.{handle_named};
-ghost use Rattle.host_folder.specs.RealTap.{tap_state, tap_words, CountsFault, CountsMove};
+ghost use Rattle.host_folder.specs.RealTap.{tap_state, tap_words, AddsFault, AddsMove};
 ghost use Rattle.host_folder.specs.RealTap.{Settles, NamesNewer};
 
 use crate::handle::RealHandle;
@@ -89,14 +89,14 @@ impl<R> RealTap<R> {
 
     /// Counts a failed call.
     fn count_fault(&mut self)
-        ensures { CountsFault (tap_state self.old) (tap_state self.new) }
+        ensures { AddsFault (tap_state self.old) (tap_state self.new) }
     {
         self.faults = self.faults.saturating_add(1);
     }
 
     /// Counts a meeting with a newer generation.
     fn count_move(&mut self)
-        ensures { CountsMove (tap_state self.old) (tap_state self.new) }
+        ensures { AddsMove (tap_state self.old) (tap_state self.new) }
     {
         self.moves = self.moves.saturating_add(1);
     }

@@ -1,11 +1,12 @@
 -- The counts of faults and moves against the lines that tell of them.
 use Rattle.std.proofs.Common.{inl, inr, ℕ, ◌+◌, ◌<◌, ◌≤◌, Bool, cond, arith}
 use Rattle.tex_world.specs.Counts.{Rises, RisesByAtLeast, last_count}
-use Rattle.render_run.specs.declared.answer.Answer.{Answer}
+use Rattle.request_lang.specs.declared.answer.Answer.{Answer}
 use Rattle.render_run.specs.Around.{SourceState}
-use Rattle.render_run.specs.Basis.{Basis, OnFault, OnNewer, basis_of, is_fault, is_move, HasCause}
-use Rattle.render_run.specs.Answering.{GoesOn}
-use Rattle.render_run.specs.Written.{Says}
+use Rattle.request_lang.specs.Basis.{Basis, OnFault, OnNewer, basis_of, is_fault, is_move}
+use Rattle.render_run.specs.Answering.{GoesOn, HasCause}
+use Rattle.render_run.specs.Page.{Says}
+use Rattle.render_run.proofs.StandIns.{no_fault, no_move}
 
 -- one more, where the count rose
 rises_more : (n a b c : ℕ) → RisesByAtLeast n a b → Rises b c → RisesByAtLeast (n + 1) a c
@@ -42,7 +43,9 @@ module _ (n : ℕ) (old mid new : SourceState) (answer line : Answer) (says : Sa
       by_line : Says answer line
           → RisesByAtLeast (n + one_if (is_fault (basis_of line))) old.faults new.faults
       by_line (inl is) = rw is (by_basis (basis_of answer) cause)
-      by_line (inr none) = rw none (rises_same n old.faults mid.faults new.faults so_far on.faults)
+      by_line (inr none) =
+          rw (none, no_fault answer)
+          (rises_same n old.faults mid.faults new.faults so_far on.faults)
 
   -- the same of the moves
   pub moves_more : RisesByAtLeast n old.moves mid.moves
@@ -58,4 +61,6 @@ module _ (n : ℕ) (old mid new : SourceState) (answer line : Answer) (says : Sa
       by_line : Says answer line
           → RisesByAtLeast (n + one_if (is_move (basis_of line))) old.moves new.moves
       by_line (inl is) = rw is (by_basis (basis_of answer) cause)
-      by_line (inr none) = rw none (rises_same n old.moves mid.moves new.moves so_far on.moves)
+      by_line (inr none) =
+          rw (none, no_move answer)
+          (rises_same n old.moves mid.moves new.moves so_far on.moves)

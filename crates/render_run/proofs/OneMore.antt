@@ -1,60 +1,34 @@
 -- One request more is answered.
 use Rattle.std.proofs.Common.{◌≡◌, ℕ, ◌+◌, Bool, true, false, ◌||◌, List, [], ◌∷◌, ◌++◌}
-use Rattle.std.proofs.Common.{length, take, slice_index, Option, Some, refl, sym, ap, ◌∙◌}
-use Rattle.std.proofs.Common.{append_assoc, arith}
-use Rattle.std.proofs.Math.Seq.{take-append-add}
-use Rattle.std.proofs.lemmas.List.{append-nil, length-append}
+use Rattle.std.proofs.Common.{slice_index, Option, Some, refl, sym, ap, ◌∙◌, arith}
+use Rattle.std.proofs.lemmas.List.{append-nil}
 use Rattle.std.proofs.lemmas.List.Folds.{list_any-append}
 use Rattle.std.proofs.lemmas.List.Sums.{sum_by_push}
 use Rattle.std.proofs.lemmas.List.Concat.{flat_map-append}
 use Rattle.std.proofs.lemmas.List.Elements.{All-push}
 use Rattle.std.proofs.lemmas.List.Quantifiers.{all_pairs_push}
-use Rattle.tex_world.specs.Stream.{Appends, AppendsPart}
-use Rattle.render_run.specs.declared.request.Request.{Request}
-use Rattle.render_run.specs.declared.answer.Answer.{Answer}
+use Rattle.tex_world.specs.Stream.{AppendsPart}
+use Rattle.request_lang.specs.declared.request.Request.{Request}
+use Rattle.request_lang.specs.declared.answer.Answer.{Answer}
 use Rattle.render_run.specs.Around.{SourceState, SinkState, Progress, Catalog, progress_of}
-use Rattle.render_run.specs.Line.{line_of}
-use Rattle.render_run.specs.Basis.{is_refusal, basis_of, is_fault, is_move, HasCause}
-use Rattle.render_run.specs.Reply.{Placed}
+use Rattle.request_lang.specs.Line.{line_of}
+use Rattle.request_lang.specs.Basis.{is_refusal, basis_of, is_fault, is_move}
+use Rattle.render_run.specs.Reply.{Placed, MeetsAt, file_of}
 use Rattle.render_run.specs.Fresh.{IsFresher}
 use Rattle.render_run.specs.Run.{AreLinesFor, some_refused, lines_text}
-use Rattle.render_run.specs.Answering.{GoesOn, IsKnown, AnswersOne, IsKnownOf, AreLinesSoFar, SoFar}
-use Rattle.render_run.specs.Written.{Says, Writes, WritesPart}
+use Rattle.render_run.specs.Answering.{GoesOn, HasCause, IsKnown, KeepsKnown, IsKnownOf}
+use Rattle.render_run.specs.Answering.{AreLinesSoFar, SoFar}
+use Rattle.render_run.specs.Page.{outgoing_of, Says, Writes, WritesPart}
 use Rattle.render_run.proofs.Counting.{one_if, faults_more, moves_more}
+use Rattle.render_run.proofs.Passing.{passes_more, passes_part}
 use Rattle.render_run.proofs.Said.{said_meets, said_early, said_late, meets_push}
 
--- a line more was written
-written_more : (lines : List Placed) (line : Placed) (old mid new : Option (List ℕ))
-    → Appends (lines_text lines) old mid → Appends (line_of line.answer) mid new
-    → Appends (lines_text (lines ++ line ∷ [])) old new
-written_more lines line old mid new so_far more = λ held is.
-    let text =
+-- the text of lines with one more
+text_more : (lines : List Placed) (line : Placed)
+    → lines_text (lines ++ line ∷ []) ≡ lines_text lines ++ line_of line.answer
+text_more lines line =
     flat_map-append (λ (l : Placed). line_of l.answer) lines (line ∷ [])
-    ∙ ap (λ (t : List ℕ). lines_text lines ++ t) (append-nil (line_of line.answer)) in
-    more (held ++ lines_text lines) (so_far held is)
-    ∙ ap Some
-    (append_assoc held (lines_text lines) (line_of line.answer)
-    ∙ ap (λ (t : List ℕ). held ++ t) (sym text))
-
--- the same of a first part of the line
-part_more : (lines : List Placed) (line : Placed) (old mid new : Option (List ℕ))
-    → Appends (lines_text lines) old mid
-    → AppendsPart (line_of line.answer) mid new
-    → AppendsPart (lines_text (lines ++ line ∷ [])) old new
-part_more lines line old mid new so_far part = λ held is.
-    let text = flat_map-append (λ (l : Placed). line_of l.answer) lines (line ∷ [])
-    ∙ ap (λ (t : List ℕ). lines_text lines ++ t) (append-nil (line_of line.answer)) in
-    let k = part (held ++ lines_text lines) (so_far held is) in
-    let front : take (length (lines_text lines) + k.0) (lines_text (lines ++ line ∷ []))
-    ≡ lines_text lines ++ take k.0 (line_of line.answer) =
-    ap (take (length (lines_text lines) + k.0)) text
-    ∙ take-append-add (lines_text lines) (line_of line.answer) k.0 in (
-      length (lines_text lines) + k.0,
-      rw text (omega (arith, length-append (lines_text lines) (line_of line.answer), k.1)),
-      k.2 ∙ ap Some
-          (append_assoc held (lines_text lines) (take k.0 (line_of line.answer))
-          ∙ ap (λ (t : List ℕ). held ++ t) (sym front)),
-    )
+    ∙ ap (λ (t : List ℕ). lines_text lines ++ t) (append-nil (line_of line.answer))
 
 -- a test, or none
 or_false : (b : Bool) → (b || false) ≡ b
@@ -72,8 +46,8 @@ refused_push lines line =
 
 module _ (catalog : Catalog) (rs : List Request) (r : Request) (file : Option ℕ)
     (before after : List ℕ) (answer : Answer) (t0 t1 t2 : SourceState)
-    (found : file ≡ catalog.number_of r.name)
-    (one : AnswersOne catalog.files file before after r answer)
+    (found : file ≡ file_of catalog r) (meets : MeetsAt catalog.files file r answer)
+    (one : KeepsKnown catalog.files file before after answer)
     (cause : HasCause t1 t2 (basis_of answer)) (on : GoesOn t1 t2) where
   -- a line that stands for the answer, on its file
   placed : Answer → Placed
@@ -88,7 +62,7 @@ module _ (catalog : Catalog) (rs : List Request) (r : Request) (file : Option �
     lines_for = record {
       met = meets_push catalog rs lines r (placed line) told.lines_for.met (record {
         file = found;
-        answer = said_meets catalog.files file r answer line one.meets says;
+        answer = said_meets catalog.files file r answer line meets says;
       });
       fresh = all_pairs_push IsFresher lines (placed line) told.lines_for.fresh
           (λ k d lt n first second g late h early.
@@ -114,28 +88,29 @@ module _ (catalog : Catalog) (rs : List Request) (r : Request) (file : Option �
     known = one.known;
   }
 
-  module _ (s0 s1 s2 : SinkState) where
-    -- they were written with it
+  module _ (s0 s1 s2 : SinkState) (p1 p2 : List ℕ) where
+    -- they were passed on with it
     pub one_more : (refused said both : Bool)
-        → SoFar catalog rs before (progress_of t0 s0) (progress_of t1 s1) refused
-        → Writes answer s1.holds s2.holds said → both ≡ (refused || said)
-        → SoFar catalog (rs ++ r ∷ []) after (progress_of t0 s0) (progress_of t2 s2) both
+        → SoFar catalog rs before (progress_of t0 s0) (progress_of t1 s1) p1 refused
+        → Writes answer (outgoing_of p1 s1) (outgoing_of p2 s2) said → both ≡ (refused || said)
+        → SoFar catalog (rs ++ r ∷ []) after (progress_of t0 s0) (progress_of t2 s2) p2 both
     unfolding placed
     one_more refused said both so_far wrote either = record {
       lines = so_far.lines ++ placed wrote.line ∷ [];
       so_far = lines_more so_far.lines wrote.line so_far.so_far wrote.says;
       written =
-          written_more so_far.lines (placed wrote.line) s0.holds s1.holds s2.holds so_far.written
-          wrote.appended;
+          rw (text_more so_far.lines (placed wrote.line))
+          (passes_more _ (line_of wrote.line) (outgoing_of [] s0) (outgoing_of p1 s1)
+          (outgoing_of p2 s2) so_far.written wrote.passes);
       refusal =
           either ∙ rw (so_far.refusal, wrote.refusal)
           (sym (refused_push so_far.lines (placed wrote.line)));
     }
 
-    -- or a first part of them was
+    -- or a first part of them was put
     pub part_of_one_more : (refused : Bool)
-        → SoFar catalog rs before (progress_of t0 s0) (progress_of t1 s1) refused
-        → WritesPart answer s1.holds s2.holds
+        → SoFar catalog rs before (progress_of t0 s0) (progress_of t1 s1) p1 refused
+        → WritesPart answer (outgoing_of p1 s1) s2.holds
         → (lines : List Placed)
         × AreLinesFor catalog (rs ++ r ∷ []) t0 t2 lines
         × AppendsPart (lines_text lines) s0.holds s2.holds
@@ -143,13 +118,14 @@ module _ (catalog : Catalog) (rs : List Request) (r : Request) (file : Option �
     part_of_one_more refused so_far wrote = (
       so_far.lines ++ placed wrote.line ∷ [],
       (lines_more so_far.lines wrote.line so_far.so_far wrote.says).lines_for,
-      part_more so_far.lines (placed wrote.line) s0.holds s1.holds s2.holds so_far.written
-          wrote.appended,
+      rw (text_more so_far.lines (placed wrote.line))
+          (passes_part _ (line_of wrote.line) (outgoing_of [] s0) (outgoing_of p1 s1) s2.holds
+          so_far.written wrote.part),
     )
 
 -- before the first request
 pub none_yet : (catalog : Catalog) (seen : List ℕ) (progress : Progress)
-    → IsKnown catalog.files seen → SoFar catalog [] seen progress progress false
+    → IsKnown catalog.files seen → SoFar catalog [] seen progress progress [] false
 none_yet catalog seen progress known = record {
   lines = [];
   so_far = record {
@@ -162,6 +138,10 @@ none_yet catalog seen progress known = record {
     seen_all = λ k d lt. absurd (omega arith);
     known = known;
   };
-  written = λ bytes is. is ∙ ap Some (sym (append-nil bytes));
+  written = record {
+    put = [];
+    all = refl;
+    appended = λ bytes is. is ∙ ap Some (sym (append-nil bytes));
+  };
   refusal = refl;
 }

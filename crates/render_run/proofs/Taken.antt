@@ -4,7 +4,7 @@ use Rattle.std.proofs.Common.{Option, Some, sym, ap, ◌∙◌, arith}
 use Rattle.std.proofs.Math.Seq.{take-add}
 use Rattle.std.proofs.lemmas.List.{take_all, drop-drop, length-take, length-drop, length-append}
 use Rattle.tex_world.specs.Stream.{Feeds}
-use Rattle.render_run.specs.Grammar.{max_list_bytes}
+use Rattle.request_lang.specs.Grammar.{max_list_bytes}
 use Rattle.render_run.specs.ListRead.{IsTaken, IsRead}
 
 -- nothing is left behind the bytes

@@ -1,30 +1,36 @@
 -- Why does the top call end before it answers a list, and with which status and text?
 -- (docs/REQUESTS.md, "Statuses")
-use Rattle.std.specs.Prelude.{◌≡◌, ◌⊎◌, ℕ, ◌==◌, IsTrue, codes, List, [], ◌∷◌, ◌++◌, slice_index}
-use Rattle.std.specs.Prelude.{Option, Some, None, IsSome, Ok, Err, String, ⊤, if◌then◌else◌}
+use Rattle.std.specs.Prelude.{◌≡◌, ◌⊎◌, ℕ, IsTrue, codes, List, [], ◌∷◌, ◌++◌, map, Option, None}
+use Rattle.std.specs.Prelude.{IsSome, Result, Ok, Err, String, ⊤}
+use Rattle.std.specs.Option.{option_map}
 use Rattle.std.specs.String.{string_bytes}
-use Rattle.std.specs.Global.{Global}
+use Rattle.std.specs.Global.{Global, Vec}
 use Rattle.tex_world.specs.Counts.{Rises}
 use Rattle.tex_world.specs.World.{Files}
 use Rattle.tex_world.specs.Folder.{FolderState}
-use Rattle.render_run.specs.declared.request.Request.{Request}
+use Rattle.command_line.specs.declared.invocation.WordsError.{WordsError}
+use Rattle.command_line.specs.declared.invocation.WordsError.TheVariants.{Bad}
+use Rattle.command_line.specs.declared.invocation.WordsError.TheVariants as words
+use Rattle.command_line.specs.Invocation.{invocation_of}
+use Rattle.request_lang.specs.declared.request.Request.{Request}
 use Rattle.render_run.specs.declared.prepare.Ending.{Ending}
 use Rattle.render_run.specs.declared.prepare.Ending.TheVariants.{BadWords, FolderFault}
 use Rattle.render_run.specs.declared.prepare.Ending.TheVariants.{TooManyFiles, ListFault, NotAList}
 use Rattle.render_run.specs.declared.prepare.Ending.TheVariants.{NoMemory}
 use Rattle.render_run.specs.Status as status
 use Rattle.render_run.specs.Around.{FeedState, Inputs}
-use Rattle.render_run.specs.Field.{minus}
-use Rattle.render_run.specs.Grammar.{line_feed}
-use Rattle.render_run.specs.Line.{bad_list_line}
+use Rattle.request_lang.specs.Grammar.{Parsed, line_feed}
+use Rattle.request_lang.specs.Line.{bad_list_line}
 use Rattle.render_run.specs.ListRead.{FeedSays}
 
--- the path of the folder: the one word there is, which does not begin with `-`
+-- the path of the folder that the words of the command line name, where they are its words
 abbrev pub path_of : List (String Global) → Option (List ℕ)
-path_of [] = None
-path_of (word ∷ []) =
-    if slice_index (string_bytes word) 0 == minus then None else Some (string_bytes word)
-path_of (word ∷ next ∷ words) = None
+path_of words = option_map (λ asked. asked.0) (invocation_of (map string_bytes words))
+
+-- why the words name no folder
+abbrev pub WordsCause : Option (List ℕ) → WordsError → Type 0
+WordsCause path Bad = path ≡ None
+WordsCause path words.NoMemory = ⊤
 
 -- ---- before an ending, and without one
 
@@ -57,6 +63,16 @@ EnterEnds files path old new TooManyFiles =
 EnterEnds files path old new NoMemory = ⊤
 EnterEnds files path old new ListFault = ⊥
 EnterEnds files path old new (NotAList bad) = ⊥
+
+-- the requests, or the ending of a list that is none, as it was said
+abbrev pub IsAsSaid : Parsed → Result (Vec Request) Ending → Type 0
+IsAsSaid said (Ok requests) = said ≡ Ok requests.items
+IsAsSaid said (Err (NotAList bad)) = said ≡ Err bad
+IsAsSaid said (Err BadWords) = ⊥
+IsAsSaid said (Err FolderFault) = ⊥
+IsAsSaid said (Err TooManyFiles) = ⊥
+IsAsSaid said (Err ListFault) = ⊥
+IsAsSaid said (Err NoMemory) = ⊥
 
 -- What an ending says of the feed.
 abbrev pub ListEnds : FeedState → FeedState → Ending → Type 0

@@ -1,8 +1,8 @@
 -- When is no line older than what was known of its file?
 use Rattle.std.specs.Prelude.{◌≡◌, ℕ, ◌≤◌, Some}
 use Rattle.std.specs.Option.{ForSome}
-use Rattle.render_run.specs.declared.answer.Answer.{Answer}
-use Rattle.render_run.specs.Basis.{basis_of, earliest, latest}
+use Rattle.request_lang.specs.declared.answer.Answer.{Answer}
+use Rattle.request_lang.specs.Basis.{basis_of, earliest, latest}
 use Rattle.render_run.specs.Reply.{Placed}
 
 -- The second line, if it is on the same file, prints no generation below those of the first.

@@ -6,13 +6,13 @@ use Rattle.tex_world.specs.Counts.{last_count, Rises, RisesByAtLeast}
 use Rattle.tex_world.specs.World.{Files}
 use Rattle.tex_world.specs.Folder.{FolderState}
 use Rattle.tex_world.specs.Stream.{Appends, AppendsPart}
-use Rattle.render_run.specs.declared.request.Request.{Request}
+use Rattle.request_lang.specs.declared.request.Request.{Request}
 use Rattle.render_run.specs.declared.prepare.Ending.{Ending}
 use Rattle.render_run.specs.Status as status
 use Rattle.render_run.specs.Around.{SourceState, Around, Inputs, Progress, Catalog, inputs_of}
 use Rattle.render_run.specs.Around.{progress_of, catalog_of, source_of_folder}
-use Rattle.render_run.specs.Line.{line_of}
-use Rattle.render_run.specs.Basis.{is_refusal, basis_of, is_fault, is_move}
+use Rattle.request_lang.specs.Line.{line_of}
+use Rattle.request_lang.specs.Basis.{is_refusal, basis_of, is_fault, is_move}
 use Rattle.render_run.specs.Reply.{Placed, MeetsAll}
 use Rattle.render_run.specs.Fresh.{IsFresher}
 use Rattle.render_run.specs.Ending.{IsPrepared, IsEnded, status_of, ending_text}
@@ -44,6 +44,14 @@ pub record AreLinesFor (catalog : Catalog) (requests : List Request) (old new : 
   pub fresh : AllPairs IsFresher lines
   pub faults : RisesByAtLeast (read_faults lines) old.faults new.faults
   pub moves : RisesByAtLeast (agains lines) old.moves new.moves
+
+-- The requests were answered: one line for each was written. Some line is a refusal, or none.
+pub record Answered (catalog : Catalog) (requests : List Request) (old new : Progress)
+    (refused : Bool) : Type 0 where
+  pub lines : List Placed
+  pub lines_for : AreLinesFor catalog requests old.source new.source lines
+  pub written : Appends (lines_text lines) old.sink.holds new.sink.holds
+  pub refusal : refused ≡ some_refused lines
 
 -- The requests were answered: one line for each was written. The status tells whether some line is
 -- a refusal.

@@ -1,37 +1,13 @@
--- What is written for an answer, and for an ending?
-use Rattle.std.specs.Prelude.{◌≡◌, ◌⊎◌, ℕ, ◌≤◌, Bool, List, Option, Result, Err}
+-- What is written for an ending, and what is left around a call?
+use Rattle.std.specs.Prelude.{◌≡◌, ◌⊎◌, ℕ, ◌≤◌, List, Option, Result, Err}
 use Rattle.tex_world.specs.Counts.{Rises}
 use Rattle.tex_world.specs.Folder.{FolderState}
 use Rattle.tex_world.specs.Stream.{Appends, AppendsPart}
-use Rattle.render_run.specs.declared.answer.Answer.{Answer}
-use Rattle.render_run.specs.declared.answer.Answer.TheVariants as answer
 use Rattle.render_run.specs.declared.prepare.Ending.{Ending}
 use Rattle.render_run.specs.declared.prepare.Ending.TheVariants as ending
 use Rattle.render_run.specs.Status as status
 use Rattle.render_run.specs.Around.{SinkState}
-use Rattle.render_run.specs.Line.{line_of}
-use Rattle.render_run.specs.Basis.{is_refusal}
 use Rattle.render_run.specs.Ending.{status_of, ending_text}
-
--- ---- an answer
-
--- The line that stands for an answer: its own, or `no memory` where no memory was found for its
--- text.
-abbrev pub Says : Answer → Answer → Type 0
-Says said line = (line ≡ said) ⊎ (line ≡ answer.NoMemory)
-
--- A line that stands for the answer was appended, and it is a refusal or not.
-pub record Writes (said : Answer) (old new : Option (List ℕ)) (refused : Bool) : Type 0 where
-  pub line : Answer
-  pub says : Says said line
-  pub refusal : refused ≡ is_refusal line
-  pub appended : Appends (line_of line) old new
-
--- A first part of such a line was appended.
-pub record WritesPart (said : Answer) (old new : Option (List ℕ)) : Type 0 where
-  pub line : Answer
-  pub says : Says said line
-  pub appended : AppendsPart (line_of line) old new
 
 -- ---- an ending
 

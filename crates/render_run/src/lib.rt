@@ -2,24 +2,14 @@
 //! of a folder.
 #![tactic(auto)]
 
-mod answer;
 mod answering;
-mod field;
-mod grammar;
-mod level_rows;
-mod line;
 mod list;
-mod overlap;
+mod page;
 mod prepare;
-mod reading;
-mod region;
+mod question;
 mod reply;
-mod request;
-mod sample_values;
-mod span;
+mod texels;
 mod top;
-mod window;
 
-pub use answer::{Answer, Values};
-pub use request::{Name, Request};
+pub use request_lang::{Answer, Name, Request, Values};
 pub use top::{NO_MEMORY, NOT_WRITTEN, run};

@@ -5,9 +5,11 @@ ghost use Rattle.render_run.specs.declared.list.ListError.TheVariants.{NoMemory}
 ghost use Rattle.render_run.specs.Around.{feed_state};
 ghost use Rattle.render_run.specs.ListRead.{IsRead, ListCause};
 
-use crate::grammar::MAX_LIST_BYTES;
 use std::alloc::{AllocError, Global};
 use tex_world::Feed;
+
+/// The most bytes that a list has.
+const MAX_LIST_BYTES: usize = 16777216;
 
 /// How many bytes the feed is asked for at a time.
 const CHUNK: usize = 65536;

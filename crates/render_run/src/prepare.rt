@@ -1,18 +1,26 @@
 //! The steps before the first answer: the words, the folder and the list.
 
 ghost use Rattle.std.specs.Prelude.{◌≡◌, IfOk, IfErr, Ok};
-ghost use Rattle.std.specs.Option.{option_map};
+ghost use Rattle.std.specs.List.{list_all};
 ghost use Rattle.render_run.specs.Around.{feed_state, inputs_of};
-ghost use Rattle.render_run.specs.ListRead.{FeedSays};
-ghost use Rattle.render_run.specs.Ending.{path_of, IsEntered, EnterEnds, ListEnds};
-ghost use Rattle.render_run.specs.Ending.{IsPrepared, IsEnded};
+ghost use Rattle.render_run.specs.Question.{is_answered as form_is_answered};
+ghost use Rattle.render_run.specs.ListRead.{FeedSays, answered_list};
+ghost use Rattle.render_run.specs.Ending.{path_of, WordsCause, IsEntered, EnterEnds, ListEnds};
+ghost use Rattle.render_run.specs.Ending.{IsPrepared, IsEnded, IsAsSaid};
 ghost use Rattle.render_run.specs.Written.{KeepsTaps, KeepsMark};
 
-use crate::grammar::{BadList, ParseError, parse};
 use crate::list::{ListError, read_list};
-use crate::request::Request;
+use crate::question::is_answered;
+use command_line::{WordsError, invocation_of};
+use request_lang::{BadList, ParseError, Request, parse};
 use std::alloc::Global;
 use tex_world::{EnterError, Feed, Folder};
+
+/// What stands for all of a list in place of a line.
+const WHOLE_LIST: u32 = 0;
+
+/// The cause where a list holds a form that is not answered.
+const NOT_ANSWERED: u32 = 1;
 
 /// Why no list is answered.
 #[derive(Clone, Copy, Debug, PartialEq, Eq)]
@@ -31,20 +39,14 @@ pub(crate) enum Ending {
     NoMemory,
 }
 
-/// The path of the folder: the one word, which does not begin with `-`.
-fn folder_path(words: &[String]) -> Option<&str>
-    ensures { option_map (λ s. s.now) result ≡ path_of words.now }
+/// The path of the folder that the words name.
+fn folder_path<'a>(alloc: Global, words: &'a [String]) -> Result<&'a str, WordsError>
+    ensures ok { IfOk result (λ path. path_of words.entry.now ≡ Some path.now) }
+    ensures cause { IfErr result (WordsCause (path_of words.entry.now)) }
 {
-    match words {
-        [word] => {
-            let path = word.as_str();
-            if path.as_bytes().first() == Some(&b'-') {
-                None
-            } else {
-                Some(path)
-            }
-        }
-        _ => None,
+    match invocation_of(alloc, words) {
+        Ok(invocation) => Ok(invocation.folder),
+        Err(error) => Err(error),
     }
 }
 
@@ -57,8 +59,10 @@ fn enter_folder<F: Folder>(alloc: Global, words: &[String], folder: &mut F) -> R
     ensures mark { KeepsMark (F.state folder.old) (F.state folder.new) result }
     ensures taps { KeepsTaps (F.state folder.old) (F.state folder.new) }
 {
-    let Some(path) = folder_path(words) else {
-        return Err(Ending::BadWords);
+    let path = match folder_path(alloc, words) {
+        Ok(path) => path,
+        Err(WordsError::Bad) => return Err(Ending::BadWords),
+        Err(WordsError::NoMemory) => return Err(Ending::NoMemory),
     };
     match folder.enter(alloc, path) {
         Ok(()) => Ok(()),
@@ -66,6 +70,26 @@ fn enter_folder<F: Folder>(alloc: Global, words: &[String], folder: &mut F) -> R
         Err(EnterError::TooMany) => Err(Ending::TooManyFiles),
         Err(EnterError::NoMemory) => Err(Ending::NoMemory),
     }
+}
+
+/// Each request is of a form that is answered.
+fn are_answered(requests: &[Request]) -> bool
+    ensures { result ≡ list_all form_is_answered requests.now }
+{
+    requests.iter().all(is_answered)
+}
+
+/// The requests, where each is of a form that is answered.
+fn answered_requests(requests: Vec<Request>) -> Result<Vec<Request>, Ending>
+    ensures { IsAsSaid (answered_list (Ok requests.items)) result }
+{
+    if are_answered(&requests) {
+        return Ok(requests);
+    }
+    Err(Ending::NotAList(BadList {
+        line: WHOLE_LIST,
+        why: NOT_ANSWERED,
+    }))
 }
 
 /// The requests of the list that the feed has.
@@ -81,8 +105,8 @@ fn read_requests<I: Feed>(alloc: Global, feed: &mut I) -> Result<Vec<Request>, E
         Err(ListError::NoMemory) => return Err(Ending::NoMemory),
     };
     match parse(alloc, &bytes) {
-        Ok(requests) => Ok(requests),
-        Err(ParseError::Bad(bad)) => Err(Ending::NotAList(bad)),
+        Ok(requests) => answered_requests(requests),
+        Err(ParseError::Bad { line, why }) => Err(Ending::NotAList(BadList { line, why })),
         Err(ParseError::NoMemory) => Err(Ending::NoMemory),
     }
 }

@@ -1,19 +1,20 @@
 //! The top call.
 
-ghost use Rattle.std.specs.Prelude.{◌≡◌, ◌≤◌, IsSome};
+ghost use Rattle.std.specs.Prelude.{◌≡◌, ◌≤◌, IsSome, IsTrue};
+ghost use Rattle.std.specs.List.{list_all};
 ghost use Rattle.tex_world.specs.Counts.{Rises};
 ghost use Rattle.render_run.specs.Status.{with_refusals, not_written, no_memory};
 ghost use Rattle.render_run.specs.Around.{feed_state, sink_state, around_of, progress_of};
 ghost use Rattle.render_run.specs.Around.{source_of_folder, catalog_of};
+ghost use Rattle.render_run.specs.Question.{is_answered};
 ghost use Rattle.render_run.specs.Ending.{path_of};
 ghost use Rattle.render_run.specs.Run.{Answers, AnswersPart, GivesTapsBack, Runs};
 ghost use Rattle.render_run.specs.Written.{StatusWritten, EndedAs, IsAnswerStatus, KeepsEntered};
 
-use crate::answering::{Worker, answer_each};
-use crate::grammar::BadList;
-use crate::line::bad_list_text;
+use crate::answering::{Worker, answer_list};
+use crate::page::Page;
 use crate::prepare::{Ending, prepare};
-use crate::request::Request;
+use request_lang::{BadList, Request, bad_list_text};
 use std::alloc::Global;
 use tex_world::{Feed, Folder, Sink};
 
@@ -55,8 +56,9 @@ fn put_bad_list<O: Sink>(alloc: Global, out: &mut O, bad: BadList) -> u8
     ensures { EndedAs (Ending.NotAList bad) (sink_state O.faults O.holds out.old)
         (sink_state O.faults O.holds out.new) result }
 {
-    match bad_list_text(alloc, bad) {
-        Ok(text) => put_status(out, text.as_bytes(), BAD_LIST),
+    let mut text = Vec::new(alloc);
+    match bad_list_text(bad, &mut text) {
+        Ok(()) => put_status(out, &text, BAD_LIST),
         Err(_) => NO_MEMORY,
     }
 }
@@ -84,7 +86,8 @@ fn answer_through_tap<F: Folder, O: Sink>(
     requests: &[Request],
     out: &mut O,
 ) -> u8
-    requires { IsSome (F.state folder.old).entered }
+    requires entered { IsSome (F.state folder.old).entered }
+    requires answered { IsTrue (list_all is_answered requests.now) }
     ensures answered { result ≤ with_refusals
         → Answers (catalog_of F.W.files (F.state folder.new)) requests.now (progress_of
         (source_of_folder (F.state folder.old)) (sink_state O.faults O.holds out.old)) (progress_of
@@ -99,6 +102,10 @@ fn answer_through_tap<F: Folder, O: Sink>(
     ensures folder { KeepsEntered (F.state folder.old) (F.state folder.new) }
     ensures taps { GivesTapsBack (F.state folder.old) (F.state folder.new) }
 {
+    let mut page = match Page::new(alloc) {
+        Ok(page) => page,
+        Err(_) => return NO_MEMORY,
+    };
     let seen = match vec![in alloc; 0u32; folder.count() as usize] {
         Ok(seen) => seen,
         Err(_) => return NO_MEMORY,
@@ -107,9 +114,13 @@ fn answer_through_tap<F: Folder, O: Sink>(
         Ok(tap) => tap,
         Err(_) => return NO_MEMORY,
     };
-    let mut worker = Worker { tap, seen };
-    let answered = answer_each(alloc, folder, &mut worker, requests, out);
-    let Worker { tap, seen: _seen } = worker;
+    let mut worker = Worker { alloc, tap, seen };
+    let answered = answer_list(folder, &mut worker, requests, &mut page, out);
+    let Worker {
+        alloc: _alloc,
+        tap,
+        seen: _seen,
+    } = worker;
     folder.back(tap);
     match answered {
         Ok(true) => WITH_REFUSALS,

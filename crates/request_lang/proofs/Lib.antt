@@ -1,5 +1,8 @@
+mod SpaceLemmas
 mod DigitLemmas
+mod FieldLemmas
+mod SignLemmas
 mod LineLemmas
 mod TextLemmas
 mod AppendLemmas
-mod ValueLemmas
+mod EntryLemmas

@@ -4,7 +4,7 @@ use Rattle.std.proofs.Common.{refl, arith}
 use borrow.Author.Tests.{eqb-true}
 use Rattle.std.proofs.lemmas.List.Quantifiers.{position-Some}
 use Rattle.std.specs.Str.{IsUtf8, is_utf8, IsCharBoundary}
-use Rattle.std.proofs.lemmas.Str.{is_utf8-from_IsUtf8, IsUtf8-from_is_utf8}
+use Rattle.std.proofs.lemmas.Str.{is_utf8-from_IsUtf8, IsUtf8-from_is_utf8, IsUtf8-from_ascii}
 use Rattle.std.proofs.lemmas.Str.{IsCharBoundary-before_ascii}
 
 -- the test is false where it does not answer that the bytes are text
@@ -16,7 +16,7 @@ by_answer bs false e not_text = e
 pub is_utf8-false : (bs : List ℕ) → (IsUtf8 bs → ⊥) → is_utf8 bs ≡ false
 is_utf8-false bs not_text = by_answer bs (is_utf8 bs) refl not_text
 
-pub ruleset utf8_tests = (is_utf8-from_IsUtf8, is_utf8-false)
+pub ruleset utf8_tests = (is_utf8-from_IsUtf8, is_utf8-false, IsUtf8-from_ascii)
 
 -- a text may be cut in front of its first space
 pub space_boundary : (text : List ℕ) (i : ℕ) → position (λ b. b == 32) text ≡ Some i

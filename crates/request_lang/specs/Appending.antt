@@ -10,10 +10,6 @@ abbrev pub Pushes : {T E : Type 0} → List ℕ → List ℕ → List ℕ → Re
 Pushes text old new (Ok _) = new ≡ old ++ text
 Pushes text old new (Err _) = Begins old new
 
--- the most bytes of a 16-bit value and its space
-abbrev pub max_value_bytes : ℕ
-max_value_bytes = 6
-
--- how many of them are made into text before they are appended
+-- how many 16-bit values are made into text before they are appended
 abbrev pub room_values : ℕ
 room_values = 256

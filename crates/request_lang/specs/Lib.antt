@@ -6,3 +6,5 @@ pub mod Parsing
 pub mod Basis
 pub mod Line
 pub mod Appending
+pub mod Digits
+pub mod Entry

@@ -1,6 +1,8 @@
 //! The ten forms of a line.
 
-ghost use Rattle.std.specs.Prelude.{◌≡◌};
+ghost use Rattle.std.specs.Prelude.{◌≡◌, true, false};
+ghost use Rattle.std.specs.Option.{IfNone, IfSome};
+ghost use Rattle.std.specs.Str.{IsAscii, is_utf8};
 ghost use Rattle.request_lang.specs.Form as spec;
 ghost use Rattle.request_lang.specs.Field.{meaning};
 ghost use Rattle.request_lang.specs.Parsing.{Gives};
@@ -9,7 +11,7 @@ use crate::cause::{Cause, Refusal};
 use crate::field::{channel_count, cut_at_space, filter_mode, name, signed, unsigned, wrap_mode};
 use crate::request::Request;
 use std::alloc::Global;
-use std::str::from_utf8;
+use std::str::{from_utf8, from_utf8_unchecked};
 use texel_filter::TexRequest;
 
 /// `tex S T LOD SWRAP TWRAP FILTER NCH NAME`, behind its word.
@@ -105,12 +107,26 @@ fn of_word(alloc: Global, word: &str, rest: &str) -> Result<Request, Refusal>
     }
 }
 
+/// A line as text, if it is UTF-8. A line that is known to be ASCII is not tested.
+#[tactic(auto, using(crate::proofs::TextLemmas::utf8_tests))]
+fn text_of(line: &[u8], is_ascii: bool) -> Option<&str>
+    requires { is_ascii ≡ true → IsAscii line.now }
+    ensures some { IfSome result (λ t. (t.now ≡ line.now) × (is_utf8 line.now ≡ true)) }
+    ensures none { IfNone result (is_utf8 line.now ≡ false) }
+{
+    if is_ascii {
+        return Some(unsafe { from_utf8_unchecked(line) });
+    }
+    from_utf8(line).ok()
+}
+
 /// The request that a line is.
-#[tactic(auto, unfolding(crate::specs::Form::request_of), using(crate::proofs::TextLemmas::utf8_tests))]
-pub(crate) fn request_of(alloc: Global, line: &[u8]) -> Result<Request, Refusal>
+#[tactic(auto, unfolding(crate::specs::Form::request_of))]
+pub(crate) fn request_of(alloc: Global, line: &[u8], is_ascii: bool) -> Result<Request, Refusal>
+    requires { is_ascii ≡ true → IsAscii line.now }
     ensures { Gives result (spec.request_of line.now) }
 {
-    let Ok(text) = from_utf8(line) else {
+    let Some(text) = text_of(line, is_ascii) else {
         return Err(Refusal::Bad(Cause::NotUtf8));
     };
     let (word, rest) = cut_at_space(text);

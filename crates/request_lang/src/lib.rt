@@ -11,10 +11,13 @@ mod line;
 mod list;
 mod number;
 mod request;
+mod value_texts;
 mod values;
 
 pub use answer::{Answer, Shards, Values};
 pub use cause::{BadList, ParseError};
+pub use digits::digits_number;
 pub use line::{bad_list_text, line_text};
 pub use list::parse;
 pub use request::{Name, Request};
+pub use value_texts::ValueTexts;

@@ -10,6 +10,7 @@ ghost use Rattle.request_lang.specs.Appending.{Pushes};
 use crate::answer::Answer;
 use crate::cause::BadList;
 use crate::number::{push_numbers, push_text};
+use crate::value_texts::ValueTexts;
 use crate::values::push_values;
 use std::alloc::AllocError;
 use tex_world::NoMemory;
@@ -28,6 +29,7 @@ fn push_line(out: &mut Vec<u8>, word: &str, numbers: &[u64]) -> Result<(), Alloc
 /// Appends a word, numbers and values, each number and value behind a space.
 #[tactic(auto, using(crate::proofs::AppendLemmas::kept))]
 fn push_values_line(
+    texts: &ValueTexts,
     out: &mut Vec<u8>,
     word: &str,
     numbers: &[u64],
@@ -37,7 +39,7 @@ fn push_values_line(
         out.old.items out.new.items result }
 {
     push_line(out, word, numbers)?;
-    push_values(out, values)
+    push_values(texts, out, values)
 }
 
 /// Appends what a shard has.
@@ -121,18 +123,20 @@ fn push_fault(out: &mut Vec<u8>, generation: u32, fault: &TiffFault) -> Result<(
 
 /// Appends the line of an answer without its line feed.
 #[tactic(auto, unfolding(crate::specs::Line::text_of), using(crate::proofs::AppendLemmas::kept))]
-fn push_answer(out: &mut Vec<u8>, answer: &Answer) -> Result<(), AllocError>
+fn push_answer(texts: &ValueTexts, out: &mut Vec<u8>, answer: &Answer) -> Result<(), AllocError>
     ensures { Pushes (spec.text_of answer.now) out.old.items out.new.items result }
 {
     match answer {
         Answer::Tex { generation, values } => {
-            push_values_line(out, "tex", &[u64::from(*generation)], values.as_slice())
+            let numbers = [u64::from(*generation)];
+            push_values_line(texts, out, "tex", &numbers, values.as_slice())
         }
         Answer::Pixels {
             generation,
             channels,
             values,
         } => push_values_line(
+            texts,
             out,
             "pixels",
             &[u64::from(*generation), u64::from(*channels)],
@@ -201,12 +205,12 @@ fn end_line(
 }
 
 /// Appends the line of an answer, with its line feed.
-pub fn line_text(answer: &Answer, out: &mut Vec<u8>) -> Result<(), NoMemory>
+pub fn line_text(texts: &ValueTexts, answer: &Answer, out: &mut Vec<u8>) -> Result<(), NoMemory>
     ensures ok { OnOk result (out.new.items ≡ out.old.items ++ spec.line_of answer.now) }
     ensures err { OnErr result (out.new.items ≡ out.old.items) }
 {
     let before = out.as_slice().len();
-    let pushed = push_answer(out, answer);
+    let pushed = push_answer(texts, out, answer);
     end_line(out, before, pushed)
 }
 

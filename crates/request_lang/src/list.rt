@@ -1,6 +1,7 @@
 //! A list of requests: its lines, and what they say.
 
-ghost use Rattle.std.specs.Prelude.{◌≡◌, ◌<◌, length, IfOk, [], ◌∷◌};
+ghost use Rattle.std.specs.Prelude.{◌≡◌, ◌<◌, length, IfOk, [], ◌∷◌, true};
+ghost use Rattle.std.specs.Str.{IsAscii};
 ghost use Rattle.std.specs.Option.{IfNone, IfSome};
 ghost use Rattle.request_lang.specs.Form as form;
 ghost use Rattle.request_lang.specs.Grammar as spec;
@@ -27,6 +28,7 @@ fn next_line(bytes: &[u8]) -> Option<(&[u8], &[u8])>
     ensures none { IfNone result (bytes.now ≡ []) }
     ensures first { IfSome result (λ l. spec.lines_of bytes.now ≡ l.0.now ∷ spec.lines_of l.1.now) }
     ensures shorter { IfSome result (λ l. length l.1.now < length bytes.now) }
+    ensures ascii { IfSome result (λ l. IsAscii bytes.now → IsAscii l.0.now × IsAscii l.1.now) }
 {
     if bytes.is_empty() {
         return None;
@@ -40,7 +42,8 @@ fn next_line(bytes: &[u8]) -> Option<(&[u8], &[u8])>
 /// A line without the one carriage return that it may end with.
 #[tactic(auto, unfolding(crate::specs::Grammar::content))]
 fn content(line: &[u8]) -> &[u8]
-    ensures { result.now ≡ spec.content line.now }
+    ensures value { result.now ≡ spec.content line.now }
+    ensures ascii { IsAscii line.now → IsAscii result.now }
 {
     match line {
         [front @ .., b'\r'] => front,
@@ -56,10 +59,16 @@ fn is_passed_over(line: &[u8]) -> bool
 }
 
 /// The request that a line is behind so many requests.
-fn next_request(alloc: Global, count: usize, line: &[u8]) -> Result<Request, Refusal>
+fn next_request(
+    alloc: Global,
+    count: usize,
+    line: &[u8],
+    is_ascii: bool,
+) -> Result<Request, Refusal>
+    requires { is_ascii ≡ true → IsAscii line.now }
     ensures { Gives result (spec.behind count (form.request_of line.now)) }
 {
-    let request = request_of(alloc, line)?;
+    let request = request_of(alloc, line, is_ascii)?;
     if count >= MAX_REQUESTS {
         return Err(Refusal::Bad(Cause::TooManyRequests));
     }
@@ -87,13 +96,14 @@ pub fn parse(alloc: Global, bytes: &[u8]) -> Result<Vec<Request>, ParseError>
     if bytes.len() > MAX_LIST_BYTES {
         return Err(at_line(WHOLE_LIST, Refusal::Bad(Cause::TooLong)));
     }
+    let is_ascii = bytes.is_ascii();
     let mut requests = Vec::new(alloc);
     let mut rest = bytes;
     let mut number = 1;
     'lines: while let Some((line, after)) = next_line(rest) {
         let line = content(line);
         if !is_passed_over(line) {
-            match next_request(alloc, requests.len(), line) {
+            match next_request(alloc, requests.len(), line, is_ascii) {
                 Ok(request) => requests.push(request)?,
                 Err(refusal) => return Err(at_line(number, refusal)),
             }

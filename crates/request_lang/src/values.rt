@@ -1,12 +1,12 @@
 //! 16-bit values as they are printed, many at a time.
 
-ghost use Rattle.std.specs.Prelude.{◌≡◌, ◌+◌, ◌*◌, ◌≤◌, ◌++◌, length, drop};
-ghost use Rattle.request_lang.specs.Field.{space};
-ghost use Rattle.request_lang.specs.Line.{number_behind, fields};
-ghost use Rattle.request_lang.specs.Appending.{Pushes, max_value_bytes, room_values};
+ghost use Rattle.std.specs.Prelude.{◌≡◌, ◌+◌, ◌*◌, ◌≤◌, ◌++◌, length, take, drop};
+ghost use Rattle.request_lang.specs.Line.{fields};
+ghost use Rattle.request_lang.specs.Entry.{entry_bytes, max_value_bytes};
+ghost use Rattle.request_lang.specs.Appending.{Pushes, room_values};
 
 use crate::number::push_text;
-use itoa::write_digits;
+use crate::value_texts::{COUNT_AT, ENTRY_BYTES, ValueTexts};
 use std::alloc::AllocError;
 
 /// The most bytes of a value and its space.
@@ -15,49 +15,69 @@ const MAX_VALUE_BYTES: usize = 6;
 /// How many values are made into text before they are appended.
 const ROOM_VALUES: usize = 256;
 
-/// The bytes that they take at most.
-const ROOM_BYTES: usize = MAX_VALUE_BYTES * ROOM_VALUES;
+/// The bytes that they take at most, and those that the last entry has beyond its text.
+const ROOM_BYTES: usize = MAX_VALUE_BYTES * ROOM_VALUES + ENTRY_BYTES;
 
-/// Writes a value behind a space so that it ends at `end`, and says where it starts.
+/// How many values are few: those of a lookup.
+const FEW_VALUES: usize = 8;
+
+/// The bytes that they take at most.
+const FEW_BYTES: usize = MAX_VALUE_BYTES * FEW_VALUES + ENTRY_BYTES;
+
+/// Writes an entry.
 #[inline(always)]
-fn put_value(room: &mut [u8], end: usize, value: u16) -> usize
-    requires enough { max_value_bytes ≤ end }
-    requires within { end ≤ length room.old }
-    ensures written { drop result room.new ≡ number_behind space value ++ drop end room.old }
-    ensures few { end ≤ result + max_value_bytes }
-    ensures within { result ≤ length room.new }
+fn put_entry(room: &mut [u8], at: usize, entry: [u8; ENTRY_BYTES])
+    requires { at + entry_bytes ≤ length room.old }
+    ensures { room.new ≡ take at room.old ++ entry ++ drop (at + entry_bytes) room.old }
 {
-    let at = write_digits(u64::from(value), room, end) - 1;
-    room[at] = b' ';
-    at
+    room[at..at + ENTRY_BYTES].copy_from_slice(&entry);
 }
 
-/// Writes values, each behind a space, at the end of the room, and says where they start.
-fn put_values(room: &mut [u8], values: &[u16]) -> usize
-    requires { max_value_bytes * length values.now ≤ length room.old }
-    ensures written { drop result room.new ≡ fields values.now }
+/// Writes values, each behind a space, at the start of the room, and says where they end.
+fn put_values(texts: &ValueTexts, room: &mut [u8], values: &[u16]) -> usize
+    requires { max_value_bytes * length values.now + entry_bytes ≤ length room.old }
+    ensures written { take result room.new ≡ fields values.now }
     ensures within { result ≤ length room.new }
 {
-    let mut at = room.len();
-    let mut rest = values;
-    'values: while let [front @ .., last] = rest {
-        at = put_value(room, at, *last);
-        rest = front;
+    let mut at = 0;
+    for value in values {
+        let entry = texts.entry(*value);
+        put_entry(room, at, entry);
+        at += usize::from(entry[COUNT_AT]);
     }
     at
 }
 
+/// Appends values that the room has place for, each behind a space.
+#[tactic(auto, using(crate::proofs::AppendLemmas::kept))]
+fn push_part(
+    texts: &ValueTexts,
+    out: &mut Vec<u8>,
+    room: &mut [u8],
+    values: &[u16],
+) -> Result<(), AllocError>
+    requires { max_value_bytes * length values.now + entry_bytes ≤ length room.old }
+    ensures { Pushes (fields values.now) out.old.items out.new.items result }
+{
+    let end = put_values(texts, room, values);
+    push_text(out, &room[..end])
+}
+
 /// Appends values, each behind a space, by way of the room.
 #[tactic(auto, using(crate::proofs::AppendLemmas::kept))]
-fn push_parts(out: &mut Vec<u8>, room: &mut [u8], values: &[u16]) -> Result<(), AllocError>
-    requires { max_value_bytes * room_values ≤ length room.old }
+fn push_parts(
+    texts: &ValueTexts,
+    out: &mut Vec<u8>,
+    room: &mut [u8],
+    values: &[u16],
+) -> Result<(), AllocError>
+    requires { max_value_bytes * room_values + entry_bytes ≤ length room.old }
     ensures { Pushes (fields values.now) out.old.items out.new.items result }
 {
     let mut rest = values;
     'parts: while !rest.is_empty() {
         let (part, after) = rest.split_at(rest.len().min(ROOM_VALUES));
-        let at = put_values(room, part);
-        push_text(out, &room[at..])?;
+        push_part(texts, out, room, part)?;
         rest = after;
     }
     Ok(())
@@ -65,9 +85,16 @@ fn push_parts(out: &mut Vec<u8>, room: &mut [u8], values: &[u16]) -> Result<(), 
 
 /// Appends values, each behind a space. Memory is asked for once, before the first.
 #[tactic(auto, using(crate::proofs::AppendLemmas::kept))]
-pub(crate) fn push_values(out: &mut Vec<u8>, values: &[u16]) -> Result<(), AllocError>
+pub(crate) fn push_values(
+    texts: &ValueTexts,
+    out: &mut Vec<u8>,
+    values: &[u16],
+) -> Result<(), AllocError>
     ensures { Pushes (fields values.now) out.old.items out.new.items result }
 {
     out.reserve(values.len().saturating_mul(MAX_VALUE_BYTES))?;
-    push_parts(out, &mut [0u8; ROOM_BYTES], values)
+    if values.len() <= FEW_VALUES {
+        return push_part(texts, out, &mut [0u8; FEW_BYTES], values);
+    }
+    push_parts(texts, out, &mut [0u8; ROOM_BYTES], values)
 }

@@ -1,6 +1,6 @@
 //! Answers and their lines.
 
-use request_lang::{Answer, Shards, Values, line_text};
+use request_lang::{Answer, Shards, ValueTexts, Values, line_text};
 use std::alloc::{AllocError, Global};
 use std::process::Abort;
 use std::test::Fail;
@@ -8,9 +8,15 @@ use tiff_dirs::TiffFault;
 use tile_layout::{Info, Rect, ShardCount};
 
 // The line is appended behind what stands there, and the answer is a refusal or not.
-fn is_line(rt: &impl Abort, alloc: Global, answer: Answer, line: &str) -> Result<(), Fail> {
+fn is_line(
+    rt: &impl Abort,
+    alloc: Global,
+    texts: &ValueTexts,
+    answer: Answer,
+    line: &str,
+) -> Result<(), Fail> {
     let mut out = Vec::from_slice(alloc, b"first\n")?;
-    let appended = line_text(&answer, &mut out);
+    let appended = line_text(texts, &answer, &mut out);
     assert!(rt; appended.is_ok());
     let wanted = format!(in alloc; "first\n{line}\n")?;
     assert_eq!(rt; out.as_slice(), wanted.as_bytes(), "at {line}");
@@ -28,6 +34,7 @@ fn shards(alloc: Global, counts: &[ShardCount]) -> Result<Shards, AllocError> {
 #[test]
 fn prints_values(rt: HostRuntime) -> Result<(), Fail> {
     let alloc = rt.alloc();
+    let texts = ValueTexts::new(alloc)?;
     let digits = [0, 9, 10, 99, 100, 999, 1000, 9999, 10000, 65535];
     let rows = [
         (1, [6554].as_slice(), "tex 1 6554"),
@@ -36,7 +43,7 @@ fn prints_values(rt: HostRuntime) -> Result<(), Fail> {
     ];
     for (generation, items, line) in rows {
         let values = values(alloc, items)?;
-        is_line(&rt, alloc, Answer::Tex { generation, values }, line)?;
+        is_line(&rt, alloc, &texts, Answer::Tex { generation, values }, line)?;
     }
     let rows = [
         (
@@ -60,7 +67,33 @@ fn prints_values(rt: HostRuntime) -> Result<(), Fail> {
             channels,
             values,
         };
-        is_line(&rt, alloc, answer, line)?;
+        is_line(&rt, alloc, &texts, answer, line)?;
+    }
+    Ok(())
+}
+
+// So many values are printed in one line, each as `format!` prints it.
+fn prints_many(rt: &impl Abort, alloc: Global, texts: &ValueTexts, many: u32) -> Result<(), Fail> {
+    let mut items = Vec::new(alloc);
+    let mut line = format!(in alloc; "pixels 1 1")?;
+    for i in 0..many {
+        let value = ((i.wrapping_mul(40503) >> (i % 17)) % 65536) as u16;
+        items.push(value)?;
+        line.push_str(&format!(in alloc; " {value}")?)?;
+    }
+    let answer = Answer::Pixels {
+        generation: 1,
+        channels: 1,
+        values: Values::new(items),
+    };
+    is_line(rt, alloc, texts, answer, line.as_str())
+}
+
+#[test]
+fn prints_many_values(rt: HostRuntime) -> Result<(), Fail> {
+    let texts = ValueTexts::new(rt.alloc())?;
+    for many in [7, 8, 9, 255, 256, 257, 600] {
+        prints_many(&rt, rt.alloc(), &texts, many)?;
     }
     Ok(())
 }
@@ -68,6 +101,7 @@ fn prints_values(rt: HostRuntime) -> Result<(), Fail> {
 #[test]
 fn prints_records(rt: HostRuntime) -> Result<(), Fail> {
     let alloc = rt.alloc();
+    let texts = ValueTexts::new(alloc)?;
     let info = Info {
         generation: 1,
         width: 2,
@@ -77,7 +111,13 @@ fn prints_records(rt: HostRuntime) -> Result<(), Fail> {
         stored: 6,
         levels: 7,
     };
-    is_line(&rt, alloc, Answer::Info(info), "info 1 2 30 4 16 6 7")?;
+    is_line(
+        &rt,
+        alloc,
+        &texts,
+        Answer::Info(info),
+        "info 1 2 30 4 16 6 7",
+    )?;
     let rect = Rect {
         x: 64,
         y: 128,
@@ -88,7 +128,7 @@ fn prints_records(rt: HostRuntime) -> Result<(), Fail> {
         generation: 9,
         rect,
     };
-    is_line(&rt, alloc, held, "held 9 64 128 3 4294967295")?;
+    is_line(&rt, alloc, &texts, held, "held 9 64 128 3 4294967295")?;
     let first = ShardCount {
         tiles: 1,
         pins: 20,
@@ -114,13 +154,14 @@ fn prints_records(rt: HostRuntime) -> Result<(), Fail> {
     ];
     for (counts, line) in rows {
         let shards = shards(alloc, counts)?;
-        is_line(&rt, alloc, Answer::Stat { shards }, line)?;
+        is_line(&rt, alloc, &texts, Answer::Stat { shards }, line)?;
     }
     Ok(())
 }
 
 #[test]
 fn prints_faults(rt: HostRuntime) -> Result<(), Fail> {
+    let texts = ValueTexts::new(rt.alloc())?;
     let rows = [
         (TiffFault::Short, "bad file 5 1"),
         (TiffFault::BadMark, "bad file 5 2"),
@@ -149,13 +190,14 @@ fn prints_faults(rt: HostRuntime) -> Result<(), Fail> {
             generation: 5,
             fault,
         };
-        is_line(&rt, rt.alloc(), answer, line)?;
+        is_line(&rt, rt.alloc(), &texts, answer, line)?;
     }
     Ok(())
 }
 
 #[test]
 fn prints_words(rt: HostRuntime) -> Result<(), Fail> {
+    let texts = ValueTexts::new(rt.alloc())?;
     let rows = [
         (Answer::Dropped, "dropped"),
         (Answer::Invalidated { generation: 3 }, "invalidated 3"),
@@ -186,7 +228,7 @@ fn prints_words(rt: HostRuntime) -> Result<(), Fail> {
         (Answer::NoMemory, "no memory"),
     ];
     for (answer, line) in rows {
-        is_line(&rt, rt.alloc(), answer, line)?;
+        is_line(&rt, rt.alloc(), &texts, answer, line)?;
     }
     Ok(())
 }

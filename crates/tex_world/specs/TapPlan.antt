@@ -82,11 +82,11 @@ newest_at_first files (e ∷ entries) file =
     then e.generation else newest_at_first files entries file
 
 -- a generation of a file after a rise has come
-abbrev pub raised : Files → ℕ → ℕ → Rise → ℕ
-raised files file generation e =
+abbrev pub after_rise : Files → ℕ → ℕ → Rise → ℕ
+after_rise files file generation e =
     if (e.file == file) && is_held files file e.to then max generation e.to else generation
 
 -- the tap's newest generation of a file: that at first, raised by all rises that have come
 abbrev pub newest_of : Files → TapPlan → ℕ → ℕ
 newest_of files plan file =
-    fold (raised files file) (newest_at_first files plan.newest file) plan.risen
+    fold (after_rise files file) (newest_at_first files plan.newest file) plan.risen

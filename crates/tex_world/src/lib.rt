@@ -3,7 +3,6 @@
 //! memory.
 #![tactic(auto)]
 
-mod entry;
 mod fault;
 mod feed;
 mod folder;
@@ -13,6 +12,7 @@ mod mem_handle;
 mod mem_sink;
 mod mem_tap;
 mod plan;
+mod plan_entry;
 mod planned;
 mod reading;
 mod rises;

@@ -1,8 +1,8 @@
 //! What goes wrong in a folder in memory, and which files change.
 ghost use Rattle.std.specs.Prelude.{◌≡◌, ◌≤◌, [], IfOk, IsOk, vec_capacity};
 
-use crate::entry::entries_of;
 use crate::fault::NoMemory;
+use crate::plan_entry::entries_of;
 use crate::share::Share;
 use std::alloc::Global;
 

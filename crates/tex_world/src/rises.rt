@@ -3,7 +3,8 @@ ghost use Rattle.std.specs.Prelude.{◌≡◌, ◌+◌, ◌≤◌, ◌<◌, ◌+
 ghost use Rattle.std.specs.List.{filter, fold};
 ghost use Rattle.tex_world.specs.World.{is_held};
 ghost use Rattle.tex_world.specs.Table.{table_files};
-ghost use Rattle.tex_world.specs.TapPlan.{newest_at_first, raised, is_rising, is_failing_byte, met};
+ghost use Rattle.tex_world.specs.TapPlan.{newest_at_first, after_rise, is_rising};
+ghost use Rattle.tex_world.specs.TapPlan.{is_failing_byte, met};
 
 use crate::fault::ReadError;
 use crate::plan::{FailByte, Newest, Rise};
@@ -31,7 +32,8 @@ pub fn newest_at_first<T: FileTable>(entries: &[Newest], file: u32) -> u32
 pub fn highest<T: FileTable>(risen: &[Rise], file: u32, first: u32) -> u32
     requires { IsTrue (is_held (table_files T.count_of T.name_of T.len_of T.byte_of) file first) }
     ensures value { result
-        ≡ fold (raised (table_files T.count_of T.name_of T.len_of T.byte_of) file) first risen.now }
+        ≡ fold (after_rise (table_files T.count_of T.name_of T.len_of T.byte_of) file) first
+        risen.now }
     ensures held { IsTrue
         (is_held (table_files T.count_of T.name_of T.len_of T.byte_of) file result) }
 {

@@ -13,9 +13,6 @@ use tex_world::FileTable;
 // Two requests for the same region.
 const LIST: &str = "pixels 0 1 0 2 2 A.tif\npixels 0 1 0 2 2 A.tif\n";
 
-// The line of each, where nothing fails.
-const LINE: &str = "pixels 1 1 257 514 4369 4626\n";
-
 #[test]
 fn says_what_failed(rt: HostRuntime) -> Result<(), Fail> {
     let rows = [
@@ -29,15 +26,31 @@ fn says_what_failed(rt: HostRuntime) -> Result<(), Fail> {
             0,
         ),
         ("the first put", Failing::sink(1), "", 5, 0),
-        ("the second put", Failing::sink(2), LINE, 5, 0),
     ];
     for (what, failing, written, status, faults) in &rows {
         let ran = run_list::<PlainFiles>(rt.alloc(), LIST, failing)?;
         ran.is(&rt, written, *status, what);
         assert_eq!(rt; (ran.faults, ran.moves), (*faults, 0), "in {what}");
     }
-    let ran = run_list::<PlainFiles>(rt.alloc(), "sync\n", &Failing::sink(1))?;
+    let ran = run_list::<PlainFiles>(rt.alloc(), "foo\n", &Failing::sink(1))?;
     ran.is_calmly(&rt, "", 5, "a list that is none");
+    Ok(())
+}
+
+// Lines are put many at a time: this one, of 256 by 128 zeros, with those before it, and then the
+// last one.
+#[test]
+fn puts_lines_together(rt: HostRuntime) -> Result<(), Fail> {
+    let alloc = rt.alloc();
+    let zeros = " 0".repeat(alloc, 256 * 128)?;
+    let list = "sync\npixels 0 4 4 256 128 A.tif\nsync\n";
+    let first = format!(in alloc; "sync\npixels 1 1{zeros}\n")?;
+    let all = format!(in alloc; "{first}sync\n")?;
+    let rows = [(1, "", 5), (2, first.as_str(), 5), (3, all.as_str(), 0)];
+    for (put, written, status) in rows {
+        let ran = run_list::<PlainFiles>(alloc, list, &Failing::sink(put))?;
+        ran.is_calmly(&rt, written, status, &format!(in alloc; "put {put} fails")?);
+    }
     Ok(())
 }
 
@@ -54,6 +67,43 @@ fn says_which_generation_was_met(rt: HostRuntime) -> Result<(), Fail> {
             "a rise",
         );
         assert_eq!(rt; (ran.faults, ran.moves), (0, 1), "at byte {at}");
+    }
+    Ok(())
+}
+
+// The same where the region lies on two tiles, and the second is changed; a lookup; a byte that
+// cannot be read once.
+#[test]
+fn says_what_was_met_at_a_byte(rt: HostRuntime) -> Result<(), Fail> {
+    let alloc = rt.alloc();
+    let list = "pixels 0 63 0 2 1 B.tif\npixels 0 63 0 2 1 B.tif\n";
+    let ran = run_list::<TiledFiles>(alloc, list, &Failing::rise(12472))?;
+    let written = "again 1 2\npixels 2 3 64 20064 40064 65 20065 40065\n";
+    ran.is(&rt, written, 1, "a tile that was changed");
+    assert_eq!(rt; (ran.faults, ran.moves), (0, 1));
+
+    let list = "pixels 0 0 0 1 1 A.tif\npixels 0 0 0 1 1 A.tif\n";
+    let ran = run_list::<PlainFiles>(alloc, list, &Failing::byte(122))?;
+    ran.is(&rt, "read fault\npixels 1 1 0\n", 1, "a byte");
+    assert_eq!(rt; (ran.faults, ran.moves), (1, 0));
+
+    let list = "tex 32768 32768 0 clamp clamp bilinear 1 A.tif\ninfo A.tif\n";
+    let rows = [
+        (
+            Failing::byte(132),
+            "read fault\ninfo 1 4 4 1 8 1 1\n",
+            (1, 0),
+        ),
+        (
+            Failing::rise(132),
+            "again 1 2\ninfo 2 4 4 1 8 1 1\n",
+            (0, 1),
+        ),
+    ];
+    for (failing, written, counts) in &rows {
+        let ran = run_list::<PlainFiles>(alloc, list, failing)?;
+        ran.is(&rt, written, 1, "a lookup");
+        assert_eq!(rt; (ran.faults, ran.moves), *counts);
     }
     Ok(())
 }

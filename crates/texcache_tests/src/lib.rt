@@ -9,6 +9,8 @@ mod lines;
 #[cfg(test)]
 mod lists;
 #[cfg(test)]
+mod lookups;
+#[cfg(test)]
 mod odd_files;
 #[cfg(test)]
 mod other_files;
@@ -26,3 +28,5 @@ mod strip_files;
 mod tiled_files;
 #[cfg(test)]
 mod wall_file;
+#[cfg(test)]
+mod wide_file;

@@ -182,6 +182,14 @@ fn answers_levels(rt: HostRuntime) -> Result<(), Fail> {
             "no level 1 1\n",
             1,
         ),
+        (
+            "pixels 0 0 0 1025 1024 none.tif\npixels 0 0 0 1025 1024 A.tif\n\
+             pixels 9 0 0 1024 1024 A.tif\npixels 9 0 0 4294967295 4294967295 A.tif\n\
+             pixels 0 0 0 1 1048577 three.tif\n",
+            "no such file\nregion too large\nno level 1 1\nregion too large\n\
+             region too large\n",
+            1,
+        ),
     ];
     answers::<PlainFiles>(&rt, rt.alloc(), &rows)
 }
@@ -207,6 +215,49 @@ fn refuses_names_and_files(rt: HostRuntime) -> Result<(), Fail> {
         ("pixels 0 0 0 1 1 lzw.tif\n", "bad file 1 7 259 5\n", 1),
     ];
     answers::<ChangedFiles>(&rt, rt.alloc(), &rows)
+}
+
+// What a file is, with as many levels as it stores. The end of a round is told in its place.
+#[test]
+fn answers_facts(rt: HostRuntime) -> Result<(), Fail> {
+    let alloc = rt.alloc();
+    let rows = [
+        (
+            "info A.tif\r\nsync\n\n#info A.tif\ninfo loop.tif\ninfo three.tif",
+            "info 1 4 4 1 8 1 1\nsync\ninfo 1 4 4 1 8 1 1\ninfo 1 3 1 1 8 1 1\n",
+            0,
+        ),
+        (
+            "info a.tif\ninfo  A.tif\nsync\n",
+            "no such file\nno such file\nsync\n",
+            1,
+        ),
+        ("sync\nsync\n", "sync\nsync\n", 0),
+    ];
+    answers::<PlainFiles>(&rt, alloc, &rows)?;
+    let rows = [
+        ("info cut.tif\n", "bad file 1 12 0 3\n", 1),
+        (
+            "info B.tif\ninfo seam.tif\n",
+            "info 1 80 48 3 16 1 1\ninfo 1 20 18 2 8 1 1\n",
+            0,
+        ),
+    ];
+    answers::<TiledFiles>(&rt, alloc, &rows)?;
+    let rows = [
+        ("info short.tif\n", "bad file 1 1\n", 1),
+        ("info note.txt\n", "bad file 1 2\n", 1),
+    ];
+    answers::<OtherFiles>(&rt, alloc, &rows)?;
+    let rows = [
+        ("info v43.tif\n", "bad file 1 3\n", 1),
+        ("info lzw.tif\n", "bad file 1 7 259 5\n", 1),
+    ];
+    answers::<ChangedFiles>(&rt, alloc, &rows)?;
+    let rows = [("info pages.tif\n", "info 1 100 80 1 8 1 1\n", 0)];
+    answers::<StripFiles>(&rt, alloc, &rows)?;
+    let rows = [("info wall.tif\n", "info 1 1024 1024 3 8 11 11\n", 0)];
+    answers::<WallFile>(&rt, alloc, &rows)
 }
 
 // A name is the rest of its line, and a number may have leading zeros. Each fault has its number.

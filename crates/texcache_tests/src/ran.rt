@@ -4,11 +4,11 @@ use render_run::run;
 use std::alloc::{AllocError, Global};
 use std::process::Abort;
 use std::str::from_utf8;
-use tex_world::{FailCall, FileTable, MemFeed, MemFolder, MemSink, Plan, Rise};
+use tex_world::{FailByte, FailCall, FileTable, MemFeed, MemFolder, MemSink, Plan, Rise};
 
 /// What fails: the first `enter` of the folder, and of its tap, of the feed and of the sink the
 /// call of this number, counted from 1. And at its first read of which byte the folder's first file
-/// is found to have its second generation.
+/// is found to have its second generation, or fails.
 #[derive(Clone, Copy)]
 pub(crate) struct Failing {
     enter: bool,
@@ -16,6 +16,7 @@ pub(crate) struct Failing {
     feed: Option<u64>,
     sink: Option<u64>,
     rise: Option<u64>,
+    byte: Option<u64>,
 }
 
 impl Failing {
@@ -25,6 +26,7 @@ impl Failing {
         feed: None,
         sink: None,
         rise: None,
+        byte: None,
     };
 
     pub(crate) fn enter() -> Failing {
@@ -58,6 +60,13 @@ impl Failing {
     pub(crate) fn rise(at: u64) -> Failing {
         Failing {
             rise: Some(at),
+            ..Failing::NOTHING
+        }
+    }
+
+    pub(crate) fn byte(at: u64) -> Failing {
+        Failing {
+            byte: Some(at),
             ..Failing::NOTHING
         }
     }
@@ -114,6 +123,13 @@ fn plan_of(alloc: Global, failing: &Failing) -> Result<Plan, AllocError> {
             file: 0,
             at,
             to: 2,
+        })?;
+    }
+    if let Some(at) = failing.byte {
+        plan.fail_bytes.push(FailByte {
+            tap: 0,
+            file: 0,
+            at,
         })?;
     }
     Ok(plan)

@@ -1,5 +1,5 @@
 //! Files in tiles, whose samples are given by formulas.
-ghost use Rattle.std.specs.Prelude.{◌≡◌, ◌<◌, ◌-◌, ◌&&◌, ◌==◌, nat_lt, slice_index};
+ghost use Rattle.std.specs.Prelude.{◌≡◌, ◌<◌, ◌-◌, ◌&&◌, ◌||◌, ◌==◌, nat_lt, slice_index};
 ghost use Rattle.std.specs.Prelude.{[], ◌∷◌, Some, None, refl, if◌then◌else◌, codes};
 ghost use Rattle.std.proofs.Common.{arith, lit≤};
 ghost use Rattle.tex_world.specs.Names.{name_at, distinct_names};
@@ -49,15 +49,15 @@ static SEAM_START: [u8; 138] = [
     0x8a, 0x06, 0x00, 0x00,
 ];
 
-/// The sample of channel c of the texel in column x of row y of the first picture, and what stands
-/// beside it.
-fn tiled_sample(x: u64, y: u64, c: u64) -> u64
+/// The sample of channel c of the texel in column x of row y of the first picture, in a generation
+/// of it, and what stands beside it.
+fn tiled_sample(g: u32, x: u64, y: u64, c: u64) -> u64
     requires { c < 3 }
-    ensures value { result ≡ tiles.tiled_sample x y c }
+    ensures value { result ≡ tiles.tiled_sample g x y c }
     ensures wide { result < 65536 }
 {
     if x < 80 && y < 48 {
-        20000 * c + 100 * y + x
+        20000 * c + 100 * y + x + if g == 2 { 1 } else { 0 }
     } else {
         65535
     }
@@ -65,15 +65,15 @@ fn tiled_sample(x: u64, y: u64, c: u64) -> u64
 
 /// The byte at a place of its tiles.
 #[tactic(auto, unfolding(crate::specs::Tiles::tiled_byte))]
-fn tiled_byte(at: u64) -> u8
+fn tiled_byte(g: u32, at: u64) -> u8
     requires { at < 49152 }
-    ensures { result ≡ tiles.tiled_byte at }
+    ensures { result ≡ tiles.tiled_byte g at }
 {
     let tile = at / 12288;
     let k = at % 12288 / 2;
     let x = 64 * (tile % 2) + k % 192 / 3;
     let y = 32 * (tile / 2) + k / 192;
-    let sample = tiled_sample(x, y, k % 3);
+    let sample = tiled_sample(g, x, y, k % 3);
     if at % 2 == 0 {
         (sample / 256) as u8
     } else {
@@ -108,7 +108,8 @@ fn seam_byte(at: u64) -> u8
     seam_sample(x, y, k % 2)
 }
 
-/// `B.tif`, `cut.tif`, which is `B.tif` without its last byte, and `seam.tif`.
+/// `B.tif` in two generations, `cut.tif`, which is the first of them without its last byte, and
+/// `seam.tif`.
 #[derive(Drop)]
 pub(crate) struct TiledFiles;
 
@@ -118,13 +119,13 @@ impl FileTable for TiledFiles {
     ghost name_of = { name_at (codes "B.tif" ∷ codes "cut.tif" ∷ codes "seam.tif" ∷ []) };
 
     ghost len_of = { λ n g.
-        if g == 1 then Some (if n == 0 then 49336 else if n == 1 then 49335 else 2186)
-        else None };
+        if g == 1 || n == 0 && g == 2
+        then Some (if n == 0 then 49336 else if n == 1 then 49335 else 2186) else None };
 
     ghost byte_of = { λ n g at.
         if n == 2 then
         (if nat_lt at 138 then slice_index SEAM_START at else tiles.seam_byte (at - 138))
-        else if nat_lt at 184 then slice_index B_START at else tiles.tiled_byte (at - 184) };
+        else if nat_lt at 184 then slice_index B_START at else tiles.tiled_byte g (at - 184) };
 
     ghost few = { lit≤ tt };
 
@@ -149,10 +150,14 @@ impl FileTable for TiledFiles {
             1 => 49335,
             _ => 2186,
         };
-        if g == 1 { Some(len) } else { None }
+        if g == 1 || n == 0 && g == 2 {
+            Some(len)
+        } else {
+            None
+        }
     }
 
-    fn byte(n: u32, _g: u32, at: u64) -> u8 {
+    fn byte(n: u32, g: u32, at: u64) -> u8 {
         if n == 2 {
             if at < 138 {
                 SEAM_START[at as usize]
@@ -162,7 +167,7 @@ impl FileTable for TiledFiles {
         } else if at < 184 {
             B_START[at as usize]
         } else {
-            tiled_byte(at - 184)
+            tiled_byte(g, at - 184)
         }
     }
 

@@ -1,17 +1,19 @@
 -- From a level's texels to the value of a lookup.
-use Rattle.std.proofs.Common.{◌≡◌, ℕ, ◌+◌, ◌-◌, ◌*◌, ◌/◌, ◌^◌, ◌≢◌, Option, List}
+use Rattle.std.proofs.Common.{◌≡◌, ℕ, ◌+◌, ◌-◌, ◌*◌, ◌/◌, ◌^◌, ◌<◌, ◌≢◌, pos, Option, Some}
+use Rattle.std.proofs.Common.{List, [], ◌∷◌}
 use Rattle.std.proofs.Common.{sym, ◌∙◌, arith}
 use Rattle.std.proofs.Math.Nat.{mul-div-mul_left}
 use Rattle.std.proofs.lemmas.Bool.{ne_eqb}
 use Rattle.texel_filter.specs.declared.request.TexRequest.{TexRequest}
 use Rattle.texel_filter.specs.declared.coordinate.LevelPair.{LevelPair}
-use Rattle.texel_filter.specs.Image.{Sizes, Image, AreValues}
+use Rattle.texel_filter.specs.Image.{Sizes, Values, Image, AreValues, image_of, texel_of}
 use Rattle.texel_filter.specs.Coordinate.{index_at, level_before, share_of_next_level}
 use Rattle.texel_filter.specs.WrapMode.{wrapped_index}
 use Rattle.texel_filter.specs.Filter.{value_in, closest_in_level, blended, bilinear_in_level}
 use Rattle.texel_filter.specs.Filter.{trilinear_value}
-use Rattle.texel_filter.specs.Visits.{square_visits, trilinear_visits}
-use Rattle.texel_filter.specs.Inside.{between_value, between_visits}
+use Rattle.texel_filter.specs.Visits.{square_visits, trilinear_visits, texel_visits}
+use Rattle.texel_filter.proofs.WrapLemmas.{wrapped_there}
+use Rattle.texel_filter.specs.LevelPair.{between_value, between_visits}
 
 pub closest_at : (image : Image) (r : TexRequest) (l : ℕ) (x y : Option ℕ) (c : ℕ)
     → x ≡ wrapped_index r.swrap (index_at r.s (image.sizes.width l)) (image.sizes.width l)
@@ -19,6 +21,24 @@ pub closest_at : (image : Image) (r : TexRequest) (l : ℕ) (x y : Option ℕ) (
     → value_in (image.values l) x y c ≡ closest_in_level image r l c
 unfolding closest_in_level
 closest_at image r l x y c across down = rw (across, down)
+
+-- where the texel lies in the level, which no wrap changes
+module _ (sizes : Sizes) (r : TexRequest) (l x y : ℕ)
+    (across : index_at r.s (sizes.width l) ≡ pos x) (fits : x < sizes.width l)
+    (down : index_at r.t (sizes.height l) ≡ pos y) (gits : y < sizes.height l) where
+  column : wrapped_index r.swrap (index_at r.s (sizes.width l)) (sizes.width l) ≡ Some x
+  column = wrapped_there r.swrap _ x _ across fits
+
+  row : wrapped_index r.twrap (index_at r.t (sizes.height l)) (sizes.height l) ≡ Some y
+  row = wrapped_there r.twrap _ y _ down gits
+
+  pub closest_inside : (values : Values) (c : ℕ)
+      → values l x y c ≡ closest_in_level (image_of sizes values) r l c
+  closest_inside values c = closest_at (image_of sizes values) r l (Some x) (Some y) c (sym column)
+      (sym row)
+
+  pub visits_inside : texel_of l x y ∷ [] ≡ texel_visits sizes r l
+  visits_inside = rw (column, row)
 
 -- where the next level has no share
 pub blended_alone : (first next : ℕ) → blended 0 first next ≡ (first + 2 ^ 31) / 2 ^ 32

@@ -11,7 +11,8 @@ use Rattle.texel_filter.specs.Coordinate.{unit, index_before, share_of_next}
 use Rattle.texel_filter.specs.Filter.{bilinear_sum}
 use Rattle.texel_filter.specs.Visits.{square_visits}
 use Rattle.texel_filter.specs.Square.{AreCorners, texels_of}
-use Rattle.texel_filter.specs.Inside.{AreRound, IsRoundAt, visits_round, AreWrapped, HasSums}
+use Rattle.texel_filter.specs.Round.{AreRound, IsRoundAt, visits_round, AreWrapped}
+use Rattle.texel_filter.specs.Weighted.{HasSums}
 use Rattle.texel_filter.proofs.WrapLemmas.{wrapped_there}
 
 -- ---- where none is left out

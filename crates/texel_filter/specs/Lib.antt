@@ -5,4 +5,6 @@ pub mod Filter
 pub mod Visits
 pub mod Square
 pub mod Calls
-pub mod Inside
+pub mod Round
+pub mod LevelPair
+pub mod Weighted

@@ -20,11 +20,14 @@ abbrev pub wrapped_visit : Sizes → TexRequest → ℕ → ℤ → ℤ → List
 wrapped_visit sizes r l i j =
     visit_in l (wrapped_index r.swrap i (sizes.width l)) (wrapped_index r.twrap j (sizes.height l))
 
+-- that of the texel in which the coordinates lie in a level
+abbrev pub texel_visits : Sizes → TexRequest → ℕ → List Texel
+texel_visits sizes r l =
+    wrapped_visit sizes r l (index_at r.s (sizes.width l)) (index_at r.t (sizes.height l))
+
 -- of closest
 abbrev pub closest_visits : Sizes → TexRequest → List Texel
-closest_visits sizes r =
-    let l = nearest_level r.lod sizes.levels in
-    wrapped_visit sizes r l (index_at r.s (sizes.width l)) (index_at r.t (sizes.height l))
+closest_visits sizes r = texel_visits sizes r (nearest_level r.lod sizes.levels)
 
 -- those of the four texels round the coordinates in a level, the upper row first
 unfoldable pub square_visits : Sizes → TexRequest → ℕ → List Texel

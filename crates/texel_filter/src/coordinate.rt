@@ -4,7 +4,8 @@ ghost use Rattle.texel_filter.specs.Coordinate.{unit, rounded_down, left_over};
 ghost use Rattle.texel_filter.specs.Coordinate.{from_first_edge, index_at, index_before};
 ghost use Rattle.texel_filter.specs.Coordinate.{share_of_next, nearest_level};
 ghost use Rattle.texel_filter.specs.WrapMode.{wrapped_index};
-ghost use Rattle.texel_filter.specs.Inside.{IsPairAt, AreLevelsAt};
+ghost use Rattle.texel_filter.specs.Round.{IsPairAt};
+ghost use Rattle.texel_filter.specs.LevelPair.{AreLevelsAt};
 
 use crate::index::wrap;
 use crate::mode::Wrap;
@@ -62,6 +63,21 @@ pub fn place_of(mode: Wrap, coordinate: i32, side: u32) -> Option<u32>
     ensures inside { IfSome result (λ x. x < side) }
 {
     wrap(mode, parts_of(from_edge(coordinate, side)).whole, side)
+}
+
+/// The same where it is one of so many, which no wrap changes.
+#[inline(always)]
+pub fn place_inside(coordinate: i32, side: u32) -> Option<u32>
+    requires { IsSide side }
+    ensures value { IfSome result (λ x. index_at coordinate side ≡ pos x) }
+    ensures inside { IfSome result (λ x. x < side) }
+{
+    let i = parts_of(from_edge(coordinate, side)).whole;
+    if i >= 0 && i < i64::from(side) {
+        Some(i as u32)
+    } else {
+        None
+    }
 }
 
 /// Where a coordinate lies between the middles of texels.

@@ -49,7 +49,8 @@ pub trait Fetch {
         ensures err { IfErr result (λ e. refuses self.old (texel_of level x y) e self.new) };
 
     /// Writes the first channels of four texels to the corners, as four calls of `texel` do it in
-    /// their order. An implementer that finds all four in one place may answer them at once.
+    /// their order. An implementer that finds all four in one place may answer them at once. One
+    /// whose `texel` is to be inlined writes this body anew, with `#[inline(always)]` of its own.
     fn square(
         &mut self,
         square: &Square,

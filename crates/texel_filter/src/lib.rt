@@ -12,6 +12,7 @@ mod round;
 mod square;
 mod weighted;
 mod weights;
+mod writing;
 
 pub use fetch::{Fetch, MAX_CHANNELS};
 pub use filters::{bilinear, closest, lookup, trilinear};

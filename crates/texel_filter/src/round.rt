@@ -4,8 +4,8 @@ ghost use Rattle.texel_filter.specs.Image.{IsChannelCount, AreValues, image_of};
 ghost use Rattle.texel_filter.specs.Filter.{value_in};
 ghost use Rattle.texel_filter.specs.Visits.{visit_in, square_visits};
 ghost use Rattle.texel_filter.specs.Calls.{LeftBy};
-ghost use Rattle.texel_filter.specs.Inside.{IsRoundAt, visits_round, AreRound, IsRoundInside};
-ghost use Rattle.texel_filter.specs.Inside.{AreWrapped};
+ghost use Rattle.texel_filter.specs.Round.{IsRoundAt, visits_round, AreRound, IsRoundInside};
+ghost use Rattle.texel_filter.specs.Round.{AreWrapped};
 
 use crate::coordinate::Pair;
 use crate::fetch::Fetch;

@@ -5,7 +5,7 @@ ghost use Rattle.texel_filter.specs.Coordinate.{unit};
 ghost use Rattle.texel_filter.specs.Filter.{blended};
 ghost use Rattle.texel_filter.specs.Visits.{square_visits};
 ghost use Rattle.texel_filter.specs.Calls.{LeftBy};
-ghost use Rattle.texel_filter.specs.Inside.{sum_of, max_sum, HasSums};
+ghost use Rattle.texel_filter.specs.Weighted.{sum_of, max_sum, HasSums};
 
 use crate::coordinate::{Between, UNIT};
 use crate::fetch::Fetch;
@@ -89,24 +89,10 @@ impl Weighted {
             + self.weights.right_bottom * u64::from(self.corners.right_bottom[c])
     }
 
-    /// Writes the weighted means of the first channels, rounded to the nearest.
+    /// Writes the weighted means of the first n channels, rounded to the nearest. Inlined where the
+    /// compiler knows how many.
     #[inline(always)]
-    pub fn mean(&self, out: &mut [u16])
-        requires { IsChannelCount (length out.old) }
-        ensures { AreValues (λ c. (sum_of self.now c + 2 ^ 31) / 2 ^ 32) out.new }
-    {
-        match out.len() {
-            1 => self.mean_upto(1, out),
-            2 => self.mean_upto(2, out),
-            3 => self.mean_upto(3, out),
-            4 => self.mean_upto(4, out),
-            n => self.mean_upto(n, out),
-        }
-    }
-
-    // Of n channels, inlined where the compiler knows how many.
-    #[inline(always)]
-    fn mean_upto(&self, n: usize, out: &mut [u16])
+    pub fn mean(&self, n: usize, out: &mut [u16])
         requires channels { IsChannelCount n }
         requires count { length out.old ≡ n }
         ensures { AreValues (λ c. (sum_of self.now c + 2 ^ 31) / 2 ^ 32) out.new }
@@ -118,23 +104,7 @@ impl Weighted {
 
     /// The same over two levels, by the share of the next one.
     #[inline(always)]
-    pub fn blend(&self, next: &Weighted, share: u32, out: &mut [u16])
-        requires share { share < unit }
-        requires channels { IsChannelCount (length out.old) }
-        ensures { AreValues (λ c. blended share (sum_of self.now c) (sum_of next.now c)) out.new }
-    {
-        match out.len() {
-            1 => self.blend_upto(next, share, 1, out),
-            2 => self.blend_upto(next, share, 2, out),
-            3 => self.blend_upto(next, share, 3, out),
-            4 => self.blend_upto(next, share, 4, out),
-            n => self.blend_upto(next, share, n, out),
-        }
-    }
-
-    // The same of n channels, inlined where the compiler knows how many.
-    #[inline(always)]
-    fn blend_upto(&self, next: &Weighted, share: u32, n: usize, out: &mut [u16])
+    pub fn blend(&self, next: &Weighted, share: u32, n: usize, out: &mut [u16])
         requires share { share < unit }
         requires channels { IsChannelCount n }
         requires count { length out.old ≡ n }

@@ -14,7 +14,7 @@ use Rattle.tile_layout.specs.Pieces.{row_rest_by, row_rest, block_of, LiesInBloc
 use Rattle.tile_layout.proofs.PlaceLemmas.{place_is}
 
 -- place y is in one of the pieces that cover the side
-piece_below : (side piece y : ℕ) → 1 ≤ piece → y < side → y / piece < pieces_over side piece
+pub piece_below : (side piece y : ℕ) → 1 ≤ piece → y < side → y / piece < pieces_over side piece
 piece_below side piece y some below =
     let more : (y / piece + 1) * piece ≤ side + piece - 1 =
     omega (arith, div-mul-le_self y piece) in

@@ -6,3 +6,9 @@ pub mod PlaceLemmas
 pub mod BlockLemmas
 pub mod WalkLemmas
 pub mod GoodLevels
+pub mod CellLemmas
+pub mod GridLemmas
+pub mod FirstLargest
+pub mod KeyLemmas
+pub mod WholeRowLemmas
+pub mod StoredTexels

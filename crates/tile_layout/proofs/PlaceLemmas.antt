@@ -10,12 +10,12 @@ use Rattle.tile_layout.specs.Pieces.{row_rest_by, row_rest}
 -- ---- one side, cut into pieces
 
 -- j places on, in the same piece
-same_piece : (x piece j : ℕ) → x % piece + j < piece → (x + j) / piece ≡ x / piece
+pub same_piece : (x piece j : ℕ) → x % piece + j < piece → (x + j) / piece ≡ x / piece
 same_piece x piece j fits =
     let e : x + j ≡ x / piece * piece + (x % piece + j) = omega (arith, div-add-mod' x piece) in
     rw e (div-mul-add (x / piece) piece (x % piece + j) fits)
 
-place_in_piece : (x piece j : ℕ) → x % piece + j < piece → (x + j) % piece ≡ x % piece + j
+pub place_in_piece : (x piece j : ℕ) → x % piece + j < piece → (x + j) % piece ≡ x % piece + j
 place_in_piece x piece j fits =
     let e : x + j ≡ x / piece * piece + (x % piece + j) = omega (arith, div-add-mod' x piece) in
     rw e (mod-mul-add (x / piece) piece (x % piece + j) fits)

@@ -1,8 +1,14 @@
 pub mod Cut
+pub mod Key
 pub mod Kept
 pub mod Level
+pub mod CutSide
+pub mod Cell
+pub mod Grid
+pub mod Texel
 pub mod Pieces
 pub mod Walk
 pub mod TexelFormat
 pub mod FormatOf
 pub mod Blocks
+pub mod WholeRows

@@ -1,17 +1,25 @@
-ghost use Rattle.std.specs.Prelude.{◌≡◌, ℕ, ◌/◌, ◌^◌, ◌<◌, max, List};
+ghost use Rattle.std.specs.Prelude.{◌≡◌, ℕ, ◌/◌, ◌^◌, ◌<◌, ◌≤◌, ◌↔◌, max, List, IsTrue, IfSome, IsSome};
 ghost use Rattle.tiff_dirs.specs.Level.{max_levels};
 ghost use Rattle.tiff_dirs.specs.Facts.{IsSide, IsChannelCount, IsDepth};
-ghost use Rattle.tiff_dirs.specs.Shown.{shown};
+ghost use Rattle.tiff_dirs.specs.Shown.{shown, shown_shape};
 ghost use Rattle.tile_layout.specs.Cut.{IsCut};
 ghost use Rattle.tile_layout.specs.Kept.{kept_of, kept_in, AreDirsOf, stored_count, level_in};
 ghost use Rattle.tile_layout.specs.Level.{width_in, height_in, level_count_in, levels_down};
 ghost use Rattle.tile_layout.specs.Level.{HasLevel, IsLevelCount, IsOfEach};
 ghost use Rattle.tile_layout.specs.Pieces.{LiesOnLevel, walk_over};
 ghost use Rattle.tile_layout.specs.FormatOf.{IsFormatOf};
+ghost use Rattle.tile_layout.specs.Cell.{cell_width_by, cell_height_by, cut_level_in, cells_across};
+ghost use Rattle.tile_layout.specs.Cell.{cells_down, cell_count, cell_index, cell_rect, HoldsTexel};
+ghost use Rattle.tile_layout.specs.Cell.{CellsFit, pattern_shape, channels_in};
+ghost use Rattle.tile_layout.specs.CutSide.{IsCellSide, max_cells};
+ghost use Rattle.tile_layout.specs.Grid.{shown_grid};
+ghost use Rattle.tile_layout.specs.WholeRows.{block_width, block_rows, AreWholeRows, StandsWhole};
 
 use crate::cut::Cut;
+use crate::cut_side::CutSide;
+use crate::grid::Grid;
 use crate::pieces::Pieces;
-use crate::place::texel_bytes;
+use crate::place::{block_rows, block_width, texel_bytes, whole_rows};
 use crate::rect::Rect;
 use crate::texel_format::TexelFormat;
 use std::marker::Model;
@@ -64,6 +72,7 @@ impl Layout {
         requires { IsCut cut }
         ensures value { result ≡ level_count_in self.now cut.automip }
         ensures has { (l : ℕ) → l < result → HasLevel self.now l }
+        ensures stored { stored_count self.now ≤ result }
         ensures in_range { IsLevelCount result }
     {
         let stored = self.stored();
@@ -91,6 +100,7 @@ impl Layout {
     /// The samples of a texel, the same in every level.
     pub fn channels(&self) -> u32
         ensures value { IsOfEach self.now (λ shape. shape.channels) result }
+        ensures first { result ≡ channels_in self.now }
         ensures in_range { IsChannelCount result }
     {
         self.dirs.levels[0].channels
@@ -128,6 +138,72 @@ impl Layout {
         }
     }
 
+    /// How a level is cut into cells: a tiled one into its tiles, a stripped one into squares of the
+    /// cut or, where that is 0, into one cell, and a generated one as level 0 is.
+    pub fn grid(&self, level: u32, cut: Cut) -> Grid
+        requires level { HasLevel self.now level }
+        requires cut { IsCut cut }
+        ensures value { shown_grid result ≡ cut_level_in self.now cut level }
+    {
+        let (width, height) = self.size(level);
+        let (cell_width, cell_height) = cell_sides(self.pattern(level), cut);
+        Grid {
+            across: CutSide::new(width, cell_width),
+            down: CutSide::new(height, cell_height),
+        }
+    }
+
+    /// The numbers of cells of a level, across and down.
+    pub fn cells(&self, level: u32, cut: Cut) -> (u32, u32)
+        requires level { HasLevel self.now level }
+        requires cut { IsCut cut }
+        ensures across { result.0 ≡ cells_across (cut_level_in self.now cut level) }
+        ensures down { result.1 ≡ cells_down (cut_level_in self.now cut level) }
+    {
+        let grid = self.grid(level, cut);
+        (grid.across.cells, grid.down.cells)
+    }
+
+    /// The cell of a level that holds a texel. Cells are numbered row by row from 0.
+    pub fn cell_at(&self, level: u32, cut: Cut, x: u32, y: u32) -> u32
+        requires level { HasLevel self.now level }
+        requires cut { IsCut cut }
+        requires across { x < width_in self.now level }
+        requires down { y < height_in self.now level }
+        ensures value { result ≡ cell_index (cut_level_in self.now cut level) x y }
+        ensures in_range { result < cell_count (cut_level_in self.now cut level) }
+        ensures few { result < max_cells }
+        ensures holds { HoldsTexel (cell_rect (cut_level_in self.now cut level) result) x y }
+    {
+        self.grid(level, cut).cell_at(x, y)
+    }
+
+    /// The texels of a cell of a level.
+    pub fn cell_rect(&self, level: u32, cut: Cut, index: u32) -> Rect
+        requires level { HasLevel self.now level }
+        requires cut { IsCut cut }
+        requires index { index < cell_count (cut_level_in self.now cut level) }
+        ensures value { result ≡ cell_rect (cut_level_in self.now cut level) index }
+        ensures inside { LiesOnLevel self.now level result }
+        ensures some { (1 ≤ result.w) × (1 ≤ result.h) }
+    {
+        self.grid(level, cut).cell_rect(index)
+    }
+
+    /// No cell of any level takes more than 33554432 bytes in memory.
+    pub fn fits(&self, cut: Cut) -> bool
+        requires { IsCut cut }
+        ensures value { IsTrue result ↔ CellsFit self.now cut }
+    {
+        let channels = self.channels();
+        for level in 0..self.levels(cut) {
+            if !self.grid(level, cut).fits(channels) {
+                return false;
+            }
+        }
+        true
+    }
+
     /// The pieces of a rectangle of a stored level, row by row and in each row from left to right.
     pub fn pieces(&self, level: u32, rect: Rect) -> Pieces<'_>
         requires stored { level < stored_count self.now }
@@ -135,6 +211,36 @@ impl Layout {
         ensures value { result ≡ walk_over (level_in self.now level) rect }
     {
         Pieces::over(self.dir(level), rect)
+    }
+
+    /// Where the texels of a rectangle of a stored level stand side by side in the file, row behind
+    /// row. They do exactly where it is whole rows of one strip or tile.
+    pub fn whole_rows(&self, level: u32, rect: Rect) -> Option<u64>
+        requires stored { level < stored_count self.now }
+        requires inside { LiesOnLevel self.now level rect }
+        requires some { 1 ≤ rect.h }
+        ensures found { IsSome result ↔ AreWholeRows (level_in self.now level).shape rect }
+        ensures place { IfSome result (StandsWhole (level_in self.now level) rect) }
+    {
+        whole_rows(self.dir(level), rect)
+    }
+
+    /// The rows of a strip or tile of a stored level. The last strip may have fewer.
+    pub fn block_rows(&self, level: u32) -> u32
+        requires { level < stored_count self.now }
+        ensures value { result ≡ block_rows (level_in self.now level).shape }
+        ensures some { 1 ≤ result }
+    {
+        block_rows(self.dir(level))
+    }
+
+    /// The texels of a row of a strip or tile of a stored level, with the padding of a tile.
+    pub fn block_width(&self, level: u32) -> u32
+        requires { level < stored_count self.now }
+        ensures value { result ≡ block_width (level_in self.now level).shape }
+        ensures some { 1 ≤ result }
+    {
+        block_width(self.dir(level))
     }
 
     /// The directory of a stored level.
@@ -145,6 +251,28 @@ impl Layout {
         &self.dirs.levels[level as usize]
     }
 
+    /// The directory of the stored level by which a level is cut.
+    fn pattern(&self, level: u32) -> &Dir
+        ensures shape { shown_shape result.now ≡ pattern_shape self.now level }
+        ensures wide { width_in self.now level ≤ result.now.width }
+        ensures high { height_in self.now level ≤ result.now.height }
+    {
+        if level < self.stored() {
+            self.dir(level)
+        } else {
+            self.first()
+        }
+    }
+
+    /// The directory of level 0, which is the largest.
+    fn first(&self) -> &Dir
+        ensures value { shown result.now ≡ level_in self.now 0 }
+        ensures largest { (l : ℕ) → (width_in self.now l ≤ result.now.width)
+            × (height_in self.now l ≤ result.now.height) }
+    {
+        &self.dirs.levels[0]
+    }
+
     /// The number of levels down to 1 by 1.
     fn levels_down(&self) -> u32
         requires { stored_count self.now ≡ 1 }
@@ -153,6 +281,21 @@ impl Layout {
     {
         let dir = self.dir(0);
         dir.width.max(dir.height).ilog2() + 1
+    }
+}
+
+/// The sides of the cells of a stored level.
+fn cell_sides(dir: &Dir, cut: Cut) -> (u32, u32)
+    requires { IsCut cut }
+    ensures width { result.0 ≡ cell_width_by cut (shown_shape dir.now) dir.now.tile }
+    ensures height { result.1 ≡ cell_height_by cut (shown_shape dir.now) dir.now.tile }
+    ensures across { (side : ℕ) → side ≤ dir.now.width → IsCellSide side result.0 }
+    ensures down { (side : ℕ) → side ≤ dir.now.height → IsCellSide side result.1 }
+{
+    match dir.tile {
+        Some(sides) => sides,
+        None if cut.autotile == 0 => (dir.width, dir.height),
+        None => (cut.autotile, cut.autotile),
     }
 }
 

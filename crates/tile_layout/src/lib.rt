@@ -3,7 +3,10 @@
 #![tactic(auto)]
 
 mod cut;
+mod cut_side;
+mod grid;
 mod info;
+mod key;
 mod layout;
 mod piece;
 mod pieces;
@@ -13,7 +16,10 @@ mod shard_count;
 mod texel_format;
 
 pub use cut::Cut;
+pub use cut_side::CutSide;
+pub use grid::{Grid, MAX_CELL_BYTES};
 pub use info::Info;
+pub use key::TileKey;
 pub use layout::Layout;
 pub use piece::Piece;
 pub use pieces::Pieces;

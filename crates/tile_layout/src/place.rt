@@ -1,12 +1,14 @@
 //! Where the texels of a level stand in the file.
 
-ghost use Rattle.std.specs.Prelude.{◌≡◌, ◌^◌, ◌<◌, ◌≤◌, length};
+ghost use Rattle.std.specs.Prelude.{◌≡◌, ◌^◌, ◌<◌, ◌≤◌, ◌↔◌, length, IfSome, IsSome};
 ghost use Rattle.tiff_dirs.specs.Block.{pieces_over, texel_bytes};
 ghost use Rattle.tiff_dirs.specs.Shown.{shown, shown_shape};
 ghost use Rattle.tiff_dirs.specs.Texel.{block_index, texels_before, sample_place};
-ghost use Rattle.tile_layout.specs.Pieces.{row_rest, LiesSideBySide};
+ghost use Rattle.tile_layout.specs.Pieces.{row_rest, LiesOn, LiesSideBySide};
+ghost use Rattle.tile_layout.specs.WholeRows.{block_width, block_rows, AreWholeRows, StandsWhole};
 
 use crate::piece::Piece;
+use crate::rect::Rect;
 use tiff_dirs::Dir;
 
 /// As many as it takes to cover a side by pieces of that length.
@@ -88,5 +90,43 @@ pub(crate) fn piece_at(dir: &Dir, x: u32, y: u32, right: u32) -> Piece
         x,
         y,
         n: row_rest(dir, x).min(right - x),
+    }
+}
+
+/// The texels of a row of a strip or tile.
+pub(crate) fn block_width(dir: &Dir) -> u32
+    ensures value { result ≡ block_width (shown_shape dir.now) }
+    ensures some { 1 ≤ result }
+{
+    match dir.tile {
+        None => dir.width,
+        Some((width, _)) => width,
+    }
+}
+
+/// The rows of a strip or tile.
+pub(crate) fn block_rows(dir: &Dir) -> u32
+    ensures value { result ≡ block_rows (shown_shape dir.now) }
+    ensures some { 1 ≤ result }
+{
+    match dir.tile {
+        None => dir.rows_per_strip,
+        Some((_, height)) => height,
+    }
+}
+
+/// Where the texels of a rectangle stand that is whole rows of one strip or tile.
+pub(crate) fn whole_rows(dir: &Dir, rect: Rect) -> Option<u64>
+    requires on { LiesOn dir.now.width dir.now.height rect }
+    requires some { 1 ≤ rect.h }
+    ensures found { IsSome result ↔ AreWholeRows (shown_shape dir.now) rect }
+    ensures place { IfSome result (StandsWhole (shown dir.now) rect) }
+{
+    let width = block_width(dir);
+    let rows = block_rows(dir);
+    if rect.x % width == 0 && rect.w == width && rect.h <= rows - rect.y % rows {
+        Some(place(dir, rect.x, rect.y))
+    } else {
+        None
     }
 }

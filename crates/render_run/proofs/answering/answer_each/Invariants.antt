@@ -11,7 +11,7 @@ invariant-loop-request g l = record {
       (progress_of (source_of_tap (g.F.Tap.Tap.state l.initial.worker.tap))
       (sink_state g.O.Sink.faults g.O.Sink.holds l.initial.out))
       (progress_of (source_of_tap (g.F.Tap.Tap.state l.worker.tap))
-      (sink_state g.O.Sink.faults g.O.Sink.holds l.out)) l.refused;
+      (sink_state g.O.Sink.faults g.O.Sink.holds l.out)) l.page l.refused;
   size : length l.worker.seen.items ≡ length l.initial.worker.seen.items;
   faults : g.O.Sink.faults l.initial.out ≤ g.O.Sink.faults l.out;
 }

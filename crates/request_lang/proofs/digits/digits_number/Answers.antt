@@ -1,17 +1,19 @@
-use Rattle.std.proofs.Common.{arith}
-use Rattle.request_lang.proofs.DigitLemmas.{digit_fits}
+use Rattle.std.proofs.Common.{sym, arith, inl, inr}
+use Rattle.request_lang.proofs.DigitLemmas.{all_spelled, not_spelled}
 use Rattle.request_lang.proofs.digits.digits_number.Goals as goal
 
-pub overflow_mul-number : goal.overflow_mul-number
-overflow_mul-number c =
-    omega (
-      arith,
-      digit_fits c.loop-b.number c.loop-b.b-index c.loop-b.invariant.below (omega arith),
-    )
+pub returns : goal.returns
+returns c =
+    let leads = c.leading_digits-number.ensures.leads in
+    sym (all_spelled c.args.text.now _ c.leading_digits-number.result.1 leads (omega arith)
+    (omega arith))
 
-pub overflow_add-number : goal.overflow_add-number
-overflow_add-number c =
-    grind (
-      arith,
-      digit_fits c.loop-b.number c.loop-b.b-index c.loop-b.invariant.below (omega arith),
-    )
+pub returns-then-count-eq0 : goal.returns-then-count-eq0
+returns-then-count-eq0 c =
+    let leads = c.leading_digits-number.ensures.leads in
+    sym (not_spelled c.args.text.now _ c.leading_digits-number.result.1 leads (inl (omega arith)))
+
+pub returns-then-count-text : goal.returns-then-count-text
+returns-then-count-text c =
+    let leads = c.leading_digits-number.ensures.leads in
+    sym (not_spelled c.args.text.now _ c.leading_digits-number.result.1 leads (inr (omega arith)))

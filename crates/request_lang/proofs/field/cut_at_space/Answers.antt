@@ -1,4 +1,3 @@
-use Rattle.std.proofs.Common.{◌∙◌, sym}
 use Rattle.request_lang.proofs.TextLemmas.{space_boundary}
 use Rattle.request_lang.proofs.field.cut_at_space.Goals as goal
 

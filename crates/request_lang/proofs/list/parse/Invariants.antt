@@ -1,4 +1,5 @@
-use Rattle.std.proofs.Common.{◌≡◌, ◌+◌, ◌≤◌, length}
+use Rattle.std.proofs.Common.{◌≡◌, ◌+◌, ◌≤◌, length, true}
+use Rattle.std.specs.Str.{IsAscii}
 use Rattle.request_lang.specs.Grammar.{lines_of, requests_of, list_of, max_list_bytes}
 use Rattle.request_lang.proofs.LineLemmas.{with_front}
 use Rattle.request_lang.proofs.list.parse.Given as goal
@@ -7,6 +8,7 @@ abbrev pub invariant-lines : goal.invariant-lines
 invariant-lines l = record {
   so_far : with_front l.requests.items
       (requests_of l.number (length l.requests.items) (lines_of l.rest)) ≡ list_of l.bytes;
+  ascii : l.is_ascii ≡ true → IsAscii l.rest;
   small : l.number + length l.rest ≤ max_list_bytes + 1;
 }
 

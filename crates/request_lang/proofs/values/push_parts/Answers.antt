@@ -1,12 +1,12 @@
-use Rattle.std.proofs.Common.{◌≡◌, ℕ, List, ◌++◌, take, drop, ap, ◌∙◌, arith}
-use Rattle.std.proofs.lemmas.List.{take_rest, take-append-drop}
+use Rattle.std.proofs.Common.{◌≡◌, ◌++◌, take, drop, arith}
+use Rattle.std.proofs.lemmas.List.{take-append-drop}
 use Rattle.request_lang.proofs.AppendLemmas.{pushes_refused, begins_on, one_part}
 use Rattle.request_lang.proofs.values.push_parts.Goals as goal
 
-pub returns-in_err-push_text : goal.returns-in_err-push_text
-returns-in_err-push_text c =
+pub returns-in_err-push_part : goal.returns-in_err-push_part
+returns-in_err-push_part c =
     pushes_refused _ _ c.parts.out.items _ _ c.from_residual.ensures.0 c.parts.invariant.kept
-    c.in_err-push_text.ensures
+    c.in_err-push_part.ensures
 
 pub parts-preserved : goal.parts-preserved
 parts-preserved c =
@@ -14,12 +14,7 @@ parts-preserved c =
     ≡ c.parts.rest.now = take-append-drop c.min.result c.parts.rest.now in
     record {
       pushed = one_part c.parts.out.items c.split_at.result.0.now _ c.parts.rest.now _ _
-          c.parts.invariant.pushed (cc)
-          (
-          c.in_ok-push_text.ensures
-          ∙ ap (λ (xs : List ℕ). c.parts.out.items ++ xs)
-          (take_rest c.put_values-at.new.room c.put_values-at.result ∙ c.put_values-at.ensures.written)
-          );
-      kept = begins_on _ c.parts.out.items _ _ c.parts.invariant.kept c.in_ok-push_text.ensures;
+          c.parts.invariant.pushed (cc) c.in_ok-push_part.ensures;
+      kept = begins_on _ c.parts.out.items _ _ c.parts.invariant.kept c.in_ok-push_part.ensures;
       same_room = omega arith;
     }

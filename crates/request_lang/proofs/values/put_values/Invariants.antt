@@ -1,14 +1,11 @@
-use Rattle.std.proofs.Common.{◌≡◌, ◌*◌, ◌≤◌, ◌++◌, length, drop}
+use Rattle.std.proofs.Common.{◌≡◌, ◌*◌, ◌≤◌, length, take}
 use Rattle.request_lang.specs.Line.{fields}
-use Rattle.request_lang.specs.Appending.{max_value_bytes}
+use Rattle.request_lang.specs.Entry.{max_value_bytes}
 use Rattle.request_lang.proofs.values.put_values.Given as goal
 
-abbrev pub invariant-values : goal.invariant-values
-invariant-values l = record {
-  written : fields l.rest ++ drop l.at l.room ≡ fields l.values;
-  enough : max_value_bytes * length l.rest ≤ l.at;
-  within : l.at ≤ length l.room;
+abbrev pub invariant-loop-value : goal.invariant-loop-value
+invariant-loop-value l = record {
+  written : take l.at l.room ≡ fields (take l.value-index l.values);
+  few : l.at ≤ max_value_bytes * l.value-index;
+  same_room : length l.room ≡ length l.fn.room;
 }
-
-abbrev pub decreases-values : goal.decreases-values
-decreases-values l = length l.rest

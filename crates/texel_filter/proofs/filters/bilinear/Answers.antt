@@ -8,6 +8,6 @@ returns-clause-told g c = λ values is.
     let image = image_of (g.F.Fetch.sizes c.args.f.now) values in
     let level = rw c.levels.ensures.value at c.level_near-level.ensures.value in
     subst
-    (λ l. OnOk c.in_level.result
-    (AreValues (bilinear_in_level image c.args.r.now l) c.in_level.new.out))
-    level (c.in_level.ensures.told values is)
+    (λ l. OnOk c.write_level.result
+    (AreValues (bilinear_in_level image c.args.r.now l) c.write_level.new.out))
+    level (c.write_level.ensures.told values is)

@@ -1,6 +1,6 @@
 use Rattle.texel_filter.specs.Image.{image_of}
 use Rattle.texel_filter.specs.Filter.{bilinear_in_level, trilinear_value}
-use Rattle.texel_filter.specs.Inside.{between_value}
+use Rattle.texel_filter.specs.LevelPair.{between_value}
 use Rattle.texel_filter.proofs.CallLemmas.{on_ok}
 use Rattle.texel_filter.proofs.FilterLemmas.{trilinear_alone, trilinear_between, values_like}
 use Rattle.texel_filter.proofs.FilterLemmas.{visits_alone, visits_between}
@@ -12,7 +12,7 @@ returns-then-levels-eq-NO_SHARE-clause-told g c = λ values is.
     let r = c.args.r.now in
     let first = rw c.levels.ensures.value at c.at-levels.ensures.first in
     let share = rw c.levels.ensures.value at c.at-levels.ensures.share in
-    on_ok c.in_level.result (c.in_level.ensures.told values is)
+    on_ok c.write_level.result (c.write_level.ensures.told values is)
     (values_like (bilinear_in_level image r c.at-levels.result.first) (trilinear_value image r) _
     (λ k. trilinear_alone image r c.at-levels.result.first c.at-levels.result.share k first share
     c.if-levels-eq-NO_SHARE.true))
@@ -23,7 +23,7 @@ returns-then-levels-eq-NO_SHARE-clause-left g c =
     let share = rw c.levels.ensures.value at c.at-levels.ensures.share in
     let same = visits_alone (g.F.Fetch.sizes c.args.f.now) c.args.r.now c.at-levels.result.first
     c.at-levels.result.share first share c.if-levels-eq-NO_SHARE.true in
-    rw (← same) c.in_level.ensures.left
+    rw (← same) c.write_level.ensures.left
 
 pub returns-else-levels-eq-NO_SHARE-clause-told : goal.returns-else-levels-eq-NO_SHARE-clause-told
 returns-else-levels-eq-NO_SHARE-clause-told g c = λ values is.
@@ -31,7 +31,7 @@ returns-else-levels-eq-NO_SHARE-clause-told g c = λ values is.
     let r = c.args.r.now in
     let first = rw c.levels.ensures.value at c.at-levels.ensures.first in
     let share = rw c.levels.ensures.value at c.at-levels.ensures.share in
-    on_ok c.between_levels.result (c.between_levels.ensures.told values is)
+    on_ok c.write_between.result (c.write_between.ensures.told values is)
     (values_like (between_value image r c.at-levels.result) (trilinear_value image r) _
     (λ k. trilinear_between image r c.at-levels.result k first share))
 
@@ -41,4 +41,4 @@ returns-else-levels-eq-NO_SHARE-clause-left g c =
     let share = rw c.levels.ensures.value at c.at-levels.ensures.share in
     let same = visits_between (g.F.Fetch.sizes c.args.f.now) c.args.r.now c.at-levels.result first
     share c.if-levels-eq-NO_SHARE.false in
-    rw (← same) c.between_levels.ensures.left
+    rw (← same) c.write_between.ensures.left

@@ -1,0 +1,53 @@
+-- What do the words of the command line ask for?
+use Rattle.std.specs.Prelude.{◌≡◌, ℕ, List, [], false, Option, Some, None, Result, Ok, Err, ⊤}
+use Rattle.std.specs.Prelude.{if◌then◌else◌, codes}
+use Rattle.clap.specs.Words.{Row, Text, first_of, fault_of, found_of, matches_of, rows_of}
+use Rattle.clap.specs.Walk.{is_empty}
+use Rattle.clap.specs.declared.parser.matches.ArgMatches.{ArgMatches}
+use Rattle.clap.specs.declared.error.kind.ErrorKind.{ErrorKind}
+use Rattle.clap.specs.declared.error.kind.ErrorKind.TheVariants as kind
+use Rattle.command_line.specs.declared.options.Options.{Options}
+use Rattle.command_line.specs.declared.invocation.Invocation.{Invocation}
+use Rattle.command_line.specs.declared.invocation.WordsError.{WordsError}
+use Rattle.command_line.specs.declared.invocation.WordsError.TheVariants.{Bad, NoMemory}
+use Rattle.command_line.specs.Command.{command}
+use Rattle.command_line.specs.Options.{options_of, ◌>>=◌}
+
+-- the path of a folder, and options
+abbrev pub Asked : Type 0
+Asked = List ℕ × Options
+
+-- what the matches of the words ask for
+abbrev pub asked_for : List Row → Option Asked
+asked_for rows = do
+  folder ← first_of (codes "FOLDER") rows
+  options ← options_of rows
+  Some (folder, options)
+
+-- What words ask for: what their matches do, where the command takes them and each number is in its
+-- range.
+unfoldable pub invocation_of : List Text → Option Asked
+invocation_of words =
+    if is_empty (fault_of command words) then asked_for (matches_of command words) else None
+
+-- the path and the options of an invocation
+abbrev pub shown : Invocation → Asked
+shown i = (i.folder.now, i.options)
+
+-- exactly what is asked for, want of memory aside
+abbrev pub Reads : Option Asked → Result Invocation WordsError → Type 0
+Reads said (Ok i) = said ≡ Some (shown i)
+Reads said (Err Bad) = said ≡ None
+Reads said (Err NoMemory) = ⊤
+
+-- the words are taken, and these are their matches; or they are not, or no memory was found
+abbrev pub Takes : List Text → Result ArgMatches WordsError → Type 0
+Takes words (Ok m) =
+    (fault_of command words ≡ []) × (rows_of (found_of m) ≡ matches_of command words)
+Takes words (Err Bad) = is_empty (fault_of command words) ≡ false
+Takes words (Err NoMemory) = ⊤
+
+-- why words with an error of this kind ask for nothing
+abbrev pub refused : ErrorKind → WordsError
+refused kind.OutOfMemory = NoMemory
+refused _ = Bad

@@ -1,0 +1,4 @@
+pub mod Range
+pub mod Command
+pub mod Options
+pub mod Invocation

@@ -1,0 +1,48 @@
+-- Which options do the matches of the words give?
+use Rattle.std.specs.Prelude.{ℕ, ◌≤◌, List, Option, Some, None, not, codes, Bool}
+use Rattle.std.specs.Prelude.{false}
+use Rattle.std.specs.Option.{option_map_or}
+use Rattle.std.specs.Str.{bytes_eq}
+use Rattle.clap.specs.Words.{Row, Text, first_of}
+use Rattle.tile_layout.specs.Cut.{IsCut}
+use Rattle.command_line.specs.declared.range.NumberRange.{NumberRange}
+use Rattle.command_line.specs.declared.options.Options.{Options}
+use Rattle.command_line.specs.Range as range
+
+-- what is made of a value that is there
+infixl 10 ◌>>=◌
+abbrev pub ◌>>=◌ : {A B : Type 0} → Option A → (A → Option B) → Option B
+None >>= next = None
+(Some v) >>= next = next v
+
+-- the number of an option, by its value or its default
+abbrev pub number : NumberRange → Text → List Row → Option ℕ
+number of name rows = range.number_or_default of (first_of name rows)
+
+-- the flag is given
+abbrev pub is_given : Text → List Row → Bool
+is_given name rows = option_map_or (λ text. bytes_eq text (codes "true")) (first_of name rows) false
+
+-- the options, if each number is in its range
+abbrev pub options_of : List Row → Option Options
+options_of rows = do
+  workers ← number range.workers (codes "workers") rows
+  budget ← number range.budget (codes "budget") rows
+  shards ← number range.shards (codes "shards") rows
+  handles ← number range.handles (codes "handles") rows
+  autotile ← number range.autotile (codes "autotile") rows
+  Some (record {
+    workers = workers;
+    budget = budget;
+    shards = shards;
+    handles = handles;
+    cut = record { autotile = autotile; automip = not (is_given (codes "no-automip") rows) };
+  })
+
+-- each number is in its range
+pub record IsInRange (o : Options) : Type 0 where
+  pub workers : (1 ≤ o.workers) × (o.workers ≤ 1)
+  pub budget : o.budget ≤ range.budget.most
+  pub shards : (1 ≤ o.shards) × (o.shards ≤ 64)
+  pub handles : (1 ≤ o.handles) × (o.handles ≤ 1024)
+  pub cut : IsCut o.cut

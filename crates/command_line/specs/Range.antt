@@ -1,0 +1,46 @@
+-- Which numbers does an option take, and which does it have where it is not given?
+use Rattle.std.specs.Prelude.{ℕ, ◌%◌, ◌==◌, ◌&&◌, ◌^◌, nat_le, List, Option, Some, None}
+use Rattle.std.specs.Prelude.{if◌then◌else◌, option_and_then}
+use Rattle.request_lang.specs.Field.{digits_number}
+use Rattle.command_line.specs.declared.range.NumberRange.{NumberRange}
+
+-- from the least to the most in steps
+abbrev pub range : ℕ → ℕ → ℕ → ℕ → NumberRange
+range least most step default =
+    record { least = least; most = most; step = step; default = default }
+
+-- the number, if the option takes it
+abbrev pub taken : NumberRange → ℕ → Option ℕ
+taken range n =
+    if nat_le range.least n && (nat_le n range.most && n % range.step == 0) then Some n else None
+
+-- the number that a value of 1 to 10 decimal digits spells, if the option takes it
+abbrev pub number_in : NumberRange → List ℕ → Option ℕ
+number_in range text = option_and_then (taken range) (digits_number text)
+
+-- the number of an option whose value is this, or which is not given
+abbrev pub number_or_default : NumberRange → Option (List ℕ) → Option ℕ
+number_or_default range None = Some range.default
+number_or_default range (Some text) = number_in range text
+
+-- ---- the ranges
+
+-- --workers
+abbrev pub workers : NumberRange
+workers = range 1 1 1 1
+
+-- --budget
+abbrev pub budget : NumberRange
+budget = range 0 (2 ^ 32) 1 (2 ^ 28)
+
+-- --shards
+abbrev pub shards : NumberRange
+shards = range 1 64 1 16
+
+-- --handles
+abbrev pub handles : NumberRange
+handles = range 1 1024 1 100
+
+-- --autotile
+abbrev pub autotile : NumberRange
+autotile = range 0 4096 16 64

@@ -1,0 +1,85 @@
+//! What the words of the command line ask for.
+
+ghost use Rattle.std.specs.Prelude.{◌≡◌, map, IfOk, IfSome, option_map};
+ghost use Rattle.std.specs.String.{string_bytes};
+ghost use Rattle.clap.specs.Words.{app_of, found_of, kind_of, rows_of};
+ghost use Rattle.command_line.specs.Options.{IsInRange};
+ghost use Rattle.command_line.specs.Command as line;
+ghost use Rattle.command_line.specs.Invocation as spec;
+
+use crate::command::command;
+use crate::options::{Options, options_of, text_of};
+use clap::error::ErrorKind;
+use clap::{ArgMatches, Command, Error};
+use std::alloc::{AllocError, Global};
+
+/// What the words of the command line ask for.
+#[derive(Clone, Copy, Debug, PartialEq, Eq)]
+pub struct Invocation<'a> {
+    /// The path of the folder.
+    pub folder: &'a str,
+    /// The options of the run.
+    pub options: Options,
+}
+
+/// Why the words ask for nothing.
+#[derive(Clone, Copy, Debug, PartialEq, Eq)]
+pub enum WordsError {
+    /// They are not those of the command, or a number is out of its range.
+    Bad,
+    /// No memory was found.
+    NoMemory,
+}
+
+impl From<AllocError> for WordsError {
+    ghost use Rattle.command_line.specs.declared.invocation.WordsError.TheVariants.{NoMemory};
+
+    ghost from_gives = { λ _ e. e ≡ NoMemory };
+
+    fn from(_e: AllocError) -> WordsError {
+        WordsError::NoMemory
+    }
+}
+
+/// Why words that the command refused ask for nothing.
+fn refused(error: &Error) -> WordsError
+    ensures { result ≡ spec.refused (kind_of error.now) }
+{
+    match error.kind() {
+        ErrorKind::OutOfMemory => WordsError::NoMemory,
+        _ => WordsError::Bad,
+    }
+}
+
+/// The matches of the words, if the command takes them.
+fn taken<'a>(command: Command<'a>, words: &'a [String]) -> Result<ArgMatches<'a>, WordsError>
+    requires { app_of command ≡ line.command }
+    ensures { spec.Takes (map string_bytes words.entry.now) result }
+{
+    match command.try_get_matches_from(words) {
+        Ok(matches) => Ok(matches),
+        Err(error) => Err(refused(&error)),
+    }
+}
+
+/// What the matches of the words ask for.
+fn asked_for<'a>(matches: &ArgMatches<'a>) -> Option<Invocation<'a>>
+    ensures value { option_map spec.shown result
+        ≡ spec.asked_for (rows_of (found_of matches.now)) }
+    ensures in_range { IfSome result (λ i. IsInRange i.options) }
+{
+    let folder = text_of(matches, "FOLDER")?;
+    let options = options_of(matches)?;
+    Some(Invocation { folder, options })
+}
+
+/// What the words ask for, of which none is the program's name.
+pub fn invocation_of<'a>(alloc: Global, words: &'a [String]) -> Result<Invocation<'a>, WordsError>
+    ensures exact { spec.Reads (spec.invocation_of (map string_bytes words.entry.now)) result }
+    ensures in_range { IfOk result (λ i. IsInRange i.options) }
+{
+    match taken(command(alloc)?, words) {
+        Ok(matches) => asked_for(&matches).ok_or(WordsError::Bad),
+        Err(error) => Err(error),
+    }
+}

@@ -1,0 +1,11 @@
+//! The words of the command line: the folder that they name, and the options of a run.
+#![tactic(auto)]
+
+mod command;
+mod invocation;
+mod options;
+mod range;
+
+pub use invocation::{Invocation, WordsError, invocation_of};
+pub use options::Options;
+pub use range::NumberRange;

@@ -1,0 +1,70 @@
+//! The options of a run.
+
+ghost use Rattle.std.specs.Prelude.{◌≡◌, ◌<◌, ◌≤◌, IfSome, option_map};
+ghost use Rattle.clap.specs.Words.{first_of, found_of, rows_of};
+ghost use Rattle.command_line.specs.Options as spec;
+
+use crate::range::{AUTOTILE, BUDGET, HANDLES, NumberRange, SHARDS, WORKERS, number_or_default};
+use clap::ArgMatches;
+use tile_layout::Cut;
+
+/// The options of a run.
+#[derive(Clone, Copy, Debug, PartialEq, Eq)]
+pub struct Options {
+    /// How many workers answer requests.
+    pub workers: u32,
+    /// How many bytes the cached texels take.
+    pub budget: u64,
+    /// How many shards the cache has.
+    pub shards: u32,
+    /// How many files are kept open.
+    pub handles: u32,
+    /// How levels are cut into cells, and which levels a file has.
+    pub cut: Cut,
+}
+
+/// The text of an argument, if it was given or has one by default.
+pub(crate) fn text_of<'a>(matches: &ArgMatches<'a>, name: &str) -> Option<&'a str>
+    ensures { option_map (λ s. s.now) result ≡ first_of name.now (rows_of (found_of matches.now)) }
+{
+    matches.get_str(name)
+}
+
+/// The number of an option, by its value or its default.
+fn number(matches: &ArgMatches<'_>, name: &str, range: NumberRange) -> Option<u64>
+    requires step { 0 < range.step }
+    requires default { range.default ≤ range.most }
+    ensures value { result ≡ spec.number range name.now (rows_of (found_of matches.now)) }
+    ensures within { IfSome result (λ n. n ≤ range.most) }
+{
+    number_or_default(range, text_of(matches, name))
+}
+
+/// The flag was given.
+fn is_given(matches: &ArgMatches<'_>, name: &str) -> bool
+    ensures { result ≡ spec.is_given name.now (rows_of (found_of matches.now)) }
+{
+    text_of(matches, name) == Some("true")
+}
+
+/// The options that the matches of the words give.
+pub(crate) fn options_of(matches: &ArgMatches<'_>) -> Option<Options>
+    ensures value { result ≡ spec.options_of (rows_of (found_of matches.now)) }
+    ensures in_range { IfSome result spec.IsInRange }
+{
+    let workers = number(matches, "workers", WORKERS)?;
+    let budget = number(matches, "budget", BUDGET)?;
+    let shards = number(matches, "shards", SHARDS)?;
+    let handles = number(matches, "handles", HANDLES)?;
+    let autotile = number(matches, "autotile", AUTOTILE)?;
+    Some(Options {
+        workers: workers as u32,
+        budget,
+        shards: shards as u32,
+        handles: handles as u32,
+        cut: Cut {
+            autotile: autotile as u32,
+            automip: !is_given(matches, "no-automip"),
+        },
+    })
+}

@@ -1,0 +1,115 @@
+-- What do the calls of a table give, when may each be refused, and what do they leave of the view
+-- and of the tap?
+use Rattle.std.specs.Prelude.{◌≡◌, ◌≢◌, ◌⊎◌, ℕ, ◌<◌, ◌≤◌, slice_index, ⊤}
+use Rattle.tex_world.specs.Counts.{Rises, RisesByOne}
+use Rattle.tex_world.specs.World.{Files, IsReal}
+use Rattle.tex_world.specs.Tap.{Named, TapState}
+use Rattle.gen_board.specs.View.{ViewState, IsLater}
+use Rattle.tile_layout.specs.declared.cut.Cut.{Cut}
+use Rattle.file_table.specs.Record.{RecordState, IsRecord}
+use Rattle.file_table.specs.declared.error.RecordError.{RecordError}
+use Rattle.file_table.specs.declared.error.RecordError.TheVariants as reading
+use Rattle.file_table.specs.declared.error.LendError.{LendError}
+use Rattle.file_table.specs.declared.error.LendError.TheVariants as lending
+
+-- what is known of a view and of a tap
+pub record Sighted : Type 0 where
+  pub view : ViewState
+  pub tap : TapState
+
+abbrev pub sighted : ViewState → TapState → Sighted
+sighted view tap = record { view = view; tap = tap }
+
+-- ---- what a call leaves
+
+-- Only the word of this file was looked at or raised, and no number that was seen has fallen.
+pub record KeepsView (file : ℕ) (old new : ViewState) : Type 0 where
+  pub board : new.board ≡ old.board
+  pub later : IsLater old.seen new.seen
+  pub seen_others : (f : ℕ) → f ≢ file → slice_index new.seen f ≡ slice_index old.seen f
+  pub steps_later : slice_index old.steps file ≤ slice_index new.steps file
+  pub steps_others : (f : ℕ) → f ≢ file → slice_index new.steps f ≡ slice_index old.steps f
+
+-- and the word of this file was looked at or raised
+pub record LooksAt (file : ℕ) (old new : ViewState) : Type 0 where
+  pub keeps : KeepsView file old new
+  pub looked : slice_index old.steps file < slice_index new.steps file
+
+-- The tap had no call but reads.
+pub record ReadsOnly (old new : TapState) : Type 0 where
+  pub faults : old.faults ≤ new.faults
+  pub calls : old.calls ≤ new.calls
+  pub opens : new.opens ≡ old.opens
+  pub moves : old.moves ≤ new.moves
+  pub asks : new.asks ≡ old.asks
+  pub newest : new.newest ≡ old.newest
+
+-- The tap was asked to open a file once, and for nothing but that and reads.
+pub record OpensOnce (old new : TapState) : Type 0 where
+  pub faults : old.faults ≤ new.faults
+  pub calls : Rises old.calls new.calls
+  pub opens : RisesByOne old.opens new.opens
+  pub moves : old.moves ≤ new.moves
+  pub asks : new.asks ≡ old.asks
+  pub newest : new.newest ≡ old.newest
+
+-- The tap had no call at all, or a file was opened once.
+abbrev pub OpensIfAtAll : TapState → TapState → Type 0
+OpensIfAtAll old new = (new ≡ old) ⊎ OpensOnce old new
+
+-- ---- record
+
+-- The record is of this file and used under this cut, and its generation is at least what the view
+-- had seen. The view has then seen at least it.
+pub record GivesRecord (files : Files) (file : ℕ) (cut : Cut) (old new : ViewState)
+    (state : RecordState) : Type 0 where
+  pub of_file : state.file ≡ file
+  pub under : state.cut ≡ cut
+  pub honest : IsRecord files state
+  pub new_enough : slice_index old.seen file ≤ state.generation
+  pub seen : state.generation ≤ slice_index new.seen file
+
+-- The file was met in the generation `from`, which is at least `least`, and then in the newer `to`.
+pub record MeetsNewer (files : Files) (file least from to : ℕ) (old new : TapState) : Type 0 where
+  pub from_real : IsReal files file from
+  pub to_real : IsReal files file to
+  pub new_enough : least ≤ from
+  pub newer : from < to
+  pub moves : Rises old.moves new.moves
+
+-- why a file that was opened has no record
+abbrev pub OpenedCause : {B : Type 0} → Files → ℕ → ℕ → TapState → TapState → RecordError B
+    → Type 0
+OpenedCause files file least old new reading.ReadFault = Rises old.faults new.faults
+OpenedCause files file least old new (reading.Again from to) =
+    MeetsNewer files file least from to old new
+OpenedCause files file least old new reading.NoMemory = ⊤
+OpenedCause files file least old new (reading.Busy b) = ⊥
+
+-- Why a file has no record. Where a newer generation was met the view has then seen it, and memory
+-- is wanting only where the file was opened. Where the waiter gave up the tap had no call.
+abbrev pub RecordCause : {B : Type 0} → Files → ℕ → Sighted → Sighted → RecordError B → Type 0
+RecordCause files file old new reading.ReadFault = Rises old.tap.faults new.tap.faults
+RecordCause files file old new (reading.Again from to) =
+    MeetsNewer files file (slice_index old.view.seen file) from to old.tap new.tap
+    × (to ≤ slice_index new.view.seen file)
+RecordCause files file old new reading.NoMemory = OpensOnce old.tap new.tap
+RecordCause files file old new (reading.Busy b) = new.tap ≡ old.tap
+
+-- ---- lend
+
+-- the handle is of exactly this generation of this file
+pub record IsOfExactly (file generation : ℕ) (handle : Named) : Type 0 where
+  pub of_file : handle.file ≡ file
+  pub of_generation : handle.generation ≡ generation
+
+-- Why a handle of a generation is not lent. Where a newer one was met the view has then seen it,
+-- and memory is wanting only where the file was opened. Where the waiter gave up the tap had no
+-- call.
+abbrev pub LendCause : {B : Type 0} → Files → ℕ → ℕ → Sighted → Sighted → LendError B → Type 0
+LendCause files file generation old new lending.ReadFault = Rises old.tap.faults new.tap.faults
+LendCause files file generation old new (lending.Again from to) =
+    (from ≡ generation) × MeetsNewer files file generation from to old.tap new.tap
+    × (to ≤ slice_index new.view.seen file)
+LendCause files file generation old new lending.NoMemory = OpensOnce old.tap new.tap
+LendCause files file generation old new (lending.Busy b) = new.tap ≡ old.tap

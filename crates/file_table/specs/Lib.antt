@@ -1,0 +1,4 @@
+pub mod Record
+pub mod Files
+pub mod Calls
+pub mod Idle

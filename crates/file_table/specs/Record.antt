@@ -1,0 +1,71 @@
+-- What does a record say of its file?
+use Rattle.std.specs.Prelude.{◌≡◌, ◌↔◌, ℕ, ◌<◌, ◌≤◌, Bool, IsTrue, List, length, slice_index_or}
+use Rattle.std.specs.Prelude.{Result, Ok, Err, IfOk, IsOkAnd}
+use Rattle.std.specs.Option.{ForSome, option_map_or}
+use Rattle.tex_world.specs.World.{Files, IsReal}
+use Rattle.tiff_dirs.specs.Level.{first_fault, max_levels}
+use Rattle.tiff_dirs.specs.declared.fault.TiffFault.{TiffFault}
+use Rattle.tile_layout.specs.declared.cut.Cut.{Cut}
+use Rattle.tile_layout.specs.declared.grid.Grid.{Grid}
+use Rattle.tile_layout.specs.Kept.{Kept, kept_of}
+use Rattle.tile_layout.specs.Level.{level_count_in}
+use Rattle.tile_layout.specs.Cell.{cut_level_in, CellsFit}
+use Rattle.tile_layout.specs.Grid.{shown_grid}
+
+-- The file and the generation that it is of, the cut that it is used under, and what is kept of
+-- those bytes, or their fault.
+pub record RecordState : Type 0 where
+  pub file : ℕ
+  pub generation : ℕ
+  pub cut : Cut
+  pub layout : Result Kept TiffFault
+
+abbrev pub record_state : ℕ → ℕ → Cut → Result Kept TiffFault → RecordState
+record_state file generation cut layout = record {
+  file = file;
+  generation = generation;
+  cut = cut;
+  layout = layout;
+}
+
+-- what bytes give: the first fault that they show, and where they show none what is kept of them
+abbrev pub layout_of : List ℕ → Result Kept TiffFault
+layout_of bytes = option_map_or Err (first_fault bytes) (Ok (kept_of bytes))
+
+-- The generation is a real one of the file. Where the world tells, the layout is that of the bytes
+-- of this file and generation.
+pub record IsRecord (files : Files) (state : RecordState) : Type 0 where
+  pub real : IsReal files state.file state.generation
+  pub layout : ForSome (files.held state.file state.generation) (λ bytes.
+      state.layout ≡ layout_of bytes)
+
+-- ---- what lookups ask for
+
+-- the file shows no fault and has this level under the cut
+abbrev pub HasCutLevel : RecordState → ℕ → Type 0
+HasCutLevel state l =
+    IsOkAnd state.layout (λ kept. l < level_count_in kept state.cut.automip)
+
+-- the file has so many levels under the cut
+abbrev pub CountsLevels : RecordState → ℕ → Type 0
+CountsLevels state n = IfOk state.layout (λ kept. n ≡ level_count_in kept state.cut.automip)
+
+-- the level is cut so
+abbrev pub CutsLevel : RecordState → ℕ → Grid → Type 0
+CutsLevel state l grid =
+    IfOk state.layout (λ kept. shown_grid grid ≡ cut_level_in kept state.cut l)
+
+-- whether no cell of any level takes more memory than a cell may
+abbrev pub TellsFit : RecordState → Bool → Type 0
+TellsFit state fits = IfOk state.layout (λ kept. IsTrue fits ↔ CellsFit kept state.cut)
+
+-- these are the levels of what is kept of a file, as a cut cuts them
+pub record AreGridsOf (kept : Kept) (cut : Cut) (grids : List Grid) : Type 0 where
+  pub count : length grids ≡ level_count_in kept cut.automip
+  pub each : (l : ℕ) (d : Grid) → l < length grids
+      → shown_grid (slice_index_or grids l d) ≡ cut_level_in kept cut l
+
+-- the levels of a file without fault, and never more than a file can have
+pub record HasGrids (state : RecordState) (grids : List Grid) : Type 0 where
+  pub few : length grids ≤ max_levels
+  pub levels : IfOk state.layout (λ kept. AreGridsOf kept state.cut grids)

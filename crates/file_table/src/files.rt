@@ -1,0 +1,232 @@
+ghost use Rattle.std.specs.Prelude.{◌≡◌, ℕ, ◌<◌, ◌≤◌, IfOk, IfErr, IfSome, slice_index};
+ghost use Rattle.tex_world.specs.World.{IsFile, IsReal};
+ghost use Rattle.gen_board.specs.View.{IsNewView};
+ghost use Rattle.tile_layout.specs.Cut.{IsCut};
+ghost use Rattle.file_table.specs.Calls.{sighted, KeepsView, LooksAt, OpensIfAtAll, OpensOnce};
+ghost use Rattle.file_table.specs.Files.{HasLocks};
+ghost use Rattle.file_table.specs.Calls.{GivesRecord, RecordCause};
+
+use crate::error::RecordError;
+use crate::home::put_back;
+use crate::idle::{IdleHandles, SoMany};
+use crate::known::{KnownRecord, OfFile};
+use crate::open::open_record;
+use crate::record::Record;
+use gen_board::{Board, View};
+use std::alloc::{AllocError, Global};
+use std::marker::Model;
+use std::sync::Arc;
+use tag_lock::TagLock;
+use tex_world::{NoMemory, Tap, World};
+use tile_layout::Cut;
+use waiter::Waiter;
+
+/// The lock of a file's record. Its tag is the number of the file.
+type RecordLock<W> = TagLock<KnownRecord<W>, OfFile<W>>;
+
+/// The lock of the handles that lie idle. Its tag is the most that there may be.
+type IdleLock<H> = TagLock<IdleHandles<H>, SoMany>;
+
+/// The files of a folder as many workers use them. In a clause it is its board, the most handles
+/// that lie idle in it, and the cut that its files are used under. It holds no tap: `T` names the
+/// world, and the kind of handles that lie idle.
+#[derive(Drop)]
+pub struct Files<T: Tap> {
+    pub(crate) alloc: Global,
+    board: Board<T::W>,
+    records: Vec<RecordLock<T::W>>,
+    pub(crate) idle: IdleLock<T::Handle>,
+    cut: Cut,
+}
+
+impl<T: Tap> Model for Files<T> {
+    ghost use Rattle.tile_layout.specs.Cut.{IsCut};
+    ghost use Rattle.file_table.specs.Files.{FilesState, HasLocks};
+
+    ghost Value = { FilesState };
+
+    ghost view = { λ f. record { board = f.board; cap = f.idle; cut = f.cut } };
+
+    ghost invariant = { λ f. HasLocks f.board.files f.records.items × IsCut f.cut };
+}
+
+/// A lock for the record of each file. No record is known yet.
+fn record_locks<W: World>(alloc: Global, files: u32) -> Result<Vec<RecordLock<W>>, AllocError>
+    ensures { IfOk result (λ locks. HasLocks files locks.items) }
+{
+    let mut locks = Vec::with_capacity(alloc, files as usize)?;
+    for file in 0..files {
+        locks.push(TagLock::new(u64::from(file), KnownRecord::none()))?;
+    }
+    Ok(locks)
+}
+
+impl<T: Tap> Files<T> {
+    /// A table of so many files, none of which is known yet, and the first view of its board.
+    /// At most `cap` handles lie idle in it, and its files are used under the cut.
+    pub fn new(
+        alloc: Global,
+        files: u32,
+        cap: usize,
+        cut: Cut,
+    ) -> Result<(Files<T>, View<T::W>), NoMemory>
+        requires cap { 0 < cap }
+        requires cut { IsCut cut }
+        ensures board { IfOk result (λ made. IsNewView files made.0.board made.1) }
+        ensures cap { IfOk result (λ made. made.0.cap ≡ cap) }
+        ensures cut { IfOk result (λ made. made.0.cut ≡ cut) }
+    {
+        let (board, view) = Board::new(alloc, files)?;
+        let Ok(records) = record_locks(alloc, files) else {
+            return Err(NoMemory);
+        };
+        let idle = IdleHandles::new(alloc, cap)?;
+        let table = Files {
+            alloc,
+            board,
+            records,
+            idle: TagLock::new(cap as u64, idle),
+            cut,
+        };
+        Ok((table, view))
+    }
+
+    /// The newest known generations.
+    pub fn board(&self) -> &Board<T::W>
+        ensures { result.now ≡ self.now.board }
+    {
+        &self.board
+    }
+
+    /// The record of the newest known generation of a file.
+    ///
+    /// The board is looked at once. A record that is kept and new enough is answered without a call
+    /// of the tap. Else the file is opened and read, and its record is kept, unless the waiter then
+    /// gives up. The lock of the file's record is held for no read and for no growth of memory.
+    pub fn record<V: Waiter>(
+        &self,
+        waiter: &V,
+        view: &mut View<T::W>,
+        tap: &mut T,
+        file: u32,
+    ) -> Result<Arc<Record<T::W>>, RecordError<V::Busy>>
+        requires board { view.old.board ≡ self.now.board }
+        requires file { file < self.now.board.files }
+        requires told { IsFile T.W.files file }
+        ensures ok { IfOk result (λ r. GivesRecord T.W.files file self.now.cut view.old view.new
+            r.value) }
+        ensures cause { IfErr result (RecordCause T.W.files file
+            (sighted view.old (T.state tap.old)) (sighted view.new (T.state tap.new))) }
+
+        // What the call leaves, whatever it answers.
+        ensures looks { LooksAt file view.old view.new }
+        ensures once { OpensIfAtAll (T.state tap.old) (T.state tap.new) }
+    {
+        let least = self.board.look(view, file);
+        let known = match self.known(waiter, file, least) {
+            Ok(known) => known,
+            Err(busy) => return Err(RecordError::Busy(busy)),
+        };
+        match known {
+            Some(found) => {
+                self.see(view, file, found.generation());
+                Ok(found)
+            }
+            None => self.read_anew(waiter, view, tap, file),
+        }
+    }
+
+    /// The record that is kept of a file, where its generation is at least `least`.
+    fn known<V: Waiter>(
+        &self,
+        waiter: &V,
+        file: u32,
+        least: u32,
+    ) -> Result<Option<Arc<Record<T::W>>>, V::Busy>
+        requires { file < self.now.board.files }
+        ensures { IfOk result (λ found. IfSome found (λ r.
+            (r.value.file ≡ file) × (least ≤ r.value.generation)
+            × (r.value.cut ≡ self.now.cut))) }
+    {
+        let lock = &self.records[file as usize];
+        let known = lock.take(waiter)?;
+        let found = known.at_least(least, self.cut);
+        // Who took it puts it back at the first try.
+        put_back(lock, waiter, known);
+        Ok(found)
+    }
+
+    /// Forgets the record that is kept of a file.
+    pub(crate) fn forget<V: Waiter>(&self, waiter: &V, file: u32) -> Result<(), V::Busy>
+        requires { file < self.now.board.files }
+    {
+        let lock = &self.records[file as usize];
+        let _forgotten = lock.take(waiter)?;
+        put_back(lock, waiter, KnownRecord::none());
+        Ok(())
+    }
+
+    /// Makes a generation known, where the view has seen less.
+    pub(crate) fn see(&self, view: &mut View<T::W>, file: u32, generation: u32)
+        requires board { view.old.board ≡ self.now.board }
+        requires file { file < self.now.board.files }
+        requires real { IsReal T.W.files file generation }
+        ensures keeps { KeepsView file view.old view.new }
+        ensures seen { generation ≤ slice_index view.new.seen file }
+    {
+        if view.seen(file) < generation {
+            self.board.raise(view, file, generation);
+        }
+    }
+
+    /// Opens and reads a file at a generation that is at least what the view has seen, and keeps
+    /// its record.
+    fn read_anew<V: Waiter>(
+        &self,
+        waiter: &V,
+        view: &mut View<T::W>,
+        tap: &mut T,
+        file: u32,
+    ) -> Result<Arc<Record<T::W>>, RecordError<V::Busy>>
+        requires board { view.old.board ≡ self.now.board }
+        requires file { file < self.now.board.files }
+        requires told { IsFile T.W.files file }
+        ensures ok { IfOk result (λ r. GivesRecord T.W.files file self.now.cut view.old view.new
+            r.value) }
+        ensures cause { IfErr result (RecordCause T.W.files file
+            (sighted view.old (T.state tap.old)) (sighted view.new (T.state tap.new))) }
+        ensures keeps { KeepsView file view.old view.new }
+        ensures once { OpensOnce (T.state tap.old) (T.state tap.new) }
+    {
+        match open_record(self.alloc, tap, file, view.seen(file), self.cut) {
+            Ok(read) => {
+                self.see(view, file, read.generation());
+                let Ok(read) = Arc::new(self.alloc, read) else {
+                    return Err(RecordError::NoMemory);
+                };
+                self.keep(waiter, file, &read);
+                Ok(read)
+            }
+            Err(RecordError::Again { from, to }) => {
+                self.see(view, file, to);
+                Err(RecordError::Again { from, to })
+            }
+            Err(other) => Err(other),
+        }
+    }
+
+    /// Keeps a record for the calls to come, unless the waiter gives up.
+    fn keep<V: Waiter>(&self, waiter: &V, file: u32, read: &Arc<Record<T::W>>)
+        requires file { file < self.now.board.files }
+        requires of_file { read.now.value.file ≡ file }
+    {
+        let Ok(shared) = Arc::try_clone(read) else {
+            return;
+        };
+        let lock = &self.records[file as usize];
+        if let Ok(mut known) = lock.take(waiter) {
+            let _older = known.keep(shared);
+            put_back(lock, waiter, known);
+        }
+    }
+}

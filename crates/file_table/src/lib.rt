@@ -1,0 +1,17 @@
+//! The files of a folder as many workers use them: of each file a record of its newest known
+//! generation, which is read once and shared, and open handles that lie idle until they are lent.
+#![tactic(auto)]
+
+mod error;
+mod files;
+mod home;
+mod idle;
+mod known;
+mod lending;
+mod open;
+mod record;
+
+pub use error::{LendError, NotSettled, RecordError};
+pub use files::Files;
+pub use idle::IdleHandles;
+pub use record::Record;

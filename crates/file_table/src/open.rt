@@ -1,0 +1,75 @@
+//! A file opened and read, which makes its record.
+ghost use Rattle.std.specs.Prelude.{◌≡◌, ◌≤◌, IfOk, IfErr};
+ghost use Rattle.tex_world.specs.World.{IsFile};
+ghost use Rattle.tex_world.specs.Tap.{IsLeast};
+ghost use Rattle.tile_layout.specs.Cut.{IsCut};
+ghost use Rattle.file_table.specs.Calls.{OpensOnce, OpenedCause, ReadsOnly};
+
+use crate::error::RecordError;
+use crate::record::Record;
+use std::alloc::Global;
+use tap_reader::TapReader;
+use tex_world::{OpenError, ReadError, Tap, TapHandle};
+use tiff_dirs::{DirsError, read_dirs};
+use tile_layout::{Cut, Layout};
+
+/// Opens a file at a generation that is at least `least`, and reads its record.
+pub(crate) fn open_record<T: Tap, B>(
+    alloc: Global,
+    tap: &mut T,
+    file: u32,
+    least: u32,
+    cut: Cut,
+) -> Result<Record<T::W>, RecordError<B>>
+    requires file { IsFile T.W.files file }
+    requires least { IsLeast T.W.files file least }
+    requires cut { IsCut cut }
+    ensures ok { IfOk result (λ r. (r.file ≡ file) × (least ≤ r.generation) × (r.cut ≡ cut)) }
+    ensures once { OpensOnce (T.state tap.old) (T.state tap.new) }
+    ensures cause { IfErr result
+        (OpenedCause T.W.files file least (T.state tap.old) (T.state tap.new)) }
+{
+    match tap.open(alloc, file, least) {
+        Ok(handle) => read_record(alloc, tap, handle, cut),
+        Err(OpenError::Failed) => Err(RecordError::ReadFault),
+        Err(OpenError::NoMemory) => Err(RecordError::NoMemory),
+    }
+}
+
+/// Reads the record of the generation that a handle names.
+fn read_record<T: Tap, B>(
+    alloc: Global,
+    tap: &mut T,
+    mut handle: T::Handle,
+    cut: Cut,
+) -> Result<Record<T::W>, RecordError<B>>
+    requires { IsCut cut }
+    ensures ok { let named = T.Handle.named handle in IfOk result (λ r.
+        (r.file ≡ named.file) × (r.generation ≡ named.generation) × (r.cut ≡ cut)) }
+    ensures reads { ReadsOnly (T.state tap.old) (T.state tap.new) }
+    ensures cause { let named = T.Handle.named handle in IfErr result (OpenedCause T.W.files
+        named.file named.generation (T.state tap.old) (T.state tap.new)) }
+{
+    let file = handle.file();
+    let generation = handle.generation();
+    let mut reader = TapReader {
+        tap,
+        handle: &mut handle,
+    };
+    let layout = match read_dirs(alloc, &mut reader) {
+        Ok(dirs) => Ok(Layout::of(dirs)),
+        Err(DirsError::Fault(fault)) => Err(fault),
+        Err(DirsError::Reader(ReadError::Failed)) => return Err(RecordError::ReadFault),
+        Err(DirsError::Reader(ReadError::Gone(to))) => {
+            return Err(RecordError::Again {
+                from: generation,
+                to,
+            });
+        }
+        Err(DirsError::NoMemory) => return Err(RecordError::NoMemory),
+    };
+    match Record::of(alloc, file, generation, cut, layout) {
+        Ok(read) => Ok(read),
+        Err(_) => Err(RecordError::NoMemory),
+    }
+}

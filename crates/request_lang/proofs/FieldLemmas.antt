@@ -1,0 +1,74 @@
+-- What does a field spell that begins with digits?
+use Rattle.std.proofs.Common.{◌≡◌, ℕ, ◌+◌, ◌-◌, ◌*◌, ◌<◌, ◌≤◌, ◌==◌, inl, inr}
+use Rattle.std.proofs.Common.{List, [], length, take, drop, get_or}
+use Rattle.std.proofs.Common.{Some, None, sym, ap, ◌∙◌, arith}
+use Rattle.std.specs.Char.{is_ascii_digit}
+use Rattle.std.specs.Prelude.{fold, min}
+use Rattle.std.specs.List.{list_all}
+use Rattle.std.proofs.lemmas.List.{get_or-take, take-take, length-take}
+use Rattle.std.proofs.Math.ListN.{drop_of_length-le}
+use Rattle.request_lang.specs.Field.{before_space, from_space, space_at, digits_number}
+use Rattle.request_lang.specs.Digits.{LeadsWith}
+use Rattle.request_lang.proofs.SpaceLemmas.{not_space, space_behind, space_farther, space_here}
+use Rattle.request_lang.proofs.DigitLemmas.{all_spelled, not_spelled}
+
+-- how long it is
+length_field : (text : List ℕ) → length (before_space text) ≡ min (space_at text) (length text)
+length_field text = length-take (space_at text) text
+
+-- what a text leads with is what its first field does
+field_leads : (text : List ℕ) (n k : ℕ) → LeadsWith text n k → LeadsWith (before_space text) n k
+field_leads text n k leads =
+    let within : k ≤ length text = leads.within in
+    let behind : k ≤ space_at text = space_behind text k within leads.digits in
+    let same : take k (before_space text) ≡ take k text =
+    take-take k (space_at text) text behind in
+    record {
+      within = omega (arith, length_field text);
+      few = leads.few;
+      digits = ap (list_all is_ascii_digit) same ∙ leads.digits;
+      spelled = leads.spelled ∙ ap (fold (λ m digit. m * 10 + (digit - 48)) 0) (sym same);
+      stop = λ more few. ap is_ascii_digit
+          (get_or-take (space_at text) text k 0 (omega (arith, length_field text)))
+          ∙ leads.stop (omega (arith, length_field text)) few;
+    }
+
+module _ (text : List ℕ) (n k : ℕ) (leads : LeadsWith text n k) where
+  -- without a digit it is no number
+  pub field_empty : k ≡ 0 → digits_number (before_space text) ≡ None
+  field_empty none = not_spelled (before_space text) n k (field_leads text n k leads) (inl none)
+
+  -- digits to the end
+  pub field_whole : 0 < k → k ≡ length text → digits_number (before_space text) ≡ Some n
+  field_whole some whole =
+      all_spelled (before_space text) n k (field_leads text n k leads) some
+      (omega (arith, length_field text))
+
+  pub none_behind : k ≡ length text → [] ≡ from_space text
+  none_behind whole =
+      let within : k ≤ length text = leads.within in
+      let behind : k ≤ space_at text = space_behind text k within leads.digits in
+      sym (drop_of_length-le text (omega arith))
+
+  -- digits, and then another byte
+  pub field_other : k < length text → (get_or text k 0 ≡ 32 → ⊥)
+      → digits_number (before_space text) ≡ None
+  field_other lt other =
+      let farther : k < space_at text =
+      space_farther text k lt leads.digits (not_space (get_or text k 0) other) in
+      not_spelled (before_space text) n k (field_leads text n k leads)
+      (inr (omega (arith, length_field text)))
+
+  -- digits, and then a space
+  pub field_spelled : 0 < k → k < length text → get_or text k 0 ≡ 32
+      → digits_number (before_space text) ≡ Some n
+  field_spelled some lt space =
+      let here : space_at text ≡ k =
+      space_here text k lt leads.digits (ap (λ b. b == 32) space) in
+      all_spelled (before_space text) n k (field_leads text n k leads) some
+      (omega (arith, length_field text))
+
+  pub rest_behind : k < length text → get_or text k 0 ≡ 32 → drop k text ≡ from_space text
+  rest_behind lt space =
+      ap (λ (i : ℕ). drop i text)
+      (sym (space_here text k lt leads.digits (ap (λ b. b == 32) space)))

@@ -1,0 +1,15 @@
+-- What was read of a text that begins with digits?
+use Rattle.std.specs.Prelude.{◌≡◌, ℕ, ◌+◌, ◌*◌, ◌-◌, ◌<◌, ◌≤◌, List, length, take, fold, slice_index}
+use Rattle.std.specs.Prelude.{true, false}
+use Rattle.std.specs.Char.{is_ascii_digit}
+use Rattle.std.specs.List.{list_all}
+use Rattle.request_lang.specs.Field.{zero_digit, max_digits}
+
+-- its first digits, of which `max_digits` are read at most: what they spell, and how many they are
+pub record LeadsWith (text : List ℕ) (number count : ℕ) : Type 0 where
+  pub within : count ≤ length text
+  pub few : count ≤ max_digits
+  pub digits : list_all is_ascii_digit (take count text) ≡ true
+  pub spelled : number ≡ fold (λ n digit. n * 10 + (digit - zero_digit)) 0 (take count text)
+  pub stop : count < length text → count < max_digits
+      → is_ascii_digit (slice_index text count) ≡ false

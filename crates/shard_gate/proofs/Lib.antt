@@ -1,0 +1,9 @@
+mod ListLemmas
+mod NewLemmas
+mod PermitLemmas
+mod RuleLemmas
+mod SeatLemmas
+mod SumLemmas
+mod TagLemmas
+mod TileLemmas
+mod VisitLemmas

@@ -1,0 +1,162 @@
+-- What a split and a join leave of the seats of one caller.
+use Rattle.std.proofs.Common.{◌≡◌, ℕ, zero, suc, ◌+◌, ◌-◌, ◌*◌, ◌<◌, ◌≤◌, List, [], ◌∷◌, map, length}
+use Rattle.std.proofs.Common.{get_or, refl, ap, sym, subst, ◌∙◌, arith}
+use Rattle.std.specs.List.{All}
+use Rattle.std.proofs.lemmas.List.{length-map, get_or-map}
+use Rattle.std.proofs.lemmas.List.Elements.{All-map}
+use Rattle.tile_layout.specs.declared.cut.Cut.{Cut}
+use Rattle.shard_gate.specs.Seated.{ShardId, SeatAt, shard_of_seat, kept_seat, new_seat}
+use Rattle.shard_gate.specs.Seated.{both_seats, joined_seats}
+use Rattle.shard_gate.specs.Gate.{PinSeatState, IsSecondSeat, AfterSplit, AfterJoin, max_pins}
+use Rattle.shard_gate.specs.Kept.{IsPinSeat, IsPartOf, IsGate, seat_state, turns_of_seat}
+
+-- A change of permits alone leaves each seat at its shard.
+pub same_by : {Y : Type 0} (f : SeatAt → Y) (g : SeatAt → SeatAt) (seats : List SeatAt)
+    → ((s : SeatAt) → f (g s) ≡ f s) → map f (map g seats) ≡ map f seats
+same_by f g [] stays = refl
+same_by f g (s ∷ seats) stays = λ i. stays s i ∷ same_by f g seats stays i
+
+-- a new seat has taken no turn
+pub no_turns : (seats : List SeatAt) (k : ℕ)
+    → get_or (map turns_of_seat (map new_seat seats)) k 0 ≡ 0
+no_turns [] k = refl
+no_turns (s ∷ seats) zero = refl
+no_turns (s ∷ seats) (suc k) = no_turns seats k
+
+module _ (seats : List SeatAt) (permits : ℕ) (pins : List ℕ) (room : ℕ)
+    (kept : IsPinSeat seats permits pins room) (p : PinSeatState)
+    (is : seat_state seats permits pins ≡ p) where
+  pub split_kept : 1 < p.permits → length p.pins ≤ max_pins * (p.permits - 1)
+      → IsPinSeat (map kept_seat seats) (permits - 1) pins room
+  split_kept enough few =
+      let count = ap (λ (q : PinSeatState). q.permits) is in
+      let held = ap (λ (q : PinSeatState). length q.pins) is in
+      record {
+        parts = All-map (IsPartOf (permits - 1) room) kept_seat seats
+            (λ k d low. let part = kept.parts k d low in record {
+              same = ap (λ n. n - 1) part.same;
+              few = omega (arith, part.few);
+              most = part.most;
+              pins = part.pins;
+            });
+        some = omega (arith, kept.some, length-map {A = SeatAt} {B = SeatAt});
+        least = omega (arith, enough, count);
+        few = subst (λ n. n ≤ max_pins * (permits - 1)) (sym held)
+            (subst (λ n. length p.pins ≤ max_pins * (n - 1)) (sym count) few);
+      }
+
+  pub after_split : AfterSplit p (seat_state (map kept_seat seats) (permits - 1) pins)
+  after_split = record {
+    gate = same_by shard_of_seat kept_seat seats (λ s. refl)
+        ∙ ap (λ (q : PinSeatState). q.gate) is;
+    permits = ap (λ (q : PinSeatState). q.permits - 1) is;
+    pins = ap (λ (q : PinSeatState). q.pins) is;
+    turns = same_by turns_of_seat kept_seat seats (λ s. refl)
+        ∙ ap (λ (q : PinSeatState). q.turns) is;
+  }
+
+  pub second_seat : IsSecondSeat p (seat_state (map new_seat seats) 1 [])
+  second_seat = record {
+    gate = same_by shard_of_seat new_seat seats (λ s. refl)
+        ∙ ap (λ (q : PinSeatState). q.gate) is;
+    permits = refl;
+    pins = refl;
+    turns = no_turns seats;
+  }
+
+  -- Each shard of the seat has the passes of the gate.
+  passes_at : (tables : List ShardId) (share : ℕ) (cut : Cut) (passes : ℕ)
+      → IsGate tables share cut passes → map shard_of_seat seats ≡ tables → (k : ℕ) (d : SeatAt)
+      → k < length seats → (get_or seats k d).shard.passes ≡ passes
+  passes_at tables share cut passes gate same k d low =
+      let there : get_or tables k d.shard ≡ (get_or seats k d).shard =
+      ap (λ (l : List ShardId). get_or l k d.shard) (sym same)
+      ∙ get_or-map shard_of_seat seats k d d.shard low in
+      ap (λ (t : ShardId). t.passes) (sym there)
+      ∙ (gate.made k d.shard (omega (
+        arith,
+        low,
+        ap length same,
+        length-map {A = SeatAt} {B = ShardId},
+      ))).passes
+
+  pub second_kept : (tables : List ShardId) (share : ℕ) (cut : Cut) (passes space : ℕ)
+      → IsGate tables share cut passes → map shard_of_seat seats ≡ tables
+      → max_pins * passes ≤ space → IsPinSeat (map new_seat seats) 1 [] space
+  second_kept tables share cut passes space gate same roomy = record {
+    parts = All-map (IsPartOf 1 space) new_seat seats
+        (λ k d low. let part = kept.parts k d low in record {
+          same = refl;
+          few = omega (arith, part.few, kept.least);
+          most = part.most;
+          pins = omega (arith, roomy, passes_at tables share cut passes gate same k d low);
+        });
+    some = omega (arith, kept.some, length-map {A = SeatAt} {B = SeatAt});
+    least = omega arith;
+    few = omega arith;
+  }
+
+pub joined_length : (a b : List SeatAt) → length (joined_seats a b) ≡ length a
+joined_length [] b = refl
+joined_length (x ∷ a) [] = refl
+joined_length (x ∷ a) (y ∷ b) = omega (arith, joined_length a b)
+
+joined_at : (a b : List SeatAt) (k : ℕ) (d : SeatAt) → k < length a → length a ≡ length b
+    → get_or (joined_seats a b) k d ≡ both_seats (get_or a k d) (get_or b k d)
+joined_at [] b k d low same = absurd (omega arith)
+joined_at (x ∷ a) [] k d low same = absurd (omega arith)
+joined_at (x ∷ a) (y ∷ b) zero d low same = refl
+joined_at (x ∷ a) (y ∷ b) (suc k) d low same = joined_at a b k d (omega arith) (omega arith)
+
+joined_by : {Y : Type 0} (f : SeatAt → Y) (a b : List SeatAt)
+    → ((x y : SeatAt) → f (both_seats x y) ≡ f x) → map f (joined_seats a b) ≡ map f a
+joined_by f [] b stays = refl
+joined_by f (x ∷ a) [] stays = refl
+joined_by f (x ∷ a) (y ∷ b) stays = λ i. stays x y i ∷ joined_by f a b stays i
+
+module _ (a b : List SeatAt) (own theirs : ℕ) (pins held : List ℕ) (room space : ℕ)
+    (kept : IsPinSeat a own pins room) (other : IsPinSeat b theirs held space)
+    (same : map shard_of_seat a ≡ map shard_of_seat b)
+    (few : All (λ (s : SeatAt). s.permits ≤ s.shard.passes) (joined_seats a b)) where
+  as_long : length a ≡ length b
+  as_long = omega (arith, ap length same, length-map {A = SeatAt} {B = ShardId})
+
+  joined_part : (k : ℕ) (d : SeatAt) → k < length a
+      → IsPartOf (own + theirs) room (get_or (joined_seats a b) k d)
+  joined_part k d low =
+      let mine = kept.parts k d low in
+      let more = other.parts k d (omega (arith, low, as_long)) in
+      let at = joined_at a b k d low as_long in
+      let least = few k d (omega (arith, low, joined_length a b)) in
+      let sum : both_seats (get_or a k d) (get_or b k d) ≡ get_or (joined_seats a b) k d = sym at in
+      let right : (both_seats (get_or a k d) (get_or b k d)).permits
+      ≤ (both_seats (get_or a k d) (get_or b k d)).shard.passes =
+      subst (λ (s : SeatAt). s.permits ≤ s.shard.passes) at least in
+      subst (λ (s : SeatAt). IsPartOf (own + theirs) room s) sum
+      (record {
+        same = omega (arith, mine.same, more.same);
+        few = omega (arith, mine.same, more.same, right);
+        most = mine.most;
+        pins = mine.pins;
+      })
+
+  pub joined_kept : IsPinSeat (joined_seats a b) (own + theirs) pins room
+  joined_kept = record {
+    parts = λ k d low. joined_part k d (omega (arith, low, joined_length a b));
+    some = omega (arith, kept.some, joined_length a b);
+    least = omega (arith, kept.least);
+    few = omega (arith, kept.few);
+  }
+
+  pub after_join : (p q : PinSeatState) → seat_state a own pins ≡ p → seat_state b theirs held ≡ q
+      → AfterJoin q p (seat_state (joined_seats a b) (own + theirs) pins)
+  after_join p q is is_q = record {
+    gate = joined_by shard_of_seat a b (λ x y. refl) ∙ ap (λ (s : PinSeatState). s.gate) is;
+    permits = omega (
+      arith,
+      ap (λ (s : PinSeatState). s.permits) is,
+      ap (λ (s : PinSeatState). s.permits) is_q,
+    );
+    pins = ap (λ (s : PinSeatState). s.pins) is;
+    turns = joined_by turns_of_seat a b (λ x y. refl) ∙ ap (λ (s : PinSeatState). s.turns) is;
+  }

@@ -1,0 +1,31 @@
+-- What a visit to one shard leaves of the seat, and what it answers.
+use Rattle.shard_gate.proofs.VisitLemmas.{same_pins, one_turn, same_seat, on_ok, on_err, share_here}
+use Rattle.shard_gate.proofs.gate.Gate.count.Goals as goal
+
+pub returns-clause-same : goal.returns-clause-same
+returns-clause-same g c =
+    same_pins c.p.inside.seats.items c.p.inside.permits c.p.inside.pins.items
+    c.args.p.now c.p.view_is c.args.self.now.id c.requires.gate c.args.shard
+    c.requires.shard c.index_mut.result.now c.count.new.seat _ c.index_mut.ensures.value
+    c.count.ensures.seat
+
+pub returns-clause-turns : goal.returns-clause-turns
+returns-clause-turns g c =
+    on_ok c.count.result _ _
+    (one_turn c.p.inside.seats.items c.p.inside.permits c.p.inside.pins.items
+    c.args.p.now c.p.view_is c.args.self.now.id c.requires.gate c.args.shard
+    c.requires.shard c.index_mut.result.now c.count.new.seat _ c.index_mut.ensures.value)
+    c.count.ensures.ok
+
+pub returns-clause-err : goal.returns-clause-err
+returns-clause-err g c = on_err c.count.result _ _
+    (same_seat c.p.inside.seats.items c.p.inside.permits c.p.inside.pins.items
+    c.args.p.now c.p.view_is c.args.self.now.id c.requires.gate c.args.shard
+    c.requires.shard c.index_mut.result.now c.count.new.seat _ c.index_mut.ensures.value)
+    c.count.ensures.err
+
+pub count-requires-clause-share : goal.count-requires-clause-share
+count-requires-clause-share g c =
+    share_here c.self.inside.tables.items c.self.inside.share c.self.inside.cut
+    c.self.inside.passes c.args.self.now c.self.view_is c.self.invariant c.args.shard
+    c.requires.shard c.index.result.now _ c.index.ensures

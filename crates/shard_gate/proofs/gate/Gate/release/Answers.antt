@@ -1,0 +1,37 @@
+-- What a visit to one shard leaves of the seat, and what it answers.
+use Rattle.std.proofs.Common.{subst, ℕ, map, set}
+use Rattle.shard_gate.specs.Gate.{OneTurnMore}
+use Rattle.shard_gate.specs.Kept.{turns_of_seat}
+use Rattle.shard_gate.proofs.VisitLemmas.{same_pins, one_turn, same_seat, on_ok, on_err, share_here}
+use Rattle.shard_gate.proofs.gate.Gate.release.Goals as goal
+
+pub returns-clause-same : goal.returns-clause-same
+returns-clause-same g c =
+    same_pins c.p.inside.seats.items c.p.inside.permits c.p.inside.pins.items
+    c.args.p.now c.p.view_is c.args.self.now.id c.requires c.shard_of-shard.result
+    c.shard_of-shard.ensures.low c.index_mut.result.now c.release.new.seat _ c.index_mut.ensures.value
+    c.release.ensures.seat
+
+pub returns-clause-turns : goal.returns-clause-turns
+returns-clause-turns g c =
+    on_ok c.release.result _ _
+    (λ visit. subst (λ (n : ℕ). OneTurnMore n c.args.p.now.turns
+    (map turns_of_seat (set c.p.inside.seats.items c.shard_of-shard.result c.release.new.seat)))
+    c.shard_of-shard.ensures.value
+    (one_turn c.p.inside.seats.items c.p.inside.permits c.p.inside.pins.items
+    c.args.p.now c.p.view_is c.args.self.now.id c.requires c.shard_of-shard.result
+    c.shard_of-shard.ensures.low c.index_mut.result.now c.release.new.seat _ c.index_mut.ensures.value
+    visit)) c.release.ensures.ok
+
+pub returns-clause-err : goal.returns-clause-err
+returns-clause-err g c = on_err c.release.result _ _
+    (same_seat c.p.inside.seats.items c.p.inside.permits c.p.inside.pins.items
+    c.args.p.now c.p.view_is c.args.self.now.id c.requires c.shard_of-shard.result
+    c.shard_of-shard.ensures.low c.index_mut.result.now c.release.new.seat _ c.index_mut.ensures.value)
+    c.release.ensures.err
+
+pub release-requires-clause-share : goal.release-requires-clause-share
+release-requires-clause-share g c =
+    share_here c.self.inside.tables.items c.self.inside.share c.self.inside.cut
+    c.self.inside.passes c.args.self.now c.self.view_is c.self.invariant c.shard_of-shard.result
+    c.shard_of-shard.ensures.low c.index.result.now _ c.index.ensures

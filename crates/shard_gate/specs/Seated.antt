@@ -1,0 +1,85 @@
+-- How a table is known, and a seat at it while it has no turn.
+use Rattle.std.specs.Prelude.{◌≡◌, ℕ, ◌+◌, ◌-◌, ◌^◌, ◌<◌, true, false, List, [], ◌∷◌}
+use Rattle.atomic_table.specs.Table.{Me}
+use Rattle.atomic_table.specs.Seated.{TableId}
+use Rattle.atomic_table.specs.declared.shared.Seat.{Seat}
+use Rattle.shard_gate.specs.Turn.{word_count}
+use Rattle.shard_gate.specs.declared.standing.Standing.{Standing}
+
+-- Which shard it is. No two shards have the same.
+pub record ShardId : Type 0 where
+  -- it names the share and the cut
+  pub tag : ℕ
+  -- the permits of all seats together
+  pub passes : ℕ
+  -- the table that its words and its body lie in
+  pub table : TableId
+
+-- It was made with this tag and so many permits.
+pub record IsMadeBy (lawful_tag all_permits : ℕ) (id : ShardId) : Type 0 where
+  pub tag : id.tag ≡ lawful_tag
+  pub passes : id.passes ≡ all_permits
+
+-- What is known of a seat at a shard.
+pub record SeatAt : Type 0 where
+  -- the shard that it belongs to
+  pub shard : ShardId
+  pub permits : ℕ
+  -- how often it has taken the turn of the shard
+  pub turns : ℕ
+
+-- The table has the words and the one slot.
+pub record IsLaid (passes : ℕ) (table : TableId) : Type 0 where
+  pub words : table.words ≡ word_count
+  pub slots : table.slots ≡ 1
+  pub few : passes < 2 ^ 32
+
+module _ {S : Type 0} where
+  -- what is known of this seat
+  abbrev pub seat_at : Seat S Standing → SeatAt
+  seat_at seat = record {
+    shard = record {
+      tag = seat.me.0.tag;
+      passes = seat.me.0.passes;
+      table = seat.table_id;
+    };
+    permits = seat.me.0.permits;
+    turns = seat.me.0.turns;
+  }
+
+  -- The seat has no turn and no body.
+  pub record IsIdle (me : Me S Standing) : Type 0 where
+    pub live : me.0.live ≡ true
+    pub turn : me.0.has_turn ≡ false
+    pub slots : me.1 ≡ []
+
+  -- The seat is idle, and has so many permits.
+  pub record IsSeated (me : Me S Standing) (count : ℕ) : Type 0 where
+    pub idle : IsIdle me
+    pub permits : me.0.permits ≡ count
+
+-- the shard of a seat
+abbrev pub shard_of_seat : SeatAt → ShardId
+shard_of_seat s = s.shard
+
+-- the first seat at a shard has all permits
+abbrev pub first_seat : ShardId → SeatAt
+first_seat id = record { shard = id; permits = id.passes; turns = 0 }
+
+-- a seat keeps all permits but one
+abbrev pub kept_seat : SeatAt → SeatAt
+kept_seat s = record s { permits = s.permits - 1 }
+
+-- that one is the permit of a new seat, which has taken no turn yet
+abbrev pub new_seat : SeatAt → SeatAt
+new_seat s = record s { permits = 1; turns = 0 }
+
+-- a seat with the permits of both
+abbrev pub both_seats : SeatAt → SeatAt → SeatAt
+both_seats own other = record own { permits = own.permits + other.permits }
+
+-- at each shard a seat with the permits of both
+abbrev pub joined_seats : List SeatAt → List SeatAt → List SeatAt
+joined_seats [] ys = []
+joined_seats (x ∷ xs) [] = x ∷ xs
+joined_seats (x ∷ xs) (y ∷ ys) = both_seats x y ∷ joined_seats xs ys

@@ -1,0 +1,332 @@
+ghost use Rattle.std.specs.Prelude.{◌≡◌, ℕ, ◌+◌, ◌-◌, ◌*◌, ◌<◌, ◌≤◌, [], length, slice_index, Contains};
+ghost use Rattle.std.specs.Prelude.{IfOk, IfErr, OnOk, OnErr, IfSome, OnSome, IfNone};
+ghost use Rattle.shard_gate.specs.Gate.{max_pins, shard_of, AreLimits, IsNewGate, IsFirstSeat};
+ghost use Rattle.shard_gate.specs.Gate.{IsTileOf, HasCellRect, SamePins, OnePinMore, OnePinLess};
+ghost use Rattle.shard_gate.specs.Gate.{OneTurnMore, TurnsOf, HasTurned, TurnsBelow, IsSameSeat};
+ghost use Rattle.shard_gate.specs.Gate.{IsSecondSeat, AfterSplit, AfterJoin, GivesBackIfBusy};
+ghost use Rattle.std.specs.Arc.{arc_value};
+ghost use Rattle.tile_store.specs.Lawful.{FitsCut};
+
+use crate::error::{NotPinned, NotUnpinned, PinError};
+use crate::laid::{laid, tag_for};
+use crate::pin::Pin;
+use crate::pin_seat::PinSeat;
+use crate::rule::Terms;
+use crate::seats::{join_seats, split_seats};
+use crate::shard_table::{ShardTable, Stale};
+use std::alloc::Global;
+use std::marker::Model;
+use std::sync::Arc;
+use tex_world::{NoMemory, World};
+use tile_layout::{Cut, ShardCount, TileKey};
+use tile_store::Tile;
+use waiter::Waiter;
+
+/// The tiles in memory, in shards. In a clause it is which gate it is, with the share of each
+/// shard, the cut and the permits of all its seats.
+#[derive(Drop)]
+pub struct Gate<W: World> {
+    alloc: Global,
+    tables: Vec<ShardTable<W>>,
+    share: u64,
+    cut: Cut,
+    passes: u32,
+}
+
+impl<W: World> Model for Gate<W> {
+    ghost use Rattle.shard_gate.specs.Gate.{GateState};
+    ghost use Rattle.shard_gate.specs.Kept.{gate_state, IsGate};
+
+    ghost Value = { GateState };
+
+    ghost view = { λ a. gate_state a.tables.items a.share a.cut a.passes };
+
+    ghost invariant = { λ a. IsGate a.tables.items a.share a.cut a.passes };
+}
+
+/// The pins that a seat may hold for each of its permits.
+const PINS: usize = 7;
+
+/// The tiles that a shard keeps beside as many as all seats may pin.
+const MORE_SLOTS: u32 = 1024;
+
+impl<W: World> Gate<W> {
+    /// A gate with no tile, whose shards have equal shares of the budget, and its first seat.
+    pub fn new(
+        alloc: Global,
+        budget: u64,
+        shards: u32,
+        passes: u32,
+        cut: Cut,
+    ) -> Result<(Gate<W>, PinSeat<W>), NoMemory>
+        requires { AreLimits budget shards passes cut }
+        ensures gate { IfOk result (λ made. IsNewGate budget shards passes cut made.0) }
+        ensures seat { IfOk result (λ made. IsFirstSeat made.0 made.1) }
+    {
+        let share = budget / shards as u64;
+        let tag = tag_for(share, cut);
+        let Ok((tables, seats)) = laid(alloc, shards as usize, &Terms { tag, passes }) else {
+            return Err(NoMemory);
+        };
+        let Ok(pins) = Vec::with_capacity(alloc, PINS * passes as usize) else {
+            return Err(NoMemory);
+        };
+        let seat = PinSeat {
+            seats,
+            permits: passes,
+            pins,
+        };
+        let gate = Gate {
+            alloc,
+            tables,
+            share,
+            cut,
+            passes,
+        };
+        Ok((gate, seat))
+    }
+
+    /// Pins the tile of a key. None where the shard had none when it was looked at.
+    pub fn pin<T: Waiter>(
+        &self,
+        waiter: &T,
+        p: &mut PinSeat<W>,
+        key: TileKey,
+    ) -> Result<Option<Pin<W>>, PinError<T::Busy>>
+        requires gate { p.old.gate ≡ self.now.id }
+        requires room { length p.old.pins < max_pins * p.old.permits }
+        ensures some { IfOk result (λ found. IfSome found (λ pin. IsTileOf W.files self.now.cut key pin.tile)) }
+        // What the call leaves of the seat.
+        ensures pinned { IfOk result (λ found. OnSome found (OnePinMore key p.old p.new)) }
+        ensures none { IfOk result (λ found. IfNone found (SamePins p.old p.new)) }
+        ensures err { OnErr result (SamePins p.old p.new) }
+        ensures turns { TurnsOf (shard_of (length self.now.id) key) p.old.turns p.new.turns }
+        ensures turned { OnOk result (HasTurned (shard_of (length self.now.id) key) p.old.turns p.new.turns) }
+    {
+        match self.find(waiter, p, key) {
+            Ok(Some(tile)) => {
+                p.note(key);
+                Ok(Some(Pin { tile }))
+            }
+            Ok(None) => Ok(None),
+            Err(e) => Err(e),
+        }
+    }
+
+    /// Keeps a tile and pins it. Where the shard has a tile of its key, that one is pinned, and the
+    /// new one is given up.
+    pub fn pin_new<T: Waiter>(
+        &self,
+        waiter: &T,
+        p: &mut PinSeat<W>,
+        tile: Tile<W>,
+    ) -> Result<Pin<W>, NotPinned<W, T::Busy>>
+        requires gate { p.old.gate ≡ self.now.id }
+        requires room { length p.old.pins < max_pins * p.old.permits }
+        requires cell { HasCellRect W.files self.now.cut tile }
+        ensures ok { IfOk result (λ pin. IsTileOf W.files self.now.cut tile.key pin.tile) }
+        ensures back { IfErr result (GivesBackIfBusy tile) }
+        // What the call leaves of the seat.
+        ensures pinned { OnOk result (OnePinMore tile.key p.old p.new) }
+        ensures err { OnErr result (SamePins p.old p.new) }
+        ensures turns { TurnsOf (shard_of (length self.now.id) tile.key) p.old.turns p.new.turns }
+        ensures turned { OnOk result (HasTurned (shard_of (length self.now.id) tile.key) p.old.turns p.new.turns) }
+    {
+        let key = tile.key();
+        match self.insert(waiter, p, key, tile) {
+            Ok(tile) => {
+                p.note(key);
+                Ok(Pin { tile })
+            }
+            Err(e) => Err(e),
+        }
+    }
+
+    /// Gives a pin back. The tile stays while the shard's unpinned tiles fit its share. It takes no
+    /// memory.
+    pub fn unpin<T: Waiter>(
+        &self,
+        waiter: &T,
+        p: &mut PinSeat<W>,
+        pin: Pin<W>,
+    ) -> Result<(), NotUnpinned<W, T::Busy>>
+        requires gate { p.old.gate ≡ self.now.id }
+        requires made { Contains p.old.pins pin.tile.key }
+        ensures ok { OnOk result (OnePinLess pin.tile.key p.old p.new) }
+        ensures turns { OnOk result (OneTurnMore (shard_of (length self.now.id) pin.tile.key) p.old.turns p.new.turns) }
+        ensures err { OnErr result (IsSameSeat p.old p.new) }
+        ensures back { IfErr result (λ e. e.pin ≡ pin) }
+    {
+        let key = pin.tile.key();
+        match self.release(waiter, p, key) {
+            Ok(()) => {
+                p.forget(key);
+                Ok(())
+            }
+            Err(busy) => Err(NotUnpinned { pin, busy }),
+        }
+    }
+
+    /// The unpinned tiles of a file leave whose generation is below the bound, in each shard in
+    /// turn. It takes no memory.
+    pub fn purge<T: Waiter>(
+        &self,
+        waiter: &T,
+        p: &mut PinSeat<W>,
+        file: u32,
+        below: u32,
+    ) -> Result<(), T::Busy>
+        requires { p.old.gate ≡ self.now.id }
+        ensures ok { OnOk result (TurnsBelow (length self.now.id) p.old.turns p.new.turns) }
+        ensures err { OnErr result ((n : ℕ) × (n < length self.now.id) × TurnsBelow n p.old.turns p.new.turns) }
+        ensures same { SamePins p.old p.new }
+    {
+        for shard in 0..self.tables.len() {
+            if let Err(busy) = self.purge_shard(waiter, p, shard, Stale { file, below }) {
+                return Err(busy);
+            }
+        }
+        Ok(())
+    }
+
+    /// What a shard has. It takes no memory.
+    pub fn count<T: Waiter>(
+        &self,
+        waiter: &T,
+        p: &mut PinSeat<W>,
+        shard: u32,
+    ) -> Result<ShardCount, T::Busy>
+        requires gate { p.old.gate ≡ self.now.id }
+        requires shard { shard < length self.now.id }
+        ensures within { IfOk result (λ count. count.loose ≤ count.share) }
+        ensures share { IfOk result (λ count. count.share ≡ self.now.share) }
+        ensures same { SamePins p.old p.new }
+        ensures turns { OnOk result (OneTurnMore shard p.old.turns p.new.turns) }
+        ensures err { OnErr result (IsSameSeat p.old p.new) }
+    {
+        let shard = shard as usize;
+        self.tables[shard].count(waiter, &mut p.seats[shard], self.share)
+    }
+
+    /// A second seat, which has one permit of the seat.
+    pub fn split(&self, p: &mut PinSeat<W>) -> Result<PinSeat<W>, NoMemory>
+        requires gate { p.old.gate ≡ self.now.id }
+        requires permits { 1 < p.old.permits }
+        requires pins { length p.old.pins ≤ max_pins * (p.old.permits - 1) }
+        ensures ok { IfOk result (IsSecondSeat p.old) }
+        ensures kept { OnOk result (AfterSplit p.old p.new) }
+        ensures err { OnErr result (IsSameSeat p.old p.new) }
+    {
+        let Ok(pins) = Vec::with_capacity(self.alloc, PINS * self.passes as usize) else {
+            return Err(NoMemory);
+        };
+        let Ok(mut seats) = Vec::with_capacity(self.alloc, self.tables.len()) else {
+            return Err(NoMemory);
+        };
+        split_seats(self.tables.as_slice(), p.seats.as_mut_slice(), &mut seats);
+        p.permits -= 1;
+        Ok(PinSeat {
+            seats,
+            permits: 1,
+            pins,
+        })
+    }
+
+    /// The seat gets the permits of another one, which holds no pin and ends. It takes no memory.
+    pub fn join(&self, p: &mut PinSeat<W>, other: PinSeat<W>)
+        requires gate { p.old.gate ≡ self.now.id }
+        requires other { other.gate ≡ self.now.id }
+        requires pins { other.pins ≡ [] }
+        ensures joined { AfterJoin other p.old p.new }
+    {
+        let PinSeat {
+            seats,
+            permits,
+            pins: _,
+        } = other;
+        join_seats(self.tables.as_slice(), p.seats.as_mut_slice(), seats);
+        p.permits += permits;
+    }
+
+    /// The shard of a key.
+    fn shard_of(&self, key: TileKey) -> usize
+        ensures value { result ≡ shard_of (length self.now.id) key }
+        ensures low { result < length self.now.id }
+    {
+        let level = key.index() as u64 + 7 * key.level() as u64;
+        let file = 13 * key.file() as u64 + 31 * key.generation() as u64;
+        ((level + file) % self.tables.len() as u64) as usize
+    }
+
+    /// The stale tiles of a shard leave.
+    fn purge_shard<T: Waiter>(
+        &self,
+        waiter: &T,
+        p: &mut PinSeat<W>,
+        shard: usize,
+        stale: Stale,
+    ) -> Result<(), T::Busy>
+        requires gate { p.old.gate ≡ self.now.id }
+        requires shard { shard < length self.now.id }
+        ensures same { SamePins p.old p.new }
+        ensures turns { OnOk result (OneTurnMore shard p.old.turns p.new.turns) }
+        ensures err { OnErr result (IsSameSeat p.old p.new) }
+    {
+        self.tables[shard].purge(waiter, &mut p.seats[shard], stale)
+    }
+
+    /// Pins the tile of a key in its shard, if it is there.
+    fn find<T: Waiter>(
+        &self,
+        waiter: &T,
+        p: &mut PinSeat<W>,
+        key: TileKey,
+    ) -> Result<Option<Arc<Tile<W>>>, PinError<T::Busy>>
+        requires { p.old.gate ≡ self.now.id }
+        ensures some { IfOk result (λ found. IfSome found (λ tile. IsTileOf W.files self.now.cut key (arc_value tile))) }
+        ensures same { SamePins p.old p.new }
+        ensures turns { TurnsOf (shard_of (length self.now.id) key) p.old.turns p.new.turns }
+        ensures turned { OnOk result (HasTurned (shard_of (length self.now.id) key) p.old.turns p.new.turns) }
+    {
+        let shard = self.shard_of(key);
+        self.tables[shard].find(waiter, &mut p.seats[shard], key)
+    }
+
+    /// Keeps a tile in its shard, with a pin.
+    fn insert<T: Waiter>(
+        &self,
+        waiter: &T,
+        p: &mut PinSeat<W>,
+        key: TileKey,
+        tile: Tile<W>,
+    ) -> Result<Arc<Tile<W>>, NotPinned<W, T::Busy>>
+        requires gate { p.old.gate ≡ self.now.id }
+        requires key { tile.key ≡ key }
+        requires fits { FitsCut W.files self.now.cut tile }
+        ensures ok { IfOk result (λ kept. IsTileOf W.files self.now.cut tile.key (arc_value kept)) }
+        ensures back { IfErr result (GivesBackIfBusy tile) }
+        ensures same { SamePins p.old p.new }
+        ensures turns { TurnsOf (shard_of (length self.now.id) key) p.old.turns p.new.turns }
+        ensures turned { OnOk result (HasTurned (shard_of (length self.now.id) key) p.old.turns p.new.turns) }
+    {
+        let shard = self.shard_of(key);
+        let slots = PINS as u32 * self.passes + MORE_SLOTS;
+        self.tables[shard].insert(waiter, &mut p.seats[shard], tile, slots)
+    }
+
+    /// Takes a pin from the tile of a key in its shard, where it has one.
+    fn release<T: Waiter>(
+        &self,
+        waiter: &T,
+        p: &mut PinSeat<W>,
+        key: TileKey,
+    ) -> Result<(), T::Busy>
+        requires { p.old.gate ≡ self.now.id }
+        ensures same { SamePins p.old p.new }
+        ensures turns { OnOk result (OneTurnMore (shard_of (length self.now.id) key) p.old.turns p.new.turns) }
+        ensures err { OnErr result (IsSameSeat p.old p.new) }
+    {
+        let shard = self.shard_of(key);
+        self.tables[shard].release(waiter, &mut p.seats[shard], key, self.share)
+    }
+}

@@ -1,0 +1,53 @@
+//! The shards of a new gate.
+ghost use Rattle.std.specs.Prelude.{◌≡◌, ◌≤◌, length, map, All, IfOk};
+ghost use Rattle.tile_layout.specs.Cut.{IsCut};
+ghost use Rattle.tile_store.specs.Tag.{tag_of};
+ghost use Rattle.shard_gate.specs.Seated.{IsMadeBy, first_seat};
+ghost use Rattle.shard_gate.specs.Gate.{max_budget};
+
+use crate::rule::Terms;
+use crate::shard_table::{ShardSeat, ShardTable};
+use crate::turn_table::TurnTable;
+use crossbeam_utils::CachePadded;
+use std::alloc::{AllocError, Global};
+use tex_world::World;
+use tile_layout::Cut;
+use tile_store::Shard;
+
+/// The sides of cells of strips are multiples of this.
+const AUTOTILE_STEP: u32 = 16;
+
+/// The tags of one share.
+const SHARE_STEP: u64 = 1024;
+
+/// The tag of a shard, which names its share and its cut.
+#[tactic(auto, unfolding(tile_store::specs::Tag::tag_of))]
+pub(crate) fn tag_for(share: u64, cut: Cut) -> u64
+    requires share { share ≤ max_budget }
+    requires cut { IsCut cut }
+    ensures { result ≡ tag_of share cut }
+{
+    let side = (cut.autotile / AUTOTILE_STEP) as u64;
+    SHARE_STEP * share + 2 * side + if cut.automip { 1 } else { 0 }
+}
+
+/// So many shards with no tile, and a seat at each, which has all permits.
+pub(crate) fn laid<W: World>(
+    alloc: Global,
+    shards: usize,
+    terms: &Terms,
+) -> Result<(Vec<ShardTable<W>>, Vec<ShardSeat<W>>), AllocError>
+    ensures made { IfOk result (λ made. All (IsMadeBy terms.now.tag terms.now.passes) made.0.items) }
+    ensures count { IfOk result (λ made. length made.0.items ≡ shards) }
+    ensures seats { IfOk result (λ made. made.1.items ≡ map first_seat made.0.items) }
+{
+    let mut tables = Vec::with_capacity(alloc, shards)?;
+    let mut seats = Vec::with_capacity(alloc, shards)?;
+    for _shard in 0..shards {
+        let body = CachePadded::new(Shard::new(alloc));
+        let (table, seat) = TurnTable::new(alloc, terms, body)?;
+        tables.push_reserved(table);
+        seats.push_reserved(seat);
+    }
+    Ok((tables, seats))
+}

@@ -1,0 +1,222 @@
+//! Visits to one shard: the seat takes the turn, works on the tiles, and gives the turn back.
+ghost use Rattle.std.specs.Prelude.{◌≡◌, ◌+◌, ◌<◌, ◌≤◌, OnOk, OnErr, IfOk, IfErr, IfSome};
+ghost use Rattle.std.specs.Arc.{arc_value};
+ghost use Rattle.tile_store.specs.Tag.{share_of, cut_of};
+ghost use Rattle.tile_store.specs.Lawful.{FitsCut};
+ghost use Rattle.shard_gate.specs.Visit.{visited, HasVisited, GivesBackIfFull};
+ghost use Rattle.shard_gate.specs.Gate.{IsTileOf, GivesBackIfBusy};
+
+use crate::error::{NotFound, NotInserted, NotPinned, PinError};
+use crate::rule::BodyRule;
+use crate::turn_seat::TurnSeat;
+use crate::turn_table::TurnTable;
+use crate::work::{find_in, insert_in, release_in};
+use crossbeam_utils::CachePadded;
+use std::marker::PhantomData;
+use std::sync::Arc;
+use tex_world::World;
+use tile_layout::{ShardCount, TileKey};
+use tile_store::{Shard, Tile};
+use waiter::Waiter;
+
+/// The tiles of a shard, with nothing else on their cache lines.
+pub(crate) type Slot<W> = CachePadded<Shard<W>>;
+
+pub(crate) type ShardTable<W> = TurnTable<Slot<W>, LawfulShards<W>>;
+
+pub(crate) type ShardSeat<W> = TurnSeat<Slot<W>>;
+
+/// The unpinned tiles of a file whose generation is below the bound.
+#[derive(Clone, Copy)]
+pub(crate) struct Stale {
+    pub file: u32,
+    pub below: u32,
+}
+
+/// The tiles of a shard are lawful for its tag.
+pub(crate) struct LawfulShards<W> {
+    world: PhantomData<W>,
+}
+
+impl<W: World> BodyRule<Slot<W>> for LawfulShards<W> {
+    ghost use Rattle.crossbeam_utils.specs.Padded.{padded_value};
+    ghost use Rattle.tile_store.specs.Lawful.{Lawful};
+
+    ghost lawful = { λ tag slot. Lawful W.files tag (padded_value slot) };
+}
+
+impl<W: World> ShardTable<W> {
+    /// One visit that pins the tile of a key, if it is there.
+    fn visit_find<T: Waiter>(
+        &self,
+        waiter: &T,
+        seat: &mut ShardSeat<W>,
+        key: TileKey,
+    ) -> Result<Result<Option<Arc<Tile<W>>>, NotFound>, T::Busy>
+        requires { seat.old.shard ≡ self.now }
+        ensures some { IfOk result (λ answer. IfOk answer (λ found. IfSome found (λ tile. IsTileOf W.files (cut_of self.now.tag) key (arc_value tile)))) }
+        ensures ok { OnOk result (seat.new ≡ visited seat.old) }
+        ensures err { OnErr result (seat.new ≡ seat.old) }
+    {
+        if let Err(busy) = self.take(waiter, &mut seat.seat) {
+            return Err(busy);
+        }
+        let slot = seat.seat.slot_mut(&self.table.shared, 0);
+        let answer = find_in(slot, key);
+        self.give(&mut seat.seat);
+        Ok(answer)
+    }
+
+    /// Pins the tile of a key, if it is there. A shard that counts as many pins as it can is visited
+    /// again.
+    pub(crate) fn find<T: Waiter>(
+        &self,
+        waiter: &T,
+        seat: &mut ShardSeat<W>,
+        key: TileKey,
+    ) -> Result<Option<Arc<Tile<W>>>, PinError<T::Busy>>
+        requires { seat.old.shard ≡ self.now }
+        ensures some { IfOk result (λ found. IfSome found (λ tile. IsTileOf W.files (cut_of self.now.tag) key (arc_value tile))) }
+        ensures seat { HasVisited seat.old seat.new }
+        ensures ok { OnOk result (seat.old.turns < seat.new.turns) }
+    {
+        for failed in 0..waiter.tries() {
+            match self.visit_find(waiter, seat, key) {
+                Ok(Ok(found)) => return Ok(found),
+                Ok(Err(NotFound::NoMemory)) => return Err(PinError::NoMemory),
+                Ok(Err(NotFound::Full)) => waiter.pause(failed),
+                Err(busy) => return Err(PinError::Busy(busy)),
+            }
+        }
+        Err(PinError::Busy(waiter.busy()))
+    }
+
+    /// One visit that keeps a tile, with a pin.
+    fn visit_insert<T: Waiter>(
+        &self,
+        waiter: &T,
+        seat: &mut ShardSeat<W>,
+        tile: Tile<W>,
+        slots: u32,
+    ) -> Result<Result<Arc<Tile<W>>, NotInserted<W>>, (Tile<W>, T::Busy)>
+        requires shard { seat.old.shard ≡ self.now }
+        requires fits { FitsCut W.files (cut_of self.now.tag) tile }
+        ensures some { IfOk result (λ answer. IfOk answer (λ kept. IsTileOf W.files (cut_of self.now.tag) tile.key (arc_value kept))) }
+        ensures full { IfOk result (λ answer. IfErr answer (GivesBackIfFull tile)) }
+        ensures ok { OnOk result (seat.new ≡ visited seat.old) }
+        ensures back { IfErr result (λ back. back.0 ≡ tile) }
+        ensures err { OnErr result (seat.new ≡ seat.old) }
+    {
+        if let Err(busy) = self.take(waiter, &mut seat.seat) {
+            return Err((tile, busy));
+        }
+        let slot = seat.seat.slot_mut(&self.table.shared, 0);
+        let answer = insert_in(slot, tile, slots);
+        self.give(&mut seat.seat);
+        Ok(answer)
+    }
+
+    /// Keeps a tile, with a pin. A shard that counts as many pins as it can is visited again.
+    pub(crate) fn insert<T: Waiter>(
+        &self,
+        waiter: &T,
+        seat: &mut ShardSeat<W>,
+        tile: Tile<W>,
+        slots: u32,
+    ) -> Result<Arc<Tile<W>>, NotPinned<W, T::Busy>>
+        requires shard { seat.old.shard ≡ self.now }
+        requires fits { FitsCut W.files (cut_of self.now.tag) tile }
+        ensures some { IfOk result (λ kept. IsTileOf W.files (cut_of self.now.tag) tile.key (arc_value kept)) }
+        ensures back { IfErr result (GivesBackIfBusy tile) }
+        ensures seat { HasVisited seat.old seat.new }
+        ensures ok { OnOk result (seat.old.turns < seat.new.turns) }
+    {
+        let mut tile = tile;
+        for failed in 0..waiter.tries() {
+            match self.visit_insert(waiter, seat, tile, slots) {
+                Ok(Ok(kept)) => return Ok(kept),
+                Ok(Err(NotInserted::NoMemory)) => return Err(NotPinned::NoMemory),
+                Ok(Err(NotInserted::Full(back))) => tile = back,
+                Err((tile, busy)) => return Err(NotPinned::Busy { tile, busy }),
+            }
+            waiter.pause(failed);
+        }
+        Err(NotPinned::Busy {
+            tile,
+            busy: waiter.busy(),
+        })
+    }
+
+    /// Takes a pin from the tile of a key, where it has one.
+    pub(crate) fn release<T: Waiter>(
+        &self,
+        waiter: &T,
+        seat: &mut ShardSeat<W>,
+        key: TileKey,
+        share: u64,
+    ) -> Result<(), T::Busy>
+        requires shard { seat.old.shard ≡ self.now }
+        requires share { share_of self.now.tag ≡ share }
+        ensures seat { HasVisited seat.old seat.new }
+        ensures ok { OnOk result (seat.new ≡ visited seat.old) }
+        ensures err { OnErr result (seat.new ≡ seat.old) }
+    {
+        if let Err(busy) = self.take(waiter, &mut seat.seat) {
+            return Err(busy);
+        }
+        let slot = seat.seat.slot_mut(&self.table.shared, 0);
+        release_in(slot, key, share);
+        self.give(&mut seat.seat);
+        Ok(())
+    }
+
+    /// The stale tiles leave.
+    pub(crate) fn purge<T: Waiter>(
+        &self,
+        waiter: &T,
+        seat: &mut ShardSeat<W>,
+        stale: Stale,
+    ) -> Result<(), T::Busy>
+        requires shard { seat.old.shard ≡ self.now }
+        ensures seat { HasVisited seat.old seat.new }
+        ensures ok { OnOk result (seat.new ≡ visited seat.old) }
+        ensures err { OnErr result (seat.new ≡ seat.old) }
+    {
+        if let Err(busy) = self.take(waiter, &mut seat.seat) {
+            return Err(busy);
+        }
+        let slot = seat.seat.slot_mut(&self.table.shared, 0);
+        slot.purge(stale.file, stale.below);
+        self.give(&mut seat.seat);
+        Ok(())
+    }
+
+    /// What the shard has.
+    pub(crate) fn count<T: Waiter>(
+        &self,
+        waiter: &T,
+        seat: &mut ShardSeat<W>,
+        share: u64,
+    ) -> Result<ShardCount, T::Busy>
+        requires shard { seat.old.shard ≡ self.now }
+        requires share { share_of self.now.tag ≡ share }
+        ensures within { IfOk result (λ count. count.loose ≤ count.share) }
+        ensures share { IfOk result (λ count. count.share ≡ share) }
+        ensures seat { HasVisited seat.old seat.new }
+        ensures ok { OnOk result (seat.new ≡ visited seat.old) }
+        ensures err { OnErr result (seat.new ≡ seat.old) }
+    {
+        if let Err(busy) = self.take(waiter, &mut seat.seat) {
+            return Err(busy);
+        }
+        let slot = seat.seat.slot_mut(&self.table.shared, 0);
+        let count = ShardCount {
+            tiles: slot.tiles(),
+            pins: slot.pins(),
+            loose: slot.loose(),
+            share,
+        };
+        self.give(&mut seat.seat);
+        Ok(count)
+    }
+}

@@ -1,0 +1,49 @@
+//! The kinds of step, and what each tells its seat.
+ghost use Rattle.shard_gate.specs.Turn.{Took, Gave, Counted};
+ghost use Rattle.shard_gate.specs.Turn.{kept_standing, new_standing, both_standings, spent_standing};
+
+use crate::rule::BodyRule;
+use crate::standing::Standing;
+use atomic_table::{Join, Play, Split};
+use std::marker::PhantomData;
+
+/// A compare-and-exchange of the turn word, 0 to 1.
+pub(crate) struct Take<L> {
+    rule: PhantomData<L>,
+}
+
+impl<S, L: BodyRule<S>> Play<S, Standing> for Take<L> {
+    ghost then = { Took L.lawful };
+}
+
+/// A store of 0 to the turn word.
+pub(crate) struct Give;
+
+impl<S> Play<S, Standing> for Give {
+    ghost then = { Gave };
+}
+
+/// A load of the turn word, which tells that no seat has more permits than all together.
+pub(crate) struct Count;
+
+impl<S> Play<S, Standing> for Count {
+    ghost then = { Counted };
+}
+
+/// One permit goes to the new seat.
+pub(crate) struct OnePermit;
+
+impl Split<Standing> for OnePermit {
+    ghost left = { kept_standing };
+
+    ghost right = { new_standing };
+}
+
+/// The permits of the other seat are added, and it is spent.
+pub(crate) struct AllPermits;
+
+impl Join<Standing> for AllPermits {
+    ghost both = { both_standings };
+
+    ghost spent = { spent_standing };
+}

@@ -1,0 +1,27 @@
+-- Between which two levels does an LOD lie, and what is a lookup between them?
+use Rattle.std.specs.Prelude.{◌≡◌, ℕ, ◌+◌, ◌<◌, ◌≤◌, List, ◌++◌}
+use Rattle.texel_filter.specs.declared.request.TexRequest.{TexRequest}
+use Rattle.texel_filter.specs.declared.coordinate.LevelPair.{LevelPair}
+use Rattle.texel_filter.specs.Image.{Sizes, Image, Texel}
+use Rattle.texel_filter.specs.Coordinate.{unit, level_before, share_of_next_level}
+use Rattle.texel_filter.specs.Filter.{bilinear_sum, blended}
+use Rattle.texel_filter.specs.Visits.{square_visits}
+
+-- the levels about an LOD, and its share of the second
+pub record AreLevelsAt (lod levels : ℕ) (pair : LevelPair) : Type 0 where
+  pub first : pair.first ≡ level_before lod levels
+  pub share : pair.share ≡ share_of_next_level lod levels
+  pub inside : pair.first < levels
+  pub next_inside : 1 ≤ pair.share → pair.first + 1 < levels
+  pub below : pair.share < unit
+
+-- a channel of the lookup between two levels
+abbrev pub between_value : Image → TexRequest → LevelPair → ℕ → ℕ
+between_value image r levels c =
+    blended levels.share (bilinear_sum image r levels.first c)
+    (bilinear_sum image r (levels.first + 1) c)
+
+-- its visits
+abbrev pub between_visits : Sizes → TexRequest → LevelPair → List Texel
+between_visits sizes r levels =
+    square_visits sizes r levels.first ++ square_visits sizes r (levels.first + 1)

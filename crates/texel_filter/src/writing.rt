@@ -1,0 +1,190 @@
+//! What is written to the buffer of a caller, by the number of channels. A refusal leaves what the
+//! caller had. Each function has a body for each small number, where the compiler then knows it:
+//! the texels of a fetch that is inlined need no memory, and no loop is left.
+ghost use Rattle.std.specs.Prelude.{◌≡◌, ◌+◌, ◌^◌, ◌<◌, length, [], ◌∷◌};
+ghost use Rattle.std.specs.Prelude.{IfSome, OnOk, OnErr};
+ghost use Rattle.std.specs.Option.{ForSome};
+ghost use Rattle.texel_filter.specs.Image.{IsChannelCount, AreValues, image_of};
+ghost use Rattle.texel_filter.specs.Image.{IsInside, texel_of};
+ghost use Rattle.texel_filter.specs.Filter.{value_in, bilinear_in_level};
+ghost use Rattle.texel_filter.specs.Visits.{visit_in, square_visits};
+ghost use Rattle.texel_filter.specs.Calls.{LeftBy};
+ghost use Rattle.texel_filter.specs.Coordinate.{unit};
+ghost use Rattle.texel_filter.specs.LevelPair.{between_value, between_visits};
+
+use crate::coordinate::LevelPair;
+use crate::fetch::{Fetch, MAX_CHANNELS};
+use crate::request::TexRequest;
+use crate::weighted::Weighted;
+
+/// The texel in a column and a row.
+#[inline(always)]
+pub fn write_texel<F: Fetch>(
+    f: &mut F,
+    level: u32,
+    at: (u32, u32),
+    out: &mut [u16],
+) -> Result<(), F::Error>
+    requires inside { IsInside (F.sizes f.old) (texel_of level at.0 at.1) }
+    requires channels { IsChannelCount (length out.old) }
+    ensures told { ForSome (F.values f.old) (λ v.
+        OnOk result (AreValues (v level at.0 at.1) out.new)) }
+    ensures left { LeftBy F.leaves F.refuses f.old (texel_of level at.0 at.1 ∷ []) f.new result }
+    ensures same { OnErr result (out.new ≡ out.old) }
+{
+    match out.len() {
+        1 => texel_upto(f, level, at, 1, out),
+        2 => texel_upto(f, level, at, 2, out),
+        3 => texel_upto(f, level, at, 3, out),
+        4 => texel_upto(f, level, at, 4, out),
+        n => texel_upto(f, level, at, n, out),
+    }
+}
+
+#[inline(always)]
+fn texel_upto<F: Fetch>(
+    f: &mut F,
+    level: u32,
+    at: (u32, u32),
+    n: usize,
+    out: &mut [u16],
+) -> Result<(), F::Error>
+    requires inside { IsInside (F.sizes f.old) (texel_of level at.0 at.1) }
+    requires channels { IsChannelCount n }
+    requires count { length out.old ≡ n }
+    ensures told { ForSome (F.values f.old) (λ v.
+        OnOk result (AreValues (v level at.0 at.1) out.new)) }
+    ensures left { LeftBy F.leaves F.refuses f.old (texel_of level at.0 at.1 ∷ []) f.new result }
+    ensures same { OnErr result (out.new ≡ out.old) }
+{
+    let mut texel = [0; MAX_CHANNELS];
+    f.texel(level, at.0, at.1, &mut texel[..n])?;
+    out.copy_from_slice(&texel[..n]);
+    Ok(())
+}
+
+/// The same, or 0 where there is no such column or row.
+pub fn write_one<F: Fetch>(
+    f: &mut F,
+    level: u32,
+    at: (Option<u32>, Option<u32>),
+    out: &mut [u16],
+) -> Result<(), F::Error>
+    requires level { level < (F.sizes f.old).levels }
+    requires column { IfSome at.0 (λ x. x < (F.sizes f.old).width level) }
+    requires row { IfSome at.1 (λ y. y < (F.sizes f.old).height level) }
+    requires channels { IsChannelCount (length out.old) }
+    ensures told { ForSome (F.values f.old) (λ v.
+        OnOk result (AreValues (value_in (v level) at.0 at.1) out.new)) }
+    ensures left { LeftBy F.leaves F.refuses f.old (visit_in level at.0 at.1) f.new result }
+    ensures same { OnErr result (out.new ≡ out.old) }
+{
+    match at {
+        (Some(x), Some(y)) => write_texel(f, level, (x, y), out),
+        _ => {
+            out.fill(0);
+            Ok(())
+        }
+    }
+}
+
+/// Bilinear in a level.
+#[inline]
+pub fn write_level<F: Fetch>(
+    f: &mut F,
+    r: &TexRequest,
+    level: u32,
+    out: &mut [u16],
+) -> Result<(), F::Error>
+    requires level { level < (F.sizes f.old).levels }
+    requires channels { IsChannelCount (length out.old) }
+    ensures told { ForSome (F.values f.old) (λ v. OnOk result
+        (AreValues (bilinear_in_level (image_of (F.sizes f.old) v) r.now level) out.new)) }
+    ensures left { LeftBy F.leaves F.refuses f.old (square_visits (F.sizes f.old) r.now level)
+        f.new result }
+    ensures same { OnErr result (out.new ≡ out.old) }
+{
+    match out.len() {
+        1 => level_upto(f, r, level, 1, out),
+        2 => level_upto(f, r, level, 2, out),
+        3 => level_upto(f, r, level, 3, out),
+        4 => level_upto(f, r, level, 4, out),
+        n => level_upto(f, r, level, n, out),
+    }
+}
+
+#[inline(always)]
+fn level_upto<F: Fetch>(
+    f: &mut F,
+    r: &TexRequest,
+    level: u32,
+    n: usize,
+    out: &mut [u16],
+) -> Result<(), F::Error>
+    requires level { level < (F.sizes f.old).levels }
+    requires channels { IsChannelCount n }
+    requires count { length out.old ≡ n }
+    ensures told { ForSome (F.values f.old) (λ v. OnOk result
+        (AreValues (bilinear_in_level (image_of (F.sizes f.old) v) r.now level) out.new)) }
+    ensures left { LeftBy F.leaves F.refuses f.old (square_visits (F.sizes f.old) r.now level)
+        f.new result }
+    ensures same { OnErr result (out.new ≡ out.old) }
+{
+    let mut four = Weighted::black();
+    four.fetch(f, r, level, n)?;
+    four.mean(n, out);
+    Ok(())
+}
+
+/// Bilinear in two levels, and between them.
+#[inline]
+pub fn write_between<F: Fetch>(
+    f: &mut F,
+    r: &TexRequest,
+    levels: LevelPair,
+    out: &mut [u16],
+) -> Result<(), F::Error>
+    requires room { levels.first + 1 < 2 ^ 32 }
+    requires levels { levels.first + 1 < (F.sizes f.old).levels }
+    requires share { levels.share < unit }
+    requires channels { IsChannelCount (length out.old) }
+    ensures told { ForSome (F.values f.old) (λ v. OnOk result
+        (AreValues (between_value (image_of (F.sizes f.old) v) r.now levels) out.new)) }
+    ensures left { LeftBy F.leaves F.refuses f.old (between_visits (F.sizes f.old) r.now levels)
+        f.new result }
+    ensures same { OnErr result (out.new ≡ out.old) }
+{
+    match out.len() {
+        1 => between_upto(f, r, levels, 1, out),
+        2 => between_upto(f, r, levels, 2, out),
+        3 => between_upto(f, r, levels, 3, out),
+        4 => between_upto(f, r, levels, 4, out),
+        n => between_upto(f, r, levels, n, out),
+    }
+}
+
+#[inline(always)]
+fn between_upto<F: Fetch>(
+    f: &mut F,
+    r: &TexRequest,
+    levels: LevelPair,
+    n: usize,
+    out: &mut [u16],
+) -> Result<(), F::Error>
+    requires room { levels.first + 1 < 2 ^ 32 }
+    requires levels { levels.first + 1 < (F.sizes f.old).levels }
+    requires share { levels.share < unit }
+    requires channels { IsChannelCount n }
+    requires count { length out.old ≡ n }
+    ensures told { ForSome (F.values f.old) (λ v. OnOk result
+        (AreValues (between_value (image_of (F.sizes f.old) v) r.now levels) out.new)) }
+    ensures left { LeftBy F.leaves F.refuses f.old (between_visits (F.sizes f.old) r.now levels)
+        f.new result }
+    ensures same { OnErr result (out.new ≡ out.old) }
+{
+    let (mut first, mut second) = (Weighted::black(), Weighted::black());
+    first.fetch(f, r, levels.first, n)?;
+    second.fetch(f, r, levels.first + 1, n)?;
+    first.blend(&second, levels.share, n, out);
+    Ok(())
+}

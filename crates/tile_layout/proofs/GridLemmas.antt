@@ -1,0 +1,25 @@
+-- The cells of a grid.
+use Rattle.std.proofs.Common.{◌≡◌, ℕ, ◌*◌, ◌≤◌, arith}
+use Rattle.std.proofs.Math.Nat.{mul-le-mul}
+use Rattle.tile_layout.specs.declared.grid.Grid.{Grid}
+use Rattle.tile_layout.specs.Cell.{cells_across, cells_down, cell_count}
+use Rattle.tile_layout.specs.CutSide.{max_cells_aside, max_cells}
+use Rattle.tile_layout.specs.Grid.{shown_grid}
+use Rattle.tile_layout.proofs.CellLemmas.{HasCells}
+
+module _ (grid : Grid) where
+  pub has_cells : HasCells (shown_grid grid)
+  has_cells = record {
+    cell_width = grid.across.in_range.piece.some;
+    cell_height = grid.down.in_range.piece.some;
+  }
+
+  pub few_cells : cell_count (shown_grid grid) ≤ max_cells
+  few_cells =
+      let across = grid.across.in_range in
+      let down = grid.down.in_range in
+      let columns : cells_across (shown_grid grid) ≤ max_cells_aside =
+      omega (arith, across.cover, across.few) in
+      let rows : cells_down (shown_grid grid) ≤ max_cells_aside =
+      omega (arith, down.cover, down.few) in
+      mul-le-mul columns rows

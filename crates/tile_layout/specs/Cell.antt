@@ -1,0 +1,122 @@
+-- How is a level cut into cells, and which cell holds a texel? (docs/FORMAT.md, "Cells")
+-- Cells are numbered row by row from 0, and end with the level.
+-- The numbers are those of what is kept of the file, and those of bytes are those of what is kept
+-- of them.
+use Rattle.std.specs.Prelude.{ℕ, ◌+◌, ◌-◌, ◌*◌, ◌/◌, ◌%◌, ◌<◌, ◌≤◌, ◌==◌, min, nat_lt, List}
+use Rattle.std.specs.Prelude.{Option, Some, None, if◌then◌else◌}
+use Rattle.tiff_dirs.specs.Block.{LevelShape, pieces_over}
+use Rattle.tile_layout.specs.declared.cut.Cut.{Cut}
+use Rattle.tile_layout.specs.declared.rect.Rect.{Rect}
+use Rattle.tile_layout.specs.Kept.{Kept, kept_of, stored_count, level_in}
+use Rattle.tile_layout.specs.Level.{width_in, height_in, level_count_in}
+
+-- A level that is cut: its sides, and those of its cells before they are clipped to it.
+pub record CutLevel : Type 0 where
+  pub width : ℕ
+  pub height : ℕ
+  pub cell_width : ℕ
+  pub cell_height : ℕ
+
+-- how many cells there are across
+abbrev pub cells_across : CutLevel → ℕ
+cells_across level = pieces_over level.width level.cell_width
+
+-- and down
+abbrev pub cells_down : CutLevel → ℕ
+cells_down level = pieces_over level.height level.cell_height
+
+-- and in all
+abbrev pub cell_count : CutLevel → ℕ
+cell_count level = cells_across level * cells_down level
+
+-- the number of the cell that holds texel (x, y)
+unfoldable pub cell_index : CutLevel → ℕ → ℕ → ℕ
+cell_index level x y =
+    y / level.cell_height * cells_across level + x / level.cell_width
+
+-- n places from one on, clipped to a side
+abbrev pub clipped : ℕ → ℕ → ℕ → ℕ
+clipped side from n = min n (side - from)
+
+-- the first column of cell i
+abbrev pub cell_left : CutLevel → ℕ → ℕ
+cell_left level i = i % cells_across level * level.cell_width
+
+-- and its first row
+abbrev pub cell_top : CutLevel → ℕ → ℕ
+cell_top level i = i / cells_across level * level.cell_height
+
+-- the rectangle of cell i
+unfoldable pub cell_rect : CutLevel → ℕ → Rect
+cell_rect level i = record {
+  x = cell_left level i;
+  y = cell_top level i;
+  w = clipped level.width (cell_left level i) level.cell_width;
+  h = clipped level.height (cell_top level i) level.cell_height;
+}
+
+-- the texel is in the rectangle
+pub record HoldsTexel (rect : Rect) (x y : ℕ) : Type 0 where
+  pub left : rect.x ≤ x
+  pub right : x < rect.x + rect.w
+  pub top : rect.y ≤ y
+  pub bottom : y < rect.y + rect.h
+
+-- ---- the levels of a file
+
+-- the side of the cells of a level of strips: that of the cut, or its own where that is 0
+abbrev pub strip_cell_side : Cut → ℕ → ℕ
+strip_cell_side cut own = if cut.autotile == 0 then own else cut.autotile
+
+-- width and height of the cells of a stored level: those of its tiles, where it has them
+abbrev pub cell_width_by : Cut → LevelShape → Option (ℕ × ℕ) → ℕ
+cell_width_by cut shape None = strip_cell_side cut shape.width
+cell_width_by cut shape (Some tile) = tile.0
+
+abbrev pub cell_height_by : Cut → LevelShape → Option (ℕ × ℕ) → ℕ
+cell_height_by cut shape None = strip_cell_side cut shape.height
+cell_height_by cut shape (Some tile) = tile.1
+
+-- the stored level by which a level is cut: its own, and level 0 where it is generated
+abbrev pub pattern_shape : Kept → ℕ → LevelShape
+pattern_shape file l = (level_in file (if nat_lt l (stored_count file) then l else 0)).shape
+
+-- how level l is cut
+abbrev pub cut_level_in : Kept → Cut → ℕ → CutLevel
+cut_level_in file cut l = record {
+  width = width_in file l;
+  height = height_in file l;
+  cell_width = cell_width_by cut (pattern_shape file l) (pattern_shape file l).tile;
+  cell_height = cell_height_by cut (pattern_shape file l) (pattern_shape file l).tile;
+}
+
+-- how level l of a file with these bytes is cut
+abbrev pub cut_level_of : List ℕ → Cut → ℕ → CutLevel
+cut_level_of bytes cut l = cut_level_in (kept_of bytes) cut l
+
+-- ---- the bytes of cells
+
+-- the samples of a texel, the same in each level
+abbrev pub channels_in : Kept → ℕ
+channels_in file = (level_in file 0).shape.channels
+
+abbrev pub channels_of : List ℕ → ℕ
+channels_of bytes = channels_in (kept_of bytes)
+
+-- the bytes that a rectangle of texels takes in memory, with so many samples of 16 bits each
+abbrev pub rect_bytes : ℕ → Rect → ℕ
+rect_bytes channels rect = 2 * channels * rect.w * rect.h
+
+-- the most bytes of a cell
+abbrev pub max_cell_bytes : ℕ
+max_cell_bytes = 33554432
+
+-- no cell of the level takes more
+abbrev pub CellsFitOn : ℕ → CutLevel → Type 0
+CellsFitOn channels level =
+    (i : ℕ) → i < cell_count level → rect_bytes channels (cell_rect level i) ≤ max_cell_bytes
+
+-- no cell of any level that the file has under the cut takes more
+abbrev pub CellsFit : Kept → Cut → Type 0
+CellsFit file cut = (l : ℕ) → l < level_count_in file cut.automip
+    → CellsFitOn (channels_in file) (cut_level_in file cut l)

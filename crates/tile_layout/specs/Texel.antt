@@ -1,0 +1,48 @@
+-- Which number is each sample of a texel of a level? (docs/FORMAT.md, "Levels")
+-- Those of stored levels stand in the file. Each generated level is made of the one before it.
+use Rattle.std.specs.Prelude.{◌≡◌, ℕ, zero, suc, ◌+◌, ◌-◌, ◌*◌, ◌/◌, ◌<◌, min, nat_lt, List, length}
+use Rattle.std.specs.Prelude.{slice_index, if◌then◌else◌}
+use Rattle.tiff_dirs.specs.Texel.{sample_in}
+use Rattle.tile_layout.specs.declared.rect.Rect.{Rect}
+use Rattle.tile_layout.specs.Kept.{Kept, kept_of, stored_count, level_in}
+use Rattle.tile_layout.specs.Level.{width_in, height_in}
+
+-- the average of four, a half rounded up
+abbrev pub average : ℕ → ℕ → ℕ → ℕ → ℕ
+average a b c d = (a + b + c + d + 2) / 4
+
+-- a place, or the last of a side where it lies behind it
+abbrev pub clamped : ℕ → ℕ → ℕ
+clamped side place = min place (side - 1)
+
+-- the average of the four texels of a level from which texel (x, y) of the next is made
+abbrev pub quarter : (ℕ → ℕ → ℕ) → ℕ → ℕ → ℕ → ℕ → ℕ
+quarter texel width height x y =
+    let left = clamped width (2 * x) in
+    let right = clamped width (2 * x + 1) in
+    let top = clamped height (2 * y) in
+    let bottom = clamped height (2 * y + 1) in
+    average (texel left top) (texel right top) (texel left bottom) (texel right bottom)
+
+-- Sample c of texel (x, y) of level l, in the depth of the file: of a stored level the one that
+-- stands there, of a generated one the average of that sample of four texels of the level before.
+unfoldable pub texel_in : Kept → List ℕ → ℕ → ℕ → ℕ → ℕ → ℕ
+texel_in file bytes zero x y c = sample_in file.big bytes (level_in file 0) x y c
+texel_in file bytes (suc l) x y c =
+    if nat_lt (suc l) (stored_count file)
+    then sample_in file.big bytes (level_in file (suc l)) x y c
+    else quarter (λ i j. texel_in file bytes l i j c) (width_in file l) (height_in file l) x y
+
+-- the same of a file with these bytes
+abbrev pub texel_at : List ℕ → ℕ → ℕ → ℕ → ℕ → ℕ
+texel_at bytes l x y c = texel_in (kept_of bytes) bytes l x y c
+
+-- ---- the texels of a rectangle
+
+-- these are the numbers of the texels of a rectangle, with so many samples each: `texel` says
+-- which number is sample c of texel (x, y)
+pub record AreTexelsOn (texel : ℕ → ℕ → ℕ → ℕ) (channels : ℕ) (rect : Rect) (numbers : List ℕ)
+    : Type 0 where
+  pub count : length numbers ≡ rect.w * rect.h * channels
+  pub each : (i j c : ℕ) → i < rect.w → j < rect.h → c < channels
+      → slice_index numbers ((j * rect.w + i) * channels + c) ≡ texel (rect.x + i) (rect.y + j) c

@@ -1,0 +1,38 @@
+-- When do the texels of a rectangle stand side by side in the file, row behind row?
+use Rattle.std.specs.Prelude.{◌≡◌, ℕ, ◌+◌, ◌*◌, ◌%◌, ◌^◌, ◌<◌, ◌≤◌, List, length, Option, Some, None}
+use Rattle.tiff_dirs.specs.Block.{LevelShape, Level, sample_bytes, texel_bytes}
+use Rattle.tiff_dirs.specs.Texel.{sample_place}
+use Rattle.tile_layout.specs.declared.rect.Rect.{Rect}
+use Rattle.tile_layout.specs.Blocks.{HoldsBlocks}
+
+-- the texels of a row of a strip, or of a tile
+abbrev pub block_width_by : LevelShape → Option (ℕ × ℕ) → ℕ
+block_width_by shape None = shape.width
+block_width_by shape (Some tile) = tile.0
+
+abbrev pub block_width : LevelShape → ℕ
+block_width shape = block_width_by shape shape.tile
+
+-- the rows of a strip, or of a tile
+abbrev pub block_rows_by : LevelShape → Option (ℕ × ℕ) → ℕ
+block_rows_by shape None = shape.rows_per_strip
+block_rows_by shape (Some tile) = tile.1
+
+abbrev pub block_rows : LevelShape → ℕ
+block_rows shape = block_rows_by shape shape.tile
+
+-- the rectangle is whole rows of one strip or tile
+pub record AreWholeRows (shape : LevelShape) (rect : Rect) : Type 0 where
+  pub left : rect.x % block_width shape ≡ 0
+  pub width : rect.w ≡ block_width shape
+  pub rows : rect.y % block_rows shape + rect.h ≤ block_rows shape
+
+-- The samples of the rectangle stand side by side from `at` on, row behind row. They lie in each
+-- file that holds the strips and tiles, and none stands past 2^64.
+pub record StandsWhole (level : Level) (rect : Rect) (at : ℕ) : Type 0 where
+  pub samples : (i j c : ℕ) → i < rect.w → j < rect.h
+      → sample_place level (rect.x + i) (rect.y + j) c
+      ≡ at + (j * rect.w + i) * texel_bytes level.shape + c * sample_bytes level.shape.depth
+  pub inside : (bytes : List ℕ) → HoldsBlocks bytes level
+      → at + rect.w * rect.h * texel_bytes level.shape ≤ length bytes
+  pub ends : at + rect.w * rect.h * texel_bytes level.shape < 2 ^ 64

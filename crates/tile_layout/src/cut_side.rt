@@ -1,0 +1,43 @@
+ghost use Rattle.std.specs.Prelude.{◌≡◌, ◌+◌, ◌*◌, ◌<◌, ◌≤◌};
+ghost use Rattle.tiff_dirs.specs.Facts.{IsSide};
+ghost use Rattle.tile_layout.specs.Cell.{clipped};
+ghost use Rattle.tile_layout.specs.CutSide.{IsCellSide, IsCutSide};
+
+/// A side of a level, and the cells that it is cut into.
+#[derive(Clone, Copy, Debug, PartialEq, Eq)]
+pub struct CutSide {
+    /// The texels of the side.
+    pub size: u32,
+    /// The texels of each cell. The last one ends with the side.
+    pub cell: u32,
+    /// How many cells cover the side.
+    pub cells: u32,
+    ghost in_range: { IsCutSide size cell cells },
+}
+
+impl CutSide {
+    pub(crate) fn new(size: u32, cell: u32) -> CutSide
+        requires side { IsSide size }
+        requires piece { IsCellSide size cell }
+        ensures size { result.size ≡ size }
+        ensures cell { result.cell ≡ cell }
+    {
+        CutSide {
+            size,
+            cell,
+            cells: (size + cell - 1) / cell,
+        }
+    }
+
+    /// The first place of cell k, and how many it has.
+    pub(crate) fn part(&self, k: u32) -> (u32, u32)
+        requires { k < self.now.cells }
+        ensures first { result.0 ≡ k * self.now.cell }
+        ensures count { result.1 ≡ clipped self.now.size result.0 self.now.cell }
+        ensures inside { result.0 + result.1 ≤ self.now.size }
+        ensures some { 1 ≤ result.1 }
+    {
+        let first = k * self.cell;
+        (first, self.cell.min(self.size - first))
+    }
+}

@@ -1,0 +1,89 @@
+ghost use Rattle.std.specs.Prelude.{◌≡◌, ℕ};
+ghost use Rattle.tile_layout.specs.Key.{key_of, generation_of, file_of, level_of, index_of};
+ghost use Rattle.tile_layout.specs.Key.{FitsKey, HasParts, IsKey};
+
+use std::marker::Model;
+
+/// The bits of the cell's number, of the level and of the file. The generation has the rest.
+const INDEX_BITS: u32 = 27;
+
+const LEVEL_BITS: u32 = 5;
+
+const FILE_BITS: u32 = 12;
+
+/// Where the level, the file and the generation begin.
+const LEVEL_SHIFT: u32 = INDEX_BITS;
+
+const FILE_SHIFT: u32 = LEVEL_SHIFT + LEVEL_BITS;
+
+const GENERATION_SHIFT: u32 = FILE_SHIFT + FILE_BITS;
+
+/// A cell of a level of a generation of a file. In a clause it is its number, which is never 0 and
+/// has the four numbers as its parts.
+#[derive(Clone, Copy, Debug, PartialEq, Eq, Hash)]
+pub struct TileKey {
+    number: u64,
+}
+
+impl Model for TileKey {
+    ghost use Rattle.tile_layout.specs.Key.{IsKey};
+    ghost use Rattle.std.specs.Prelude.{ℕ};
+
+    ghost Value = { ℕ };
+
+    ghost view = { λ key. key.number };
+
+    ghost invariant = { λ key. IsKey key.number };
+
+    ghost inverse = { λ n. record { number = n } };
+}
+
+impl TileKey {
+    /// The key of a cell. No other key has these four numbers.
+    pub fn new(generation: u32, file: u32, level: u32, index: u32) -> TileKey
+        requires { FitsKey generation file level index }
+        ensures value { result ≡ key_of generation file level index }
+        ensures parts { HasParts generation file level index result }
+        ensures only { (key : ℕ) → HasParts generation file level index key → key ≡ result }
+        ensures valid { IsKey result }
+    {
+        let file_number = ((generation as u64) << FILE_BITS) + file as u64;
+        let level_number = (file_number << LEVEL_BITS) + level as u64;
+        TileKey {
+            number: (level_number << INDEX_BITS) + index as u64,
+        }
+    }
+
+    /// The generation of the file.
+    #[tactic(auto, unfolding(crate::specs::Key::generation_of))]
+    pub fn generation(&self) -> u32
+        ensures value { result ≡ generation_of self.now }
+        ensures valid { IsKey self.now }
+    {
+        (self.number >> GENERATION_SHIFT) as u32
+    }
+
+    /// The number of the file.
+    #[tactic(auto, unfolding(crate::specs::Key::file_of))]
+    pub fn file(&self) -> u32
+        ensures value { result ≡ file_of self.now }
+    {
+        ((self.number >> FILE_SHIFT) % (1 << FILE_BITS)) as u32
+    }
+
+    /// The level of the file.
+    #[tactic(auto, unfolding(crate::specs::Key::level_of))]
+    pub fn level(&self) -> u32
+        ensures value { result ≡ level_of self.now }
+    {
+        ((self.number >> LEVEL_SHIFT) % (1 << LEVEL_BITS)) as u32
+    }
+
+    /// The cell's number in its level.
+    #[tactic(auto, unfolding(crate::specs::Key::index_of))]
+    pub fn index(&self) -> u32
+        ensures value { result ≡ index_of self.now }
+    {
+        (self.number % (1 << INDEX_BITS)) as u32
+    }
+}

@@ -1,0 +1,9 @@
+pub mod Leaves
+pub mod Ranges
+pub mod Appended
+pub mod Windows
+pub mod PieceValues
+pub mod SampleValues
+pub mod RowValues
+pub mod RectValues
+pub mod Regions

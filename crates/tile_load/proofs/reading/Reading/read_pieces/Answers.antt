@@ -1,0 +1,84 @@
+use Rattle.std.proofs.Common.{◌≡◌, ◌*◌, ◌++◌, ◌∙◌, ℕ, ap, arith, refl, sym, List, append_assoc}
+use Rattle.std.specs.List.{flat_map}
+use Rattle.std.proofs.lemmas.List.{append-nil}
+use Rattle.std.proofs.lemmas.List.Concat.{flat_map-append}
+use Rattle.std.proofs.lemmas.Result.{err_from_is_err_and}
+use Rattle.tile_layout.specs.Pieces.{row_texels}
+use Rattle.tile_layout.proofs.WalkLemmas.{length_taken}
+use Rattle.tile_load.specs.LevelRow.{values_at}
+use Rattle.tile_load.proofs.Leaves.{leaves_after}
+use Rattle.tile_load.proofs.reading.Reading.read_pieces.Goals as goal
+
+-- the values of the texels that were taken stand behind those so far
+values_taken : (values : ℕ × ℕ → List ℕ) (old mid new : List ℕ)
+    (all left row rest : List (ℕ × ℕ)) → left ≡ row ++ rest
+    → mid ++ flat_map values left ≡ old ++ flat_map values all
+    → new ≡ mid ++ flat_map values row
+    → new ++ flat_map values rest ≡ old ++ flat_map values all
+values_taken values old mid new all left row rest parts so_far more =
+    ap (λ (v : List ℕ). v ++ flat_map values rest) more
+    ∙ append_assoc mid (flat_map values row) (flat_map values rest)
+    ∙ ap (λ (v : List ℕ). mid ++ v) (sym (flat_map-append values row rest))
+    ∙ ap (λ (t : List (ℕ × ℕ)). mid ++ flat_map values t) (sym parts) ∙ so_far
+
+pub pieces-init : goal.pieces-init
+pieces-init g c = record {
+  keeps = g.met.B.ByteReader.lawful.itself c.args.reader.now;
+  some = omega arith;
+  level = refl;
+  count = refl;
+  told = λ bytes told windows format holds. (windows, refl);
+}
+
+pub pieces-preserved : goal.pieces-preserved
+pieces-preserved g c =
+    let takes = c.in-Some.ensures.steps in
+    let before = c.pieces.invariant in
+    record {
+      keeps = g.met.B.ByteReader.lawful.chains _ _ _ before.keeps c.in_ok-read_piece.ensures.reader;
+      some = omega (arith, c.in_ok-read_piece.ensures.next);
+      level = takes.level ∙ before.level;
+      count = omega (
+        arith,
+        before.count,
+        c.in_ok-read_piece.ensures.count,
+        ap (λ n. n * c.args.unpacking.now.format.channels)
+            (length_taken c.pieces.pieces c.in-Some.piece c.next.new.self takes),
+      );
+      told = λ bytes told windows format holds.
+          let so_far = before.told bytes told windows format holds in
+          let still = g.met.B.ByteReader.lawful.same_bytes _ _ before.keeps ∙ told in
+          let level = c.args.pieces.now.level in
+          let lies = rw before.level at takes.lies in
+          let read = c.in_ok-read_piece.ensures.told bytes still level c.pieces.pieces.right
+          so_far.0 format lies holds in
+          let values = values_at c.args.unpacking.now.format.big bytes level c.args.unpacking.now.scaled in (
+            read.0,
+            values_taken values c.args.self.now.values.items c.pieces.self.values.items
+                c.read_piece.new.self.values.items c.args.pieces.now.texels
+                c.pieces.pieces.texels
+                (row_texels c.in-Some.piece.x c.in-Some.piece.y c.in-Some.piece.n)
+                c.next.new.self.texels takes.texels so_far.1 read.1,
+          );
+    }
+
+pub returns-clause-told : goal.returns-clause-told
+returns-clause-told g c = λ bytes told windows format holds.
+    let so_far = c.pieces.invariant.told bytes told windows format holds in
+    let values = values_at c.args.unpacking.now.format.big bytes c.args.pieces.now.level
+    c.args.unpacking.now.scaled in (
+      so_far.0,
+      sym (append-nil c.pieces.self.values.items)
+          ∙ ap (λ (t : List (ℕ × ℕ)). c.pieces.self.values.items ++ flat_map values t)
+          (sym c.in_default.ensures.steps.0)
+          ∙ so_far.1,
+    )
+
+pub returns-in_err-read_piece-clause-reader : goal.returns-in_err-read_piece-clause-reader
+returns-in_err-read_piece-clause-reader g c =
+    let r = c.from_residual in
+    let p = err_from_is_err_and r.result r.ensures.1 in
+    rw (p.1, p.2) (leaves_after g.B.ByteReader.keeps g.B.ByteReader.refuses
+    g.met.B.ByteReader.lawful.chains (Unit {0}) (Unit {0}) c.args.reader.now c.pieces.reader
+    c.read_piece.new.reader c.in_err-read_piece.field-0.0
+    c.pieces.invariant.keeps c.in_err-read_piece.ensures.reader)

@@ -1,0 +1,30 @@
+use Rattle.std.proofs.Common.{◌≡◌, ◌+◌, ◌*◌, ◌++◌, ◌≤◌, length}
+use Rattle.std.specs.Option.{ForSome}
+use Rattle.std.specs.List.{flat_map}
+use Rattle.tile_layout.specs.FormatOf.{IsFormatOf}
+use Rattle.tile_layout.specs.Blocks.{HoldsBlocks}
+use Rattle.tile_load.specs.LevelRow.{values_at}
+use Rattle.tile_load.specs.Window.{AreWindows}
+use Rattle.tile_load.proofs.reading.Reading.read_pieces.Given as goal
+
+-- the values so far, and those of the texels to come, are those of all texels
+abbrev pub invariant-pieces : goal.invariant-pieces
+invariant-pieces g l = record {
+  keeps : g.B.ByteReader.keeps l.initial.reader l.reader;
+  some : l.k ≤ length l.self.windows.items;
+  level : l.pieces.level ≡ l.initial.pieces.level;
+  count : length l.self.values.items + length l.pieces.texels * l.unpacking.format.channels
+      ≡ length l.initial.self.values.items
+      + length l.initial.pieces.texels * l.unpacking.format.channels;
+  told : ForSome (g.B.ByteReader.bytes l.initial.reader) (λ bytes.
+      AreWindows bytes l.initial.self.windows.items
+      → IsFormatOf l.unpacking.format.big l.initial.pieces.level.shape l.unpacking.format
+      → HoldsBlocks bytes l.initial.pieces.level
+      → AreWindows bytes l.self.windows.items × (l.self.values.items
+      ++ flat_map (values_at l.unpacking.format.big bytes l.initial.pieces.level l.unpacking.scaled) l.pieces.texels
+      ≡ l.initial.self.values.items
+      ++ flat_map (values_at l.unpacking.format.big bytes l.initial.pieces.level l.unpacking.scaled) l.initial.pieces.texels));
+}
+
+abbrev pub decreases-pieces : goal.decreases-pieces
+decreases-pieces g l = length l.pieces.texels

@@ -1,0 +1,9 @@
+pub mod Region
+pub mod Overlap
+pub mod SampleValue
+pub mod Window
+pub mod LevelRow
+pub mod RegionRead
+pub mod Load
+pub mod LoadError
+pub mod CellTile

@@ -1,0 +1,27 @@
+-- Which cell is loaded?
+use Rattle.std.specs.Prelude.{◌≡◌, ℕ, ◌<◌, List, None}
+use Rattle.tiff_dirs.specs.Level.{first_fault}
+use Rattle.tex_world.specs.Tap.{Named}
+use Rattle.tile_layout.specs.declared.cut.Cut.{Cut}
+use Rattle.tile_layout.specs.declared.rect.Rect.{Rect}
+use Rattle.tile_layout.specs.Key.{generation_of, file_of, level_of, index_of}
+use Rattle.tile_layout.specs.Kept.{Kept, kept_of, stored_count}
+use Rattle.tile_layout.specs.Cell.{cell_count, cut_level_in}
+use Rattle.tile_layout.specs.Pieces.{LiesOnLevel}
+
+-- the layout is that of these bytes, which show no fault
+pub record IsLayoutOf (bytes : List ℕ) (layout : Kept) : Type 0 where
+  pub good : first_fault bytes ≡ None
+  pub kept : layout ≡ kept_of bytes
+
+-- the key names a cell of a stored level, in the file and the generation that the handle reads
+pub record NamesCell (handle : Named) (layout : Kept) (cut : Cut) (key : ℕ) : Type 0 where
+  pub file : file_of key ≡ handle.file
+  pub generation : generation_of key ≡ handle.generation
+  pub stored : level_of key < stored_count layout
+  pub index : index_of key < cell_count (cut_level_in layout cut (level_of key))
+
+-- the rectangle is one of a stored level
+pub record IsPlace (layout : Kept) (level : ℕ) (rect : Rect) : Type 0 where
+  pub stored : level < stored_count layout
+  pub inside : LiesOnLevel layout level rect

@@ -1,0 +1,140 @@
+//! A reading of the pieces of a level: the values so far, and what was read ahead.
+
+ghost use Rattle.std.specs.Prelude.{◌≡◌, ◌+◌, ◌*◌, ◌≤◌, ◌<◌, ◌++◌, ℕ, [], length, replicate, OnOk};
+ghost use Rattle.std.specs.Option.{ForSome};
+ghost use Rattle.std.specs.List.{flat_map};
+ghost use Rattle.tiff_dirs.specs.Block.{Level};
+ghost use Rattle.tile_layout.specs.Pieces.{LiesSideBySide, row_texels};
+ghost use Rattle.tile_layout.specs.FormatOf.{IsFormatOf};
+ghost use Rattle.tile_layout.specs.Blocks.{HoldsBlocks};
+ghost use Rattle.tile_load.specs.LevelRow.{values_at};
+ghost use Rattle.tile_load.specs.Window.{AreWindows};
+ghost use Rattle.tile_load.specs.RegionRead.{LeavesRegion};
+
+use crate::region::RegionError;
+use crate::rows::Rows;
+use crate::sample_values::push_samples;
+use crate::span::Span;
+use crate::unpacking::Unpacking;
+use crate::window::{Window, ready};
+use std::alloc::{AllocError, Global};
+use tiff_dirs::ByteReader;
+use tile_layout::{Piece, Pieces};
+
+/// The most bytes that the windows of a row read ahead, all together.
+const MAX_AHEAD: u64 = 256 * 1024;
+
+/// The values that were read, and a window for each piece of a row.
+#[derive(Drop)]
+pub(crate) struct Reading {
+    pub(crate) values: Vec<u16>,
+    pub(crate) windows: Vec<Window>,
+    /// The rows that are to be read.
+    rows: Rows,
+}
+
+/// The window of a piece of row y: the first where the row is a new one, else the next.
+fn window_of(row: &mut u32, y: u32, next: usize) -> usize
+    ensures { result ≤ next }
+{
+    if y == *row {
+        next
+    } else {
+        *row = y;
+        0
+    }
+}
+
+impl Reading {
+    /// A reading that has no values yet.
+    pub(crate) fn new(alloc: Global, rows: Rows) -> Reading
+        ensures values { result.values.items ≡ [] }
+        ensures windows { result.windows.items ≡ [] }
+    {
+        Reading {
+            values: Vec::new(alloc),
+            windows: Vec::new(alloc),
+            rows,
+        }
+    }
+
+    /// Appends n values of 0.
+    pub(crate) fn push_zeros(&mut self, n: u64) -> Result<(), AllocError>
+        ensures values { OnOk result
+            (self.new.values.items ≡ self.old.values.items ++ replicate n 0) }
+        ensures same { self.new.windows ≡ self.old.windows }
+    {
+        for _ in 0..n {
+            self.values.push(0)?;
+        }
+        Ok(())
+    }
+
+    /// Appends the numbers of the texels of a piece, read through window k.
+    fn read_piece<B: ByteReader>(
+        &mut self,
+        reader: &mut B,
+        unpacking: &Unpacking,
+        piece: &Piece,
+        k: usize,
+    ) -> Result<(), RegionError<B::Error>>
+        requires { k ≤ length self.old.windows.items }
+        ensures next { OnOk result (k < length self.new.windows.items) }
+        ensures count { OnOk result (length self.new.values.items
+            ≡ length self.old.values.items + piece.now.n * unpacking.now.format.channels) }
+        ensures told { ForSome (B.bytes reader.old) (λ bytes. (level : Level) → (right : ℕ)
+            → AreWindows bytes self.old.windows.items
+            → IsFormatOf unpacking.now.format.big level.shape unpacking.now.format
+            → LiesSideBySide level right piece.now → HoldsBlocks bytes level
+            → OnOk result (AreWindows bytes self.new.windows.items
+            × (self.new.values.items ≡ self.old.values.items
+            ++ flat_map (values_at unpacking.now.format.big bytes level unpacking.now.scaled)
+            (row_texels piece.now.x piece.now.y piece.now.n)))) }
+        ensures reader { LeavesRegion B.keeps B.refuses reader.old reader.new result }
+    {
+        ready(&mut self.windows, k)?;
+        let most = MAX_AHEAD / self.windows.len() as u64;
+        let behind = self.rows.behind(piece.y);
+        let window = &mut self.windows[k];
+        let format = &unpacking.format;
+        let texels = piece.n as usize;
+        let span = Span {
+            at: piece.at,
+            size: texels * format.texel_bytes,
+        };
+        window.fill(reader, &span, &behind, most)?;
+        let count = texels * format.channels;
+        push_samples(&mut self.values, unpacking, window.piece(&span), count)?;
+        Ok(())
+    }
+
+    /// Appends the numbers of the texels of the pieces of rows. Of each row the k-th is read through
+    /// window k.
+    pub(crate) fn read_pieces<B: ByteReader>(
+        &mut self,
+        reader: &mut B,
+        unpacking: &Unpacking,
+        pieces: &mut Pieces<'_>,
+    ) -> Result<(), RegionError<B::Error>>
+        ensures count { OnOk result (length self.new.values.items ≡ length self.old.values.items
+            + length pieces.old.texels * unpacking.now.format.channels) }
+        ensures told { ForSome (B.bytes reader.old) (λ bytes.
+            AreWindows bytes self.old.windows.items
+            → IsFormatOf unpacking.now.format.big pieces.old.level.shape unpacking.now.format
+            → HoldsBlocks bytes pieces.old.level
+            → OnOk result (AreWindows bytes self.new.windows.items
+            × (self.new.values.items ≡ self.old.values.items
+            ++ flat_map (values_at unpacking.now.format.big bytes pieces.old.level
+            unpacking.now.scaled) pieces.old.texels))) }
+        ensures reader { LeavesRegion B.keeps B.refuses reader.old reader.new result }
+    {
+        let mut k = 0usize;
+        let mut row = 0;
+        'pieces: while let Some(piece) = pieces.next() {
+            let own = window_of(&mut row, piece.y, k);
+            self.read_piece(reader, unpacking, &piece, own)?;
+            k = own + 1;
+        }
+        Ok(())
+    }
+}

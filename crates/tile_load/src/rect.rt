@@ -1,0 +1,52 @@
+//! The samples of a rectangle of a level.
+
+ghost use Rattle.std.specs.Prelude.{◌≡◌, ◌*◌, ◌<◌, length, IfOk};
+ghost use Rattle.std.specs.Option.{ForSome};
+ghost use Rattle.tiff_dirs.specs.Texel.{sample_in};
+ghost use Rattle.tile_layout.specs.Blocks.{HoldsBlocks};
+ghost use Rattle.tile_layout.specs.Kept.{stored_count, level_in};
+ghost use Rattle.tile_layout.specs.Pieces.{LiesOnLevel};
+ghost use Rattle.tile_layout.specs.Texel.{AreTexelsOn};
+ghost use Rattle.tile_load.specs.RegionRead.{LeavesRegion};
+
+use crate::reading::Reading;
+use crate::region::RegionError;
+use crate::rows::Rows;
+use crate::unpacking::Unpacking;
+use std::alloc::Global;
+use tiff_dirs::ByteReader;
+use tile_layout::{Layout, Rect};
+
+/// The samples of a rectangle of a stored level, in the depth of the file: row by row, those of a
+/// texel side by side.
+///
+/// Besides them it takes the bytes of a row and at most 256 KiB that are read ahead.
+pub fn read_rect<B: ByteReader>(
+    alloc: Global,
+    reader: &mut B,
+    layout: &Layout,
+    level: u32,
+    rect: Rect,
+) -> Result<Vec<u16>, RegionError<B::Error>>
+    requires stored { level < stored_count layout.now }
+    requires inside { LiesOnLevel layout.now level rect }
+    ensures count { IfOk result (λ samples. length samples.items
+        ≡ rect.w * rect.h * (level_in layout.now level).shape.channels) }
+    ensures told { ForSome (B.bytes reader.old) (λ bytes.
+        HoldsBlocks bytes (level_in layout.now level)
+        → IfOk result (λ samples. AreTexelsOn
+        (sample_in layout.now.big bytes (level_in layout.now level))
+        (level_in layout.now level).shape.channels rect samples.items)) }
+    ensures reader { LeavesRegion B.keeps B.refuses reader.old reader.new result }
+{
+    let format = layout.format(level);
+    let rows = Rows::of(layout, level, &format, rect.y.saturating_add(rect.h));
+    let unpacking = Unpacking {
+        format,
+        scaled: false,
+    };
+    let mut reading = Reading::new(alloc, rows);
+    let mut pieces = layout.pieces(level, rect);
+    reading.read_pieces(reader, &unpacking, &mut pieces)?;
+    Ok(reading.values)
+}

@@ -1,0 +1,293 @@
+-- What each call leaves of the numbers of a shard.
+use Rattle.std.proofs.Common.{◌≡◌, ℕ, ◌+◌, ◌-◌, ◌*◌, ◌<◌, ◌≤◌, ◌^◌, ◌&&◌, ◌==◌, Bool, true, false, cond, not, nat_lt, nat_le}
+use Rattle.std.proofs.Common.{[], ◌∷◌, length, Option, Some, None, refl, sym, ap, ◌∙◌, subst, arith}
+use Rattle.std.specs.List.{All, list_any, filter}
+use Rattle.std.specs.Option.{option_map_or}
+use Rattle.std.specs.Map.{values_of}
+use Rattle.std.proofs.lemmas.Bool.{eqb-true, leb-true, leb-false, lt-ltb, le-ltb}
+use Rattle.std.proofs.lemmas.Bool.Decides.{nat_tests}
+use Rattle.std.proofs.lemmas.List.Elements.{All-cons, All-head, All-tail, All-filter}
+use Rattle.std.proofs.lemmas.List.Sums.{sum_by-cons, length-filter, count_by-le-length}
+use Rattle.lru.specs.LruCache.{LruCache}
+use Rattle.tile_layout.specs.Cell.{max_cell_bytes}
+use Rattle.tile_layout.specs.Key.{generation_of, file_of}
+use Rattle.tile_store.specs.Tile.{CachedTile, tile_bytes}
+use Rattle.tile_store.specs.Entry.{EntryState, entry_of, Entries, unpinned_bytes, pin_sum, loose_bytes}
+use Rattle.tile_store.specs.Entry.{entry_at, unpinned_at, IsEntry, is_unpinned, is_pinned, pinned_count}
+use Rattle.tile_store.specs.Changes.{pinned_first, unpinned_once, with_first, with_room, kept_within}
+use Rattle.tile_store.specs.Changes.{without_last_unpinned, without_stale, is_stale, one_less, inserted}
+use Rattle.tile_store.specs.Leaving.{within_slots}
+use Rattle.tile_store.specs.Inside.{IsShard}
+use Rattle.tile_store.proofs.PinLemmas.{pin_sum-pinned_first, loose-pinned_first, length-pinned_first}
+use Rattle.tile_store.proofs.PinLemmas.{All-pinned_first, pin_sum-unpinned_once, loose-unpinned_once}
+use Rattle.tile_store.proofs.PinLemmas.{unpinned_at-unpinned_once, length-unpinned_once}
+use Rattle.tile_store.proofs.PinLemmas.{All-unpinned_once, bytes-le}
+use Rattle.tile_store.proofs.EvictLemmas.{or_false, pin_sum-without_last, length-without_last}
+use Rattle.tile_store.proofs.EvictLemmas.{All-without_last}
+use Rattle.tile_store.proofs.WithinLemmas.{pin_sum-kept_within, All-kept_within, filter_pins}
+
+-- ---- counts
+
+unpinned_le : (o : Option EntryState) (n : ℕ) → ((e : EntryState) → o ≡ Some e → unpinned_bytes e ≤ n)
+    → option_map_or unpinned_bytes o 0 ≤ n
+unpinned_le None n le = omega arith
+unpinned_le (Some e) n le = le e refl
+
+-- the bytes of one entry are among those of all
+pub unpinned_at-le : (key : ℕ) (es : Entries) → unpinned_at key es ≤ loose_bytes es
+unpinned_at-le key es = unpinned_le (entry_at key es) (loose_bytes es) (bytes-le key es)
+
+-- no more entries are pinned than there are pins
+pub pinned_count-le : (es : Entries) → pinned_count es ≤ pin_sum es
+pinned_count-le [] = omega arith
+pinned_count-le (e ∷ es) = grind (
+  arith,
+  nat_tests,
+  pinned_count-le es,
+  sum_by-cons (λ x. cond (is_pinned x) 1 0) e es,
+  sum_by-cons (λ (n : EntryState). n.pins) e.1 (values_of es),
+)
+
+pinned_all : (es : Entries) → list_any is_unpinned es ≡ false → pinned_count es ≡ length es
+pinned_all [] h = refl
+pinned_all (e ∷ es) h =
+    let parts = or_false (is_unpinned e) (list_any is_unpinned es) h in
+    let one : cond {A = ℕ} (is_pinned e) 1 0 ≡ 1 = rw parts.0 refl in
+    omega (arith, one, pinned_all es parts.1, sum_by-cons (λ x. cond (is_pinned x) 1 0) e es)
+
+true_by : (b : Bool) → (b ≡ false → ⊥) → b ≡ true
+true_by true h = refl
+true_by false h = absurd (h refl)
+
+-- where fewer are pinned than there are, some is unpinned
+pub any_by_count : (es : Entries) → pinned_count es < length es → list_any is_unpinned es ≡ true
+any_by_count es h =
+    true_by (list_any is_unpinned es) (λ none. let all = pinned_all es none in omega arith)
+
+pinned_count-first : (tile : CachedTile) (es : Entries)
+    → pinned_count (with_first tile es) ≡ pinned_count es + 1
+pinned_count-first tile es = omega (
+  arith,
+  sum_by-cons (λ x. cond (is_pinned x) 1 0) (tile.key, entry_of tile 1) es,
+)
+
+small_entry : (e : EntryState) → tile_bytes e.tile ≤ max_cell_bytes
+    → unpinned_bytes e ≤ max_cell_bytes
+small_entry e h = elim (e.pins == 0) as (λ b. cond b (tile_bytes e.tile) 0 ≤ max_cell_bytes) [
+  | true ↦ h
+  | false ↦ omega arith
+]
+
+pub loose-bound : (es : Entries) → All IsEntry es → loose_bytes es ≤ length es * max_cell_bytes
+loose-bound [] all = omega arith
+loose-bound (e ∷ es) all =
+    let head = All-head IsEntry e es all in
+    let high = head.bytes in
+    let rest = loose-bound es (All-tail IsEntry e es all) in
+    let small : unpinned_bytes e.1 ≤ max_cell_bytes = small_entry e.1 high in
+    omega (arith, sum_by-cons unpinned_bytes e.1 (values_of es))
+
+pub length-kept_within : (share : ℕ) (es : Entries) → length (kept_within share es) ≤ length es
+length-kept_within share [] = omega arith
+length-kept_within share (e ∷ es) =
+    elim (nat_le (unpinned_bytes e.1) share) as (λ fits. length (cond fits
+    (e ∷ kept_within (share - unpinned_bytes e.1) es) (filter is_pinned es)) ≤ length (e ∷ es)) [
+      | true ↦ omega (arith, length-kept_within (share - unpinned_bytes e.1) es)
+      | false ↦ omega (arith, length-filter is_pinned es, count_by-le-length is_pinned es)
+    ]
+
+-- ---- the new entry among the slots
+
+pub within_slots-first : (tile : CachedTile) (slots : ℕ) (es : Entries) → pinned_count es < slots
+    → within_slots slots (with_first tile es) ≡ with_first tile (with_room slots es)
+within_slots-first tile slots es few =
+    (elim (nat_le slots (length es)) as (λ full. nat_le slots (length es) ≡ full
+    → within_slots slots (with_first tile es)
+    ≡ with_first tile (cond full (without_last_unpinned es) es)) [
+      | true ↦ λ is.
+          let full = leb-true slots (length es) is in
+          let over : nat_lt slots (length (with_first tile es)) ≡ true =
+          lt-ltb slots (length (with_first tile es)) (omega arith) in
+          rw (over, any_by_count es (omega arith)) refl
+      | false ↦ λ is.
+          let room = leb-false slots (length es) is in
+          let under : nat_lt slots (length (with_first tile es)) ≡ false =
+          le-ltb slots (length (with_first tile es)) (omega arith) in
+          rw under refl
+    ]) refl
+
+-- a tile whose key has no entry
+pub inserted-new : (tile : CachedTile) (slots : ℕ) (es : Entries) → entry_at tile.key es ≡ None
+    → inserted tile slots es ≡ with_first tile (with_room slots es)
+inserted-new tile slots es none = rw none refl
+
+-- there is room for one more
+record HasRoom (slots : ℕ) (es : Entries) : Type 0 where
+  pins : pin_sum (with_room slots es) ≡ pin_sum es
+  few : length (with_room slots es) + 1 < 2 ^ 32
+
+with_room-has : (slots : ℕ) (es : Entries) → length es < 2 ^ 32 → pinned_count es < slots
+    → slots < 2 ^ 32 → HasRoom slots es
+with_room-has slots es short room fits =
+    (elim (nat_le slots (length es)) as (λ full. nat_le slots (length es) ≡ full
+    → HasRoom slots es) [
+      | true ↦ λ is.
+          let full = leb-true slots (length es) is in
+          let some = any_by_count es (omega arith) in
+          record {
+            pins = rw is (pin_sum-without_last es);
+            few = rw is (omega (arith, length-without_last es some));
+          }
+      | false ↦ λ is.
+          let free = leb-false slots (length es) is in
+          record { pins = rw is refl; few = rw is (omega arith) }
+    ]) refl
+
+pub All-with_room : (P : ℕ × EntryState → Type 0) (slots : ℕ) (es : Entries) → All P es
+    → All P (with_room slots es)
+All-with_room P slots es all =
+    elim (nat_le slots (length es)) as (λ full. All P (cond full (without_last_unpinned es) es)) [
+      | true ↦ All-without_last P es all
+      | false ↦ all
+    ]
+
+and_first : (a b c : Bool) → (a && b && c) ≡ true → a ≡ true
+and_first true b c h = refl
+and_first false b c h = absurd cc
+
+not_false : (b : Bool) → not b ≡ false → b ≡ true
+not_false true h = refl
+not_false false h = absurd cc
+
+pin_sum-without_stale : (file below : ℕ) (es : Entries)
+    → pin_sum (without_stale file below es) ≡ pin_sum es
+pin_sum-without_stale file below = filter_pins (λ e. not (is_stale file below e)) (λ e h.
+    eqb-true e.1.pins 0 (and_first (is_unpinned e) (file_of e.0 == file) (nat_lt (generation_of e.0) below)
+    (not_false (is_stale file below e) h)))
+
+-- ---- the numbers of a shard
+
+module _ (order : LruCache ℕ EntryState) (pins loose : ℕ) (is : IsShard (Some order) pins loose) where
+  pins_are : pins ≡ pin_sum order.entries
+  pins_are = is.pins_is
+
+  loose_are : loose ≡ loose_bytes order.entries
+  loose_are = is.loose_is
+
+  all_keyed : All IsEntry order.entries
+  all_keyed = is.keyed
+
+  few : length order.entries < 2 ^ 32
+  few = is.few
+
+  pub loose_fits : loose < 2 ^ 57
+  loose_fits = omega (arith, loose_are, few, loose-bound order.entries all_keyed)
+
+  module _ (new : LruCache ℕ EntryState) (same_cap : new.cap ≡ order.cap) where
+    pub shard_pinned : (key : ℕ) (e : EntryState) → entry_at key order.entries ≡ Some e
+        → new.entries ≡ pinned_first key order.entries
+        → IsShard (Some new) (pins + 1) (loose - unpinned_at key order.entries)
+    shard_pinned key e found entries =
+        let bytes : unpinned_at key order.entries ≡ unpinned_bytes e = rw found refl in
+        record {
+          pins_is = omega (
+            arith,
+            pins_are,
+            ap pin_sum entries,
+            pin_sum-pinned_first key order.entries e found,
+          );
+          loose_is = omega (
+            arith,
+            loose_are,
+            bytes,
+            ap loose_bytes entries,
+            loose-pinned_first key order.entries e found,
+          );
+          keyed = subst (All IsEntry) (sym entries) (All-pinned_first key order.entries e found IsEntry
+              (λ p. record { key = p.key; bytes = p.bytes }) all_keyed);
+          few = omega (arith, few, ap length entries, length-pinned_first key order.entries e found);
+          unbounded = same_cap ∙ is.unbounded;
+        }
+
+    pub shard_unpinned : (key : ℕ) (e : EntryState) → entry_at key order.entries ≡ Some e → 1 ≤ e.pins
+        → new.entries ≡ unpinned_once key order.entries
+        → IsShard (Some new) (pins - 1) (loose + unpinned_at key new.entries)
+    shard_unpinned key e found some entries =
+        let bytes : unpinned_at key new.entries ≡ unpinned_bytes (one_less e) =
+        ap (unpinned_at key) entries ∙ unpinned_at-unpinned_once key order.entries e found in
+        record {
+          pins_is = omega (
+            arith,
+            pins_are,
+            ap pin_sum entries,
+            pin_sum-unpinned_once key order.entries e found some,
+          );
+          loose_is = omega (
+            arith,
+            loose_are,
+            bytes,
+            ap loose_bytes entries,
+            loose-unpinned_once key order.entries e found some,
+          );
+          keyed = subst (All IsEntry) (sym entries) (All-unpinned_once key order.entries e found IsEntry
+              (λ k p. record { key = p.key; bytes = p.bytes }) all_keyed);
+          few = omega (arith, few, ap length entries, length-unpinned_once key order.entries e found);
+          unbounded = same_cap ∙ is.unbounded;
+        }
+
+    pub shard_within : (share left : ℕ) → new.entries ≡ kept_within share order.entries
+        → left ≡ loose_bytes new.entries → IsShard (Some new) pins left
+    shard_within share left entries sum = record {
+      pins_is = omega (arith, pins_are, ap pin_sum entries, pin_sum-kept_within share order.entries);
+      loose_is = sum;
+      keyed = subst (All IsEntry) (sym entries) (All-kept_within IsEntry share order.entries all_keyed);
+      few = omega (arith, few, ap length entries, length-kept_within share order.entries);
+      unbounded = same_cap ∙ is.unbounded;
+    }
+
+    pub shard_inserted : (tile : CachedTile) (slots bytes : ℕ) → tile_bytes tile ≤ max_cell_bytes
+        → pinned_count order.entries < slots → slots < 2 ^ 32
+        → new.entries ≡ with_first tile (with_room slots order.entries)
+        → loose_bytes new.entries + bytes ≡ loose_bytes (with_first tile order.entries)
+        → IsShard (Some new) (pins + 1) (loose - bytes)
+    shard_inserted tile slots bytes small room fits entries sum =
+        let es = order.entries in
+        let roomy = with_room-has slots es (omega arith) room fits in
+        record {
+          pins_is = omega (
+            arith,
+            pins_are,
+            ap pin_sum entries,
+            roomy.pins,
+            sum_by-cons (λ (n : EntryState). n.pins) (entry_of tile 1) (values_of (with_room slots es)),
+          );
+          loose_is = omega (
+            arith,
+            loose_are,
+            sum,
+            sum_by-cons unpinned_bytes (entry_of tile 1) (values_of es),
+          );
+          keyed = subst (All IsEntry) (sym entries) (All-cons IsEntry (tile.key, entry_of tile 1)
+              (with_room slots es) (record { key = refl; bytes = small })
+              (All-with_room IsEntry slots es all_keyed));
+          few = omega (arith, ap length entries, roomy.few);
+          unbounded = same_cap ∙ is.unbounded;
+        }
+
+    pub shard_purged : (file below bytes : ℕ) → new.entries ≡ without_stale file below order.entries
+        → loose_bytes new.entries + bytes ≡ loose_bytes order.entries
+        → IsShard (Some new) pins (loose - bytes)
+    shard_purged file below bytes entries sum = record {
+      pins_is = omega (arith, pins_are, ap pin_sum entries, pin_sum-without_stale file below order.entries);
+      loose_is = omega (arith, loose_are, sum);
+      keyed = subst (All IsEntry) (sym entries)
+          (All-filter (λ e. not (is_stale file below e)) IsEntry order.entries all_keyed);
+      few = omega (
+        arith,
+        few,
+        ap length entries,
+        length-filter (λ e. not (is_stale file below e)) order.entries,
+        count_by-le-length (λ e. not (is_stale file below e)) order.entries,
+      );
+      unbounded = same_cap ∙ is.unbounded;
+    }

@@ -1,0 +1,39 @@
+use Rattle.std.proofs.Common.{◌<◌, ap, sym, ◌∙◌, arith}
+use Rattle.tile_store.specs.Entry.{loose_bytes}
+use Rattle.tile_store.specs.Changes.{kept_within}
+use Rattle.tile_store.proofs.EvictLemmas.{any_unpinned, length-without_last}
+use Rattle.tile_store.proofs.WithinLemmas.{kept_within-all, kept_within-without_last}
+use Rattle.tile_store.proofs.evict.evict_past.Goals as goal
+
+pub evict-left-requires : goal.evict-left-requires
+evict-left-requires g c =
+    let over = c.evicting-test.true in
+    let is = c.evicting.invariant.loose_is in
+    any_unpinned c.evicting.order.entries (omega arith)
+
+pub evicting-smaller : goal.evicting-smaller
+evicting-smaller g c =
+    let over = c.evicting-test.true in
+    let is = c.evicting.invariant.loose_is in
+    let some = any_unpinned c.evicting.order.entries (omega arith) in
+    rw c.evict-left.ensures.entries (omega (arith, length-without_last c.evicting.order.entries some))
+
+pub evicting-preserved : goal.evicting-preserved
+evicting-preserved g c =
+    let over = c.evicting-test.true in
+    let is = c.evicting.invariant.loose_is in
+    let left = c.evict-left.ensures.bytes in
+    let past : c.args.share < loose_bytes c.evicting.order.entries = omega arith in
+    record {
+      loose_is = omega arith;
+      kept = ap (kept_within c.args.share) c.evict-left.ensures.entries
+          ∙ kept_within-without_last c.args.share c.evicting.order.entries past
+          ∙ c.evicting.invariant.kept;
+      cap = c.evict-left.ensures.cap ∙ c.evicting.invariant.cap;
+    }
+
+pub returns-clause-entries : goal.returns-clause-entries
+returns-clause-entries g c =
+    let under = c.evicting-test.false in
+    let is = c.evicting.invariant.loose_is in
+    sym (kept_within-all c.args.share c.evicting.order.entries (omega arith)) ∙ c.evicting.invariant.kept

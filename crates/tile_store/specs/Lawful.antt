@@ -1,0 +1,41 @@
+-- When are the entries of a shard lawful for its tag?
+use Rattle.std.specs.Prelude.{◌≡◌, ℕ, ◌≤◌, nat_eq, List}
+use Rattle.std.specs.List.{All, IsDistinct}
+use Rattle.std.specs.Map.{keys_of}
+use Rattle.tex_world.specs.World.{Files}
+use Rattle.tile_layout.specs.declared.cut.Cut.{Cut}
+use Rattle.tile_layout.specs.Key.{level_of, index_of}
+use Rattle.tile_layout.specs.Cell.{cut_level_of, cell_rect}
+use Rattle.tile_store.specs.Tile.{CachedTile}
+use Rattle.tile_store.specs.Told.{ToldBy, IsOfBytes}
+use Rattle.tile_store.specs.Entry.{Entries, loose_bytes}
+use Rattle.tile_store.specs.Tag.{share_of, cut_of}
+
+-- the tile is a cell, under this cut, of a file with these bytes: the one that its key names
+pub record IsCellOf (cut : Cut) (bytes : List ℕ) (tile : CachedTile) : Type 0 where
+  pub rect : tile.rect ≡ cell_rect (cut_level_of bytes cut (level_of tile.key)) (index_of tile.key)
+  pub of_bytes : IsOfBytes bytes tile
+
+-- the tile fits the cut: where the world tells, it is a cell of its file under the cut
+abbrev pub FitsCut : Files → Cut → CachedTile → Type 0
+FitsCut files cut tile = ToldBy files tile.key (λ bytes. IsCellOf cut bytes tile)
+
+-- it fits the cut that the tag names
+abbrev pub FitsTag : Files → CachedTile → ℕ → Type 0
+FitsTag files tile tag = FitsCut files (cut_of tag) tile
+
+-- The keys are distinct, each tile fits the cut that the tag names, and the unpinned ones take at
+-- most the share that it names.
+pub record Lawful (files : Files) (tag : ℕ) (es : Entries) : Type 0 where
+  pub distinct : IsDistinct nat_eq (keys_of es)
+  pub cells : All (λ e. FitsCut files (cut_of tag) e.1.tile) es
+  pub share : loose_bytes es ≤ share_of tag
+
+-- what is lawful for a tag stays so
+abbrev pub KeepsLawful : Files → Entries → Entries → Type 0
+KeepsLawful files old new = (tag : ℕ) → Lawful files tag old → Lawful files tag new
+
+-- for each tag of this kind, what is lawful for it stays so
+abbrev pub KeepsLawfulFor : Files → (ℕ → Type 0) → Entries → Entries → Type 0
+KeepsLawfulFor files OfKind old new =
+    (tag : ℕ) → OfKind tag → Lawful files tag old → Lawful files tag new

@@ -1,0 +1,9 @@
+pub mod Tile
+pub mod Told
+pub mod Kept
+pub mod Entry
+pub mod Inside
+pub mod Changes
+pub mod Leaving
+pub mod Tag
+pub mod Lawful

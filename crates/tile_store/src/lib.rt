@@ -1,0 +1,16 @@
+//! The texels of cells in memory: tiles, and shards of tiles in the order of their last use, with a
+//! count of pins for each.
+#![tactic(auto)]
+
+mod entry;
+mod evict;
+mod order;
+mod purge;
+mod shard;
+mod tile;
+
+// A clause can name a shard only if the types of its fields are exported.
+#[doc(hidden)]
+pub use entry::Entry;
+pub use shard::Shard;
+pub use tile::Tile;

@@ -1,0 +1,202 @@
+ghost use Rattle.std.specs.Prelude.{◌≡◌, ℕ, ◌+◌, ◌<◌, ◌≤◌, ◌^◌, [], length, option_map, None};
+ghost use Rattle.std.specs.Prelude.{OnOk, OnErr, IfOk, IfSome, IsTrue, ◌↔◌};
+ghost use Rattle.std.specs.Arc.{arc_value};
+ghost use Rattle.tile_store.specs.Entry.{entry_at, tile_at, HasPin, pin_sum, loose_bytes};
+ghost use Rattle.tile_store.specs.Entry.{pinned_count, AreEntries};
+ghost use Rattle.tile_store.specs.Changes.{pinned_first, inserted, kept_tile, unpinned_once};
+ghost use Rattle.tile_store.specs.Changes.{kept_within, without_stale};
+ghost use Rattle.tile_store.specs.Tag.{share_of};
+ghost use Rattle.tile_store.specs.Lawful.{FitsTag, Lawful, KeepsLawful, KeepsLawfulFor};
+
+use crate::entry::{Entry, owned};
+use crate::evict::{evict_past, keep_slots};
+use crate::order::{is_pinned, no_entries, pin, put_first, shared, unpin};
+use crate::purge::purge;
+use crate::tile::Tile;
+use lru::LruCache;
+use std::alloc::Global;
+use std::marker::Model;
+use std::sync::Arc;
+use tex_world::{NoMemory, World};
+use tile_layout::TileKey;
+
+/// Tiles in the order of their last use, each with its pins. In a clause it is the list of its
+/// entries by their keys, the most recently used first.
+///
+/// A pinned tile stays. Which of the others stay, the bytes that they may take decide.
+#[derive(Drop)]
+pub struct Shard<W: World> {
+    alloc: Global,
+    order: Option<LruCache<TileKey, Entry<W>>>,
+    pins: u32,
+    loose: u64,
+}
+
+impl<W: World> Model for Shard<W> {
+    ghost use Rattle.tile_store.specs.Entry.{Entries};
+    ghost use Rattle.tile_store.specs.Inside.{entries_in, IsShard};
+
+    ghost Value = { Entries };
+
+    ghost view = { λ s. entries_in s.order };
+
+    ghost invariant = { λ s. IsShard s.order s.pins s.loose };
+}
+
+impl<W: World> Shard<W> {
+    /// A shard with no tile. It takes no memory.
+    pub fn new(alloc: Global) -> Shard<W>
+        ensures value { result ≡ [] }
+        ensures lawful { (tag : ℕ) → Lawful W.files tag result }
+    {
+        Shard {
+            alloc,
+            order: None,
+            pins: 0,
+            loose: 0,
+        }
+    }
+
+    /// The tile of a key, with a pin more on its entry, which then stands first. Else None, and
+    /// nothing changes.
+    pub fn find_pin(&mut self, key: TileKey) -> Result<Option<Arc<Tile<W>>>, NoMemory>
+        requires { pin_sum self.old + 1 < 2 ^ 32 }
+        // None comes exactly where no entry has the key; a tile that comes is its entry's.
+        ensures found { IfOk result (λ tile. option_map arc_value tile ≡ tile_at key self.old) }
+        ensures keyed { IfOk result (λ tile. IfSome tile (λ t. (arc_value t).key ≡ key)) }
+        // What the call leaves.
+        ensures entries { OnOk result (self.new ≡ pinned_first key self.old) }
+        ensures err { OnErr result (self.new ≡ self.old) }
+        ensures lawful { KeepsLawful W.files self.old self.new }
+    {
+        let Some(order) = &mut self.order else {
+            return Ok(None);
+        };
+        let Some(tile) = shared(order, key)? else {
+            return Ok(None);
+        };
+        self.loose -= pin(order, key);
+        self.pins += 1;
+        // The order's keys are distinct.
+        let _count = order.len();
+        Ok(Some(tile))
+    }
+
+    /// Keeps a tile with one pin. An entry that has its key is pinned instead, and the new tile is
+    /// given up. Where the shard has so many slots or more, the last unpinned tile leaves for it.
+    pub fn insert_pin(&mut self, tile: Tile<W>, slots: usize) -> Result<Arc<Tile<W>>, NoMemory>
+        requires room { pinned_count self.old < slots }
+        requires slots { slots < 2 ^ 32 }
+        requires pins { pin_sum self.old + 1 < 2 ^ 32 }
+        ensures kept { IfOk result (λ kept. arc_value kept ≡ kept_tile tile self.old) }
+        ensures keyed { IfOk result (λ kept. (arc_value kept).key ≡ tile.key) }
+        // What the call leaves.
+        ensures entries { OnOk result (self.new ≡ inserted tile slots self.old) }
+        ensures err { OnErr result (self.new ≡ self.old) }
+        ensures lawful { KeepsLawfulFor W.files (FitsTag W.files tile) self.old self.new }
+    {
+        match self.find_pin(tile.key())? {
+            Some(kept) => Ok(kept),
+            None => self.insert_new(tile, slots),
+        }
+    }
+
+    /// The same for a tile whose key has no entry.
+    fn insert_new(&mut self, tile: Tile<W>, slots: usize) -> Result<Arc<Tile<W>>, NoMemory>
+        requires absent { entry_at tile.key self.old ≡ None }
+        requires room { pinned_count self.old < slots }
+        requires slots { slots < 2 ^ 32 }
+        requires pins { pin_sum self.old + 1 < 2 ^ 32 }
+        ensures kept { IfOk result (λ kept. arc_value kept ≡ tile) }
+        ensures entries { OnOk result (self.new ≡ inserted tile slots self.old) }
+        ensures err { OnErr result (self.new ≡ self.old) }
+        ensures lawful { KeepsLawfulFor W.files (FitsTag W.files tile) self.old self.new }
+    {
+        let kept = owned(self.alloc, tile)?;
+        self.make_order()?;
+        let Some(order) = &mut self.order else {
+            return Err(NoMemory);
+        };
+        put_first(order, &kept)?;
+        self.pins += 1;
+        self.loose -= keep_slots(order, slots);
+        // The order's keys are distinct.
+        let _count = order.len();
+        Ok(kept)
+    }
+
+    /// Makes an order where there is none yet.
+    fn make_order(&mut self) -> Result<(), NoMemory>
+        ensures same { self.new ≡ self.old }
+    {
+        if self.order.is_none() {
+            self.order = Some(no_entries(self.alloc)?);
+        }
+        Ok(())
+    }
+
+    /// Takes a pin from the entry of a key. Then, while the unpinned tiles take more bytes than the
+    /// share, the last of them leaves.
+    pub fn release(&mut self, key: TileKey, share: u64)
+        requires { HasPin key self.old }
+        ensures entries { self.new ≡ kept_within share (unpinned_once key self.old) }
+        ensures within { loose_bytes self.new ≤ share }
+        ensures lawful { KeepsLawfulFor W.files (λ tag. share_of tag ≡ share) self.old self.new }
+    {
+        if let Some(order) = &mut self.order {
+            let loose = self.loose + unpin(order, key);
+            self.pins -= 1;
+            self.loose = evict_past(order, loose, share);
+            // The order's keys are distinct.
+            let _count = order.len();
+        }
+    }
+
+    /// The unpinned tiles of a file leave whose generation is below the bound, and no others.
+    pub fn purge(&mut self, file: u32, below: u32)
+        ensures entries { self.new ≡ without_stale file below self.old }
+        ensures lawful { KeepsLawful W.files self.old self.new }
+    {
+        if let Some(order) = &mut self.order {
+            self.loose -= purge(order, file, below);
+            // The order's keys are distinct.
+            let _count = order.len();
+        }
+    }
+
+    /// The tile of a key is there and pinned.
+    pub fn is_pinned(&self, key: TileKey) -> bool
+        ensures value { IsTrue result ↔ HasPin key self.now }
+    {
+        match &self.order {
+            Some(order) => is_pinned(order, key),
+            None => false,
+        }
+    }
+
+    /// The number of tiles.
+    pub fn tiles(&self) -> u32
+        ensures value { result ≡ length self.now }
+        ensures valid { AreEntries self.now }
+    {
+        match &self.order {
+            Some(order) => order.len() as u32,
+            None => 0,
+        }
+    }
+
+    /// The sum of the pins. No more tiles than that are pinned.
+    pub fn pins(&self) -> u32
+        ensures value { result ≡ pin_sum self.now }
+        ensures pinned { pinned_count self.now ≤ result }
+    {
+        self.pins
+    }
+
+    /// The bytes of the unpinned tiles.
+    pub fn loose(&self) -> u64
+        ensures value { result ≡ loose_bytes self.now }
+    {
+        self.loose
+    }
+}

@@ -1,0 +1,109 @@
+ghost use Rattle.std.specs.Prelude.{◌≡◌, ◌≤◌, ◌<◌};
+ghost use Rattle.tile_layout.specs.Cell.{HoldsTexel, max_cell_bytes};
+ghost use Rattle.tile_store.specs.Tile.{cached_tile, tile_bytes, IsTile, place_in, kept_sample};
+ghost use Rattle.tile_store.specs.Tile.{HoldsRow, AreSamples};
+ghost use Rattle.tile_store.specs.Told.{IsTold, IsToldSample, AreToldSamples};
+
+use std::marker::{Model, PhantomData};
+use tex_world::World;
+use tile_layout::{Rect, TileKey};
+
+/// The texels of a cell, in the depth of its file. Where the world tells they are those of the
+/// level, in the generation of the file, that the key names.
+#[derive(Drop)]
+pub struct Tile<W: World> {
+    key: TileKey,
+    rect: Rect,
+    channels: u32,
+    texels: Vec<u16>,
+    world: PhantomData<W>,
+}
+
+impl<W: World> Model for Tile<W> {
+    ghost use Rattle.tile_store.specs.Tile.{CachedTile, cached_tile, IsTile};
+    ghost use Rattle.tile_store.specs.Told.{IsTold};
+    ghost use Rattle.tile_store.specs.Kept.{IsKept};
+
+    ghost Value = { CachedTile };
+
+    ghost view = { λ a. cached_tile a.key a.rect a.channels a.texels.items };
+
+    ghost invariant = { λ a. IsKept W.files (cached_tile a.key a.rect a.channels a.texels.items) };
+}
+
+impl<W: World> Tile<W> {
+    /// A tile of these texels, row by row with the samples of a texel side by side.
+    pub fn new(key: TileKey, rect: Rect, channels: u32, texels: Vec<u16>) -> Tile<W>
+        requires tile { IsTile (cached_tile key rect channels texels.items) }
+        requires told { IsTold W.files (cached_tile key rect channels texels.items) }
+        ensures value { result ≡ cached_tile key rect channels texels.items }
+    {
+        Tile {
+            key,
+            rect,
+            channels,
+            texels,
+            world: PhantomData,
+        }
+    }
+
+    /// The key of the cell.
+    pub fn key(&self) -> TileKey
+        ensures value { result ≡ self.now.key }
+        ensures tile { IsTile self.now }
+        ensures told { IsTold W.files self.now }
+    {
+        self.key
+    }
+
+    /// The rectangle of the level that it holds.
+    pub fn rect(&self) -> Rect
+        ensures value { result ≡ self.now.rect }
+    {
+        self.rect
+    }
+
+    /// The samples of a texel.
+    pub fn channels(&self) -> u32
+        ensures value { result ≡ self.now.channels }
+    {
+        self.channels
+    }
+
+    /// The bytes of its texels.
+    pub fn bytes(&self) -> u64
+        ensures value { result ≡ tile_bytes self.now }
+        ensures in_range { result ≤ max_cell_bytes }
+    {
+        2 * self.texels.len() as u64
+    }
+
+    /// Sample c of texel (x, y) of the level.
+    pub fn texel(&self, x: u32, y: u32, c: u32) -> u16
+        requires inside { HoldsTexel self.now.rect x y }
+        requires channel { c < self.now.channels }
+        ensures value { result ≡ kept_sample self.now x y c }
+        ensures told { IsToldSample W.files self.now x y c result }
+    {
+        self.texels[self.place(x, y) + c as usize]
+    }
+
+    /// The samples of n texels of a row of the level, side by side from (x, y) on.
+    pub fn row(&self, x: u32, y: u32, n: u32) -> &[u16]
+        requires { HoldsRow self.now x y n }
+        ensures value { AreSamples self.now x y n result.now }
+        ensures told { AreToldSamples W.files self.now x y n result.now }
+    {
+        let from = self.place(x, y);
+        &self.texels[from..from + n as usize * self.channels as usize]
+    }
+
+    /// Where the samples of texel (x, y) begin.
+    fn place(&self, x: u32, y: u32) -> usize
+        requires { HoldsRow self.now x y 0 }
+        ensures value { result ≡ place_in self.now x y }
+    {
+        let above = (y - self.rect.y) as usize * self.rect.w as usize;
+        (above + (x - self.rect.x) as usize) * self.channels as usize
+    }
+}

@@ -1,0 +1,16 @@
+//! Tests of tiles in memory: keys at the ends of their ranges, the texels of a tile, one shard call by
+//! call, and a few thousand calls of a shard beside a plain list.
+#![tactic(auto)]
+
+#[cfg(test)]
+mod calls;
+#[cfg(test)]
+mod keys;
+#[cfg(test)]
+mod plain;
+#[cfg(test)]
+mod shards;
+#[cfg(test)]
+mod tiles;
+#[cfg(test)]
+mod untold;

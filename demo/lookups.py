@@ -1,0 +1,59 @@
+"""What a lookup answers, by the formulas of docs/FILTERING.md, in whole numbers. The levels are
+pages of make_pictures.py, and `value(page, x, y, channel)` is the 16-bit value of a texel."""
+
+ONE = 65536
+
+
+def wrapped(wrap, i, n):
+    """The texel that index i means beside n texels, or None."""
+    if wrap == "black":
+        return i if 0 <= i < n else None
+    if wrap == "clamp":
+        return max(0, min(i, n - 1))
+    if wrap == "periodic":
+        return i % n
+    m = -i - 1 if i < 0 else i
+    return m % n if m // n % 2 == 0 else n - 1 - m % n
+
+
+class Lookup:
+    """A request `tex S T LOD SWRAP TWRAP FILTER NCH NAME` over the levels of a picture."""
+
+    def __init__(self, levels, value, s, t, lod, swrap, twrap, kind):
+        self.levels, self.value = levels, value
+        self.s, self.t, self.lod = s, t, lod
+        self.swrap, self.twrap, self.kind = swrap, twrap, kind
+
+    def texel(self, level, i, j, channel):
+        """The value at two indices, 0 where a black wrap leaves the texel out."""
+        page = self.levels[level]
+        x, y = wrapped(self.swrap, i, page.width), wrapped(self.twrap, j, page.height)
+        return 0 if x is None or y is None else self.value(page, x, y, channel)
+
+    def bilinear_sum(self, level, channel):
+        page = self.levels[level]
+        across, down = self.s * page.width - ONE // 2, self.t * page.height - ONE // 2
+        i, f = divmod(across, ONE)
+        j, g = divmod(down, ONE)
+        return (self.texel(level, i, j, channel) * (ONE - f) * (ONE - g)
+                + self.texel(level, i + 1, j, channel) * f * (ONE - g)
+                + self.texel(level, i, j + 1, channel) * (ONE - f) * g
+                + self.texel(level, i + 1, j + 1, channel) * f * g)
+
+    def one_level(self, channel):
+        """Closest and bilinear: the nearest level, a half rounded up."""
+        level = min((self.lod + ONE // 2) // ONE, len(self.levels) - 1)
+        if self.kind == "bilinear":
+            return (self.bilinear_sum(level, channel) + 2 ** 31) // 2 ** 32
+        page = self.levels[level]
+        return self.texel(level, self.s * page.width // ONE, self.t * page.height // ONE, channel)
+
+    def trilinear(self, channel):
+        level, q = divmod(min(self.lod, ONE * (len(self.levels) - 1)), ONE)
+        both = (ONE - q) * self.bilinear_sum(level, channel)
+        if q:
+            both += q * self.bilinear_sum(level + 1, channel)
+        return (both + 2 ** 47) // 2 ** 48
+
+    def answer(self, channel):
+        return self.trilinear(channel) if self.kind == "trilinear" else self.one_level(channel)

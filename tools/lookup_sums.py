@@ -1,0 +1,116 @@
+#!/usr/bin/env python3
+"""Prints the sums that crates/filter_tests/src/many.rt has: of many lookups in four pictures.
+
+Written after the formulas of docs/FILTERING.md alone, with Python's whole numbers, which have no bound
+and whose division rounds down. It shares nothing with texel_filter.
+"""
+
+UNIT, HALF = 65536, 32768
+WRAPS = ["black", "clamp", "periodic", "mirror"]
+PICTURES = [(1, 1, 1), (5, 3, 3), (64, 33, 7), (131072, 3, 18)]
+DRAWN, EACH, ENDS = 256, 16, 128
+LEAST, MOST, LAST_LOD = -(2**31), 2**31 - 1, 2**32 - 1
+
+
+def noise(level, x, y, c):
+    place = x * 40503 + y * 30011 + level * 20011 + c * 10007 + 12345
+    return (place * 2654435761 % 2**32) >> 16
+
+
+def wrapped(mode, i, n):
+    """The texel that index i means among n, or None."""
+    if mode == "black":
+        return i if 0 <= i < n else None
+    if mode == "clamp":
+        return min(max(i, 0), n - 1)
+    if mode == "periodic":
+        return i % n
+    m = i % (2 * n)
+    return m if m < n else 2 * n - 1 - m
+
+
+class Lookup:
+    """A lookup in a picture of `levels` levels, each half of the one before."""
+
+    def __init__(self, picture, s, t, lod, swrap, twrap):
+        self.width, self.height, self.levels = picture
+        self.s, self.t, self.lod, self.swrap, self.twrap = s, t, lod, swrap, twrap
+
+    def size(self, level):
+        return max(self.width >> level, 1), max(self.height >> level, 1)
+
+    def value(self, level, i, j, c):
+        w, h = self.size(level)
+        x, y = wrapped(self.swrap, i, w), wrapped(self.twrap, j, h)
+        return 0 if x is None or y is None else noise(level, x, y, c)
+
+    def nearest(self):
+        return min(self.levels - 1, (self.lod + HALF) // UNIT)
+
+    def closest(self, c):
+        level = self.nearest()
+        w, h = self.size(level)
+        return self.value(level, self.s * w // UNIT, self.t * h // UNIT, c)
+
+    def bilinear_sum(self, level, c):
+        w, h = self.size(level)
+        i, f = divmod(self.s * w - HALF, UNIT)
+        j, g = divmod(self.t * h - HALF, UNIT)
+        return (
+            (UNIT - f) * (UNIT - g) * self.value(level, i, j, c)
+            + f * (UNIT - g) * self.value(level, i + 1, j, c)
+            + (UNIT - f) * g * self.value(level, i, j + 1, c)
+            + f * g * self.value(level, i + 1, j + 1, c)
+        )
+
+    def bilinear(self, c):
+        return (self.bilinear_sum(self.nearest(), c) + 2**31) // 2**32
+
+    def trilinear(self, c):
+        lod = min(self.lod, UNIT * (self.levels - 1))
+        level, q = divmod(lod, UNIT)
+        both = (UNIT - q) * self.bilinear_sum(level, c)
+        if q:
+            both += q * self.bilinear_sum(level + 1, c)
+        return (both + 2**47) // 2**48
+
+
+class Draws:
+    """Numbers that show no order."""
+
+    def __init__(self):
+        self.last = 1
+
+    def next(self):
+        self.last = (self.last * 1664525 + 1013904223) % 2**32
+        return self.last
+
+    def coordinate(self, k):
+        return (self.next() - 2**31) >> (7 * (k % 3))
+
+
+def lookups(picture):
+    """The lookups of a picture, with the number of channels of each."""
+    draws = Draws()
+    for k in range(DRAWN):
+        s, t = draws.coordinate(k), draws.coordinate(k)
+        lod = draws.next() >> (10 + k % 6)
+        wraps = WRAPS[k // (4 * EACH) % 4], WRAPS[k // EACH % 4]
+        yield Lookup(picture, s, t, lod, *wraps), 1 + k % 8
+    for k in range(ENDS):
+        s, t = [LEAST, MOST][k % 2], [LEAST, MOST][k // 2 % 2]
+        wraps = WRAPS[k // 32 % 4], WRAPS[k // 8 % 4]
+        yield Lookup(picture, s, t, [0, LAST_LOD][k // 4 % 2], *wraps), 1 + k % 8
+
+
+def checksum(picture, by):
+    """The values, each times 31 to the power of how many come after it, modulo 2^64."""
+    total = 0
+    for lookup, channels in lookups(picture):
+        for c in range(channels):
+            total = (total * 31 + by(lookup, c)) % 2**64
+    return total
+
+
+for picture in PICTURES:
+    print(picture, *(checksum(picture, by) for by in (Lookup.closest, Lookup.bilinear, Lookup.trilinear)))
