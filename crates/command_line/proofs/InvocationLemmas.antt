@@ -16,8 +16,8 @@ use Rattle.command_line.specs.declared.invocation.Invocation.{Invocation}
 use Rattle.command_line.specs.declared.invocation.WordsError.{WordsError}
 use Rattle.command_line.specs.declared.invocation.WordsError.TheVariants.{Bad, NoMemory}
 use Rattle.command_line.specs.Command.{command}
-use Rattle.command_line.specs.Invocation.{Asked, asked_for, invocation_of, shown, Reads}
-use Rattle.command_line.specs.Invocation.{Takes, refused}
+use Rattle.command_line.specs.Invocation.{Asked, asked_for, invocation_of, asked_in, IsAsked}
+use Rattle.command_line.specs.Invocation.{TakesWords, refused}
 
 -- the command is one of those whose matches and errors are known from the words
 pub command_known : is_simple_and_free command ≡ true
@@ -42,7 +42,7 @@ module _ (a : App) (words : List Text) (named : a ≡ command) where
 
   -- an error
   pub takes_none : (e : Error) → (is_simple_and_free a ≡ true → HasKind (fault_of a words) e)
-      → Takes words (Err (refused (kind_of e)))
+      → TakesWords words (Err (refused (kind_of e)))
   takes_none e kinds =
       refused_by (kind_of e)
       (subst (λ b. HasKind (fault_of b words) e) named
@@ -53,12 +53,12 @@ module _ (a : App) (words : List Text) (named : a ≡ command) where
       some_kind k (x ∷ xs) among = search rules
 
       not_taken : is_empty (fault_of command words) ≡ false → (error : WordsError)
-          → Takes words (Err error)
+          → TakesWords words (Err error)
       not_taken e Bad = e
       not_taken e NoMemory = tt
 
       refused_by : (k : ErrorKind) → (k ≡ OutOfMemory) ⊎ IsAmong k (fault_of command words)
-          → Takes words (Err (refused k))
+          → TakesWords words (Err (refused k))
       refused_by k (inl e) = rw e tt
       refused_by k (inr among) =
           not_taken (some_kind k (fault_of command words) among) (refused k)
@@ -78,13 +78,13 @@ unfolding invocation_of
 none_asked words some = rw some refl
 
 -- an error of the command's is one of the call's
-pub reads_refused : (words : List Text) (error : WordsError) → Takes words (Err error)
-    → Reads (invocation_of words) (Err error)
+pub reads_refused : (words : List Text) (error : WordsError) → TakesWords words (Err error)
+    → IsAsked (invocation_of words) (Err error)
 reads_refused words Bad some = none_asked words some
 reads_refused words NoMemory some = tt
 
 -- what was found is what is said
 pub reads_found : (found : Option Invocation) (said : Option Asked)
-    → option_map shown found ≡ said → Reads said (ok_or found Bad)
+    → option_map asked_in found ≡ said → IsAsked said (ok_or found Bad)
 reads_found None said e = sym e
 reads_found (Some i) said e = sym e

@@ -31,21 +31,21 @@ invocation_of words =
     if is_empty (fault_of command words) then asked_for (matches_of command words) else None
 
 -- the path and the options of an invocation
-abbrev pub shown : Invocation → Asked
-shown i = (i.folder.now, i.options)
+abbrev pub asked_in : Invocation → Asked
+asked_in i = (i.folder.now, i.options)
 
 -- exactly what is asked for, want of memory aside
-abbrev pub Reads : Option Asked → Result Invocation WordsError → Type 0
-Reads said (Ok i) = said ≡ Some (shown i)
-Reads said (Err Bad) = said ≡ None
-Reads said (Err NoMemory) = ⊤
+abbrev pub IsAsked : Option Asked → Result Invocation WordsError → Type 0
+IsAsked said (Ok i) = said ≡ Some (asked_in i)
+IsAsked said (Err Bad) = said ≡ None
+IsAsked said (Err NoMemory) = ⊤
 
 -- the words are taken, and these are their matches; or they are not, or no memory was found
-abbrev pub Takes : List Text → Result ArgMatches WordsError → Type 0
-Takes words (Ok m) =
+abbrev pub TakesWords : List Text → Result ArgMatches WordsError → Type 0
+TakesWords words (Ok m) =
     (fault_of command words ≡ []) × (rows_of (found_of m) ≡ matches_of command words)
-Takes words (Err Bad) = is_empty (fault_of command words) ≡ false
-Takes words (Err NoMemory) = ⊤
+TakesWords words (Err Bad) = is_empty (fault_of command words) ≡ false
+TakesWords words (Err NoMemory) = ⊤
 
 -- why words with an error of this kind ask for nothing
 abbrev pub refused : ErrorKind → WordsError

@@ -1,7 +1,7 @@
 -- Which numbers does an option take, and which does it have where it is not given?
 use Rattle.std.specs.Prelude.{ℕ, ◌%◌, ◌==◌, ◌&&◌, ◌^◌, nat_le, List, Option, Some, None}
 use Rattle.std.specs.Prelude.{if◌then◌else◌, option_and_then}
-use Rattle.request_lang.specs.Field.{digits_number}
+use Rattle.request_lang.specs.LineField.{digits_number}
 use Rattle.command_line.specs.declared.range.NumberRange.{NumberRange}
 
 -- from the least to the most in steps
@@ -15,13 +15,13 @@ taken range n =
     if nat_le range.least n && (nat_le n range.most && n % range.step == 0) then Some n else None
 
 -- the number that a value of 1 to 10 decimal digits spells, if the option takes it
-abbrev pub number_in : NumberRange → List ℕ → Option ℕ
-number_in range text = option_and_then (taken range) (digits_number text)
+abbrev pub value_in_range : NumberRange → List ℕ → Option ℕ
+value_in_range range text = option_and_then (taken range) (digits_number text)
 
 -- the number of an option whose value is this, or which is not given
 abbrev pub number_or_default : NumberRange → Option (List ℕ) → Option ℕ
 number_or_default range None = Some range.default
-number_or_default range (Some text) = number_in range text
+number_or_default range (Some text) = value_in_range range text
 
 -- ---- the ranges
 

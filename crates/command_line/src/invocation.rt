@@ -54,7 +54,7 @@ fn refused(error: &Error) -> WordsError
 /// The matches of the words, if the command takes them.
 fn taken<'a>(command: Command<'a>, words: &'a [String]) -> Result<ArgMatches<'a>, WordsError>
     requires { app_of command ≡ line.command }
-    ensures { spec.Takes (map string_bytes words.entry.now) result }
+    ensures { spec.TakesWords (map string_bytes words.entry.now) result }
 {
     match command.try_get_matches_from(words) {
         Ok(matches) => Ok(matches),
@@ -64,7 +64,7 @@ fn taken<'a>(command: Command<'a>, words: &'a [String]) -> Result<ArgMatches<'a>
 
 /// What the matches of the words ask for.
 fn asked_for<'a>(matches: &ArgMatches<'a>) -> Option<Invocation<'a>>
-    ensures value { option_map spec.shown result
+    ensures value { option_map spec.asked_in result
         ≡ spec.asked_for (rows_of (found_of matches.now)) }
     ensures in_range { IfSome result (λ i. IsInRange i.options) }
 {
@@ -75,7 +75,7 @@ fn asked_for<'a>(matches: &ArgMatches<'a>) -> Option<Invocation<'a>>
 
 /// What the words ask for, of which none is the program's name.
 pub fn invocation_of<'a>(alloc: Global, words: &'a [String]) -> Result<Invocation<'a>, WordsError>
-    ensures exact { spec.Reads (spec.invocation_of (map string_bytes words.entry.now)) result }
+    ensures exact { spec.IsAsked (spec.invocation_of (map string_bytes words.entry.now)) result }
     ensures in_range { IfOk result (λ i. IsInRange i.options) }
 {
     match taken(command(alloc)?, words) {

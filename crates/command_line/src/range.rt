@@ -60,9 +60,9 @@ pub(crate) const AUTOTILE: NumberRange = NumberRange {
 };
 
 /// The number of the range that a text spells.
-pub(crate) fn number_in(range: NumberRange, text: &str) -> Option<u64>
+pub(crate) fn value_in_range(range: NumberRange, text: &str) -> Option<u64>
     requires { 0 < range.step }
-    ensures value { result ≡ spec.number_in range text.now }
+    ensures value { result ≡ spec.value_in_range range text.now }
     ensures within { IfSome result (λ n. n ≤ range.most) }
 {
     let number = digits_number(text.as_bytes())?;
@@ -81,6 +81,6 @@ pub(crate) fn number_or_default(range: NumberRange, value: Option<&str>) -> Opti
 {
     match value {
         None => Some(range.default),
-        Some(text) => number_in(range, text),
+        Some(text) => value_in_range(range, text),
     }
 }

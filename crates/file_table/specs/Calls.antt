@@ -1,6 +1,6 @@
 -- What do the calls of a table give, when may each be refused, and what do they leave of the view
 -- and of the tap?
-use Rattle.std.specs.Prelude.{◌≡◌, ◌≢◌, ◌⊎◌, ℕ, ◌<◌, ◌≤◌, slice_index, ⊤}
+use Rattle.std.specs.Prelude.{◌≡◌, ◌≢◌, ◌⊎◌, ℕ, ◌+◌, ◌<◌, ◌≤◌, slice_index, ⊤}
 use Rattle.tex_world.specs.Counts.{Rises, RisesByOne}
 use Rattle.tex_world.specs.World.{Files, IsReal}
 use Rattle.tex_world.specs.Tap.{Named, TapState}
@@ -27,13 +27,19 @@ pub record KeepsView (file : ℕ) (old new : ViewState) : Type 0 where
   pub board : new.board ≡ old.board
   pub later : IsLater old.seen new.seen
   pub seen_others : (f : ℕ) → f ≢ file → slice_index new.seen f ≡ slice_index old.seen f
-  pub steps_later : slice_index old.steps file ≤ slice_index new.steps file
   pub steps_others : (f : ℕ) → f ≢ file → slice_index new.steps f ≡ slice_index old.steps f
 
--- and the word of this file was looked at or raised
-pub record LooksAt (file : ℕ) (old new : ViewState) : Type 0 where
+-- That word was raised once, if at all.
+pub record RaisesIfAtAll (file : ℕ) (old new : ViewState) : Type 0 where
   pub keeps : KeepsView file old new
-  pub looked : slice_index old.steps file < slice_index new.steps file
+  pub least : slice_index old.steps file ≤ slice_index new.steps file
+  pub most : slice_index new.steps file ≤ slice_index old.steps file + 1
+
+-- That word was looked at once, and then raised once, if at all.
+pub record LooksOnce (file : ℕ) (old new : ViewState) : Type 0 where
+  pub keeps : KeepsView file old new
+  pub least : slice_index old.steps file + 1 ≤ slice_index new.steps file
+  pub most : slice_index new.steps file ≤ slice_index old.steps file + 2
 
 -- The tap had no call but reads.
 pub record ReadsOnly (old new : TapState) : Type 0 where
@@ -104,12 +110,15 @@ pub record IsOfExactly (file generation : ℕ) (handle : Named) : Type 0 where
   pub of_generation : handle.generation ≡ generation
 
 -- Why a handle of a generation is not lent. Where a newer one was met the view has then seen it,
--- and memory is wanting only where the file was opened. Where the waiter gave up the tap had no
--- call.
+-- and else the view is as it was. Memory is wanting only where the file was opened, and where the
+-- waiter gave up the tap had no call.
 abbrev pub LendCause : {B : Type 0} → Files → ℕ → ℕ → Sighted → Sighted → LendError B → Type 0
-LendCause files file generation old new lending.ReadFault = Rises old.tap.faults new.tap.faults
+LendCause files file generation old new lending.ReadFault =
+    Rises old.tap.faults new.tap.faults × (new.view ≡ old.view)
 LendCause files file generation old new (lending.Again from to) =
     (from ≡ generation) × MeetsNewer files file generation from to old.tap new.tap
     × (to ≤ slice_index new.view.seen file)
-LendCause files file generation old new lending.NoMemory = OpensOnce old.tap new.tap
-LendCause files file generation old new (lending.Busy b) = new.tap ≡ old.tap
+LendCause files file generation old new lending.NoMemory =
+    OpensOnce old.tap new.tap × (new.view ≡ old.view)
+LendCause files file generation old new (lending.Busy b) =
+    (new.tap ≡ old.tap) × (new.view ≡ old.view)

@@ -55,9 +55,9 @@ abbrev pub CutsLevel : RecordState → ℕ → Grid → Type 0
 CutsLevel state l grid =
     IfOk state.layout (λ kept. shown_grid grid ≡ cut_level_in kept state.cut l)
 
--- whether no cell of any level takes more memory than a cell may
+-- whether the file shows no fault, and no cell of any level takes more memory than a cell may
 abbrev pub TellsFit : RecordState → Bool → Type 0
-TellsFit state fits = IfOk state.layout (λ kept. IsTrue fits ↔ CellsFit kept state.cut)
+TellsFit state fits = IsTrue fits ↔ IsOkAnd state.layout (λ kept. CellsFit kept state.cut)
 
 -- these are the levels of what is kept of a file, as a cut cuts them
 pub record AreGridsOf (kept : Kept) (cut : Cut) (grids : List Grid) : Type 0 where

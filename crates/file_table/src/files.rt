@@ -2,9 +2,9 @@ ghost use Rattle.std.specs.Prelude.{◌≡◌, ℕ, ◌<◌, ◌≤◌, IfOk, If
 ghost use Rattle.tex_world.specs.World.{IsFile, IsReal};
 ghost use Rattle.gen_board.specs.View.{IsNewView};
 ghost use Rattle.tile_layout.specs.Cut.{IsCut};
-ghost use Rattle.file_table.specs.Calls.{sighted, KeepsView, LooksAt, OpensIfAtAll, OpensOnce};
+ghost use Rattle.file_table.specs.Calls.{sighted, RaisesIfAtAll, LooksOnce, OpensOnce};
 ghost use Rattle.file_table.specs.Files.{HasLocks};
-ghost use Rattle.file_table.specs.Calls.{GivesRecord, RecordCause};
+ghost use Rattle.file_table.specs.Calls.{GivesRecord, OpensIfAtAll, RecordCause};
 
 use crate::error::RecordError;
 use crate::home::put_back;
@@ -119,7 +119,7 @@ impl<T: Tap> Files<T> {
             (sighted view.old (T.state tap.old)) (sighted view.new (T.state tap.new))) }
 
         // What the call leaves, whatever it answers.
-        ensures looks { LooksAt file view.old view.new }
+        ensures looks { LooksOnce file view.old view.new }
         ensures once { OpensIfAtAll (T.state tap.old) (T.state tap.new) }
     {
         let least = self.board.look(view, file);
@@ -161,8 +161,9 @@ impl<T: Tap> Files<T> {
         requires { file < self.now.board.files }
     {
         let lock = &self.records[file as usize];
-        let _forgotten = lock.take(waiter)?;
-        put_back(lock, waiter, KnownRecord::none());
+        let mut known = lock.take(waiter)?;
+        let _forgotten = known.forget();
+        put_back(lock, waiter, known);
         Ok(())
     }
 
@@ -171,7 +172,7 @@ impl<T: Tap> Files<T> {
         requires board { view.old.board ≡ self.now.board }
         requires file { file < self.now.board.files }
         requires real { IsReal T.W.files file generation }
-        ensures keeps { KeepsView file view.old view.new }
+        ensures raises { RaisesIfAtAll file view.old view.new }
         ensures seen { generation ≤ slice_index view.new.seen file }
     {
         if view.seen(file) < generation {
@@ -195,7 +196,7 @@ impl<T: Tap> Files<T> {
             r.value) }
         ensures cause { IfErr result (RecordCause T.W.files file
             (sighted view.old (T.state tap.old)) (sighted view.new (T.state tap.new))) }
-        ensures keeps { KeepsView file view.old view.new }
+        ensures raises { RaisesIfAtAll file view.old view.new }
         ensures once { OpensOnce (T.state tap.old) (T.state tap.new) }
     {
         match open_record(self.alloc, tap, file, view.seen(file), self.cut) {

@@ -47,6 +47,14 @@ impl<W: World> KnownRecord<W> {
         }
     }
 
+    /// Knows no record from then on. The one that was known comes back.
+    pub(crate) fn forget(&mut self) -> Option<Arc<Record<W>>>
+        ensures gone { self.new.record ≡ None }
+        ensures back { result ≡ self.old.record }
+    {
+        self.record.take()
+    }
+
     /// Keeps a record in the place of one that is not newer. The one that is not kept comes back.
     pub(crate) fn keep(&mut self, read: Arc<Record<W>>) -> Option<Arc<Record<W>>>
         ensures kept { (self.new.record ≡ Some read) ⊎ (self.new.record ≡ self.old.record) }

@@ -1,7 +1,7 @@
 //! Handles that are lent, settle and lie idle.
 ghost use Rattle.std.specs.Prelude.{◌≡◌, ◌<◌, ◌≤◌, IfOk, IfErr, IfSome, OnOk};
 ghost use Rattle.tex_world.specs.World.{IsFile, IsReal};
-ghost use Rattle.file_table.specs.Calls.{sighted, KeepsView, OpensIfAtAll, OpensOnce};
+ghost use Rattle.file_table.specs.Calls.{sighted, RaisesIfAtAll, OpensIfAtAll, OpensOnce};
 ghost use Rattle.file_table.specs.Calls.{IsOfExactly, LendCause};
 
 use crate::error::{LendError, NotSettled};
@@ -33,7 +33,7 @@ impl<T: Tap> Files<T> {
             (sighted view.old (T.state tap.old)) (sighted view.new (T.state tap.new))) }
 
         // What the call leaves, whatever it answers.
-        ensures keeps { KeepsView file view.old view.new }
+        ensures raises { RaisesIfAtAll file view.old view.new }
         ensures same { OnOk result (view.new ≡ view.old) }
         ensures once { OpensIfAtAll (T.state tap.old) (T.state tap.new) }
     {
@@ -124,7 +124,7 @@ impl<T: Tap> Files<T> {
         ensures ok { IfOk result (λ h. IsOfExactly file generation (T.Handle.named h)) }
         ensures cause { IfErr result (LendCause T.W.files file generation
             (sighted view.old (T.state tap.old)) (sighted view.new (T.state tap.new))) }
-        ensures keeps { KeepsView file view.old view.new }
+        ensures raises { RaisesIfAtAll file view.old view.new }
         ensures same { OnOk result (view.new ≡ view.old) }
         ensures once { OpensOnce (T.state tap.old) (T.state tap.new) }
     {

@@ -133,8 +133,8 @@ impl<W: World> Record<W> {
         self.grids[level as usize]
     }
 
-    /// No cell of any level takes more than 33554432 bytes in memory. It is so only of a file
-    /// without fault.
+    /// Whether the file shows no fault and no cell of any level takes more than 33554432 bytes in
+    /// memory.
     pub fn fits(&self) -> bool
         ensures { TellsFit self.now result }
     {

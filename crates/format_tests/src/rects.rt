@@ -125,6 +125,14 @@ static READS: &[ReadsRow] = &[
         1,
         3 * 4000 + 10,
     ),
+    // 65 rows of 4096 bytes, which are whole: 256 KiB at once
+    (
+        "a large strip",
+        "A to=266362 18=0,16 30=65 102=65",
+        (0, 0, 4096, 65),
+        2,
+        266_240,
+    ),
     // rows of 8192 bytes: each piece is a read
     ("distant rows", "A to=32890 18=0,32", (100, 0, 10, 4), 4, 40),
 ];

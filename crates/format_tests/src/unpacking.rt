@@ -69,3 +69,27 @@ fn unpacks_one_case(rt: HostRuntime) {
     unpack::<true, true>(&[0x12, 0x34, 0xff, 0xfe, 0, 1], 2, &mut dst);
     assert_eq!(rt; dst, [60875, 65534, 65534]);
 }
+
+/// Of so many samples the white rule is applied in blocks.
+#[test]
+fn unpacks_many_white_samples(rt: HostRuntime) -> Result<(), Fail> {
+    let mut bytes = Vec::new(rt.alloc());
+    for k in 0..1100u16 {
+        bytes.push((k % 251) as u8)?;
+    }
+    for channels in 1..6usize {
+        let mut samples = vec![in rt.alloc(); 1u16; 1100]?;
+        assert_eq!(rt; bytes.len(), samples.len());
+        unpack_as(false, false, &bytes, channels, &mut samples);
+        for (k, sample) in samples.iter().enumerate() {
+            let stored = (k % 251) as u16;
+            let wanted = if k % channels == 0 {
+                255 - stored
+            } else {
+                stored
+            };
+            assert_eq!(rt; *sample, wanted, "{channels} channels, sample {k}");
+        }
+    }
+    Ok(())
+}

@@ -5,7 +5,7 @@ use Rattle.std.proofs.Common.{append_assoc, arith}
 use Rattle.std.proofs.Math.Seq.{take-length, take-append_seam}
 use Rattle.std.proofs.lemmas.List.{take-take, length-append, length-take}
 use Rattle.std.proofs.lemmas.List.Concat.{flat_map-append}
-use Rattle.request_lang.specs.Field.{space}
+use Rattle.request_lang.specs.LineField.{space}
 use Rattle.request_lang.specs.Line.{fields, number_behind}
 use Rattle.request_lang.specs.Appending.{Begins, Pushes}
 

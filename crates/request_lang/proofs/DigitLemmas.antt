@@ -8,11 +8,11 @@ use Rattle.std.specs.List.{list_all}
 use Rattle.std.proofs.lemmas.Bool.{cases_lt, lt-ltb, lt-leb, le-leb}
 use Rattle.std.proofs.lemmas.List.{take_all}
 use Rattle.std.proofs.lemmas.List.Folds.{list_all_at}
-use Rattle.request_lang.specs.Field.{digits_number}
+use Rattle.request_lang.specs.LineField.{digits_number}
 use Rattle.request_lang.specs.Digits.{LeadsWith}
 use Rattle.std.proofs.lemmas.Grind.{pow_more}
 use Rattle.std.proofs.Math.Nat.{pow-le-pow_right}
-use Rattle.request_lang.specs.Field.{max_digits}
+use Rattle.request_lang.specs.LineField.{max_digits}
 
 -- so many digits fit 64 bits
 pub digit_fits : (n i : ℕ) → n < 10 ^ i → i < max_digits → n * 10 + 9 < 2 ^ 64

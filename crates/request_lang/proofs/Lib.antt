@@ -1,8 +1,9 @@
 mod SpaceLemmas
+mod WordLemmas
 mod DigitLemmas
 mod FieldLemmas
 mod SignLemmas
 mod LineLemmas
 mod TextLemmas
 mod AppendLemmas
-mod EntryLemmas
+mod PaddedTextLemmas

@@ -8,7 +8,7 @@ use Rattle.memchr.specs.Find.{IsFirstByte, is_byte}
 use Rattle.request_lang.specs.declared.request.Request.{Request}
 use Rattle.request_lang.specs.declared.cause.Cause.{Cause}
 use Rattle.request_lang.specs.declared.cause.Cause.TheVariants.{TooLong}
-use Rattle.request_lang.specs.Form.{request_of}
+use Rattle.request_lang.specs.RequestForm.{request_of}
 use Rattle.request_lang.specs.Grammar.{lines_of, content, is_passed_over}
 use Rattle.request_lang.specs.Grammar.{before_rest, behind, bad_at}
 use Rattle.request_lang.specs.Grammar.{requests_of, list_of, Parsed, max_list_bytes, whole_list}

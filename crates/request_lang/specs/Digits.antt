@@ -1,9 +1,9 @@
 -- What was read of a text that begins with digits?
-use Rattle.std.specs.Prelude.{◌≡◌, ℕ, ◌+◌, ◌*◌, ◌-◌, ◌<◌, ◌≤◌, List, length, take, fold, slice_index}
-use Rattle.std.specs.Prelude.{true, false}
+use Rattle.std.specs.Prelude.{◌≡◌, ℕ, ◌+◌, ◌*◌, ◌-◌, ◌<◌, ◌≤◌, List, length, take}
+use Rattle.std.specs.Prelude.{fold, slice_index, true, false}
 use Rattle.std.specs.Char.{is_ascii_digit}
 use Rattle.std.specs.List.{list_all}
-use Rattle.request_lang.specs.Field.{zero_digit, max_digits}
+use Rattle.request_lang.specs.LineField.{zero_digit, max_digits}
 
 -- its first digits, of which `max_digits` are read at most: what they spell, and how many they are
 pub record LeadsWith (text : List ℕ) (number count : ℕ) : Type 0 where

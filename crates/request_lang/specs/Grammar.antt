@@ -7,7 +7,7 @@ use Rattle.request_lang.specs.declared.cause.BadList.{BadList}
 use Rattle.request_lang.specs.declared.cause.Cause.{Cause}
 use Rattle.request_lang.specs.declared.cause.Cause.TheVariants.{TooManyRequests, TooLong}
 use Rattle.request_lang.specs.Cause.{cause_number}
-use Rattle.request_lang.specs.Form.{request_of}
+use Rattle.request_lang.specs.RequestForm.{request_of}
 
 -- ---- lines
 

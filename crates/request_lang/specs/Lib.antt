@@ -1,10 +1,11 @@
 pub mod Cause
-pub mod Field
-pub mod Form
+pub mod NameText
+pub mod LineField
+pub mod RequestForm
 pub mod Grammar
 pub mod Parsing
 pub mod Basis
 pub mod Line
 pub mod Appending
 pub mod Digits
-pub mod Entry
+pub mod PaddedText

@@ -10,7 +10,7 @@ use Rattle.tile_layout.specs.declared.info.Info as layout
 use Rattle.tile_layout.specs.declared.rect.Rect.{Rect}
 use Rattle.tile_layout.specs.declared.shard_count.ShardCount.{ShardCount}
 use Rattle.request_lang.specs.declared.cause.BadList.{BadList}
-use Rattle.request_lang.specs.Field.{space}
+use Rattle.request_lang.specs.LineField.{space}
 use Rattle.request_lang.specs.Grammar.{line_feed}
 use Rattle.request_lang.specs.declared.answer.Answer.{Answer}
 use Rattle.request_lang.specs.declared.answer.Answer.TheVariants.{Tex, Pixels, Info, Held, Dropped}

@@ -1,7 +1,7 @@
 //! Numbers as they are spelled.
 
 ghost use Rattle.std.specs.Prelude.{◌≡◌, ◌≤◌, ◌<◌, ◌^◌, IfOk};
-ghost use Rattle.request_lang.specs.Field as spec;
+ghost use Rattle.request_lang.specs.LineField as spec;
 ghost use Rattle.request_lang.specs.Digits.{LeadsWith};
 
 use crate::cause::Cause;

@@ -5,12 +5,13 @@
 mod answer;
 mod cause;
 mod digits;
-mod field;
-mod form;
 mod line;
+mod line_field;
 mod list;
 mod number;
 mod request;
+mod request_form;
+mod short_text;
 mod value_texts;
 mod values;
 

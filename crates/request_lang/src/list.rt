@@ -3,13 +3,13 @@
 ghost use Rattle.std.specs.Prelude.{◌≡◌, ◌<◌, length, IfOk, [], ◌∷◌, true};
 ghost use Rattle.std.specs.Str.{IsAscii};
 ghost use Rattle.std.specs.Option.{IfNone, IfSome};
-ghost use Rattle.request_lang.specs.Form as form;
+ghost use Rattle.request_lang.specs.RequestForm as form;
 ghost use Rattle.request_lang.specs.Grammar as spec;
 ghost use Rattle.request_lang.specs.Parsing.{Parses, Gives, refused_at};
 
 use crate::cause::{Cause, ParseError, Refusal};
-use crate::form::request_of;
 use crate::request::Request;
+use crate::request_form::request_of;
 use memchr::memchr;
 use std::alloc::Global;
 

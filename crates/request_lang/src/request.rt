@@ -1,21 +1,35 @@
 //! A request, as a line of the list says it.
 
-ghost use Rattle.std.specs.Prelude.{◌≡◌, List, ℕ};
+ghost use Rattle.std.specs.Prelude.{◌≡◌, List, ℕ, IfOk};
 ghost use Rattle.std.specs.String.{string_bytes};
 
+use crate::short_text::{MAX_SHORT, ShortText};
+use std::alloc::{AllocError, Global};
 use std::marker::Model;
 use texel_filter::TexRequest;
+
+/// The text of a name.
+#[derive(Drop)]
+pub(crate) enum NameText {
+    /// It is short, as most names are, and takes no memory of its own.
+    Short(ShortText),
+    /// It is any text.
+    Long(String),
+}
 
 /// The name of a file. Contracts see it as its bytes, which are UTF-8.
 #[derive(Drop)]
 pub struct Name {
-    text: String,
+    text: NameText,
 }
 
 impl Model for Name {
+    ghost use Rattle.std.specs.Prelude.{List, ℕ};
+    ghost use Rattle.request_lang.specs.NameText.{bytes_of};
+
     ghost Value = { List ℕ };
 
-    ghost view = { λ name. string_bytes name.text };
+    ghost view = { λ name. bytes_of name.text };
 }
 
 impl Name {
@@ -23,14 +37,31 @@ impl Name {
     pub fn new(text: String) -> Name
         ensures { result ≡ string_bytes text }
     {
-        Name { text }
+        Name {
+            text: NameText::Long(text),
+        }
+    }
+
+    /// The name of this text, which is copied.
+    pub(crate) fn copied(alloc: Global, text: &str) -> Result<Name, AllocError>
+        ensures { IfOk result (λ name. name ≡ text.now) }
+    {
+        let text = if text.len() <= MAX_SHORT {
+            NameText::Short(ShortText::of(text))
+        } else {
+            NameText::Long(String::from_str(alloc, text)?)
+        };
+        Ok(Name { text })
     }
 
     /// Its text.
     pub fn as_str(&self) -> &str
         ensures { result.now ≡ self.now }
     {
-        self.text.as_str()
+        match &self.text {
+            NameText::Short(text) => text.as_str(),
+            NameText::Long(text) => text.as_str(),
+        }
     }
 }
 

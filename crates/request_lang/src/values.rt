@@ -2,11 +2,11 @@
 
 ghost use Rattle.std.specs.Prelude.{◌≡◌, ◌+◌, ◌*◌, ◌≤◌, ◌++◌, length, take, drop};
 ghost use Rattle.request_lang.specs.Line.{fields};
-ghost use Rattle.request_lang.specs.Entry.{entry_bytes, max_value_bytes};
+ghost use Rattle.request_lang.specs.PaddedText.{padded_bytes, max_value_bytes};
 ghost use Rattle.request_lang.specs.Appending.{Pushes, room_values};
 
 use crate::number::push_text;
-use crate::value_texts::{COUNT_AT, ENTRY_BYTES, ValueTexts};
+use crate::value_texts::{COUNT_AT, PADDED_BYTES, ValueTexts};
 use std::alloc::AllocError;
 
 /// The most bytes of a value and its space.
@@ -15,35 +15,35 @@ const MAX_VALUE_BYTES: usize = 6;
 /// How many values are made into text before they are appended.
 const ROOM_VALUES: usize = 256;
 
-/// The bytes that they take at most, and those that the last entry has beyond its text.
-const ROOM_BYTES: usize = MAX_VALUE_BYTES * ROOM_VALUES + ENTRY_BYTES;
+/// The bytes that they take at most, and those that the last padded text has beyond its text.
+const ROOM_BYTES: usize = MAX_VALUE_BYTES * ROOM_VALUES + PADDED_BYTES;
 
 /// How many values are few: those of a lookup.
 const FEW_VALUES: usize = 8;
 
 /// The bytes that they take at most.
-const FEW_BYTES: usize = MAX_VALUE_BYTES * FEW_VALUES + ENTRY_BYTES;
+const FEW_BYTES: usize = MAX_VALUE_BYTES * FEW_VALUES + PADDED_BYTES;
 
-/// Writes an entry.
+/// Writes a padded text.
 #[inline(always)]
-fn put_entry(room: &mut [u8], at: usize, entry: [u8; ENTRY_BYTES])
-    requires { at + entry_bytes ≤ length room.old }
-    ensures { room.new ≡ take at room.old ++ entry ++ drop (at + entry_bytes) room.old }
+fn put_padded(room: &mut [u8], at: usize, padded: [u8; PADDED_BYTES])
+    requires { at + padded_bytes ≤ length room.old }
+    ensures { room.new ≡ take at room.old ++ padded ++ drop (at + padded_bytes) room.old }
 {
-    room[at..at + ENTRY_BYTES].copy_from_slice(&entry);
+    room[at..at + PADDED_BYTES].copy_from_slice(&padded);
 }
 
 /// Writes values, each behind a space, at the start of the room, and says where they end.
 fn put_values(texts: &ValueTexts, room: &mut [u8], values: &[u16]) -> usize
-    requires { max_value_bytes * length values.now + entry_bytes ≤ length room.old }
+    requires { max_value_bytes * length values.now + padded_bytes ≤ length room.old }
     ensures written { take result room.new ≡ fields values.now }
     ensures within { result ≤ length room.new }
 {
     let mut at = 0;
     for value in values {
-        let entry = texts.entry(*value);
-        put_entry(room, at, entry);
-        at += usize::from(entry[COUNT_AT]);
+        let padded = texts.padded(*value);
+        put_padded(room, at, padded);
+        at += usize::from(padded[COUNT_AT]);
     }
     at
 }
@@ -56,7 +56,7 @@ fn push_part(
     room: &mut [u8],
     values: &[u16],
 ) -> Result<(), AllocError>
-    requires { max_value_bytes * length values.now + entry_bytes ≤ length room.old }
+    requires { max_value_bytes * length values.now + padded_bytes ≤ length room.old }
     ensures { Pushes (fields values.now) out.old.items out.new.items result }
 {
     let end = put_values(texts, room, values);
@@ -71,7 +71,7 @@ fn push_parts(
     room: &mut [u8],
     values: &[u16],
 ) -> Result<(), AllocError>
-    requires { max_value_bytes * room_values + entry_bytes ≤ length room.old }
+    requires { max_value_bytes * room_values + padded_bytes ≤ length room.old }
     ensures { Pushes (fields values.now) out.old.items out.new.items result }
 {
     let mut rest = values;

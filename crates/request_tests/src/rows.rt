@@ -1,7 +1,7 @@
 //! Single lines, by hand from docs/REQUESTS.md.
 
 /// Lines that are requests, and what they ask for with each number spelled shortest.
-pub(crate) static RIGHT: [(&str, &str); 43] = [
+pub(crate) static RIGHT: [(&str, &str); 47] = [
     (
         "tex 0 0 0 black black closest 1 a",
         "tex 0 0 0 black black closest 1 a",
@@ -89,6 +89,16 @@ pub(crate) static RIGHT: [(&str, &str); 43] = [
     ("info 日本", "info 日本"),
     ("info #", "info #"),
     ("info info", "info info"),
+    ("info abcdefghijklmnopqrstuv", "info abcdefghijklmnopqrstuv"),
+    (
+        "info abcdefghijklmnopqrstuvw",
+        "info abcdefghijklmnopqrstuvw",
+    ),
+    ("renew aaaaaaaaaaaaaaaaaaaaé", "renew aaaaaaaaaaaaaaaaaaaaé"),
+    (
+        "renew aaaaaaaaaaaaaaaaaaaaaé",
+        "renew aaaaaaaaaaaaaaaaaaaaaé",
+    ),
     ("hold 0 0 0 A.tif", "hold 0 0 0 A.tif"),
     ("hold 1 2 3 n", "hold 1 2 3 n"),
     (

@@ -1,6 +1,6 @@
 -- What a split and a join leave of the seats of one caller.
-use Rattle.std.proofs.Common.{◌≡◌, ℕ, zero, suc, ◌+◌, ◌-◌, ◌*◌, ◌<◌, ◌≤◌, List, [], ◌∷◌, map, length}
-use Rattle.std.proofs.Common.{get_or, refl, ap, sym, subst, ◌∙◌, arith}
+use Rattle.std.proofs.Common.{◌≡◌, ℕ, zero, suc, ◌+◌, ◌-◌, ◌*◌, ◌<◌, ◌≤◌, List, [], ◌∷◌}
+use Rattle.std.proofs.Common.{map, length, get_or, refl, ap, sym, subst, ◌∙◌, arith}
 use Rattle.std.specs.List.{All}
 use Rattle.std.proofs.lemmas.List.{length-map, get_or-map}
 use Rattle.std.proofs.lemmas.List.Elements.{All-map}
@@ -114,6 +114,11 @@ joined_by f [] b stays = refl
 joined_by f (x ∷ a) [] stays = refl
 joined_by f (x ∷ a) (y ∷ b) stays = λ i. stays x y i ∷ joined_by f a b stays i
 
+-- one of them
+some_seat : (seats : List SeatAt) → 0 < length seats → SeatAt
+some_seat [] low = absurd (omega (arith, low))
+some_seat (s ∷ seats) low = s
+
 module _ (a b : List SeatAt) (own theirs : ℕ) (pins held : List ℕ) (room space : ℕ)
     (kept : IsPinSeat a own pins room) (other : IsPinSeat b theirs held space)
     (same : map shard_of_seat a ≡ map shard_of_seat b)
@@ -147,6 +152,21 @@ module _ (a b : List SeatAt) (own theirs : ℕ) (pins held : List ℕ) (room spa
     least = omega (arith, kept.least);
     few = omega (arith, kept.few);
   }
+
+  -- Together they have no more permits than the gate has passes.
+  pub joined_few : (tables : List ShardId) (share : ℕ) (cut : Cut) (passes : ℕ)
+      → IsGate tables share cut passes → map shard_of_seat a ≡ tables → own + theirs ≤ passes
+  joined_few tables share cut passes gate here =
+      let d = some_seat a kept.some in
+      let both = joined_seats a b in
+      omega (
+        arith,
+        (joined_part 0 d kept.some).few,
+        passes_at both (own + theirs) pins room joined_kept (seat_state both (own + theirs) pins)
+            refl tables share cut passes gate
+            (joined_by shard_of_seat a b (λ x y. refl) ∙ here) 0 d
+            (omega (arith, kept.some, joined_length a b)),
+      )
 
   pub after_join : (p q : PinSeatState) → seat_state a own pins ≡ p → seat_state b theirs held ≡ q
       → AfterJoin q p (seat_state (joined_seats a b) (own + theirs) pins)

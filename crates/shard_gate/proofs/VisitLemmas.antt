@@ -111,6 +111,9 @@ module _ (tables : List ShardId) (share : ℕ) (cut : Cut) (passes : ℕ) (gate 
   made = ap (λ (t : ShardId). t.tag) here
       ∙ (kept.made k d (omega (arith, low, ap (λ (a : GateState). length a.id) is))).tag
 
+  pub tag_here : x.tag ≡ tag_of gate.share gate.cut
+  tag_here = made ∙ ap (λ (a : GateState). tag_of a.share a.cut) is
+
   pub share_here : share_of x.tag ≡ share
   share_here = ap share_of made ∙ share_of-tag_of share cut kept.cut_is
 

@@ -1,16 +1,19 @@
 -- Which gate is it, what is known of a caller's seat at it, and what does each call leave of that?
 use Rattle.std.specs.Prelude.{◌≡◌, ◌≢◌, ℕ, ◌+◌, ◌-◌, ◌*◌, ◌/◌, ◌%◌, ◌^◌, ◌<◌, ◌≤◌, List, [], ◌∷◌}
-use Rattle.std.specs.Prelude.{length, slice_index, IsPermutation}
+use Rattle.std.specs.Prelude.{length, slice_index, IsPermutation, Result, Option, IfOk, IfSome}
+use Rattle.std.specs.Prelude.{IfNone}
 use Rattle.std.specs.List.{All}
 use Rattle.tex_world.specs.World.{Files}
 use Rattle.tile_layout.specs.declared.cut.Cut.{Cut}
+use Rattle.tile_layout.specs.declared.shard_count.ShardCount.{ShardCount}
 use Rattle.tile_layout.specs.Cut.{IsCut}
 use Rattle.tile_layout.specs.Key.{generation_of, file_of, level_of, index_of}
 use Rattle.tile_layout.specs.Cell.{cut_level_of, cell_rect}
 use Rattle.tile_store.specs.Tile.{CachedTile}
 use Rattle.tile_store.specs.Told.{ToldBy}
+use Rattle.tile_store.specs.Entry.{Entries, pin_sum, loose_bytes}
 use Rattle.tile_store.specs.Tag.{tag_of}
-use Rattle.tile_store.specs.Lawful.{FitsCut}
+use Rattle.tile_store.specs.Lawful.{FitsCut, Lawful}
 use Rattle.shard_gate.specs.Seated.{ShardId}
 use Rattle.shard_gate.specs.declared.error.NotPinned.{NotPinned}
 use Rattle.shard_gate.specs.declared.error.NotPinned.TheVariants.{NoMemory, Busy}
@@ -87,13 +90,29 @@ pub record IsFirstSeat (made : GateState) (seat : PinSeatState) : Type 0 where
 
 -- where the world tells, the tile's rectangle is that of the cell of its key
 abbrev pub HasCellRect : Files → Cut → CachedTile → Type 0
-HasCellRect files cut tile = ToldBy files tile.key
-    (λ bytes. tile.rect ≡ cell_rect (cut_level_of bytes cut (level_of tile.key)) (index_of tile.key))
+HasCellRect files cut tile = ToldBy files tile.key (λ bytes.
+    tile.rect ≡ cell_rect (cut_level_of bytes cut (level_of tile.key)) (index_of tile.key))
 
 -- The tile is that of the key, and where the world tells it is the cell under the cut.
 pub record IsTileOf (files : Files) (cut : Cut) (key : ℕ) (tile : CachedTile) : Type 0 where
   pub keyed : tile.key ≡ key
   pub fits : FitsCut files cut tile
+
+-- what P says of an answer, where something was found
+abbrev pub IfFound : {A E : Type 0} → Result (Option A) E → (A → Type 0) → Type 0
+IfFound result P = IfOk result (λ found. IfSome found P)
+
+-- what P says, where nothing was found
+abbrev pub IfNotFound : {A E : Type 0} → Result (Option A) E → Type 0 → Type 0
+IfNotFound result P = IfOk result (λ found. IfNone found P)
+
+-- The count is that of entries which are lawful for the tag.
+pub record CountsLawful (files : Files) (tag : ℕ) (count : ShardCount) : Type 0 where
+  pub entries : Entries
+  pub lawful : Lawful files tag entries
+  pub tiles : count.tiles ≡ length entries
+  pub pins : count.pins ≡ pin_sum entries
+  pub loose : count.loose ≡ loose_bytes entries
 
 -- The seat belongs to the same gate, with the same permits and the same pins.
 pub record SamePins (old new : PinSeatState) : Type 0 where
@@ -143,6 +162,22 @@ HasTurned shard old new = slice_index old shard < slice_index new shard
 pub record TurnsBelow (count : ℕ) (old new : List ℕ) : Type 0 where
   pub below : (k : ℕ) → k < count → slice_index new k ≡ slice_index old k + 1
   pub others : (k : ℕ) → count ≤ k → slice_index new k ≡ slice_index old k
+
+-- The turns of the first shards were taken once each, but not of all, and no other.
+abbrev pub TurnsOfSome : ℕ → List ℕ → List ℕ → Type 0
+TurnsOfSome count old new = (n : ℕ) × (n < count) × TurnsBelow n old new
+
+-- The turn of the key's shard was taken once, and no other.
+abbrev pub OneTurnAt : GateState → ℕ → PinSeatState → PinSeatState → Type 0
+OneTurnAt gate key old new = OneTurnMore (shard_of (length gate.id) key) old.turns new.turns
+
+-- The turn of the key's shard may have been taken, and no other.
+abbrev pub TurnsAt : GateState → ℕ → PinSeatState → PinSeatState → Type 0
+TurnsAt gate key old new = TurnsOf (shard_of (length gate.id) key) old.turns new.turns
+
+-- The turn of the key's shard was taken.
+abbrev pub HasTurnedAt : GateState → ℕ → PinSeatState → PinSeatState → Type 0
+HasTurnedAt gate key old new = HasTurned (shard_of (length gate.id) key) old.turns new.turns
 
 -- The new seat has one permit and no pin, and has taken no turn.
 pub record IsSecondSeat (old seat : PinSeatState) : Type 0 where

@@ -5,7 +5,8 @@ use Rattle.tile_layout.specs.declared.cut.Cut.{Cut}
 use Rattle.tile_layout.specs.Cut.{IsCut}
 use Rattle.tile_store.specs.Tag.{tag_of}
 use Rattle.shard_gate.specs.Seated.{ShardId, SeatAt, shard_of_seat, IsMadeBy}
-use Rattle.shard_gate.specs.Gate.{GateState, PinSeatState, max_shards, max_passes, max_pins, max_budget}
+use Rattle.shard_gate.specs.Gate.{GateState, PinSeatState}
+use Rattle.shard_gate.specs.Gate.{max_shards, max_passes, max_pins, max_budget}
 
 -- the turns of a seat
 abbrev pub turns_of_seat : SeatAt → ℕ

@@ -4,7 +4,9 @@ use Rattle.atomic_table.specs.Table.{Me}
 use Rattle.atomic_table.specs.Seated.{TableId}
 use Rattle.atomic_table.specs.declared.shared.Seat.{Seat}
 use Rattle.shard_gate.specs.Turn.{word_count}
+use Rattle.std.specs.List.{All}
 use Rattle.shard_gate.specs.declared.standing.Standing.{Standing}
+use Rattle.shard_gate.specs.declared.rule.Terms.{Terms}
 
 -- Which shard it is. No two shards have the same.
 pub record ShardId : Type 0 where
@@ -15,10 +17,18 @@ pub record ShardId : Type 0 where
   -- the table that its words and its body lie in
   pub table : TableId
 
+-- the shard in this table, which was made with the terms
+abbrev pub shard_id : Terms → TableId → ShardId
+shard_id terms table = record { tag = terms.tag; passes = terms.passes; table = table }
+
 -- It was made with this tag and so many permits.
 pub record IsMadeBy (lawful_tag all_permits : ℕ) (id : ShardId) : Type 0 where
   pub tag : id.tag ≡ lawful_tag
   pub passes : id.passes ≡ all_permits
+
+-- Each was made with the terms.
+abbrev pub AreMadeBy : Terms → List ShardId → Type 0
+AreMadeBy terms ids = All (IsMadeBy terms.tag terms.passes) ids
 
 -- What is known of a seat at a shard.
 pub record SeatAt : Type 0 where

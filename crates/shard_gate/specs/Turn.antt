@@ -1,5 +1,5 @@
 -- What holds of a table between any two atomic steps, and what each kind of step tells its seat.
-use Rattle.std.specs.Prelude.{◌≡◌, ◌≢◌, ℕ, ◌+◌, ◌-◌, ◌≤◌, true, false, cond, [], ◌∷◌, length}
+use Rattle.std.specs.Prelude.{◌≡◌, ◌≢◌, ℕ, ◌+◌, ◌-◌, ◌≤◌, true, false, cond, List, [], ◌∷◌, length}
 use Rattle.std.specs.Prelude.{slice_index}
 use Rattle.std.specs.List.{sum_by}
 use mathlib.Core.Option.{some}
@@ -96,6 +96,10 @@ module _ {S : Type 0} where
   abbrev pub HasBody : (ℕ → S → Type 0) → Standing → Me S Standing → Type 0
   HasBody lawful old new =
       (body : S) × (new ≡ (with_turn old, (0, body) ∷ [])) × lawful old.tag body
+
+  -- These slots are one body, which is lawful for the tag.
+  abbrev pub AreLawful : (ℕ → S → Type 0) → ℕ → List (ℕ × S) → Type 0
+  AreLawful lawful tag slots = (body : S) × (slots ≡ (0, body) ∷ []) × lawful tag body
 
   -- A take that finds the turn free has it, and else nothing has changed.
   pub record Took (lawful : ℕ → S → Type 0) (step : Step S) (old : Me S Standing) (found : ℕ)

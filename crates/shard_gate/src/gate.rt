@@ -1,11 +1,14 @@
-ghost use Rattle.std.specs.Prelude.{◌≡◌, ℕ, ◌+◌, ◌-◌, ◌*◌, ◌<◌, ◌≤◌, [], length, slice_index, Contains};
-ghost use Rattle.std.specs.Prelude.{IfOk, IfErr, OnOk, OnErr, IfSome, OnSome, IfNone};
+ghost use Rattle.std.specs.Prelude.{◌≡◌, ◌+◌, ◌-◌, ◌*◌, ◌<◌, ◌≤◌, [], length, Contains};
+ghost use Rattle.std.specs.Prelude.{IfOk, IfErr, OnOk, OnErr, OnSome};
 ghost use Rattle.shard_gate.specs.Gate.{max_pins, shard_of, AreLimits, IsNewGate, IsFirstSeat};
 ghost use Rattle.shard_gate.specs.Gate.{IsTileOf, HasCellRect, SamePins, OnePinMore, OnePinLess};
-ghost use Rattle.shard_gate.specs.Gate.{OneTurnMore, TurnsOf, HasTurned, TurnsBelow, IsSameSeat};
+ghost use Rattle.shard_gate.specs.Gate.{OneTurnMore, TurnsBelow, TurnsOfSome, IsSameSeat};
+ghost use Rattle.shard_gate.specs.Gate.{TurnsAt, HasTurnedAt, OneTurnAt, CountsLawful};
+ghost use Rattle.shard_gate.specs.Gate.{IfFound, IfNotFound};
 ghost use Rattle.shard_gate.specs.Gate.{IsSecondSeat, AfterSplit, AfterJoin, GivesBackIfBusy};
 ghost use Rattle.std.specs.Arc.{arc_value};
 ghost use Rattle.tile_store.specs.Lawful.{FitsCut};
+ghost use Rattle.tile_store.specs.Tag.{tag_of};
 
 use crate::error::{NotPinned, NotUnpinned, PinError};
 use crate::laid::{laid, tag_for};
@@ -95,13 +98,13 @@ impl<W: World> Gate<W> {
     ) -> Result<Option<Pin<W>>, PinError<T::Busy>>
         requires gate { p.old.gate ≡ self.now.id }
         requires room { length p.old.pins < max_pins * p.old.permits }
-        ensures some { IfOk result (λ found. IfSome found (λ pin. IsTileOf W.files self.now.cut key pin.tile)) }
+        ensures some { IfFound result (λ pin. IsTileOf W.files self.now.cut key pin.tile) }
         // What the call leaves of the seat.
         ensures pinned { IfOk result (λ found. OnSome found (OnePinMore key p.old p.new)) }
-        ensures none { IfOk result (λ found. IfNone found (SamePins p.old p.new)) }
+        ensures none { IfNotFound result (SamePins p.old p.new) }
         ensures err { OnErr result (SamePins p.old p.new) }
-        ensures turns { TurnsOf (shard_of (length self.now.id) key) p.old.turns p.new.turns }
-        ensures turned { OnOk result (HasTurned (shard_of (length self.now.id) key) p.old.turns p.new.turns) }
+        ensures turns { TurnsAt self.now key p.old p.new }
+        ensures turned { OnOk result (HasTurnedAt self.now key p.old p.new) }
     {
         match self.find(waiter, p, key) {
             Ok(Some(tile)) => {
@@ -129,8 +132,8 @@ impl<W: World> Gate<W> {
         // What the call leaves of the seat.
         ensures pinned { OnOk result (OnePinMore tile.key p.old p.new) }
         ensures err { OnErr result (SamePins p.old p.new) }
-        ensures turns { TurnsOf (shard_of (length self.now.id) tile.key) p.old.turns p.new.turns }
-        ensures turned { OnOk result (HasTurned (shard_of (length self.now.id) tile.key) p.old.turns p.new.turns) }
+        ensures turns { TurnsAt self.now tile.key p.old p.new }
+        ensures turned { OnOk result (HasTurnedAt self.now tile.key p.old p.new) }
     {
         let key = tile.key();
         match self.insert(waiter, p, key, tile) {
@@ -153,7 +156,7 @@ impl<W: World> Gate<W> {
         requires gate { p.old.gate ≡ self.now.id }
         requires made { Contains p.old.pins pin.tile.key }
         ensures ok { OnOk result (OnePinLess pin.tile.key p.old p.new) }
-        ensures turns { OnOk result (OneTurnMore (shard_of (length self.now.id) pin.tile.key) p.old.turns p.new.turns) }
+        ensures turns { OnOk result (OneTurnAt self.now pin.tile.key p.old p.new) }
         ensures err { OnErr result (IsSameSeat p.old p.new) }
         ensures back { IfErr result (λ e. e.pin ≡ pin) }
     {
@@ -178,7 +181,7 @@ impl<W: World> Gate<W> {
     ) -> Result<(), T::Busy>
         requires { p.old.gate ≡ self.now.id }
         ensures ok { OnOk result (TurnsBelow (length self.now.id) p.old.turns p.new.turns) }
-        ensures err { OnErr result ((n : ℕ) × (n < length self.now.id) × TurnsBelow n p.old.turns p.new.turns) }
+        ensures err { OnErr result (TurnsOfSome (length self.now.id) p.old.turns p.new.turns) }
         ensures same { SamePins p.old p.new }
     {
         for shard in 0..self.tables.len() {
@@ -198,8 +201,10 @@ impl<W: World> Gate<W> {
     ) -> Result<ShardCount, T::Busy>
         requires gate { p.old.gate ≡ self.now.id }
         requires shard { shard < length self.now.id }
-        ensures within { IfOk result (λ count. count.loose ≤ count.share) }
+        ensures lawful { IfOk result (CountsLawful W.files (tag_of self.now.share self.now.cut)) }
         ensures share { IfOk result (λ count. count.share ≡ self.now.share) }
+        ensures within { IfOk result (λ count. count.loose ≤ count.share) }
+        // What the call leaves of the seat.
         ensures same { SamePins p.old p.new }
         ensures turns { OnOk result (OneTurnMore shard p.old.turns p.new.turns) }
         ensures err { OnErr result (IsSameSeat p.old p.new) }
@@ -238,6 +243,7 @@ impl<W: World> Gate<W> {
         requires other { other.gate ≡ self.now.id }
         requires pins { other.pins ≡ [] }
         ensures joined { AfterJoin other p.old p.new }
+        ensures few { p.new.permits ≤ self.now.passes }
     {
         let PinSeat {
             seats,
@@ -283,10 +289,10 @@ impl<W: World> Gate<W> {
         key: TileKey,
     ) -> Result<Option<Arc<Tile<W>>>, PinError<T::Busy>>
         requires { p.old.gate ≡ self.now.id }
-        ensures some { IfOk result (λ found. IfSome found (λ tile. IsTileOf W.files self.now.cut key (arc_value tile))) }
+        ensures some { IfFound result (λ tile. IsTileOf W.files self.now.cut key (arc_value tile)) }
         ensures same { SamePins p.old p.new }
-        ensures turns { TurnsOf (shard_of (length self.now.id) key) p.old.turns p.new.turns }
-        ensures turned { OnOk result (HasTurned (shard_of (length self.now.id) key) p.old.turns p.new.turns) }
+        ensures turns { TurnsAt self.now key p.old p.new }
+        ensures turned { OnOk result (HasTurnedAt self.now key p.old p.new) }
     {
         let shard = self.shard_of(key);
         self.tables[shard].find(waiter, &mut p.seats[shard], key)
@@ -306,8 +312,8 @@ impl<W: World> Gate<W> {
         ensures ok { IfOk result (λ kept. IsTileOf W.files self.now.cut tile.key (arc_value kept)) }
         ensures back { IfErr result (GivesBackIfBusy tile) }
         ensures same { SamePins p.old p.new }
-        ensures turns { TurnsOf (shard_of (length self.now.id) key) p.old.turns p.new.turns }
-        ensures turned { OnOk result (HasTurned (shard_of (length self.now.id) key) p.old.turns p.new.turns) }
+        ensures turns { TurnsAt self.now key p.old p.new }
+        ensures turned { OnOk result (HasTurnedAt self.now key p.old p.new) }
     {
         let shard = self.shard_of(key);
         let slots = PINS as u32 * self.passes + MORE_SLOTS;
@@ -323,7 +329,7 @@ impl<W: World> Gate<W> {
     ) -> Result<(), T::Busy>
         requires { p.old.gate ≡ self.now.id }
         ensures same { SamePins p.old p.new }
-        ensures turns { OnOk result (OneTurnMore (shard_of (length self.now.id) key) p.old.turns p.new.turns) }
+        ensures turns { OnOk result (OneTurnAt self.now key p.old p.new) }
         ensures err { OnErr result (IsSameSeat p.old p.new) }
     {
         let shard = self.shard_of(key);

@@ -1,8 +1,8 @@
 //! The shards of a new gate.
-ghost use Rattle.std.specs.Prelude.{◌≡◌, ◌≤◌, length, map, All, IfOk};
+ghost use Rattle.std.specs.Prelude.{◌≡◌, ◌≤◌, length, map, IfOk};
 ghost use Rattle.tile_layout.specs.Cut.{IsCut};
 ghost use Rattle.tile_store.specs.Tag.{tag_of};
-ghost use Rattle.shard_gate.specs.Seated.{IsMadeBy, first_seat};
+ghost use Rattle.shard_gate.specs.Seated.{AreMadeBy, first_seat};
 ghost use Rattle.shard_gate.specs.Gate.{max_budget};
 
 use crate::rule::Terms;
@@ -37,7 +37,7 @@ pub(crate) fn laid<W: World>(
     shards: usize,
     terms: &Terms,
 ) -> Result<(Vec<ShardTable<W>>, Vec<ShardSeat<W>>), AllocError>
-    ensures made { IfOk result (λ made. All (IsMadeBy terms.now.tag terms.now.passes) made.0.items) }
+    ensures made { IfOk result (λ made. AreMadeBy terms.now made.0.items) }
     ensures count { IfOk result (λ made. length made.0.items ≡ shards) }
     ensures seats { IfOk result (λ made. made.1.items ≡ map first_seat made.0.items) }
 {

@@ -1,16 +1,17 @@
 //! Visits to one shard: the seat takes the turn, works on the tiles, and gives the turn back.
-ghost use Rattle.std.specs.Prelude.{◌≡◌, ◌+◌, ◌<◌, ◌≤◌, OnOk, OnErr, IfOk, IfErr, IfSome};
+ghost use Rattle.std.specs.Prelude.{◌≡◌, ◌+◌, ◌<◌, ◌≤◌, OnOk, OnErr, IfOk, IfErr};
 ghost use Rattle.std.specs.Arc.{arc_value};
 ghost use Rattle.tile_store.specs.Tag.{share_of, cut_of};
 ghost use Rattle.tile_store.specs.Lawful.{FitsCut};
 ghost use Rattle.shard_gate.specs.Visit.{visited, HasVisited, GivesBackIfFull};
-ghost use Rattle.shard_gate.specs.Gate.{IsTileOf, GivesBackIfBusy};
+ghost use Rattle.shard_gate.specs.Visit.{FoundUnder, KeptUnder};
+ghost use Rattle.shard_gate.specs.Gate.{GivesBackIfBusy, CountsLawful};
 
 use crate::error::{NotFound, NotInserted, NotPinned, PinError};
 use crate::rule::BodyRule;
 use crate::turn_seat::TurnSeat;
 use crate::turn_table::TurnTable;
-use crate::work::{find_in, insert_in, release_in};
+use crate::work::{count_in, find_in, insert_in, release_in};
 use crossbeam_utils::CachePadded;
 use std::marker::PhantomData;
 use std::sync::Arc;
@@ -54,7 +55,7 @@ impl<W: World> ShardTable<W> {
         key: TileKey,
     ) -> Result<Result<Option<Arc<Tile<W>>>, NotFound>, T::Busy>
         requires { seat.old.shard ≡ self.now }
-        ensures some { IfOk result (λ answer. IfOk answer (λ found. IfSome found (λ tile. IsTileOf W.files (cut_of self.now.tag) key (arc_value tile)))) }
+        ensures some { IfOk result (FoundUnder arc_value W.files self.now.tag key) }
         ensures ok { OnOk result (seat.new ≡ visited seat.old) }
         ensures err { OnErr result (seat.new ≡ seat.old) }
     {
@@ -67,8 +68,8 @@ impl<W: World> ShardTable<W> {
         Ok(answer)
     }
 
-    /// Pins the tile of a key, if it is there. A shard that counts as many pins as it can is visited
-    /// again.
+    /// Pins the tile of a key, if it is there. A shard that counts as many pins as it can is
+    /// visited again.
     pub(crate) fn find<T: Waiter>(
         &self,
         waiter: &T,
@@ -76,7 +77,7 @@ impl<W: World> ShardTable<W> {
         key: TileKey,
     ) -> Result<Option<Arc<Tile<W>>>, PinError<T::Busy>>
         requires { seat.old.shard ≡ self.now }
-        ensures some { IfOk result (λ found. IfSome found (λ tile. IsTileOf W.files (cut_of self.now.tag) key (arc_value tile))) }
+        ensures some { FoundUnder arc_value W.files self.now.tag key result }
         ensures seat { HasVisited seat.old seat.new }
         ensures ok { OnOk result (seat.old.turns < seat.new.turns) }
     {
@@ -101,7 +102,7 @@ impl<W: World> ShardTable<W> {
     ) -> Result<Result<Arc<Tile<W>>, NotInserted<W>>, (Tile<W>, T::Busy)>
         requires shard { seat.old.shard ≡ self.now }
         requires fits { FitsCut W.files (cut_of self.now.tag) tile }
-        ensures some { IfOk result (λ answer. IfOk answer (λ kept. IsTileOf W.files (cut_of self.now.tag) tile.key (arc_value kept))) }
+        ensures some { IfOk result (KeptUnder arc_value W.files self.now.tag tile.key) }
         ensures full { IfOk result (λ answer. IfErr answer (GivesBackIfFull tile)) }
         ensures ok { OnOk result (seat.new ≡ visited seat.old) }
         ensures back { IfErr result (λ back. back.0 ≡ tile) }
@@ -126,7 +127,7 @@ impl<W: World> ShardTable<W> {
     ) -> Result<Arc<Tile<W>>, NotPinned<W, T::Busy>>
         requires shard { seat.old.shard ≡ self.now }
         requires fits { FitsCut W.files (cut_of self.now.tag) tile }
-        ensures some { IfOk result (λ kept. IsTileOf W.files (cut_of self.now.tag) tile.key (arc_value kept)) }
+        ensures some { KeptUnder arc_value W.files self.now.tag tile.key result }
         ensures back { IfErr result (GivesBackIfBusy tile) }
         ensures seat { HasVisited seat.old seat.new }
         ensures ok { OnOk result (seat.old.turns < seat.new.turns) }
@@ -200,8 +201,9 @@ impl<W: World> ShardTable<W> {
     ) -> Result<ShardCount, T::Busy>
         requires shard { seat.old.shard ≡ self.now }
         requires share { share_of self.now.tag ≡ share }
-        ensures within { IfOk result (λ count. count.loose ≤ count.share) }
+        ensures lawful { IfOk result (CountsLawful W.files self.now.tag) }
         ensures share { IfOk result (λ count. count.share ≡ share) }
+        ensures within { IfOk result (λ count. count.loose ≤ count.share) }
         ensures seat { HasVisited seat.old seat.new }
         ensures ok { OnOk result (seat.new ≡ visited seat.old) }
         ensures err { OnErr result (seat.new ≡ seat.old) }
@@ -210,12 +212,7 @@ impl<W: World> ShardTable<W> {
             return Err(busy);
         }
         let slot = seat.seat.slot_mut(&self.table.shared, 0);
-        let count = ShardCount {
-            tiles: slot.tiles(),
-            pins: slot.pins(),
-            loose: slot.loose(),
-            share,
-        };
+        let count = count_in(slot, share);
         self.give(&mut seat.seat);
         Ok(count)
     }

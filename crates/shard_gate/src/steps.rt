@@ -1,6 +1,7 @@
 //! The kinds of step, and what each tells its seat.
 ghost use Rattle.shard_gate.specs.Turn.{Took, Gave, Counted};
-ghost use Rattle.shard_gate.specs.Turn.{kept_standing, new_standing, both_standings, spent_standing};
+ghost use Rattle.shard_gate.specs.Turn.{kept_standing, new_standing};
+ghost use Rattle.shard_gate.specs.Turn.{both_standings, spent_standing};
 
 use crate::rule::BodyRule;
 use crate::standing::Standing;

@@ -1,5 +1,6 @@
-ghost use Rattle.std.specs.Prelude.{◌≡◌, ◌<◌, ◌≤◌, true, false, [], ◌∷◌, slice_index, IfOk, OnOk, OnErr};
-ghost use Rattle.shard_gate.specs.Turn.{turn_word, tag_word, HasBody, without_turn};
+ghost use Rattle.std.specs.Prelude.{◌≡◌, ◌<◌, ◌≤◌, true, false, [], ◌∷◌, slice_index};
+ghost use Rattle.std.specs.Prelude.{IfOk, OnOk, OnErr};
+ghost use Rattle.shard_gate.specs.Turn.{turn_word, tag_word, HasBody, AreLawful, without_turn};
 ghost use Rattle.shard_gate.specs.Seated.{IsIdle, seat_at, IsMadeBy, first_seat};
 ghost use Rattle.shard_gate.specs.Seated.{kept_seat, new_seat, both_seats};
 
@@ -38,11 +39,11 @@ pub(crate) struct TurnTable<S, L: BodyRule<S>> {
 }
 
 impl<S, L: BodyRule<S>> Model for TurnTable<S, L> {
-    ghost use Rattle.shard_gate.specs.Seated.{ShardId, IsLaid};
+    ghost use Rattle.shard_gate.specs.Seated.{ShardId, shard_id, IsLaid};
 
     ghost Value = { ShardId };
 
-    ghost view = { λ t. record { tag = t.table.shared.key.tag; passes = t.table.shared.key.passes; table = t.table.shared.table_id } };
+    ghost view = { λ t. shard_id t.table.shared.key t.table.shared.table_id };
 
     ghost invariant = { λ t. IsLaid t.table.shared.key.passes t.table.shared.table_id };
 }
@@ -108,7 +109,7 @@ impl<S: Drop, L: BodyRule<S>> TurnTable<S, L> {
     pub(crate) fn give(&self, seat: &mut Seat<S, Standing>)
         requires table { (seat_at seat.old).shard ≡ self.now }
         requires turn { (seat.old.me.0.live ≡ true) × (seat.old.me.0.has_turn ≡ true) }
-        requires lawful { (body : S) × (seat.old.me.1 ≡ (0, body) ∷ []) × L.lawful self.now.tag body }
+        requires lawful { AreLawful L.lawful self.now.tag seat.old.me.1 }
         ensures view { seat.new.me.0 ≡ without_turn seat.old.me.0 }
         ensures slots { seat.new.me.1 ≡ [] }
         ensures table { seat.new.table_id ≡ seat.old.table_id }

@@ -1,18 +1,18 @@
 //! What is done to the tiles of one shard while a seat has its turn. That a pin is there, and that
 //! there is room for one more, is tested on the tiles themselves.
-ghost use Rattle.std.specs.Prelude.{◌≡◌, ℕ, ◌+◌, ◌≤◌, ◌<◌, ◌^◌, IfOk, IfErr, IfSome, IsSomeAnd, OnErr};
+ghost use Rattle.std.specs.Prelude.{◌≡◌, ◌+◌, option_map, IfOk, IfErr, OnOk, OnErr};
 ghost use Rattle.std.specs.Arc.{arc_value};
-ghost use Rattle.tile_store.specs.Entry.{entry_at};
-ghost use Rattle.tile_store.specs.Tag.{share_of, cut_of};
-ghost use Rattle.tile_store.specs.Lawful.{FitsCut, Lawful};
-ghost use Rattle.shard_gate.specs.Gate.{IsTileOf};
-ghost use Rattle.shard_gate.specs.Visit.{GivesBackIfFull};
+ghost use Rattle.tile_store.specs.Entry.{tile_at, HasPin};
+ghost use Rattle.tile_store.specs.Changes.{pinned_first, inserted, kept_tile};
+ghost use Rattle.tile_store.specs.Tag.{share_of};
+ghost use Rattle.tile_store.specs.Lawful.{FitsTag, KeepsLawful, KeepsLawfulFor};
+ghost use Rattle.shard_gate.specs.Visit.{FoundAmong, KeptAmong, released, room_of};
+ghost use Rattle.shard_gate.specs.Visit.{MissedCause, TurnedDownCause, GivesBackIfFull, IsCountOf};
 
 use crate::error::{NotFound, NotInserted};
-use std::cmp::max;
 use std::sync::Arc;
 use tex_world::World;
-use tile_layout::TileKey;
+use tile_layout::{ShardCount, TileKey};
 use tile_store::{Shard, Tile};
 
 /// Pins the tile of a key, if it is there.
@@ -20,9 +20,14 @@ pub(crate) fn find_in<W: World>(
     shard: &mut Shard<W>,
     key: TileKey,
 ) -> Result<Option<Arc<Tile<W>>>, NotFound>
-    ensures some { (tag : ℕ) → Lawful W.files tag shard.old → IfOk result (λ found. IfSome found (λ tile. IsTileOf W.files (cut_of tag) key (arc_value tile))) }
+    // None comes exactly where no entry has the key.
+    ensures found { IfOk result (λ tile. option_map arc_value tile ≡ tile_at key shard.old) }
+    ensures cause { IfErr result (MissedCause shard.old) }
+    ensures some { FoundAmong arc_value W.files shard.old key result }
+    // What the call leaves.
+    ensures entries { OnOk result (shard.new ≡ pinned_first key shard.old) }
     ensures err { OnErr result (shard.new ≡ shard.old) }
-    ensures lawful { (tag : ℕ) → Lawful W.files tag shard.old → Lawful W.files tag shard.new }
+    ensures lawful { KeepsLawful W.files shard.old shard.new }
 {
     if shard.pins() == u32::MAX {
         return Err(NotFound::Full);
@@ -39,17 +44,20 @@ pub(crate) fn insert_in<W: World>(
     tile: Tile<W>,
     slots: u32,
 ) -> Result<Arc<Tile<W>>, NotInserted<W>>
-    ensures ok { (tag : ℕ) → Lawful W.files tag shard.old → FitsCut W.files (cut_of tag) tile → IfOk result (λ kept. IsTileOf W.files (cut_of tag) tile.key (arc_value kept)) }
-    ensures err { OnErr result (shard.new ≡ shard.old) }
+    ensures kept { IfOk result (λ kept. arc_value kept ≡ kept_tile tile shard.old) }
     ensures back { IfErr result (GivesBackIfFull tile) }
-    ensures lawful { (tag : ℕ) → FitsCut W.files (cut_of tag) tile → Lawful W.files tag shard.old → Lawful W.files tag shard.new }
+    ensures cause { IfErr result (TurnedDownCause shard.old) }
+    ensures ok { KeptAmong arc_value W.files shard.old tile result }
+    // What the call leaves.
+    ensures entries { OnOk result (shard.new ≡ inserted tile (room_of slots shard.old) shard.old) }
+    ensures err { OnErr result (shard.new ≡ shard.old) }
+    ensures lawful { KeepsLawfulFor W.files (FitsTag W.files tile) shard.old shard.new }
 {
     let pins = shard.pins();
     if pins == u32::MAX {
         return Err(NotInserted::Full(tile));
     }
-    let room = max(slots, pins + 1);
-    match shard.insert_pin(tile, room as usize) {
+    match shard.insert_pin(tile, slots.max(pins + 1) as usize) {
         Ok(kept) => Ok(kept),
         Err(_) => Err(NotInserted::NoMemory),
     }
@@ -57,10 +65,24 @@ pub(crate) fn insert_in<W: World>(
 
 /// Takes a pin from the tile of a key. Where it has none, nothing changes.
 pub(crate) fn release_in<W: World>(shard: &mut Shard<W>, key: TileKey, share: u64)
-    ensures unpinned { ¬ IsSomeAnd (entry_at key shard.old) (λ entry. 1 ≤ entry.pins) → shard.new ≡ shard.old }
-    ensures lawful { (tag : ℕ) → share_of tag ≡ share → Lawful W.files tag shard.old → Lawful W.files tag shard.new }
+    ensures pinned { HasPin key shard.old → shard.new ≡ released share key shard.old }
+    ensures unpinned { ¬ HasPin key shard.old → shard.new ≡ shard.old }
+    ensures lawful { KeepsLawfulFor W.files (λ tag. share_of tag ≡ share) shard.old shard.new }
 {
     if shard.is_pinned(key) {
         shard.release(key, share);
+    }
+}
+
+/// What a shard has, whose unpinned tiles may take so many bytes.
+pub(crate) fn count_in<W: World>(shard: &Shard<W>, share: u64) -> ShardCount
+    ensures value { IsCountOf shard.now result }
+    ensures share { result.share ≡ share }
+{
+    ShardCount {
+        tiles: shard.tiles(),
+        pins: shard.pins(),
+        loose: shard.loose(),
+        share,
     }
 }

@@ -42,8 +42,8 @@ part_value entry part k =
     number_at entry.form.big (type_size entry.kind) part (type_size entry.kind * k)
 
 -- the bytes are those of these values
-abbrev pub AreValues : Entry → List ℕ → (ℕ → ℕ) → Type 0
-AreValues entry part value =
+abbrev pub SpellValues : Entry → List ℕ → (ℕ → ℕ) → Type 0
+SpellValues entry part value =
     (k : ℕ) → type_size entry.kind * k + type_size entry.kind ≤ length part
     → part_value entry part k ≡ value k
 

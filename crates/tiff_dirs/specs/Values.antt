@@ -31,12 +31,12 @@ first_other form bytes at field samples =
 -- ---- for each block
 
 -- n numbers stand behind the old ones
-pub record Appends (n : ℕ) (number : ℕ → ℕ) (old new : List ℕ) : Type 0 where
+pub record AppendsNumbers (n : ℕ) (number : ℕ → ℕ) (old new : List ℕ) : Type 0 where
   pub long : length new ≡ length old + n
   pub same : (k : ℕ) → k < length old → slice_index new k ≡ slice_index old k
   pub more : (k : ℕ) → k < n → slice_index new (length old + k) ≡ number k
 
 -- they are these values, from the first on
-pub record AreFirst (n : ℕ) (value : ℕ → ℕ) (kept : List ℕ) : Type 0 where
+pub record AreFirstValues (n : ℕ) (value : ℕ → ℕ) (kept : List ℕ) : Type 0 where
   pub long : length kept ≡ n
   pub same : (i : ℕ) → i < n → slice_index kept i ≡ value i

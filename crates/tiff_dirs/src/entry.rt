@@ -7,7 +7,7 @@ ghost use Rattle.tiff_dirs.specs.Form.{entry_bytes, offset_bytes};
 ghost use Rattle.tiff_dirs.specs.Field.{type_size, entry_value};
 ghost use Rattle.tiff_dirs.specs.Reader.{IsPartAt};
 ghost use Rattle.tiff_dirs.specs.Entries.{IsEntry, is_shaped, is_read, part_value};
-ghost use Rattle.tiff_dirs.specs.Entries.{AreValues};
+ghost use Rattle.tiff_dirs.specs.Entries.{SpellValues};
 ghost use Rattle.tiff_dirs.specs.Dirs.{Leaves};
 ghost use Rattle.tiff_dirs.specs.Calls.{Reads};
 
@@ -124,7 +124,7 @@ impl Entry {
             ≤ self.now.count * type_size self.now.kind }
         ensures told { ForSome (B.bytes b.old) (λ bytes.
             (place : ℕ) → IsEntry bytes place self.now → Reads
-            (λ _. AreValues self.now part.new
+            (λ _. SpellValues self.now part.new
             (λ k. entry_value self.now.form bytes place (from + k))) result) }
         ensures reader { Leaves B.keeps B.refuses b.old b.new result }
     {

@@ -8,7 +8,7 @@ ghost use Rattle.tiff_dirs.specs.Fault.{count_fault};
 ghost use Rattle.tiff_dirs.specs.Dirs.{Leaves};
 ghost use Rattle.tiff_dirs.specs.Field.{type_size, entry_value, field_values};
 ghost use Rattle.tiff_dirs.specs.Entries.{IsEntry, is_shaped, is_read, part_value};
-ghost use Rattle.tiff_dirs.specs.Values.{Appends, AreFirst, max_values};
+ghost use Rattle.tiff_dirs.specs.Values.{AppendsNumbers, AreFirstValues, max_values};
 ghost use Rattle.tiff_dirs.specs.Shape.{seen_shape};
 ghost use Rattle.tiff_dirs.specs.Calls.{Finds, Reads, OfEntries};
 
@@ -28,7 +28,7 @@ fn append_values(values: &mut Vec<u64>, entry: &Entry, part: &[u8], more: usize)
     requires room { type_size entry.now.kind * more ≤ length part.now }
     requires reserved { vec_len values.old + more ≤ vec_capacity values.old }
     ensures capacity { vec_capacity values.new ≡ vec_capacity values.old }
-    ensures appends { Appends more (part_value entry.now part.now)
+    ensures appends { AppendsNumbers more (part_value entry.now part.now)
         values.old.items values.new.items }
 {
     for k in 0..more {
@@ -52,8 +52,8 @@ fn read_more<B: ByteReader>(
     ensures told { ForSome (B.bytes b.old) (λ bytes. (place : ℕ)
         → IsEntry bytes place entry.now →
         let value = entry_value entry.now.form bytes place in
-        AreFirst (length values.old.items) value values.old.items
-        → Reads (λ _. AreFirst (length values.new.items) value values.new.items) result) }
+        AreFirstValues (length values.old.items) value values.old.items
+        → Reads (λ _. AreFirstValues (length values.new.items) value values.new.items) result) }
     ensures grown { OnOk result (length values.new.items ≡ length values.old.items + more) }
     ensures capacity { vec_capacity values.new ≡ vec_capacity values.old }
     ensures reader { Leaves B.keeps B.refuses b.old b.new result }
@@ -80,7 +80,8 @@ fn read_all<B: ByteReader>(
     requires none { length values.old.items ≡ 0 }
     ensures told { ForSome (B.bytes b.old) (λ bytes. (place : ℕ)
         → IsEntry bytes place entry.now → Reads
-        (λ _. AreFirst count (entry_value entry.now.form bytes place) values.new.items) result) }
+        (λ _. AreFirstValues count (entry_value entry.now.form bytes place)
+        values.new.items) result) }
     ensures count { OnOk result (length values.new.items ≡ count) }
     ensures reader { Leaves B.keeps B.refuses b.old b.new result }
 {
@@ -103,7 +104,7 @@ fn first_of_entry<B: ByteReader>(
     requires enough { count ≤ entry.now.count }
     ensures told { ForSome (B.bytes b.old) (λ bytes. (place : ℕ)
         → IsEntry bytes place entry.now → Reads (λ values.
-        AreFirst count (entry_value entry.now.form bytes place) values.items) result) }
+        AreFirstValues count (entry_value entry.now.form bytes place) values.items) result) }
     ensures count { IfOk result (λ values. length values.items ≡ count) }
     ensures reader { Leaves B.keeps B.refuses b.old b.new result }
 {

@@ -7,3 +7,6 @@ pub mod SampleValues
 pub mod RowValues
 pub mod RectValues
 pub mod Regions
+pub mod KnownLayouts
+pub mod RunValues
+pub mod WholeRows

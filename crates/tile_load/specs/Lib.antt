@@ -2,6 +2,7 @@ pub mod Region
 pub mod Overlap
 pub mod SampleValue
 pub mod Window
+pub mod Run
 pub mod LevelRow
 pub mod RegionRead
 pub mod Load

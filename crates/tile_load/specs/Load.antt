@@ -2,6 +2,7 @@
 use Rattle.std.specs.Prelude.{◌≡◌, ℕ, ◌<◌, List, None}
 use Rattle.tiff_dirs.specs.Level.{first_fault}
 use Rattle.tex_world.specs.Tap.{Named}
+use Rattle.file_table.specs.Record.{RecordState}
 use Rattle.tile_layout.specs.declared.cut.Cut.{Cut}
 use Rattle.tile_layout.specs.declared.rect.Rect.{Rect}
 use Rattle.tile_layout.specs.Key.{generation_of, file_of, level_of, index_of}
@@ -13,6 +14,11 @@ use Rattle.tile_layout.specs.Pieces.{LiesOnLevel}
 pub record IsLayoutOf (bytes : List ℕ) (layout : Kept) : Type 0 where
   pub good : first_fault bytes ≡ None
   pub kept : layout ≡ kept_of bytes
+
+-- the record is of the file and the generation that the handle reads
+pub record IsReadBy (handle : Named) (state : RecordState) : Type 0 where
+  pub file : state.file ≡ handle.file
+  pub generation : state.generation ≡ handle.generation
 
 -- the key names a cell of a stored level, in the file and the generation that the handle reads
 pub record NamesCell (handle : Named) (layout : Kept) (cut : Cut) (key : ℕ) : Type 0 where

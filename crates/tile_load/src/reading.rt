@@ -19,10 +19,10 @@ use crate::unpacking::Unpacking;
 use crate::window::{Window, ready};
 use std::alloc::{AllocError, Global};
 use tiff_dirs::ByteReader;
-use tile_layout::{Piece, Pieces};
+use tile_layout::{Piece, Pieces, Rect};
 
 /// The most bytes that the windows of a row read ahead, all together.
-const MAX_AHEAD: u64 = 256 * 1024;
+pub(crate) const MAX_AHEAD: u64 = 256 * 1024;
 
 /// The values that were read, and a window for each piece of a row.
 #[derive(Drop)]
@@ -56,6 +56,17 @@ impl Reading {
             windows: Vec::new(alloc),
             rows,
         }
+    }
+
+    /// Finds memory for the samples of a rectangle, so many of a texel.
+    pub(crate) fn reserve(&mut self, rect: Rect, channels: usize) -> Result<(), AllocError>
+        ensures values { self.new.values.items ≡ self.old.values.items }
+        ensures windows { self.new.windows.items ≡ self.old.windows.items }
+    {
+        let texels = u64::from(rect.w) * u64::from(rect.h);
+        let count = texels.checked_mul(channels as u64).ok_or(AllocError)?;
+        self.values.reserve(count as usize)?;
+        Ok(())
     }
 
     /// Appends n values of 0.
@@ -108,8 +119,8 @@ impl Reading {
         Ok(())
     }
 
-    /// Appends the numbers of the texels of the pieces of rows. Of each row the k-th is read through
-    /// window k.
+    /// Appends the numbers of the texels of the pieces of rows. Of each row the k-th is read
+    /// through window k.
     pub(crate) fn read_pieces<B: ByteReader>(
         &mut self,
         reader: &mut B,

@@ -1,23 +1,21 @@
 //! The calls of a shard, each after the test of its condition.
-use crate::untold::Untold;
+use tex_world::World;
 use tile_layout::TileKey;
 use tile_store::{Shard, Tile};
 
-pub type OneShard = Shard<Untold>;
-
 // Whether the tile of the key was there.
-pub fn find(shard: &mut OneShard, key: TileKey) -> bool {
+pub fn find<W: World>(shard: &mut Shard<W>, key: TileKey) -> bool {
     shard.pins() < u32::MAX && matches!(shard.find_pin(key), Ok(Some(_)))
 }
 
 // Whether a tile is kept.
-pub fn insert(shard: &mut OneShard, tile: Tile<Untold>, slots: u32) -> bool {
+pub fn insert<W: World>(shard: &mut Shard<W>, tile: Tile<W>, slots: u32) -> bool {
     let pins = shard.pins();
     pins < slots && pins < u32::MAX && shard.insert_pin(tile, slots as usize).is_ok()
 }
 
 // Whether there was a pin.
-pub fn release(shard: &mut OneShard, key: TileKey, share: u64) -> bool {
+pub fn release<W: World>(shard: &mut Shard<W>, key: TileKey, share: u64) -> bool {
     let pinned = shard.is_pinned(key);
     if pinned {
         shard.release(key, share);
@@ -26,6 +24,6 @@ pub fn release(shard: &mut OneShard, key: TileKey, share: u64) -> bool {
 }
 
 // Its tiles, its pins and its unpinned bytes.
-pub fn counts(shard: &OneShard) -> [u64; 3] {
+pub fn counts<W: World>(shard: &Shard<W>) -> [u64; 3] {
     [shard.tiles() as u64, shard.pins() as u64, shard.loose()]
 }

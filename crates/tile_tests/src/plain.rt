@@ -1,6 +1,6 @@
 //! A few thousand calls of a shard beside a plain list that is walked for each.
-use crate::calls::{OneShard, counts, find, insert, release};
-use crate::untold::gray;
+use crate::calls::{counts, find, insert, release};
+use crate::untold::{OneShard, gray};
 use std::alloc::{AllocError, Global};
 use std::test::Fail;
 use tile_layout::TileKey;

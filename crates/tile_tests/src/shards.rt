@@ -1,34 +1,12 @@
 //! One shard, call by call.
-use crate::calls::{OneShard, counts, find, insert, release};
-use crate::untold::gray;
+use crate::calls::{counts, find, insert, release};
+use crate::untold::{OneShard, gray};
 use std::test::Fail;
 use tile_layout::TileKey;
 
 const SHARE: u64 = 4000;
 
 const SLOTS: u32 = 1031;
-
-// Cells of 12288 and 3072 bytes, under a share of 4000.
-#[test]
-fn keeps_what_fits_the_share(rt: HostRuntime) -> Result<(), Fail> {
-    let (large, small) = (TileKey::new(1, 1, 0, 0), TileKey::new(1, 1, 0, 1));
-    let mut shard = OneShard::new(rt.alloc());
-    assert!(rt; insert(&mut shard, gray(rt.alloc(), large, 64, 32)?, SLOTS));
-    assert!(rt; insert(&mut shard, gray(rt.alloc(), small, 16, 32)?, SLOTS));
-    assert_eq!(rt; counts(&shard), [2, 2, 0]);
-    assert!(rt; release(&mut shard, small, SHARE));
-    assert_eq!(rt; counts(&shard), [2, 1, 3072]);
-    assert!(rt; release(&mut shard, large, SHARE));
-    assert_eq!(rt;
-        counts(&shard),
-        [1, 0, 3072],
-        "the large one was the last unpinned"
-    );
-    assert!(rt; !find(&mut shard, large));
-    assert!(rt; find(&mut shard, small));
-    assert_eq!(rt; counts(&shard), [1, 1, 0]);
-    Ok(())
-}
 
 // A second tile under a key that is there is given up.
 #[test]

@@ -5,7 +5,9 @@ ghost use Rattle.tile_tests.specs.Untold.{untold, untold_is_world};
 use std::alloc::{AllocError, Global};
 use tex_world::World;
 use tile_layout::{Rect, TileKey};
-use tile_store::Tile;
+use tile_store::{Shard, Tile};
+
+pub type OneShard = Shard<Untold>;
 
 #[derive(Drop)]
 pub struct Untold;

@@ -8,11 +8,11 @@ use Rattle.std.proofs.Math.Nat.{mul-mod_left}
 use Rattle.tiff_dirs.specs.Texel.{greatest_sample, unwhite}
 use Rattle.unpack.specs.Sample.{is_white}
 
--- the first n pixels follow the rule, and the samples behind them are as they were
-pub record FollowTo (depth channels n : ℕ) (old new : List ℕ) : Type 0 where
-  pub below : (k : ℕ) → k < length old → k < n * channels
+-- the samples before a place follow the rule, and those behind it are as they were
+pub record FollowTo (depth channels place : ℕ) (old new : List ℕ) : Type 0 where
+  pub below : (k : ℕ) → k < length old → k < place
       → get_or new k 0 ≡ unwhite (is_white channels k) depth (get_or old k 0)
-  pub above : (k : ℕ) → n * channels ≤ k → get_or new k 0 ≡ get_or old k 0
+  pub above : (k : ℕ) → place ≤ k → get_or new k 0 ≡ get_or old k 0
 
 -- the first sample of a pixel is of channel 0
 white_first : (channels n : ℕ) → 0 < channels → is_white channels (n * channels) ≡ true
@@ -31,8 +31,8 @@ white_other channels n k low high =
 -- one pixel more
 pub pixel_more : (depth channels n v : ℕ) (old new : List ℕ) → 0 < channels
     → n * channels < length new → v ≡ greatest_sample depth - get_or new (n * channels) 0
-    → FollowTo depth channels n old new
-    → FollowTo depth channels (n + 1) old (set new (n * channels) v)
+    → FollowTo depth channels (n * channels) old new
+    → FollowTo depth channels ((n + 1) * channels) old (set new (n * channels) v)
 pixel_more depth channels n v old new some inside is before = record {
   below = λ k within lt. elim (cases_order k (n * channels)) [
     | inl here ↦

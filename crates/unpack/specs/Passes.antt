@@ -18,3 +18,9 @@ abbrev pub AreUnwhite : Bool → ℕ → List ℕ → List ℕ → Type 0
 AreUnwhite wide channels old new =
     (k : ℕ) → k < length old
     → slice_index new k ≡ unwhite (is_white channels k) (depth_of wide) (slice_index old k)
+
+-- of each of so many samples it has the bits that the white rule flips: all of its depth, or none
+abbrev pub IsWhiteMask : Bool → ℕ → ℕ → List ℕ → Type 0
+IsWhiteMask wide channels size mask =
+    (k : ℕ) → k < size
+    → slice_index mask k ≡ unwhite (is_white channels k) (depth_of wide) 0

@@ -1,11 +1,20 @@
 //! The two passes over the samples of a block: the stored numbers, and the white rule.
 
-ghost use Rattle.std.specs.Prelude.{◌≡◌, ◌*◌, ◌<◌, ℕ, length, slice_index};
+ghost use Rattle.std.specs.Prelude.{◌≡◌, ◌+◌, ◌*◌, ◌<◌, ◌≤◌, ℕ, length, slice_index, bit_xor};
 ghost use Rattle.tiff_dirs.specs.Texel.{greatest_sample};
 ghost use Rattle.unpack.specs.Sample.{depth_of, sample_size};
-ghost use Rattle.unpack.specs.Passes.{AreLow, AreStored, AreUnwhite};
+ghost use Rattle.unpack.specs.Passes.{AreLow, AreStored, AreUnwhite, IsWhiteMask};
 
 use byteorder::{BigEndian, ByteOrder, LittleEndian};
+
+/// The most channels that a mask serves: of more, writing the first of each pixel is as fast.
+const MASK_CHANNELS: usize = 4;
+/// The pixels of a mask: a multiple of the lanes of any vector.
+const MASK_PIXELS: usize = 32;
+/// The samples of a mask of the most channels.
+const MASK_SAMPLES: usize = 128;
+/// The fewest samples for which a mask is made: for fewer it costs more than it saves.
+const MASK_WORTH: usize = 1024;
 
 /// Writes the number that each sample is stored as.
 pub fn read_stored(wide: bool, big: bool, src: &[u8], dst: &mut [u16])
@@ -41,6 +50,7 @@ pub fn invert_white(wide: bool, channels: usize, dst: &mut [u16])
     match channels {
         0 => {}
         1 => invert_all(wide, dst),
+        2..=MASK_CHANNELS if dst.len() >= MASK_WORTH => invert_blocks(wide, channels, dst),
         _ => invert_first(wide, channels, dst),
     }
 }
@@ -73,5 +83,68 @@ fn invert_first(wide: bool, channels: usize, dst: &mut [u16])
     for pixel in 0..dst.len().div_ceil(channels) {
         let k = pixel * channels;
         dst[k] = most - dst[k];
+    }
+}
+
+/// Inverts the first sample of each pixel, block by block, with no test of a sample's channel: so
+/// its loops become vector code.
+fn invert_blocks(wide: bool, channels: usize, dst: &mut [u16])
+    requires some { 0 < channels }
+    requires few { channels ≤ MASK_CHANNELS }
+    requires low { AreLow wide dst.old }
+    ensures { AreUnwhite wide channels dst.old dst.new }
+{
+    let mask = white_mask(wide, channels);
+    let size = MASK_PIXELS * channels;
+    for block in 0..dst.len().div_ceil(size) {
+        let start = block * size;
+        let end = start + size.min(dst.len() - start);
+        flip_range(&mask, start, end, dst);
+    }
+}
+
+/// The bits that the white rule flips in the samples of so many pixels.
+fn white_mask(wide: bool, channels: usize) -> [u16; MASK_SAMPLES]
+    requires some { 0 < channels }
+    requires few { channels ≤ MASK_CHANNELS }
+    ensures { IsWhiteMask wide channels (MASK_PIXELS * channels) result }
+{
+    let mut mask = [0; MASK_SAMPLES];
+    mark_white(wide, channels, &mut mask);
+    mask
+}
+
+/// Makes such a mask of zeros.
+fn mark_white(wide: bool, channels: usize, mask: &mut [u16])
+    requires some { 0 < channels }
+    requires few { channels ≤ MASK_CHANNELS }
+    requires room { length mask.old ≡ MASK_SAMPLES }
+    requires blank { (k : ℕ) → k < length mask.old → slice_index mask.old k ≡ 0 }
+    ensures { IsWhiteMask wide channels (MASK_PIXELS * channels) mask.new }
+{
+    invert_first(wide, channels, &mut mask[..MASK_PIXELS * channels]);
+}
+
+/// Flips the bits of a mask in the samples of a range.
+fn flip_range(mask: &[u16], start: usize, end: usize, dst: &mut [u16])
+    requires order { start ≤ end }
+    requires inside { end ≤ length dst.old }
+    requires room { end ≤ start + length mask.now }
+    ensures before { (k : ℕ) → k < start → slice_index dst.new k ≡ slice_index dst.old k }
+    ensures within { (k : ℕ) → start + k < end → slice_index dst.new (start + k)
+        ≡ bit_xor (slice_index dst.old (start + k)) (slice_index mask.now k) }
+    ensures behind { (k : ℕ) → end ≤ k → slice_index dst.new k ≡ slice_index dst.old k }
+{
+    flip(mask, &mut dst[start..end]);
+}
+
+/// Flips the bits of a mask in each sample.
+fn flip(mask: &[u16], dst: &mut [u16])
+    requires { length dst.old ≤ length mask.now }
+    ensures { (k : ℕ) → k < length dst.new
+        → slice_index dst.new k ≡ bit_xor (slice_index dst.old k) (slice_index mask.now k) }
+{
+    for (k, sample) in dst.iter_mut().enumerate() {
+        *sample ^= mask[k];
     }
 }

@@ -1,7 +1,7 @@
 use Rattle.std.proofs.Common.{◌≡◌, ◌+◌, ◌-◌, ◌*◌, ◌^◌, ◌<◌, ◌≤◌, length, take, fold, true}
 use Rattle.std.specs.Char.{is_ascii_digit}
 use Rattle.std.specs.List.{list_all}
-use Rattle.request_lang.specs.Field.{max_digits}
+use Rattle.request_lang.specs.LineField.{max_digits}
 use Rattle.request_lang.proofs.digits.leading_digits.Given as goal
 
 abbrev pub invariant-digits : goal.invariant-digits

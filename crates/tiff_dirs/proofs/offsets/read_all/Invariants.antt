@@ -2,7 +2,7 @@ use Rattle.std.proofs.Common.{ℕ, ◌-◌, ◌≤◌, length, vec_len, vec_capa
 use Rattle.std.specs.Option.{ForSome}
 use Rattle.tiff_dirs.specs.Field.{entry_value}
 use Rattle.tiff_dirs.specs.Entries.{IsEntry}
-use Rattle.tiff_dirs.specs.Values.{AreFirst}
+use Rattle.tiff_dirs.specs.Values.{AreFirstValues}
 use Rattle.tiff_dirs.proofs.offsets.read_all.Given as goal
 
 abbrev pub invariant-values : goal.invariant-values
@@ -12,7 +12,7 @@ invariant-values g l = record {
   keeps : g.B.ByteReader.keeps l.fn.b l.b;
   told : ForSome (g.B.ByteReader.bytes l.fn.b)
       (λ bytes. (place : ℕ) → IsEntry bytes place l.entry
-      → AreFirst (length l.values.items) (entry_value l.entry.form bytes place) l.values.items);
+      → AreFirstValues (length l.values.items) (entry_value l.entry.form bytes place) l.values.items);
 }
 
 abbrev pub decreases-values : goal.decreases-values

@@ -6,7 +6,7 @@ use Rattle.tiff_dirs.specs.Block.{shape_at, blocks_of, offsets_tag}
 use Rattle.tiff_dirs.specs.Shape.{seen_shape}
 use Rattle.tiff_dirs.specs.Fault.{count_fault}
 use Rattle.tiff_dirs.specs.Entries.{is_shaped}
-use Rattle.tiff_dirs.specs.Values.{AreFirst}
+use Rattle.tiff_dirs.specs.Values.{AreFirstValues}
 use Rattle.tiff_dirs.proofs.Saying.{finds_so}
 use Rattle.tiff_dirs.proofs.FieldValues.{absent_values, misshapen_values, shaped_values}
 use Rattle.tiff_dirs.proofs.Gathering.{first_is_taken}
@@ -76,7 +76,7 @@ returns-clause-told g c = λ bytes is form at has shape.
     let there : get_or all i 0 ≡ value i = rw (← tag) (v.each i
     (omega (arith, all-long))) in there in
     finds_so None (count_fault form bytes at)
-    (λ (offsets : Vec ℕ Global). AreFirst c.blocks-blocks.result value offsets.items)
+    (λ (offsets : Vec ℕ Global). AreFirstValues c.blocks-blocks.result value offsets.items)
     (λ (offsets : Vec ℕ Global). offsets.items ≡ take n all)
     c.first_of_entry.result (c.first_of_entry.ensures.told bytes is v.place v.is)
     (enough form bytes at le)

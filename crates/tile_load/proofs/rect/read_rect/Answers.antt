@@ -1,37 +1,34 @@
-use Rattle.std.proofs.Common.{◌≡◌, ◌*◌, ℕ, List, length, ap, ◌∙◌, arith, sym, subst}
-use Rattle.tiff_dirs.specs.Block.{Level}
+use Rattle.std.proofs.Common.{◌≡◌, ◌+◌, ◌*◌, ◌≤◌, Bool, length, ◌∙◌, false, refl, subst}
+use Rattle.tiff_dirs.specs.Block.{texel_bytes}
 use Rattle.tiff_dirs.specs.Texel.{sample_in}
-use Rattle.tile_layout.specs.Blocks.{HoldsBlocks}
 use Rattle.tile_layout.specs.Kept.{level_in}
-use Rattle.tile_layout.specs.Pieces.{Walk, rect_texels}
-use Rattle.tile_layout.proofs.TexelLemmas.{length-rect_texels}
-use Rattle.tile_load.proofs.RectValues.{are_texels}
+use Rattle.tile_layout.specs.Texel.{AreTexelsOn}
 use Rattle.tile_load.proofs.SampleValues.{own_order}
+use Rattle.tile_load.proofs.WholeRows.{column_of, row_of, run_stands, run_texels, ok_by}
 use Rattle.tile_load.proofs.rect.read_rect.Goals as goal
 
-pub returns-clause-count : goal.returns-clause-count
-returns-clause-count g c =
+pub returns-in-Some-clause-told : goal.returns-in-Some-clause-told
+returns-in-Some-clause-told g c = λ bytes told holds.
     let level = level_in c.args.layout.now c.args.level in
-    let none : length c.new-reading.result.values.items ≡ 0 = ap length c.new-reading.ensures.values in
-    let texels : length c.pieces-pieces.result.texels ≡ c.args.rect.w * c.args.rect.h =
-    ap (λ (w : Walk). length w.texels) c.pieces-pieces.ensures.value
-    ∙ length-rect_texels c.args.rect in
-    let channels = c.format-format.ensures.value.channels in
-    let all : length c.pieces-pieces.result.texels * c.format-format.result.channels
-    ≡ c.args.rect.w * c.args.rect.h * level.shape.channels =
-    rw (texels, channels) (omega arith) in
-    omega (arith, c.in_ok-read_pieces.ensures.count, none, all)
-
-pub returns-clause-told : goal.returns-clause-told
-returns-clause-told g c = λ bytes told holds.
-    let big = c.args.layout.now.big in
-    let level = level_in c.args.layout.now c.args.level in
-    let format_is = c.format-format.ensures.value in
-    let format = own_order big level.shape c.format-format.result format_is in
-    let walk = c.pieces-pieces.ensures.value in
-    let level_is = ap (λ (w : Walk). w.level) walk in
-    let read = c.in_ok-read_pieces.ensures.told bytes told (rw c.new-reading.ensures.windows tt)
-    (rw level_is format) (subst (λ (l : Level). HoldsBlocks bytes l) (sym level_is) holds) in
-    let all = rw (walk, format_is.order, c.new-reading.ensures.values) at read in
-    are_texels (sample_in big bytes level) level.shape.channels c.args.rect
-    c.read_pieces.new.self.values.items all.1
+    let rect = c.args.rect in
+    let channels = level.shape.channels in
+    let run = c.in-Some.run' in
+    let whole = c.in-Some.ensures.whole in
+    let count : run.texels ≡ rect.w * rect.h = c.in-Some.ensures.texels in
+    let format = c.format.result in
+    let is = c.format.ensures.value in
+    let own = own_order c.args.layout.now.big level.shape format is in
+    let unit : format.texel_bytes ≡ texel_bytes level.shape =
+    rw (← is.channels, ← is.depth) format.in_range.bytes in
+    let inside : run.at + run.texels * format.texel_bytes ≤ length bytes =
+    rw (unit, count) (whole.inside bytes holds) in
+    ok_by c.read_run.result
+    (λ samples long values.
+    let all : length samples.items ≡ rect.w * rect.h * channels =
+    long ∙ rw (count, is.channels) refl in
+    subst (λ (big : Bool). AreTexelsOn (sample_in big bytes level) channels rect samples.items)
+    is.order (run_texels bytes level (record { format = format; scaled = false }) rect
+    samples.items refl all (rw count at values)))
+    c.read_run.ensures.count
+    (c.read_run.ensures.told bytes told level (column_of rect) (row_of rect) own
+    (run_stands level rect run whole count) inside)

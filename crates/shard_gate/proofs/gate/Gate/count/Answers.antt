@@ -1,5 +1,8 @@
 -- What a visit to one shard leaves of the seat, and what it answers.
-use Rattle.shard_gate.proofs.VisitLemmas.{same_pins, one_turn, same_seat, on_ok, on_err, share_here}
+use Rattle.std.proofs.Common.{subst, ℕ, IfOk}
+use Rattle.shard_gate.specs.Gate.{CountsLawful}
+use Rattle.shard_gate.proofs.VisitLemmas.{same_pins, one_turn, same_seat, on_ok, on_err}
+use Rattle.shard_gate.proofs.VisitLemmas.{tag_here, share_here}
 use Rattle.shard_gate.proofs.gate.Gate.count.Goals as goal
 
 pub returns-clause-same : goal.returns-clause-same
@@ -23,6 +26,14 @@ returns-clause-err g c = on_err c.count.result _ _
     c.args.p.now c.p.view_is c.args.self.now.id c.requires.gate c.args.shard
     c.requires.shard c.index_mut.result.now c.count.new.seat _ c.index_mut.ensures.value)
     c.count.ensures.err
+
+pub returns-clause-lawful : goal.returns-clause-lawful
+returns-clause-lawful g c =
+    subst (λ (tag : ℕ). IfOk c.count.result (CountsLawful g.W.World.files tag))
+    (tag_here c.self.inside.tables.items c.self.inside.share c.self.inside.cut
+    c.self.inside.passes c.args.self.now c.self.view_is c.self.invariant c.args.shard
+    c.requires.shard c.index.result.now _ c.index.ensures)
+    c.count.ensures.lawful
 
 pub count-requires-clause-share : goal.count-requires-clause-share
 count-requires-clause-share g c =

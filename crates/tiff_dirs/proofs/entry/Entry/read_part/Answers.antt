@@ -2,7 +2,7 @@ use Rattle.std.proofs.Common.{true, leb, ◌≡◌, ◌+◌, ◌*◌, ◌≤◌,
 use Rattle.std.proofs.Common.{None}
 use Rattle.std.proofs.lemmas.Bool.{leb-true}
 use Rattle.tiff_dirs.specs.Field.{type_size, entry_value}
-use Rattle.tiff_dirs.specs.Entries.{AreValues}
+use Rattle.tiff_dirs.specs.Entries.{SpellValues}
 use Rattle.tiff_dirs.specs.Form.{value_field_at}
 use Rattle.tiff_dirs.specs.Reader.{IsPartAt}
 use Rattle.tiff_dirs.proofs.Saying.{finds_so}
@@ -36,7 +36,7 @@ returns-clause-told g c = λ bytes is place entry.
     finds_so None None
     (λ _. IsPartAt bytes (c.args.self.now.start + c.value_size.result * c.from.result)
     c.read_at.new.buf)
-    (λ _. AreValues c.args.self.now c.read_at.new.buf
+    (λ _. SpellValues c.args.self.now c.read_at.new.buf
     (λ k. entry_value c.args.self.now.form bytes place (c.args.from + k)))
     c.read_at.result (c.read_at.ensures.told bytes is) refl
     (λ _ none part k long. value_of_part bytes place c.args.self.now entry c.args.from k

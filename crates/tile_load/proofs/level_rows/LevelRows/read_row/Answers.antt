@@ -1,4 +1,4 @@
-use Rattle.std.proofs.Common.{◌≡◌, ◌*◌, ◌++◌, ap, arith, replicate, Bool, refl, rules}
+use Rattle.std.proofs.Common.{◌≡◌, ◌*◌, ◌++◌, ap, arith, replicate, rules}
 use Rattle.std.proofs.Common.{sym, subst}
 use Rattle.tiff_dirs.specs.Block.{Level}
 use Rattle.tile_layout.specs.Kept.{level_in}

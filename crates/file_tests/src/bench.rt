@@ -1,0 +1,67 @@
+//! A table over the files in memory, with five taps.
+ghost use Rattle.std.specs.Prelude.{◌≡◌, ◌<◌};
+
+use crate::pictures::Pictures;
+use file_table::Files;
+use gen_board::View;
+use std::alloc::Global;
+use std::test::Fail;
+use tex_world::{FailCall, FileTable, Folder, MemFolder, MemTap, Newest, Plan, Rise, TableWorld};
+use tile_layout::Cut;
+
+pub(crate) type Table = Files<MemTap<Pictures>>;
+
+pub(crate) type Sight = View<TableWorld<Pictures>>;
+
+/// A table of all three files, its first view, and five taps. Of tap 1 the newest generation of
+/// `A.tif` is 2, the first call of tap 2 fails, and the first read of the byte 9 of `A.tif` by
+/// tap 3 meets generation 2.
+#[derive(Drop)]
+pub(crate) struct Bench {
+    pub(crate) files: Table,
+    pub(crate) view: Sight,
+    pub(crate) taps: Vec<MemTap<Pictures>>,
+    ghost count: { files.board.files ≡ 3 },
+    ghost board: { view.board ≡ files.board },
+}
+
+fn folder_of(alloc: Global) -> Result<MemFolder<Pictures>, Fail> {
+    let mut plan = Plan::new(alloc);
+    plan.newest.push(Newest {
+        tap: 1,
+        file: 0,
+        generation: 2,
+    })?;
+    plan.fail_calls.push(FailCall { tap: 2, call: 1 })?;
+    plan.rises.push(Rise {
+        tap: 3,
+        file: 0,
+        at: 9,
+        to: 2,
+    })?;
+    Ok(MemFolder::new(plan))
+}
+
+fn taps_of(alloc: Global) -> Result<Vec<MemTap<Pictures>>, Fail> {
+    let mut folder = folder_of(alloc)?;
+    let mut taps = Vec::new(alloc);
+    for _ in 0..5 {
+        taps.push(folder.tap(alloc)?)?;
+    }
+    Ok(taps)
+}
+
+impl Bench {
+    /// At most `cap` handles lie idle.
+    pub(crate) fn new(alloc: Global, cap: usize) -> Result<Bench, Fail>
+        requires { 0 < cap }
+    {
+        let cut = Cut {
+            autotile: 64,
+            automip: true,
+        };
+        let taps = taps_of(alloc)?;
+        let (files, view) = Table::new(alloc, Pictures::count(), cap, cut)?;
+        Ok(Bench { files, view, taps })
+    }
+}

@@ -1,0 +1,71 @@
+//! One caller of a table.
+ghost use Rattle.std.specs.Prelude.{◌≡◌, ℕ, ◌<◌};
+ghost use Rattle.tex_world.specs.World.{IsFile};
+
+use file_table::{Files, LendError, Record, RecordError};
+use gen_board::View;
+use std::sync::Arc;
+use tex_world::{Tap, TapHandle};
+use waiter::{GaveUp, Waiter};
+
+/// A table and a view of its board. A file that the table has not is answered as a lock that is
+/// busy.
+#[derive(Drop)]
+pub(crate) struct Seat<'a, T: Tap> {
+    pub(crate) files: &'a Files<T>,
+    pub(crate) view: View<T::W>,
+    ghost board: { view.board ≡ files.now.board },
+}
+
+impl<T: Tap> Seat<'_, T> {
+    pub(crate) fn record<V: Waiter<Busy = GaveUp>>(
+        &mut self,
+        waiter: &V,
+        tap: &mut T,
+        file: u32,
+    ) -> Result<Arc<Record<T::W>>, RecordError<GaveUp>>
+        requires { IsFile T.W.files file }
+    {
+        if file >= self.files.board().files() {
+            return Err(RecordError::Busy(GaveUp));
+        }
+        self.files.record(waiter, &mut self.view, tap, file)
+    }
+
+    /// A handle of the generation of a record, which is one of this file.
+    pub(crate) fn lend<V: Waiter<Busy = GaveUp>>(
+        &mut self,
+        waiter: &V,
+        tap: &mut T,
+        file: u32,
+        record: &Record<T::W>,
+    ) -> Result<T::Handle, LendError<GaveUp>>
+        requires { IsFile T.W.files file }
+    {
+        if file >= self.files.board().files() || record.file() != file {
+            return Err(LendError::Busy(GaveUp));
+        }
+        self.files
+            .lend(waiter, &mut self.view, tap, file, record.generation())
+    }
+
+    pub(crate) fn forget<V: Waiter<Busy = GaveUp>>(
+        &self,
+        waiter: &V,
+        file: u32,
+    ) -> Result<(), GaveUp> {
+        if file >= self.files.board().files() {
+            return Err(GaveUp);
+        }
+        self.files.drop_idle(waiter, file)
+    }
+
+    /// The generation that was seen of a file.
+    pub(crate) fn seen(&self, file: u32) -> u32 {
+        if file < self.files.board().files() {
+            self.view.seen(file)
+        } else {
+            0
+        }
+    }
+}

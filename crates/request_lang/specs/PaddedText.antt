@@ -1,0 +1,22 @@
+-- What does the table of the texts of all values hold?
+use Rattle.std.specs.Prelude.{◌≡◌, ◌≤◌, ◌<◌, ℕ, List, [], length, take, slice_index, slice_index_or}
+use Rattle.request_lang.specs.LineField.{space}
+use Rattle.request_lang.specs.Line.{number_behind}
+
+-- the bytes of a padded text
+abbrev pub padded_bytes : ℕ
+padded_bytes = 8
+
+-- the most bytes of a 16-bit value and its space
+abbrev pub max_value_bytes : ℕ
+max_value_bytes = 6
+
+-- its last byte says how many of its bytes are the text of the value behind a space
+pub record IsPaddedText (n : ℕ) (padded : List ℕ) : Type 0 where
+  pub text : take (slice_index padded 7) padded ≡ number_behind space n
+  pub few : slice_index padded 7 ≤ max_value_bytes
+  pub whole : length padded ≡ padded_bytes
+
+-- each padded text is that of its place
+abbrev pub HoldsTexts : List (List ℕ) → Type 0
+HoldsTexts texts = (k : ℕ) → k < length texts → IsPaddedText k (slice_index_or texts k [])

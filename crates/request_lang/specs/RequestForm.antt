@@ -1,0 +1,105 @@
+-- Which request is a line? (docs/REQUESTS.md, "The ten forms")
+use Rattle.std.specs.Prelude.{ℕ, ◌==◌, codes, List, [], ◌∷◌, length, Option, Some, None}
+use Rattle.std.specs.Prelude.{Result, Ok, Err, if◌then◌else◌}
+use Rattle.std.specs.Str.{is_utf8}
+use Rattle.request_lang.specs.declared.request.Request.{Request}
+use Rattle.request_lang.specs.declared.request.Request.TheVariants.{Tex, Pixels, Info, Hold, Drop}
+use Rattle.request_lang.specs.declared.request.Request.TheVariants.{Invalidate, Renew}
+use Rattle.request_lang.specs.declared.request.Request.TheVariants.{InvalidateAll, Stat, Sync}
+use Rattle.request_lang.specs.declared.cause.Cause.{Cause}
+use Rattle.request_lang.specs.declared.cause.Cause.TheVariants.{UnknownWord, TrailingText, NotUtf8}
+use Rattle.request_lang.specs.LineField.{before_space, from_space, field, name_field, mapped}
+use Rattle.request_lang.specs.LineField.{meaning}
+use Rattle.request_lang.specs.LineField.{signed, unsigned, channel_count, wrap_mode, filter_mode}
+
+-- a form: what the bytes behind the word of a line ask for, or the first cause for which they are
+-- none of that form
+abbrev pub RequestForm : Type 0
+RequestForm = List ℕ → Result Request Cause
+
+-- after a field: the value and what stands behind it go to the rest of the form
+abbrev pub then_with : {A : Type 0} → Result (A × List ℕ) Cause → (A → RequestForm)
+    → Result Request Cause
+then_with (Ok f) rest = rest f.0 f.1
+then_with (Err cause) rest = Err cause
+
+-- one field of a kind, and then the rest of the form
+infixl 10 ◌>>=◌
+abbrev pub ◌>>=◌ : {A : Type 0} → (List ℕ → Result A Cause) → (A → RequestForm) → RequestForm
+(kind >>= rest) text = then_with (field kind text) rest
+
+-- the last field is the name
+abbrev pub named : (List ℕ → Request) → RequestForm
+named request text = mapped request (name_field text)
+
+-- there is no field, and nothing else, be it one space
+abbrev pub alone : Request → RequestForm
+alone request text = if length text == 0 then Ok request else Err TrailingText
+
+-- ---- the forms with several fields, from left to right
+
+-- tex S T LOD SWRAP TWRAP FILTER NCH NAME
+unfoldable pub tex : RequestForm
+tex = do
+  s ← signed
+  t ← signed
+  lod ← unsigned
+  swrap ← wrap_mode
+  twrap ← wrap_mode
+  filter ← filter_mode
+  nch ← channel_count
+  named (Tex (record {
+    s = s;
+    t = t;
+    lod = lod;
+    swrap = swrap;
+    twrap = twrap;
+    filter = filter;
+    nch = nch;
+  }))
+
+-- pixels LEVEL X Y W H NAME
+unfoldable pub pixels : RequestForm
+pixels = do
+  level ← unsigned
+  x ← signed
+  y ← signed
+  w ← unsigned
+  h ← unsigned
+  named (Pixels level x y w h)
+
+-- hold LEVEL X Y NAME
+unfoldable pub hold : RequestForm
+hold = do
+  level ← unsigned
+  x ← unsigned
+  y ← unsigned
+  named (Hold level x y)
+
+-- ---- the ten forms
+
+-- the form that each word begins
+abbrev pub forms : List (List ℕ × RequestForm)
+forms =
+    (codes "tex", tex)
+    ∷ (codes "pixels", pixels)
+    ∷ (codes "info", named Info)
+    ∷ (codes "hold", hold)
+    ∷ (codes "drop", alone Drop)
+    ∷ (codes "invalidate", named Invalidate)
+    ∷ (codes "renew", named Renew)
+    ∷ (codes "invalidate_all", alone InvalidateAll)
+    ∷ (codes "stat", alone Stat)
+    ∷ (codes "sync", alone Sync) ∷ []
+
+-- what the bytes behind a word ask for, if the word begins a form
+abbrev pub formed : Option RequestForm → RequestForm
+formed None text = Err UnknownWord
+formed (Some form) text = form text
+
+-- The request that a line is, or the first cause from left to right for which it is none. Its word
+-- ends before the first space.
+unfoldable pub request_of : List ℕ → Result Request Cause
+request_of line =
+    if is_utf8 line then formed (meaning forms (before_space line)) (from_space line)
+    else Err NotUtf8

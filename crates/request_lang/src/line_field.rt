@@ -1,0 +1,267 @@
+//! The fields of a line, each behind one space.
+
+ghost use Rattle.std.specs.Prelude.{◌≡◌, ◌≤◌, ◌==◌, true, false, IfOk};
+ghost use Rattle.std.specs.Prelude.{pos, neg_ℤ, ℤ, ℕ, List, slice_index};
+ghost use Rattle.std.specs.Option.{IfSome, IfNone, option_map};
+ghost use Rattle.std.specs.Str.{bytes_eq};
+ghost use Rattle.request_lang.specs.LineField as spec;
+ghost use Rattle.request_lang.specs.Parsing.{Gives};
+
+use crate::cause::{Cause, Refusal};
+use crate::digits::{leading_digits, within};
+use crate::request::Name;
+use std::alloc::Global;
+use texel_filter::{Filter, MAX_CHANNELS, Wrap};
+
+/// The largest number that may have no `-`.
+const MAX_UNSIGNED: u32 = u32::MAX;
+
+/// The largest number that may have a `-` and has none.
+const MAX_ABOVE: u32 = i32::MAX as u32;
+
+/// The largest number behind a `-`.
+const MAX_BELOW: u32 = 1 << 31;
+
+/// The fewest channels that a lookup asks for.
+const MIN_CHANNELS: u32 = 1;
+
+/// What stands behind a word, where the text is that word up to its first space.
+#[inline(always)]
+#[tactic(auto, using(crate::proofs::WordLemmas::words))]
+pub(crate) fn behind_word<'a>(text: &'a str, word: &str) -> Option<&'a str>
+    requires { spec.has_no_space word.now ≡ true }
+    ensures same { IfSome result (λ _. bytes_eq (spec.before_space text.now) word.now ≡ true) }
+    ensures back { IfSome result (λ rest. rest.now ≡ spec.from_space text.now) }
+    ensures other { IfNone result (bytes_eq (spec.before_space text.now) word.now ≡ false) }
+{
+    let bytes = text.as_bytes();
+    let end = word.len();
+    if !bytes.starts_with(word.as_bytes()) {
+        return None;
+    }
+    if end == bytes.len() {
+        return Some("");
+    }
+    if bytes[end] != b' ' {
+        return None;
+    }
+    Some(&text[end..])
+}
+
+/// What stands behind the space that it begins with.
+fn behind_space(rest: &str) -> Option<&str>
+    ensures { option_map (λ s. s.now) result ≡ spec.behind_space rest.now }
+{
+    let bytes = rest.as_bytes();
+    if 0 < bytes.len() && bytes[0] == b' ' {
+        Some(&rest[1..])
+    } else {
+        None
+    }
+}
+
+/// The number that a text spells before its first space, and what stands from there on.
+fn number_field(text: &str) -> Option<(u64, &str)>
+    ensures number { option_map (λ f. f.0) result
+        ≡ spec.digits_number (spec.before_space text.now) }
+    ensures back { IfSome result (λ f. f.1.now ≡ spec.from_space text.now) }
+{
+    let bytes = text.as_bytes();
+    let (number, count) = leading_digits(bytes);
+    if count == 0 {
+        return None;
+    }
+    if count == bytes.len() {
+        return Some((number, ""));
+    }
+    if bytes[count] != b' ' {
+        return None;
+    }
+    Some((number, &text[count..]))
+}
+
+/// The number of a range that a text spells before its first space, and what stands from there on.
+#[tactic(auto, unfolding(crate::specs::LineField::number_within))]
+fn number_within(least: u32, most: u32, text: &str) -> Result<(u32, &str), Cause>
+    ensures value { spec.mapped (λ f. (f.0, f.1.now)) result
+        ≡ spec.spelled (spec.number_within least most) (Ok (spec.cut text.now)) }
+    ensures high { IfOk result (λ f. f.0 ≤ most) }
+{
+    match number_field(text) {
+        Some((number, rest)) => Ok((within(least, most, Some(number))?, rest)),
+        None => Err(Cause::NotANumber),
+    }
+}
+
+/// The next field as a number of a range, and what stands behind it.
+#[tactic(auto, unfolding(crate::specs::LineField::next_field))]
+fn number_between(least: u32, most: u32, rest: &str) -> Result<(u32, &str), Cause>
+    ensures { spec.mapped (λ f. (f.0, f.1.now)) result
+        ≡ spec.field (spec.number_within least most) rest.now }
+{
+    match behind_space(rest) {
+        Some(text) => number_within(least, most, text),
+        None => Err(Cause::MissingField),
+    }
+}
+
+/// The next field as a number, and what stands behind it.
+pub(crate) fn unsigned(rest: &str) -> Result<(u32, &str), Cause>
+    ensures { spec.mapped (λ f. (f.0, f.1.now)) result ≡ spec.field spec.unsigned rest.now }
+{
+    number_between(0, MAX_UNSIGNED, rest)
+}
+
+/// The next field as a number of channels, and what stands behind it.
+#[inline(always)]
+pub(crate) fn channel_count(rest: &str) -> Result<(u32, &str), Cause>
+    ensures { spec.mapped (λ f. (f.0, f.1.now)) result ≡ spec.field spec.channel_count rest.now }
+{
+    number_between(MIN_CHANNELS, MAX_CHANNELS as u32, rest)
+}
+
+/// A number behind a `-`.
+fn below_zero(number: u32) -> i32
+    requires { number ≤ spec.max_below }
+    ensures { result ≡ neg_ℤ (pos number) }
+{
+    (-i64::from(number)) as i32
+}
+
+/// A number without one.
+fn above_zero(number: u32) -> i32
+    requires { number ≤ spec.max_above }
+    ensures { result ≡ pos number }
+{
+    number as i32
+}
+
+/// The number that a text behind a `-` spells, and what stands from its first space on.
+fn negative(text: &str) -> Result<(i32, &str), Cause>
+    ensures { spec.mapped (λ f. (f.0, f.1.now)) result
+        ≡ spec.mapped {B = ℤ × List ℕ} (λ f. (neg_ℤ (pos f.0), f.1))
+        (spec.spelled (spec.number_within 0 spec.max_below) (Ok (spec.cut text.now))) }
+{
+    match number_within(0, MAX_BELOW, text) {
+        Ok((number, rest)) => Ok((below_zero(number), rest)),
+        Err(cause) => Err(cause),
+    }
+}
+
+/// The number that a text without a `-` spells, and what stands from its first space on.
+fn positive(text: &str) -> Result<(i32, &str), Cause>
+    ensures { spec.mapped (λ f. (f.0, f.1.now)) result
+        ≡ spec.mapped {B = ℤ × List ℕ} (λ f. (pos f.0, f.1))
+        (spec.spelled (spec.number_within 0 spec.max_above) (Ok (spec.cut text.now))) }
+{
+    match number_within(0, MAX_ABOVE, text) {
+        Ok((number, rest)) => Ok((above_zero(number), rest)),
+        Err(cause) => Err(cause),
+    }
+}
+
+/// A `-` stands first.
+fn begins_with_minus(text: &str) -> bool
+    ensures { result ≡ (slice_index text.now 0 == spec.minus) }
+{
+    let bytes = text.as_bytes();
+    0 < bytes.len() && bytes[0] == b'-'
+}
+
+/// The number that a text spells before its first space, where one `-` may stand first, and what
+/// stands from there on.
+fn signed_field(text: &str) -> Result<(i32, &str), Cause>
+    ensures { spec.mapped (λ f. (f.0, f.1.now)) result
+        ≡ spec.spelled spec.signed (Ok (spec.cut text.now)) }
+{
+    if begins_with_minus(text) {
+        return negative(&text[1..]);
+    }
+    positive(text)
+}
+
+/// The next field as a number that may have a `-`, and what stands behind it.
+#[tactic(auto, unfolding(crate::specs::LineField::next_field))]
+pub(crate) fn signed(rest: &str) -> Result<(i32, &str), Cause>
+    ensures { spec.mapped (λ f. (f.0, f.1.now)) result ≡ spec.field spec.signed rest.now }
+{
+    match behind_space(rest) {
+        Some(text) => signed_field(text),
+        None => Err(Cause::MissingField),
+    }
+}
+
+/// The wrap that a text spells before its first space, and what stands from there on.
+#[tactic(auto, unfolding(crate::specs::LineField::wrap_mode))]
+fn wrap_of(text: &str) -> Result<(Wrap, &str), Cause>
+    ensures { spec.mapped (λ f. (f.0, f.1.now)) result
+        ≡ spec.spelled spec.wrap_mode (Ok (spec.cut text.now)) }
+{
+    if let Some(rest) = behind_word(text, "black") {
+        return Ok((Wrap::Black, rest));
+    }
+    if let Some(rest) = behind_word(text, "clamp") {
+        return Ok((Wrap::Clamp, rest));
+    }
+    if let Some(rest) = behind_word(text, "periodic") {
+        return Ok((Wrap::Periodic, rest));
+    }
+    if let Some(rest) = behind_word(text, "mirror") {
+        return Ok((Wrap::Mirror, rest));
+    }
+    Err(Cause::UnknownChoice)
+}
+
+/// The filter that a text spells before its first space, and what stands from there on.
+#[tactic(auto, unfolding(crate::specs::LineField::filter_mode))]
+fn filter_of(text: &str) -> Result<(Filter, &str), Cause>
+    ensures { spec.mapped (λ f. (f.0, f.1.now)) result
+        ≡ spec.spelled spec.filter_mode (Ok (spec.cut text.now)) }
+{
+    if let Some(rest) = behind_word(text, "closest") {
+        return Ok((Filter::Closest, rest));
+    }
+    if let Some(rest) = behind_word(text, "bilinear") {
+        return Ok((Filter::Bilinear, rest));
+    }
+    if let Some(rest) = behind_word(text, "trilinear") {
+        return Ok((Filter::Trilinear, rest));
+    }
+    Err(Cause::UnknownChoice)
+}
+
+/// The next field as a wrap, and what stands behind it.
+#[inline(always)]
+#[tactic(auto, unfolding(crate::specs::LineField::next_field))]
+pub(crate) fn wrap_mode(rest: &str) -> Result<(Wrap, &str), Cause>
+    ensures { spec.mapped (λ f. (f.0, f.1.now)) result ≡ spec.field spec.wrap_mode rest.now }
+{
+    match behind_space(rest) {
+        Some(text) => wrap_of(text),
+        None => Err(Cause::MissingField),
+    }
+}
+
+/// The next field as a filter, and what stands behind it.
+#[inline(always)]
+#[tactic(auto, unfolding(crate::specs::LineField::next_field))]
+pub(crate) fn filter_mode(rest: &str) -> Result<(Filter, &str), Cause>
+    ensures { spec.mapped (λ f. (f.0, f.1.now)) result ≡ spec.field spec.filter_mode rest.now }
+{
+    match behind_space(rest) {
+        Some(text) => filter_of(text),
+        None => Err(Cause::MissingField),
+    }
+}
+
+/// The name that all behind one space is.
+#[inline(always)]
+#[tactic(auto, unfolding(crate::specs::LineField::name_field))]
+pub(crate) fn name(alloc: Global, rest: &str) -> Result<Name, Refusal>
+    ensures { Gives result (spec.name_field rest.now) }
+{
+    match behind_space(rest) {
+        None | Some("") => Err(Refusal::Bad(Cause::MissingField)),
+        Some(text) => Ok(Name::copied(alloc, text)?),
+    }
+}

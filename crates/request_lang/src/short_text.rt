@@ -1,0 +1,54 @@
+//! Short texts, kept in place.
+
+ghost use Rattle.std.specs.Prelude.{◌≡◌, ◌≤◌, length};
+
+use std::marker::Model;
+use std::str::from_utf8_unchecked;
+
+/// The most bytes of a short text.
+pub(crate) const MAX_SHORT: usize = 22;
+
+/// A text of at most 22 bytes. Contracts see it as its bytes, which are UTF-8.
+#[derive(Drop)]
+pub(crate) struct ShortText {
+    bytes: [u8; MAX_SHORT],
+    count: u8,
+}
+
+impl Model for ShortText {
+    ghost use Rattle.std.specs.Prelude.{List, ℕ, ◌≡◌, ◌≤◌, take, true};
+    ghost use Rattle.std.specs.Str.{is_utf8};
+
+    ghost Value = { List ℕ };
+
+    ghost view = { λ text. take text.count text.bytes };
+
+    ghost invariant = { λ text.
+        (text.count ≤ 22) × (is_utf8 (take text.count text.bytes) ≡ true) };
+}
+
+impl ShortText {
+    /// The text as a short one.
+    #[tactic(auto, using(crate::proofs::TextLemmas::utf8_tests))]
+    pub(crate) fn of(text: &str) -> ShortText
+        requires { length text.now ≤ MAX_SHORT }
+        ensures { result ≡ text.now }
+    {
+        let count = text.len();
+        let mut bytes = [0; MAX_SHORT];
+        bytes[..count].copy_from_slice(text.as_bytes());
+        ShortText {
+            bytes,
+            count: count as u8,
+        }
+    }
+
+    /// The text.
+    #[tactic(auto, using(crate::proofs::TextLemmas::utf8_tests))]
+    pub(crate) fn as_str(&self) -> &str
+        ensures { result.now ≡ self.now }
+    {
+        let count = usize::from(self.count);
+        unsafe { from_utf8_unchecked(&self.bytes[..count]) }
+    }
+}

@@ -1,0 +1,82 @@
+-- The values of texels that stand side by side, appended part by part.
+use Rattle.std.proofs.Common.{◌≡◌, ℕ, ◌+◌, ◌-◌, ◌*◌, ◌<◌, ◌≤◌, List, length, map}
+use Rattle.std.proofs.Common.{slice_index, ap, ◌∙◌, arith, sym, inl, inr, refl, subst}
+use Rattle.std.specs.List.{range_with_len}
+use Rattle.std.proofs.lemmas.Bool.{cases_lt}
+use Rattle.std.proofs.lemmas.List.{get_or_append_left, get_or-append_right}
+use Rattle.std.proofs.lemmas.List.FromFn.{get_or-map-range_with_len}
+use Rattle.std.proofs.lemmas.Nat.{mul-add-lt}
+use Rattle.std.proofs.Math.Nat.{mul-le-mul_left}
+use Rattle.tiff_dirs.specs.Block.{Level, sample_bytes, texel_bytes}
+use Rattle.tiff_dirs.specs.Texel.{sample_in}
+use Rattle.tile_layout.specs.FormatOf.{IsFormatOf}
+use Rattle.tile_load.specs.declared.run.Run.{Run}
+use Rattle.tile_load.specs.declared.unpacking.Unpacking.{Unpacking}
+use Rattle.tile_load.specs.Run.{AppendsRun, AreValuesOf, StandSideBySide}
+use Rattle.tile_load.specs.SampleValue.{value_as, unpacked_value}
+use Rattle.tile_load.proofs.PieceValues.{value_is}
+
+-- the bytes of the first texels are no more than those of all
+pub bytes_within : (n texels size : ℕ) → n ≤ texels → n * size ≤ texels * size
+bytes_within n texels size few = omega (arith, mul-le-mul_left size few)
+
+-- a part of a run, behind its first texels
+pub part_stands : (level : Level) (run part : Run) (x_of y_of : ℕ → ℕ) (done : ℕ)
+    → StandSideBySide level run x_of y_of → done + part.texels ≤ run.texels
+    → part.at ≡ run.at + done * texel_bytes level.shape
+    → StandSideBySide level part (λ j. x_of (done + j)) (λ j. y_of (done + j))
+part_stands level run part x_of y_of done stand few from = λ j c lt.
+    stand (done + j) c (omega arith) ∙ rw from (omega arith)
+
+module _ (bytes : List ℕ) (level : Level) (unpacking : Unpacking) (part : Run)
+    (x_of y_of : ℕ → ℕ) (done : ℕ) (old new : List ℕ)
+    (is : IsFormatOf unpacking.format.big level.shape unpacking.format)
+    (unit : unpacking.format.texel_bytes ≡ texel_bytes level.shape)
+    (count : length old ≡ done * level.shape.channels)
+    (stand : StandSideBySide level part (λ j. x_of (done + j)) (λ j. y_of (done + j)))
+    (more : AppendsRun bytes unpacking part old new) where
+  -- the value of sample c of texel j
+  abbrev value_at : ℕ → ℕ → ℕ
+  value_at j c =
+      value_as unpacking.scaled level.shape.depth
+      (sample_in unpacking.format.big bytes level (x_of j) (y_of j) c)
+
+  values_behind : (k c : ℕ) → k < part.texels → c < level.shape.channels
+      → slice_index new ((done + k) * level.shape.channels + c) ≡ value_at (done + k) c
+  values_behind k c k-below c-below =
+      let n = level.shape.channels in
+      let value : ℕ → ℕ = unpacked_value unpacking more.span in
+      let all = part.texels * unpacking.format.channels in
+      let added = map value (range_with_len 0 all) in
+      let at = (done + k) * n + c in
+      let place : at ≡ length old + (k * n + c) = omega (arith, count) in
+      let below : k * n + c < all =
+      rw is.channels (omega (arith, mul-add-lt k n c part.texels k-below c-below)) in
+      let long : length more.span ≡ sample_bytes level.shape.depth * (part.texels * n) =
+      more.long ∙ ap (λ (u : ℕ). part.texels * u) unit ∙ omega arith in
+      ap (λ (l : List ℕ). slice_index l at) more.values
+      ∙ get_or-append_right old added (length old) at 0 refl (omega (arith, place))
+      ∙ get_or-map-range_with_len value 0 all (at - length old) (k * n + c) 0
+      (omega (arith, place, below)) (omega (arith, place))
+      ∙ sym (value_is unpacking.format.big bytes level unpacking is part.texels part.at
+      (λ i. x_of (done + i)) (λ i. y_of (done + i)) stand more.span more.part long
+      k c k-below c-below)
+
+  -- the values of one part more
+  pub values_more : AreValuesOf bytes level unpacking done x_of y_of old
+      → AreValuesOf bytes level unpacking (done + part.texels) x_of y_of new
+  values_more before = λ j c j-below c-below.
+      let n = level.shape.channels in
+      elim (cases_lt j done) [
+        | inl lt ↦
+            let added = map (unpacked_value unpacking more.span)
+            (range_with_len 0 (part.texels * unpacking.format.channels)) in
+            ap (λ (l : List ℕ). slice_index l (j * n + c)) more.values
+            ∙ get_or_append_left old added 0 (j * n + c)
+            (omega (arith, count, mul-add-lt j n c done lt c-below))
+            ∙ before j c lt c-below
+        | inr le ↦
+            let at : done + (j - done) ≡ j = omega arith in
+            subst (λ (i : ℕ). slice_index new (i * n + c) ≡ value_at i c) at
+            (values_behind (j - done) c (omega arith) c-below)
+      ]

@@ -1,0 +1,43 @@
+use Rattle.std.proofs.Common.{◌≡◌, ℕ, ◌*◌, ◌<◌, ◌≤◌, length, ap, ◌∙◌, arith, sym, subst}
+use Rattle.tile_layout.specs.declared.rect.Rect.{Rect}
+use Rattle.tile_layout.specs.Key.{level_of, index_of}
+use Rattle.tile_layout.specs.Cell.{rect_bytes, cell_rect, cut_level_in, channels_in}
+use Rattle.tile_layout.specs.Cell.{max_cell_bytes}
+use Rattle.tile_layout.specs.Kept.{stored_count}
+use Rattle.tile_load.proofs.loading.load_at.Goals as goal
+
+pub new-requires-clause-tile : goal.new-requires-clause-tile
+new-requires-clause-tile g c =
+    let layout = c.args.layout.now in
+    let level = c.level-level.result in
+    let rect = c.cell_rect-rect.result in
+    let channels = c.channels.result in
+    let stored : level < stored_count layout =
+    omega (arith, c.level-level.ensures.value, c.requires.cell.stored) in
+    let same : channels ≡ channels_in layout = c.channels.ensures.first in
+    let count : length c.in-Ok.texels.items ≡ rect.w * rect.h * channels =
+    c.in-Ok.ensures.count
+    ∙ ap (λ (n : ℕ). rect.w * rect.h * n) (c.channels.ensures.value level stored) in
+    let there = c.requires.fits (level_of c.args.key)
+    (omega (
+      arith,
+      c.levels-levels.ensures.value,
+      c.levels-levels.ensures.stored,
+      c.requires.cell.stored,
+    )) (index_of c.args.key) c.requires.cell.index in
+    let file_level = level_of c.args.key in
+    let rect_is : rect ≡ cell_rect (cut_level_in layout c.args.cut file_level) (index_of c.args.key) =
+    c.cell_rect-rect.ensures.value
+    ∙ ap (λ (l : ℕ). cell_rect (cut_level_in layout c.args.cut l) c.index.result)
+    c.level-level.ensures.value
+    ∙ ap (λ (i : ℕ). cell_rect (cut_level_in layout c.args.cut file_level) i)
+    c.index.ensures.value in
+    let few : rect_bytes (channels_in layout) rect ≤ max_cell_bytes =
+    subst (λ (r : Rect). rect_bytes (channels_in layout) r ≤ max_cell_bytes) (sym rect_is) there in
+    let bytes : 2 * (rect.w * rect.h * channels) ≡ rect_bytes (channels_in layout) rect =
+    rw same (omega arith) in
+    record {
+      channels = c.channels.ensures.in_range;
+      texels = count;
+      bytes = omega (arith, count, few, bytes);
+    }

@@ -1,0 +1,64 @@
+use Rattle.std.proofs.Common.{◌≡◌, ◌∙◌, ℕ, ◌+◌, ◌*◌, ◌≤◌, List, length, ap, arith}
+use Rattle.std.proofs.lemmas.Result.{err_from_is_err_and}
+use Rattle.tiff_dirs.specs.Block.{texel_bytes}
+use Rattle.tile_load.specs.declared.run.Run.{Run}
+use Rattle.tile_load.proofs.Leaves.{leaves_after}
+use Rattle.tile_load.proofs.RunValues.{bytes_within, part_stands, values_more}
+use Rattle.tile_load.proofs.run.read_run.Goals as goal
+
+pub read_part-requires : goal.read_part-requires
+read_part-requires g c =
+    omega (
+      arith,
+      c.requires,
+      bytes_within (c.parts.done + c.min.result) c.args.run.now.texels
+          c.args.unpacking.now.format.texel_bytes
+          (omega (arith, c.min.ensures, c.parts.invariant.within)),
+    )
+
+pub returns-in_err-read_part-clause-reader : goal.returns-in_err-read_part-clause-reader
+returns-in_err-read_part-clause-reader g c =
+    let r = c.from_residual-in_err-read_part in
+    let p = err_from_is_err_and r.result r.ensures.1 in
+    rw (p.1, p.2) (leaves_after g.B.ByteReader.keeps g.B.ByteReader.refuses
+    g.met.B.ByteReader.lawful.chains (Unit {0}) (List ℕ) c.args.reader.now c.parts.reader
+    c.read_part.new.reader c.in_err-read_part.field-0.0
+    c.parts.invariant.keeps c.in_err-read_part.ensures.reader)
+
+pub parts-preserved : goal.parts-preserved
+parts-preserved g c =
+    let before = c.parts.invariant in
+    let run = c.args.run.now in
+    let format = c.args.unpacking.now.format in
+    let n = c.min.result in
+    let within : c.parts.done + n ≤ run.texels = omega (arith, c.min.ensures, before.within) in
+    let part : Run = record {
+      at = run.at + c.parts.done * format.texel_bytes;
+      texels = n;
+    } in
+    record {
+      keeps = g.met.B.ByteReader.lawful.chains _ _ _ before.keeps c.in_ok-read_part.ensures.reader;
+      within = within;
+      count = omega (arith, before.count, c.in_ok-read_part.ensures.count);
+      told = λ bytes told inside.
+          let so_far = before.told bytes told inside in
+          let still = g.met.B.ByteReader.lawful.same_bytes _ _ before.keeps ∙ told in
+          let part_in : part.at + n * format.texel_bytes ≤ length bytes =
+          omega (
+            arith,
+            inside,
+            bytes_within (c.parts.done + n) run.texels format.texel_bytes within,
+          ) in
+          let read = c.in_ok-read_part.ensures.told bytes still so_far.0 part_in in (
+            read.0,
+            λ level x_of y_of is stand.
+                let unit : format.texel_bytes ≡ texel_bytes level.shape =
+                rw (← is.channels, ← is.depth) format.in_range.bytes in
+                values_more bytes level c.args.unpacking.now part x_of y_of c.parts.done
+                c.parts.reading.samples.items c.read_part.new.self.samples.items is unit
+                (before.count ∙ ap (λ (k : ℕ). c.parts.done * k) is.channels)
+                (part_stands level run part x_of y_of c.parts.done stand within
+                (ap (λ (u : ℕ). run.at + c.parts.done * u) unit)) read.1
+                (so_far.1 level x_of y_of is stand),
+          );
+    }

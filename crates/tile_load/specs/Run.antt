@@ -1,0 +1,32 @@
+-- Which texels stand side by side in a file, and which values are theirs?
+use Rattle.std.specs.Prelude.{◌≡◌, ℕ, ◌+◌, ◌*◌, ◌<◌, List, length, ◌++◌, map, slice_index}
+use Rattle.std.specs.List.{range_with_len}
+use Rattle.tiff_dirs.specs.Block.{Level, sample_bytes, texel_bytes}
+use Rattle.tiff_dirs.specs.Reader.{IsPartAt}
+use Rattle.tiff_dirs.specs.Texel.{sample_in, sample_place}
+use Rattle.tile_load.specs.declared.run.Run.{Run}
+use Rattle.tile_load.specs.declared.unpacking.Unpacking.{Unpacking}
+use Rattle.tile_load.specs.SampleValue.{value_as, unpacked_value}
+
+-- texel j of the run is the one in column x_of j and row y_of j: its samples stand there
+abbrev pub StandSideBySide : Level → Run → (ℕ → ℕ) → (ℕ → ℕ) → Type 0
+StandSideBySide level run x_of y_of =
+    (j c : ℕ) → j < run.texels → sample_place level (x_of j) (y_of j) c
+    ≡ run.at + j * texel_bytes level.shape + c * sample_bytes level.shape.depth
+
+-- these are the numbers of the first n of these texels, channels side by side
+abbrev pub AreValuesOf : List ℕ → Level → Unpacking → ℕ → (ℕ → ℕ) → (ℕ → ℕ) → List ℕ → Type 0
+AreValuesOf bytes level unpacking n x_of y_of values =
+    (j c : ℕ) → j < n → c < level.shape.channels
+    → slice_index values (j * level.shape.channels + c)
+    ≡ value_as unpacking.scaled level.shape.depth
+    (sample_in unpacking.format.big bytes level (x_of j) (y_of j) c)
+
+-- behind the values that were there stand those of the bytes of a run
+pub record AppendsRun (bytes : List ℕ) (unpacking : Unpacking) (run : Run) (old new : List ℕ)
+    : Type 0 where
+  pub span : List ℕ
+  pub part : IsPartAt bytes run.at span
+  pub long : length span ≡ run.texels * unpacking.format.texel_bytes
+  pub values : new ≡ old ++ map (unpacked_value unpacking span)
+      (range_with_len 0 (run.texels * unpacking.format.channels))

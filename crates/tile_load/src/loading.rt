@@ -1,0 +1,122 @@
+//! The texels of a cell of a stored level, through a tap.
+
+ghost use Rattle.std.specs.Prelude.{◌≡◌, ◌*◌, length, IfOk, IsOkAnd};
+ghost use Rattle.std.specs.Option.{ForSome};
+ghost use Rattle.tap_reader.specs.TapReader.{lent_of};
+ghost use Rattle.tile_layout.specs.Cell.{CellsFit};
+ghost use Rattle.tile_layout.specs.Cut.{IsCut};
+ghost use Rattle.tile_layout.specs.Kept.{level_in};
+ghost use Rattle.tile_layout.specs.Texel.{texel_at, AreTexelsOn};
+ghost use Rattle.tile_load.specs.Load.{IsLayoutOf, IsReadBy, NamesCell};
+ghost use Rattle.tile_load.specs.CellTile.{IsCellTile};
+ghost use Rattle.tile_load.specs.LoadError.{LeavesTap};
+ghost use Rattle.tile_store.specs.Told.{IsTold};
+
+use crate::load_error::{LoadError, load_error};
+use crate::place::Place;
+use crate::rect::read_rect;
+use file_table::Record;
+use std::alloc::Global;
+use tap_reader::TapReader;
+use tex_world::Tap;
+use tile_layout::{Cut, Layout, TileKey};
+use tile_store::Tile;
+
+/// The tile of a cell of a stored level of a record, read through the tap under a handle of the
+/// record's file and generation.
+///
+/// The record shows no fault, and all cells of its file fit the cut, which may be another one than
+/// the record's own.
+pub fn load<T: Tap>(
+    alloc: Global,
+    tap: &mut T,
+    handle: &mut T::Handle,
+    known: &Record<T::W>,
+    key: TileKey,
+    cut: Cut,
+) -> Result<Tile<T::W>, LoadError>
+    requires reads { IsReadBy (T.Handle.named handle.old) known.now }
+    requires cut { IsCut cut }
+    requires cell { IsOkAnd known.now.layout (λ layout.
+        NamesCell (T.Handle.named handle.old) layout cut key) }
+    requires fits { IsOkAnd known.now.layout (λ layout. CellsFit layout cut) }
+    ensures tile { IsOkAnd known.now.layout (λ layout.
+        IfOk result (IsCellTile layout cut key)) }
+    ensures told { IfOk result (IsTold T.W.files) }
+    ensures tap { LeavesTap T.W.files
+        (lent_of (T.Handle.named handle.old) (T.state tap.old))
+        (lent_of (T.Handle.named handle.new) (T.state tap.new)) result }
+{
+    match known.layout() {
+        Ok(layout) => load_at(alloc, tap, handle, layout, key, cut),
+        Err(_) => unreachable!(),
+    }
+}
+
+/// The tile of a cell of a stored level, read through the tap under a handle of its file and
+/// generation. The layout is that of the handle's bytes.
+///
+/// A cell that is whole rows of a strip or tile, as a stored tile is, takes a read for each
+/// 256 KiB. So do rows that stand close together. Besides the tile it takes the bytes of a row and
+/// at most 256 KiB that are read ahead.
+pub fn load_at<T: Tap>(
+    alloc: Global,
+    tap: &mut T,
+    handle: &mut T::Handle,
+    layout: &Layout,
+    key: TileKey,
+    cut: Cut,
+) -> Result<Tile<T::W>, LoadError>
+    requires cell { NamesCell (T.Handle.named handle.old) layout.now cut key }
+    requires cut { IsCut cut }
+    requires fits { CellsFit layout.now cut }
+    requires layout { ForSome (T.W.files.held (T.Handle.named handle.old).file
+        (T.Handle.named handle.old).generation) (λ bytes. IsLayoutOf bytes layout.now) }
+    ensures tile { IfOk result (IsCellTile layout.now cut key) }
+    ensures told { IfOk result (IsTold T.W.files) }
+    ensures tap { LeavesTap T.W.files
+        (lent_of (T.Handle.named handle.old) (T.state tap.old))
+        (lent_of (T.Handle.named handle.new) (T.state tap.new)) result }
+{
+    // each stored level is one of the levels whose cells fit
+    let _levels = layout.levels(cut);
+    let level = key.level();
+    let rect = layout.cell_rect(level, cut, key.index());
+    let place = Place {
+        layout,
+        level,
+        rect,
+    };
+    match read_place(alloc, tap, handle, &place) {
+        Ok(texels) => Ok(Tile::new(key, rect, layout.channels(), texels)),
+        Err(error) => Err(error),
+    }
+}
+
+/// The texels of a place, in the depth of the file.
+fn read_place<T: Tap>(
+    alloc: Global,
+    tap: &mut T,
+    handle: &mut T::Handle,
+    place: &Place<'_>,
+) -> Result<Vec<u16>, LoadError>
+    requires layout { ForSome (T.W.files.held (T.Handle.named handle.old).file
+        (T.Handle.named handle.old).generation)
+        (λ bytes. IsLayoutOf bytes place.now.layout.now) }
+    ensures count { IfOk result (λ texels. length texels.items ≡ place.now.rect.w
+        * place.now.rect.h * (level_in place.now.layout.now place.now.level).shape.channels) }
+    ensures told { ForSome (T.W.files.held (T.Handle.named handle.old).file
+        (T.Handle.named handle.old).generation) (λ bytes. IfOk result (λ texels.
+        AreTexelsOn (texel_at bytes place.now.level)
+        (level_in place.now.layout.now place.now.level).shape.channels
+        place.now.rect texels.items)) }
+    ensures tap { LeavesTap T.W.files
+        (lent_of (T.Handle.named handle.old) (T.state tap.old))
+        (lent_of (T.Handle.named handle.new) (T.state tap.new)) result }
+{
+    let mut reader = TapReader { tap, handle };
+    match read_rect(alloc, &mut reader, place.layout, place.level, place.rect) {
+        Ok(texels) => Ok(texels),
+        Err(error) => Err(load_error(error)),
+    }
+}
