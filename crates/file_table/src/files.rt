@@ -25,7 +25,7 @@ use waiter::Waiter;
 type RecordLock<W> = TagLock<KnownRecord<W>, OfFile<W>>;
 
 /// The lock of the handles that lie idle. Its tag is the most that there may be.
-type IdleLock<H> = TagLock<IdleHandles<H>, SoMany>;
+type IdleLock<H> = TagLock<Box<IdleHandles<H>>, SoMany>;
 
 /// The files of a folder as many workers use them. In a clause it is its board, the most handles
 /// that lie idle in it, and the cut that its files are used under. It holds no tap: `T` names the
@@ -80,7 +80,9 @@ impl<T: Tap> Files<T> {
         let Ok(records) = record_locks(alloc, files) else {
             return Err(NoMemory);
         };
-        let idle = IdleHandles::new(alloc, cap)?;
+        let Ok(idle) = Box::new(alloc, IdleHandles::new(alloc, cap)?) else {
+            return Err(NoMemory);
+        };
         let table = Files {
             alloc,
             board,

@@ -118,6 +118,6 @@ impl<H: TapHandle + Drop> IdleHandles<H> {
 /// The handles that may lie idle are as many as the tag says.
 pub(crate) struct SoMany;
 
-impl<H: TapHandle + Drop> TagRule<IdleHandles<H>> for SoMany {
-    ghost fits = { λ tag idle. idle.cap ≡ tag };
+impl<H: TapHandle + Drop> TagRule<Box<IdleHandles<H>>> for SoMany {
+    ghost fits = { λ tag idle. idle.value.cap ≡ tag };
 }
