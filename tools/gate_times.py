@@ -6,7 +6,9 @@
 
 It runs in the folder that it is started in, ends with the status of the command, and prints a table
 behind what the command prints: a row for each crate, with its proof, its tests (their proof, and their
-run), its must-fail edits, and all else (building and running a program), the dearest crate first.
+run), its must-fail edits, and all else (building and running a program), the dearest crate first. Behind
+it stand the edits by themselves, the dearest first; `whole check` is the check of a crate as it stands,
+which its edits begin with.
 
 How it counts: every half second it reads from /proc the time that each process of the command has
 used, alone and not with its children, and keeps the last reading of each. A process belongs to the
@@ -62,16 +64,30 @@ def words_of(pid):
         return words, ""
 
 
+def edit_of(crate, folder):
+    """The edit that is tried in a folder: the one whose new text stands in the file that it names and its old one does not."""
+    for edit in sorted(Path("crates", crate, "must-fail").glob("*.edit")):
+        lines = [it.partition(": ")[::2] for it in edit.read_text().splitlines()]
+        file, old, new = ([text for word, text in lines if word == it][:1] for it in ("file", "old", "new"))
+        text = Path(folder, *file).read_text()
+        if new and old and new[0] in text and text.count(old[0]) == new[0].count(old[0]):
+            return edit.stem
+    return "whole check"
+
+
 class Seen:
-    """What was last read of a process: its crate and kind, and the ticks that it has used."""
+    """What was last read of a process: its crate and kind, the edit that it tries, and the ticks that it has used."""
 
     def __init__(self, label):
-        self.label, self.ticks = label, 0
+        self.label, self.ticks, self.edit = label, 0, None
 
     def read(self, pid, ticks):
         self.ticks = ticks
         try:
-            self.label = label_of(*words_of(pid), self.label)
+            words, folder = words_of(pid)
+            self.label = label_of(words, folder, self.label)
+            if self.label[1] == "edits" and self.edit is None and "--crate-name" in words:
+                self.edit = edit_of(self.label[0], folder)
         except OSError:
             pass  # it ended meanwhile
 
@@ -110,11 +126,21 @@ class Watch:
         return table
 
 
+    def edits(self):
+        """The seconds of each edit that was tried, with its crate."""
+        table = {}
+        for it in self.seen.values():
+            if it.edit:
+                name = it.label[0], it.edit
+                table[name] = table.get(name, 0.0) + it.ticks / TICKS
+        return table
+
+
 def row(name, values):
     return f"{name:<18}" + "".join(f"{it:>9.1f}" for it in values)
 
 
-def say(table, counted, wall):
+def say(table, edits, counted, wall):
     """Prints the table of the seconds."""
     print(f"\n{'processor seconds':<18}" + "".join(f"{it:>9}" for it in [*KINDS, "all"]))
     total = lambda it: sum(table[it].values())
@@ -122,6 +148,8 @@ def say(table, counted, wall):
         print(row(crate, [*table[crate].values(), total(crate)]))
     sums = [sum(table[it][kind] for it in table) for kind in KINDS]
     print(row("in all", [*sums, sum(sums)]))
+    for (crate, edit), seconds in sorted(edits.items(), key=lambda it: -it[1]):
+        print(row(crate, [seconds]), edit)
     print(f"not seen {counted - sum(sums):.1f}, counted by the system {counted:.1f}, wall {wall:.1f}")
 
 
@@ -136,7 +164,7 @@ def main(words):
         watch.read()
         time.sleep(PERIOD)
     used = resource.getrusage(resource.RUSAGE_CHILDREN)
-    say(watch.sums(), used.ru_utime + used.ru_stime, time.monotonic() - began)
+    say(watch.sums(), watch.edits(), used.ru_utime + used.ru_stime, time.monotonic() - began)
     return child.returncode if child.returncode >= 0 else 128 - child.returncode
 
 

@@ -1,19 +1,14 @@
 //! The cells of levels: how many there are, which holds a texel, and its rectangle.
 
-ghost use Rattle.std.specs.Prelude.{◌≡◌};
-
-use crate::layouts::layout_of;
+use crate::layouts::{Place, cut_of, layout_of};
 use std::test::Fail;
-use tile_layout::{Cut, Layout, Rect};
+use tile_layout::Layout;
 
 /// 131072 by 1.
 const WIDEST: &str = "A to=131194 12=4 18=0,0,2,0 30=1 102=1";
 
 /// 20 by 17, in tiles of 16 by 16.
 const EDGES: &str = "B 19=20 31=17 79=2 103=16 115=16";
-
-/// A column, a row, a width and a height.
-type Place = (u32, u32, u32, u32);
 
 /// A file, a level, the cut's side, a texel, how many cells there are across and down, and the
 /// number and the rectangle of the texel's cell.
@@ -55,23 +50,14 @@ static CELLS: &[CellRow] = &[
     ),
 ];
 
-/// The numbers of cells of a level, and the number and the rectangle of a texel's cell.
-type Cell = ((u32, u32), u32, Rect);
-
-/// The cut of these cells.
-fn cut_of(autotile: u32) -> Cut
-    ensures { result.autotile ≡ autotile }
-{
-    Cut {
-        autotile,
-        automip: true,
-    }
-}
+/// The numbers of cells of a level across and down, the number of a texel's cell, and its column,
+/// row, width and height.
+type Cell = [u32; 7];
 
 /// The cell of a texel, where there is such a cut, level and texel.
 fn cell_of(layout: &Layout, level: u32, autotile: u32, (x, y): (u32, u32)) -> Option<Cell> {
-    let cut = cut_of(autotile);
-    if autotile % 16 != 0 || autotile > 4096 || level >= layout.levels(cut) {
+    let cut = cut_of(autotile, true)?;
+    if level >= layout.levels(cut) {
         return None;
     }
     let (width, height) = layout.size(level);
@@ -80,23 +66,28 @@ fn cell_of(layout: &Layout, level: u32, autotile: u32, (x, y): (u32, u32)) -> Op
     }
     let index = layout.cell_at(level, cut, x, y);
     let rect = layout.cell_rect(level, cut, index);
-    Some((layout.cells(level, cut), index, rect))
+    let (across, down) = layout.cells(level, cut);
+    Some([across, down, index, rect.x, rect.y, rect.w, rect.h])
+}
+
+/// The cell of a row's texel is as the row says.
+fn is_cell(layout: &Layout, row: &CellRow) -> bool {
+    let (_, level, autotile, texel, (across, down), index, (x, y, w, h)) = row;
+    match cell_of(layout, *level, *autotile, *texel) {
+        Some(cell) => cell == [*across, *down, *index, *x, *y, *w, *h],
+        None => false,
+    }
 }
 
 #[test]
 fn cuts_levels_into_cells(rt: HostRuntime) -> Result<(), Fail> {
-    for (file, level, autotile, texel, count, index, (x, y, w, h)) in CELLS {
+    for row in CELLS {
+        let (file, level, autotile, (x, y), _, _, _) = row;
         let layout = layout_of(rt.alloc(), file)?;
-        let rect = Rect {
-            x: *x,
-            y: *y,
-            w: *w,
-            h: *h,
-        };
-        assert_eq!(rt;
-            cell_of(&layout, *level, *autotile, *texel),
-            Some((*count, *index, rect)),
-            "{file}, level {level}, texel {texel:?}"
+        let is_so = is_cell(&layout, row);
+        assert!(rt;
+            is_so,
+            "{file}, level {level}, cut by {autotile}, texel {x} {y}"
         );
     }
     Ok(())
@@ -114,23 +105,20 @@ static FITS: &[(&str, u32, bool)] = &[
     ("B", 0, true),
 ];
 
-/// Whether all cells fit, where there is such a cut.
-fn fits(layout: &Layout, autotile: u32) -> Option<bool> {
-    if autotile % 16 != 0 || autotile > 4096 {
-        return None;
+/// There is such a cut, and all its cells fit or do not, as is wanted.
+fn fits_as(layout: &Layout, autotile: u32, wanted: bool) -> bool {
+    match cut_of(autotile, true) {
+        Some(cut) => layout.fits(cut) == wanted,
+        None => false,
     }
-    Some(layout.fits(cut_of(autotile)))
 }
 
 #[test]
 fn tells_whether_cells_fit(rt: HostRuntime) -> Result<(), Fail> {
     for (file, autotile, wanted) in FITS {
         let layout = layout_of(rt.alloc(), file)?;
-        assert_eq!(rt;
-            fits(&layout, *autotile),
-            Some(*wanted),
-            "{file}, cut by {autotile}"
-        );
+        let is_so = fits_as(&layout, *autotile, *wanted);
+        assert!(rt; is_so, "{file}, cut by {autotile}");
     }
     Ok(())
 }

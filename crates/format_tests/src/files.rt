@@ -53,47 +53,65 @@ const HALF: [u8; 70] = [
     200, 201, 202, 203, // at 204: samples
 ];
 
+/// What stands before the tiles of the file `B`.
+const TILED_HEAD: [u8; 184] = [
+    0x4d, 0x4d, 0, 0x2a, 0, 0, 0, 8, // header, the directory at 8
+    0, 11, // entries
+    1, 0x00, 0, 3, 0, 0, 0, 1, 0, 80, 0, 0, // ImageWidth 80
+    1, 0x01, 0, 3, 0, 0, 0, 1, 0, 48, 0, 0, // ImageLength 48
+    1, 0x02, 0, 3, 0, 0, 0, 3, 0, 0, 0, 146, // BitsPerSample, three values at 146
+    1, 0x03, 0, 3, 0, 0, 0, 1, 0, 1, 0, 0, // Compression 1
+    1, 0x06, 0, 3, 0, 0, 0, 1, 0, 2, 0, 0, // RGB
+    1, 0x15, 0, 3, 0, 0, 0, 1, 0, 3, 0, 0, // SamplesPerPixel 3
+    1, 0x1c, 0, 3, 0, 0, 0, 1, 0, 1, 0, 0, // chunky
+    1, 0x42, 0, 3, 0, 0, 0, 1, 0, 64, 0, 0, // TileWidth 64
+    1, 0x43, 0, 3, 0, 0, 0, 1, 0, 32, 0, 0, // TileLength 32
+    1, 0x44, 0, 4, 0, 0, 0, 4, 0, 0, 0, 152, // TileOffsets, four values at 152
+    1, 0x45, 0, 4, 0, 0, 0, 4, 0, 0, 0, 168, // TileByteCounts
+    0, 0, 0, 0, // at 142: no further directory
+    0, 16, 0, 16, 0, 16, // at 146
+    0, 0, 0, 0xb8, 0, 0, 0x30, 0xb8, // at 152: 184, 12472,
+    0, 0, 0x60, 0xb8, 0, 0, 0x90, 0xb8, // 24760, 37048
+    0, 0, 0x30, 0, 0, 0, 0x30, 0, 0, 0, 0x30, 0, 0, 0, 0x30, 0, // at 168: 12288 each
+];
+
+/// Channel c of the texel (x, y) of the file `B`, or its padding.
+fn tiled_sample(x: u16, y: u16, c: u16) -> u16 {
+    if x < 80 && y < 48 && c < 3 {
+        20000 * c + 100 * y + x
+    } else {
+        65535
+    }
+}
+
+/// A row of 64 texels of a tile.
+fn push_tile_row(file: &mut Vec<u8>, left: u16, y: u16) -> Result<(), AllocError> {
+    for column in 0..64u16 {
+        for c in 0..3u16 {
+            let sample = tiled_sample(left.wrapping_add(column), y, c);
+            file.extend_from_slice(&sample.to_be_bytes())?;
+        }
+    }
+    Ok(())
+}
+
+/// A tile of 64 by 32 texels, the first of which is that one.
+fn push_tile(file: &mut Vec<u8>, left: u16, top: u16) -> Result<(), AllocError> {
+    for row in 0..32u16 {
+        push_tile_row(file, left, top.wrapping_add(row))?;
+    }
+    Ok(())
+}
+
 /// 80 by 48, 16 bits, three channels, big-endian, tiles of 64 by 32; channel c of the texel (x, y)
 /// is 20000 * c + 100 * y + x, and the padding 65535.
 fn tiled(alloc: Global) -> Result<Vec<u8>, AllocError> {
-    let head: [u8; 184] = [
-        0x4d, 0x4d, 0, 0x2a, 0, 0, 0, 8, // header, the directory at 8
-        0, 11, // entries
-        1, 0x00, 0, 3, 0, 0, 0, 1, 0, 80, 0, 0, // ImageWidth 80
-        1, 0x01, 0, 3, 0, 0, 0, 1, 0, 48, 0, 0, // ImageLength 48
-        1, 0x02, 0, 3, 0, 0, 0, 3, 0, 0, 0, 146, // BitsPerSample, three values at 146
-        1, 0x03, 0, 3, 0, 0, 0, 1, 0, 1, 0, 0, // Compression 1
-        1, 0x06, 0, 3, 0, 0, 0, 1, 0, 2, 0, 0, // RGB
-        1, 0x15, 0, 3, 0, 0, 0, 1, 0, 3, 0, 0, // SamplesPerPixel 3
-        1, 0x1c, 0, 3, 0, 0, 0, 1, 0, 1, 0, 0, // chunky
-        1, 0x42, 0, 3, 0, 0, 0, 1, 0, 64, 0, 0, // TileWidth 64
-        1, 0x43, 0, 3, 0, 0, 0, 1, 0, 32, 0, 0, // TileLength 32
-        1, 0x44, 0, 4, 0, 0, 0, 4, 0, 0, 0, 152, // TileOffsets, four values at 152
-        1, 0x45, 0, 4, 0, 0, 0, 4, 0, 0, 0, 168, // TileByteCounts
-        0, 0, 0, 0, // at 142: no further directory
-        0, 16, 0, 16, 0, 16, // at 146
-        0, 0, 0, 0xb8, 0, 0, 0x30, 0xb8, // at 152: 184, 12472,
-        0, 0, 0x60, 0xb8, 0, 0, 0x90, 0xb8, // 24760, 37048
-        0, 0, 0x30, 0, 0, 0, 0x30, 0, 0, 0, 0x30, 0, 0, 0, 0x30, 0, // at 168: 12288 each
-    ];
-    let mut bytes = Vec::from_slice(alloc, &head)?;
-    for (left, top) in [(0u16, 0u16), (64, 0), (0, 32), (64, 32)] {
-        for row in 0..32u16 {
-            for column in 0..64u16 {
-                let x = left.wrapping_add(column);
-                let y = top.wrapping_add(row);
-                for c in 0..3u16 {
-                    let value = if x < 80 && y < 48 {
-                        20000 * c + 100 * y + x
-                    } else {
-                        65535
-                    };
-                    bytes.extend_from_slice(&value.to_be_bytes())?;
-                }
-            }
-        }
-    }
-    Ok(bytes)
+    let mut file = Vec::from_slice(alloc, &TILED_HEAD)?;
+    push_tile(&mut file, 0, 0)?;
+    push_tile(&mut file, 64, 0)?;
+    push_tile(&mut file, 0, 32)?;
+    push_tile(&mut file, 64, 32)?;
+    Ok(file)
 }
 
 /// The small file, its next offset leading to its half behind it.

@@ -1,11 +1,16 @@
 //! The levels of a file, how their samples are stored, and where the texels of a rectangle lie.
 
+ghost use Rattle.std.specs.Prelude.{◌+◌, ◌<◌, ◌≤◌, ◌↔◌, IfSome, IsTrue};
+ghost use Rattle.tile_layout.specs.Cut.{IsCut};
+ghost use Rattle.tile_layout.specs.Kept.{stored_count};
+ghost use Rattle.tile_layout.specs.Pieces.{LiesOnLevel};
+
 use crate::files::file_of;
 use crate::mem_reader::MemReader;
-use std::alloc::{AllocError, Global};
+use std::alloc::Global;
 use std::test::Fail;
 use tiff_dirs::read_dirs;
-use tile_layout::{Cut, Layout, Rect};
+use tile_layout::{Cut, Layout, Piece, Rect, TexelFormat};
 
 /// 131072 by 1.
 const WIDEST: &str = "A to=131194 12=4 18=0,0,2,0 30=1 102=1";
@@ -18,20 +23,27 @@ const STRIPS: &str = "A to=400 18=5 42=16 66=0 72=3 74=2 78=100,0,44,1 90=3 102=
 /// tile has 64 bytes.
 const EDGES: &str = "B 19=20 31=17 79=2 103=16 115=16";
 
-const HALVED: Cut = Cut {
-    autotile: 64,
-    automip: true,
-};
+/// The cut by squares of a side, where there is one.
+pub(crate) fn cut_of(autotile: u32, automip: bool) -> Option<Cut>
+    ensures { IfSome result (λ cut. IsCut cut) }
+{
+    if autotile % 16 != 0 || autotile > 4096 {
+        return None;
+    }
+    Some(Cut { autotile, automip })
+}
 
-const AS_STORED: Cut = Cut {
-    autotile: 0,
-    automip: false,
-};
+/// The layout of a file of these bytes.
+pub(crate) fn layout_in(alloc: Global, bytes: &[u8]) -> Result<Layout, Fail> {
+    match read_dirs(alloc, &mut MemReader::new(bytes, 0)) {
+        Ok(dirs) => Ok(Layout::of(dirs)),
+        Err(error) => Err(error.into()),
+    }
+}
 
 pub(crate) fn layout_of(alloc: Global, file: &str) -> Result<Layout, Fail> {
     let bytes = file_of(alloc, file)?;
-    let dirs = read_dirs(alloc, &mut MemReader::new(&bytes, 0))?;
-    Ok(Layout::of(dirs))
+    layout_in(alloc, &bytes)
 }
 
 /// A file, how many levels it stores, and the sizes of those that it has with the halved ones.
@@ -80,32 +92,43 @@ static LEVELS: &[LevelsRow] = &[
     ),
 ];
 
-/// The size of a level, where there is one.
-fn size_of(layout: &Layout, level: u32) -> Option<(u32, u32)> {
-    if level < layout.levels(HALVED) {
-        Some(layout.size(level))
-    } else {
-        None
+/// There is such a level, and it has this size.
+fn has_size(layout: &Layout, cut: Cut, level: u32, size: (u32, u32)) -> bool
+    requires { IsCut cut }
+{
+    if level >= layout.levels(cut) {
+        return false;
     }
+    let (width, height) = layout.size(level);
+    width == size.0 && height == size.1
+}
+
+/// How many levels, from 0 on, have the sizes of a row.
+fn levels_of(layout: &Layout, cut: Cut, sizes: &[(u32, u32)]) -> u32
+    requires { IsCut cut }
+{
+    let mut level = 0u32;
+    for size in sizes {
+        if !has_size(layout, cut, level, *size) {
+            return level;
+        }
+        level = level.saturating_add(1);
+    }
+    level
 }
 
 #[test]
 fn counts_the_levels(rt: HostRuntime) -> Result<(), Fail> {
+    let halved = cut_of(64, true).ok_or("no such cut")?;
+    let as_stored = cut_of(0, false).ok_or("no such cut")?;
     for (file, stored, sizes) in LEVELS {
         let layout = layout_of(rt.alloc(), file)?;
-        assert_eq!(rt;
-            (layout.stored(), layout.levels(AS_STORED)),
-            (*stored, *stored),
-            "{file}"
-        );
-        assert_eq!(rt; layout.levels(HALVED) as usize, sizes.len(), "{file}");
-        for (level, size) in sizes.iter().enumerate() {
-            assert_eq!(rt;
-                size_of(&layout, level as u32),
-                Some(*size),
-                "{file}, level {level}"
-            );
-        }
+        assert_eq!(rt; layout.stored(), *stored, "{file}");
+        assert_eq!(rt; layout.levels(as_stored), *stored, "{file}");
+        let levels = layout.levels(halved);
+        assert_eq!(rt; levels as usize, sizes.len(), "{file}");
+        let right = levels_of(&layout, halved, sizes);
+        assert_eq!(rt; right, levels, "{file}, the first level of another size");
     }
     Ok(())
 }
@@ -122,24 +145,38 @@ static SAMPLES: &[SamplesRow] = &[
     (EDGES, (16, 2, false), true, (0, 4)),
 ];
 
+/// The layout tells the samples of a row.
+fn has_samples(layout: &Layout, row: &SamplesRow) -> bool {
+    let (_, (depth, channels, white), big, _) = row;
+    layout.stored() > 0
+        && layout.depth() == *depth
+        && layout.channels() == *channels
+        && layout.white(0) == *white
+        && layout.big() == *big
+}
+
+/// A format tells the samples of a row.
+fn is_format(format: &TexelFormat, row: &SamplesRow) -> bool {
+    let (_, (depth, channels, white), big, (invert, texel_bytes)) = row;
+    format.depth == *depth
+        && format.channels == *channels as usize
+        && (format.invert != 0) == *white
+        && format.big == *big
+        && format.invert == *invert
+        && format.texel_bytes == *texel_bytes
+}
+
+/// The format of level 0 tells the samples of a row.
+fn has_format(layout: &Layout, row: &SamplesRow) -> bool {
+    layout.stored() > 0 && is_format(&layout.format(0), row)
+}
+
 #[test]
 fn shows_the_samples(rt: HostRuntime) -> Result<(), Fail> {
-    for (file, samples, big, (invert, texel_bytes)) in SAMPLES {
-        let layout = layout_of(rt.alloc(), file)?;
-        if layout.stored() == 0 {
-            return Err("no level".into());
-        }
-        let shown = (layout.depth(), layout.channels(), layout.white(0));
-        assert_eq!(rt; shown, *samples, "{file}");
-        let format = layout.format(0);
-        let told = (format.depth, format.channels as u32, format.invert != 0);
-        assert_eq!(rt; told, *samples, "{file}");
-        assert_eq!(rt; (format.big, layout.big()), (*big, *big), "{file}");
-        assert_eq!(rt;
-            (format.invert, format.texel_bytes),
-            (*invert, *texel_bytes),
-            "{file}"
-        );
+    for row in SAMPLES {
+        let layout = layout_of(rt.alloc(), row.0)?;
+        assert!(rt; has_samples(&layout, row), "{}", row.0);
+        assert!(rt; has_format(&layout, row), "{}, its format", row.0);
     }
     Ok(())
 }
@@ -147,8 +184,11 @@ fn shows_the_samples(rt: HostRuntime) -> Result<(), Fail> {
 /// A place in the file, a column and a row, and how many texels stand side by side there.
 type Texels = (u64, u32, u32, u32);
 
-/// A file, a level, a rectangle's column, row, width and height, and its pieces.
-type PiecesRow = (&'static str, u32, (u32, u32, u32, u32), &'static [Texels]);
+/// A column, a row, a width and a height.
+pub(crate) type Place = (u32, u32, u32, u32);
+
+/// A file, a level, a rectangle, and its pieces.
+type PiecesRow = (&'static str, u32, Place, &'static [Texels]);
 
 static PIECES: &[PiecesRow] = &[
     (
@@ -193,39 +233,60 @@ static PIECES: &[PiecesRow] = &[
     (EDGES, 0, (18, 3, 2, 1), &[(12672, 18, 3, 2)]),
 ];
 
-/// The pieces of a rectangle, where the level is stored and the rectangle lies on it.
-fn pieces_of(
-    alloc: Global,
-    layout: &Layout,
-    level: u32,
-    rect: Rect,
-) -> Result<Option<Vec<Texels>>, AllocError> {
+/// So many texels from one of them on lie on a side.
+fn lies_on(from: u32, count: u32, side: u32) -> bool
+    ensures { IsTrue result ↔ from + count ≤ side }
+{
+    from <= side && count <= side - from
+}
+
+/// The rectangle of a place, where the level is stored and the rectangle lies on it.
+pub(crate) fn rect_on(layout: &Layout, level: u32, place: Place) -> Option<Rect>
+    ensures stored { IfSome result (λ rect. level < stored_count layout.now) }
+    ensures inside { IfSome result (λ rect. LiesOnLevel layout.now level rect) }
+{
+    let (x, y, w, h) = place;
     if level >= layout.stored() {
-        return Ok(None);
+        return None;
     }
     let (width, height) = layout.size(level);
-    if rect.x > width || rect.w > width - rect.x || rect.y > height || rect.h > height - rect.y {
-        return Ok(None);
+    if lies_on(x, w, width) && lies_on(y, h, height) {
+        Some(Rect { x, y, w, h })
+    } else {
+        None
     }
-    let mut pieces = Vec::new(alloc);
+}
+
+fn is_at(piece: &Piece, wanted: &Texels) -> bool {
+    let (at, x, y, n) = wanted;
+    piece.at == *at && piece.x == *x && piece.y == *y && piece.n == *n
+}
+
+/// The rectangle lies on the stored level, and its pieces are the wanted ones.
+fn has_pieces(layout: &Layout, level: u32, place: Place, wanted: &[Texels]) -> bool {
+    let Some(rect) = rect_on(layout, level, place) else {
+        return false;
+    };
+    let mut count = 0usize;
     for piece in layout.pieces(level, rect) {
-        pieces.push((piece.at, piece.x, piece.y, piece.n))?;
+        if count >= wanted.len() || !is_at(&piece, &wanted[count]) {
+            return false;
+        }
+        count = count.saturating_add(1);
     }
-    Ok(Some(pieces))
+    count == wanted.len()
 }
 
 #[test]
 fn places_the_pieces(rt: HostRuntime) -> Result<(), Fail> {
-    for (file, level, (x, y, w, h), wanted) in PIECES {
-        let rect = Rect {
-            x: *x,
-            y: *y,
-            w: *w,
-            h: *h,
-        };
+    for (file, level, place, wanted) in PIECES {
         let layout = layout_of(rt.alloc(), file)?;
-        let pieces = pieces_of(rt.alloc(), &layout, *level, rect)?.ok_or("no such rectangle")?;
-        assert_eq!(rt; pieces.as_slice(), *wanted, "{file}, {rect:?}");
+        let is_so = has_pieces(&layout, *level, *place, wanted);
+        assert!(rt;
+            is_so,
+            "{file}, {} {} {} {}",
+            place.0, place.1, place.2, place.3
+        );
     }
     Ok(())
 }

@@ -97,7 +97,7 @@ fn assert_tiles(rt: &impl Abort, dir: &Dir, side: u32, first: u64) -> u64 {
         tile: Some((64, 64)),
         rows_per_strip: u32::MAX,
     };
-    assert_eq!(rt; shape_of(dir), shape);
+    assert!(rt; shape_of(dir) == shape, "the level of side {side}");
     let mut place = first;
     for offset in &dir.offsets {
         assert_eq!(rt; *offset, place);
@@ -110,7 +110,8 @@ fn assert_tiles(rt: &impl Abort, dir: &Dir, side: u32, first: u64) -> u64 {
 fn reads_the_wall(rt: HostRuntime) -> Result<(), Fail> {
     let bytes = wall(rt.alloc())?;
     assert_eq!(rt; bytes.len(), 4_266_624);
-    assert_eq!(rt; (first_fault(&bytes), stored_levels(&bytes)), (None, 11));
+    assert!(rt; first_fault(&bytes).is_none());
+    assert_eq!(rt; stored_levels(&bytes), 11);
     let dirs = read_dirs(rt.alloc(), &mut MemReader::new(&bytes, 0))?;
     assert_eq!(rt; dirs.levels.len(), 11);
     let mut side = 1024;

@@ -1,5 +1,6 @@
-//! Tests of the crates that read the format, over small files in memory: the levels or the first
-//! fault of a file, its samples, the reads that it takes, and where its texels lie. Expected values
+//! Tests of what is read of a file, over small files in memory: the levels or the first fault of a
+//! file, its samples, the reads that it takes, and where its texels lie; keys, cells loaded through
+//! taps, the texels of a tile, and a shard call by call and beside a plain list. Expected values
 //! were worked out by hand from the rules, and no program's output is among them.
 #![tactic(auto)]
 
@@ -8,11 +9,15 @@ mod answers;
 #[cfg(test)]
 mod built_files;
 #[cfg(test)]
+mod cell_loads;
+#[cfg(test)]
 mod cells;
 #[cfg(test)]
 mod directory_rows;
 #[cfg(test)]
 mod files;
+#[cfg(test)]
+mod keys;
 #[cfg(test)]
 mod layouts;
 #[cfg(test)]
@@ -20,10 +25,24 @@ mod level_rows;
 #[cfg(test)]
 mod mem_reader;
 #[cfg(test)]
+mod plain_shard;
+#[cfg(test)]
 mod reads;
 #[cfg(test)]
 mod rects;
 #[cfg(test)]
+mod regions;
+#[cfg(test)]
+mod shard_calls;
+#[cfg(test)]
+mod shards;
+#[cfg(test)]
 mod texels;
 #[cfg(test)]
+mod tiled;
+#[cfg(test)]
+mod tiles;
+#[cfg(test)]
 mod unpacking;
+#[cfg(test)]
+mod untold;

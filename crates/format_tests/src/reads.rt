@@ -4,73 +4,73 @@ use crate::files::file_of;
 use crate::mem_reader::{Failed, MemReader};
 use std::alloc::Global;
 use std::test::Fail;
-use tiff_dirs::{Dirs, DirsError, read_dirs};
+use tiff_dirs::{Dirs, DirsError, TiffFault, read_dirs};
 
 /// What is said of a file, the file, its outcome, and how many reads it takes of how many bytes in
 /// all. Each has one read of 8 bytes for its header. A directory has one of 2 bytes for its count,
-/// one for its entries and one of 4 bytes for its next offset, and further ones as its row says.
+/// one for its entries and the 4 bytes of its next offset, and further ones as its row says.
 type Row = (&'static str, &'static str, &'static str, u64, u64);
 
 static ROWS: &[Row] = &[
-    ("one directory", "A", "1 levels", 4, 8 + 2 + 108 + 4),
+    ("one directory", "A", "1 levels", 3, 8 + 2 + 108 + 4),
     (
         "one value of BitsPerSample, all three, and the offsets",
         "B",
         "1 levels",
-        7,
-        8 + 2 + 132 + 2 + 6 + 16 + 4,
+        6,
+        8 + 2 + 132 + 4 + 2 + 6 + 16,
     ),
-    ("two levels", "Two", "2 levels", 7, 8 + 114 + 66),
-    // A page is no half of another: its next offset is not read.
-    ("two pages", "Pages", "1 levels", 6, 8 + 114 + 110),
+    ("two levels", "Two", "2 levels", 5, 8 + 114 + 66),
+    // A page is no half of another: nothing behind its directory is read.
+    ("two pages", "Pages", "1 levels", 5, 8 + 114 + 114),
     // Its BitsPerSample, three values at 122, is not read.
     (
         "a half of two channels",
         "Two 168=3 172=122 188=21 196=2",
         "1 levels",
-        6,
-        8 + 114 + 62,
+        5,
+        8 + 114 + 66,
     ),
-    // 1 by 1 is the last level: its next offset is not read.
-    ("18 levels", "Chain", "18 levels", 54, 8 + 18 * 50 + 17 * 4),
+    // 1 by 1 is the last level: its next offset, which leads to the first, is not followed.
+    ("18 levels", "Chain", "18 levels", 37, 8 + 18 * 54),
     // Nothing behind a fault is read.
-    ("no rows", "A 102=0", "ZeroSize", 3, 8 + 110),
+    ("no rows", "A 102=0", "ZeroSize", 3, 8 + 114),
     (
         "a strip of level 0 in the header",
         "Two 78=7",
         "DataOutside { level: 0, index: 0 }",
         3,
-        8 + 110,
+        8 + 114,
     ),
     (
         "a strip of level 1 past the file, which leads on",
         "Two 184=205 200=8",
         "DataOutside { level: 1, index: 0 }",
-        6,
-        8 + 114 + 62,
+        5,
+        8 + 114 + 66,
     ),
     // Rows of one texel, each a strip: 16384 offsets at once, 64 KiB where they are LONG.
     (
         "20000 strips, their offsets LONG",
         "A 8*40000 to=600000 18=1 30=32,78 74=32,78,0,0,138 102=1",
         "1 levels",
-        3 + 2 + 1,
-        8 + 110 + 80_000 + 4,
+        3 + 2,
+        8 + 114 + 80_000,
     ),
     (
         "40000 strips, their offsets SHORT",
         "A 8*40000 18=1 30=64,156 72=3 74=64,156,0,0,138 102=1",
         "1 levels",
-        3 + 3 + 1,
-        8 + 110 + 80_000 + 4,
+        3 + 3,
+        8 + 114 + 80_000,
     ),
     // offsets behind the last block are not read
     (
         "60000 offsets of one strip",
         "A 8*60000 72=3 74=96,234,0,0,138",
         "1 levels",
-        3 + 1 + 1,
-        8 + 110 + 2 + 4,
+        3 + 1,
+        8 + 114 + 2,
     ),
     // BitsPerSample: its first value, and all values, 16384 at once
     (
@@ -78,37 +78,73 @@ static ROWS: &[Row] = &[
         "A 8*60000 38=96,234,0,0,138 90=96,234",
         "TooLarge",
         3 + 1 + 4,
-        8 + 110 + 2 + 120_000,
+        8 + 114 + 2 + 120_000,
     ),
-    // at most 5461 entries at once
+    // at most 5461 entries at once, and the 4 bytes behind them
     (
         "65535 entries",
         "A to=786434 8=255,255",
         "1 levels",
-        2 + 13 + 1,
-        8 + 2 + 786_420 + 4,
+        2 + 13,
+        8 + 2 + 786_420 + 13 * 4,
     ),
 ];
 
+fn levels_text(alloc: Global, levels: usize) -> Result<String, Fail> {
+    Ok(format!(in alloc; "{levels} levels")?)
+}
+
+fn fault_text(alloc: Global, fault: TiffFault) -> Result<String, Fail> {
+    Ok(format!(in alloc; "{fault:?}")?)
+}
+
+/// How many levels there are, or the first fault.
 fn outcome(alloc: Global, read: Result<Dirs, DirsError<Failed>>) -> Result<String, Fail> {
     match read {
-        Ok(dirs) => Ok(format!(in alloc; "{} levels", dirs.levels.len())?),
-        Err(DirsError::Fault(fault)) => Ok(format!(in alloc; "{fault:?}")?),
-        Err(DirsError::Reader(Failed(read))) => Ok(format!(in alloc; "read {read} failed")?),
-        Err(DirsError::NoMemory) => Err("no memory".into()),
+        Ok(dirs) => levels_text(alloc, dirs.levels.len()),
+        Err(DirsError::Fault(fault)) => fault_text(alloc, fault),
+        Err(error) => Err(error.into()),
     }
+}
+
+/// What reading a file's directories answers, and how many reads of how many bytes it takes.
+#[derive(Drop)]
+struct Reading {
+    text: String,
+    reads: u64,
+    filled: u64,
+}
+
+/// The read of that number fails.
+fn reading_of(alloc: Global, bytes: &[u8], failing: u64) -> Result<Reading, Fail> {
+    let mut reader = MemReader::new(bytes, failing);
+    let text = outcome(alloc, read_dirs(alloc, &mut reader))?;
+    Ok(Reading {
+        text,
+        reads: reader.reads,
+        filled: reader.filled,
+    })
 }
 
 #[test]
 fn counts_the_reads(rt: HostRuntime) -> Result<(), Fail> {
     for (what, file, wanted, reads, filled) in ROWS {
         let bytes = file_of(rt.alloc(), file)?;
-        let mut reader = MemReader::new(&bytes, 0);
-        let text = outcome(rt.alloc(), read_dirs(rt.alloc(), &mut reader))?;
-        assert_eq!(rt; text.as_str(), *wanted, "{what}");
-        assert_eq!(rt; (reader.reads, reader.filled), (*reads, *filled), "{what}");
+        let reading = reading_of(rt.alloc(), &bytes, 0)?;
+        assert_eq!(rt; reading.text.as_str(), *wanted, "{what}");
+        assert_eq!(rt; reading.reads, *reads, "{what}");
+        assert_eq!(rt; reading.filled, *filled, "{what}");
     }
     Ok(())
+}
+
+/// The read of that number fails and is named, and it is the last one.
+fn fails_at(alloc: Global, bytes: &[u8], failing: u64) -> bool {
+    let mut reader = MemReader::new(bytes, failing);
+    match read_dirs(alloc, &mut reader) {
+        Err(DirsError::Reader(Failed(read))) => read == failing && reader.reads == failing,
+        _ => false,
+    }
 }
 
 #[test]
@@ -116,14 +152,9 @@ fn each_read_fails_in_turn(rt: HostRuntime) -> Result<(), Fail> {
     for (what, file, _, reads, _) in ROWS {
         let bytes = file_of(rt.alloc(), file)?;
         for failing in 1..=*reads {
-            let mut reader = MemReader::new(&bytes, failing);
-            let text = outcome(rt.alloc(), read_dirs(rt.alloc(), &mut reader))?;
-            let wanted = format!(in rt.alloc(); "read {failing} failed")?;
-            assert_eq!(rt; text, wanted, "{what}");
-            assert_eq!(rt;
-                reader.reads,
-                failing,
-                "{what}: a read behind one that failed"
+            assert!(rt;
+                fails_at(rt.alloc(), &bytes, failing),
+                "{what}, read {failing}"
             );
         }
     }

@@ -1,18 +1,15 @@
 //! The samples of rectangles of levels, and how many reads they take.
 
 use crate::files::file_of;
-use crate::layouts::layout_of;
+use crate::layouts::{Place, layout_in, rect_on};
 use crate::mem_reader::{Failed, MemReader};
 use std::alloc::Global;
 use std::test::Fail;
-use tile_layout::{Layout, Rect};
+use tile_layout::Layout;
 use tile_load::{RegionError, read_rect};
 
 /// The samples of a rectangle, or why they were not read.
 type Samples = Result<Vec<u16>, RegionError<Failed>>;
-
-/// A column, a row, a width and a height.
-type Place = (u32, u32, u32, u32);
 
 /// The samples of a rectangle, where the level is stored and the rectangle lies on it.
 fn samples_of(
@@ -20,18 +17,49 @@ fn samples_of(
     reader: &mut MemReader<'_>,
     layout: &Layout,
     level: u32,
-    (x, y, w, h): Place,
+    place: Place,
 ) -> Option<Samples> {
-    if level >= layout.stored() {
-        return None;
+    match rect_on(layout, level, place) {
+        Some(rect) => Some(read_rect(alloc, reader, layout, level, rect)),
+        None => None,
     }
-    let (width, height) = layout.size(level);
-    if x > width || w > width - x || y > height || h > height - y {
-        return None;
-    }
-    let rect = Rect { x, y, w, h };
-    Some(read_rect(alloc, reader, layout, level, rect))
 }
+
+/// The samples of a rectangle, and how many reads of how many bytes they took.
+#[derive(Drop)]
+struct Taken {
+    samples: Vec<u16>,
+    reads: u64,
+    filled: u64,
+}
+
+/// What is read of a rectangle of a file, no read of which fails.
+fn taken_of(alloc: Global, file: &str, level: u32, place: Place) -> Result<Taken, Fail> {
+    let bytes = file_of(alloc, file)?;
+    let layout = layout_in(alloc, &bytes)?;
+    let mut reader = MemReader::new(&bytes, 0);
+    match samples_of(alloc, &mut reader, &layout, level, place) {
+        Some(Ok(samples)) => Ok(Taken {
+            samples,
+            reads: reader.reads,
+            filled: reader.filled,
+        }),
+        Some(Err(_)) => Err("not read".into()),
+        None => Err("no such rectangle".into()),
+    }
+}
+
+/// 4 by 6 in three strips of two rows, at 122, 130 and 138; the texel (x, y) is 16 * y + x.
+pub(crate) const STRIPS: &str = "A 16704*1 17218*1 20816*1 21330*1 122*1 130*1 138*1 \
+    30=6 72=3 74=3 78=146 102=2";
+
+/// The same, the last strip one byte further on, at 139.
+pub(crate) const GAP: &str = "A 16639*1 16961*1 20547*1 21073*1 83*1 122*1 130*1 139*1 \
+    30=6 72=3 74=3 78=148 102=2";
+
+/// The same, the last strip at 130, before the second at 138.
+const SHUFFLED: &str = "A to=130 16704*1 17218*1 20816*1 21330*1 \
+    8480*1 8994*1 12592*1 13106*1 122*1 138*1 130*1 30=6 72=3 74=3 78=146 102=2";
 
 /// What is said of a file, the file, a level, a rectangle, and its samples. Each takes one read.
 type Row = (&'static str, &'static str, u32, Place, &'static [u16]);
@@ -82,18 +110,24 @@ static ROWS: &[Row] = &[
         &[245, 20, 5, 60],
     ),
     ("level 1", "Two", 1, (0, 0, 2, 2), &[200, 201, 202, 203]),
+    // strips that stand side by side
+    (
+        "from the middle of the first strip to that of the last",
+        STRIPS,
+        0,
+        (0, 1, 4, 4),
+        &[
+            16, 17, 18, 19, 32, 33, 34, 35, 48, 49, 50, 51, 64, 65, 66, 67,
+        ],
+    ),
 ];
 
 #[test]
 fn reads_samples(rt: HostRuntime) -> Result<(), Fail> {
     for (what, file, level, place, wanted) in ROWS {
-        let bytes = file_of(rt.alloc(), file)?;
-        let layout = layout_of(rt.alloc(), file)?;
-        let mut reader = MemReader::new(&bytes, 0);
-        let read = samples_of(rt.alloc(), &mut reader, &layout, *level, *place);
-        let samples = read.ok_or("no such rectangle")?.map_err(|_e| "not read")?;
-        assert_eq!(rt; samples.as_slice(), *wanted, "{what}");
-        assert_eq!(rt; reader.reads, 1, "{what}");
+        let taken = taken_of(rt.alloc(), file, *level, *place)?;
+        assert_eq!(rt; taken.samples.as_slice(), *wanted, "{what}");
+        assert_eq!(rt; taken.reads, 1, "{what}");
     }
     Ok(())
 }
@@ -133,56 +167,109 @@ static READS: &[ReadsRow] = &[
         2,
         266_240,
     ),
+    // six rows of three strips
+    ("strips side by side", STRIPS, (0, 0, 4, 6), 1, 24),
+    // The first strip with its rows, then the second and what lies close behind it, as many bytes
+    // as twice what was read ahead before and the distance to the last row, or the rows to come:
+    // that ends in the last row, which is a read.
+    ("a gap before the last", GAP, (0, 0, 4, 6), 3, 8 + 16 + 4),
+    // The first strip, then the second and what lies behind it in the file, and the last.
+    (
+        "strips in another order",
+        SHUFFLED,
+        (0, 0, 4, 6),
+        3,
+        8 + 14 + 8,
+    ),
+    ("the first two of them", GAP, (0, 0, 4, 4), 1, 16),
+    // five strips of 13 rows of 4096 bytes: 256 KiB at once
+    (
+        "large strips side by side",
+        "A to=266362 122*1 0*1 53370*1 0*1 41082*1 1*1 28794*1 2*1 16506*1 3*1 \
+            18=0,16 30=65 72=4 74=5 78=122,16,4,0 102=13",
+        (0, 0, 4096, 65),
+        2,
+        266_240,
+    ),
     // rows of 8192 bytes: each piece is a read
     ("distant rows", "A to=32890 18=0,32", (100, 0, 10, 4), 4, 40),
 ];
 
+/// The column and the row of texel k of a rectangle.
+fn texel_of((x, y, w, _): Place, k: u64) -> (u64, u64) {
+    let w = u64::from(w).max(1);
+    let column = u64::from(x).saturating_add(k % w);
+    (column, u64::from(y).saturating_add(k / w))
+}
+
 /// The channel, the row and the column make the number of a sample of `B`.
 fn sample_of_b(place: Place, k: u64) -> u64 {
-    let (x, y, w, _) = place;
-    let texel = k / 3;
-    let w = u64::from(w).max(1);
-    let column = u64::from(x).saturating_add(texel % w);
-    let row = u64::from(y).saturating_add(texel / w);
+    let (column, row) = texel_of(place, k / 3);
     (k % 3 * 20000)
         .saturating_add(row.saturating_mul(100))
         .saturating_add(column)
 }
 
+/// The row and the column make the number of a sample of the files of three strips.
+fn sample_of_strips(place: Place, k: u64) -> u64 {
+    let (column, row) = texel_of(place, k);
+    row.saturating_mul(16).saturating_add(column)
+}
+
+/// The number of sample k of a rectangle, in the files that have a rule for it.
+fn wanted_sample(file: &str, place: Place, k: u64) -> Option<u64> {
+    match file {
+        "B" => Some(sample_of_b(place, k)),
+        STRIPS | GAP | SHUFFLED => Some(sample_of_strips(place, k)),
+        _ => None,
+    }
+}
+
+/// How many samples of a rectangle, from the first on, are as they should be. In a file that has no
+/// rule all are.
+fn right_samples(file: &str, samples: &[u16], place: Place) -> usize {
+    let mut right = 0usize;
+    for sample in samples {
+        match wanted_sample(file, place, right as u64) {
+            Some(wanted) if wanted != u64::from(*sample) => return right,
+            _ => {}
+        }
+        right = right.saturating_add(1);
+    }
+    right
+}
+
 #[test]
 fn counts_the_reads_of_rectangles(rt: HostRuntime) -> Result<(), Fail> {
     for (what, file, place, reads, filled) in READS {
-        let bytes = file_of(rt.alloc(), file)?;
-        let layout = layout_of(rt.alloc(), file)?;
-        let mut reader = MemReader::new(&bytes, 0);
-        let read = samples_of(rt.alloc(), &mut reader, &layout, 0, *place);
-        let samples = read.ok_or("no such rectangle")?.map_err(|_e| "not read")?;
-        assert_eq!(rt; (reader.reads, reader.filled), (*reads, *filled), "{what}");
-        if *file == "B" {
-            for (k, sample) in samples.iter().enumerate() {
-                assert_eq!(rt;
-                    u64::from(*sample),
-                    sample_of_b(*place, k as u64),
-                    "{what}, {k}"
-                );
-            }
-        }
+        let taken = taken_of(rt.alloc(), file, 0, *place)?;
+        assert_eq!(rt; taken.reads, *reads, "{what}");
+        assert_eq!(rt; taken.filled, *filled, "{what}");
+        let right = right_samples(file, &taken.samples, *place);
+        assert_eq!(rt; right, taken.samples.len(), "{what}");
     }
     Ok(())
+}
+
+/// The read of that number fails and is named, and it is the last one.
+fn fails_at(alloc: Global, bytes: &[u8], layout: &Layout, place: Place, failing: u64) -> bool {
+    let mut reader = MemReader::new(bytes, failing);
+    match samples_of(alloc, &mut reader, layout, 0, place) {
+        Some(Err(RegionError::Reader(Failed(read)))) => {
+            read == failing && reader.reads == failing
+        }
+        _ => false,
+    }
 }
 
 #[test]
 fn each_read_of_a_rectangle_fails_in_turn(rt: HostRuntime) -> Result<(), Fail> {
     for (what, file, place, reads, _) in READS {
         let bytes = file_of(rt.alloc(), file)?;
-        let layout = layout_of(rt.alloc(), file)?;
+        let layout = layout_in(rt.alloc(), &bytes)?;
         for failing in 1..=*reads {
-            let mut reader = MemReader::new(&bytes, failing);
-            let read = samples_of(rt.alloc(), &mut reader, &layout, 0, *place);
-            let Some(Err(RegionError::Reader(Failed(number)))) = read else {
-                return Err("another outcome".into());
-            };
-            assert_eq!(rt; (number, reader.reads), (failing, failing), "{what}");
+            let fails = fails_at(rt.alloc(), &bytes, &layout, *place, failing);
+            assert!(rt; fails, "{what}, read {failing}");
         }
     }
     Ok(())

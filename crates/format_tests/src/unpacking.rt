@@ -1,5 +1,6 @@
 //! The samples of bytes, worked out by hand.
 
+use std::alloc::{AllocError, Global};
 use std::process::Abort;
 use std::test::Fail;
 use unpack::{unpack, unpack_as};
@@ -39,18 +40,27 @@ const HIGHEST_FIRST: [Row; 6] = [
     (usize::MAX, &[1, 0, 1, 0], &[65279, 256]),
 ];
 
+/// There are bytes for so many samples, and these are the samples of them.
+fn is_unpacked(alloc: Global, wide: bool, big: bool, row: &Row) -> Result<bool, AllocError> {
+    let (invert, bytes, samples) = row;
+    let size = if wide { 2 } else { 1 };
+    let mut dst = vec![in alloc; 1u16; samples.len()]?;
+    if bytes.len() != size * dst.len() {
+        return Ok(false);
+    }
+    unpack_as(wide, big, bytes, *invert, &mut dst);
+    Ok(dst.as_slice() == *samples)
+}
+
 fn unpack_rows(
     rt: &(impl Abort + AllocGlobal),
     wide: bool,
     big: bool,
     rows: &[Row],
 ) -> Result<(), Fail> {
-    let size = if wide { 2 } else { 1 };
-    for (k, (invert, bytes, samples)) in rows.iter().enumerate() {
-        let mut dst = vec![in rt.alloc(); 1u16; samples.len()]?;
-        assert_eq!(rt; bytes.len(), size * dst.len(), "row {k}");
-        unpack_as(wide, big, bytes, *invert, &mut dst);
-        assert_eq!(rt; dst.as_slice(), *samples, "row {k} of {wide}, {big}");
+    for (k, row) in rows.iter().enumerate() {
+        let is_so = is_unpacked(rt.alloc(), wide, big, row)?;
+        assert!(rt; is_so, "row {k} of {wide}, {big}");
     }
     Ok(())
 }
@@ -67,7 +77,7 @@ fn unpacks_rows(rt: HostRuntime) -> Result<(), Fail> {
 fn unpacks_one_case(rt: HostRuntime) {
     let mut dst = [0; 3];
     unpack::<true, true>(&[0x12, 0x34, 0xff, 0xfe, 0, 1], 2, &mut dst);
-    assert_eq!(rt; dst, [60875, 65534, 65534]);
+    assert!(rt; dst == [60875, 65534, 65534]);
 }
 
 /// Of so many samples the white rule is applied in blocks.

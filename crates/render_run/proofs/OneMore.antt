@@ -13,7 +13,7 @@ use Rattle.request_lang.specs.declared.answer.Answer.{Answer}
 use Rattle.render_run.specs.Around.{SourceState, SinkState, Progress, Catalog, progress_of}
 use Rattle.request_lang.specs.Line.{line_of}
 use Rattle.request_lang.specs.Basis.{is_refusal, basis_of, is_fault, is_move}
-use Rattle.render_run.specs.Reply.{Placed, MeetsAt, file_of}
+use Rattle.render_run.specs.Reply.{Placed, MeetsAt, file_named_in}
 use Rattle.render_run.specs.Fresh.{IsFresher}
 use Rattle.render_run.specs.Run.{AreLinesFor, some_refused, lines_text}
 use Rattle.render_run.specs.Answering.{GoesOn, HasCause, IsKnown, KeepsKnown, IsKnownOf}
@@ -46,7 +46,7 @@ refused_push lines line =
 
 module _ (catalog : Catalog) (rs : List Request) (r : Request) (file : Option ℕ)
     (before after : List ℕ) (answer : Answer) (t0 t1 t2 : SourceState)
-    (found : file ≡ file_of catalog r) (meets : MeetsAt catalog.files file r answer)
+    (found : file ≡ file_named_in catalog r) (meets : MeetsAt catalog.files file r answer)
     (one : KeepsKnown catalog.files file before after answer)
     (cause : HasCause t1 t2 (basis_of answer)) (on : GoesOn t1 t2) where
   -- a line that stands for the answer, on its file

@@ -122,8 +122,8 @@ MeetsAt files file request.Sync line = line ≡ Synced
 MeetsAt files file _ line = ⊥
 
 -- the file that the name of a request has in the folder, if it has a name and there is one
-abbrev pub file_of : Catalog → Request → Option ℕ
-file_of catalog r = option_and_then catalog.number_of (name_in r)
+abbrev pub file_named_in : Catalog → Request → Option ℕ
+file_named_in catalog r = option_and_then catalog.number_of (name_in r)
 
 -- a line, and the file that the name of its request has in the folder, if any
 pub record Placed : Type 0 where
@@ -132,7 +132,7 @@ pub record Placed : Type 0 where
 
 -- the line meets the request on the file that its name has in the folder
 pub record Meets (catalog : Catalog) (r : Request) (line : Placed) : Type 0 where
-  pub file : line.file ≡ file_of catalog r
+  pub file : line.file ≡ file_named_in catalog r
   pub answer : MeetsAt catalog.files line.file r line.answer
 
 -- each request has one line that meets it, in order

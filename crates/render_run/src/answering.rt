@@ -1,6 +1,7 @@
 //! Answering a list, line by line.
 
-ghost use Rattle.std.specs.Prelude.{◌≡◌, ◌<◌, ◌≤◌, [], length, IfOk, IsSome, IsTrue, IsFalse, OnErr};
+ghost use Rattle.std.specs.Prelude.{◌≡◌, ◌<◌, ◌≤◌, [], length};
+ghost use Rattle.std.specs.Prelude.{IfOk, IsSome, IsTrue, IsFalse, OnErr};
 ghost use Rattle.std.specs.List.{list_all};
 ghost use Rattle.std.specs.Option.{ForSome};
 ghost use Rattle.tex_world.specs.Counts.{Rises};
@@ -9,7 +10,7 @@ ghost use Rattle.tex_world.specs.Tap.{IsLeast};
 ghost use Rattle.request_lang.specs.Basis.{basis_of};
 ghost use Rattle.render_run.specs.Around.{source_of_tap, sink_state, progress_of, catalog_of};
 ghost use Rattle.render_run.specs.Question.{is_answered, may_be_asked, is_too_large};
-ghost use Rattle.render_run.specs.Reply.{file_of, RestsOn, MeetsOn, MeetsAt};
+ghost use Rattle.render_run.specs.Reply.{file_named_in, RestsOn, MeetsOn, MeetsAt};
 ghost use Rattle.render_run.specs.Fresh.{KeepsFresh};
 ghost use Rattle.render_run.specs.Run.{Answered, AnswersPart};
 ghost use Rattle.render_run.specs.Answering.{IsRefusedAs, GoesOn, HasCause, IsKnown, KeepsKnown};
@@ -104,7 +105,7 @@ fn answer_each<F: Folder, O: Sink>(
 
 /// The number of the file that a request names, if it names one that the folder has.
 fn file_named<F: Folder>(folder: &F, request: &Request) -> Option<u32>
-    ensures { result ≡ file_of (catalog_of F.W.files (F.state folder.now)) request.now }
+    ensures { result ≡ file_named_in (catalog_of F.W.files (F.state folder.now)) request.now }
 {
     folder.find(name_in(request)?.as_str())
 }

@@ -13,7 +13,7 @@ use std::test::Fail;
 fn is_bad(rt: &impl Abort, alloc: Global, line: &str, why: u32) -> Result<(), Fail> {
     let said = says(alloc, line.as_bytes())?;
     let wanted = format!(in alloc; "bad list 1 {why}\n")?;
-    assert_eq!(rt; said.as_slice(), wanted.as_bytes(), "at {line}");
+    assert!(rt; said.as_slice() == wanted.as_bytes(), "at {line}");
     Ok(())
 }
 
@@ -29,7 +29,7 @@ fn parses_requests(rt: HostRuntime) -> Result<(), Fail> {
     for (line, wanted) in &RIGHT {
         let said = says(rt.alloc(), line.as_bytes())?;
         let wanted = format!(in rt.alloc(); "{wanted}\n")?;
-        assert_eq!(rt; said.as_slice(), wanted.as_bytes(), "at {line}");
+        assert!(rt; said.as_slice() == wanted.as_bytes(), "at {line}");
     }
     Ok(())
 }

@@ -105,13 +105,13 @@ fn asks_for(
     alloc: Global,
     line: &str,
     folder: &str,
-    options: Options,
+    options: &Options,
 ) -> Result<(), Fail> {
     let words = words_of(alloc, line)?;
     match invocation_of(alloc, words.as_slice()) {
         Ok(asked) => {
-            assert_eq!(rt; asked.folder, folder, "at {line}");
-            assert_eq!(rt; asked.options, options, "at {line}");
+            assert!(rt; asked.folder == folder, "at {line}");
+            assert!(rt; asked.options == *options, "at {line}");
             Ok(())
         }
         Err(_) => Err(Fail::from("the words ask for nothing")),
@@ -122,7 +122,7 @@ fn are_bad(rt: &impl Abort, alloc: Global, lines: &[&str]) -> Result<(), Fail> {
     for line in lines {
         let words = words_of(alloc, line)?;
         let asked = invocation_of(alloc, words.as_slice());
-        assert_eq!(rt; asked, Err(WordsError::Bad), "at {line}");
+        assert!(rt; matches!(asked, Err(WordsError::Bad)), "at {line}");
     }
     Ok(())
 }
@@ -130,7 +130,7 @@ fn are_bad(rt: &impl Abort, alloc: Global, lines: &[&str]) -> Result<(), Fail> {
 #[test]
 fn asks_for_a_folder(rt: HostRuntime) -> Result<(), Fail> {
     for (line, folder) in &PLAIN {
-        asks_for(&rt, rt.alloc(), line, folder, DEFAULTS)?;
+        asks_for(&rt, rt.alloc(), line, folder, &DEFAULTS)?;
     }
     Ok(())
 }
@@ -138,52 +138,64 @@ fn asks_for_a_folder(rt: HostRuntime) -> Result<(), Fail> {
 #[test]
 fn asks_for_nothing(rt: HostRuntime) -> Result<(), Fail> {
     let none = invocation_of(rt.alloc(), &[]);
-    assert_eq!(rt; none, Err(WordsError::Bad));
+    assert!(rt; matches!(none, Err(WordsError::Bad)), "at no word");
     are_bad(&rt, rt.alloc(), &BAD)?;
     are_bad(&rt, rt.alloc(), &OUT_OF_RANGE)
+}
+
+const TWO: Options = Options {
+    workers: 1,
+    budget: 268435456,
+    shards: 2,
+    handles: 100,
+    cut: Cut {
+        autotile: 64,
+        automip: true,
+    },
+};
+
+const MOST: Options = Options {
+    workers: 1,
+    budget: 4294967296,
+    shards: 64,
+    handles: 1024,
+    cut: Cut {
+        autotile: 64,
+        automip: false,
+    },
+};
+
+const LEAST: Options = Options {
+    workers: 1,
+    budget: 0,
+    shards: 1,
+    handles: 1,
+    cut: Cut {
+        autotile: 0,
+        automip: false,
+    },
+};
+
+/// The options of a command line that has this one alone.
+fn autotile(autotile: u32) -> Options {
+    let cut = Cut {
+        autotile,
+        automip: true,
+    };
+    Options { cut, ..DEFAULTS }
 }
 
 #[test]
 fn asks_for_options(rt: HostRuntime) -> Result<(), Fail> {
     let alloc = rt.alloc();
-    let two = Options {
-        shards: 2,
-        ..DEFAULTS
-    };
-    asks_for(&rt, alloc, "--shards=2|--|-x", "-x", two)?;
-    asks_for(&rt, alloc, "--shards|2|.", ".", two)?;
-    asks_for(&rt, alloc, ".|--shards|2", ".", two)?;
-    asks_for(&rt, alloc, ".|--shards=0000000002", ".", two)?;
+    asks_for(&rt, alloc, "--shards=2|--|-x", "-x", &TWO)?;
+    asks_for(&rt, alloc, "--shards|2|.", ".", &TWO)?;
+    asks_for(&rt, alloc, ".|--shards|2", ".", &TWO)?;
+    asks_for(&rt, alloc, ".|--shards=0000000002", ".", &TWO)?;
     let all = "--handles=1024|--budget|4294967296|.|--workers|1|--no-automip|--shards=64";
-    let most = Options {
-        workers: 1,
-        budget: 4294967296,
-        shards: 64,
-        handles: 1024,
-        cut: Cut {
-            autotile: 64,
-            automip: false,
-        },
-    };
-    asks_for(&rt, alloc, all, ".", most)?;
+    asks_for(&rt, alloc, all, ".", &MOST)?;
     let few = "--no-automip|--autotile|0|--shards|1|--handles|1|--budget|0|x";
-    let least = Options {
-        workers: 1,
-        budget: 0,
-        shards: 1,
-        handles: 1,
-        cut: Cut {
-            autotile: 0,
-            automip: false,
-        },
-    };
-    asks_for(&rt, alloc, few, "x", least)?;
-    for (line, autotile) in [("--autotile=16|.", 16), ("--autotile|4096|.", 4096)] {
-        let cut = Cut {
-            autotile,
-            automip: true,
-        };
-        asks_for(&rt, alloc, line, ".", Options { cut, ..DEFAULTS })?;
-    }
-    Ok(())
+    asks_for(&rt, alloc, few, "x", &LEAST)?;
+    asks_for(&rt, alloc, "--autotile=16|.", ".", &autotile(16))?;
+    asks_for(&rt, alloc, "--autotile|4096|.", ".", &autotile(4096))
 }

@@ -5,7 +5,7 @@ use crate::ran::{Failing, run_list};
 use crate::strip_files::StripFiles;
 use crate::tiled_files::TiledFiles;
 use crate::wall_file::WallFile;
-use std::alloc::Global;
+use std::alloc::{AllocError, Global};
 use std::process::Abort;
 use std::test::Fail;
 use tex_world::FileTable;
@@ -13,27 +13,59 @@ use tex_world::FileTable;
 // Two requests for the same region.
 const LIST: &str = "pixels 0 1 0 2 2 A.tif\npixels 0 1 0 2 2 A.tif\n";
 
+/// What fails or is met and its name, the list, what is written, the status, and how many calls
+/// failed and met a newer generation.
+type Met = (
+    &'static str,
+    Failing,
+    &'static str,
+    &'static str,
+    u8,
+    (u64, u64),
+);
+
+fn is_met<T: FileTable>(rt: &impl Abort, alloc: Global, met: &Met) -> Result<(), Fail> {
+    let (what, failing, list, written, status, (faults, moves)) = met;
+    let ran = run_list::<T>(alloc, list, *failing)?;
+    ran.is(rt, written, *status, what);
+    ran.counts(rt, *faults, *moves, what);
+    Ok(())
+}
+
+static FAILURES: &[Met] = &[
+    ("enter", Failing::Enter, LIST, "folder fault\n", 4, (1, 0)),
+    (
+        "the first read",
+        Failing::Feed(1),
+        LIST,
+        "list fault\n",
+        4,
+        (0, 0),
+    ),
+    (
+        "the read of the end",
+        Failing::Feed(2),
+        LIST,
+        "list fault\n",
+        4,
+        (0, 0),
+    ),
+    ("the first put", Failing::Sink(1), LIST, "", 5, (0, 0)),
+    (
+        "a list that is none",
+        Failing::Sink(1),
+        "foo\n",
+        "",
+        5,
+        (0, 0),
+    ),
+];
+
 #[test]
 fn says_what_failed(rt: HostRuntime) -> Result<(), Fail> {
-    let rows = [
-        ("enter", Failing::enter(), "folder fault\n", 4, 1),
-        ("the first read", Failing::feed(1), "list fault\n", 4, 0),
-        (
-            "the read of the end",
-            Failing::feed(2),
-            "list fault\n",
-            4,
-            0,
-        ),
-        ("the first put", Failing::sink(1), "", 5, 0),
-    ];
-    for (what, failing, written, status, faults) in &rows {
-        let ran = run_list::<PlainFiles>(rt.alloc(), LIST, failing)?;
-        ran.is(&rt, written, *status, what);
-        assert_eq!(rt; (ran.faults, ran.moves), (*faults, 0), "in {what}");
+    for met in FAILURES {
+        is_met::<PlainFiles>(&rt, rt.alloc(), met)?;
     }
-    let ran = run_list::<PlainFiles>(rt.alloc(), "foo\n", &Failing::sink(1))?;
-    ran.is_calmly(&rt, "", 5, "a list that is none");
     Ok(())
 }
 
@@ -46,66 +78,129 @@ fn puts_lines_together(rt: HostRuntime) -> Result<(), Fail> {
     let list = "sync\npixels 0 4 4 256 128 A.tif\nsync\n";
     let first = format!(in alloc; "sync\npixels 1 1{zeros}\n")?;
     let all = format!(in alloc; "{first}sync\n")?;
-    let rows = [(1, "", 5), (2, first.as_str(), 5), (3, all.as_str(), 0)];
-    for (put, written, status) in rows {
-        let ran = run_list::<PlainFiles>(alloc, list, &Failing::sink(put))?;
-        ran.is_calmly(&rt, written, status, &format!(in alloc; "put {put} fails")?);
-    }
+    let ran = run_list::<PlainFiles>(alloc, list, Failing::Sink(1))?;
+    ran.is_calmly(&rt, "", 5, "the first put");
+    let ran = run_list::<PlainFiles>(alloc, list, Failing::Sink(2))?;
+    ran.is_calmly(&rt, &first, 5, "the second put");
+    let ran = run_list::<PlainFiles>(alloc, list, Failing::Sink(3))?;
+    ran.is_calmly(&rt, &all, 0, "a third put, which is none");
     Ok(())
 }
 
-// The file changes while it is read: at a byte of its directory, or of its samples. The request is
-// answered `again`, and from then on the file is answered in its second generation.
+/// The file changes while it is read: at a byte of its directory, or of its samples. The request is
+/// answered `again`, and from then on the file is answered in its second generation.
+static RISES: &[Met] = &[
+    (
+        "a rise at byte 8",
+        Failing::Rise(8),
+        LIST,
+        "again 1 2\npixels 2 1 25957 26214 30069 30326\n",
+        1,
+        (0, 1),
+    ),
+    (
+        "a rise at byte 123",
+        Failing::Rise(123),
+        LIST,
+        "again 1 2\npixels 2 1 25957 26214 30069 30326\n",
+        1,
+        (0, 1),
+    ),
+];
+
 #[test]
 fn says_which_generation_was_met(rt: HostRuntime) -> Result<(), Fail> {
-    for at in [8, 123] {
-        let ran = run_list::<PlainFiles>(rt.alloc(), LIST, &Failing::rise(at))?;
-        ran.is(
-            &rt,
-            "again 1 2\npixels 2 1 25957 26214 30069 30326\n",
-            1,
-            "a rise",
-        );
-        assert_eq!(rt; (ran.faults, ran.moves), (0, 1), "at byte {at}");
+    for met in RISES {
+        is_met::<PlainFiles>(&rt, rt.alloc(), met)?;
     }
     Ok(())
 }
 
-// The same where the region lies on two tiles, and the second is changed; a lookup; a byte that
-// cannot be read once.
+/// The same where the region lies on two tiles, and the second is changed.
+static TILE_RISE: Met = (
+    "a tile that was changed",
+    Failing::Rise(12472),
+    "pixels 0 63 0 2 1 B.tif\npixels 0 63 0 2 1 B.tif\n",
+    "again 1 2\npixels 2 3 64 20064 40064 65 20065 40065\n",
+    1,
+    (0, 1),
+);
+
+/// A byte that cannot be read once; a lookup.
+static BYTES: &[Met] = &[
+    (
+        "a byte",
+        Failing::Byte(122),
+        "pixels 0 0 0 1 1 A.tif\npixels 0 0 0 1 1 A.tif\n",
+        "read fault\npixels 1 1 0\n",
+        1,
+        (1, 0),
+    ),
+    (
+        "a byte of a lookup",
+        Failing::Byte(132),
+        "tex 32768 32768 0 clamp clamp bilinear 1 A.tif\ninfo A.tif\n",
+        "read fault\ninfo 1 4 4 1 8 1 1\n",
+        1,
+        (1, 0),
+    ),
+    (
+        "a rise at a lookup",
+        Failing::Rise(132),
+        "tex 32768 32768 0 clamp clamp bilinear 1 A.tif\ninfo A.tif\n",
+        "again 1 2\ninfo 2 4 4 1 8 1 1\n",
+        1,
+        (0, 1),
+    ),
+];
+
 #[test]
 fn says_what_was_met_at_a_byte(rt: HostRuntime) -> Result<(), Fail> {
-    let alloc = rt.alloc();
-    let list = "pixels 0 63 0 2 1 B.tif\npixels 0 63 0 2 1 B.tif\n";
-    let ran = run_list::<TiledFiles>(alloc, list, &Failing::rise(12472))?;
-    let written = "again 1 2\npixels 2 3 64 20064 40064 65 20065 40065\n";
-    ran.is(&rt, written, 1, "a tile that was changed");
-    assert_eq!(rt; (ran.faults, ran.moves), (0, 1));
-
-    let list = "pixels 0 0 0 1 1 A.tif\npixels 0 0 0 1 1 A.tif\n";
-    let ran = run_list::<PlainFiles>(alloc, list, &Failing::byte(122))?;
-    ran.is(&rt, "read fault\npixels 1 1 0\n", 1, "a byte");
-    assert_eq!(rt; (ran.faults, ran.moves), (1, 0));
-
-    let list = "tex 32768 32768 0 clamp clamp bilinear 1 A.tif\ninfo A.tif\n";
-    let rows = [
-        (
-            Failing::byte(132),
-            "read fault\ninfo 1 4 4 1 8 1 1\n",
-            (1, 0),
-        ),
-        (
-            Failing::rise(132),
-            "again 1 2\ninfo 2 4 4 1 8 1 1\n",
-            (0, 1),
-        ),
-    ];
-    for (failing, written, counts) in &rows {
-        let ran = run_list::<PlainFiles>(alloc, list, failing)?;
-        ran.is(&rt, written, 1, "a lookup");
-        assert_eq!(rt; (ran.faults, ran.moves), *counts);
+    is_met::<TiledFiles>(&rt, rt.alloc(), &TILE_RISE)?;
+    for met in BYTES {
+        is_met::<PlainFiles>(&rt, rt.alloc(), met)?;
     }
     Ok(())
+}
+
+fn twice(alloc: Global, line: &str) -> Result<String, AllocError> {
+    format!(in alloc; "{line}\n{line}\n")
+}
+
+// The lines of a request twice, of which the first cannot be read, or else the second.
+fn fault_and_line(alloc: Global, line: &str, first: bool) -> Result<String, AllocError> {
+    if first {
+        format!(in alloc; "read fault\n{line}\n")
+    } else {
+        format!(in alloc; "{line}\nread fault\n")
+    }
+}
+
+fn call_fails<T: FileTable>(
+    rt: &impl Abort,
+    alloc: Global,
+    list: &str,
+    call: u64,
+    written: &str,
+) -> Result<(), Fail> {
+    let ran = run_list::<T>(alloc, list, Failing::Tap(call))?;
+    let message = format!(in alloc; "call {call} for {list}")?;
+    ran.is(rt, written, 1, &message);
+    ran.counts(rt, 1, 0, &message);
+    Ok(())
+}
+
+// The calls of the tap where none fails.
+fn calls_of<T: FileTable>(
+    rt: &impl Abort,
+    alloc: Global,
+    list: &str,
+    written: &str,
+) -> Result<u64, Fail> {
+    let ran = run_list::<T>(alloc, list, Failing::Nothing)?;
+    ran.is_calmly(rt, written, 0, list);
+    assert!(rt; ran.calls != 0, "in {list}");
+    Ok(ran.calls)
 }
 
 // Whichever call of the tap fails, its request is answered `read fault`, and the other one as ever.
@@ -115,20 +210,11 @@ fn each_call_fails<T: FileTable>(
     request: &str,
     line: &str,
 ) -> Result<(), Fail> {
-    let list = format!(in alloc; "{request}\n{request}\n")?;
-    let calm = run_list::<T>(alloc, &list, &Failing::NOTHING)?;
-    calm.is_calmly(rt, &format!(in alloc; "{line}\n{line}\n")?, 0, request);
-    assert_ne!(rt; calm.calls, 0, "in {request}");
-    for call in 1..=calm.calls {
-        let ran = run_list::<T>(alloc, &list, &Failing::tap(call))?;
-        let written = if call <= calm.calls / 2 {
-            format!(in alloc; "read fault\n{line}\n")?
-        } else {
-            format!(in alloc; "{line}\nread fault\n")?
-        };
-        let message = format!(in alloc; "call {call} for {request}")?;
-        ran.is(rt, &written, 1, &message);
-        assert_eq!(rt; (ran.faults, ran.moves), (1, 0), "in {message}");
+    let list = twice(alloc, request)?;
+    let calls = calls_of::<T>(rt, alloc, &list, &twice(alloc, line)?)?;
+    for call in 1..=calls {
+        let written = fault_and_line(alloc, line, call <= calls / 2)?;
+        call_fails::<T>(rt, alloc, &list, call, &written)?;
     }
     Ok(())
 }

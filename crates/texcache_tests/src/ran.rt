@@ -6,70 +6,23 @@ use std::process::Abort;
 use std::str::from_utf8;
 use tex_world::{FailByte, FailCall, FileTable, MemFeed, MemFolder, MemSink, Plan, Rise};
 
-/// What fails: the first `enter` of the folder, and of its tap, of the feed and of the sink the
-/// call of this number, counted from 1. And at its first read of which byte the folder's first file
-/// is found to have its second generation, or fails.
+/// What fails in a run.
 #[derive(Clone, Copy)]
-pub(crate) struct Failing {
-    enter: bool,
-    tap: Option<u64>,
-    feed: Option<u64>,
-    sink: Option<u64>,
-    rise: Option<u64>,
-    byte: Option<u64>,
-}
-
-impl Failing {
-    pub(crate) const NOTHING: Failing = Failing {
-        enter: false,
-        tap: None,
-        feed: None,
-        sink: None,
-        rise: None,
-        byte: None,
-    };
-
-    pub(crate) fn enter() -> Failing {
-        Failing {
-            enter: true,
-            ..Failing::NOTHING
-        }
-    }
-
-    pub(crate) fn tap(call: u64) -> Failing {
-        Failing {
-            tap: Some(call),
-            ..Failing::NOTHING
-        }
-    }
-
-    pub(crate) fn feed(call: u64) -> Failing {
-        Failing {
-            feed: Some(call),
-            ..Failing::NOTHING
-        }
-    }
-
-    pub(crate) fn sink(call: u64) -> Failing {
-        Failing {
-            sink: Some(call),
-            ..Failing::NOTHING
-        }
-    }
-
-    pub(crate) fn rise(at: u64) -> Failing {
-        Failing {
-            rise: Some(at),
-            ..Failing::NOTHING
-        }
-    }
-
-    pub(crate) fn byte(at: u64) -> Failing {
-        Failing {
-            byte: Some(at),
-            ..Failing::NOTHING
-        }
-    }
+pub(crate) enum Failing {
+    Nothing,
+    /// The first `enter` of the folder.
+    Enter,
+    /// The call of this number, counted from 1, of the folder's tap.
+    Tap(u64),
+    /// That of the feed.
+    Feed(u64),
+    /// That of the sink.
+    Sink(u64),
+    /// At its first read of this byte the folder's first file is found to have its second
+    /// generation.
+    Rise(u64),
+    /// The first read of this byte of the folder's first file.
+    Byte(u64),
 }
 
 /// What a run left. The counts are the folder's.
@@ -77,29 +30,36 @@ impl Failing {
 pub(crate) struct Ran {
     written: MemSink,
     status: u8,
-    pub(crate) faults: u64,
-    pub(crate) moves: u64,
+    faults: u64,
+    moves: u64,
     pub(crate) made: u64,
     returned: u64,
     pub(crate) calls: u64,
 }
 
 impl Ran {
+    fn wrote(&self, rt: &impl Abort, written: &str, message: &str) {
+        let text = from_utf8(self.written.bytes()).unwrap_or("no text");
+        assert!(rt; text == written, "in {message}: {text}");
+    }
+
     /// It wrote this and ended with this status, and each tap that was made was given back.
     pub(crate) fn is(&self, rt: &impl Abort, written: &str, status: u8, message: &str) {
-        let text = from_utf8(self.written.bytes()).ok();
-        assert_eq!(rt;
-            (text, self.status),
-            (Some(written), status),
-            "in {message}"
-        );
-        assert_eq!(rt; self.made, self.returned, "in {message}");
+        self.wrote(rt, written, message);
+        assert!(rt; self.status == status, "status in {message}");
+        assert!(rt; self.made == self.returned, "taps in {message}");
     }
 
     /// The same, and no call failed or met a newer generation.
     pub(crate) fn is_calmly(&self, rt: &impl Abort, written: &str, status: u8, message: &str) {
         self.is(rt, written, status, message);
-        assert_eq!(rt; (self.faults, self.moves), (0, 0), "in {message}");
+        self.counts(rt, 0, 0, message);
+    }
+
+    /// So many calls failed, and so many met a newer generation.
+    pub(crate) fn counts(&self, rt: &impl Abort, faults: u64, moves: u64, message: &str) {
+        assert!(rt; self.faults == faults, "faults in {message}");
+        assert!(rt; self.moves == moves, "moves in {message}");
     }
 }
 
@@ -111,28 +71,41 @@ fn owned(alloc: Global, words: &[&str]) -> Result<Vec<String>, AllocError> {
     Ok(strings)
 }
 
-fn plan_of(alloc: Global, failing: &Failing) -> Result<Plan, AllocError> {
+fn plan_of(alloc: Global, failing: Failing) -> Result<Plan, AllocError> {
     let mut plan = Plan::new(alloc);
-    plan.fail_enter = failing.enter;
-    if let Some(call) = failing.tap {
-        plan.fail_calls.push(FailCall { tap: 0, call })?;
-    }
-    if let Some(at) = failing.rise {
-        plan.rises.push(Rise {
+    match failing {
+        Failing::Enter => plan.fail_enter = true,
+        Failing::Tap(call) => plan.fail_calls.push(FailCall { tap: 0, call })?,
+        Failing::Rise(at) => plan.rises.push(Rise {
             tap: 0,
             file: 0,
             at,
             to: 2,
-        })?;
-    }
-    if let Some(at) = failing.byte {
-        plan.fail_bytes.push(FailByte {
+        })?,
+        Failing::Byte(at) => plan.fail_bytes.push(FailByte {
             tap: 0,
             file: 0,
             at,
-        })?;
+        })?,
+        Failing::Nothing | Failing::Feed(_) | Failing::Sink(_) => {}
     }
     Ok(plan)
+}
+
+/// The call of the feed that fails.
+fn failing_read(failing: Failing) -> Option<u64> {
+    match failing {
+        Failing::Feed(call) => Some(call),
+        _ => None,
+    }
+}
+
+/// The call of the sink that fails.
+fn failing_put(failing: Failing) -> Option<u64> {
+    match failing {
+        Failing::Sink(call) => Some(call),
+        _ => None,
+    }
 }
 
 /// Runs a list under these words over the files of a table.
@@ -140,12 +113,12 @@ pub(crate) fn run_words<T: FileTable>(
     alloc: Global,
     words: &[&str],
     list: Vec<u8>,
-    failing: &Failing,
+    failing: Failing,
 ) -> Result<Ran, AllocError> {
     let words = owned(alloc, words)?;
     let mut folder: MemFolder<T> = MemFolder::new(plan_of(alloc, failing)?);
-    let mut feed = MemFeed::new(list, failing.feed);
-    let mut written = MemSink::new(alloc, failing.sink);
+    let mut feed = MemFeed::new(list, failing_read(failing));
+    let mut written = MemSink::new(alloc, failing_put(failing));
     let status = run(alloc, &words, &mut folder, &mut feed, &mut written);
     Ok(Ran {
         written,
@@ -162,7 +135,7 @@ pub(crate) fn run_words<T: FileTable>(
 pub(crate) fn run_list<T: FileTable>(
     alloc: Global,
     list: &str,
-    failing: &Failing,
+    failing: Failing,
 ) -> Result<Ran, AllocError> {
     run_words::<T>(alloc, &["."], list.as_bytes().to_vec(alloc)?, failing)
 }

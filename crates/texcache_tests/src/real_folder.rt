@@ -71,9 +71,9 @@ fn lines_name_the_generation_that_they_were_read_from(rt: HostRuntime) -> Result
     let mut feed = RealFeed::new(list.as_bytes());
     let mut sink = RealSink::new(alloc, &mut painter)?;
     let status = run(alloc, &words, &mut folder, &mut feed, &mut sink);
-    assert_eq!(rt; sink.flush(), Ok(()));
+    assert!(rt; sink.flush() == Ok(()));
     drop(sink);
-    assert_eq!(rt; status, 1);
+    assert!(rt; status == 1);
 
     let mut written = String::from_str(alloc, "pixels 1 1 2570 5397 7710")?;
     for _ in 3..65536 {

@@ -14,7 +14,7 @@ pub record AreLevels (bytes : List ℕ) (n : ℕ) (levels : List Level) : Type 0
   pub blocks : (k : ℕ) → k < n → data_fault (form_of bytes) bytes k (level_of bytes k) ≡ None
   pub same : levels ≡ map (level_of bytes) (range_with_len 0 n)
 
--- the offset of the directory after level k stands there
+-- the directory of level k says that the next one stands there
 abbrev pub IsEnd : List ℕ → ℕ → Place → Type 0
 IsEnd bytes k next = IsLinkAt (form_of bytes) bytes (level_place bytes k) next
 

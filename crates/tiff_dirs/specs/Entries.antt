@@ -10,7 +10,7 @@ use Rattle.tiff_dirs.specs.declared.tag.TheConstants.{TAGS}
 use Rattle.tiff_dirs.specs.declared.entry.Entry.{Entry}
 use Rattle.tiff_dirs.specs.declared.directory.Directory.{Directory}
 use Rattle.tiff_dirs.specs.Bytes.{number_at}
-use Rattle.tiff_dirs.specs.Form.{value_field_at}
+use Rattle.tiff_dirs.specs.Form.{entry_bytes, offset_at, value_field_at}
 use Rattle.tiff_dirs.specs.Directory.{lies_inside, next_place}
 use Rattle.tiff_dirs.specs.Field.{short_type, long_type, type_of, count_of, type_size}
 use Rattle.tiff_dirs.specs.Field.{values_place, first_entry, field_place}
@@ -84,13 +84,29 @@ HasEntries form bytes at entries =
 abbrev pub noted : ℕ → Entry → ℕ → Option Entry → Option Entry
 noted tag entry t old = if tag == slice_index_or tags t 0 then option_or old (Some entry) else old
 
+-- more entries from a place on are covered, and this is the offset behind them
+pub record AddsBlock (place : Place) (bytes : List ℕ) (more : ℕ) (old new : List (Option Entry))
+    (offset : ℕ) : Type 0
+  where
+    pub covers : (first done : ℕ) → place.at ≡ first + entry_bytes place.form * done
+        → Covers place.form bytes first done old → Covers place.form bytes first (done + more) new
+    pub behind : offset ≡ offset_at place.form bytes (place.at + entry_bytes place.form * more)
+
 -- ---- the directory
 
--- the place is that of the offset of the next one in the directory at a place
+-- the place is that of the next one, as the directory at a place says it: 0 for none
 pub record IsLinkAt (form : Form) (bytes : List ℕ) (at : ℕ) (link : Place) : Type 0 where
   pub same : link.form ≡ form
   pub inside : lies_inside form bytes at ≡ true
-  pub next : link.at ≡ next_place form bytes at
+  pub next : link.at ≡ offset_at form bytes (next_place form bytes at)
+
+-- the first n entries behind a place are kept, and the place that the offset behind them says
+pub record AreEntriesAt (form : Form) (bytes : List ℕ) (first n : ℕ) (directory : Directory)
+    : Type 0
+  where
+    pub covers : Covers form bytes first n directory.found.entries
+    pub same : directory.next.form ≡ form
+    pub next : directory.next.at ≡ offset_at form bytes (first + entry_bytes form * n)
 
 -- what is kept of the directory at a place before its fields are read
 pub record IsDirectoryAt (form : Form) (bytes : List ℕ) (at : ℕ) (directory : Directory) : Type 0

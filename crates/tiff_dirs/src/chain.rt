@@ -1,9 +1,9 @@
 //! The levels of a file: each directory leads to the next.
 
-ghost use Rattle.std.specs.Prelude.{◌≡◌, ℕ, ◌+◌, ◌≤◌, ◌<◌, length, map, IfOk, IfSome, IsTrue};
+ghost use Rattle.std.specs.Prelude.{◌≡◌, ℕ, length, map, IfOk, IfSome, IsTrue};
 ghost use Rattle.std.specs.Prelude.{OnOk, ◌++◌, None, List, [], ◌∷◌};
 ghost use Rattle.std.specs.Option.{ForSome};
-ghost use Rattle.tiff_dirs.specs.Form.{form_of, offset_bytes, offset_at};
+ghost use Rattle.tiff_dirs.specs.Form.{form_of};
 ghost use Rattle.tiff_dirs.specs.Block.{level_at};
 ghost use Rattle.tiff_dirs.specs.Fault.{first_of, directory_fault, data_fault};
 ghost use Rattle.tiff_dirs.specs.Level.{halved as spec_halved, level_of, level_place, data_faults};
@@ -22,11 +22,10 @@ use crate::dir::Dir;
 use crate::directory::read_directory;
 use crate::fault::DirsError;
 use crate::fields::first_value;
-use crate::form::OFFSET_BYTES;
 use crate::level::{read_level, read_shape};
 use crate::place::Place;
 use crate::read_level::ReadLevel;
-use crate::reader::{ByteReader, read_at};
+use crate::reader::ByteReader;
 use crate::shape::LevelShape;
 use crate::tag::SAMPLES_PER_PIXEL;
 use std::alloc::{AllocError, Global};
@@ -52,18 +51,6 @@ fn is_half(shape: &LevelShape, first: &Dir, last: &Dir) -> bool
         && shape.depth == first.depth
 }
 
-/// The offset of the next directory, 0 for none.
-fn next_offset<B: ByteReader>(b: &mut B, next: Place) -> Result<u64, DirsError<B::Error>>
-    requires { next.at + offset_bytes next.form ≤ B.size b.old }
-    ensures told { ForSome (B.bytes b.old) (λ bytes.
-        Reads (λ at. at ≡ offset_at next.form bytes next.at) result) }
-    ensures reader { Leaves B.keeps B.refuses b.old b.new result }
-{
-    let mut bytes = [0u8; OFFSET_BYTES];
-    read_at(b, next.at, &mut bytes)?;
-    Ok(next.form.offset_at(&bytes, 0))
-}
-
 /// The directory at a place as a level, where it is half of the last one. Of one with other samples
 /// per pixel than the first no further field is read.
 fn half_at<B: ByteReader>(
@@ -77,8 +64,6 @@ fn half_at<B: ByteReader>(
         (shown_shape first.now) (shown_shape last.now) result) }
     ensures half { IfOk result (λ next. IfSome next (λ read. IsTrue (is_half_of
         (shown_shape first.now) (shown_shape last.now) (seen_shape read.shape)))) }
-    ensures inside { IfOk result (λ next. IfSome next (λ read.
-        read.next.at + offset_bytes read.next.form ≤ B.size b.new)) }
     ensures reader { Leaves B.keeps B.refuses b.old b.new result }
 {
     let directory = read_directory(alloc, b, place)?;
@@ -94,7 +79,7 @@ fn half_at<B: ByteReader>(
     Ok(Some(next))
 }
 
-/// The level that follows the last one, if any.
+/// The level that follows the last one, if any, at the place that the last one's directory names.
 /// The first directory that is none ends the chain, whatever it holds.
 fn next_level<B: ByteReader>(
     alloc: Global,
@@ -103,7 +88,6 @@ fn next_level<B: ByteReader>(
     first: &Dir,
     last: &Dir,
 ) -> Result<Option<ReadLevel>, DirsError<B::Error>>
-    requires { next.at + offset_bytes next.form ≤ B.size b.old }
     ensures told { ForSome (B.bytes b.old) (λ bytes. (one at : ℕ)
         → shown first.now ≡ level_at next.form bytes one
         → shown last.now ≡ level_at next.form bytes at
@@ -111,22 +95,15 @@ fn next_level<B: ByteReader>(
         → Reads (IsNext next.form bytes one at) result) }
     ensures half { IfOk result (λ next. IfSome next (λ read. IsTrue (is_half_of
         (shown_shape first.now) (shown_shape last.now) (seen_shape read.shape)))) }
-    ensures inside { IfOk result (λ next. IfSome next (λ read.
-        read.next.at + offset_bytes read.next.form ≤ B.size b.new)) }
     ensures reader { Leaves B.keeps B.refuses b.old b.new result }
 {
     if last.width == 1 && last.height == 1 {
         return Ok(None);
     }
-    let at = next_offset(b, next)?;
-    if at == 0 {
+    if next.at == 0 {
         return Ok(None);
     }
-    let place = Place {
-        form: next.form,
-        at,
-    };
-    match half_at(alloc, b, place, first, last) {
+    match half_at(alloc, b, next, first, last) {
         Ok(next) => Ok(next),
         Err(DirsError::Fault(_)) => Ok(None),
         Err(DirsError::Reader(e)) => Err(DirsError::Reader(e)),
@@ -151,7 +128,6 @@ fn follow<B: ByteReader>(
     first_next: Place,
 ) -> Result<(), DirsError<B::Error>>
     requires one { length levels.old.items ≡ 1 }
-    requires inside { first_next.at + offset_bytes first_next.form ≤ B.size b.old }
     ensures told { ForSome (B.bytes b.old) (λ bytes.
         map shown levels.old.items ≡ level_of bytes 0 ∷ []
         → data_fault (form_of bytes) bytes 0 (level_of bytes 0) ≡ None
@@ -183,8 +159,6 @@ fn first_level<B: ByteReader>(
     ensures told { ForSome (B.bytes b.old) (λ bytes.
         Finds (directory_fault place.form bytes place.at) (IsLevelAt place.form bytes place.at)
         result) }
-    ensures inside { IfOk result (λ read.
-        read.next.at + offset_bytes read.next.form ≤ B.size b.new) }
     ensures reader { Leaves B.keeps B.refuses b.old b.new result }
 {
     let directory = read_directory(alloc, b, place)?;

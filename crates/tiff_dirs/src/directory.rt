@@ -5,24 +5,25 @@ ghost use Rattle.std.specs.Option.{ForSome};
 ghost use Rattle.tiff_dirs.specs.Form.{entry_bytes, offset_bytes};
 ghost use Rattle.tiff_dirs.specs.Directory.{entry_count, entry_place};
 ghost use Rattle.tiff_dirs.specs.Dirs.{Leaves};
-ghost use Rattle.tiff_dirs.specs.Entries.{Covers, IsDirectoryAt};
+ghost use Rattle.tiff_dirs.specs.Entries.{AddsBlock, AreEntriesAt, IsDirectoryAt};
 ghost use Rattle.tiff_dirs.specs.Fault.{outside_fault};
 ghost use Rattle.tiff_dirs.specs.Calls.{Finds, Reads};
 
 use crate::fault::{DirsError, TiffFault};
-use crate::form::{COUNT_BYTES, ENTRY_BYTES};
+use crate::form::{COUNT_BYTES, ENTRY_BYTES, OFFSET_BYTES};
 use crate::found::Found;
 use crate::place::Place;
 use crate::reader::{ByteReader, MAX_READ_BYTES, read_at};
 use std::alloc::Global;
 
-/// How many entries are read at once.
-const MAX_ENTRIES: usize = MAX_READ_BYTES / ENTRY_BYTES;
+/// How many entries are read at once, with an offset behind them.
+const MAX_ENTRIES: usize = (MAX_READ_BYTES - OFFSET_BYTES) / ENTRY_BYTES;
 
-/// The entries of a directory that are read, and the place of its offset of the next one.
+/// The entries of a directory that are read, and the place of the next one.
 #[derive(Clone, Copy)]
 pub struct Directory {
     pub found: Found,
+    /// 0 where there is no next one.
     pub next: Place,
 }
 
@@ -52,36 +53,65 @@ fn count_of_entries<B: ByteReader>(b: &mut B, place: Place) -> Result<u16, DirsE
     Ok(count)
 }
 
-/// The first entry of each tag among so many entries from a place on.
-fn found_among<B: ByteReader>(
+/// Reads a block: entries from a place on, and an offset behind them. Keeps the first entry of each
+/// tag, and answers the offset.
+fn read_block<B: ByteReader>(
+    b: &mut B,
+    place: Place,
+    found: &mut Found,
+    block: &mut [u8],
+) -> Result<u64, DirsError<B::Error>>
+    requires long { offset_bytes place.form ≤ length block.old }
+    requires inside { place.at + length block.old ≤ B.size b.old }
+    requires low { B.size b.old < 2 ^ 64 }
+    ensures told { ForSome (B.bytes b.old) (λ bytes. (more : ℕ)
+        → length block.old ≡ entry_bytes place.form * more + offset_bytes place.form
+        → Reads (AddsBlock place bytes more found.old.entries found.new.entries) result) }
+    ensures reader { Leaves B.keeps B.refuses b.old b.new result }
+{
+    read_at(b, place.at, block)?;
+    let end = block.len() - OFFSET_BYTES;
+    found.scan(place.form, &block[..end], place.at);
+    Ok(place.form.offset_at(block, end))
+}
+
+/// The first entry of each tag among so many entries from a place on, and the offset behind them.
+fn read_entries<B: ByteReader>(
     alloc: Global,
     b: &mut B,
     first: Place,
     count: u16,
-) -> Result<Found, DirsError<B::Error>>
-    requires inside { first.at + entry_bytes first.form * count ≤ B.size b.old }
+) -> Result<Directory, DirsError<B::Error>>
+    requires inside { first.at + entry_bytes first.form * count + offset_bytes first.form
+        ≤ B.size b.old }
     requires low { B.size b.old < 2 ^ 64 }
     ensures told { ForSome (B.bytes b.old) (λ bytes.
-        Reads (λ found. Covers first.form bytes first.at count found.entries) result) }
+        Reads (AreEntriesAt first.form bytes first.at count) result) }
     ensures reader { Leaves B.keeps B.refuses b.old b.new result }
 {
+    let form = first.form;
     let count = usize::from(count);
-    let mut buffer = vec![in alloc; 0u8; count.min(MAX_ENTRIES) * ENTRY_BYTES]?;
+    let most = count.min(MAX_ENTRIES) * ENTRY_BYTES + OFFSET_BYTES;
+    let mut buffer = vec![in alloc; 0u8; most]?;
     let mut found = Found::nothing();
     let mut done = 0;
-    'blocks: while done < count {
+    'reads: loop {
         let more = (count - done).min(MAX_ENTRIES);
-        let place = first.at + (done * ENTRY_BYTES) as u64;
-        let part = &mut buffer[..more * ENTRY_BYTES];
-        read_at(b, place, part)?;
-        found.scan(first.form, part, place);
+        let place = Place {
+            form,
+            at: first.at + (done * ENTRY_BYTES) as u64,
+        };
+        let block = &mut buffer[..more * ENTRY_BYTES + OFFSET_BYTES];
+        let at = read_block(b, place, &mut found, block)?;
         done += more;
+        if done == count {
+            let next = Place { form, at };
+            return Ok(Directory { found, next });
+        }
     }
-    Ok(found)
 }
 
-/// The first entry of each tag in the directory at a place, and the place of its offset of the next
-/// directory.
+/// The first entry of each tag in the directory at a place, and the place of the next directory.
 pub fn read_directory<B: ByteReader>(
     alloc: Global,
     b: &mut B,
@@ -90,8 +120,6 @@ pub fn read_directory<B: ByteReader>(
     ensures told { ForSome (B.bytes b.old) (λ bytes.
         Finds (outside_fault place.form bytes place.at)
         (IsDirectoryAt place.form bytes place.at) result) }
-    ensures inside { IfOk result (λ directory.
-        directory.next.at + offset_bytes directory.next.form ≤ B.size b.new) }
     ensures reader { Leaves B.keeps B.refuses b.old b.new result }
 {
     let form = place.form;
@@ -100,10 +128,5 @@ pub fn read_directory<B: ByteReader>(
         form,
         at: place.at + form.count_bytes(),
     };
-    let found = found_among(alloc, b, first, count)?;
-    let next = Place {
-        form,
-        at: first.at + form.entry_bytes() * u64::from(count),
-    };
-    Ok(Directory { found, next })
+    read_entries(alloc, b, first, count)
 }

@@ -14,7 +14,7 @@ use crate::shape::LevelShape;
 pub struct ReadLevel {
     pub shape: LevelShape,
     pub offsets: Vec<u64>,
-    /// The place of its directory's offset of the next one.
+    /// The place of the next directory, 0 where its own directory names none.
     pub next: Place,
     ghost count_in: { length offsets.items ≡ blocks_of (seen_shape shape) },
 }

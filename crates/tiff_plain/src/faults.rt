@@ -336,7 +336,8 @@ fn first_outside(form: Form, bytes: &[u8], at: u32) -> Option<u32>
 /// The first fault of the blocks of the level at a place, which has this number.
 #[tactic(auto, unfolding(tiff_dirs::specs::Fault::data_fault))]
 pub fn data_fault(form: Form, bytes: &[u8], number: u32, at: u32) -> Option<TiffFault>
-    ensures value { result ≡ spec.data_fault form bytes.now number (block.level_at form bytes.now at) }
+    ensures value { result
+        ≡ spec.data_fault form bytes.now number (block.level_at form bytes.now at) }
 {
     match first_outside(form, bytes, at) {
         Some(index) => Some(TiffFault::DataOutside {

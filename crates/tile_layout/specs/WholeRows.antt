@@ -21,11 +21,27 @@ block_rows_by shape (Some tile) = tile.1
 abbrev pub block_rows : LevelShape → ℕ
 block_rows shape = block_rows_by shape shape.tile
 
--- the rectangle is whole rows of one strip or tile
-pub record AreWholeRows (shape : LevelShape) (rect : Rect) : Type 0 where
+-- each row of the rectangle is one of a strip or tile
+pub record HasWholeRows (shape : LevelShape) (rect : Rect) : Type 0 where
   pub left : rect.x % block_width shape ≡ 0
   pub width : rect.w ≡ block_width shape
-  pub rows : rect.y % block_rows shape + rect.h ≤ block_rows shape
+
+-- the row below row j of the rectangle begins in the file where row j ends
+abbrev pub RowFollows : Level → Rect → ℕ → Type 0
+RowFollows level rect j =
+    sample_place level rect.x (rect.y + (j + 1)) 0
+    ≡ sample_place level rect.x (rect.y + j) 0 + rect.w * texel_bytes level.shape
+
+-- each row but the first begins where the one above ends
+abbrev pub RowsFollow : Level → Rect → Type 0
+RowsFollow level rect = (j : ℕ) → j + 1 < rect.h → RowFollows level rect j
+
+-- The pieces of the rectangle are whole rows of a strip or tile, one to a row, and each begins in the
+-- file where the one before ends. So it is for rows of one strip or tile, and for those of several
+-- that follow each other directly.
+pub record AreWholeRows (level : Level) (rect : Rect) : Type 0 where
+  pub each : HasWholeRows level.shape rect
+  pub rows : RowsFollow level rect
 
 -- The samples of the rectangle stand side by side from `at` on, row behind row. They lie in each
 -- file that holds the strips and tiles, and none stands past 2^64.

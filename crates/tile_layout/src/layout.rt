@@ -1,4 +1,5 @@
-ghost use Rattle.std.specs.Prelude.{◌≡◌, ℕ, ◌/◌, ◌^◌, ◌<◌, ◌≤◌, ◌↔◌, max, List, IsTrue, IfSome, IsSome};
+ghost use Rattle.std.specs.Prelude.{◌≡◌, ℕ, ◌/◌, ◌^◌, ◌<◌, ◌≤◌, ◌↔◌, max, List};
+ghost use Rattle.std.specs.Prelude.{IsTrue, IfSome, IsSome};
 ghost use Rattle.tiff_dirs.specs.Level.{max_levels};
 ghost use Rattle.tiff_dirs.specs.Facts.{IsSide, IsChannelCount, IsDepth};
 ghost use Rattle.tiff_dirs.specs.Shown.{shown, shown_shape};
@@ -138,8 +139,8 @@ impl Layout {
         }
     }
 
-    /// How a level is cut into cells: a tiled one into its tiles, a stripped one into squares of the
-    /// cut or, where that is 0, into one cell, and a generated one as level 0 is.
+    /// How a level is cut into cells: a tiled one into its tiles, a stripped one into squares of
+    /// the cut or, where that is 0, into one cell, and a generated one as level 0 is.
     pub fn grid(&self, level: u32, cut: Cut) -> Grid
         requires level { HasLevel self.now level }
         requires cut { IsCut cut }
@@ -214,12 +215,13 @@ impl Layout {
     }
 
     /// Where the texels of a rectangle of a stored level stand side by side in the file, row behind
-    /// row. They do exactly where it is whole rows of one strip or tile.
+    /// row. They do exactly where it is whole rows of one strip or tile, or of several that stand
+    /// one directly behind the other. It looks at each strip or tile once, and at no row of it.
     pub fn whole_rows(&self, level: u32, rect: Rect) -> Option<u64>
         requires stored { level < stored_count self.now }
         requires inside { LiesOnLevel self.now level rect }
         requires some { 1 ≤ rect.h }
-        ensures found { IsSome result ↔ AreWholeRows (level_in self.now level).shape rect }
+        ensures found { IsSome result ↔ AreWholeRows (level_in self.now level) rect }
         ensures place { IfSome result (StandsWhole (level_in self.now level) rect) }
     {
         whole_rows(self.dir(level), rect)

@@ -1,11 +1,12 @@
 //! Where the texels of a level stand in the file.
 
-ghost use Rattle.std.specs.Prelude.{◌≡◌, ◌^◌, ◌<◌, ◌≤◌, ◌↔◌, length, IfSome, IsSome};
+ghost use Rattle.std.specs.Prelude.{◌≡◌, ◌+◌, ◌^◌, ◌<◌, ◌≤◌, ◌↔◌, length, IfSome, IsSome, IsTrue};
 ghost use Rattle.tiff_dirs.specs.Block.{pieces_over, texel_bytes};
 ghost use Rattle.tiff_dirs.specs.Shown.{shown, shown_shape};
 ghost use Rattle.tiff_dirs.specs.Texel.{block_index, texels_before, sample_place};
 ghost use Rattle.tile_layout.specs.Pieces.{row_rest, LiesOn, LiesSideBySide};
-ghost use Rattle.tile_layout.specs.WholeRows.{block_width, block_rows, AreWholeRows, StandsWhole};
+ghost use Rattle.tile_layout.specs.WholeRows.{block_width, block_rows, HasWholeRows, RowFollows};
+ghost use Rattle.tile_layout.specs.WholeRows.{RowsFollow, AreWholeRows, StandsWhole};
 
 use crate::piece::Piece;
 use crate::rect::Rect;
@@ -115,16 +116,46 @@ pub(crate) fn block_rows(dir: &Dir) -> u32
     }
 }
 
-/// Where the texels of a rectangle stand that is whole rows of one strip or tile.
+/// The row below row `above` of a rectangle of whole rows begins in the file where that one ends.
+fn row_follows(dir: &Dir, rect: Rect, above: u32) -> bool
+    requires on { LiesOn dir.now.width dir.now.height rect }
+    requires each { HasWholeRows (shown_shape dir.now) rect }
+    requires below { above + 1 < rect.h }
+    ensures value { IsTrue result ↔ RowFollows (shown dir.now) rect above }
+{
+    let end = place(dir, rect.x, rect.y + above) + u64::from(rect.w) * texel_bytes(dir);
+    place(dir, rect.x, rect.y + (above + 1)) == end
+}
+
+/// Each row of a rectangle of whole rows but the first begins in the file where the one above ends.
+///
+/// Inside a strip or tile they do, so only the first row of each strip or tile is looked at.
+fn rows_follow(dir: &Dir, rect: Rect) -> bool
+    requires on { LiesOn dir.now.width dir.now.height rect }
+    requires each { HasWholeRows (shown_shape dir.now) rect }
+    ensures value { IsTrue result ↔ RowsFollow (shown dir.now) rect }
+{
+    let rows = block_rows(dir);
+    // the first row of the next strip or tile
+    let mut row = rows - rect.y % rows;
+    'below: while row < rect.h {
+        if !row_follows(dir, rect, row - 1) {
+            return false;
+        }
+        row = row.saturating_add(rows);
+    }
+    true
+}
+
+/// Where the texels of a rectangle stand that is whole rows, one directly behind the other.
 pub(crate) fn whole_rows(dir: &Dir, rect: Rect) -> Option<u64>
     requires on { LiesOn dir.now.width dir.now.height rect }
     requires some { 1 ≤ rect.h }
-    ensures found { IsSome result ↔ AreWholeRows (shown_shape dir.now) rect }
+    ensures found { IsSome result ↔ AreWholeRows (shown dir.now) rect }
     ensures place { IfSome result (StandsWhole (shown dir.now) rect) }
 {
     let width = block_width(dir);
-    let rows = block_rows(dir);
-    if rect.x % width == 0 && rect.w == width && rect.h <= rows - rect.y % rows {
+    if rect.w == width && rect.x % width == 0 && rows_follow(dir, rect) {
         Some(place(dir, rect.x, rect.y))
     } else {
         None

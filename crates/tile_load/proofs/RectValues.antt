@@ -12,7 +12,7 @@ use Rattle.tile_load.proofs.PieceValues.{flat_of_map}
 use Rattle.tile_load.proofs.Ranges.{flat_alike, map_alike, flat_rows}
 
 -- lists of lists
-flat_of_flat : {A B C : Type 0} (f : B → List C) (g : A → List B) (xs : List A)
+pub flat_of_flat : {A B C : Type 0} (f : B → List C) (g : A → List B) (xs : List A)
     → flat_map f (flat_map g xs) ≡ flat_map (λ x. flat_map f (g x)) xs
 flat_of_flat f g [] = refl
 flat_of_flat f g (x ∷ xs) =

@@ -1,5 +1,5 @@
 -- The rows that were read are those of the region.
-use Rattle.std.proofs.Common.{◌≡◌, ℕ, ◌+◌, ◌*◌, Bool}
+use Rattle.std.proofs.Common.{◌≡◌, ℕ, ◌+◌, ◌*◌, Bool, true}
 use Rattle.std.proofs.Common.{List, ◌++◌, replicate}
 use Rattle.std.proofs.Common.{Some, ℤ, pos, ◌+ℤ◌, refl, sym, ap, ◌∙◌, append_assoc}
 use Rattle.std.proofs.Common.{zero-add}
@@ -11,11 +11,13 @@ use Rattle.tile_load.specs.Region.{index_in, row_values}
 use Rattle.tile_load.specs.Region.{region_values}
 use Rattle.tile_load.specs.declared.overlap.Overlap.{Overlap}
 use Rattle.tile_load.specs.Overlap.{IsOverlap}
-use Rattle.tile_load.specs.LevelRow.{level_row, level_rows}
+use Rattle.tile_layout.specs.Pieces.{rect_texels, row_texels}
+use Rattle.tile_load.specs.LevelRow.{values_at, level_row, level_rows}
 use Rattle.tile_load.proofs.Ranges.{range_parts, flat_alike, no_values}
 use Rattle.tile_load.proofs.Ranges.{flat_zeros}
 use Rattle.tile_load.proofs.Ranges.{three_parts}
-use Rattle.tile_load.proofs.RowValues.{row_on_level, row_beside}
+use Rattle.tile_load.proofs.RowValues.{row_on_level, row_beside, bare_row}
+use Rattle.tile_load.proofs.RectValues.{flat_of_flat}
 
 module _ (big : Bool) (bytes : List ℕ) (level : Level) (x y : ℤ) (w h : ℕ) (met : Overlap)
     (over : IsOverlap y h level.shape.height met) where
@@ -96,6 +98,21 @@ module _ (big : Bool) (bytes : List ℕ) (level : Level) (columns : Overlap) (to
       ∙ append_assoc old (level_rows big bytes level columns top n)
       (level_row big bytes level columns (top + n))
       ∙ ap (λ (r : List ℕ). old ++ r) (sym (level_rows_more n))
+
+-- rows that have no zeros beside them are the texels of a rectangle
+pub rows_inside : (big : Bool) (bytes : List ℕ) (level : Level) (columns : Overlap) (top n : ℕ)
+    → columns.before ≡ 0 → columns.after ≡ 0
+    → flat_map (values_at big bytes level true)
+    (rect_texels (record { x = columns.first; y = top; w = columns.inside; h = n }))
+    ≡ level_rows big bytes level columns top n
+unfolding level_rows
+rows_inside big bytes level columns top n none-before none-after =
+    let values = values_at big bytes level true in
+    flat_of_flat values (λ y. row_texels columns.first y columns.inside) (range_with_len top n)
+    ∙ flat_alike (λ y. flat_map values (row_texels columns.first y columns.inside))
+    (λ j. level_row big bytes level columns (top + j)) top 0 n
+    (λ j lt. bare_row big bytes level columns (top + j) none-before none-after
+    ∙ ap (λ (i : ℕ). level_row big bytes level columns (top + i)) (sym (zero-add j)))
 
 -- all that was read is the region
 module _ (big : Bool) (bytes : List ℕ) (level : Level) (x y : ℤ) (w h : ℕ)

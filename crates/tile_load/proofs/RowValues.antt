@@ -2,7 +2,7 @@
 use Rattle.std.proofs.Common.{◌≡◌, ℕ, ◌+◌, ◌*◌, Bool, true}
 use Rattle.std.proofs.Common.{List, ◌++◌, replicate, Option}
 use Rattle.std.proofs.Common.{Some, None, ℤ, pos, ◌+ℤ◌, refl, sym, ap, ◌∙◌}
-use Rattle.std.proofs.Common.{zero-add, append_assoc}
+use Rattle.std.proofs.Common.{zero-add, append_assoc, arith}
 use Rattle.std.proofs.lemmas.List.{append-nil}
 use Rattle.std.specs.List.{range_with_len, flat_map}
 use Rattle.tiff_dirs.specs.Block.{Level}
@@ -124,3 +124,16 @@ module _ (big : Bool) (bytes : List ℕ) (level : Level) where
       (middle ∙ rw (front, rect_row columns.first columns.inside y) refl
       ∙ append_assoc old left texels)
       ∙ append_assoc old (left ++ texels) right
+
+  -- a row that has no zeros beside it
+  pub bare_row : (columns : Overlap) (y : ℕ) → columns.before ≡ 0 → columns.after ≡ 0
+      → flat_map (values_at big bytes level true) (row_texels columns.first y columns.inside)
+      ≡ level_row big bytes level columns y
+  unfolding level_row texel_row
+  bare_row columns y none-before none-after =
+      let none : 0 * level.shape.channels ≡ 0 = omega arith in
+      flat_of_map (values_at big bytes level true) (λ j. (columns.first + j, y))
+      (range_with_len 0 columns.inside)
+      ∙ rw (none-before, none-after, none)
+      (sym (append-nil (flat_map (λ i. texel_values big bytes level (columns.first + i) y)
+      (range_with_len 0 columns.inside))))

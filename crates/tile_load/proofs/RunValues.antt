@@ -1,10 +1,11 @@
 -- The values of texels that stand side by side, appended part by part.
-use Rattle.std.proofs.Common.{◌≡◌, ℕ, ◌+◌, ◌-◌, ◌*◌, ◌<◌, ◌≤◌, List, length, map}
-use Rattle.std.proofs.Common.{slice_index, ap, ◌∙◌, arith, sym, inl, inr, refl, subst}
+use Rattle.std.proofs.Common.{◌≡◌, ℕ, ◌+◌, ◌-◌, ◌*◌, ◌<◌, ◌≤◌, List, [], ◌++◌, length, map}
+use Rattle.std.proofs.Common.{slice_index, ap, ◌∙◌, arith, sym, inl, inr, refl, subst, append_assoc}
 use Rattle.std.specs.List.{range_with_len}
 use Rattle.std.proofs.lemmas.Bool.{cases_lt}
+use Rattle.std.proofs.lemmas.List.{append-nil, length-append}
 use Rattle.std.proofs.lemmas.List.{get_or_append_left, get_or-append_right}
-use Rattle.std.proofs.lemmas.List.FromFn.{get_or-map-range_with_len}
+use Rattle.std.proofs.lemmas.List.FromFn.{length-map-range_with_len, get_or-map-range_with_len}
 use Rattle.std.proofs.lemmas.Nat.{mul-add-lt}
 use Rattle.std.proofs.Math.Nat.{mul-le-mul_left}
 use Rattle.tiff_dirs.specs.Block.{Level, sample_bytes, texel_bytes}
@@ -12,7 +13,7 @@ use Rattle.tiff_dirs.specs.Texel.{sample_in}
 use Rattle.tile_layout.specs.FormatOf.{IsFormatOf}
 use Rattle.tile_load.specs.declared.run.Run.{Run}
 use Rattle.tile_load.specs.declared.unpacking.Unpacking.{Unpacking}
-use Rattle.tile_load.specs.Run.{AppendsRun, AreValuesOf, StandSideBySide}
+use Rattle.tile_load.specs.Run.{AppendsRun, AreValuesOf, AppendsValues, StandSideBySide}
 use Rattle.tile_load.specs.SampleValue.{value_as, unpacked_value}
 use Rattle.tile_load.proofs.PieceValues.{value_is}
 
@@ -80,3 +81,45 @@ module _ (bytes : List ℕ) (level : Level) (unpacking : Unpacking) (part : Run)
             subst (λ (i : ℕ). slice_index new (i * n + c) ≡ value_at i c) at
             (values_behind (j - done) c (omega arith) c-below)
       ]
+
+-- ---- behind the values that were there
+
+pub appends_none : (bytes : List ℕ) (level : Level) (unpacking : Unpacking) (x_of y_of : ℕ → ℕ)
+    (old : List ℕ) → AppendsValues bytes level unpacking 0 x_of y_of old old
+appends_none bytes level unpacking x_of y_of old = record {
+  added = [];
+  behind = sym (append-nil old);
+  count = let none : 0 ≡ 0 * level.shape.channels = omega arith in none;
+  values = λ j c lt. absurd (omega arith);
+}
+
+module _ (bytes : List ℕ) (level : Level) (unpacking : Unpacking) (part : Run)
+    (x_of y_of : ℕ → ℕ) (done : ℕ) (old mid new : List ℕ)
+    (is : IsFormatOf unpacking.format.big level.shape unpacking.format)
+    (unit : unpacking.format.texel_bytes ≡ texel_bytes level.shape)
+    (stand : StandSideBySide level part (λ j. x_of (done + j)) (λ j. y_of (done + j)))
+    (before : AppendsValues bytes level unpacking done x_of y_of old mid)
+    (more : AppendsRun bytes unpacking part mid new) where
+  all : ℕ
+  all = part.texels * unpacking.format.channels
+
+  mapped : List ℕ
+  mapped = map (unpacked_value unpacking more.span) (range_with_len 0 all)
+
+  pub appends_more : AppendsValues bytes level unpacking (done + part.texels) x_of y_of old new
+  unfolding all mapped
+  appends_more =
+      let long : length (before.added ++ mapped) ≡ length before.added + all =
+      length-append before.added mapped
+      ∙ ap (λ (n : ℕ). length before.added + n)
+      (length-map-range_with_len (unpacked_value unpacking more.span) 0 all) in
+      record {
+        added = before.added ++ mapped;
+        behind = more.values ∙ ap (λ (v : List ℕ). v ++ mapped) before.behind
+            ∙ append_assoc old before.added mapped;
+        count = long ∙ rw (before.count, is.channels) (omega arith);
+        values = values_more bytes level unpacking part x_of y_of done before.added
+            (before.added ++ mapped) is unit before.count stand
+            (record { span = more.span; part = more.part; long = more.long; values = refl })
+            before.values;
+      }

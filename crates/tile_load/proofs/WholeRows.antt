@@ -1,17 +1,23 @@
 -- The texels of whole rows stand side by side, one after the other.
-use Rattle.std.proofs.Common.{◌≡◌, ℕ, ◌+◌, ◌*◌, ◌/◌, ◌%◌, ◌<◌, List, length, ap, ◌∙◌, arith}
-use Rattle.std.proofs.Common.{inl, inr, zero, suc, false, refl, Result, Ok, Err, IfOk}
+use Rattle.std.proofs.Common.{◌≡◌, ℕ, ◌+◌, ◌*◌, ◌/◌, ◌%◌, ◌<◌, List, ◌++◌, map, ap, ◌∙◌}
+use Rattle.std.proofs.Common.{slice_index, arith, sym, inl, inr, zero, suc, refl, Result, Ok, Err, OnOk}
+use Rattle.std.specs.List.{range_with_len, flat_map}
+use Rattle.std.proofs.lemmas.Grind.{same_number_lists}
 use Rattle.std.proofs.lemmas.Bool.{cases_lt}
 use Rattle.std.proofs.lemmas.Nat.{mul-add-lt, div-mul-add, mod-mul-add, mod_below, div-add-mod'}
 use Rattle.std.proofs.Math.Nat.{mul-le-mul_left, div-add-mod}
 use Rattle.tiff_dirs.specs.Block.{Level, sample_bytes, texel_bytes}
 use Rattle.tiff_dirs.specs.Texel.{sample_in}
 use Rattle.tile_layout.specs.declared.rect.Rect.{Rect}
+use Rattle.tile_layout.specs.Pieces.{rect_texels}
 use Rattle.tile_layout.specs.Texel.{AreTexelsOn}
 use Rattle.tile_layout.specs.WholeRows.{StandsWhole}
 use Rattle.tile_load.specs.declared.run.Run.{Run}
 use Rattle.tile_load.specs.declared.unpacking.Unpacking.{Unpacking}
-use Rattle.tile_load.specs.Run.{AreValuesOf, StandSideBySide}
+use Rattle.tile_load.specs.LevelRow.{values_at}
+use Rattle.tile_load.specs.Run.{AppendsValues, StandSideBySide}
+use Rattle.tile_load.specs.SampleValue.{value_as}
+use Rattle.tile_load.proofs.RectValues.{are_texels}
 
 -- the column and the row of texel j of a rectangle
 abbrev pub column_of : Rect → ℕ → ℕ
@@ -42,23 +48,54 @@ run_stands level rect run whole count = λ j c lt.
     ∙ ap (λ (k : ℕ). run.at + k * texel_bytes level.shape + c * sample_bytes level.shape.depth)
     (div-add-mod' j rect.w)
 
--- their values are the samples of the rectangle, where they are left in the depth of the file
-pub run_texels : (bytes : List ℕ) (level : Level) (unpacking : Unpacking) (rect : Rect)
-    (samples : List ℕ) → unpacking.scaled ≡ false
-    → length samples ≡ rect.w * rect.h * level.shape.channels
-    → AreValuesOf bytes level unpacking (rect.w * rect.h) (column_of rect) (row_of rect) samples
-    → AreTexelsOn (sample_in unpacking.format.big bytes level) level.shape.channels rect samples
-run_texels bytes level unpacking rect samples kept count are = record {
-  count = count;
-  each = λ i j c across down some.
-      let below : j * rect.w + i < rect.w * rect.h =
-      omega (arith, mul-add-lt j rect.w i rect.h down across) in
-      are (j * rect.w + i) c below some
-      ∙ rw (kept, mod-mul-add j rect.w i across, div-mul-add j rect.w i across) refl;
-}
+-- ---- numbers of the texels of a rectangle, n of each
 
--- what is so of a result is so of it by two facts of it
-pub ok_by : {T E : Type 0} {P Q R : T → Type 0} (result : Result T E)
-    → ((x : T) → P x → Q x → R x) → IfOk result P → IfOk result Q → IfOk result R
-ok_by (Ok x) by p q = by x p q
-ok_by (Err e) by p q = tt
+-- by their places, and one texel after the other
+pub texels_listed : (texel : ℕ → ℕ → ℕ → ℕ) (n : ℕ) (rect : Rect) (numbers : List ℕ)
+    → AreTexelsOn texel n rect numbers
+    → numbers
+    ≡ flat_map (λ t. map (λ c. texel t.0 t.1 c) (range_with_len 0 n)) (rect_texels rect)
+texels_listed texel n rect numbers are =
+    let all = flat_map (λ t. map (λ c. texel t.0 t.1 c) (range_with_len 0 n)) (rect_texels rect) in
+    let own : AreTexelsOn texel n rect all = are_texels texel n rect all refl in
+    same_number_lists numbers all (are.count ∙ sym own.count)
+    (λ k below.
+    let inside : k < n * (rect.w * rect.h) = omega (arith, are.count) in
+    let some : 0 < n = some_columns n (rect.w * rect.h) k inside in
+    let t-below : k / n < rect.w * rect.h = row_below k n (rect.w * rect.h) inside in
+    let wide : 0 < rect.w = some_columns rect.w rect.h (k / n) t-below in
+    let across : k / n % rect.w < rect.w = mod_below (k / n) rect.w wide in
+    let down : k / n / rect.w < rect.h = row_below (k / n) rect.w rect.h t-below in
+    let sample : k % n < n = mod_below k n some in
+    let at : (k / n / rect.w * rect.w + k / n % rect.w) * n + k % n ≡ k =
+    ap (λ (t : ℕ). t * n + k % n) (div-add-mod' (k / n) rect.w) ∙ div-add-mod' k n in
+    ap (slice_index numbers) (sym at)
+    ∙ are.each (k / n % rect.w) (k / n / rect.w) (k % n) across down sample
+    ∙ sym (own.each (k / n % rect.w) (k / n / rect.w) (k % n) across down sample)
+    ∙ ap (slice_index all) at)
+
+-- the values of texels that stand side by side, row behind row, are those of the rectangle
+pub rect_appended : (bytes : List ℕ) (level : Level) (unpacking : Unpacking) (rect : Rect)
+    (old new : List ℕ)
+    → AppendsValues bytes level unpacking (rect.w * rect.h) (column_of rect) (row_of rect) old new
+    → new ≡ old ++ flat_map (values_at unpacking.format.big bytes level unpacking.scaled)
+    (rect_texels rect)
+rect_appended bytes level unpacking rect old new more =
+    let texel : ℕ → ℕ → ℕ → ℕ = λ x y c.
+    value_as unpacking.scaled level.shape.depth
+    (sample_in unpacking.format.big bytes level x y c) in
+    let are : AreTexelsOn texel level.shape.channels rect more.added = record {
+      count = more.count;
+      each = λ i j c across down some.
+          let below : j * rect.w + i < rect.w * rect.h =
+          omega (arith, mul-add-lt j rect.w i rect.h down across) in
+          more.values (j * rect.w + i) c below some
+          ∙ rw (mod-mul-add j rect.w i across, div-mul-add j rect.w i across) refl;
+    } in
+    more.behind ∙ ap (λ (v : List ℕ). old ++ v)
+    (texels_listed texel level.shape.channels rect more.added are)
+
+-- what is so where a call succeeded, by a fact that is so there
+pub on_ok : {T E P Q : Type 0} (result : Result T E) → (P → Q) → OnOk result P → OnOk result Q
+on_ok (Ok x) by p = by p
+on_ok (Err e) by p = tt

@@ -30,3 +30,11 @@ pub record AppendsRun (bytes : List ℕ) (unpacking : Unpacking) (run : Run) (ol
   pub long : length span ≡ run.texels * unpacking.format.texel_bytes
   pub values : new ≡ old ++ map (unpacked_value unpacking span)
       (range_with_len 0 (run.texels * unpacking.format.channels))
+
+-- behind the values that were there stand those of n texels
+pub record AppendsValues (bytes : List ℕ) (level : Level) (unpacking : Unpacking) (n : ℕ)
+    (x_of y_of : ℕ → ℕ) (old new : List ℕ) : Type 0 where
+  pub added : List ℕ
+  pub behind : new ≡ old ++ added
+  pub count : length added ≡ n * level.shape.channels
+  pub values : AreValuesOf bytes level unpacking n x_of y_of added

@@ -9,6 +9,7 @@ ghost use Rattle.tile_load.specs.Window.{AreWindows};
 ghost use Rattle.tile_load.specs.RegionRead.{LeavesRegion};
 
 use crate::overlap::Overlap;
+use crate::place::Place;
 use crate::reading::Reading;
 use crate::region::RegionError;
 use crate::unpacking::Unpacking;
@@ -57,6 +58,64 @@ impl<'a> LevelRows<'a> {
         Ok(())
     }
 
+    /// Appends the values of rows that are on the level from end to end of the region.
+    fn read_inside<B: ByteReader>(
+        &self,
+        reader: &mut B,
+        rows: &Overlap,
+        reading: &mut Reading,
+    ) -> Result<(), RegionError<B::Error>>
+        requires before { self.now.columns.before ≡ 0 }
+        requires after { self.now.columns.after ≡ 0 }
+        requires rows { rows.now.first + rows.now.inside
+            ≤ (level_in self.now.layout.now self.now.level).shape.height }
+        ensures told { ForSome (B.bytes reader.old) (λ bytes.
+            AreWindows bytes reading.old.windows.items
+            → HoldsBlocks bytes (level_in self.now.layout.now self.now.level)
+            → OnOk result (reading.new.values.items ≡ reading.old.values.items
+            ++ level_rows self.now.layout.now.big bytes
+            (level_in self.now.layout.now self.now.level) self.now.columns
+            rows.now.first rows.now.inside)) }
+        ensures reader { LeavesRegion B.keeps B.refuses reader.old reader.new result }
+    {
+        let place = Place {
+            layout: self.layout,
+            level: self.level,
+            rect: Rect {
+                x: self.columns.first,
+                y: rows.first,
+                w: self.columns.inside,
+                h: rows.inside,
+            },
+        };
+        reading.read_place(reader, &self.unpacking, &place)
+    }
+
+    /// Appends the values of those rows that lie on the level, each with the zeros beside it.
+    fn read_each<B: ByteReader>(
+        &self,
+        reader: &mut B,
+        rows: &Overlap,
+        reading: &mut Reading,
+    ) -> Result<(), RegionError<B::Error>>
+        requires rows { rows.now.first + rows.now.inside
+            ≤ (level_in self.now.layout.now self.now.level).shape.height }
+        requires few { rows.now.first + rows.now.inside < 2 ^ 32 }
+        ensures told { ForSome (B.bytes reader.old) (λ bytes.
+            AreWindows bytes reading.old.windows.items
+            → HoldsBlocks bytes (level_in self.now.layout.now self.now.level)
+            → OnOk result (reading.new.values.items ≡ reading.old.values.items
+            ++ level_rows self.now.layout.now.big bytes
+            (level_in self.now.layout.now self.now.level) self.now.columns
+            rows.now.first rows.now.inside)) }
+        ensures reader { LeavesRegion B.keeps B.refuses reader.old reader.new result }
+    {
+        for j in 0..rows.inside {
+            self.read_row(reader, rows.first + j, reading)?;
+        }
+        Ok(())
+    }
+
     /// Appends the values of those rows that lie on the level.
     ///
     /// Each piece of a row has a window. Besides the values they hold the bytes of a row and at
@@ -79,9 +138,10 @@ impl<'a> LevelRows<'a> {
             rows.now.first rows.now.inside)) }
         ensures reader { LeavesRegion B.keeps B.refuses reader.old reader.new result }
     {
-        for j in 0..rows.inside {
-            self.read_row(reader, rows.first + j, reading)?;
+        if self.columns.before == 0 && self.columns.after == 0 {
+            self.read_inside(reader, rows, reading)
+        } else {
+            self.read_each(reader, rows, reading)
         }
-        Ok(())
     }
 }

@@ -56,9 +56,9 @@ pub fn load<T: Tap>(
 /// The tile of a cell of a stored level, read through the tap under a handle of its file and
 /// generation. The layout is that of the handle's bytes.
 ///
-/// A cell that is whole rows of a strip or tile, as a stored tile is, takes a read for each
-/// 256 KiB. So do rows that stand close together. Besides the tile it takes the bytes of a row and
-/// at most 256 KiB that are read ahead.
+/// A cell that is whole rows of a strip or tile, as a stored tile is, or of several that follow
+/// each other directly in the file, takes a read for each 256 KiB. So do rows that stand close
+/// together. Besides the tile it takes the bytes of a row and at most 256 KiB that are read ahead.
 pub fn load_at<T: Tap>(
     alloc: Global,
     tap: &mut T,

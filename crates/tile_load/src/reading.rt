@@ -4,15 +4,18 @@ ghost use Rattle.std.specs.Prelude.{◌≡◌, ◌+◌, ◌*◌, ◌≤◌, ◌<
 ghost use Rattle.std.specs.Option.{ForSome};
 ghost use Rattle.std.specs.List.{flat_map};
 ghost use Rattle.tiff_dirs.specs.Block.{Level};
-ghost use Rattle.tile_layout.specs.Pieces.{LiesSideBySide, row_texels};
+ghost use Rattle.tile_layout.specs.Kept.{level_in};
+ghost use Rattle.tile_layout.specs.Pieces.{LiesSideBySide, row_texels, rect_texels};
 ghost use Rattle.tile_layout.specs.FormatOf.{IsFormatOf};
 ghost use Rattle.tile_layout.specs.Blocks.{HoldsBlocks};
 ghost use Rattle.tile_load.specs.LevelRow.{values_at};
 ghost use Rattle.tile_load.specs.Window.{AreWindows};
 ghost use Rattle.tile_load.specs.RegionRead.{LeavesRegion};
 
+use crate::place::Place;
 use crate::region::RegionError;
 use crate::rows::Rows;
+use crate::run::{Run, read_run};
 use crate::sample_values::push_samples;
 use crate::span::Span;
 use crate::unpacking::Unpacking;
@@ -147,5 +150,37 @@ impl Reading {
             k = own + 1;
         }
         Ok(())
+    }
+
+    /// Appends the numbers of the texels of a place, row by row: at once where they stand side by
+    /// side in the file.
+    pub(crate) fn read_place<B: ByteReader>(
+        &mut self,
+        reader: &mut B,
+        unpacking: &Unpacking,
+        place: &Place<'_>,
+    ) -> Result<(), RegionError<B::Error>>
+        requires { IsFormatOf place.now.layout.now.big
+            (level_in place.now.layout.now place.now.level).shape unpacking.now.format }
+        ensures count { OnOk result (length self.new.values.items
+            ≡ length self.old.values.items
+            + place.now.rect.w * place.now.rect.h * unpacking.now.format.channels) }
+        ensures told { ForSome (B.bytes reader.old) (λ bytes.
+            AreWindows bytes self.old.windows.items
+            → HoldsBlocks bytes (level_in place.now.layout.now place.now.level)
+            → OnOk result (AreWindows bytes self.new.windows.items
+            × (self.new.values.items ≡ self.old.values.items
+            ++ flat_map (values_at place.now.layout.now.big bytes
+            (level_in place.now.layout.now place.now.level) unpacking.now.scaled)
+            (rect_texels place.now.rect)))) }
+        ensures reader { LeavesRegion B.keeps B.refuses reader.old reader.new result }
+    {
+        match Run::of(place.layout, place.level, place.rect) {
+            Some(run) => read_run(reader, unpacking, &run, &mut self.values),
+            None => {
+                let mut pieces = place.layout.pieces(place.level, place.rect);
+                self.read_pieces(reader, unpacking, &mut pieces)
+            }
+        }
     }
 }

@@ -9,10 +9,10 @@ ghost use Rattle.tile_layout.specs.Pieces.{LiesOnLevel};
 ghost use Rattle.tile_layout.specs.Texel.{AreTexelsOn};
 ghost use Rattle.tile_load.specs.RegionRead.{LeavesRegion};
 
+use crate::place::Place;
 use crate::reading::Reading;
 use crate::region::RegionError;
 use crate::rows::Rows;
-use crate::run::{Run, read_run};
 use crate::unpacking::Unpacking;
 use std::alloc::Global;
 use tiff_dirs::ByteReader;
@@ -40,44 +40,19 @@ pub fn read_rect<B: ByteReader>(
         (level_in layout.now level).shape.channels rect samples.items)) }
     ensures reader { LeavesRegion B.keeps B.refuses reader.old reader.new result }
 {
-    let unpacking = Unpacking {
-        format: layout.format(level),
-        scaled: false,
-    };
-    match Run::of(layout, level, rect) {
-        Some(run) => read_run(alloc, reader, &unpacking, &run),
-        None => read_rows(alloc, reader, layout, level, rect),
-    }
-}
-
-/// The same samples, read row by row.
-fn read_rows<B: ByteReader>(
-    alloc: Global,
-    reader: &mut B,
-    layout: &Layout,
-    level: u32,
-    rect: Rect,
-) -> Result<Vec<u16>, RegionError<B::Error>>
-    requires stored { level < stored_count layout.now }
-    requires inside { LiesOnLevel layout.now level rect }
-    ensures count { IfOk result (λ samples. length samples.items
-        ≡ rect.w * rect.h * (level_in layout.now level).shape.channels) }
-    ensures told { ForSome (B.bytes reader.old) (λ bytes.
-        HoldsBlocks bytes (level_in layout.now level)
-        → IfOk result (λ samples. AreTexelsOn
-        (sample_in layout.now.big bytes (level_in layout.now level))
-        (level_in layout.now level).shape.channels rect samples.items)) }
-    ensures reader { LeavesRegion B.keeps B.refuses reader.old reader.new result }
-{
     let format = layout.format(level);
     let rows = Rows::of(layout, level, &format, rect.y.saturating_add(rect.h));
     let unpacking = Unpacking {
         format,
         scaled: false,
     };
+    let place = Place {
+        layout,
+        level,
+        rect,
+    };
     let mut reading = Reading::new(alloc, rows);
     reading.reserve(rect, unpacking.format.channels)?;
-    let mut pieces = layout.pieces(level, rect);
-    reading.read_pieces(reader, &unpacking, &mut pieces)?;
+    reading.read_place(reader, &unpacking, &place)?;
     Ok(reading.values)
 }

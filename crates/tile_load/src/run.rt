@@ -9,7 +9,7 @@ ghost use Rattle.tile_layout.specs.Kept.{level_in, stored_count};
 ghost use Rattle.tile_layout.specs.Pieces.{LiesOnLevel};
 ghost use Rattle.tile_layout.specs.WholeRows.{StandsWhole};
 ghost use Rattle.tile_load.specs.RegionRead.{LeavesRegion};
-ghost use Rattle.tile_load.specs.Run.{AppendsRun, AreValuesOf, StandSideBySide};
+ghost use Rattle.tile_load.specs.Run.{AppendsRun, AppendsValues, StandSideBySide};
 ghost use Rattle.tile_load.specs.Window.{IsWindow};
 
 use crate::reading::MAX_AHEAD;
@@ -19,7 +19,7 @@ use crate::sample_values::push_samples;
 use crate::span::Span;
 use crate::unpacking::Unpacking;
 use crate::window::Window;
-use std::alloc::{AllocError, Global};
+use std::alloc::AllocError;
 use tiff_dirs::ByteReader;
 use tile_layout::{Layout, Rect, TexelFormat};
 
@@ -64,92 +64,77 @@ fn texels_at_once(format: &TexelFormat) -> usize
     (MAX_AHEAD as usize / format.texel_bytes.max(1)).max(1)
 }
 
-/// The samples that were read, and the bytes of the last of them.
-#[derive(Drop)]
-struct RunReading {
-    samples: Vec<u16>,
-    window: Window,
+/// Appends the numbers of the texels of a part of a run, read through a window.
+fn read_part<B: ByteReader>(
+    reader: &mut B,
+    unpacking: &Unpacking,
+    part: &Run,
+    window: &mut Window,
+    values: &mut Vec<u16>,
+) -> Result<(), RegionError<B::Error>>
+    requires { part.now.at + part.now.texels * unpacking.now.format.texel_bytes < 2 ^ 64 }
+    ensures count { OnOk result (length values.new.items
+        ≡ length values.old.items + part.now.texels * unpacking.now.format.channels) }
+    ensures told { ForSome (B.bytes reader.old) (λ bytes.
+        IsWindow bytes window.old
+        → part.now.at + part.now.texels * unpacking.now.format.texel_bytes ≤ length bytes
+        → OnOk result (IsWindow bytes window.new × AppendsRun bytes unpacking.now
+        part.now values.old.items values.new.items)) }
+    ensures reader { LeavesRegion B.keeps B.refuses reader.old reader.new result }
+{
+    let format = &unpacking.format;
+    let span = Span {
+        at: part.at,
+        size: part.texels * format.texel_bytes,
+    };
+    window.fill(reader, &span, &NO_ROWS, 0)?;
+    let count = part.texels * format.channels;
+    push_samples(values, unpacking, window.piece(&span), count)?;
+    Ok(())
 }
 
-impl RunReading {
-    /// A reading that has no samples yet, with memory for those of so many texels.
-    fn new(alloc: Global, format: &TexelFormat, texels: usize) -> Result<RunReading, AllocError>
-        ensures none { IfOk result (λ r. length r.samples.items ≡ 0) }
-        ensures window { IfOk result (λ r. (bytes : List ℕ) → IsWindow bytes r.window) }
-    {
-        let count = texels.checked_mul(format.channels).ok_or(AllocError)?;
-        Ok(RunReading {
-            samples: Vec::with_capacity(alloc, count)?,
-            window: Window::new(alloc),
-        })
-    }
-
-    /// Appends the numbers of the texels of a part of the run.
-    fn read_part<B: ByteReader>(
-        &mut self,
-        reader: &mut B,
-        unpacking: &Unpacking,
-        part: &Run,
-    ) -> Result<(), RegionError<B::Error>>
-        requires { part.now.at + part.now.texels * unpacking.now.format.texel_bytes < 2 ^ 64 }
-        ensures count { OnOk result (length self.new.samples.items
-            ≡ length self.old.samples.items + part.now.texels * unpacking.now.format.channels) }
-        ensures told { ForSome (B.bytes reader.old) (λ bytes.
-            IsWindow bytes self.old.window
-            → part.now.at + part.now.texels * unpacking.now.format.texel_bytes ≤ length bytes
-            → OnOk result (IsWindow bytes self.new.window × AppendsRun bytes unpacking.now
-            part.now self.old.samples.items self.new.samples.items)) }
-        ensures reader { LeavesRegion B.keeps B.refuses reader.old reader.new result }
-    {
-        let format = &unpacking.format;
-        let span = Span {
-            at: part.at,
-            size: part.texels * format.texel_bytes,
-        };
-        self.window.fill(reader, &span, &NO_ROWS, 0)?;
-        let count = part.texels * format.channels;
-        push_samples(
-            &mut self.samples,
-            unpacking,
-            self.window.piece(&span),
-            count,
-        )?;
-        Ok(())
-    }
+/// Finds memory for the values of the texels of a run.
+fn reserve(values: &mut Vec<u16>, format: &TexelFormat, run: &Run) -> Result<(), AllocError>
+    ensures { values.new.items ≡ values.old.items }
+{
+    let count = run.texels.checked_mul(format.channels).ok_or(AllocError)?;
+    values.reserve(count)?;
+    Ok(())
 }
 
-/// The numbers of the texels of a run, channels side by side.
+/// Appends the numbers of the texels of a run, channels side by side.
 ///
 /// Besides them it takes 256 KiB at most.
 pub(crate) fn read_run<B: ByteReader>(
-    alloc: Global,
     reader: &mut B,
     unpacking: &Unpacking,
     run: &Run,
-) -> Result<Vec<u16>, RegionError<B::Error>>
+    values: &mut Vec<u16>,
+) -> Result<(), RegionError<B::Error>>
     requires { run.now.at + run.now.texels * unpacking.now.format.texel_bytes < 2 ^ 64 }
-    ensures count { IfOk result (λ samples. length samples.items
-        ≡ run.now.texels * unpacking.now.format.channels) }
+    ensures count { OnOk result (length values.new.items
+        ≡ length values.old.items + run.now.texels * unpacking.now.format.channels) }
     ensures told { ForSome (B.bytes reader.old) (λ bytes.
         (level : Level) → (x_of y_of : ℕ → ℕ)
         → IsFormatOf unpacking.now.format.big level.shape unpacking.now.format
         → StandSideBySide level run.now x_of y_of
         → run.now.at + run.now.texels * unpacking.now.format.texel_bytes ≤ length bytes
-        → IfOk result (λ samples. AreValuesOf bytes level unpacking.now
-        run.now.texels x_of y_of samples.items)) }
+        → OnOk result (AppendsValues bytes level unpacking.now run.now.texels x_of y_of
+        values.old.items values.new.items)) }
     ensures reader { LeavesRegion B.keeps B.refuses reader.old reader.new result }
 {
     let size = unpacking.format.texel_bytes;
     let most = texels_at_once(&unpacking.format);
-    let mut reading = RunReading::new(alloc, &unpacking.format, run.texels)?;
+    reserve(values, &unpacking.format, run)?;
+    let mut window = Window::new(*values.allocator());
     let mut done = 0usize;
     'parts: while done < run.texels {
         let part = Run {
             at: run.at + (done * size) as u64,
             texels: most.min(run.texels - done),
         };
-        reading.read_part(reader, unpacking, &part)?;
+        read_part(reader, unpacking, &part, &mut window, values)?;
         done += part.texels;
     }
-    Ok(reading.samples)
+    Ok(())
 }

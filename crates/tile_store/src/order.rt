@@ -1,5 +1,6 @@
 //! The entries of a shard by their keys, in the order of their last use.
-ghost use Rattle.std.specs.Prelude.{◌≡◌, ◌<◌, ◌≤◌, ◌^◌, [], length, OnOk, OnErr, IfOk, None, IsTrue, ◌↔◌};
+ghost use Rattle.std.specs.Prelude.{◌≡◌, ◌<◌, ◌≤◌, ◌^◌, ◌↔◌, [], length};
+ghost use Rattle.std.specs.Prelude.{OnOk, OnErr, IfOk, None, IsTrue};
 ghost use Rattle.std.specs.Prelude.{option_map};
 ghost use Rattle.std.specs.Arc.{arc_value};
 ghost use Rattle.tile_layout.specs.Cell.{max_cell_bytes};

@@ -26,7 +26,6 @@ loop-last-init g c =
     record {
       long = c.requires.one;
       chain = chain_one (map shown items) (length-map items shown ∙ c.requires.one);
-      inside = c.requires.inside;
       keeps = g.met.B.ByteReader.lawful.itself c.args.b.now;
       told = λ bytes is levels good end. (one_level bytes (map shown items) levels good, end);
     }
@@ -134,7 +133,6 @@ loop-last-preserved g c =
     let more = c.in_ok-append-in-Some.ensures.ok in
     let same = c.in_ok-dir-in-Some.ensures.1 in
     let half = rw c.in-Some.is at c.in_ok-next_level.ensures.half in
-    let inside = rw c.in-Some.is at c.in_ok-next_level.ensures.inside in
     let dir-half : is_half_of (shown_shape c.index.result.now)
     (shown_shape c.index-in-loop-last.result.now) (shown_shape dir) ≡ true =
     ap (λ (l : Level). is_half_of (shown_shape c.index.result.now)
@@ -146,7 +144,6 @@ loop-last-preserved g c =
           c.index-in-loop-last.result.now dir so.chain so.long
           (omega (arith, c.loop-last-test.true)) c.index.ensures c.index-in-loop-last.ensures
           dir-half);
-      inside = inside;
       keeps = lawful.chains _ _ _ so.keeps c.in_ok-next_level.ensures.reader;
       told = λ bytes is levels good end.
           let k = c.loop-last.last in

@@ -1,6 +1,6 @@
-use Rattle.std.proofs.Common.{◌≡◌, ◌+◌, ◌≤◌, [], ◌∷◌, length, map, None}
+use Rattle.std.proofs.Common.{◌≡◌, ◌+◌, [], ◌∷◌, length, map, None}
 use Rattle.std.specs.Option.{ForSome}
-use Rattle.tiff_dirs.specs.Form.{form_of, offset_bytes}
+use Rattle.tiff_dirs.specs.Form.{form_of}
 use Rattle.tiff_dirs.specs.Fault.{data_fault}
 use Rattle.tiff_dirs.specs.Facts.{IsChain}
 use Rattle.tiff_dirs.specs.Level.{level_of}
@@ -12,7 +12,6 @@ abbrev pub invariant-loop-last : goal.invariant-loop-last
 invariant-loop-last g l = record {
   long : length l.levels.items ≡ l.last + 1;
   chain : IsChain (map shown l.levels.items);
-  inside : l.next.at + offset_bytes l.next.form ≤ g.B.ByteReader.size l.b;
   keeps : g.B.ByteReader.keeps l.fn.b l.b;
   told : ForSome (g.B.ByteReader.bytes l.fn.b)
       (λ bytes. map shown l.fn.levels.items ≡ level_of bytes 0 ∷ []

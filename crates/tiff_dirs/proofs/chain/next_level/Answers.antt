@@ -13,23 +13,18 @@ returns-then-last-eq1-2-clause-told g c = λ bytes is one at first last link. (
       c.if-last-eq1-2.true,
 )
 
-pub returns-then-at-eq0-clause-told : goal.returns-then-at-eq0-clause-told
-returns-then-at-eq0-clause-told g c = λ bytes is one at first last link.
-    let form = c.args.next.form in
-    let place = c.in_ok-at.ensures.told bytes is in (
+pub returns-then-next-eq0-clause-told : goal.returns-then-next-eq0-clause-told
+returns-then-next-eq0-clause-told g c = λ bytes is one at first last link.
+    let form = c.args.next.form in (
       refl,
       end_is_last form bytes one at (no_next form bytes at link.inside
-          (rw (← link.next) (sym place.1 ∙ c.if-at-eq0.true))),
+          (sym link.next ∙ c.if-next-eq0.true)),
     )
 
 pub returns-in-Ok-clause-told : goal.returns-in-Ok-clause-told
 returns-in-Ok-clause-told g c = λ bytes is one at first last link.
     let form = c.args.next.form in
-    let place = c.in_ok-at.ensures.told bytes is in
-    let there = some_next form bytes at c.in_ok-at.at link.inside
-    (rw (← link.next) place.1) c.if-at-eq0.false in
-    let half = (c.in-Ok.ensures.told bytes
-    (g.met.B.ByteReader.lawful.same_bytes _ _ c.in_ok-at.ensures.reader ∙ is)) in
+    let there = some_next form bytes at c.args.next.at link.inside link.next c.if-next-eq0.false in
     let more : is_single (shown_shape c.args.last.now) ≡ false =
     elim c.else-last-eq1.branch [
       | goal.else-last-eq1-via-then-last-eq1+else-last-eq1-2 w ↦
@@ -38,21 +33,18 @@ returns-in-Ok-clause-told g c = λ bytes is one at first last link.
           rw (ne_eqb c.args.last.now.width 1 w.if-last-eq1.false) refl
     ] in (
       refl,
-      next_of_half form bytes g.row.B-Error.Denot one at c.in_ok-at.at
+      next_of_half form bytes g.row.B-Error.Denot one at c.args.next.at
           (shown_shape c.args.first.now) (shown_shape c.args.last.now) c.in-Ok.next
           (shape_of_level form bytes one (shown c.args.first.now) first)
-          (shape_of_level form bytes at (shown c.args.last.now) last) more there half,
+          (shape_of_level form bytes at (shown c.args.last.now) last) more there
+          (c.in-Ok.ensures.told bytes is),
     )
 
 pub returns-in-Err-Fault-clause-told : goal.returns-in-Err-Fault-clause-told
 returns-in-Err-Fault-clause-told g c = λ bytes is one at first last link.
     let form = c.args.next.form in
-    let place = c.in_ok-at.ensures.told bytes is in
-    let there = some_next form bytes at c.in_ok-at.at link.inside
-    (rw (← link.next) place.1) c.if-at-eq0.false in
-    let shown-fault = rw c.in-Err-Fault.field-0-is at (c.in-Err-Fault.ensures.told bytes
-    (g.met.B.ByteReader.lawful.same_bytes _ _ c.in_ok-at.ensures.reader ∙ is)) in (
+    let there = some_next form bytes at c.args.next.at link.inside link.next c.if-next-eq0.false in
+    let shown-fault = rw c.in-Err-Fault.field-0-is at (c.in-Err-Fault.ensures.told bytes is) in (
       refl,
-      fault_is_last form bytes one at c.in_ok-at.at c.in-Err-Fault.field-0-0 there
-          shown-fault,
+      fault_is_last form bytes one at c.args.next.at c.in-Err-Fault.field-0-0 there shown-fault,
     )

@@ -1,5 +1,10 @@
-use Rattle.std.proofs.Common.{◌≡◌, ◌*◌, ◌∙◌, arith, refl}
+use Rattle.std.proofs.Common.{◌≡◌, ◌+◌, ◌*◌, None, ◌∙◌, arith, ap}
+use Rattle.tiff_dirs.specs.Form.{offset_at}
+use Rattle.tiff_dirs.specs.Directory.{next_place}
+use Rattle.tiff_dirs.specs.Fault.{outside_fault}
+use Rattle.tiff_dirs.specs.Entries.{AreEntriesAt, IsDirectoryAt}
 use Rattle.tiff_dirs.proofs.Covering.{has_entries}
+use Rattle.tiff_dirs.proofs.Saying.{finds_so}
 use Rattle.tiff_dirs.proofs.Shown.{no_outside}
 use Rattle.tiff_dirs.proofs.directory.read_directory.Goals as goal
 
@@ -7,20 +12,21 @@ pub returns-clause-told : goal.returns-clause-told
 returns-clause-told g c = λ bytes is.
     let form = c.args.place.form in
     let at = c.args.place.at in
-    let lawful = g.met.B.ByteReader.lawful in
     let count = c.in_ok-count.ensures.told bytes is in
-    let covers = (c.in_ok-found.ensures.told bytes
-    (lawful.same_bytes _ _ c.in_ok-count.ensures.reader ∙ is)).1 in
-    let entries : c.entry_bytes.result * c.from.result ≡ 12 * c.in_ok-count.count =
-    rw (c.entry_bytes.ensures.value, c.from.ensures) refl in (
-      count.0,
-      record {
-        link = record {
-          same = refl;
-          inside = no_outside form bytes at count.0;
-          next = omega (arith, count.1);
-        };
-        entries = has_entries form bytes at c.in_ok-count.count c.in_ok-found.found.entries
-            count.1 (rw c.count_bytes.ensures.value at covers);
-      },
-    )
+    let first = at + c.count_bytes.result in
+    let end : first + 12 * c.in_ok-count.count ≡ next_place form bytes at =
+    omega (arith, count.1, c.count_bytes.ensures.value) in
+    finds_so None (outside_fault form bytes at)
+    (AreEntriesAt form bytes first c.in_ok-count.count) (IsDirectoryAt form bytes at)
+    c.read_entries.result
+    (c.read_entries.ensures.told bytes
+    (g.met.B.ByteReader.lawful.same_bytes _ _ c.in_ok-count.ensures.reader ∙ is))
+    count.0 (λ directory none are. record {
+      link = record {
+        same = are.same;
+        inside = no_outside form bytes at count.0;
+        next = are.next ∙ ap (offset_at form bytes) end;
+      };
+      entries = has_entries form bytes at c.in_ok-count.count directory.found.entries count.1
+          (rw c.count_bytes.ensures.value at are.covers);
+    })

@@ -1,9 +1,9 @@
-use Rattle.std.proofs.Common.{◌≡◌, ◌∙◌, ℕ, ◌+◌, ◌*◌, ◌≤◌, List, length, ap, arith}
+use Rattle.std.proofs.Common.{◌≡◌, ◌∙◌, ℕ, ◌+◌, ◌*◌, ◌≤◌, length, ap, arith}
 use Rattle.std.proofs.lemmas.Result.{err_from_is_err_and}
 use Rattle.tiff_dirs.specs.Block.{texel_bytes}
 use Rattle.tile_load.specs.declared.run.Run.{Run}
 use Rattle.tile_load.proofs.Leaves.{leaves_after}
-use Rattle.tile_load.proofs.RunValues.{bytes_within, part_stands, values_more}
+use Rattle.tile_load.proofs.RunValues.{bytes_within, part_stands, appends_none, appends_more}
 use Rattle.tile_load.proofs.run.read_run.Goals as goal
 
 pub read_part-requires : goal.read_part-requires
@@ -21,9 +21,21 @@ returns-in_err-read_part-clause-reader g c =
     let r = c.from_residual-in_err-read_part in
     let p = err_from_is_err_and r.result r.ensures.1 in
     rw (p.1, p.2) (leaves_after g.B.ByteReader.keeps g.B.ByteReader.refuses
-    g.met.B.ByteReader.lawful.chains (Unit {0}) (List ℕ) c.args.reader.now c.parts.reader
+    g.met.B.ByteReader.lawful.chains (Unit {0}) (Unit {0}) c.args.reader.now c.parts.reader
     c.read_part.new.reader c.in_err-read_part.field-0.0
     c.parts.invariant.keeps c.in_err-read_part.ensures.reader)
+
+pub parts-init : goal.parts-init
+parts-init g c = record {
+  keeps = g.met.B.ByteReader.lawful.itself c.args.reader.now;
+  within = omega arith;
+  count = omega arith;
+  told = λ bytes told inside. (
+    c.new-window.ensures bytes,
+    λ level x_of y_of is stand.
+        appends_none bytes level c.args.unpacking.now x_of y_of c.reserve.new.values.items,
+  );
+}
 
 pub parts-preserved : goal.parts-preserved
 parts-preserved g c =
@@ -54,11 +66,10 @@ parts-preserved g c =
             λ level x_of y_of is stand.
                 let unit : format.texel_bytes ≡ texel_bytes level.shape =
                 rw (← is.channels, ← is.depth) format.in_range.bytes in
-                values_more bytes level c.args.unpacking.now part x_of y_of c.parts.done
-                c.parts.reading.samples.items c.read_part.new.self.samples.items is unit
-                (before.count ∙ ap (λ (k : ℕ). c.parts.done * k) is.channels)
+                appends_more bytes level c.args.unpacking.now part x_of y_of c.parts.done
+                c.reserve.new.values.items c.parts.values.items c.read_part.new.values.items is unit
                 (part_stands level run part x_of y_of c.parts.done stand within
-                (ap (λ (u : ℕ). run.at + c.parts.done * u) unit)) read.1
-                (so_far.1 level x_of y_of is stand),
+                (ap (λ (u : ℕ). run.at + c.parts.done * u) unit))
+                (so_far.1 level x_of y_of is stand) read.1,
           );
     }

@@ -2,7 +2,7 @@ use Rattle.std.proofs.Common.{◌≡◌, ℕ, ◌+◌, ◌-◌, ◌*◌, ◌≤�
 use Rattle.std.specs.Option.{ForSome}
 use Rattle.tiff_dirs.specs.Block.{Level}
 use Rattle.tile_layout.specs.FormatOf.{IsFormatOf}
-use Rattle.tile_load.specs.Run.{AreValuesOf, StandSideBySide}
+use Rattle.tile_load.specs.Run.{AppendsValues, StandSideBySide}
 use Rattle.tile_load.specs.Window.{IsWindow}
 use Rattle.tile_load.proofs.run.read_run.Given as goal
 
@@ -11,13 +11,15 @@ abbrev pub invariant-parts : goal.invariant-parts
 invariant-parts g l = record {
   keeps : g.B.ByteReader.keeps l.initial.reader l.reader;
   within : l.done ≤ l.run.texels;
-  count : length l.reading.samples.items ≡ l.done * l.unpacking.format.channels;
+  count : length l.values.items
+      ≡ length l.initial.values.items + l.done * l.unpacking.format.channels;
   told : ForSome (g.B.ByteReader.bytes l.initial.reader) (λ bytes.
       l.run.at + l.run.texels * l.unpacking.format.texel_bytes ≤ length bytes
-      → IsWindow bytes l.reading.window × ((level : Level) → (x_of y_of : ℕ → ℕ)
+      → IsWindow bytes l.window × ((level : Level) → (x_of y_of : ℕ → ℕ)
       → IsFormatOf l.unpacking.format.big level.shape l.unpacking.format
       → StandSideBySide level l.run x_of y_of
-      → AreValuesOf bytes level l.unpacking l.done x_of y_of l.reading.samples.items));
+      → AppendsValues bytes level l.unpacking l.done x_of y_of
+      l.initial.values.items l.values.items));
 }
 
 abbrev pub decreases-parts : goal.decreases-parts

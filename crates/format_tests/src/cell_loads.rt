@@ -1,0 +1,176 @@
+//! Cells of a file in memory, loaded through taps and kept in a shard.
+ghost use Rattle.std.specs.Prelude.{◌≡◌, IfOk};
+ghost use Rattle.std.specs.Option.{ForSome};
+ghost use Rattle.tile_load.specs.Load.{IsLayoutOf};
+
+use crate::layouts::cut_of;
+use crate::shard_calls::{counts, find, insert, release};
+use crate::tiled::Tiled;
+use std::alloc::Global;
+use std::fmt::Write;
+use std::test::Fail;
+use tap_reader::TapReader;
+use tex_world::{
+    FailByte, Folder, MemFolder, MemTap, Plan, Rise, TableWorld, Tap, TapHandle, World,
+};
+use tiff_dirs::read_dirs;
+use tile_layout::{Layout, TileKey};
+use tile_load::{LoadError, load_at};
+use tile_store::{Shard, Tile};
+
+/// The layout of the bytes that a handle reads.
+fn layout_of<T: Tap>(alloc: Global, tap: &mut T, handle: &mut T::Handle) -> Result<Layout, Fail>
+    ensures same { IfOk result (λ layout.
+        T.Handle.named handle.new ≡ T.Handle.named handle.old) }
+    ensures told { IfOk result (λ layout. ForSome (T.W.files.held
+        (T.Handle.named handle.old).file (T.Handle.named handle.old).generation)
+        (λ bytes. IsLayoutOf bytes layout)) }
+{
+    let mut reader = TapReader { tap, handle };
+    match read_dirs(alloc, &mut reader) {
+        Ok(dirs) => Ok(Layout::of(dirs)),
+        Err(_) => Err("no layout".into()),
+    }
+}
+
+/// What loading the cell of a texel answers.
+fn load_cell<T: Tap>(
+    alloc: Global,
+    tap: &mut T,
+    handle: &mut T::Handle,
+    (x, y): (u32, u32),
+) -> Result<Result<Tile<T::W>, LoadError>, Fail> {
+    let layout = layout_of(alloc, tap, handle)?;
+    let cut = cut_of(16, false).ok_or("no such cut")?;
+    let (width, height) = layout.size(0);
+    let (file, generation) = (handle.file(), handle.generation());
+    if x >= width || y >= height || file > 4095 || generation < 1 || generation > 1_048_575 {
+        return Err("no such texel".into());
+    }
+    if !layout.fits(cut) {
+        return Err("a large cell".into());
+    }
+    let key = TileKey::new(generation, file, 0, layout.cell_at(0, cut, x, y));
+    Ok(load_at(alloc, tap, handle, &layout, key, cut))
+}
+
+/// The cell's number and rectangle, and the samples of its first and its last texel.
+fn text_of<W: World>(alloc: Global, tile: &Tile<W>) -> Result<String, Fail> {
+    let (rect, index) = (tile.rect(), tile.key().index());
+    let mut text = format!(in alloc; "{index}: {} {} {} {}:", rect.x, rect.y, rect.w, rect.h)?;
+    if rect.w < 1 || rect.h < 1 || rect.x > 99 || rect.y > 99 || rect.w > 99 || rect.h > 99 {
+        return Err("another rectangle".into());
+    }
+    let last = (rect.x + rect.w - 1, rect.y + rect.h - 1);
+    for (x, y) in [(rect.x, rect.y), last] {
+        for sample in tile.row(x, y, 1) {
+            write!(text, " {sample}")?;
+        }
+    }
+    Ok(text)
+}
+
+/// The tap of a number. For tap 1 the read of the byte 184 fails, and at 12472 tap 2 meets
+/// generation 2.
+fn tap_of(alloc: Global, number: u32) -> Result<MemTap<Tiled>, Fail> {
+    let mut plan = Plan::new(alloc);
+    plan.fail_bytes.push(FailByte {
+        tap: 1,
+        file: 0,
+        at: 184,
+    })?;
+    plan.rises.push(Rise {
+        tap: 2,
+        file: 0,
+        at: 12472,
+        to: 2,
+    })?;
+    let mut folder = MemFolder::new(plan);
+    for _ in 0..number {
+        let _before = folder.tap(alloc)?;
+    }
+    Ok(folder.tap(alloc)?)
+}
+
+// A tap, a texel, and what loading its cell answers.
+static ROWS: &[(u32, (u32, u32), &str)] = &[
+    (
+        0,
+        (63, 31),
+        "0: 0 0 64 32: 47289 47803 48317 42920 43434 43948",
+    ),
+    (
+        0,
+        (64, 31),
+        "1: 64 0 16 32: 44462 44976 45490 30584 31098 31612",
+    ),
+    (
+        0,
+        (0, 32),
+        "2: 0 32 64 16: 41635 42149 42663 6426 6940 7454",
+    ),
+    (
+        0,
+        (79, 47),
+        "3: 64 32 16 16: 38808 39322 39836 58597 59111 59625",
+    ),
+    (1, (0, 0), "fault"),
+    (
+        1,
+        (64, 0),
+        "1: 64 0 16 32: 44462 44976 45490 30584 31098 31612",
+    ),
+    (
+        2,
+        (0, 0),
+        "0: 0 0 64 32: 47289 47803 48317 42920 43434 43948",
+    ),
+    (2, (64, 0), "gone 2"),
+];
+
+// Each cell is one read. Before it stand the opening and six reads of the directory.
+#[test]
+fn loads_cells_as_each_row_says(rt: HostRuntime) -> Result<(), Fail> {
+    for (number, texel, wanted) in ROWS {
+        let mut tap = tap_of(rt.alloc(), *number)?;
+        let mut handle = tap.open(rt.alloc(), 0, 1).map_err(|_e| "not open")?;
+        let text = match load_cell(rt.alloc(), &mut tap, &mut handle, *texel)? {
+            Ok(tile) => text_of(rt.alloc(), &tile)?,
+            Err(LoadError::ReadFault) => String::from_str(rt.alloc(), "fault")?,
+            Err(LoadError::Gone(to)) => format!(in rt.alloc(); "gone {to}")?,
+            Err(LoadError::NoMemory) => return Err("no memory".into()),
+        };
+        let (x, y) = texel;
+        assert_eq!(rt; text.as_str(), *wanted, "tap {number}, texel {x} {y}");
+        assert_eq!(rt; tap.calls(), 8, "tap {number}, texel {x} {y}");
+    }
+    Ok(())
+}
+
+const SHARE: u64 = 4000;
+
+const SLOTS: u32 = 1031;
+
+// The cells 0 and 1, of 12288 and 3072 bytes, under a share of 4000.
+#[test]
+fn keeps_what_fits_the_share(rt: HostRuntime) -> Result<(), Fail> {
+    let mut tap = tap_of(rt.alloc(), 0)?;
+    let mut handle = tap.open(rt.alloc(), 0, 1).map_err(|_e| "not open")?;
+    let mut shard: Shard<TableWorld<Tiled>> = Shard::new(rt.alloc());
+    for texel in [(0, 0), (64, 0)] {
+        let tile = load_cell(rt.alloc(), &mut tap, &mut handle, texel)?;
+        let tile = tile.map_err(|_e| "not loaded")?;
+        assert!(rt; insert(&mut shard, tile, SLOTS));
+    }
+    let (large, small) = (TileKey::new(1, 0, 0, 0), TileKey::new(1, 0, 0, 1));
+    assert!(rt; counts(&shard) == [2, 2, 0]);
+    assert!(rt; release(&mut shard, small, SHARE));
+    assert!(rt; counts(&shard) == [2, 1, 3072]);
+    assert!(rt; release(&mut shard, large, SHARE));
+    let left = counts(&shard) == [1, 0, 3072];
+    assert!(rt; left, "the large one was the last unpinned");
+    assert!(rt; !find(&mut shard, large));
+    assert!(rt; find(&mut shard, small));
+    assert!(rt; counts(&shard) == [1, 1, 0]);
+    Ok(())
+}

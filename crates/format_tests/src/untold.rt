@@ -1,0 +1,27 @@
+//! A world that tells nothing, and tiles of it.
+ghost use Rattle.std.specs.Prelude.{◌*◌, ◌≤◌};
+ghost use Rattle.format_tests.specs.Untold.{untold, untold_is_world};
+
+use std::alloc::{AllocError, Global};
+use tex_world::World;
+use tile_layout::{Rect, TileKey};
+use tile_store::{Shard, Tile};
+
+pub type OneShard = Shard<Untold>;
+
+#[derive(Drop)]
+pub struct Untold;
+
+impl World for Untold {
+    ghost files = { untold };
+
+    ghost lawful = { untold_is_world };
+}
+
+// A tile of so many texels with three samples each, all 0.
+pub fn gray(alloc: Global, key: TileKey, w: u32, h: u32) -> Result<Tile<Untold>, AllocError>
+    requires { w * h * 3 ≤ 16777216 }
+{
+    let texels = vec![in alloc; 0u16; (w * h * 3) as usize]?;
+    Ok(Tile::new(key, Rect { x: 0, y: 0, w, h }, 3, texels))
+}

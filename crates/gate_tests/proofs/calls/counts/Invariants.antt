@@ -1,6 +1,0 @@
--- A count leaves the pins as they are.
-use Rattle.shard_gate.specs.Gate.{SamePins}
-use Rattle.gate_tests.proofs.calls.counts.Given as goal
-
-abbrev pub invariant-loop-shard : goal.invariant-loop-shard
-invariant-loop-shard g l = SamePins l.fn.seat l.seat

@@ -1,6 +1,0 @@
--- Between two steps the seat holds no pin.
-use Rattle.gate_tests.specs.Held.{IsIdleAt}
-use Rattle.gate_tests.proofs.steps.walk.Given as goal
-
-abbrev pub invariant-loop-at : goal.invariant-loop-at
-invariant-loop-at l = IsIdleAt l.fn.seat.gate l.seat

@@ -1,0 +1,69 @@
+-- The one pin of a seat.
+use Rattle.std.proofs.Common.{◌≡◌, ℕ, zero, suc, ◌+◌, ◌*◌, ◌<◌, ◌≤◌, List, [], ◌∷◌, length}
+use Rattle.std.proofs.Common.{subst, ap, sym, ◌∙◌, refl, arith}
+use Rattle.std.proofs.Common.{Option, Some, None, IfSome, OnSome}
+use Rattle.std.specs.Prelude.{Contains, IsPermutation}
+use Rattle.std.proofs.lemmas.List.Sorted.{Contains-permutation, length_permutation}
+use Rattle.std.proofs.lemmas.List.Elements.{Contains-get_or}
+use Rattle.shard_gate.specs.Seated.{ShardId}
+use Rattle.tex_world.specs.World.{Files}
+use Rattle.tile_layout.specs.declared.cut.Cut.{Cut}
+use Rattle.shard_gate.specs.Gate.{PinSeatState, PinState, IsTileOf, max_pins}
+use Rattle.shard_gate.specs.Gate.{OnePinMore, OnePinLess}
+use Rattle.sharing_tests.specs.Held.{HoldsAt}
+
+-- A list of one element that has a key is that key alone.
+one_key : (key : ℕ) (keys : List ℕ) → length keys ≡ 1 → Contains keys key → keys ≡ key ∷ []
+one_key key [] e has = absurd (omega (arith, e))
+one_key key (k ∷ []) e (zero, low, is) = ap (λ (n : ℕ). n ∷ []) is
+one_key key (k ∷ []) e (suc i, low, is) = absurd (omega (arith, low))
+one_key key (k ∷ l ∷ keys) e has = absurd (omega (arith, e))
+
+no_keys : (keys : List ℕ) → length keys ≡ 0 → keys ≡ []
+no_keys [] e = refl
+no_keys (k ∷ keys) e = absurd (omega (arith, e))
+
+-- A seat without a pin has room for one.
+pub has_room : (seat : PinSeatState) → seat.pins ≡ [] → 1 ≤ seat.permits
+    → length seat.pins < max_pins * seat.permits
+has_room seat none some = omega (arith, ap length none, some)
+
+-- A seat without a pin that pins a tile holds that pin.
+pub held_one : (key : ℕ) (old new : PinSeatState) → old.pins ≡ [] → OnePinMore key old new
+    → new.pins ≡ key ∷ []
+held_one key old new none more =
+    let is : IsPermutation (key ∷ []) new.pins =
+    subst (λ (l : List ℕ). IsPermutation (key ∷ l) new.pins) none more.pins in
+    one_key key new.pins (length_permutation (key ∷ []) new.pins is)
+    (Contains-permutation (key ∷ []) new.pins key is (Contains-get_or (key ∷ []) 0 0 (omega arith)))
+
+-- The key of its pin is among those of its seat.
+pub held_key : (key : ℕ) (keys : List ℕ) → keys ≡ key ∷ [] → Contains keys key
+held_key key keys held = subst (λ (l : List ℕ). Contains l key) (sym held)
+    (Contains-get_or (key ∷ []) 0 0 (omega arith))
+
+-- Without its one pin it has none.
+pub held_none : (key : ℕ) (old new : PinSeatState) → old.pins ≡ key ∷ []
+    → OnePinLess key old new → new.pins ≡ []
+held_none key old new held less = no_keys new.pins (omega (
+  arith,
+  ap length held,
+  length_permutation old.pins (key ∷ new.pins) less.pins,
+))
+
+-- So it does, and the pin is seen by the key of its tile.
+pub holds : (id : List ShardId) (key shown : ℕ) (old new : PinSeatState) → old.gate ≡ id
+    → old.pins ≡ [] → shown ≡ key → OnePinMore key old new → HoldsAt id shown new
+holds id key shown old new here none keyed more = (
+  more.gate ∙ here,
+  held_one key old new none more ∙ ap (λ (n : ℕ). n ∷ []) (sym keyed),
+)
+
+-- So it is of an answer that may be none.
+pub any_holds : (files : Files) (cut : Cut) (id : List ShardId) (key : ℕ) (old new : PinSeatState)
+    (found : Option PinState) → old.gate ≡ id → old.pins ≡ []
+    → IfSome found (λ pin. IsTileOf files cut key pin.tile) → OnSome found (OnePinMore key old new)
+    → IfSome found (λ pin. HoldsAt id pin.tile.key new)
+any_holds files cut id key old new None here none is more = tt
+any_holds files cut id key old new (Some pin) here none is more =
+    holds id key pin.tile.key old new here none is.keyed more

@@ -1,0 +1,109 @@
+//! The calls of a gate as the tests make them, by a seat that holds at most one pin.
+ghost use Rattle.std.specs.Prelude.{◌≡◌, length, IfOk, OnOk, OnErr};
+ghost use Rattle.shard_gate.specs.Gate.{SamePins, IfFound, IfNotFound};
+ghost use Rattle.sharing_tests.specs.Held.{IsIdleAt, HoldsAt};
+
+use crate::untold::Untold;
+use shard_gate::{Gate, NotPinned, Pin, PinError, PinSeat};
+use tile_layout::{Cut, TileKey};
+use tile_store::Tile;
+use waiter::Waiter;
+
+pub type OneGate = Gate<Untold>;
+
+pub type OneSeat = PinSeat<Untold>;
+
+pub type OnePin = Pin<Untold>;
+
+// Tiles of a cut that no test looks at.
+pub const CUT: Cut = Cut {
+    autotile: 16,
+    automip: false,
+};
+
+// Why a test ends before its end.
+#[derive(Clone, Copy, Debug, PartialEq, Eq)]
+pub enum Stop {
+    NoMemory,
+    Busy,
+}
+
+// The pin of a key, where its tile is there.
+#[tactic(auto, using(crate::proofs::HeldLemmas::has_room, crate::proofs::HeldLemmas::held_one))]
+pub fn find<T: Waiter>(
+    gate: &OneGate,
+    waiter: &T,
+    seat: &mut OneSeat,
+    key: TileKey,
+) -> Result<Option<OnePin>, Stop>
+    requires { IsIdleAt gate.now.id seat.old }
+    ensures one { IfFound result (λ pin. HoldsAt gate.now.id pin.tile.key seat.new) }
+    ensures none { IfNotFound result (IsIdleAt gate.now.id seat.new) }
+{
+    seat.permits();
+    match gate.pin(waiter, seat, key) {
+        Ok(found) => Ok(found),
+        Err(PinError::NoMemory) => Err(Stop::NoMemory),
+        Err(PinError::Busy(_)) => Err(Stop::Busy),
+    }
+}
+
+// Keeps a tile, with a pin.
+#[tactic(auto, using(crate::proofs::HeldLemmas::has_room, crate::proofs::HeldLemmas::held_one))]
+pub fn keep<T: Waiter>(
+    gate: &OneGate,
+    waiter: &T,
+    seat: &mut OneSeat,
+    tile: Tile<Untold>,
+) -> Result<OnePin, Stop>
+    requires { IsIdleAt gate.now.id seat.old }
+    ensures { IfOk result (λ pin. HoldsAt gate.now.id pin.tile.key seat.new) }
+{
+    seat.permits();
+    match gate.pin_new(waiter, seat, tile) {
+        Ok(pin) => Ok(pin),
+        Err(NotPinned::NoMemory) => Err(Stop::NoMemory),
+        Err(NotPinned::Busy { tile: _, busy: _ }) => Err(Stop::Busy),
+    }
+}
+
+// Gives the one pin back.
+#[tactic(auto, using(crate::proofs::HeldLemmas::held_key, crate::proofs::HeldLemmas::held_none))]
+pub fn unpin<T: Waiter>(
+    gate: &OneGate,
+    waiter: &T,
+    seat: &mut OneSeat,
+    pin: OnePin,
+) -> Result<(), Stop>
+    requires { HoldsAt gate.now.id pin.tile.key seat.old }
+    ensures { OnOk result (IsIdleAt gate.now.id seat.new) }
+{
+    match gate.unpin(waiter, seat, pin) {
+        Ok(()) => Ok(()),
+        Err(_) => Err(Stop::Busy),
+    }
+}
+
+// The tiles, the pins, the unpinned bytes and the shares of the shards, each added up.
+pub fn counts<T: Waiter>(
+    gate: &OneGate,
+    waiter: &T,
+    seat: &mut OneSeat,
+    shards: u32,
+) -> Result<[u64; 4], Stop>
+    requires gate { seat.old.gate ≡ gate.now.id }
+    requires shards { shards ≡ length gate.now.id }
+    ensures { SamePins seat.old seat.new }
+{
+    let mut sums = [0u64; 4];
+    for shard in 0..shards {
+        let Ok(count) = gate.count(waiter, seat, shard) else {
+            return Err(Stop::Busy);
+        };
+        sums[0] = sums[0].saturating_add(count.tiles as u64);
+        sums[1] = sums[1].saturating_add(count.pins as u64);
+        sums[2] = sums[2].saturating_add(count.loose);
+        sums[3] = sums[3].saturating_add(count.share);
+    }
+    Ok(sums)
+}

@@ -1,0 +1,329 @@
+//! Four threads that pin, keep, unpin and purge the tiles of one gate.
+ghost use Rattle.std.specs.Prelude.{◌≡◌, ◌≤◌, length, IfOk, OnOk};
+ghost use Rattle.std.specs.Thread.{IsSync};
+ghost use Rattle.sharing_tests.specs.Held.{IsIdleAt, HoldsAt};
+
+use crate::gate_calls::{CUT, OneGate, OnePin, OneSeat, Stop, counts, find, keep, unpin};
+use crate::untold::{TILE_BYTES, gray};
+use std::alloc::Global;
+use std::process::Abort;
+use std::sync::Wait;
+use std::test::Fail;
+use std::thread;
+use std::thread::Threads;
+use tile_layout::TileKey;
+use waiter::{Forever, Waiter};
+
+// What each thread does, so often.
+const ROUNDS: u64 = 3000;
+
+// The keys of 24 tiles that all threads use, over two files and three generations.
+const SHARED: u32 = 24;
+
+// One of the keys that all threads use, or a thread's own.
+fn one_key(number: u32) -> TileKey {
+    if number < SHARED {
+        TileKey::new(1 + number % 3, number / 3 % 2, 0, number / 6 % 4)
+    } else {
+        TileKey::new(4, 1, 0, number % 4)
+    }
+}
+
+// The next of a row of numbers that look random.
+fn next(seed: &mut u64) -> u32 {
+    *seed = seed
+        .wrapping_mul(6364136223846793005)
+        .wrapping_add(1442695040888963407);
+    (*seed >> 33) as u32
+}
+
+// The tile of a key, which is made where it is not there.
+fn pinned<T: Waiter>(
+    gate: &OneGate,
+    waiter: &T,
+    alloc: Global,
+    seat: &mut OneSeat,
+    key: TileKey,
+) -> Result<OnePin, Stop>
+    requires { IsIdleAt gate.now.id seat.old }
+    ensures { IfOk result (λ pin. HoldsAt gate.now.id pin.tile.key seat.new) }
+{
+    match find(gate, waiter, seat, key) {
+        Ok(Some(pin)) => Ok(pin),
+        Ok(None) => keep(gate, waiter, seat, gray(alloc, key)?),
+        Err(e) => Err(e),
+    }
+}
+
+// A purge, or a pin that is given back.
+fn one_round<T: Waiter>(
+    gate: &OneGate,
+    waiter: &T,
+    alloc: Global,
+    seat: &mut OneSeat,
+    number: u32,
+) -> Result<(), Stop>
+    requires { IsIdleAt gate.now.id seat.old }
+    ensures { OnOk result (IsIdleAt gate.now.id seat.new) }
+{
+    let key = one_key(number % SHARED);
+    if number / SHARED % 16 == 0 {
+        return match gate.purge(waiter, seat, key.file(), key.generation()) {
+            Ok(()) => Ok(()),
+            Err(_) => Err(Stop::Busy),
+        };
+    }
+    let pin = pinned(gate, waiter, alloc, seat, key)?;
+    unpin(gate, waiter, seat, pin)
+}
+
+// Many rounds.
+fn many_rounds<T: Waiter>(
+    gate: &OneGate,
+    waiter: &T,
+    alloc: Global,
+    seat: &mut OneSeat,
+    seed: u64,
+) -> Result<(), Stop>
+    requires { IsIdleAt gate.now.id seat.old }
+    ensures { OnOk result (IsIdleAt gate.now.id seat.new) }
+{
+    let mut seed = seed;
+    for round in 0..ROUNDS {
+        one_round(gate, waiter, alloc, seat, next(&mut seed))?;
+    }
+    Ok(())
+}
+
+// A seat and its one pin.
+#[derive(Drop)]
+struct Held {
+    seat: OneSeat,
+    pin: OnePin,
+}
+
+// The rounds of one thread, which at the end holds a pin of its own tile.
+fn rounds<R: Wait>(
+    rt: &R,
+    gate: &OneGate,
+    alloc: Global,
+    mut seat: OneSeat,
+    thread: u32,
+) -> Result<Held, Stop>
+    requires { IsIdleAt gate.now.id seat }
+    ensures { IfOk result (λ held. HoldsAt gate.now.id held.pin.tile.key held.seat) }
+{
+    let waiter = Forever::new(rt);
+    many_rounds(gate, &waiter, alloc, &mut seat, thread as u64)?;
+    let own = one_key(SHARED.saturating_add(thread));
+    let pin = pinned(gate, &waiter, alloc, &mut seat, own)?;
+    Ok(Held { seat, pin })
+}
+
+// Two threads, each with a seat.
+fn two_threads<R: Threads + Wait + Sync>(
+    rt: &R,
+    gate: &OneGate,
+    alloc: Global,
+    seats: (OneSeat, OneSeat),
+    thread: u32,
+) -> Result<(Held, Held), Stop>
+    requires first { IsIdleAt gate.now.id seats.0 }
+    requires second { IsIdleAt gate.now.id seats.1 }
+    ensures first { IfOk result (λ held. HoldsAt gate.now.id held.0.pin.tile.key held.0.seat) }
+    ensures second { IfOk result (λ held. HoldsAt gate.now.id held.1.pin.tile.key held.1.seat) }
+{
+    let (first, second) = seats;
+    let thread_after = thread.saturating_add(1);
+    let (a, b) = thread::join(
+        rt,
+        move || rounds(rt, gate, alloc, first, thread),
+        move || rounds(rt, gate, alloc, second, thread_after),
+    );
+    Ok((a?, b?))
+}
+
+// A thread's pin is given back, and its seat joined to this one.
+fn take_in<T: Waiter>(
+    gate: &OneGate,
+    waiter: &T,
+    seat: &mut OneSeat,
+    other: Held,
+) -> Result<(), Stop>
+    requires gate { seat.old.gate ≡ gate.now.id }
+    requires one { HoldsAt gate.now.id other.pin.tile.key other.seat }
+    ensures gate { OnOk result (seat.new.gate ≡ seat.old.gate) }
+    ensures pins { OnOk result (seat.new.pins ≡ seat.old.pins) }
+{
+    let Held {
+        seat: mut theirs,
+        pin,
+    } = other;
+    unpin(gate, waiter, &mut theirs, pin)?;
+    gate.join(seat, theirs);
+    Ok(())
+}
+
+// Whether a tile is there.
+fn has<T: Waiter>(
+    gate: &OneGate,
+    waiter: &T,
+    seat: &mut OneSeat,
+    key: TileKey,
+) -> Result<bool, Stop>
+    requires { IsIdleAt gate.now.id seat.old }
+    ensures { OnOk result (IsIdleAt gate.now.id seat.new) }
+{
+    match find(gate, waiter, seat, key) {
+        Ok(Some(pin)) => match unpin(gate, waiter, seat, pin) {
+            Ok(()) => Ok(true),
+            Err(e) => Err(e),
+        },
+        Ok(None) => Ok(false),
+        Err(e) => Err(e),
+    }
+}
+
+// How many keys have a tile.
+fn found<T: Waiter>(gate: &OneGate, waiter: &T, seat: &mut OneSeat) -> Result<u64, Stop>
+    requires { IsIdleAt gate.now.id seat.old }
+{
+    let mut found = 0u64;
+    for number in 0..28u32 {
+        if has(gate, waiter, seat, one_key(number))? {
+            found = found.saturating_add(1);
+        }
+    }
+    Ok(found)
+}
+
+// What the shards have while each thread holds a pin, and after that, and how many keys then have a
+// tile.
+#[derive(Clone, Copy)]
+struct Left {
+    held: [u64; 4],
+    after: [u64; 4],
+    found: u64,
+}
+
+// What is left once all threads have ended.
+fn left_by<T: Waiter>(
+    gate: &OneGate,
+    waiter: &T,
+    shards: u32,
+    left: (Held, Held),
+    right: (Held, Held),
+) -> Result<Left, Stop>
+    requires shards { shards ≡ length gate.now.id }
+    requires first { HoldsAt gate.now.id left.0.pin.tile.key left.0.seat }
+    requires second { HoldsAt gate.now.id left.1.pin.tile.key left.1.seat }
+    requires third { HoldsAt gate.now.id right.0.pin.tile.key right.0.seat }
+    requires fourth { HoldsAt gate.now.id right.1.pin.tile.key right.1.seat }
+{
+    let (first, second) = left;
+    let (third, fourth) = right;
+    let Held { mut seat, pin } = first;
+    let held = counts(gate, waiter, &mut seat, shards)?;
+    unpin(gate, waiter, &mut seat, pin)?;
+    take_in(gate, waiter, &mut seat, second)?;
+    take_in(gate, waiter, &mut seat, third)?;
+    take_in(gate, waiter, &mut seat, fourth)?;
+    let after = counts(gate, waiter, &mut seat, shards)?;
+    let found = found(gate, waiter, &mut seat)?;
+    Ok(Left { held, after, found })
+}
+
+// What four threads leave.
+fn four_threads<R: Threads + Wait + Sync>(
+    rt: &R,
+    gate: &OneGate,
+    alloc: Global,
+    shards: u32,
+    mut seat: OneSeat,
+) -> Result<Left, Stop>
+    requires idle { IsIdleAt gate.now.id seat }
+    requires permits { seat.permits ≡ 4 }
+    requires shards { shards ≡ length gate.now.id }
+{
+    let Ok(second) = gate.split(&mut seat) else {
+        return Err(Stop::NoMemory);
+    };
+    let Ok(third) = gate.split(&mut seat) else {
+        return Err(Stop::NoMemory);
+    };
+    let Ok(fourth) = gate.split(&mut seat) else {
+        return Err(Stop::NoMemory);
+    };
+    let one_half = (seat, second);
+    let other_half = (third, fourth);
+    let (left, right) = thread::join(
+        rt,
+        move || -> Result<(Held, Held), Stop>
+            requires sync { IsSync R.row }
+            requires first { IsIdleAt gate.now.id one_half.0 }
+            requires second { IsIdleAt gate.now.id one_half.1 }
+            ensures first { IfOk result (λ held.
+                HoldsAt gate.entry.now.id held.0.pin.tile.key held.0.seat) }
+            ensures second { IfOk result (λ held.
+                HoldsAt gate.entry.now.id held.1.pin.tile.key held.1.seat) }
+        { two_threads(rt, gate, alloc, one_half, 0) },
+        move || -> Result<(Held, Held), Stop>
+            requires sync { IsSync R.row }
+            requires first { IsIdleAt gate.now.id other_half.0 }
+            requires second { IsIdleAt gate.now.id other_half.1 }
+            ensures first { IfOk result (λ held.
+                HoldsAt gate.entry.now.id held.0.pin.tile.key held.0.seat) }
+            ensures second { IfOk result (λ held.
+                HoldsAt gate.entry.now.id held.1.pin.tile.key held.1.seat) }
+        { two_threads(rt, gate, alloc, other_half, 2) },
+    );
+    left_by(gate, &Forever::new(rt), shards, left?, right?)
+}
+
+// What four threads leave of a new gate.
+fn left_in<R: Threads + Wait + Sync>(
+    rt: &R,
+    alloc: Global,
+    shards: u32,
+    budget: u64,
+) -> Result<Left, Stop>
+    requires { (1 ≤ shards) × (shards ≤ 64) × (budget ≤ 20000) }
+{
+    match OneGate::new(alloc, budget, shards, 4, CUT) {
+        Ok((gate, seat)) => four_threads(rt, &gate, alloc, shards, seat),
+        Err(_) => Err(Stop::NoMemory),
+    }
+}
+
+// What is left is what fits, and so many tiles at most.
+fn assert_left(rt: &impl Abort, left: Left, most: u64) {
+    let Left { held, after, found } = left;
+    assert_eq!(rt; held[1], 4, "a pin of each thread");
+    assert_eq!(rt;
+        held[0].saturating_mul(TILE_BYTES),
+        held[2].saturating_add(6144)
+    );
+    assert_eq!(rt; after[1], 0, "all pins given back");
+    assert_eq!(rt; after[2], after[0].saturating_mul(TILE_BYTES));
+    assert_eq!(rt; after[0], found, "a tile is found by its key");
+    assert!(rt; after[0] <= most, "what fits the shares");
+}
+
+// Of tiles of 1536 bytes four fit each share of 6666 bytes, and thirteen one of 20000.
+#[test]
+fn four_threads_leave_what_fits_three_shards(rt: HostRuntime) -> Result<(), Fail> {
+    assert_left(&rt, left_in(&rt, rt.alloc(), 3, 20000)?, 12);
+    Ok(())
+}
+
+#[test]
+fn four_threads_leave_what_fits_one_shard(rt: HostRuntime) -> Result<(), Fail> {
+    assert_left(&rt, left_in(&rt, rt.alloc(), 1, 20000)?, 13);
+    Ok(())
+}
+
+#[test]
+fn four_threads_leave_nothing_in_no_bytes(rt: HostRuntime) -> Result<(), Fail> {
+    assert_left(&rt, left_in(&rt, rt.alloc(), 1, 0)?, 0);
+    Ok(())
+}

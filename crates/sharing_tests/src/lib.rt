@@ -1,0 +1,37 @@
+//! Tests of what threads share: a lock and the board of generations; tiles in their shards, step by
+//! step and by four threads; the table of files, its records and idle handles, over files in memory
+//! and over a real folder whose files change between two calls; and tiles loaded over records.
+#![tactic(auto)]
+
+#[cfg(test)]
+mod bench;
+#[cfg(test)]
+mod boards;
+#[cfg(test)]
+mod gate_calls;
+#[cfg(test)]
+mod gate_steps;
+#[cfg(test)]
+mod gate_threads;
+#[cfg(test)]
+mod locks;
+#[cfg(test)]
+mod pictures;
+#[cfg(test)]
+mod real_folder;
+#[cfg(test)]
+mod record_rows;
+#[cfg(test)]
+mod script;
+#[cfg(test)]
+mod seat;
+#[cfg(test)]
+mod shared_table;
+#[cfg(test)]
+mod tile_loads;
+#[cfg(test)]
+mod untold;
+#[cfg(test)]
+mod waiters;
+#[cfg(test)]
+mod worker;

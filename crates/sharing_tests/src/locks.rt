@@ -1,0 +1,85 @@
+//! A lock round a count, whose tag is the most that it may come to.
+ghost use Rattle.std.specs.Prelude.{◌≡◌, ◌≤◌};
+
+use std::convert::Infallible;
+use std::sync::Wait;
+use std::test::Fail;
+use std::thread;
+use std::thread::Threads;
+use tag_lock::{NotPut, TagLock, TagRule};
+use waiter::{Forever, GaveUp, Tries, Waiter};
+
+// What two threads add, each so often.
+const ROUNDS: u64 = 10_000;
+
+const TOTAL: u64 = 20_000;
+
+// A count fits a tag that it does not exceed.
+struct AtMost;
+
+impl TagRule<u64> for AtMost {
+    ghost fits = { λ tag count. count ≤ tag };
+}
+
+type CountLock = TagLock<u64, AtMost>;
+
+// Takes the count out and puts back one more, or 0 after the last one.
+fn add_one<W: Waiter<Busy = Infallible>>(waiter: &W, lock: &CountLock) {
+    let count = match lock.take(waiter) {
+        Ok(count) => count,
+        Err(never) => match never {},
+    };
+    let next = if count < lock.tag() { count + 1 } else { 0 };
+    match lock.put(waiter, next) {
+        Ok(()) => {}
+        Err(NotPut { value: _, busy }) => match busy {},
+    }
+}
+
+fn add_many<R: Wait>(rt: &R, lock: &CountLock) {
+    let waiter = Forever::new(rt);
+    for _ in 0..ROUNDS {
+        add_one(&waiter, lock);
+    }
+}
+
+fn add_in_two_threads<R: Threads + Wait + Sync>(rt: &R, lock: &CountLock) {
+    thread::join(rt, || add_many(rt, lock), || add_many(rt, lock));
+}
+
+#[test]
+fn counts_what_two_threads_add(rt: HostRuntime) -> Result<(), Fail> {
+    let lock = CountLock::new(TOTAL, 0);
+    add_in_two_threads(&rt, &lock);
+    assert_eq!(rt; lock.tag(), TOTAL);
+    assert!(rt; lock.into_inner() == Some(TOTAL));
+    Ok(())
+}
+
+// What comes back of a value that is put, after the tries.
+fn put_back(lock: &CountLock, waiter: &Tries, count: u64) -> Option<u64>
+    requires { count ≤ lock.now }
+{
+    match lock.put(waiter, count) {
+        Ok(()) => None,
+        Err(
+            NotPut {
+                value,
+                busy: GaveUp,
+            },
+        ) => Some(value),
+    }
+}
+
+#[test]
+fn gives_up_after_a_few_tries(rt: HostRuntime) -> Result<(), Fail> {
+    let lock = CountLock::new(9, 7);
+    let waiter = Tries::new(3);
+    assert!(rt; lock.take(&waiter) == Ok(7), "at home");
+    assert!(rt; lock.take(&waiter) == Err(GaveUp), "taken");
+    assert!(rt; put_back(&lock, &waiter, 8).is_none(), "by its taker");
+    assert!(rt; put_back(&lock, &waiter, 9) == Some(9), "at home again");
+    assert!(rt; lock.take(&waiter) == Ok(8), "what its taker put");
+    assert!(rt; lock.into_inner().is_none(), "taken and never put back");
+    Ok(())
+}

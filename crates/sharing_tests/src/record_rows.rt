@@ -1,0 +1,160 @@
+//! Records and idle handles of files in memory.
+ghost use Rattle.std.specs.Prelude.{◌<◌};
+
+use crate::bench::Bench;
+use crate::script::Answer::{Again, Bad, Done, Fault, Is};
+use crate::script::Call::{Forget, Idle, Lend, Record, Seen, Settle};
+use crate::script::{Counts, Script, Step, text_of};
+use crate::seat::Seat;
+use std::alloc::Global;
+use std::test::Fail;
+
+// `A.tif` has two generations, of which tap 1 knows the newer one.
+const A: u32 = 0;
+
+// `three.tif`.
+const T: u32 = 1;
+
+// `short.tif`, a bad file.
+const S: u32 = 2;
+
+// No call.
+const NONE: Counts = [0, 0];
+
+// A file is opened.
+const OPENED: Counts = [1, 0];
+
+// A file is opened and read: the header, the number of its directory's entries, and the entries.
+const READ: Counts = [4, 0];
+
+/// What each row shows, the most handles that lie idle, and the calls with their answers and by how
+/// much the calls and the faults of their tap rise. The first call of tap 2 fails, and the read of
+/// the number of entries by tap 3 meets the newer generation.
+static ROWS: &[(&str, usize, &[Step])] = &[
+    (
+        "a record is read once",
+        4,
+        &[
+            (Record(0, A), Is(1), READ),
+            (Record(0, A), Is(1), NONE),
+            (Record(1, A), Is(1), NONE),
+        ],
+    ),
+    (
+        "what was forgotten is read again",
+        4,
+        &[
+            (Record(0, A), Is(1), READ),
+            (Forget(A), Done, NONE),
+            (Record(0, A), Is(1), READ),
+        ],
+    ),
+    (
+        "the fault of a bad file is kept",
+        4,
+        &[(Record(0, S), Bad(1), OPENED), (Record(0, S), Bad(1), NONE)],
+    ),
+    (
+        "a failed call is not tried again",
+        4,
+        &[(Record(2, A), Fault, [1, 1]), (Record(2, A), Is(1), READ)],
+    ),
+    (
+        "a read meets a newer generation",
+        4,
+        &[
+            (Record(3, A), Again(1, 2), [3, 0]),
+            (Seen(A), Is(2), NONE),
+            (Record(0, A), Is(2), READ),
+        ],
+    ),
+    (
+        "a settled handle is lent again",
+        4,
+        &[
+            (Record(0, A), Is(1), READ),
+            (Lend(0, A), Is(1), OPENED),
+            (Settle, Done, NONE),
+            (Idle, Is(1), NONE),
+            (Lend(0, A), Is(1), NONE),
+            (Idle, Is(0), NONE),
+        ],
+    ),
+    (
+        "what is dropped is closed",
+        4,
+        &[
+            (Record(0, A), Is(1), READ),
+            (Lend(0, A), Is(1), OPENED),
+            (Settle, Done, NONE),
+            (Forget(A), Done, NONE),
+            (Idle, Is(0), NONE),
+        ],
+    ),
+    (
+        "a newer generation is met on lending",
+        4,
+        &[
+            (Record(0, A), Is(1), READ),
+            (Lend(1, A), Again(1, 2), OPENED),
+            (Seen(A), Is(2), NONE),
+            (Record(0, A), Is(2), READ),
+        ],
+    ),
+    (
+        "a newer handle stays idle",
+        4,
+        &[
+            (Record(0, A), Is(1), READ),
+            (Lend(0, A), Is(1), OPENED),
+            (Lend(1, A), Again(1, 2), OPENED),
+            (Record(0, A), Is(2), READ),
+            (Lend(0, A), Is(2), OPENED),
+            (Settle, Done, NONE),
+            (Settle, Done, NONE),
+            (Idle, Is(1), NONE),
+            (Lend(0, A), Is(2), NONE),
+        ],
+    ),
+    (
+        "the handle settled first is closed",
+        1,
+        &[
+            (Record(0, T), Is(1), READ),
+            (Lend(0, T), Is(1), OPENED),
+            (Settle, Done, NONE),
+            (Record(0, A), Is(1), READ),
+            (Lend(0, A), Is(1), OPENED),
+            (Settle, Done, NONE),
+            (Idle, Is(1), NONE),
+            (Lend(0, A), Is(1), NONE),
+            (Record(0, T), Is(1), NONE),
+            (Lend(0, T), Is(1), OPENED),
+        ],
+    ),
+];
+
+// What goes otherwise than the row says, over a table of its own.
+fn wrong_in(alloc: Global, cap: usize, steps: &[Step]) -> Result<String, Fail>
+    requires { 0 < cap }
+{
+    let Bench { files, view, taps } = Bench::new(alloc, cap)?;
+    let seat = Seat {
+        files: &files,
+        view,
+    };
+    let mut script = Script::new(alloc, seat, taps);
+    text_of(alloc, script.first_wrong(steps))
+}
+
+#[test]
+fn answers_as_each_row_says(rt: HostRuntime) -> Result<(), Fail> {
+    for (what, cap, steps) in ROWS {
+        if *cap == 0 {
+            return Err("no handle may lie idle".into());
+        }
+        let wrong = wrong_in(rt.alloc(), *cap, steps)?;
+        assert_eq!(rt; wrong.as_str(), "", "{what}");
+    }
+    Ok(())
+}

@@ -1,0 +1,262 @@
+//! Calls of a table, and what each answers.
+ghost use Rattle.std.specs.Prelude.{ℕ, ◌<◌};
+ghost use Rattle.tex_world.specs.World.{IsFile};
+
+use crate::pictures::Pictures;
+use crate::seat::Seat;
+use file_table::{LendError, Record, RecordError};
+use host_folder::RealTap;
+use std::alloc::Global;
+use std::sync::Arc;
+use std::test::Fail;
+use tex_world::{MemTap, ReadError, Tap, TapHandle};
+use waiter::{GaveUp, Tries};
+
+/// Two counts that a tap shows.
+pub(crate) type Counts = [u64; 2];
+
+/// A tap that shows two counts.
+pub(crate) trait Shows {
+    fn shown(&self) -> Counts;
+}
+
+/// Its calls, and those of them that failed.
+impl Shows for MemTap<Pictures> {
+    fn shown(&self) -> Counts {
+        [self.calls(), self.faults()]
+    }
+}
+
+/// How often it met a newer generation, and its calls that failed.
+impl<R> Shows for RealTap<R> {
+    fn shown(&self) -> Counts {
+        [self.moves(), self.faults()]
+    }
+}
+
+/// A call of the table. The numbers are those of a tap and of a file below three.
+#[derive(Clone, Copy)]
+pub(crate) enum Call {
+    /// The record of a file, which is then the latest record.
+    Record(usize, u32),
+    /// A handle of the latest record's generation, which is then the latest handle.
+    Lend(usize, u32),
+    /// The first byte under the latest handle.
+    Read(usize),
+    /// Settles the latest handle.
+    Settle,
+    /// Drops what is idle of a file.
+    Forget(u32),
+    /// How many handles lie idle.
+    Idle,
+    /// Which generation was seen of a file.
+    Seen(u32),
+}
+
+/// What a call answers.
+#[derive(Clone, Copy, Debug, PartialEq, Eq)]
+pub(crate) enum Answer {
+    /// The generation of a record without fault or of a handle, or a number.
+    Is(u32),
+    /// The generation of a record with a fault.
+    Bad(u32),
+    Done,
+    Fault,
+    Again(u32, u32),
+    Gone(u32),
+    NoMemory,
+    Busy,
+    /// There is no such tap, or no record, or no handle.
+    Nothing,
+}
+
+/// A call, its answer, and by how much each count of its tap rises.
+pub(crate) type Step = (Call, Answer, Counts);
+
+/// A step whose call answered something else than was wanted.
+#[derive(Clone, Copy, Debug)]
+pub(crate) struct Wrong {
+    step: usize,
+    answer: Answer,
+    rises: Counts,
+}
+
+/// What was wrong, and nothing where nothing was.
+pub(crate) fn text_of(alloc: Global, wrong: Option<Wrong>) -> Result<String, Fail> {
+    match wrong {
+        Some(wrong) => Ok(format!(in alloc; "{wrong:?}")?),
+        None => Ok(String::new(alloc)),
+    }
+}
+
+/// A table with a view, some taps, the latest record and the handles that are lent.
+#[derive(Drop)]
+pub(crate) struct Script<'a, T: Tap + Drop> {
+    seat: Seat<'a, T>,
+    taps: Vec<T>,
+    record: Option<Arc<Record<T::W>>>,
+    handles: Vec<T::Handle>,
+}
+
+impl<'a, T: Tap + Drop> Script<'a, T> {
+    pub(crate) fn new(alloc: Global, seat: Seat<'a, T>, taps: Vec<T>) -> Script<'a, T> {
+        Script {
+            seat,
+            taps,
+            record: None,
+            handles: Vec::new(alloc),
+        }
+    }
+}
+
+// The tap of a call, 0 where it has none.
+fn tap_of(call: Call) -> usize {
+    match call {
+        Call::Record(tap, _) => tap,
+        Call::Lend(tap, _) => tap,
+        Call::Read(tap) => tap,
+        _ => 0,
+    }
+}
+
+// By how much each count rose.
+fn rises(before: Counts, after: Counts) -> Counts {
+    [
+        after[0].saturating_sub(before[0]),
+        after[1].saturating_sub(before[1]),
+    ]
+}
+
+fn why_no_record(error: RecordError<GaveUp>) -> Answer {
+    match error {
+        RecordError::ReadFault => Answer::Fault,
+        RecordError::Again { from, to } => Answer::Again(from, to),
+        RecordError::NoMemory => Answer::NoMemory,
+        RecordError::Busy(GaveUp) => Answer::Busy,
+    }
+}
+
+fn why_not_lent(error: LendError<GaveUp>) -> Answer {
+    match error {
+        LendError::ReadFault => Answer::Fault,
+        LendError::Again { from, to } => Answer::Again(from, to),
+        LendError::NoMemory => Answer::NoMemory,
+        LendError::Busy(GaveUp) => Answer::Busy,
+    }
+}
+
+impl<T: Tap + Drop + Shows> Script<'_, T> {
+    /// Makes the calls as far as each answers what is wanted.
+    pub(crate) fn first_wrong(&mut self, steps: &[Step]) -> Option<Wrong>
+        requires { (file : ℕ) → file < 3 → IsFile T.W.files file }
+    {
+        for (step, (call, wanted, rise)) in steps.iter().enumerate() {
+            let tap = tap_of(*call);
+            let before = self.shown(tap);
+            let answer = self.answer(*call);
+            let rises = rises(before, self.shown(tap));
+            if answer != *wanted || rises != *rise {
+                return Some(Wrong {
+                    step,
+                    answer,
+                    rises,
+                });
+            }
+        }
+        None
+    }
+
+    /// Makes a call.
+    fn answer(&mut self, call: Call) -> Answer
+        requires { (file : ℕ) → file < 3 → IsFile T.W.files file }
+    {
+        match call {
+            Call::Record(tap, file) if file < 3 => self.read_record(tap, file),
+            Call::Lend(tap, file) if file < 3 => self.lend(tap, file),
+            Call::Read(tap) => self.read(tap),
+            Call::Settle => self.settle(),
+            Call::Forget(file) => match self.seat.forget(&Tries::new(9), file) {
+                Ok(()) => Answer::Done,
+                Err(GaveUp) => Answer::Busy,
+            },
+            Call::Idle => match self.seat.files.idle(&Tries::new(9)) {
+                Ok(count) if count < 9 => Answer::Is(count as u32),
+                _ => Answer::Busy,
+            },
+            Call::Seen(file) => Answer::Is(self.seat.seen(file)),
+            _ => Answer::Nothing,
+        }
+    }
+
+    /// The counts of a tap, 0 where there is no such tap.
+    fn shown(&self, tap: usize) -> Counts {
+        match self.taps.get(tap) {
+            Some(tap) => tap.shown(),
+            None => [0, 0],
+        }
+    }
+
+    fn read_record(&mut self, tap: usize, file: u32) -> Answer
+        requires { IsFile T.W.files file }
+    {
+        let Some(tap) = self.taps.get_mut(tap) else {
+            return Answer::Nothing;
+        };
+        match self.seat.record(&Tries::new(9), tap, file) {
+            Ok(record) => {
+                let generation = record.generation();
+                let is_bad = record.layout().is_err();
+                self.record = Some(record);
+                if is_bad {
+                    Answer::Bad(generation)
+                } else {
+                    Answer::Is(generation)
+                }
+            }
+            Err(error) => why_no_record(error),
+        }
+    }
+
+    fn lend(&mut self, tap: usize, file: u32) -> Answer
+        requires { IsFile T.W.files file }
+    {
+        let (Some(tap), Some(record)) = (self.taps.get_mut(tap), &self.record) else {
+            return Answer::Nothing;
+        };
+        match self.seat.lend(&Tries::new(9), tap, file, record) {
+            Ok(handle) => {
+                let generation = handle.generation();
+                match self.handles.push(handle) {
+                    Ok(()) => Answer::Is(generation),
+                    Err(_full) => Answer::NoMemory,
+                }
+            }
+            Err(error) => why_not_lent(error),
+        }
+    }
+
+    fn read(&mut self, tap: usize) -> Answer {
+        let (Some(tap), Some(handle)) = (self.taps.get_mut(tap), self.handles.last_mut()) else {
+            return Answer::Nothing;
+        };
+        if handle.len() == 0 {
+            return Answer::Nothing;
+        }
+        let mut first = [0u8; 1];
+        match tap.read_at(handle, 0, &mut first) {
+            Ok(()) => Answer::Is(u32::from(first[0])),
+            Err(ReadError::Failed) => Answer::Fault,
+            Err(ReadError::Gone(to)) => Answer::Gone(to),
+        }
+    }
+
+    fn settle(&mut self) -> Answer {
+        match self.handles.pop() {
+            Some(handle) => match self.seat.files.settle(&Tries::new(9), handle) {
+                Ok(()) => Answer::Done,
+                Err(_busy) => Answer::Busy,
+            },
+            None => Answer::Nothing,
+        }
+    }
+}
