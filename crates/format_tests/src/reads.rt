@@ -82,6 +82,27 @@ static ROWS: &[Row] = &[
     ),
     // at most 5461 entries at once, and the 4 bytes behind them
     (
+        "no entries",
+        "A 8=0",
+        "FieldMissing { tag: 256 }",
+        3,
+        8 + 2 + 4,
+    ),
+    (
+        "5461 entries",
+        "A to=65546 8=85,21",
+        "1 levels",
+        2 + 1,
+        8 + 2 + 65_532 + 4,
+    ),
+    (
+        "5462 entries",
+        "A to=65558 8=86,21",
+        "1 levels",
+        2 + 2,
+        8 + 2 + 65_544 + 2 * 4,
+    ),
+    (
         "65535 entries",
         "A to=786434 8=255,255",
         "1 levels",
