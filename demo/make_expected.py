@@ -24,7 +24,7 @@ def values(page, x, y):
 
 def region(page, x, y, w, h):
     line = [len(page.texel(0, 0))]
-    for j in range(y, y + h):
+    for j in range(y, y + h if w else y):
         for i in range(x, x + w):
             line += values(page, i, j)
     return line

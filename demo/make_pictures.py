@@ -55,6 +55,21 @@ def fields(page, offsets, sizes):
     return sorted(found)
 
 
+def entries_of(order, found, behind):
+    """The entries of these fields, and the values that do not fit in them, which stand from byte
+    `behind` on."""
+    entries, values = b"", b""
+    for tag, kind, numbers in found:
+        data = struct.pack(order + ("H" if kind == SHORT else "I") * len(numbers), *numbers)
+        entries += struct.pack(order + "HHI", tag, kind, len(numbers))
+        if len(data) > 4:
+            entries += struct.pack(order + "I", behind + len(values))
+            values += data
+        else:
+            entries += data.ljust(4, b"\0")
+    return entries, values
+
+
 def directory(order, page, at, last):
     """A page from byte `at` on: its directory, the values that do not fit in the entries, its
     blocks. The next directory is 0 on the last page, else it stands behind all of that, at an
@@ -65,15 +80,7 @@ def directory(order, page, at, last):
     behind = at + 2 + 12 * len(found) + 4
     place = behind + sum(n for n in (len(v) * SIZE[t] for _, t, v in found) if n > 4)
     offsets = [place + sum(sizes[:i]) for i in range(len(sizes))]
-    entries, values = b"", b""
-    for tag, kind, numbers in fields(page, offsets, sizes):
-        data = struct.pack(order + ("H" if kind == SHORT else "I") * len(numbers), *numbers)
-        entries += struct.pack(order + "HHI", tag, kind, len(numbers))
-        if len(data) > 4:
-            entries += struct.pack(order + "I", behind + len(values))
-            values += data
-        else:
-            entries += data.ljust(4, b"\0")
+    entries, values = entries_of(order, fields(page, offsets, sizes), behind)
     rest = values + b"".join(stored)
     if not last and len(rest) % 2:
         rest += b"\0"

@@ -1,5 +1,5 @@
 #!/usr/bin/env python3
-"""Prints the sums that crates/request_tests/src/many.rt has: of many lookups in four pictures.
+"""Prints the sums that crates/request_tests/src/many_lookups.rt has: of many lookups in four pictures.
 
 Written after the formulas of docs/FILTERING.md alone, with Python's whole numbers, which have no bound
 and whose division rounds down. It shares nothing with texel_filter.

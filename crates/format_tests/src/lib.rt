@@ -25,6 +25,8 @@ mod level_rows;
 #[cfg(test)]
 mod mem_reader;
 #[cfg(test)]
+mod plain_regions;
+#[cfg(test)]
 mod plain_shard;
 #[cfg(test)]
 mod reads;

@@ -1,2 +1,4 @@
--- The sizes of the pictures of the tests.
+-- The sizes of the pictures of the tests, and the files of whole runs.
+pub mod Names
 pub mod Sides
+pub mod Tiles

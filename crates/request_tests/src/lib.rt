@@ -1,10 +1,16 @@
 //! Tests of what stands round a request: the words of the command line, lists and answer lines,
-//! made by hand from docs/REQUESTS.md; wraps and filters over small pictures; and the world
-//! outside, a folder in memory with its plan and a real folder, with their taps, feeds and sinks.
+//! made by hand from docs/REQUESTS.md; wraps and filters over small pictures; the world outside, a
+//! folder in memory with its plan and a real folder, with their taps, feeds and sinks; and whole
+//! runs in which something fails, a file changes, or the words or the list are none. What a run
+//! answers where nothing fails is told by the stored run of the program.
 #![tactic(auto)]
 
 #[cfg(test)]
 mod answers;
+#[cfg(test)]
+mod changing_file;
+#[cfg(test)]
+mod failures;
 #[cfg(test)]
 mod letters;
 #[cfg(test)]
@@ -18,15 +24,23 @@ mod many_lookups;
 #[cfg(test)]
 mod memory;
 #[cfg(test)]
+mod names;
+#[cfg(test)]
 mod picture;
 #[cfg(test)]
 mod plans;
 #[cfg(test)]
+mod ran;
+#[cfg(test)]
 mod real_folder;
+#[cfg(test)]
+mod refusals;
 #[cfg(test)]
 mod rows;
 #[cfg(test)]
 mod says;
+#[cfg(test)]
+mod small_files;
 #[cfg(test)]
 mod streams;
 #[cfg(test)]

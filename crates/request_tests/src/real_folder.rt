@@ -50,11 +50,8 @@ where
 
 #[test]
 fn lists_the_plain_files_in_order(rt: HostRuntime) -> Result<(), Fail> {
-    // What a run that was cut off left behind.
-    let _ = fs::remove_dir_all(&rt, "ordered");
     make_ordered(&rt)?;
     lists_in_order(&rt, rt.alloc(), RealFolder::new(&rt));
-    fs::remove_dir_all(&rt, "ordered")?;
     Ok(())
 }
 
@@ -164,12 +161,10 @@ where
 
 #[test]
 fn a_changed_file_has_the_next_generation(rt: HostRuntime) -> Result<(), Fail> {
-    let _ = fs::remove_dir_all(&rt, "changed");
     fs::create_dir(&rt, "changed")?;
     fs::write(&rt, "changed/a.tif", "first")?;
     let step = wrong_in(&rt, rt.alloc(), &mut RealFolder::new(&rt))?;
     assert!(rt; step.is_none(), "{step:?}");
-    fs::remove_dir_all(&rt, "changed")?;
     Ok(())
 }
 

@@ -46,7 +46,7 @@ module _ {S : Type 0} (lawful : ℕ → S → Type 0) (terms : Terms) where
         views = set s.views id new;
       })
   after s id n old new homes kept at few turn permits right home =
-      let inside : 0 < length s.words = omega (arith, kept.count) in
+      let inside : turn_word < length s.words = omega (arith, kept.count) in
       let there : slice_index (set s.words turn_word n) turn_word ≡ n =
       get_or-set_same s.words turn_word n 0 inside in
       record {

@@ -8,17 +8,18 @@ use Rattle.atomic_table.specs.Table.{State, Me, Step}
 use Rattle.shard_gate.specs.declared.standing.Standing.{Standing}
 use Rattle.shard_gate.specs.declared.rule.Terms.{Terms}
 
--- the words of a table, of which two are used: so the words of two tables share no cache line
+-- the words of a table, of which two in the middle are used: so within 128 bytes of the turn stands
+-- nothing of another table
 abbrev pub word_count : ℕ
-word_count = 16
+word_count = 32
 
 -- 1 while a seat has the turn, else 0
 abbrev pub turn_word : ℕ
-turn_word = 0
+turn_word = 16
 
 -- the tag of the table
 abbrev pub tag_word : ℕ
-tag_word = 1
+tag_word = 17
 
 -- 1 for a seat that has the turn, else 0
 abbrev pub turn_of : Standing → ℕ

@@ -13,14 +13,15 @@ use std::alloc::{AllocError, Global};
 use std::marker::Model;
 use waiter::Waiter;
 
-/// The words of a table, of which two are used.
-const WORDS: usize = 16;
+/// The words of a table, of which two in the middle are used. So within 128 bytes of the turn, as
+/// much as a processor fetches at once, stands nothing that another table writes.
+const WORDS: usize = 32;
 
 /// The word that is 1 while a seat has the turn.
-const TURN: usize = 0;
+const TURN: usize = 16;
 
 /// The word that is the table's tag.
-const TAG: usize = 1;
+const TAG: usize = 17;
 
 /// The words of a new table: the turn is free, and the tag is told.
 fn words_of(tag: u64) -> [u64; WORDS]

@@ -6,22 +6,16 @@ use file_table::Files;
 use gen_board::View;
 use std::alloc::Global;
 use std::test::Fail;
-use tex_world::{FailCall, FileTable, Folder, MemFolder, MemTap, Newest, Plan, Rise, TableWorld};
+use tex_world::{FailCall, Folder, MemFolder, MemTap, Newest, Plan, Rise, Tap};
 use tile_layout::Cut;
 
-pub(crate) type Table = Files<MemTap<Pictures>>;
-
-pub(crate) type Sight = View<TableWorld<Pictures>>;
-
-/// A table of all three files, its first view, and five taps. Of tap 1 the newest generation of
-/// `A.tif` is 2, the first call of tap 2 fails, and the first read of the byte 9 of `A.tif` by
-/// tap 3 meets generation 2.
+/// A table of all four files, its first view, and some taps.
 #[derive(Drop)]
-pub(crate) struct Bench {
-    pub(crate) files: Table,
-    pub(crate) view: Sight,
-    pub(crate) taps: Vec<MemTap<Pictures>>,
-    ghost count: { files.board.files ≡ 3 },
+pub(crate) struct Bench<T: Tap> {
+    pub(crate) files: Files<T>,
+    pub(crate) view: View<T::W>,
+    pub(crate) taps: Vec<T>,
+    ghost count: { files.board.files ≡ 4 },
     ghost board: { view.board ≡ files.board },
 }
 
@@ -51,17 +45,24 @@ fn taps_of(alloc: Global) -> Result<Vec<MemTap<Pictures>>, Fail> {
     Ok(taps)
 }
 
-impl Bench {
+/// Five taps. Of tap 1 the newest generation of `A.tif` is 2, the first call of tap 2 fails, and the
+/// first read of the byte 9 of `A.tif` by tap 3 meets generation 2.
+pub(crate) fn memory_bench(alloc: Global, cap: usize) -> Result<Bench<MemTap<Pictures>>, Fail>
+    requires { 0 < cap }
+{
+    Bench::new(alloc, cap, taps_of(alloc)?)
+}
+
+impl<T: Tap + Drop> Bench<T> {
     /// At most `cap` handles lie idle.
-    pub(crate) fn new(alloc: Global, cap: usize) -> Result<Bench, Fail>
+    fn new(alloc: Global, cap: usize, taps: Vec<T>) -> Result<Bench<T>, Fail>
         requires { 0 < cap }
     {
         let cut = Cut {
             autotile: 64,
             automip: true,
         };
-        let taps = taps_of(alloc)?;
-        let (files, view) = Table::new(alloc, Pictures::count(), cap, cut)?;
+        let (files, view) = Files::new(alloc, 4, cap, cut)?;
         Ok(Bench { files, view, taps })
     }
 }

@@ -143,25 +143,12 @@ fn two_threads<R: Threads + Wait + Sync>(
     Ok((a?, b?))
 }
 
-// A thread's pin is given back, and its seat joined to this one.
-fn take_in<T: Waiter>(
-    gate: &OneGate,
-    waiter: &T,
-    seat: &mut OneSeat,
-    other: Held,
-) -> Result<(), Stop>
-    requires gate { seat.old.gate ≡ gate.now.id }
-    requires one { HoldsAt gate.now.id other.pin.tile.key other.seat }
-    ensures gate { OnOk result (seat.new.gate ≡ seat.old.gate) }
-    ensures pins { OnOk result (seat.new.pins ≡ seat.old.pins) }
+// A thread's pin is given back, and its seat ends.
+fn give_back<T: Waiter>(gate: &OneGate, waiter: &T, held: Held) -> Result<(), Stop>
+    requires { HoldsAt gate.now.id held.pin.tile.key held.seat }
 {
-    let Held {
-        seat: mut theirs,
-        pin,
-    } = other;
-    unpin(gate, waiter, &mut theirs, pin)?;
-    gate.join(seat, theirs);
-    Ok(())
+    let Held { mut seat, pin } = held;
+    unpin(gate, waiter, &mut seat, pin)
 }
 
 // Whether a tile is there.
@@ -225,9 +212,9 @@ fn left_by<T: Waiter>(
     let Held { mut seat, pin } = first;
     let held = counts(gate, waiter, &mut seat, shards)?;
     unpin(gate, waiter, &mut seat, pin)?;
-    take_in(gate, waiter, &mut seat, second)?;
-    take_in(gate, waiter, &mut seat, third)?;
-    take_in(gate, waiter, &mut seat, fourth)?;
+    give_back(gate, waiter, second)?;
+    give_back(gate, waiter, third)?;
+    give_back(gate, waiter, fourth)?;
     let after = counts(gate, waiter, &mut seat, shards)?;
     let found = found(gate, waiter, &mut seat)?;
     Ok(Left { held, after, found })
@@ -297,16 +284,18 @@ fn left_in<R: Threads + Wait + Sync>(
 
 // What is left is what fits, and so many tiles at most.
 fn assert_left(rt: &impl Abort, left: Left, most: u64) {
-    let Left { held, after, found } = left;
-    assert_eq!(rt; held[1], 4, "a pin of each thread");
-    assert_eq!(rt;
-        held[0].saturating_mul(TILE_BYTES),
-        held[2].saturating_add(6144)
+    let [tiles_held, pins_held, loose_held, _] = left.held;
+    let [tiles, pins, loose, _] = left.after;
+    assert!(rt; pins_held == 4, "a pin of each thread");
+    let bytes_held = loose_held.saturating_add(4 * TILE_BYTES);
+    assert!(rt;
+        tiles_held.saturating_mul(TILE_BYTES) == bytes_held,
+        "bytes with the pins"
     );
-    assert_eq!(rt; after[1], 0, "all pins given back");
-    assert_eq!(rt; after[2], after[0].saturating_mul(TILE_BYTES));
-    assert_eq!(rt; after[0], found, "a tile is found by its key");
-    assert!(rt; after[0] <= most, "what fits the shares");
+    assert!(rt; pins == 0, "all pins given back");
+    assert!(rt; tiles.saturating_mul(TILE_BYTES) == loose, "bytes without");
+    assert!(rt; tiles == left.found, "a tile is found by its key");
+    assert!(rt; tiles <= most, "what fits the shares");
 }
 
 // Of tiles of 1536 bytes four fit each share of 6666 bytes, and thirteen one of 20000.

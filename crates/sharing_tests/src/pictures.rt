@@ -1,9 +1,10 @@
-//! Three files, of which the first has two generations.
-ghost use Rattle.std.specs.Prelude.{◌&&◌, ◌||◌, ◌==◌, slice_index};
-ghost use Rattle.std.specs.Prelude.{[], ◌∷◌, Some, None, refl, if◌then◌else◌, codes};
+//! Four files, of which the first and the last have two generations.
+ghost use Rattle.std.specs.Prelude.{◌≡◌, ◌%◌, ◌&&◌, ◌||◌, ◌==◌, nat_lt, slice_index};
+ghost use Rattle.std.specs.Prelude.{Some, None, refl, if◌then◌else◌};
 ghost use Rattle.std.proofs.Common.{arith, lit≤};
 ghost use Rattle.tex_world.specs.Names.{name_at, distinct_names};
-ghost use Rattle.sharing_tests.specs.declared.pictures.TheConstants.{FOUR, THREE};
+ghost use Rattle.sharing_tests.specs.declared.pictures.TheConstants.{FOUR, THREE, TILED};
+ghost use Rattle.sharing_tests.specs.Names.{file_names};
 
 use tex_world::FileTable;
 
@@ -39,56 +40,92 @@ pub(crate) static THREE: [u8; 125] = [
     0x0a, 0x15, 0x1e,
 ];
 
+// 18 by 2 texels of one channel in two tiles of 16 by 16, which stand at 256 and at 512.
+static TILED: [u8; 150] = [
+    0x49, 0x49, 0x2a, 0x00, 0x08, 0x00, 0x00, 0x00, 0x0a, 0x00, //
+    0x00, 0x01, 0x03, 0x00, 0x01, 0x00, 0x00, 0x00, 0x12, 0x00, 0x00, 0x00, //
+    0x01, 0x01, 0x03, 0x00, 0x01, 0x00, 0x00, 0x00, 0x02, 0x00, 0x00, 0x00, //
+    0x02, 0x01, 0x03, 0x00, 0x01, 0x00, 0x00, 0x00, 0x08, 0x00, 0x00, 0x00, //
+    0x03, 0x01, 0x03, 0x00, 0x01, 0x00, 0x00, 0x00, 0x01, 0x00, 0x00, 0x00, //
+    0x06, 0x01, 0x03, 0x00, 0x01, 0x00, 0x00, 0x00, 0x01, 0x00, 0x00, 0x00, //
+    0x15, 0x01, 0x03, 0x00, 0x01, 0x00, 0x00, 0x00, 0x01, 0x00, 0x00, 0x00, //
+    0x42, 0x01, 0x03, 0x00, 0x01, 0x00, 0x00, 0x00, 0x10, 0x00, 0x00, 0x00, //
+    0x43, 0x01, 0x03, 0x00, 0x01, 0x00, 0x00, 0x00, 0x10, 0x00, 0x00, 0x00, //
+    0x44, 0x01, 0x04, 0x00, 0x02, 0x00, 0x00, 0x00, 0x86, 0x00, 0x00, 0x00, //
+    0x45, 0x01, 0x04, 0x00, 0x02, 0x00, 0x00, 0x00, 0x8e, 0x00, 0x00, 0x00, //
+    0x00, 0x00, 0x00, 0x00, //
+    0x00, 0x01, 0x00, 0x00, 0x00, 0x02, 0x00, 0x00, //
+    0x00, 0x01, 0x00, 0x00, 0x00, 0x01, 0x00, 0x00,
+];
+
+fn byte_of_tiled(at: u64) -> u8
+    ensures { result ≡ (if nat_lt at 150 then slice_index TILED at else at % 251) }
+{
+    if at < 150 {
+        TILED[at as usize]
+    } else {
+        (at % 251) as u8
+    }
+}
+
 /// `A.tif` has 4 by 4 texels, and in its second generation 3 by 1. `three.tif` has 3 by 1, and
-/// `short.tif` ends in its header.
+/// `short.tif` ends in its header. `B.tif` has two tiles, in which a byte is its place in the file,
+/// modulo 251; in its second generation it has 3 by 1 texels in a strip.
 #[derive(Drop)]
 pub(crate) struct Pictures;
 
 impl FileTable for Pictures {
-    ghost count_of = { 3 };
+    ghost count_of = { 4 };
 
-    ghost name_of = { name_at (codes "A.tif" ∷ codes "three.tif" ∷ codes "short.tif" ∷ []) };
+    ghost name_of = { name_at file_names };
 
     ghost len_of = { λ n g.
-        if n == 0 && g == 1 then Some 138
-        else if n == 0 && g == 2 || n == 1 && g == 1 then Some 125
-        else if n == 2 && g == 1 then Some 7 else None };
+        if g == 1 then Some (if n == 0 then 138 else if n == 1 then 125 else if n == 2 then 7 else 768)
+        else if g == 2 && (n == 0 || n == 3) then Some 125 else None };
 
     ghost byte_of = { λ n g at.
-        if n == 0 && g == 2 || n == 1 then slice_index THREE at else slice_index FOUR at };
+        if g == 2 || n == 1 then slice_index THREE at
+        else if n == 3 then (if nat_lt at 150 then slice_index TILED at else at % 251)
+        else slice_index FOUR at };
 
     ghost few = { lit≤ tt };
 
-    ghost distinct = { distinct_names
-        (codes "A.tif" ∷ codes "three.tif" ∷ codes "short.tif" ∷ []) refl };
+    ghost distinct = { distinct_names file_names refl };
 
     fn count() -> u32 {
-        3
+        4
     }
 
     fn name(n: u32) -> &'static str {
         match n {
             0 => "A.tif",
             1 => "three.tif",
-            _ => "short.tif",
+            2 => "short.tif",
+            _ => "B.tif",
         }
     }
 
     fn len(n: u32, g: u32) -> Option<u64> {
-        if n == 0 && g == 1 {
-            Some(138)
-        } else if n == 0 && g == 2 || n == 1 && g == 1 {
+        let first = match n {
+            0 => 138,
+            1 => 125,
+            2 => 7,
+            _ => 768,
+        };
+        if g == 1 {
+            Some(first)
+        } else if g == 2 && (n == 0 || n == 3) {
             Some(125)
-        } else if n == 2 && g == 1 {
-            Some(7)
         } else {
             None
         }
     }
 
     fn byte(n: u32, g: u32, at: u64) -> u8 {
-        if n == 0 && g == 2 || n == 1 {
+        if g == 2 || n == 1 {
             THREE[at as usize]
+        } else if n == 3 {
+            byte_of_tiled(at)
         } else {
             FOUR[at as usize]
         }

@@ -11,7 +11,6 @@ use crate::worker::Worker;
 use file_table::Files;
 use host_folder::RealFolder;
 use std::alloc::Global;
-use std::fmt::Write;
 use std::fs;
 use std::test::Fail;
 use tex_world::{Folder, Tap};
@@ -135,7 +134,6 @@ fn wrong_in<T: Tap + Drop + Shows>(rt: &HostRuntime, tap: T) -> Result<Option<(u
 
 #[test]
 fn files_change_between_two_calls(rt: HostRuntime) -> Result<(), Fail> {
-    let _ = fs::remove_dir_all(&rt, "changing");
     fs::create_dir(&rt, "changing")?;
     fs::write(&rt, "changing/a.tif", &THREE)?;
     let tap = tap_of(RealFolder::new(&rt), rt.alloc(), "changing")?;
@@ -143,26 +141,30 @@ fn files_change_between_two_calls(rt: HostRuntime) -> Result<(), Fail> {
         let text = text_of(rt.alloc(), Some(wrong))?;
         assert_eq!(rt; text.as_str(), "", "row {row}");
     }
-    fs::remove_dir_all(&rt, "changing")?;
     Ok(())
 }
 
-// How many descriptors the process has open, that of the count among them.
+// A path that ends in a number.
+fn numbered(alloc: Global, folder: &str, number: u32) -> Result<String, Fail> {
+    Ok(format!(in alloc; "{folder}{number}")?)
+}
+
+// How many descriptors below 99 the process has open.
 fn open_descriptors(rt: &HostRuntime) -> Result<usize, Fail> {
     let mut count = 0usize;
-    for entry in fs::read_dir(rt, "/proc/self/fd")? {
-        let _entry = entry?;
-        count = count.saturating_add(1);
+    for descriptor in 0..99u32 {
+        let path = numbered(rt.alloc(), "/proc/self/fd/", descriptor)?;
+        if fs::metadata(rt, path.as_str()).is_ok() {
+            count = count.saturating_add(1);
+        }
     }
     Ok(count)
 }
 
 // So many files, all alike.
 fn write_files(rt: &HostRuntime, alloc: Global, count: u32) -> Result<(), Fail> {
-    let mut path = String::new(alloc);
     for n in 0..count {
-        path.clear();
-        write!(path, "many/{n}.tif")?;
+        let path = numbered(alloc, "many/", n)?;
         fs::write(rt, path.as_str(), &THREE)?;
     }
     Ok(())
@@ -205,7 +207,6 @@ fn visit_all<T: Tap + Drop>(rt: &HostRuntime, tap: T, count: u32) -> Result<Visi
 
 #[test]
 fn no_descriptor_stays_open(rt: HostRuntime) -> Result<(), Fail> {
-    let _ = fs::remove_dir_all(&rt, "many");
     fs::create_dir(&rt, "many")?;
     write_files(&rt, rt.alloc(), 200)?;
     let tap = tap_of(RealFolder::new(&rt), rt.alloc(), "many")?;
@@ -214,6 +215,5 @@ fn no_descriptor_stays_open(rt: HostRuntime) -> Result<(), Fail> {
     assert_eq!(rt; visited.idle, 10, "handles that lie idle");
     assert_eq!(rt; visited.opened, 10, "descriptors with the table");
     assert_eq!(rt; visited.left, 0, "descriptors after its end");
-    fs::remove_dir_all(&rt, "many")?;
     Ok(())
 }

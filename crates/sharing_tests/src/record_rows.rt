@@ -1,7 +1,7 @@
 //! Records and idle handles of files in memory.
 ghost use Rattle.std.specs.Prelude.{◌<◌};
 
-use crate::bench::Bench;
+use crate::bench::{Bench, memory_bench};
 use crate::script::Answer::{Again, Bad, Done, Fault, Is};
 use crate::script::Call::{Forget, Idle, Lend, Record, Seen, Settle};
 use crate::script::{Counts, Script, Step, text_of};
@@ -138,7 +138,7 @@ static ROWS: &[(&str, usize, &[Step])] = &[
 fn wrong_in(alloc: Global, cap: usize, steps: &[Step]) -> Result<String, Fail>
     requires { 0 < cap }
 {
-    let Bench { files, view, taps } = Bench::new(alloc, cap)?;
+    let Bench { files, view, taps } = memory_bench(alloc, cap)?;
     let seat = Seat {
         files: &files,
         view,

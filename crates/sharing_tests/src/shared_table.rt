@@ -1,28 +1,35 @@
 //! One table under two threads.
 
-use crate::bench::Bench;
-use crate::pictures::Pictures;
+ghost use Rattle.std.specs.Prelude.{ℕ, ◌<◌};
+ghost use Rattle.tex_world.specs.World.{IsFile};
+
+use crate::bench::{Bench, memory_bench};
 use crate::worker::Worker;
 use std::sync::Wait;
 use std::test::Fail;
 use std::thread;
 use std::thread::Threads;
-use tex_world::MemTap;
+use tex_world::Tap;
 use waiter::Forever;
-
-type MemWorker<'a> = Worker<'a, MemTap<Pictures>>;
 
 const ROUNDS: u32 = 1000;
 
-fn work<R: Wait>(rt: &R, worker: &mut MemWorker<'_>) -> u32 {
+fn work<R: Wait, T: Tap>(rt: &R, worker: &mut Worker<'_, T>) -> u32
+    requires { (file : ℕ) → file < 3 → IsFile T.W.files file }
+{
     worker.work(&Forever::new(rt), 3, ROUNDS)
 }
 
-fn work_in_two_threads<R: Threads + Wait + Sync>(
+fn work_in_two_threads<R: Threads + Wait + Sync, T: Tap + Send>(
     rt: &R,
-    one: &mut MemWorker<'_>,
-    two: &mut MemWorker<'_>,
-) -> (u32, u32) {
+    one: &mut Worker<'_, T>,
+    two: &mut Worker<'_, T>,
+) -> (u32, u32)
+where
+    T::Handle: Send + Sync,
+    T::W: Send + Sync,
+    requires { (file : ℕ) → file < 3 → IsFile T.W.files file }
+{
     thread::join(rt, || work(rt, one), || work(rt, two))
 }
 
@@ -32,7 +39,7 @@ fn two_threads_share_a_table(rt: HostRuntime) -> Result<(), Fail> {
         files,
         mut view,
         mut taps,
-    } = Bench::new(rt.alloc(), 2)?;
+    } = memory_bench(rt.alloc(), 2)?;
     let other = taps.pop().ok_or("no tap")?;
     taps.truncate(1);
     let tap = taps.pop().ok_or("no tap")?;

@@ -1,25 +1,27 @@
 //! A waiter that calls the table in the middle of another call of it.
 ghost use Rattle.std.specs.Prelude.{◌≡◌, ◌<◌};
+ghost use Rattle.tex_world.specs.World.{IsFile};
 
-use crate::bench::{Bench, Sight, Table};
-use crate::pictures::Pictures;
+use crate::bench::{Bench, memory_bench};
 use crate::seat::Seat;
+use file_table::Files;
+use gen_board::View;
 use std::cell::Cell;
 use std::test::Fail;
-use tex_world::MemTap;
+use tex_world::Tap;
 use waiter::{GaveUp, Tries, Waiter};
 
 // Each time that it is asked for its tries it drops what is idle of the first file, with three
 // tries, and counts which way that went.
 #[derive(Drop)]
-struct Nosy<'a> {
-    files: &'a Table,
+struct Nosy<'a, T: Tap> {
+    files: &'a Files<T>,
     done: Cell<u32>,
     busy: Cell<u32>,
     ghost some: { 0 < files.now.board.files },
 }
 
-impl Waiter for Nosy<'_> {
+impl<T: Tap> Waiter for Nosy<'_, T> {
     type Busy = GaveUp;
 
     ghost tries_of = { λ _. 1 };
@@ -40,7 +42,7 @@ impl Waiter for Nosy<'_> {
     }
 }
 
-impl Nosy<'_> {
+impl<T: Tap> Nosy<'_, T> {
     /// How often it dropped what is idle, and how often it found a lock taken.
     fn counted(&self) -> (u32, u32) {
         (self.done.get(), self.busy.get())
@@ -48,8 +50,9 @@ impl Nosy<'_> {
 }
 
 /// The generation of the record of the first file, 0 where none is answered.
-fn generation(files: &Table, view: Sight, tap: &mut MemTap<Pictures>, nosy: &Nosy<'_>) -> u32
-    requires { view.board ≡ files.now.board }
+fn generation<T: Tap>(files: &Files<T>, view: View<T::W>, tap: &mut T, nosy: &Nosy<'_, T>) -> u32
+    requires board { view.board ≡ files.now.board }
+    requires first { IsFile T.W.files 0 }
 {
     let mut seat = Seat { files, view };
     match seat.record(nosy, tap, 0) {
@@ -59,7 +62,7 @@ fn generation(files: &Table, view: Sight, tap: &mut MemTap<Pictures>, nosy: &Nos
 }
 
 /// No handle is idle.
-fn is_idle(files: &Table, nosy: &Nosy<'_>) -> bool {
+fn is_idle<T: Tap>(files: &Files<T>, nosy: &Nosy<'_, T>) -> bool {
     match files.idle(nosy) {
         Ok(count) => count == 0,
         Err(GaveUp) => false,
@@ -72,7 +75,7 @@ fn a_call_inside_a_lock_is_busy(rt: HostRuntime) -> Result<(), Fail> {
         files,
         view,
         mut taps,
-    } = Bench::new(rt.alloc(), 4)?;
+    } = memory_bench(rt.alloc(), 4)?;
     let mut tap = taps.pop().ok_or("no tap")?;
     let nosy = Nosy {
         files: &files,

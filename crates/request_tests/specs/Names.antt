@@ -1,4 +1,4 @@
--- What are the names of the odd files?
+-- What are the names of the files?
 use Rattle.std.specs.Prelude.{ℕ, codes, List, [], ◌∷◌, ◌++◌}
 
 -- ` A`, a carriage return and `.tif `
@@ -10,7 +10,7 @@ abbrev pub with_umlaut : List ℕ
 with_umlaut = 0xc3 ∷ 0xa4 ∷ codes ".tif"
 
 -- in the order of their numbers
-abbrev pub odd_names : List (List ℕ)
-odd_names =
-    codes "1 2" ∷ with_return ∷ with_umlaut ∷ codes "dir.tif" ∷ codes "tag.tif"
-    ∷ codes "type.tif" ∷ codes "zero.tif" ∷ codes "nine.tif" ∷ codes "few.tif" ∷ codes "end.tif" ∷ []
+abbrev pub file_names : List (List ℕ)
+file_names =
+    codes "A.tif" ∷ codes "B.tif" ∷ codes "low.tif" ∷ codes "seam.tif"
+    ∷ codes "1 2" ∷ with_return ∷ with_umlaut ∷ []

@@ -1,8 +1,7 @@
 //! Words that are none of the command's, and lists that are none.
 
-use crate::plain_files::PlainFiles;
-use crate::ran::{Failing, Ran, run_words};
-use std::alloc::{AllocError, Global};
+use crate::ran::run_bytes;
+use std::alloc::Global;
 use std::process::Abort;
 use std::test::Fail;
 
@@ -26,8 +25,7 @@ static BAD_WORDS: &[&[&str]] = &[
 #[test]
 fn refuses_words(rt: HostRuntime) -> Result<(), Fail> {
     for words in BAD_WORDS {
-        let list = b"sync\n".to_vec(rt.alloc())?;
-        let ran = run_words::<PlainFiles>(rt.alloc(), words, list, Failing::Nothing)?;
+        let ran = run_bytes(rt.alloc(), words, b"sync\n")?;
         ran.is_calmly(&rt, "bad words\n", 2, "the words");
         assert!(rt; ran.made == 0, "no tap is made");
     }
@@ -45,8 +43,7 @@ static WORDS: &[&[&str]] = &[
 #[test]
 fn takes_words(rt: HostRuntime) -> Result<(), Fail> {
     for words in WORDS {
-        let list = b"info A.tif\n".to_vec(rt.alloc())?;
-        let ran = run_words::<PlainFiles>(rt.alloc(), words, list, Failing::Nothing)?;
+        let ran = run_bytes(rt.alloc(), words, b"info A.tif\n")?;
         ran.is_calmly(&rt, "info 1 4 4 1 8 1 1\n", 0, "the words");
     }
     Ok(())
@@ -71,10 +68,6 @@ static REFUSED: &[(&[u8], &str)] = &[
     (b"stat\nfoo\n", "2 1"),
 ];
 
-fn run_bytes(alloc: Global, list: &[u8]) -> Result<Ran, AllocError> {
-    run_words::<PlainFiles>(alloc, &["."], list.to_vec(alloc)?, Failing::Nothing)
-}
-
 fn is_refused(
     rt: &impl Abort,
     alloc: Global,
@@ -82,7 +75,7 @@ fn is_refused(
     bad: &str,
     message: &str,
 ) -> Result<(), Fail> {
-    let ran = run_bytes(alloc, list)?;
+    let ran = run_bytes(alloc, &["."], list)?;
     let written = format!(in alloc; "bad list {bad}\n")?;
     ran.is_calmly(rt, &written, 3, message);
     assert!(rt; ran.made == 0, "taps in {message}");
@@ -107,7 +100,7 @@ fn answers_long(
     status: u8,
 ) -> Result<(), Fail> {
     let list = vec![in alloc; b'#'; length]?;
-    let ran = run_words::<PlainFiles>(alloc, &["."], list, Failing::Nothing)?;
+    let ran = run_bytes(alloc, &["."], &list)?;
     ran.is_calmly(rt, written, status, "a long list");
     Ok(())
 }

@@ -1,5 +1,6 @@
 //! A run of the top call over files in memory.
 
+use crate::small_files::SmallFiles;
 use render_run::run;
 use std::alloc::{AllocError, Global};
 use std::process::Abort;
@@ -18,9 +19,9 @@ pub(crate) enum Failing {
     Feed(u64),
     /// That of the sink.
     Sink(u64),
-    /// At its first read of this byte the folder's first file is found to have its second
+    /// At its first read of this byte the file of this number is found to have its second
     /// generation.
-    Rise(u64),
+    Rise(u32, u64),
     /// The first read of this byte of the folder's first file.
     Byte(u64),
 }
@@ -76,9 +77,9 @@ fn plan_of(alloc: Global, failing: Failing) -> Result<Plan, AllocError> {
     match failing {
         Failing::Enter => plan.fail_enter = true,
         Failing::Tap(call) => plan.fail_calls.push(FailCall { tap: 0, call })?,
-        Failing::Rise(at) => plan.rises.push(Rise {
+        Failing::Rise(file, at) => plan.rises.push(Rise {
             tap: 0,
-            file: 0,
+            file,
             at,
             to: 2,
         })?,
@@ -109,7 +110,7 @@ fn failing_put(failing: Failing) -> Option<u64> {
 }
 
 /// Runs a list under these words over the files of a table.
-pub(crate) fn run_words<T: FileTable>(
+fn run_words<T: FileTable>(
     alloc: Global,
     words: &[&str],
     list: Vec<u8>,
@@ -131,11 +132,12 @@ pub(crate) fn run_words<T: FileTable>(
     })
 }
 
-/// The same under the word `.`.
-pub(crate) fn run_list<T: FileTable>(
-    alloc: Global,
-    list: &str,
-    failing: Failing,
-) -> Result<Ran, AllocError> {
-    run_words::<T>(alloc, &["."], list.as_bytes().to_vec(alloc)?, failing)
+/// Runs a list under these words over the small files, and nothing fails.
+pub(crate) fn run_bytes(alloc: Global, words: &[&str], list: &[u8]) -> Result<Ran, AllocError> {
+    run_words::<SmallFiles>(alloc, words, list.to_vec(alloc)?, Failing::Nothing)
+}
+
+/// Runs a list under the word `.` over the small files.
+pub(crate) fn run_list(alloc: Global, list: &str, failing: Failing) -> Result<Ran, AllocError> {
+    run_words::<SmallFiles>(alloc, &["."], list.as_bytes().to_vec(alloc)?, failing)
 }

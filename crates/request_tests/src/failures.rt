@@ -1,14 +1,9 @@
 //! What a run does where the folder, its tap, the feed or the sink fails.
 
-use crate::plain_files::PlainFiles;
 use crate::ran::{Failing, run_list};
-use crate::strip_files::StripFiles;
-use crate::tiled_files::TiledFiles;
-use crate::wall_file::WallFile;
 use std::alloc::{AllocError, Global};
 use std::process::Abort;
 use std::test::Fail;
-use tex_world::FileTable;
 
 // Two requests for the same region.
 const LIST: &str = "pixels 0 1 0 2 2 A.tif\npixels 0 1 0 2 2 A.tif\n";
@@ -24,9 +19,9 @@ type Met = (
     (u64, u64),
 );
 
-fn is_met<T: FileTable>(rt: &impl Abort, alloc: Global, met: &Met) -> Result<(), Fail> {
+fn is_met(rt: &impl Abort, alloc: Global, met: &Met) -> Result<(), Fail> {
     let (what, failing, list, written, status, (faults, moves)) = met;
-    let ran = run_list::<T>(alloc, list, *failing)?;
+    let ran = run_list(alloc, list, *failing)?;
     ran.is(rt, written, *status, what);
     ran.counts(rt, *faults, *moves, what);
     Ok(())
@@ -64,7 +59,7 @@ static FAILURES: &[Met] = &[
 #[test]
 fn says_what_failed(rt: HostRuntime) -> Result<(), Fail> {
     for met in FAILURES {
-        is_met::<PlainFiles>(&rt, rt.alloc(), met)?;
+        is_met(&rt, rt.alloc(), met)?;
     }
     Ok(())
 }
@@ -78,11 +73,11 @@ fn puts_lines_together(rt: HostRuntime) -> Result<(), Fail> {
     let list = "sync\npixels 0 4 4 256 128 A.tif\nsync\n";
     let first = format!(in alloc; "sync\npixels 1 1{zeros}\n")?;
     let all = format!(in alloc; "{first}sync\n")?;
-    let ran = run_list::<PlainFiles>(alloc, list, Failing::Sink(1))?;
+    let ran = run_list(alloc, list, Failing::Sink(1))?;
     ran.is_calmly(&rt, "", 5, "the first put");
-    let ran = run_list::<PlainFiles>(alloc, list, Failing::Sink(2))?;
+    let ran = run_list(alloc, list, Failing::Sink(2))?;
     ran.is_calmly(&rt, &first, 5, "the second put");
-    let ran = run_list::<PlainFiles>(alloc, list, Failing::Sink(3))?;
+    let ran = run_list(alloc, list, Failing::Sink(3))?;
     ran.is_calmly(&rt, &all, 0, "a third put, which is none");
     Ok(())
 }
@@ -92,7 +87,7 @@ fn puts_lines_together(rt: HostRuntime) -> Result<(), Fail> {
 static RISES: &[Met] = &[
     (
         "a rise at byte 8",
-        Failing::Rise(8),
+        Failing::Rise(0, 8),
         LIST,
         "again 1 2\npixels 2 1 25957 26214 30069 30326\n",
         1,
@@ -100,7 +95,7 @@ static RISES: &[Met] = &[
     ),
     (
         "a rise at byte 123",
-        Failing::Rise(123),
+        Failing::Rise(0, 123),
         LIST,
         "again 1 2\npixels 2 1 25957 26214 30069 30326\n",
         1,
@@ -111,7 +106,7 @@ static RISES: &[Met] = &[
 #[test]
 fn says_which_generation_was_met(rt: HostRuntime) -> Result<(), Fail> {
     for met in RISES {
-        is_met::<PlainFiles>(&rt, rt.alloc(), met)?;
+        is_met(&rt, rt.alloc(), met)?;
     }
     Ok(())
 }
@@ -119,7 +114,7 @@ fn says_which_generation_was_met(rt: HostRuntime) -> Result<(), Fail> {
 /// The same where the region lies on two tiles, and the second is changed.
 static TILE_RISE: Met = (
     "a tile that was changed",
-    Failing::Rise(12472),
+    Failing::Rise(1, 12472),
     "pixels 0 63 0 2 1 B.tif\npixels 0 63 0 2 1 B.tif\n",
     "again 1 2\npixels 2 3 64 20064 40064 65 20065 40065\n",
     1,
@@ -146,7 +141,7 @@ static BYTES: &[Met] = &[
     ),
     (
         "a rise at a lookup",
-        Failing::Rise(132),
+        Failing::Rise(0, 132),
         "tex 32768 32768 0 clamp clamp bilinear 1 A.tif\ninfo A.tif\n",
         "again 1 2\ninfo 2 4 4 1 8 1 1\n",
         1,
@@ -156,9 +151,9 @@ static BYTES: &[Met] = &[
 
 #[test]
 fn says_what_was_met_at_a_byte(rt: HostRuntime) -> Result<(), Fail> {
-    is_met::<TiledFiles>(&rt, rt.alloc(), &TILE_RISE)?;
+    is_met(&rt, rt.alloc(), &TILE_RISE)?;
     for met in BYTES {
-        is_met::<PlainFiles>(&rt, rt.alloc(), met)?;
+        is_met(&rt, rt.alloc(), met)?;
     }
     Ok(())
 }
@@ -176,14 +171,14 @@ fn fault_and_line(alloc: Global, line: &str, first: bool) -> Result<String, Allo
     }
 }
 
-fn call_fails<T: FileTable>(
+fn call_fails(
     rt: &impl Abort,
     alloc: Global,
     list: &str,
     call: u64,
     written: &str,
 ) -> Result<(), Fail> {
-    let ran = run_list::<T>(alloc, list, Failing::Tap(call))?;
+    let ran = run_list(alloc, list, Failing::Tap(call))?;
     let message = format!(in alloc; "call {call} for {list}")?;
     ran.is(rt, written, 1, &message);
     ran.counts(rt, 1, 0, &message);
@@ -191,30 +186,20 @@ fn call_fails<T: FileTable>(
 }
 
 // The calls of the tap where none fails.
-fn calls_of<T: FileTable>(
-    rt: &impl Abort,
-    alloc: Global,
-    list: &str,
-    written: &str,
-) -> Result<u64, Fail> {
-    let ran = run_list::<T>(alloc, list, Failing::Nothing)?;
+fn calls_of(rt: &impl Abort, alloc: Global, list: &str, written: &str) -> Result<u64, Fail> {
+    let ran = run_list(alloc, list, Failing::Nothing)?;
     ran.is_calmly(rt, written, 0, list);
     assert!(rt; ran.calls != 0, "in {list}");
     Ok(ran.calls)
 }
 
 // Whichever call of the tap fails, its request is answered `read fault`, and the other one as ever.
-fn each_call_fails<T: FileTable>(
-    rt: &impl Abort,
-    alloc: Global,
-    request: &str,
-    line: &str,
-) -> Result<(), Fail> {
+fn each_call_fails(rt: &impl Abort, alloc: Global, request: &str, line: &str) -> Result<(), Fail> {
     let list = twice(alloc, request)?;
-    let calls = calls_of::<T>(rt, alloc, &list, &twice(alloc, line)?)?;
+    let calls = calls_of(rt, alloc, &list, &twice(alloc, line)?)?;
     for call in 1..=calls {
         let written = fault_and_line(alloc, line, call <= calls / 2)?;
-        call_fails::<T>(rt, alloc, &list, call, &written)?;
+        call_fails(rt, alloc, &list, call, &written)?;
     }
     Ok(())
 }
@@ -223,9 +208,9 @@ fn each_call_fails<T: FileTable>(
 fn says_which_read_failed(rt: HostRuntime) -> Result<(), Fail> {
     let alloc = rt.alloc();
     let (request, line) = ("pixels 0 1 0 2 2 A.tif", "pixels 1 1 257 514 4369 4626");
-    each_call_fails::<PlainFiles>(&rt, alloc, request, line)?;
+    each_call_fails(&rt, alloc, request, line)?;
     let request = "pixels 0 4 1 2 3 low.tif";
-    each_call_fails::<StripFiles>(&rt, alloc, request, "pixels 1 1 1407 0 2407 0 3407 0")
+    each_call_fails(&rt, alloc, request, "pixels 1 1 1407 0 2407 0 3407 0")
 }
 
 // The region lies on several tiles, and some of its rows are read ahead.
@@ -235,14 +220,10 @@ fn says_which_read_of_tiles_failed(rt: HostRuntime) -> Result<(), Fail> {
     let request = "pixels 0 63 30 2 4 B.tif";
     let line = "pixels 1 3 3063 23063 43063 3064 23064 43064 3163 23163 43163 3164 23164 43164 \
                 3263 23263 43263 3264 23264 43264 3363 23363 43363 3364 23364 43364";
-    each_call_fails::<TiledFiles>(&rt, alloc, request, line)?;
+    each_call_fails(&rt, alloc, request, line)?;
     let request = "pixels 0 15 12 2 6 seam.tif";
     let line = "pixels 1 2 27756 32125 27499 31868 24929 30840 24672 30583 \
                 22102 29555 21845 29298 19275 28270 19018 28013 \
                 16448 26985 16191 26728 13621 25700 13364 25443";
-    each_call_fails::<TiledFiles>(&rt, alloc, request, line)?;
-    let request = "pixels 1 63 62 2 4 wall.tif";
-    let line = "pixels 1 3 5140 5397 5654 5140 5397 5654 5140 5397 5654 5140 5397 5654 \
-                5140 5397 5654 5140 5397 5654 5140 5397 5654 5140 5397 5654";
-    each_call_fails::<WallFile>(&rt, alloc, request, line)
+    each_call_fails(&rt, alloc, request, line)
 }

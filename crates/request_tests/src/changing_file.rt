@@ -50,7 +50,6 @@ impl<R: Files<File = File>> Write for Painter<R> {
 #[test]
 fn lines_name_the_generation_that_they_were_read_from(rt: HostRuntime) -> Result<(), Fail> {
     let alloc = rt.alloc();
-    let _ = fs::remove_dir_all(&rt, "painted");
     fs::create_dir(&rt, "painted")?;
     fs::write(&rt, "painted/three.tif", &THREE)?;
     let mut picture = THREE.to_vec(alloc)?;
@@ -81,6 +80,5 @@ fn lines_name_the_generation_that_they_were_read_from(rt: HostRuntime) -> Result
     }
     written.push_str("\nno such file\npixels 2 1 1799 5397 7710 0\n")?;
     assert!(rt; painter.taken.as_slice() == written.as_bytes());
-    fs::remove_dir_all(&rt, "painted")?;
     Ok(())
 }

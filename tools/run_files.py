@@ -1,0 +1,203 @@
+#!/usr/bin/env python3
+"""Writes the files of the program's stored run, and what its requests are to be answered.
+
+    python3 tools/run_files.py          # writes crates/texcache/data and crates/texcache/stdout
+    python3 tools/run_files.py --check  # says whether they are what it would write
+
+The requests are those of crates/texcache/stdin. The answers follow from the formulas of the pictures, of
+docs/FORMAT.md and of docs/FILTERING.md, and not from the program. Those above the line that says so were
+worked out by hand before.
+"""
+import struct
+import sys
+from collections import namedtuple
+from pathlib import Path
+
+TOP = Path(__file__).resolve().parent.parent
+sys.path.insert(0, str(TOP / "demo"))
+from make_expected import FIELDS, GENERATION, on_pages  # noqa: E402
+from make_pictures import BIG, LITTLE, LONG, RGB, SHORT, BLACK_IS_ZERO, WHITE_IS_ZERO  # noqa: E402
+from make_pictures import blocks, entries_of  # noqa: E402
+
+RUN = TOP / "crates" / "texcache"
+MARKS = {LITTLE: b"II", BIG: b"MM"}
+
+# A level of a file: `texel` gives the stored samples of a column and a row. It is cut into tiles of
+# that width and height, or into strips of so many rows. The blocks stand in the file in the order
+# `stored`, each at the next free place, and their offsets have that type. Where `spoken`, the fields
+# of a tiled level that need not be there stand there too.
+Level = namedtuple("Level", "width height texel depth photometric tile rows offset_type stored spoken",
+                   defaults=(8, BLACK_IS_ZERO, None, None, LONG, None, False))
+
+
+def channels(level):
+    return len(level.texel(0, 0))
+
+
+def fields(level, offsets, sizes):
+    """The fields of a level, in the order of their tags."""
+    wide = LONG if level.width > 65535 else SHORT
+    kind = level.offset_type
+    found = [(256, wide, [level.width]), (257, SHORT, [level.height]),
+             (258, SHORT, [level.depth] * channels(level)), (259, SHORT, [1]),
+             (262, SHORT, [level.photometric]), (277, SHORT, [channels(level)])]
+    if level.tile:
+        found += [(322, SHORT, [level.tile[0]]), (323, SHORT, [level.tile[1]]), (324, kind, offsets)]
+    else:
+        found += [(273, kind, offsets), (278, SHORT, [level.rows]), (279, kind, sizes)]
+    if level.spoken:
+        found += [(284, SHORT, [1]), (325, kind, sizes)]
+    return sorted(found)
+
+
+def directory_bytes(order, found, at, following):
+    """A directory at a place: its entries, the place of the next one, and the values behind it."""
+    entries, values = entries_of(order, found, at + 2 + 12 * len(found) + 4)
+    return struct.pack(order + "H", len(found)) + entries + struct.pack(order + "I", following) + values
+
+
+def tiff(order, levels):
+    """A file: its directories, each with its values, and then the blocks of each level."""
+    cut = [blocks(order, level) for level in levels]
+    places, at = [], 8
+    for level, stored in zip(levels, cut):
+        places.append(at)
+        sizes = [len(it) for it in stored]
+        at += len(directory_bytes(order, fields(level, sizes, sizes), at, 0))
+    made, rest = MARKS[order] + struct.pack(order + "HI", 42, 8), b""
+    for number, (level, stored) in enumerate(zip(levels, cut)):
+        offsets = [0] * len(stored)
+        for index in level.stored or range(len(stored)):
+            offsets[index] = at + len(rest)
+            rest += stored[index]
+        following = places[number + 1] if number + 1 < len(levels) else 0
+        found = fields(level, offsets, [len(it) for it in stored])
+        made += directory_bytes(order, found, places[number], following)
+    return made + rest
+
+
+def grid(x, y):
+    return [16 * y + x]
+
+
+def wall(number):
+    side = 1024 >> number
+    return Level(side, side, lambda x, y: [20 * number, 20 * number + 1, 20 * number + 2],
+                 photometric=RGB, tile=(64, 64))
+
+
+def lines_of_16_bits(x, y):
+    return [1000 * y + 100 * x + 7]
+
+
+# The pictures, with the order of their bytes.
+PICTURES = {
+    "A.tif": (LITTLE, [Level(4, 4, grid, rows=4)]),
+    "three.tif": (LITTLE, [Level(3, 1, lambda x, y: [(10, 21, 30)[x]], rows=1, offset_type=SHORT)]),
+    "low.tif": (LITTLE, [Level(5, 4, lines_of_16_bits, 16, rows=3, offset_type=SHORT, stored=(1, 0))]),
+    "high.tif": (BIG, [Level(5, 4, lines_of_16_bits, 16, rows=3, offset_type=SHORT, stored=(1, 0))]),
+    "white.tif": (LITTLE, [Level(3, 2, lambda x, y: [20000 * c + 1000 * y + 100 * x + 9 for c in range(3)],
+                              16, WHITE_IS_ZERO, rows=1, offset_type=SHORT)]),
+    "tall.tif": (LITTLE, [Level(3, 7, lambda x, y: [30 * y + 10 * x + 5], rows=2, offset_type=SHORT)]),
+    "W.tif": (LITTLE, [Level(2, 1, lambda x, y: [(10, 250)[x], (20, 60)[x]], 8, WHITE_IS_ZERO, rows=1,
+                           offset_type=SHORT)]),
+    "pages.tif": (LITTLE, [Level(100, 80, lambda x, y: [7], rows=80)] * 2),
+    "B.tif": (BIG, [Level(80, 48, lambda x, y: [20000 * c + 100 * y + x for c in range(3)], 16, RGB,
+                          tile=(64, 32), spoken=True)]),
+    "seam.tif": (LITTLE, [Level(20, 18, lambda x, y: [11 * y + x, 200 - 5 * y - x], 8, WHITE_IS_ZERO,
+                             tile=(16, 16))]),
+    "wide.tif": (LITTLE, [Level(131072, 1, lambda x, y: [255 - x % 251], rows=1)]),
+    "wall.tif": (LITTLE, [wall(number) for number in range(11)]),
+    "noise.tif": (BIG, [Level(max(1, 77 >> n), max(1, 33 >> n),
+                              lambda x, y, n=n: [(40503 * x + 30011 * y + 20011 * n) * 2654435761 >> 16 & 65535],
+                              16, rows=5) for n in range(7)]),
+}
+
+# Files that are another one with some bytes changed, and the fault that this makes.
+CHANGED = {
+    "loop.tif": ("A.tif", 118, b"\x08", None),
+    "v43.tif": ("A.tif", 2, b"\x2b", "3"),
+    "dir.tif": ("A.tif", 4, b"\xff", "4"),
+    "tag.tif": ("A.tif", 22, b"\x05", "5 257"),
+    "type.tif": ("A.tif", 12, b"\x02", "6 256"),
+    "lzw.tif": ("A.tif", 54, b"\x05", "7 259 5"),
+    "zero.tif": ("A.tif", 18, b"\0", "8"),
+    "nine.tif": ("A.tif", 90, b"\x09", "9"),
+    "few.tif": ("A.tif", 102, b"\x02", "11"),
+    "end.tif": ("A.tif", 78, b"\x7b", "12 0 0"),
+}
+
+# Files that are another one cut short by so many bytes, and their faults.
+CUT = {"short.tif": ("A.tif", 131, "1"), "cut.tif": ("B.tif", 1, "12 0 3")}
+
+TEXTS = {"note.txt": (b"hello, reader", "2")}
+
+FAULTS = {name: it[-1] for them in (CHANGED, CUT, TEXTS) for name, it in them.items() if it[-1]}
+
+
+def files():
+    """The bytes of each file."""
+    made = {name: tiff(*picture) for name, picture in PICTURES.items()}
+    for name, (whole, at, changed, _) in CHANGED.items():
+        made[name] = made[whole][:at] + changed + made[whole][at + len(changed):]
+    for name, (whole, less, _) in CUT.items():
+        made[name] = made[whole][:-less]
+    return made | {name: text for name, (text, _) in TEXTS.items()}
+
+
+def levels_of(name):
+    """The levels that the file of a name stores: a page that is no half of the one before is none."""
+    whole = CHANGED[name][0] if name in CHANGED else name
+    found = PICTURES[whole][1]
+    stored = found[:1]
+    for level in found[1:]:
+        before = stored[-1]
+        if (level.width, level.height) != (max(1, before.width // 2), max(1, before.height // 2)):
+            break
+        stored.append(level)
+    return stored
+
+
+MOST_TEXELS = 2 ** 20
+
+
+def answer(request):
+    """What a request is answered: each file is met in its first generation."""
+    if request == "sync":
+        return ["sync"]
+    word = request.split(" ", 1)[0]
+    _, *numbers, name = request.split(" ", FIELDS[word] + 1)
+    if name not in PICTURES and name not in CHANGED and name not in FAULTS:
+        return ["no such file"]
+    if word == "pixels" and int(numbers[3]) * int(numbers[4]) > MOST_TEXELS:
+        return ["region too large"]
+    if name in FAULTS:
+        return ["bad file", GENERATION, FAULTS[name]]
+    return on_pages(word, numbers, levels_of(name))
+
+
+def requests():
+    """The requests of the list: its lines without those that are passed over."""
+    lines = (RUN / "stdin").read_text(encoding="utf-8").splitlines()
+    return [line for line in lines if line and not line.startswith("#")]
+
+
+def written():
+    """What it writes, by the path in the folder of the crate."""
+    lines = "".join(" ".join(map(str, answer(it))) + "\n" for it in requests())
+    return {f"data/{name}": data for name, data in files().items()} | {"stdout": lines.encode()}
+
+
+def main():
+    if sys.argv[1:] == ["--check"]:
+        wrong = [path for path, data in written().items() if (RUN / path).read_bytes() != data]
+        if wrong:
+            sys.exit(f"run_files.py would write otherwise: {' '.join(wrong)}")
+        print(f"run_files.py: the {len(requests())} answers of the stored run are those of the formulas")
+        return
+    for path, data in written().items():
+        (RUN / path).write_bytes(data)
+
+
+if __name__ == "__main__":
+    main()
