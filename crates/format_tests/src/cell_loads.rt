@@ -62,7 +62,7 @@ enum Wanted {
     Gone(u32),
 }
 
-/// The rectangle begins and ends near the corner of the level, and has this place.
+/// The rectangle has this place.
 fn is_at(rect: Rect, (x, y, w, h): Place) -> bool {
     rect.x == x && rect.y == y && rect.w == w && rect.h == h
 }

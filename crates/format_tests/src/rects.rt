@@ -126,7 +126,7 @@ static ROWS: &[Row] = &[
 fn reads_samples(rt: HostRuntime) -> Result<(), Fail> {
     for (what, file, level, place, wanted) in ROWS {
         let taken = taken_of(rt.alloc(), file, *level, *place)?;
-        assert_eq!(rt; taken.samples.as_slice(), *wanted, "{what}");
+        assert!(rt; taken.samples.as_slice() == *wanted, "{what}");
         assert_eq!(rt; taken.reads, 1, "{what}");
     }
     Ok(())
