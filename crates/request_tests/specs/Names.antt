@@ -13,4 +13,4 @@ with_umlaut = 0xc3 ∷ 0xa4 ∷ codes ".tif"
 abbrev pub file_names : List (List ℕ)
 file_names =
     codes "A.tif" ∷ codes "B.tif" ∷ codes "low.tif" ∷ codes "seam.tif"
-    ∷ codes "1 2" ∷ with_return ∷ with_umlaut ∷ []
+    ∷ codes "two.tif" ∷ codes "1 2" ∷ with_return ∷ with_umlaut ∷ []

@@ -158,18 +158,55 @@ fn says_what_was_met_at_a_byte(rt: HostRuntime) -> Result<(), Fail> {
     Ok(())
 }
 
-fn twice(alloc: Global, line: &str) -> Result<String, AllocError> {
-    format!(in alloc; "{line}\n{line}\n")
+const FAULT: &str = "read fault";
+
+fn two_lines(alloc: Global, first: &str, second: &str) -> Result<String, AllocError> {
+    format!(in alloc; "{first}\n{second}\n")
 }
 
-// The lines of a request twice, of which the first cannot be read, or else the second.
-fn fault_and_line(alloc: Global, line: &str, first: bool) -> Result<String, AllocError> {
-    if first {
-        format!(in alloc; "read fault\n{line}\n")
-    } else {
-        format!(in alloc; "{line}\nread fault\n")
-    }
-}
+/// A request, its line, and how many calls of the tap it takes.
+type Reads = (&'static str, &'static str, u64);
+
+/// How many calls, by what they are for: two open the file and read its header; two of each
+/// directory read its count, and its entries with the next offset; one is for each reading of
+/// values that stand apart; and the last ones read the region, rows of one strip or tile at once.
+static READS: &[Reads] = &[
+    (
+        // Both rows lie in one strip.
+        "pixels 0 1 0 2 2 A.tif",
+        "pixels 1 1 257 514 4369 4626",
+        2 + 2 + 1,
+    ),
+    (
+        // The last of three rows lies in a strip that stands before that of the others.
+        "pixels 0 4 1 2 3 low.tif",
+        "pixels 1 1 1407 0 2407 0 3407 0",
+        2 + 2 + 2,
+    ),
+    (
+        // BitsPerSample stands apart, its first value and all three, and TileOffsets. The region
+        // lies on four tiles, and has two rows of each.
+        "pixels 0 63 30 2 4 B.tif",
+        "pixels 1 3 3063 23063 43063 3064 23064 43064 3163 23163 43163 3164 23164 43164 \
+         3263 23263 43263 3264 23264 43264 3363 23363 43363 3364 23364 43364",
+        2 + 2 + 3 + 4,
+    ),
+    (
+        // TileOffsets stands apart. The region lies on four tiles.
+        "pixels 0 15 12 2 6 seam.tif",
+        "pixels 1 2 27756 32125 27499 31868 24929 30840 24672 30583 \
+         22102 29555 21845 29298 19275 28270 19018 28013 \
+         16448 26985 16191 26728 13621 25700 13364 25443",
+        2 + 2 + 1 + 4,
+    ),
+    (
+        // Level 1, behind two directories. The strip of its second row stands before that of its
+        // first, and the second column lies beside it.
+        "pixels 1 0 0 2 2 two.tif",
+        "pixels 1 1 51400 0 25700 0",
+        2 + 2 + 2 + 2,
+    ),
+];
 
 fn call_fails(
     rt: &impl Abort,
@@ -185,45 +222,29 @@ fn call_fails(
     Ok(())
 }
 
-// The calls of the tap where none fails.
-fn calls_of(rt: &impl Abort, alloc: Global, list: &str, written: &str) -> Result<u64, Fail> {
-    let ran = run_list(alloc, list, Failing::Nothing)?;
-    ran.is_calmly(rt, written, 0, list);
-    assert!(rt; ran.calls != 0, "in {list}");
-    Ok(ran.calls)
-}
-
-// Whichever call of the tap fails, its request is answered `read fault`, and the other one as ever.
-fn each_call_fails(rt: &impl Abort, alloc: Global, request: &str, line: &str) -> Result<(), Fail> {
-    let list = twice(alloc, request)?;
-    let calls = calls_of(rt, alloc, &list, &twice(alloc, line)?)?;
-    for call in 1..=calls {
-        let written = fault_and_line(alloc, line, call <= calls / 2)?;
-        call_fails(rt, alloc, &list, call, &written)?;
+// Of a request that is made twice: whichever call of the tap fails, its request is answered
+// `read fault`, and the other one as ever. There is no further call.
+fn each_call_fails(rt: &impl Abort, alloc: Global, reads: &Reads) -> Result<(), Fail> {
+    let (request, line, calls) = reads;
+    let list = two_lines(alloc, request, request)?;
+    let first = two_lines(alloc, FAULT, line)?;
+    for call in 1..=*calls {
+        call_fails(rt, alloc, &list, call, &first)?;
     }
+    let second = two_lines(alloc, line, FAULT)?;
+    let all = calls.saturating_mul(2);
+    for call in calls.saturating_add(1)..=all {
+        call_fails(rt, alloc, &list, call, &second)?;
+    }
+    let ran = run_list(alloc, &list, Failing::Tap(all.saturating_add(1)))?;
+    ran.is_calmly(rt, &two_lines(alloc, line, line)?, 0, request);
     Ok(())
 }
 
 #[test]
 fn says_which_read_failed(rt: HostRuntime) -> Result<(), Fail> {
-    let alloc = rt.alloc();
-    let (request, line) = ("pixels 0 1 0 2 2 A.tif", "pixels 1 1 257 514 4369 4626");
-    each_call_fails(&rt, alloc, request, line)?;
-    let request = "pixels 0 4 1 2 3 low.tif";
-    each_call_fails(&rt, alloc, request, "pixels 1 1 1407 0 2407 0 3407 0")
-}
-
-// The region lies on several tiles, and some of its rows are read ahead.
-#[test]
-fn says_which_read_of_tiles_failed(rt: HostRuntime) -> Result<(), Fail> {
-    let alloc = rt.alloc();
-    let request = "pixels 0 63 30 2 4 B.tif";
-    let line = "pixels 1 3 3063 23063 43063 3064 23064 43064 3163 23163 43163 3164 23164 43164 \
-                3263 23263 43263 3264 23264 43264 3363 23363 43363 3364 23364 43364";
-    each_call_fails(&rt, alloc, request, line)?;
-    let request = "pixels 0 15 12 2 6 seam.tif";
-    let line = "pixels 1 2 27756 32125 27499 31868 24929 30840 24672 30583 \
-                22102 29555 21845 29298 19275 28270 19018 28013 \
-                16448 26985 16191 26728 13621 25700 13364 25443";
-    each_call_fails(&rt, alloc, request, line)
+    for reads in READS {
+        each_call_fails(&rt, rt.alloc(), reads)?;
+    }
+    Ok(())
 }

@@ -35,7 +35,6 @@ pub(crate) struct Ran {
     moves: u64,
     pub(crate) made: u64,
     returned: u64,
-    pub(crate) calls: u64,
 }
 
 impl Ran {
@@ -128,7 +127,6 @@ fn run_words<T: FileTable>(
         moves: folder.moves(),
         made: folder.made(),
         returned: folder.returned(),
-        calls: folder.calls(),
     })
 }
 

@@ -7,7 +7,7 @@ ghost use Rattle.tex_world.specs.Names.{name_at, distinct_names};
 ghost use Rattle.request_tests.specs.Names.{file_names};
 ghost use Rattle.request_tests.specs.Tiles as tiles;
 ghost use Rattle.request_tests.specs.declared.small_files.TheConstants.{A, LATER, LOW};
-ghost use Rattle.request_tests.specs.declared.small_files.TheConstants.{B_START, SEAM_START};
+ghost use Rattle.request_tests.specs.declared.small_files.TheConstants.{B_START, SEAM_START, TWO};
 
 use tex_world::FileTable;
 
@@ -50,6 +50,25 @@ static LOW: [u8; 162] = [
     0x6b, 0x00, 0xcf, 0x00, 0x33, 0x01, 0x97, 0x01, 0xef, 0x03, 0x53, 0x04, //
     0xb7, 0x04, 0x1b, 0x05, 0x7f, 0x05, 0xd7, 0x07, 0x3b, 0x08, 0x9f, 0x08, //
     0x03, 0x09, 0x67, 0x09,
+];
+
+// Two levels of one channel, without the fields that have their defaults. Level 0 is 2 by 4 texels
+// in one strip, from 1 to 8. Level 1 is 1 by 2, of which each row is a strip: 200 above 100. The
+// strip of its last row stands before that of its first.
+static TWO: [u8; 138] = [
+    0x49, 0x49, 0x2a, 0x00, 0x08, 0x00, 0x00, 0x00, 0x04, 0x00, //
+    0x00, 0x01, 0x03, 0x00, 0x01, 0x00, 0x00, 0x00, 0x02, 0x00, 0x00, 0x00, //
+    0x01, 0x01, 0x03, 0x00, 0x01, 0x00, 0x00, 0x00, 0x04, 0x00, 0x00, 0x00, //
+    0x02, 0x01, 0x03, 0x00, 0x01, 0x00, 0x00, 0x00, 0x08, 0x00, 0x00, 0x00, //
+    0x11, 0x01, 0x03, 0x00, 0x01, 0x00, 0x00, 0x00, 0x80, 0x00, 0x00, 0x00, //
+    0x3e, 0x00, 0x00, 0x00, 0x05, 0x00, //
+    0x00, 0x01, 0x03, 0x00, 0x01, 0x00, 0x00, 0x00, 0x01, 0x00, 0x00, 0x00, //
+    0x01, 0x01, 0x03, 0x00, 0x01, 0x00, 0x00, 0x00, 0x02, 0x00, 0x00, 0x00, //
+    0x02, 0x01, 0x03, 0x00, 0x01, 0x00, 0x00, 0x00, 0x08, 0x00, 0x00, 0x00, //
+    0x11, 0x01, 0x03, 0x00, 0x02, 0x00, 0x00, 0x00, 0x89, 0x00, 0x88, 0x00, //
+    0x16, 0x01, 0x03, 0x00, 0x01, 0x00, 0x00, 0x00, 0x01, 0x00, 0x00, 0x00, //
+    0x00, 0x00, 0x00, 0x00, //
+    1, 2, 3, 4, 5, 6, 7, 8, 100, 200,
 ];
 
 // The header, the directory and its values of a picture in big-endian order: 80 by 48 texels of
@@ -176,13 +195,14 @@ fn byte_of_seam(at: u64) -> u8
     }
 }
 
-/// `A.tif` and `B.tif`, each in two generations, `low.tif`, `seam.tif`, and `A.tif` three times with
-/// another first sample, under names with a space, a carriage return and a letter that is not ASCII.
+/// `A.tif` and `B.tif`, each in two generations, `low.tif`, `seam.tif`, `two.tif`, and `A.tif`
+/// three times with another first sample, under names with a space, a carriage return and a letter
+/// that is not ASCII.
 #[derive(Drop)]
 pub(crate) struct SmallFiles;
 
 impl FileTable for SmallFiles {
-    ghost count_of = { 7 };
+    ghost count_of = { 8 };
 
     ghost name_of = { name_at file_names };
 
@@ -196,8 +216,9 @@ impl FileTable for SmallFiles {
         else if n == 2 then slice_index LOW at
         else if n == 3 then
         (if nat_lt at 138 then slice_index SEAM_START at else tiles.seam_byte (at - 138))
+        else if n == 4 then slice_index TWO at
         else if g == 2 && nat_le 122 at then slice_index LATER (at - 122)
-        else if nat_le 4 n && at == 122 then n + 3
+        else if nat_le 5 n && at == 122 then n + 2
         else slice_index A at };
 
     ghost few = { lit≤ tt };
@@ -205,7 +226,7 @@ impl FileTable for SmallFiles {
     ghost distinct = { distinct_names file_names refl };
 
     fn count() -> u32 {
-        7
+        8
     }
 
     fn name(n: u32) -> &'static str {
@@ -214,8 +235,9 @@ impl FileTable for SmallFiles {
             1 => "B.tif",
             2 => "low.tif",
             3 => "seam.tif",
-            4 => "1 2",
-            5 => " A\r.tif ",
+            4 => "two.tif",
+            5 => "1 2",
+            6 => " A\r.tif ",
             _ => "\u{e4}.tif",
         }
     }
@@ -239,8 +261,9 @@ impl FileTable for SmallFiles {
             1 => byte_of_tiled(g, at),
             2 => LOW[at as usize],
             3 => byte_of_seam(at),
+            4 => TWO[at as usize],
             _ if g == 2 && at >= 122 => LATER[(at - 122) as usize],
-            _ if n >= 4 && at == 122 => n as u8 + 3,
+            _ if n >= 5 && at == 122 => n as u8 + 2,
             _ => A[at as usize],
         }
     }

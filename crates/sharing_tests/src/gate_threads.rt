@@ -143,12 +143,26 @@ fn two_threads<R: Threads + Wait + Sync>(
     Ok((a?, b?))
 }
 
-// A thread's pin is given back, and its seat ends.
-fn give_back<T: Waiter>(gate: &OneGate, waiter: &T, held: Held) -> Result<(), Stop>
-    requires { HoldsAt gate.now.id held.pin.tile.key held.seat }
+// The seat once a thread's pin is given back and its seat is joined to it.
+fn taken_in<T: Waiter>(
+    gate: &OneGate,
+    waiter: &T,
+    seat: OneSeat,
+    held: Held,
+) -> Result<OneSeat, Stop>
+    requires idle { IsIdleAt gate.now.id seat }
+    requires one { HoldsAt gate.now.id held.pin.tile.key held.seat }
+    ensures { IfOk result (IsIdleAt gate.now.id) }
 {
+    let mut first = seat;
     let Held { mut seat, pin } = held;
-    unpin(gate, waiter, &mut seat, pin)
+    match unpin(gate, waiter, &mut seat, pin) {
+        Ok(()) => {
+            gate.join(&mut first, seat);
+            Ok(first)
+        }
+        Err(e) => Err(e),
+    }
 }
 
 // Whether a tile is there.
@@ -184,13 +198,14 @@ fn found<T: Waiter>(gate: &OneGate, waiter: &T, seat: &mut OneSeat) -> Result<u6
     Ok(found)
 }
 
-// What the shards have while each thread holds a pin, and after that, and how many keys then have a
-// tile.
+// What the shards have while each thread holds a pin, and after that, how many keys then have a
+// tile, and the permits of the one seat that is left.
 #[derive(Clone, Copy)]
 struct Left {
     held: [u64; 4],
     after: [u64; 4],
     found: u64,
+    permits: u32,
 }
 
 // What is left once all threads have ended.
@@ -212,12 +227,17 @@ fn left_by<T: Waiter>(
     let Held { mut seat, pin } = first;
     let held = counts(gate, waiter, &mut seat, shards)?;
     unpin(gate, waiter, &mut seat, pin)?;
-    give_back(gate, waiter, second)?;
-    give_back(gate, waiter, third)?;
-    give_back(gate, waiter, fourth)?;
+    let seat = taken_in(gate, waiter, seat, second)?;
+    let seat = taken_in(gate, waiter, seat, third)?;
+    let mut seat = taken_in(gate, waiter, seat, fourth)?;
     let after = counts(gate, waiter, &mut seat, shards)?;
     let found = found(gate, waiter, &mut seat)?;
-    Ok(Left { held, after, found })
+    Ok(Left {
+        held,
+        after,
+        found,
+        permits: seat.permits(),
+    })
 }
 
 // What four threads leave.
@@ -296,6 +316,7 @@ fn assert_left(rt: &impl Abort, left: Left, most: u64) {
     assert!(rt; tiles.saturating_mul(TILE_BYTES) == loose, "bytes without");
     assert!(rt; tiles == left.found, "a tile is found by its key");
     assert!(rt; tiles <= most, "what fits the shares");
+    assert!(rt; left.permits == 4, "one seat has all permits again");
 }
 
 // Of tiles of 1536 bytes four fit each share of 6666 bytes, and thirteen one of 20000.
