@@ -1,7 +1,8 @@
 //! Tests of what is read of a file, over small files in memory: the levels or the first fault of a
 //! file, its samples, the reads that it takes, and where its texels lie; keys, cells loaded through
-//! taps, the texels of a tile, and a shard call by call and beside a plain list. Expected values
-//! were worked out by hand from the rules, and no program's output is among them.
+//! taps, the texels of a tile, a shard call by call and beside a plain list, and the two latest
+//! items of a caller. Expected values were worked out by hand from the rules, and no program's
+//! output is among them.
 #![tactic(auto)]
 
 #[cfg(test)]
@@ -18,6 +19,8 @@ mod directory_rows;
 mod files;
 #[cfg(test)]
 mod keys;
+#[cfg(test)]
+mod latest_items;
 #[cfg(test)]
 mod layouts;
 #[cfg(test)]

@@ -1,0 +1,5 @@
+pub mod RecentLemmas
+pub mod HitLemmas
+pub mod ItemLemmas
+pub mod PlaceLemmas
+pub mod RunLemmas
