@@ -94,7 +94,7 @@ cut_level_in file cut l = record {
 abbrev pub cut_level_of : List ℕ → Cut → ℕ → CutLevel
 cut_level_of bytes cut l = cut_level_in (kept_of bytes) cut l
 
--- ---- the bytes of cells
+-- ---- the samples of texels, and the bytes of cells
 
 -- the samples of a texel, the same in each level
 abbrev pub channels_in : Kept → ℕ
@@ -102,6 +102,13 @@ channels_in file = (level_in file 0).shape.channels
 
 abbrev pub channels_of : List ℕ → ℕ
 channels_of bytes = channels_in (kept_of bytes)
+
+-- the bits of a sample, the same in each level
+abbrev pub bit_depth_in : Kept → ℕ
+bit_depth_in file = (level_in file 0).shape.depth
+
+abbrev pub bit_depth_of : List ℕ → ℕ
+bit_depth_of bytes = bit_depth_in (kept_of bytes)
 
 -- the bytes that a rectangle of texels takes in memory, with so many samples of 16 bits each
 abbrev pub rect_bytes : ℕ → Rect → ℕ

@@ -1,8 +1,9 @@
 -- Which number is each sample of a texel of a level? (docs/FORMAT.md, "Levels")
 -- Those of stored levels stand in the file. Each generated level is made of the one before it.
-use Rattle.std.specs.Prelude.{◌≡◌, ℕ, zero, suc, ◌+◌, ◌-◌, ◌*◌, ◌/◌, ◌<◌, min, nat_lt, List, length}
-use Rattle.std.specs.Prelude.{slice_index, if◌then◌else◌}
-use Rattle.tiff_dirs.specs.Texel.{sample_in}
+use Rattle.std.specs.Prelude.{◌≡◌, ℕ, zero, suc, ◌+◌, ◌-◌, ◌*◌, ◌/◌, ◌<◌, ◌≤◌, min, nat_lt, List}
+use Rattle.std.specs.Prelude.{length, slice_index, if◌then◌else◌}
+use Rattle.std.specs.List.{All}
+use Rattle.tiff_dirs.specs.Texel.{sample_in, greatest_sample}
 use Rattle.tile_layout.specs.declared.rect.Rect.{Rect}
 use Rattle.tile_layout.specs.Kept.{Kept, kept_of, stored_count, level_in}
 use Rattle.tile_layout.specs.Level.{width_in, height_in}
@@ -36,6 +37,10 @@ texel_in file bytes (suc l) x y c =
 -- the same of a file with these bytes
 abbrev pub texel_at : List ℕ → ℕ → ℕ → ℕ → ℕ → ℕ
 texel_at bytes l x y c = texel_in (kept_of bytes) bytes l x y c
+
+-- none of the samples is above the greatest of so many bits
+abbrev pub FitDepth : ℕ → List ℕ → Type 0
+FitDepth depth samples = All (λ sample. sample ≤ greatest_sample depth) samples
 
 -- ---- the texels of a rectangle
 

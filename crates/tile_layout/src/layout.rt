@@ -11,7 +11,7 @@ ghost use Rattle.tile_layout.specs.Pieces.{LiesOnLevel, walk_over};
 ghost use Rattle.tile_layout.specs.FormatOf.{IsFormatOf};
 ghost use Rattle.tile_layout.specs.Cell.{cell_width_by, cell_height_by, cut_level_in, cells_across};
 ghost use Rattle.tile_layout.specs.Cell.{cells_down, cell_count, cell_index, cell_rect, HoldsTexel};
-ghost use Rattle.tile_layout.specs.Cell.{CellsFit, pattern_shape, channels_in};
+ghost use Rattle.tile_layout.specs.Cell.{CellsFit, pattern_shape, channels_in, bit_depth_in};
 ghost use Rattle.tile_layout.specs.CutSide.{IsCellSide, max_cells};
 ghost use Rattle.tile_layout.specs.Grid.{shown_grid};
 ghost use Rattle.tile_layout.specs.WholeRows.{block_width, block_rows, AreWholeRows, StandsWhole};
@@ -110,6 +110,7 @@ impl Layout {
     /// The bits of a sample, the same in every level.
     pub fn depth(&self) -> u32
         ensures value { IsOfEach self.now (λ shape. shape.depth) result }
+        ensures first { result ≡ bit_depth_in self.now }
         ensures in_range { IsDepth result }
     {
         self.dirs.levels[0].depth
@@ -127,6 +128,7 @@ impl Layout {
     pub fn format(&self, level: u32) -> TexelFormat
         requires { level < stored_count self.now }
         ensures value { IsFormatOf self.now.big (level_in self.now level).shape result }
+        ensures depth { result.depth ≡ bit_depth_in self.now }
     {
         let dir = self.dir(level);
         let channels = dir.channels as usize;
@@ -249,6 +251,7 @@ impl Layout {
     fn dir(&self, level: u32) -> &Dir
         requires { level < stored_count self.now }
         ensures value { shown result.now ≡ level_in self.now level }
+        ensures depth { result.now.depth ≡ bit_depth_in self.now }
     {
         &self.dirs.levels[level as usize]
     }

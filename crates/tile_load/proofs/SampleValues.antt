@@ -1,9 +1,15 @@
 -- Samples that were unpacked, and their values.
-use Rattle.std.proofs.Common.{◌≡◌, ℕ, Bool, true, false, eqb, refl}
+use Rattle.std.proofs.Common.{◌≡◌, ℕ, ◌<◌, ◌≤◌, Bool, true, false, eqb, refl, List, ◌++◌, map}
+use Rattle.std.proofs.Common.{zero-add, arith}
+use Rattle.std.specs.List.{range_with_len}
 use Rattle.std.proofs.lemmas.Bool.{eqb-true, false≢true}
+use Rattle.std.proofs.lemmas.List.Elements.{All-append, All-from_get_or}
+use Rattle.std.proofs.lemmas.List.FromFn.{length-map-range_with_len, get_or-map-range_with_len}
 use Rattle.tiff_dirs.specs.Block.{LevelShape}
 use Rattle.tiff_dirs.specs.Facts.{IsDepth}
+use Rattle.tiff_dirs.specs.Texel.{greatest_sample}
 use Rattle.tile_layout.specs.FormatOf.{IsFormatOf}
+use Rattle.tile_layout.specs.Texel.{FitDepth}
 use Rattle.tile_layout.specs.declared.texel_format.TexelFormat.{TexelFormat}
 use Rattle.unpack.specs.Sample.{depth_of}
 use Rattle.tile_load.specs.SampleValue.{is_wide}
@@ -27,3 +33,14 @@ own_order big shape format is = record {
   channels = is.channels;
   invert = is.invert;
 }
+
+-- numbers that fit a depth, behind others that do
+pub fit_appended : (depth : ℕ) (old : List ℕ) (value : ℕ → ℕ) (count : ℕ) → FitDepth depth old
+    → ((k : ℕ) → k < count → value k ≤ greatest_sample depth)
+    → FitDepth depth (old ++ map value (range_with_len 0 count))
+fit_appended depth old value count fit each =
+    let more = map value (range_with_len 0 count) in
+    All-append (λ sample. sample ≤ greatest_sample depth) old more fit
+    (All-from_get_or (λ sample. sample ≤ greatest_sample depth) more 0 (λ k lt.
+    let below : k < count = omega (arith, length-map-range_with_len value 0 count) in
+    rw (get_or-map-range_with_len value 0 count k k 0 below (zero-add k)) (each k below)))

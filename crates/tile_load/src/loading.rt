@@ -3,10 +3,10 @@
 ghost use Rattle.std.specs.Prelude.{◌≡◌, ◌*◌, length, IfOk, IsOkAnd};
 ghost use Rattle.std.specs.Option.{ForSome};
 ghost use Rattle.tap_reader.specs.TapReader.{lent_of};
-ghost use Rattle.tile_layout.specs.Cell.{CellsFit};
+ghost use Rattle.tile_layout.specs.Cell.{CellsFit, bit_depth_in};
 ghost use Rattle.tile_layout.specs.Cut.{IsCut};
 ghost use Rattle.tile_layout.specs.Kept.{level_in};
-ghost use Rattle.tile_layout.specs.Texel.{texel_at, AreTexelsOn};
+ghost use Rattle.tile_layout.specs.Texel.{texel_at, AreTexelsOn, FitDepth};
 ghost use Rattle.tile_load.specs.Load.{IsLayoutOf, IsReadBy, NamesCell};
 ghost use Rattle.tile_load.specs.CellTile.{IsCellTile};
 ghost use Rattle.tile_load.specs.LoadError.{LeavesTap};
@@ -105,6 +105,8 @@ fn read_place<T: Tap>(
         (λ bytes. IsLayoutOf bytes place.now.layout.now) }
     ensures count { IfOk result (λ texels. length texels.items ≡ place.now.rect.w
         * place.now.rect.h * (level_in place.now.layout.now place.now.level).shape.channels) }
+    ensures low { IfOk result (λ texels.
+        FitDepth (bit_depth_in place.now.layout.now) texels.items) }
     ensures told { ForSome (T.W.files.held (T.Handle.named handle.old).file
         (T.Handle.named handle.old).generation) (λ bytes. IfOk result (λ texels.
         AreTexelsOn (texel_at bytes place.now.level)

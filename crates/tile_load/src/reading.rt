@@ -9,6 +9,7 @@ ghost use Rattle.tile_layout.specs.Pieces.{LiesSideBySide, row_texels, rect_texe
 ghost use Rattle.tile_layout.specs.FormatOf.{IsFormatOf};
 ghost use Rattle.tile_layout.specs.Blocks.{HoldsBlocks};
 ghost use Rattle.tile_load.specs.LevelRow.{values_at};
+ghost use Rattle.tile_load.specs.SampleValue.{KeepsDepth};
 ghost use Rattle.tile_load.specs.Window.{AreWindows};
 ghost use Rattle.tile_load.specs.RegionRead.{LeavesRegion};
 
@@ -96,6 +97,8 @@ impl Reading {
         ensures next { OnOk result (k < length self.new.windows.items) }
         ensures count { OnOk result (length self.new.values.items
             ≡ length self.old.values.items + piece.now.n * unpacking.now.format.channels) }
+        ensures low { OnOk result (KeepsDepth unpacking.now
+            self.old.values.items self.new.values.items) }
         ensures told { ForSome (B.bytes reader.old) (λ bytes. (level : Level) → (right : ℕ)
             → AreWindows bytes self.old.windows.items
             → IsFormatOf unpacking.now.format.big level.shape unpacking.now.format
@@ -132,6 +135,8 @@ impl Reading {
     ) -> Result<(), RegionError<B::Error>>
         ensures count { OnOk result (length self.new.values.items ≡ length self.old.values.items
             + length pieces.old.texels * unpacking.now.format.channels) }
+        ensures low { OnOk result (KeepsDepth unpacking.now
+            self.old.values.items self.new.values.items) }
         ensures told { ForSome (B.bytes reader.old) (λ bytes.
             AreWindows bytes self.old.windows.items
             → IsFormatOf unpacking.now.format.big pieces.old.level.shape unpacking.now.format
@@ -165,6 +170,8 @@ impl Reading {
         ensures count { OnOk result (length self.new.values.items
             ≡ length self.old.values.items
             + place.now.rect.w * place.now.rect.h * unpacking.now.format.channels) }
+        ensures low { OnOk result (KeepsDepth unpacking.now
+            self.old.values.items self.new.values.items) }
         ensures told { ForSome (B.bytes reader.old) (λ bytes.
             AreWindows bytes self.old.windows.items
             → HoldsBlocks bytes (level_in place.now.layout.now place.now.level)

@@ -4,9 +4,10 @@ ghost use Rattle.std.specs.Prelude.{◌≡◌, ◌*◌, ◌<◌, length, IfOk};
 ghost use Rattle.std.specs.Option.{ForSome};
 ghost use Rattle.tiff_dirs.specs.Texel.{sample_in};
 ghost use Rattle.tile_layout.specs.Blocks.{HoldsBlocks};
+ghost use Rattle.tile_layout.specs.Cell.{bit_depth_in};
 ghost use Rattle.tile_layout.specs.Kept.{stored_count, level_in};
 ghost use Rattle.tile_layout.specs.Pieces.{LiesOnLevel};
-ghost use Rattle.tile_layout.specs.Texel.{AreTexelsOn};
+ghost use Rattle.tile_layout.specs.Texel.{AreTexelsOn, FitDepth};
 ghost use Rattle.tile_load.specs.RegionRead.{LeavesRegion};
 
 use crate::place::Place;
@@ -33,6 +34,7 @@ pub fn read_rect<B: ByteReader>(
     requires inside { LiesOnLevel layout.now level rect }
     ensures count { IfOk result (λ samples. length samples.items
         ≡ rect.w * rect.h * (level_in layout.now level).shape.channels) }
+    ensures low { IfOk result (λ samples. FitDepth (bit_depth_in layout.now) samples.items) }
     ensures told { ForSome (B.bytes reader.old) (λ bytes.
         HoldsBlocks bytes (level_in layout.now level)
         → IfOk result (λ samples. AreTexelsOn

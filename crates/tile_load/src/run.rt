@@ -10,6 +10,7 @@ ghost use Rattle.tile_layout.specs.Pieces.{LiesOnLevel};
 ghost use Rattle.tile_layout.specs.WholeRows.{StandsWhole};
 ghost use Rattle.tile_load.specs.RegionRead.{LeavesRegion};
 ghost use Rattle.tile_load.specs.Run.{AppendsRun, AppendsValues, StandSideBySide};
+ghost use Rattle.tile_load.specs.SampleValue.{KeepsDepth};
 ghost use Rattle.tile_load.specs.Window.{IsWindow};
 
 use crate::reading::MAX_AHEAD;
@@ -75,6 +76,7 @@ fn read_part<B: ByteReader>(
     requires { part.now.at + part.now.texels * unpacking.now.format.texel_bytes < 2 ^ 64 }
     ensures count { OnOk result (length values.new.items
         ≡ length values.old.items + part.now.texels * unpacking.now.format.channels) }
+    ensures low { OnOk result (KeepsDepth unpacking.now values.old.items values.new.items) }
     ensures told { ForSome (B.bytes reader.old) (λ bytes.
         IsWindow bytes window.old
         → part.now.at + part.now.texels * unpacking.now.format.texel_bytes ≤ length bytes
@@ -114,6 +116,7 @@ pub(crate) fn read_run<B: ByteReader>(
     requires { run.now.at + run.now.texels * unpacking.now.format.texel_bytes < 2 ^ 64 }
     ensures count { OnOk result (length values.new.items
         ≡ length values.old.items + run.now.texels * unpacking.now.format.channels) }
+    ensures low { OnOk result (KeepsDepth unpacking.now values.old.items values.new.items) }
     ensures told { ForSome (B.bytes reader.old) (λ bytes.
         (level : Level) → (x_of y_of : ℕ → ℕ)
         → IsFormatOf unpacking.now.format.big level.shape unpacking.now.format

@@ -6,7 +6,7 @@ ghost use Rattle.std.specs.List.{range_with_len};
 ghost use Rattle.tiff_dirs.specs.Block.{sample_bytes};
 ghost use Rattle.tiff_dirs.specs.Texel.{greatest_sample, value_of};
 ghost use Rattle.unpack.specs.Sample.{depth_of};
-ghost use Rattle.tile_load.specs.SampleValue.{is_wide, unpacked_value};
+ghost use Rattle.tile_load.specs.SampleValue.{is_wide, unpacked_value, KeepsDepth};
 
 use crate::unpacking::Unpacking;
 use std::alloc::AllocError;
@@ -59,6 +59,8 @@ fn unpack_values(unpacking: &Unpacking, bytes: &[u8], values: &mut [u16])
     ensures long { length values.new ≡ length values.old }
     ensures values { (k : ℕ) → k < length values.new
         → slice_index values.new k ≡ unpacked_value unpacking.now bytes.now k }
+    ensures low { unpacking.now.scaled ≡ false → (k : ℕ) → k < length values.new
+        → slice_index values.new k ≤ greatest_sample unpacking.now.format.depth }
 {
     let format = &unpacking.format;
     let wide = is_wide(format);
@@ -77,6 +79,8 @@ fn unpack_behind(unpacking: &Unpacking, bytes: &[u8], from: usize, values: &mut 
     ensures before { (k : ℕ) → k < from → slice_index values.new k ≡ slice_index values.old k }
     ensures values { (k : ℕ) → from + k < length values.new
         → slice_index values.new (from + k) ≡ unpacked_value unpacking.now bytes.now k }
+    ensures low { unpacking.now.scaled ≡ false → (k : ℕ) → from + k < length values.new
+        → slice_index values.new (from + k) ≤ greatest_sample unpacking.now.format.depth }
 {
     unpack_values(unpacking, bytes, &mut values[from..]);
 }
@@ -89,8 +93,9 @@ pub(crate) fn push_samples(
     count: usize,
 ) -> Result<(), AllocError>
     requires { length bytes.now ≡ sample_bytes unpacking.now.format.depth * count }
-    ensures { OnOk result (values.new.items ≡ values.old.items
+    ensures values { OnOk result (values.new.items ≡ values.old.items
         ++ map (unpacked_value unpacking.now bytes.now) (range_with_len 0 count)) }
+    ensures low { OnOk result (KeepsDepth unpacking.now values.old.items values.new.items) }
 {
     let old = values.len();
     values.reserve(count)?;

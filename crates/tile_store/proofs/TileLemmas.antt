@@ -2,14 +2,15 @@
 use Rattle.std.proofs.Common.{◌≡◌, ℕ, ◌+◌, ◌-◌, ◌*◌, ◌<◌, ◌≤◌, List, length, get_or, take, drop, Option, Some, None}
 use Rattle.std.proofs.Common.{ap, ◌∙◌, arith, IsSomeAnd, length-take, length-drop}
 use Rattle.std.proofs.lemmas.List.{get_or-take, get_or-drop, get_or_default}
+use Rattle.std.proofs.lemmas.List.Elements.{All-get_or}
 use Rattle.std.proofs.lemmas.Nat.{mul-add-lt, mul-le}
 use Rattle.std.proofs.Math.Nat.{add-mul, mul_comm}
+use Rattle.tiff_dirs.specs.Texel.{greatest_sample}
 use Rattle.tex_world.specs.World.{Files}
-use Rattle.tile_layout.specs.Cell.{HoldsTexel}
-use Rattle.tile_layout.specs.Key.{generation_of, file_of, level_of}
-use Rattle.tile_layout.specs.Texel.{texel_at}
+use Rattle.tile_layout.specs.Cell.{HoldsTexel, bit_depth_of}
+use Rattle.tile_layout.specs.Key.{generation_of, file_of}
 use Rattle.tile_store.specs.Tile.{CachedTile, IsTile, place_in, kept_sample, HoldsRow, AreSamples}
-use Rattle.tile_store.specs.Told.{IsOfBytes, IsTold, IsToldSample, AreToldSamples}
+use Rattle.tile_store.specs.Told.{IsOfBytes, IsTold, IsSampleOf, IsToldSample, AreToldSamples}
 
 -- the samples of n texels of a row end within those of the tile
 pub row_ends : (tile : CachedTile) (x y n : ℕ) → IsTile tile → HoldsRow tile x y n
@@ -64,9 +65,22 @@ row_samples tile x y n is row =
           ∙ ap (λ k. get_or tile.texels k 0) (omega arith);
     }
 
-module _ (files : Files) (tile : CachedTile) (told : IsTold files tile) where
+-- a sample of a texel of the tile stands before the end
+sample_within : (tile : CachedTile) (x y c : ℕ) → IsTile tile → HoldsTexel tile.rect x y
+    → c < tile.channels → place_in tile x y + c < length tile.texels
+sample_within tile x y c is inside channel =
+    let right = inside.right in
+    let row : HoldsRow tile x y 1 = record {
+      left = inside.left;
+      right = omega arith;
+      top = inside.top;
+      bottom = inside.bottom;
+    } in
+    omega (arith, row_ends tile x y 1 is row)
+
+module _ (files : Files) (tile : CachedTile) (is : IsTile tile) (told : IsTold files tile) where
   sample_of : (x y c : ℕ) → HoldsTexel tile.rect x y → c < tile.channels → (bytes : List ℕ)
-      → IsOfBytes bytes tile → kept_sample tile x y c ≡ texel_at bytes (level_of tile.key) x y c
+      → IsOfBytes bytes tile → IsSampleOf bytes tile.key x y c (kept_sample tile x y c)
   sample_of x y c inside channel bytes h =
       let left = inside.left in
       let right = inside.right in
@@ -75,11 +89,15 @@ module _ (files : Files) (tile : CachedTile) (told : IsTold files tile) where
       let across : tile.rect.x + (x - tile.rect.x) ≡ x = omega arith in
       let down : tile.rect.y + (y - tile.rect.y) ≡ y = omega arith in
       let same = h.texels.each (x - tile.rect.x) (y - tile.rect.y) c (omega arith) (omega arith) channel in
-      rw (across, down) at same
+      record {
+        value = rw (across, down) at same;
+        low = All-get_or (λ sample. sample ≤ greatest_sample (bit_depth_of bytes)) tile.texels
+            (place_in tile x y + c) 0 (sample_within tile x y c is inside channel) h.low;
+      }
 
   sample_held : (x y c : ℕ) → HoldsTexel tile.rect x y → c < tile.channels
       → (held : Option (List ℕ)) → IsSomeAnd held (λ bytes. IsOfBytes bytes tile)
-      → IsSomeAnd held (λ bytes. kept_sample tile x y c ≡ texel_at bytes (level_of tile.key) x y c)
+      → IsSomeAnd held (λ bytes. IsSampleOf bytes tile.key x y c (kept_sample tile x y c))
   sample_held x y c inside channel None h = h
   sample_held x y c inside channel (Some bytes) h = sample_of x y c inside channel bytes h
 
@@ -93,7 +111,7 @@ module _ (files : Files) (tile : CachedTile) (told : IsTold files tile) where
   samples_held : (x y n : ℕ) (samples : List ℕ) → HoldsRow tile x y n → AreSamples tile x y n samples
       → (held : Option (List ℕ)) → IsSomeAnd held (λ bytes. IsOfBytes bytes tile)
       → IsSomeAnd held (λ bytes. (i c : ℕ) → i < n → c < tile.channels
-      → get_or samples (i * tile.channels + c) 0 ≡ texel_at bytes (level_of tile.key) (x + i) y c)
+      → IsSampleOf bytes tile.key (x + i) y c (get_or samples (i * tile.channels + c) 0))
   samples_held x y n samples row are None h = h
   samples_held x y n samples row are (Some bytes) h = λ i c i_in c_in.
       let left = row.left in
@@ -104,7 +122,7 @@ module _ (files : Files) (tile : CachedTile) (told : IsTold files tile) where
         top = row.top;
         bottom = row.bottom;
       } in
-      are.each i c i_in c_in ∙ sample_of (x + i) y c inside c_in bytes h
+      rw (are.each i c i_in c_in) (sample_of (x + i) y c inside c_in bytes h)
 
   -- and the samples of a row are those of the level
   pub told_samples : (x y n : ℕ) (samples : List ℕ) → HoldsRow tile x y n
@@ -118,14 +136,6 @@ pub sample_read : (tile : CachedTile) (x y c : ℕ) (items : List ℕ) (place r 
     → HoldsTexel tile.rect x y → c < tile.channels → items ≡ tile.texels → place ≡ place_in tile x y
     → r ≡ get_or items (place + c) r → r ≡ kept_sample tile x y c
 sample_read tile x y c items place r is inside channel same from h =
-    let right = inside.right in
-    let row : HoldsRow tile x y 1 = record {
-      left = inside.left;
-      right = omega arith;
-      top = inside.top;
-      bottom = inside.bottom;
-    } in
-    let ends = row_ends tile x y 1 is row in
-    let within : place_in tile x y + c < length tile.texels = omega arith in
+    let within = sample_within tile x y c is inside channel in
     let read : r ≡ get_or tile.texels (place_in tile x y + c) r = rw (same, from) at h in
     read ∙ get_or_default tile.texels (place_in tile x y + c) r 0 within

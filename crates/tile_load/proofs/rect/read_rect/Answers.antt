@@ -1,6 +1,8 @@
-use Rattle.std.proofs.Common.{◌≡◌, ◌*◌, length, ap, ◌∙◌, arith}
-use Rattle.tiff_dirs.specs.Texel.{sample_in}
+use Rattle.std.proofs.Common.{◌≡◌, ◌*◌, ◌≤◌, length, ap, ◌∙◌, arith, refl}
+use Rattle.std.proofs.lemmas.List.Elements.{All-nil}
+use Rattle.tiff_dirs.specs.Texel.{sample_in, greatest_sample}
 use Rattle.tile_layout.specs.Kept.{level_in}
+use Rattle.tile_layout.specs.Texel.{FitDepth}
 use Rattle.tile_load.proofs.RectValues.{are_texels}
 use Rattle.tile_load.proofs.rect.read_rect.Goals as goal
 
@@ -27,3 +29,11 @@ returns-clause-told g c = λ bytes told holds.
     let all = rw (c.reserve.ensures.values, c.new-reading.ensures.values) at read in
     are_texels (sample_in big bytes level) level.shape.channels c.args.rect
     c.read_place.new.self.values.items all.1
+
+pub returns-clause-low : goal.returns-clause-low
+returns-clause-low g c =
+    let depth = c.format-format.result.depth in
+    let none : FitDepth depth c.reserve.new.self.values.items =
+    rw (c.reserve.ensures.values, c.new-reading.ensures.values)
+    (All-nil (λ sample. sample ≤ greatest_sample depth)) in
+    rw c.format-format.ensures.depth at (c.in_ok-read_place.ensures.low refl none)

@@ -10,6 +10,6 @@ returns-clause-count g c =
     let old = c.args.values.now.items in
     let count = c.args.part.now.texels * c.args.unpacking.now.format.channels in
     let value : ℕ → ℕ = unpacked_value c.args.unpacking.now c.piece.result.now in
-    ap length c.in_ok-push_samples.ensures
+    ap length c.in_ok-push_samples.ensures.values
     ∙ length-append old (map value (range_with_len 0 count))
     ∙ ap (λ n. length old + n) (length-map-range_with_len value 0 count)

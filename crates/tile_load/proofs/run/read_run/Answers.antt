@@ -30,6 +30,7 @@ parts-init g c = record {
   keeps = g.met.B.ByteReader.lawful.itself c.args.reader.now;
   within = omega arith;
   count = omega arith;
+  low = λ unscaled fit. fit;
   told = λ bytes told inside. (
     c.new-window.ensures bytes,
     λ level x_of y_of is stand.
@@ -52,6 +53,7 @@ parts-preserved g c =
       keeps = g.met.B.ByteReader.lawful.chains _ _ _ before.keeps c.in_ok-read_part.ensures.reader;
       within = within;
       count = omega (arith, before.count, c.in_ok-read_part.ensures.count);
+      low = λ unscaled fit. c.in_ok-read_part.ensures.low unscaled (before.low unscaled fit);
       told = λ bytes told inside.
           let so_far = before.told bytes told inside in
           let still = g.met.B.ByteReader.lawful.same_bytes _ _ before.keeps ∙ told in

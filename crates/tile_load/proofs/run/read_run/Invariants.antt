@@ -3,6 +3,7 @@ use Rattle.std.specs.Option.{ForSome}
 use Rattle.tiff_dirs.specs.Block.{Level}
 use Rattle.tile_layout.specs.FormatOf.{IsFormatOf}
 use Rattle.tile_load.specs.Run.{AppendsValues, StandSideBySide}
+use Rattle.tile_load.specs.SampleValue.{KeepsDepth}
 use Rattle.tile_load.specs.Window.{IsWindow}
 use Rattle.tile_load.proofs.run.read_run.Given as goal
 
@@ -13,6 +14,7 @@ invariant-parts g l = record {
   within : l.done ≤ l.run.texels;
   count : length l.values.items
       ≡ length l.initial.values.items + l.done * l.unpacking.format.channels;
+  low : KeepsDepth l.unpacking l.initial.values.items l.values.items;
   told : ForSome (g.B.ByteReader.bytes l.initial.reader) (λ bytes.
       l.run.at + l.run.texels * l.unpacking.format.texel_bytes ≤ length bytes
       → IsWindow bytes l.window × ((level : Level) → (x_of y_of : ℕ → ℕ)

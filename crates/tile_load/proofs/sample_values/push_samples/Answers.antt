@@ -1,12 +1,16 @@
-use Rattle.std.proofs.Common.{◌≡◌, ℕ, ◌+◌, List, ◌++◌, length, take, drop, slice_index, ap}
-use Rattle.std.proofs.Common.{◌∙◌, arith, sym}
+use Rattle.std.proofs.Common.{◌≡◌, ℕ, ◌+◌, ◌<◌, ◌≤◌, List, ◌++◌, length, map, take, drop}
+use Rattle.std.proofs.Common.{slice_index, ap, ◌∙◌, arith, sym}
+use Rattle.std.specs.List.{range_with_len}
 use Rattle.std.proofs.Math.Seq.{take-append_seam}
+use Rattle.std.proofs.lemmas.List.Elements.{All-same}
+use Rattle.tiff_dirs.specs.Texel.{greatest_sample}
 use Rattle.tile_load.specs.SampleValue.{unpacked_value}
 use Rattle.tile_load.proofs.Appended.{is_appended}
+use Rattle.tile_load.proofs.SampleValues.{fit_appended}
 use Rattle.tile_load.proofs.sample_values.push_samples.Goals as goal
 
-pub returns : goal.returns
-returns c =
+pub returns-clause-values : goal.returns-clause-values
+returns-clause-values c =
     let value : ℕ → ℕ = unpacked_value c.args.unpacking.now c.args.bytes.now in
     let old = c.args.values.now.items in
     let new = c.unpack_behind.new.values in
@@ -22,3 +26,17 @@ returns c =
     ∙ grind (arith, c.in_ok-resize.ensures.items, c.in_ok-reserve.ensures.items))
     (λ k lt. ap (λ (n : ℕ). slice_index new (n + k)) (sym from)
     ∙ c.unpack_behind.ensures.values k (omega arith))
+
+pub returns-clause-low : goal.returns-clause-low
+returns-clause-low c = λ unscaled fit.
+    let unpacking = c.args.unpacking.now in
+    let value : ℕ → ℕ = unpacked_value unpacking c.args.bytes.now in
+    let old = c.args.values.now.items in
+    let new = c.unpack_behind.new.values in
+    let long : length new ≡ length old + c.args.count =
+    omega (arith, c.in_ok-resize.ensures.len, c.len-old.ensures) in
+    All-same (λ sample. sample ≤ greatest_sample unpacking.format.depth) _
+    (old ++ map value (range_with_len 0 c.args.count)) (returns-clause-values c)
+    (fit_appended unpacking.format.depth old value c.args.count fit (λ k lt.
+    let below : c.len-old.result + k < length new = omega (arith, c.len-old.ensures, long) in
+    rw (← c.unpack_behind.ensures.values k below) (c.unpack_behind.ensures.low unscaled k below)))

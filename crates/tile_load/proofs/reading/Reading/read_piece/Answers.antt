@@ -35,7 +35,7 @@ returns-clause-told g c = λ bytes told level right windows is lies holds.
     unit in
     let values : ℕ → ℕ = unpacked_value c.args.unpacking.now span in (
       window_set bytes list c.args.k c.fill.new.self ready new,
-      c.in_ok-push_samples.ensures
+      c.in_ok-push_samples.ensures.values
           ∙ ap (λ (v : List ℕ). c.args.self.now.values.items ++ v)
           (ap (λ (n : ℕ). map values (range_with_len 0 (piece.n * n))) is.channels
           ∙ piece_values format.big bytes level c.args.unpacking.now is right piece lies span
@@ -47,6 +47,6 @@ returns-clause-count g c =
     let old = c.args.self.now.values.items in
     let count = c.args.piece.now.n * c.args.unpacking.now.format.channels in
     let value : ℕ → ℕ = unpacked_value c.args.unpacking.now c.piece.result.now in
-    ap length c.in_ok-push_samples.ensures
+    ap length c.in_ok-push_samples.ensures.values
     ∙ length-append old (map value (range_with_len 0 count))
     ∙ ap (λ n. length old + n) (length-map-range_with_len value 0 count)

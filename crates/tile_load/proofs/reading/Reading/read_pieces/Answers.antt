@@ -27,6 +27,7 @@ pieces-init g c = record {
   some = omega arith;
   level = refl;
   count = refl;
+  low = λ unscaled fit. fit;
   told = λ bytes told windows format holds. (windows, refl);
 }
 
@@ -45,6 +46,7 @@ pieces-preserved g c =
         ap (λ n. n * c.args.unpacking.now.format.channels)
             (length_taken c.pieces.pieces c.in-Some.piece c.next.new.self takes),
       );
+      low = λ unscaled fit. c.in_ok-read_piece.ensures.low unscaled (before.low unscaled fit);
       told = λ bytes told windows format holds.
           let so_far = before.told bytes told windows format holds in
           let still = g.met.B.ByteReader.lawful.same_bytes _ _ before.keeps ∙ told in

@@ -4,6 +4,7 @@ use Rattle.std.specs.List.{flat_map}
 use Rattle.tile_layout.specs.FormatOf.{IsFormatOf}
 use Rattle.tile_layout.specs.Blocks.{HoldsBlocks}
 use Rattle.tile_load.specs.LevelRow.{values_at}
+use Rattle.tile_load.specs.SampleValue.{KeepsDepth}
 use Rattle.tile_load.specs.Window.{AreWindows}
 use Rattle.tile_load.proofs.reading.Reading.read_pieces.Given as goal
 
@@ -16,6 +17,7 @@ invariant-pieces g l = record {
   count : length l.self.values.items + length l.pieces.texels * l.unpacking.format.channels
       ≡ length l.initial.self.values.items
       + length l.initial.pieces.texels * l.unpacking.format.channels;
+  low : KeepsDepth l.unpacking l.initial.self.values.items l.self.values.items;
   told : ForSome (g.B.ByteReader.bytes l.initial.reader) (λ bytes.
       AreWindows bytes l.initial.self.windows.items
       → IsFormatOf l.unpacking.format.big l.initial.pieces.level.shape l.unpacking.format

@@ -31,5 +31,6 @@ pub returns-clause-told : goal.returns-clause-told
 returns-clause-told g c =
     let told : IsTold g.W.World.files c.args.self.now =
     subst (IsTold g.W.World.files) c.self.view_is c.self.invariant.told in
-    told_samples g.W.World.files c.args.self.now told c.args.x c.args.y c.args.n _ c.requires
+    let is : IsTile c.args.self.now = subst IsTile c.self.view_is c.self.invariant.shape in
+    told_samples g.W.World.files c.args.self.now is told c.args.x c.args.y c.args.n _ c.requires
     (returns-clause-value g c)

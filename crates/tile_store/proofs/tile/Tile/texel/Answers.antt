@@ -17,5 +17,6 @@ pub returns-clause-told : goal.returns-clause-told
 returns-clause-told g c =
     let told : IsTold g.W.World.files c.args.self.now =
     subst (IsTold g.W.World.files) c.self.view_is c.self.invariant.told in
-    rw (value g c) (told_sample g.W.World.files c.args.self.now told c.args.x c.args.y c.args.c
+    let is : IsTile c.args.self.now = subst IsTile c.self.view_is c.self.invariant.shape in
+    rw (value g c) (told_sample g.W.World.files c.args.self.now is told c.args.x c.args.y c.args.c
     c.requires.inside c.requires.channel)
