@@ -128,7 +128,8 @@ impl<W: World> Record<W> {
     /// How a level is cut into cells.
     pub fn grid(&self, level: u32) -> Grid
         requires { HasCutLevel self.now level }
-        ensures { CutsLevel self.now level result }
+        ensures value { CutsLevel self.now level result }
+        ensures few { level < max_levels }
     {
         self.grids[level as usize]
     }
