@@ -1,0 +1,4 @@
+mod PinnedLemmas
+mod ValueLemmas
+mod CellLemmas
+mod TexelLemmas

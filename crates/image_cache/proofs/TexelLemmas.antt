@@ -1,0 +1,119 @@
+-- What a texel of a record is answered, by the tile of its cell.
+use Rattle.std.proofs.Common.{◌≡◌, ℕ, Bool, true, false, refl, ap, subst, ◌∙◌, List, Result, Ok}
+use Rattle.std.proofs.Common.{Err, Option, Some, ◌<◌, ◌≤◌, nat_lt, arith}
+use Rattle.std.proofs.lemmas.Bool.{ltb-true, ltb-false}
+use Rattle.tex_world.specs.Counts.{Rises, last_count}
+use Rattle.tex_world.specs.Tap.{TapState}
+use Rattle.gen_board.specs.View.{ViewState}
+use Rattle.image_cache.specs.declared.error.CacheError.{CacheError}
+use Rattle.image_cache.specs.declared.error.CacheError.TheVariants as refused
+use Rattle.std.specs.Prelude.{IsOkAnd, IfOk, IsSomeAnd, IsTrue}
+use Rattle.tex_world.specs.World.{Files, IsWorld}
+use Rattle.tiff_dirs.specs.declared.fault.TiffFault.{TiffFault}
+use Rattle.tile_layout.specs.Key.{generation_of, file_of, level_of}
+use Rattle.tile_layout.specs.Kept.{Kept}
+use Rattle.tile_layout.specs.Cell.{bit_depth_in, bit_depth_of}
+use Rattle.tile_store.specs.Tile.{CachedTile}
+use Rattle.file_table.specs.Record.{RecordState, IsRecord}
+use Rattle.tile_load.proofs.KnownLayouts.{layout_told}
+use Rattle.image_cache.specs.declared.texel.TexelAt.{TexelAt}
+use Rattle.image_cache.specs.declared.texel.CellAt.{CellAt}
+use Rattle.image_cache.specs.Texel.{IsCellIn, IsCellAt, IsCellUnder, cell_of, AreValuesAt, AreToldValues}
+use Rattle.image_cache.specs.Call.{AsksFor, AsksForCellAt, NoneFalls, FetchCause}
+
+-- a world that holds bytes tells
+tells_of : (files : Files) → IsWorld files → (n g : ℕ) (bytes : List ℕ)
+    → files.held n g ≡ Some bytes → IsTrue files.tells
+tells_of files world n g bytes held = by files.tells refl
+  where
+    by : (tells : Bool) → files.tells ≡ tells → tells ≡ true
+    by true is = refl
+    by false is = absurd (cc (world.untold is n g, held))
+
+-- what is so of the bytes that are held
+of_held : (o : Option (List ℕ)) (bytes : List ℕ) (P : List ℕ → Type 0) → o ≡ Some bytes
+    → IsSomeAnd o P → P bytes
+of_held o bytes P is holds = subst (λ (q : Option (List ℕ)). IsSomeAnd q P) is holds
+
+-- the bits of a sample are those of the bytes of the record
+depth_told : (files : Files) (state : RecordState) (depth : ℕ) (bytes : List ℕ)
+    (layout : Result Kept TiffFault) → state.layout ≡ layout → IsRecord files state
+    → files.held state.file state.generation ≡ Some bytes
+    → IsOkAnd layout (λ kept. Unit {0}) → IfOk layout (λ kept. depth ≡ bit_depth_in kept)
+    → depth ≡ bit_depth_of bytes
+depth_told files state depth bytes (Ok kept) is honest held some same =
+    same ∙ ap bit_depth_in (layout_told state kept is files
+    (record { file = state.file; generation = state.generation; len = 0 }) honest
+    (record { file = refl; generation = refl }) bytes held).kept
+depth_told files state depth bytes (Err fault) is honest held some same = absurd some
+
+pub values_told : (files : Files) → IsWorld files → (state : RecordState) (at : TexelAt)
+    (cell : CellAt) (tile : CachedTile) (depth : ℕ) (out bytes : List ℕ) → IsRecord files state
+    → IsCellAt state at cell → tile.key ≡ cell.key
+    → IfOk state.layout (λ kept. depth ≡ bit_depth_in kept)
+    → AreToldValues files tile depth at out
+    → files.held state.file state.generation ≡ Some bytes → AreValuesAt bytes at out
+values_told files world state at cell tile depth out bytes honest is_at key same told held =
+    let file : file_of tile.key ≡ state.file = ap file_of key ∙ is_at.of.file in
+    let generation : generation_of tile.key ≡ state.generation =
+    ap generation_of key ∙ is_at.of.generation in
+    of_held (files.held (file_of tile.key) (generation_of tile.key)) bytes
+    (λ b. level_of tile.key ≡ at.level → depth ≡ bit_depth_of b → AreValuesAt b at out)
+    (ap (λ (n : ℕ). files.held n (generation_of tile.key)) file
+    ∙ (ap (λ (n : ℕ). files.held state.file n) generation ∙ held))
+    (told (tells_of files world state.file state.generation bytes held))
+    (ap level_of key ∙ is_at.level)
+    (depth_told files state depth bytes state.layout refl honest held
+    (some_layout state.layout is_at.of.under) same)
+  where
+    some_layout : (layout : Result Kept TiffFault) → IsOkAnd layout (λ kept. IsCellUnder kept state.cut cell)
+        → IsOkAnd layout (λ kept. Unit {0})
+    some_layout (Ok kept) under = tt
+    some_layout (Err fault) under = absurd under
+
+pub asks_at : (state : RecordState) (at : TexelAt) (cell : CellAt) (old new : List CachedTile)
+    → IsCellIn state at cell → AsksFor cell.key old new → AsksForCellAt state at old new
+asks_at state at cell old new is asks = by state.layout is
+  where
+    by : (layout : Result Kept TiffFault)
+        → IsOkAnd layout (λ kept. cell ≡ cell_of state.generation state.file state.cut kept at)
+        → IfOk layout (λ kept.
+        AsksFor (cell_of state.generation state.file state.cut kept at).key old new)
+    by (Ok kept) same = subst (λ (c : CellAt). AsksFor c.key old new) same asks
+    by (Err fault) same = tt
+
+rises_by : (old mid new : ℕ) → old ≤ mid → Rises mid new → (low : Bool)
+    → nat_lt mid last_count ≡ low → old < last_count → old < new
+rises_by old mid new later rises true is low =
+    omega (arith, later, rises.rose (ltb-true mid last_count is))
+rises_by old mid new later rises false is low =
+    omega (arith, low, rises.later, ltb-false mid last_count is)
+
+rises_since : (old mid new : ℕ) → old ≤ mid → Rises mid new → Rises old new
+rises_since old mid new later rises = record {
+  later = omega (arith, later, rises.later);
+  rose = rises_by old mid new later rises (nat_lt mid last_count) refl;
+}
+
+-- A cause since a later moment is one since an earlier one.
+pub cause_since : {B : Type 0} (files : Files) (r : RecordState) (view : ViewState)
+    (old mid new : TapState) (e : CacheError B) → NoneFalls old mid
+    → FetchCause files r view mid new e → FetchCause files r view old new e
+cause_since files r view old mid new (refused.Again from to) later met = record {
+  from_is = met.from_is;
+  from_real = met.from_real;
+  to_real = met.to_real;
+  newer = met.newer;
+  seen = met.seen;
+  moves = rises_since old.moves mid.moves new.moves later.moves met.moves;
+}
+cause_since files r view old mid new refused.ReadFault later rises =
+    rises_since old.faults mid.faults new.faults later.faults rises
+cause_since files r view old mid new refused.NoMemory later free = tt
+cause_since files r view old mid new (refused.Busy b) later free = tt
+cause_since files r view old mid new (refused.BadFile generation fault) later none = none
+cause_since files r view old mid new (refused.TileTooLarge generation) later none = none
+cause_since files r view old mid new (refused.NoLevel generation levels) later none = none
+cause_since files r view old mid new (refused.Outside generation) later none = none
+cause_since files r view old mid new refused.RegionTooLarge later none = none
+cause_since files r view old mid new refused.HoldsFull later none = none

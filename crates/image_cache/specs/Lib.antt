@@ -1,0 +1,5 @@
+pub mod Options
+pub mod Pass
+pub mod Pinned
+pub mod Texel
+pub mod Call

@@ -1,0 +1,219 @@
+-- What is known of a cache and of its passes, and what does each call leave of a pass?
+use Rattle.std.specs.Prelude.{◌≡◌, ℕ, ◌+◌, ◌-◌, ◌^◌, ◌≤◌, min, max, List, []}
+use Rattle.std.specs.Prelude.{Option, None, IfSome, length, slice_index, false}
+use Rattle.std.specs.Option.{option_map}
+use Rattle.std.specs.declared.sync.Arc.{Arc}
+use Rattle.std.specs.Arc.{arc_value}
+use Rattle.tex_world.specs.World.{max_files}
+use Rattle.tile_layout.specs.declared.cut.Cut.{Cut}
+use Rattle.tile_layout.specs.Cut.{IsCut}
+use Rattle.tile_store.specs.Tile.{CachedTile}
+use Rattle.gen_board.specs.View.{ViewState}
+use Rattle.file_table.specs.Files.{FilesState}
+use Rattle.file_table.specs.Record.{RecordState}
+use Rattle.shard_gate.specs.Gate.{GateState, PinSeatState, IsNewGate}
+use Rattle.image_cache.specs.declared.options.Options.{Options}
+
+-- the tiles that a pass may hold
+abbrev pub max_holds : ℕ
+max_holds = 4
+
+-- What is known of a cache.
+pub record CacheState : Type 0 where
+  -- its records and idle handles
+  pub files : FilesState
+  -- its tiles
+  pub gate : GateState
+
+-- What a pass has pinned.
+pub record PinnedState : Type 0 where
+  -- its permits and its pins
+  pub seat : PinSeatState
+  -- how the levels are cut whose cells its tiles are
+  pub cut : Cut
+  -- its microcache: the tiles that it read last, the latest first
+  pub recent : List CachedTile
+  -- the tiles that it holds, the oldest first
+  pub holds : List CachedTile
+  -- a tile whose pin could not be given back yet
+  pub hand : Option CachedTile
+
+-- What is known of a pass.
+pub record PassState : Type 0 where
+  -- what it has seen of each file
+  pub view : ViewState
+  -- what it has pinned
+  pub pinned : PinnedState
+  -- the record that it keeps for its next lookup
+  pub latest : Option RecordState
+  -- how many cells its answers needed, and how many of these its microcache had
+  pub needs : ℕ
+  pub hits : ℕ
+
+abbrev pub cache_state : FilesState → GateState → CacheState
+cache_state files gate = record { files = files; gate = gate }
+
+abbrev pub pass_state : ViewState → PinnedState → Option RecordState → ℕ → ℕ → PassState
+pass_state view pinned latest needs hits =
+    record { view = view; pinned = pinned; latest = latest; needs = needs; hits = hits }
+
+-- the same, of a record that is shared
+abbrev pub kept_pass : {Z : Type 0} → ViewState → PinnedState → Option (Arc RecordState Z) → ℕ → ℕ
+    → PassState
+kept_pass view pinned latest needs hits =
+    pass_state view pinned (option_map arc_value latest) needs hits
+
+-- What holds of every pass: its microcache has two tiles at most, its record is used under its cut,
+-- and it has seen the record's generation of its file.
+pub record IsPass (pass : PassState) : Type 0 where
+  pub few : length pass.pinned.recent ≤ 2
+  pub cut : IfSome pass.latest (λ r. r.cut ≡ pass.pinned.cut)
+  pub seen : IfSome pass.latest (λ r. r.generation ≤ slice_index pass.view.seen r.file)
+
+-- the pass is one of the cache's
+pub record IsPassOf (cache : CacheState) (pass : PassState) : Type 0 where
+  pub board : pass.view.board ≡ cache.files.board
+  pub gate : pass.pinned.seat.gate ≡ cache.gate.id
+  pub cut : pass.pinned.cut ≡ cache.gate.cut
+
+-- What holds of every cache: its files and its tiles are under one cut, and there are not too many
+-- files. Until levels are generated a cache is made without automip.
+pub record IsCache (cache : CacheState) : Type 0 where
+  pub cut : cache.files.cut ≡ cache.gate.cut
+  pub few : cache.files.board.files ≤ max_files
+  pub stored : cache.gate.cut.automip ≡ false
+  pub side : IsCut cache.gate.cut
+
+-- ---- counts
+
+-- the most that a count tells
+abbrev pub max_count : ℕ
+max_count = 2 ^ 64 - 1
+
+-- one more, unless it stands at the most that it tells
+abbrev pub counted : ℕ → ℕ
+counted n = min (n + 1) max_count
+
+-- the sum of two counts, or the most that one tells
+abbrev pub counted_together : ℕ → ℕ → ℕ
+counted_together m n = min (m + n) max_count
+
+-- ---- new, split, carry, join
+
+-- The cache has the options.
+pub record IsNewCache (o : Options) (count : ℕ) (cache : CacheState) : Type 0 where
+  pub files : cache.files.board.files ≡ count
+  pub cap : cache.files.cap ≡ o.handles
+  pub cut : cache.files.cut ≡ o.cut
+  pub gate : IsNewGate o.budget o.shards o.passes o.cut cache.gate
+
+-- The pass has nothing yet: no tile, no record, and counts of 0.
+pub record IsFresh (pass : PassState) : Type 0 where
+  pub recent : pass.pinned.recent ≡ []
+  pub holds : pass.pinned.holds ≡ []
+  pub hand : pass.pinned.hand ≡ None
+  pub latest : pass.latest ≡ None
+  pub needs : pass.needs ≡ 0
+  pub hits : pass.hits ≡ 0
+
+-- The pass is the cache's first one. It has all permits and has seen nothing.
+pub record IsFirstPass (cache : CacheState) (pass : PassState) : Type 0 where
+  pub of : IsPassOf cache pass
+  pub fresh : IsFresh pass
+  pub permits : pass.pinned.seat.permits ≡ cache.gate.passes
+  pub seen : (file : ℕ) → slice_index pass.view.seen file ≡ 0
+
+-- The pass has one permit and has seen what the other has.
+pub record IsSecondPass (old pass : PassState) : Type 0 where
+  pub board : pass.view.board ≡ old.view.board
+  pub gate : pass.pinned.seat.gate ≡ old.pinned.seat.gate
+  pub cut : pass.pinned.cut ≡ old.pinned.cut
+  pub fresh : IsFresh pass
+  pub permits : pass.pinned.seat.permits ≡ 1
+  pub seen : pass.view.seen ≡ old.view.seen
+  pub steps : pass.view.steps ≡ old.view.steps
+
+-- ---- what calls leave
+
+-- It belongs to the same cache, with the same cut and permits.
+pub record SamePlace (old new : PassState) : Type 0 where
+  pub board : new.view.board ≡ old.view.board
+  pub gate : new.pinned.seat.gate ≡ old.pinned.seat.gate
+  pub cut : new.pinned.cut ≡ old.pinned.cut
+  pub permits : new.pinned.seat.permits ≡ old.pinned.seat.permits
+
+-- It has the same tiles.
+pub record SameTiles (old new : PassState) : Type 0 where
+  pub recent : new.pinned.recent ≡ old.pinned.recent
+  pub holds : new.pinned.holds ≡ old.pinned.holds
+  pub hand : new.pinned.hand ≡ old.pinned.hand
+
+-- It has counted the same.
+pub record SameCounts (old new : PassState) : Type 0 where
+  pub needs : new.needs ≡ old.needs
+  pub hits : new.hits ≡ old.hits
+
+-- It has seen and counted the same.
+pub record SameView (old new : PassState) : Type 0 where
+  pub seen : new.view.seen ≡ old.view.seen
+  pub steps : new.view.steps ≡ old.view.steps
+
+-- All of it but its view is as it was.
+pub record KeepsAllButView (old new : PassState) : Type 0 where
+  pub place : SamePlace old new
+  pub tiles : SameTiles old new
+  pub counts : SameCounts old new
+  pub latest : new.latest ≡ old.latest
+
+-- All of it but its counts is as it was.
+pub record KeepsAllButCounts (old new : PassState) : Type 0 where
+  pub view : new.view ≡ old.view
+  pub pinned : new.pinned ≡ old.pinned
+  pub latest : new.latest ≡ old.latest
+
+-- All of it but its view and its record is as it was.
+pub record KeepsAllButRecord (old new : PassState) : Type 0 where
+  pub place : SamePlace old new
+  pub tiles : SameTiles old new
+  pub counts : SameCounts old new
+
+-- All of it but its tiles is as it was.
+pub record KeepsAllButTiles (old new : PassState) : Type 0 where
+  pub place : SamePlace old new
+  pub view : SameView old new
+  pub counts : SameCounts old new
+  pub latest : new.latest ≡ old.latest
+
+-- All of it is as it was.
+pub record IsSamePass (old new : PassState) : Type 0 where
+  pub keeps : KeepsAllButView old new
+  pub view : SameView old new
+
+-- One permit went to another pass, and all else is as it was.
+pub record AfterSplit (old new : PassState) : Type 0 where
+  pub board : new.view.board ≡ old.view.board
+  pub gate : new.pinned.seat.gate ≡ old.pinned.seat.gate
+  pub cut : new.pinned.cut ≡ old.pinned.cut
+  pub permits : new.pinned.seat.permits ≡ old.pinned.seat.permits - 1
+  pub tiles : SameTiles old new
+  pub counts : SameCounts old new
+  pub view : SameView old new
+  pub latest : new.latest ≡ old.latest
+
+-- It has seen of each file the greater of both.
+abbrev pub SeesBoth : PassState → PassState → PassState → Type 0
+SeesBoth other old new = (file : ℕ) → slice_index new.view.seen file
+    ≡ max (slice_index old.view.seen file) (slice_index other.view.seen file)
+
+-- It has the permits of both, has seen the greater of both and counted both. Its tiles and its
+-- record are as they were.
+pub record AfterJoin (other old new : PassState) : Type 0 where
+  pub board : new.view.board ≡ old.view.board
+  pub gate : new.pinned.seat.gate ≡ old.pinned.seat.gate
+  pub cut : new.pinned.cut ≡ old.pinned.cut
+  pub permits : new.pinned.seat.permits ≡ old.pinned.seat.permits + other.pinned.seat.permits
+  pub tiles : SameTiles old new
+  pub latest : new.latest ≡ old.latest
+  pub seen : SeesBoth other old new
+  pub needs : new.needs ≡ counted_together old.needs other.needs
+  pub hits : new.hits ≡ counted_together old.hits other.hits

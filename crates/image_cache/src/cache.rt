@@ -1,0 +1,208 @@
+//! The cache.
+ghost use Rattle.std.specs.Prelude.{◌≡◌, ◌<◌, ◌≤◌, false, [], None, length, IfOk, IfErr, OnOk, OnErr};
+ghost use Rattle.tex_world.specs.World.{max_files};
+ghost use Rattle.tile_store.specs.Tag.{tag_of};
+ghost use Rattle.shard_gate.specs.Gate.{CountsLawful};
+ghost use Rattle.image_cache.specs.Options.{NewCause, first_bad};
+ghost use Rattle.image_cache.specs.Pass.{IsPassOf, IsNewCache, IsFirstPass, IsSecondPass};
+ghost use Rattle.image_cache.specs.Pass.{IsSamePass, AfterSplit, AfterJoin, SeesBoth};
+ghost use Rattle.image_cache.specs.Pass.{KeepsAllButView, KeepsAllButTiles};
+ghost use Rattle.image_cache.specs.Call.{SplitCause};
+
+use crate::error::{NotJoined, SplitError};
+use crate::options::{NewError, Options};
+use crate::pass::Pass;
+use crate::pinned::{Pinned, room_for_holds};
+use file_table::Files;
+use shard_gate::Gate;
+use std::alloc::Global;
+use std::marker::Model;
+use tex_world::{NoMemory, Tap};
+use tile_layout::{Cut, ShardCount};
+use waiter::Waiter;
+
+/// The texels of the files of a folder, for many passes at once. In a clause it is its files and
+/// its tiles. It holds no tap: `T` names the world, and the kind of handles that lie idle.
+#[derive(Drop)]
+pub struct Cache<T: Tap> {
+    pub(crate) alloc: Global,
+    pub(crate) files: Files<T>,
+    pub(crate) gate: Gate<T::W>,
+    pub(crate) cut: Cut,
+}
+
+impl<T: Tap> Model for Cache<T> {
+    ghost use Rattle.std.specs.Prelude.{◌≡◌};
+    ghost use Rattle.image_cache.specs.Pass.{CacheState, cache_state, IsCache};
+
+    ghost Value = { CacheState };
+
+    ghost view = { λ c. cache_state c.files c.gate };
+
+    ghost invariant = { λ c. IsCache (cache_state c.files c.gate) × (c.cut ≡ c.gate.cut) };
+}
+
+impl<T: Tap> Cache<T> {
+    /// A cache of so many files, and its first pass, which has all permits.
+    pub fn new(
+        alloc: Global,
+        options: Options,
+        files: u32,
+    ) -> Result<(Cache<T>, Pass<T::W>), NewError>
+        requires files { files ≤ max_files }
+        requires stored { options.cut.automip ≡ false }
+        ensures cache { IfOk result (λ made. IsNewCache options files made.0) }
+        ensures pass { IfOk result (λ made. IsFirstPass made.0 made.1) }
+        ensures good { OnOk result (first_bad options ≡ None) }
+        ensures cause { IfErr result (NewCause options) }
+    {
+        if let Some(bad) = options.first_bad() {
+            return Err(NewError::BadOptions(bad));
+        }
+        match made(alloc, options, files) {
+            Ok(made) => Ok(made),
+            Err(NoMemory) => Err(NewError::NoMemory),
+        }
+    }
+
+    /// How the levels of its files are cut.
+    pub fn cut(&self) -> Cut
+        ensures { result ≡ self.now.gate.cut }
+    {
+        self.cut
+    }
+
+    /// What a shard has. It takes no memory.
+    pub fn count<V: Waiter>(
+        &self,
+        waiter: &V,
+        pass: &mut Pass<T::W>,
+        shard: u32,
+    ) -> Result<ShardCount, V::Busy>
+        requires pass { IsPassOf self.now pass.old }
+        requires shard { shard < length self.now.gate.id }
+        ensures lawful { IfOk result (CountsLawful T.W.files
+            (tag_of self.now.gate.share self.now.gate.cut)) }
+        ensures share { IfOk result (λ count. count.share ≡ self.now.gate.share) }
+        ensures within { IfOk result (λ count. count.loose ≤ count.share) }
+        ensures same { IsSamePass pass.old pass.new }
+    {
+        pass.pinned.count(&self.gate, waiter, shard)
+    }
+
+    /// A second pass, which has one permit of the pass and has seen the same.
+    pub fn split(&self, pass: &mut Pass<T::W>) -> Result<Pass<T::W>, SplitError>
+        requires pass { IsPassOf self.now pass.old }
+        ensures ok { IfOk result (IsSecondPass pass.old) }
+        ensures kept { OnOk result (AfterSplit pass.old pass.new) }
+        ensures cause { IfErr result (SplitCause pass.old.pinned.seat.permits) }
+        ensures err { OnErr result (IsSamePass pass.old pass.new) }
+    {
+        if pass.pinned.permits() < 2 {
+            return Err(SplitError::NoPermit);
+        }
+        match self.second(pass) {
+            Ok(second) => Ok(second),
+            Err(NoMemory) => Err(SplitError::NoMemory),
+        }
+    }
+
+    /// The second pass has then seen of each file the greater of both. It does not wait.
+    pub fn carry(&self, from: &mut Pass<T::W>, to: &mut Pass<T::W>) -> Result<(), NoMemory>
+        requires from { IsPassOf self.now from.old }
+        requires to { IsPassOf self.now to.old }
+        ensures seen { OnOk result (SeesBoth from.old to.old to.new) }
+        ensures kept { KeepsAllButView to.old to.new }
+        ensures steps { to.new.view.steps ≡ to.old.view.steps }
+        ensures same { IsSamePass from.old from.new }
+        ensures err { OnErr result (IsSamePass to.old to.new) }
+    {
+        let board = self.files.board();
+        let seen = board.split(&mut from.view)?;
+        board.join(&mut to.view, seen);
+        Ok(())
+    }
+
+    /// Another pass ends: its tiles are given back, and the pass gets its permits, has seen what it
+    /// had, and adds its counts. It takes no memory.
+    ///
+    /// Where the waiter gives up the other pass comes back with the tiles that it still has.
+    pub fn join<V: Waiter>(
+        &self,
+        waiter: &V,
+        keep: &mut Pass<T::W>,
+        mut other: Pass<T::W>,
+    ) -> Result<(), NotJoined<T::W, V::Busy>>
+        requires keep { IsPassOf self.now keep.old }
+        requires other { IsPassOf self.now other }
+        ensures ok { OnOk result (AfterJoin other keep.old keep.new) }
+        ensures err { OnErr result (IsSamePass keep.old keep.new) }
+        ensures back { IfErr result (λ e. KeepsAllButTiles other e.other) }
+    {
+        let released = other.pinned.release_all(&self.gate, waiter);
+        other.pinned.know_pins();
+        if let Err(busy) = released {
+            return Err(NotJoined { other, busy });
+        }
+        self.take_in(keep, other);
+        Ok(())
+    }
+
+    /// Another pass, which has no tile, ends.
+    fn take_in(&self, keep: &mut Pass<T::W>, other: Pass<T::W>)
+        requires keep { IsPassOf self.now keep.old }
+        requires other { IsPassOf self.now other }
+        requires pins { other.pinned.seat.pins ≡ [] }
+        ensures { AfterJoin other keep.old keep.new }
+    {
+        let Pass {
+            view,
+            pinned,
+            latest: _,
+            needs,
+            hits,
+        } = other;
+        self.files.board().join(&mut keep.view, view);
+        self.gate.join(&mut keep.pinned.seat, pinned.into_seat());
+        keep.needs = keep.needs.saturating_add(needs);
+        keep.hits = keep.hits.saturating_add(hits);
+    }
+
+    /// A second pass.
+    fn second(&self, pass: &mut Pass<T::W>) -> Result<Pass<T::W>, NoMemory>
+        requires pass { IsPassOf self.now pass.old }
+        requires permits { 1 < pass.old.pinned.seat.permits }
+        ensures ok { IfOk result (IsSecondPass pass.old) }
+        ensures kept { OnOk result (AfterSplit pass.old pass.new) }
+        ensures err { OnErr result (IsSamePass pass.old pass.new) }
+    {
+        let view = self.files.board().split(&mut pass.view)?;
+        let pinned = pass.pinned.split(self.alloc, &self.gate)?;
+        Ok(Pass::of(view, pinned))
+    }
+}
+
+/// A cache of these options and its first pass.
+fn made<T: Tap>(
+    alloc: Global,
+    options: Options,
+    files: u32,
+) -> Result<(Cache<T>, Pass<T::W>), NoMemory>
+    requires options { first_bad options ≡ None }
+    requires files { files ≤ max_files }
+    requires stored { options.cut.automip ≡ false }
+    ensures cache { IfOk result (λ made. IsNewCache options files made.0) }
+    ensures pass { IfOk result (λ made. IsFirstPass made.0 made.1) }
+{
+    let cut = options.cut;
+    let (files, view) = Files::new(alloc, files, options.handles as usize, cut)?;
+    let (gate, seat) = Gate::new(alloc, options.budget, options.shards, options.passes, cut)?;
+    let pinned = Pinned::new(seat, cut, room_for_holds(alloc)?);
+    let cache = Cache {
+        alloc,
+        files,
+        gate,
+        cut,
+    };
+    Ok((cache, Pass::of(view, pinned)))
+}

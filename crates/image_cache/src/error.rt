@@ -1,0 +1,61 @@
+//! Why a call of the cache is refused.
+use crate::pass::Pass;
+use std::fmt::Debug;
+use tex_world::World;
+use thiserror::Error;
+use tiff_dirs::TiffFault;
+
+/// Why a call of the cache is not answered.
+#[derive(Clone, Copy, Debug, PartialEq, Eq, Error)]
+#[error_bound(B: Debug)]
+pub enum CacheError<B> {
+    /// The bytes of this generation show the fault.
+    #[error("BadFile")]
+    BadFile { generation: u32, fault: TiffFault },
+    /// A cell of the file takes more than 33554432 bytes.
+    #[error("TileTooLarge")]
+    TileTooLarge { generation: u32 },
+    /// The file has only so many levels.
+    #[error("NoLevel")]
+    NoLevel { generation: u32, levels: u32 },
+    /// The texel is not in the level.
+    #[error("Outside")]
+    Outside { generation: u32 },
+    /// The region has more than 1048576 texels.
+    #[error("RegionTooLarge")]
+    RegionTooLarge,
+    /// The pass holds four tiles.
+    #[error("HoldsFull")]
+    HoldsFull,
+    /// The generation `from` was used, and a newer one was met.
+    #[error("Again")]
+    Again { from: u32, to: u32 },
+    /// The source failed. Its count of faults has risen.
+    #[error("ReadFault")]
+    ReadFault,
+    /// No memory was found.
+    #[error("NoMemory")]
+    NoMemory,
+    /// The waiter gave up.
+    #[error("Busy")]
+    Busy(B),
+}
+
+/// Why a pass was not split.
+#[derive(Clone, Copy, Debug, PartialEq, Eq, Error)]
+pub enum SplitError {
+    /// The pass has one permit.
+    #[error("NoPermit")]
+    NoPermit,
+    /// No memory was found.
+    #[error("NoMemory")]
+    NoMemory,
+}
+
+/// The waiter gave up before all tiles of the other pass were given back. It comes back with those
+/// that it still has.
+#[derive(Drop)]
+pub struct NotJoined<W: World, B> {
+    pub other: Pass<W>,
+    pub busy: B,
+}

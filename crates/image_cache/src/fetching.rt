@@ -1,0 +1,263 @@
+//! One texel: from the microcache, else from the shards, else from the file.
+ghost use Rattle.std.specs.Prelude.{◌≡◌, true, OnOk, OnErr, IfErr, IsTrue, IsFalse, IsSomeAnd};
+ghost use Rattle.std.specs.Option.{ForSome};
+ghost use Rattle.tex_world.specs.World.{Files};
+ghost use Rattle.tex_world.specs.Tap.{TapState};
+ghost use Rattle.gen_board.specs.View.{ViewState};
+ghost use Rattle.file_table.specs.Record.{RecordState};
+ghost use Rattle.file_table.specs.Calls.{sighted};
+ghost use Rattle.shard_gate.specs.Gate.{IsTileOf};
+ghost use Rattle.micro.specs.Items.{HasKey};
+ghost use Rattle.image_cache.specs.Pass.{IsPassOf, SameCounts};
+ghost use Rattle.image_cache.specs.Pinned.{key_in};
+ghost use Rattle.image_cache.specs.Texel.{IsRecordOf, IsTexelIn, IsCellOf, IsCellAt, has_cell};
+ghost use Rattle.image_cache.specs.Texel.{has_cell_at, AreValuesAt};
+ghost use Rattle.image_cache.specs.Call.{CountsNeed, AsksFor, AsksForCellAt, AfterNeed};
+ghost use Rattle.image_cache.specs.Call.{KeepsAllButRecent, FetchCause, NoneFalls, AnswersWarm};
+
+use crate::cache::Cache;
+use crate::error::CacheError;
+use crate::pass::Pass;
+use crate::texel::{CellAt, TexelAt, cell_at, depth_of};
+use crate::values::write_values;
+use file_table::Record;
+use shard_gate::PinError;
+use tex_world::Tap;
+use waiter::Waiter;
+
+impl<T: Tap> Cache<T> {
+    /// Writes the 16-bit values of the first channels of a texel, and 0 for those that the file
+    /// lacks: from the microcache, else from the shards, else from the file.
+    ///
+    /// One need is counted, and a hit where the microcache had the cell.
+    pub fn fetch<V: Waiter>(
+        &self,
+        waiter: &V,
+        pass: &mut Pass<T::W>,
+        tap: &mut T,
+        known: &Record<T::W>,
+        at: TexelAt,
+        out: &mut [u16],
+    ) -> Result<(), CacheError<V::Busy>>
+        requires pass { IsPassOf self.now pass.old }
+        requires known { IsRecordOf T.W.files self.now known.now }
+        requires inside { IsTexelIn known.now at }
+        ensures value { ForSome (T.W.files.held known.now.file known.now.generation) (λ bytes.
+            OnOk result (AreValuesAt bytes at out.new)) }
+        ensures cause { IfErr result (FetchCause T.W.files known.now pass.new.view
+            (T.state tap.old) (T.state tap.new)) }
+        ensures err { OnErr result (out.new ≡ out.old) }
+        ensures tap { NoneFalls (T.state tap.old) (T.state tap.new) }
+        // What the call leaves of the pass.
+        ensures need { CountsNeed (has_cell_at known.now at pass.old.pinned.recent)
+            pass.old pass.new }
+        ensures asked { OnOk result (AsksForCellAt known.now at
+            pass.old.pinned.recent pass.new.pinned.recent) }
+        ensures same { AfterNeed known.now.file pass.old pass.new }
+        // A cell that the microcache has takes no call of the tap and no memory.
+        ensures warm { IsTrue (has_cell_at known.now at pass.old.pinned.recent) → AnswersWarm
+            (sighted pass.old.view (T.state tap.old)) (sighted pass.new.view (T.state tap.new))
+            result }
+    {
+        if self.fetch_local(pass, known, at, out) {
+            return Ok(());
+        }
+        pass.count_need(false);
+        self.fetch_cold(waiter, pass, tap, known, at, out)
+    }
+
+    /// Whether the microcache has the cell that holds a texel. It changes nothing.
+    pub fn has_local(&self, pass: &Pass<T::W>, known: &Record<T::W>, at: TexelAt) -> bool
+        requires pass { IsPassOf self.now pass.now }
+        requires known { IsRecordOf T.W.files self.now known.now }
+        requires inside { IsTexelIn known.now at }
+        ensures { result ≡ has_cell_at known.now at pass.now.pinned.recent }
+    {
+        pass.pinned.tile_of(&self.cell(known, at)).is_some()
+    }
+
+    /// Where the microcache has the cell that holds a texel, what `fetch` does. Else false, and all
+    /// is as before.
+    pub fn fetch_local(
+        &self,
+        pass: &mut Pass<T::W>,
+        known: &Record<T::W>,
+        at: TexelAt,
+        out: &mut [u16],
+    ) -> bool
+        requires pass { IsPassOf self.now pass.old }
+        requires known { IsRecordOf T.W.files self.now known.now }
+        requires inside { IsTexelIn known.now at }
+        ensures has { result ≡ has_cell_at known.now at pass.old.pinned.recent }
+        ensures value { IsTrue result →
+            ForSome (T.W.files.held known.now.file known.now.generation) (λ bytes.
+            AreValuesAt bytes at out.new) }
+        // What the call leaves of the pass, where it has the cell.
+        ensures need { IsTrue result → CountsNeed true pass.old pass.new }
+        ensures asked { IsTrue result → AsksForCellAt known.now at
+            pass.old.pinned.recent pass.new.pinned.recent }
+        ensures kept { IsTrue result → KeepsAllButRecent pass.old pass.new }
+        // And where not.
+        ensures same { IsFalse result → (pass.new ≡ pass.old) × (out.new ≡ out.old) }
+    {
+        let cell = self.cell(known, at);
+        if !self.writes(pass, known, &cell, at, out) {
+            return false;
+        }
+        pass.pinned.find(cell.key);
+        pass.count_need(true);
+        true
+    }
+
+    /// The cell that holds a texel.
+    fn cell(&self, known: &Record<T::W>, at: TexelAt) -> CellAt
+        requires known { IsRecordOf T.W.files self.now known.now }
+        requires inside { IsTexelIn known.now at }
+        ensures { IsCellAt known.now at result }
+    {
+        // it has no more files than a folder can have
+        let _files = self.files.board();
+        cell_at(known, at)
+    }
+
+    /// Writes the values of a texel, where the microcache has its cell.
+    fn writes(
+        &self,
+        pass: &Pass<T::W>,
+        known: &Record<T::W>,
+        cell: &CellAt,
+        at: TexelAt,
+        out: &mut [u16],
+    ) -> bool
+        requires known { IsRecordOf T.W.files self.now known.now }
+        requires cell { IsCellAt known.now at cell.now }
+        ensures has { result ≡ has_cell cell.now pass.now.pinned.recent }
+        ensures key { IsTrue result → HasKey key_in cell.now.key pass.now.pinned.recent }
+        ensures value { IsTrue result →
+            ForSome (T.W.files.held known.now.file known.now.generation) (λ bytes.
+            AreValuesAt bytes at out.new) }
+        ensures same { IsFalse result → out.new ≡ out.old }
+    {
+        match pass.pinned.tile_of(cell) {
+            Some(tile) => {
+                write_values(tile, depth_of(known), at, out);
+                true
+            }
+            None => false,
+        }
+    }
+
+    /// Writes the values of a texel whose cell the microcache has not.
+    fn fetch_cold<V: Waiter>(
+        &self,
+        waiter: &V,
+        pass: &mut Pass<T::W>,
+        tap: &mut T,
+        known: &Record<T::W>,
+        at: TexelAt,
+        out: &mut [u16],
+    ) -> Result<(), CacheError<V::Busy>>
+        requires pass { IsPassOf self.now pass.old }
+        requires known { IsRecordOf T.W.files self.now known.now }
+        requires inside { IsTexelIn known.now at }
+        ensures value { ForSome (T.W.files.held known.now.file known.now.generation) (λ bytes.
+            OnOk result (AreValuesAt bytes at out.new)) }
+        ensures cause { IfErr result (FetchCause T.W.files known.now pass.new.view
+            (T.state tap.old) (T.state tap.new)) }
+        ensures err { OnErr result (out.new ≡ out.old) }
+        ensures tap { NoneFalls (T.state tap.old) (T.state tap.new) }
+        // What the call leaves of the pass.
+        ensures counts { SameCounts pass.old pass.new }
+        ensures asked { OnOk result (AsksForCellAt known.now at
+            pass.old.pinned.recent pass.new.pinned.recent) }
+        ensures same { AfterNeed known.now.file pass.old pass.new }
+    {
+        let cell = self.cell(known, at);
+        self.bring(waiter, pass, tap, known, &cell)?;
+        if self.writes(pass, known, &cell, at, out) {
+            return Ok(());
+        }
+        // Over a world that does not tell, a shard may have another tile of the key. It is not
+        // read, and the one that is loaded is given up.
+        let apart = match self.load_cell(waiter, &mut pass.view, tap, known, &cell) {
+            Ok(apart) => apart,
+            Err(e) => return Err(e),
+        };
+        write_values(&apart, depth_of(known), at, out);
+        Ok(())
+    }
+
+    /// Puts the tile of a cell's key first in the microcache.
+    fn bring<V: Waiter>(
+        &self,
+        waiter: &V,
+        pass: &mut Pass<T::W>,
+        tap: &mut T,
+        known: &Record<T::W>,
+        cell: &CellAt,
+    ) -> Result<(), CacheError<V::Busy>>
+        requires pass { IsPassOf self.now pass.old }
+        requires known { IsRecordOf T.W.files self.now known.now }
+        requires cell { IsCellOf known.now cell.now }
+        ensures cause { IfErr result (FetchCause T.W.files known.now pass.new.view
+            (T.state tap.old) (T.state tap.new)) }
+        ensures tap { NoneFalls (T.state tap.old) (T.state tap.new) }
+        // What the call leaves of the pass.
+        ensures counts { SameCounts pass.old pass.new }
+        ensures asked { OnOk result (AsksFor cell.now.key
+            pass.old.pinned.recent pass.new.pinned.recent) }
+        ensures same { AfterNeed known.now.file pass.old pass.new }
+    {
+        if pass.pinned.find(cell.key) {
+            return Ok(());
+        }
+        self.take_in_hand(waiter, pass, tap, known, cell)?;
+        pass.pinned.place(&self.gate, waiter, cell.key);
+        Ok(())
+    }
+
+    /// Pins the tile of a cell's key, which is loaded where no shard has it, and takes it in hand.
+    pub(crate) fn take_in_hand<V: Waiter>(
+        &self,
+        waiter: &V,
+        pass: &mut Pass<T::W>,
+        tap: &mut T,
+        known: &Record<T::W>,
+        cell: &CellAt,
+    ) -> Result<(), CacheError<V::Busy>>
+        requires pass { IsPassOf self.now pass.old }
+        requires known { IsRecordOf T.W.files self.now known.now }
+        requires cell { IsCellOf known.now cell.now }
+        ensures hand { OnOk result (IsSomeAnd pass.new.pinned.hand
+            (IsTileOf T.W.files self.now.gate.cut cell.now.key)) }
+        ensures cause { IfErr result (FetchCause T.W.files known.now pass.new.view
+            (T.state tap.old) (T.state tap.new)) }
+        ensures tap { NoneFalls (T.state tap.old) (T.state tap.new) }
+        // What the call leaves of the pass.
+        ensures counts { SameCounts pass.old pass.new }
+        ensures recent { pass.new.pinned.recent ≡ pass.old.pinned.recent }
+        ensures same { AfterNeed known.now.file pass.old pass.new }
+    {
+        match pass.pinned.pin_next(&self.gate, waiter, cell.key) {
+            Ok(true) => return Ok(()),
+            Ok(false) => {}
+            Err(e) => return Err(pin_refused(e)),
+        }
+        let tile = self.load_cell(waiter, &mut pass.view, tap, known, cell)?;
+        match pass.pinned.pin_new(&self.gate, waiter, tile) {
+            Ok(()) => Ok(()),
+            Err(e) => Err(pin_refused(e)),
+        }
+    }
+}
+
+/// Why a tile was not pinned, as the cache says it. Either cause may stand anywhere.
+fn pin_refused<B>(e: PinError<B>) -> CacheError<B>
+    ensures { (files : Files) → (r : RecordState) → (view : ViewState) → (old new : TapState)
+        → FetchCause files r view old new result }
+{
+    match e {
+        PinError::NoMemory => CacheError::NoMemory,
+        PinError::Busy(busy) => CacheError::Busy(busy),
+    }
+}

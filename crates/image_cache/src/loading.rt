@@ -1,0 +1,94 @@
+//! A cell that no shard has: loaded from its file, under a handle that the table lends.
+ghost use Rattle.std.specs.Prelude.{◌≡◌, ◌<◌, IfOk, IfErr, IsTrue};
+ghost use Rattle.file_table.specs.Calls.{KeepsView, OpensIfAtAll};
+ghost use Rattle.tile_load.specs.Load.{IsReadBy};
+ghost use Rattle.tile_store.specs.Told.{IsTold};
+ghost use Rattle.shard_gate.specs.Gate.{HasCellRect};
+ghost use Rattle.image_cache.specs.Texel.{IsRecordOf, IsCellOf, is_tile_of};
+ghost use Rattle.image_cache.specs.Call.{FetchCause, NoneFalls};
+
+use crate::cache::Cache;
+use crate::error::CacheError;
+use crate::texel::CellAt;
+use file_table::{LendError, Record};
+use gen_board::View;
+use tex_world::Tap;
+use tile_load::{LoadError, load};
+use tile_store::Tile;
+use waiter::Waiter;
+
+impl<T: Tap> Cache<T> {
+    /// The tile of a cell of a stored level, read under a handle of exactly the record's
+    /// generation, which then lies idle unless it failed.
+    pub(crate) fn load_cell<V: Waiter>(
+        &self,
+        waiter: &V,
+        view: &mut View<T::W>,
+        tap: &mut T,
+        known: &Record<T::W>,
+        cell: &CellAt,
+    ) -> Result<Tile<T::W>, CacheError<V::Busy>>
+        requires view { view.old.board ≡ self.now.files.board }
+        requires known { IsRecordOf T.W.files self.now known.now }
+        requires cell { IsCellOf known.now cell.now }
+        ensures keyed { IfOk result (λ tile. tile.key ≡ cell.now.key) }
+        ensures of_cell { IfOk result (λ tile. IsTrue (is_tile_of cell.now tile)) }
+        ensures cell { IfOk result (HasCellRect T.W.files self.now.gate.cut) }
+        ensures told { IfOk result (IsTold T.W.files) }
+        ensures cause { IfErr result (FetchCause T.W.files known.now view.new
+            (T.state tap.old) (T.state tap.new)) }
+        ensures keeps { KeepsView known.now.file view.old view.new }
+        ensures tap { NoneFalls (T.state tap.old) (T.state tap.new) }
+    {
+        // the record's layout is that of its bytes
+        let _known = known.generation();
+        let mut handle = self.lend(waiter, view, tap, known)?;
+        match load(self.alloc, tap, &mut handle, known, cell.key, self.cut) {
+            Ok(tile) => {
+                // where the waiter gives up the handle is closed
+                let _settled = self.files.settle(waiter, handle);
+                Ok(tile)
+            }
+            Err(LoadError::NoMemory) => {
+                let _settled = self.files.settle(waiter, handle);
+                Err(CacheError::NoMemory)
+            }
+            Err(LoadError::ReadFault) => Err(CacheError::ReadFault),
+            Err(LoadError::Gone(to)) => {
+                self.files.board().raise(view, known.file(), to);
+                Err(CacheError::Again {
+                    from: known.generation(),
+                    to,
+                })
+            }
+        }
+    }
+
+    /// A handle of the file and generation of a record.
+    fn lend<V: Waiter>(
+        &self,
+        waiter: &V,
+        view: &mut View<T::W>,
+        tap: &mut T,
+        known: &Record<T::W>,
+    ) -> Result<T::Handle, CacheError<V::Busy>>
+        requires view { view.old.board ≡ self.now.files.board }
+        requires known { IsRecordOf T.W.files self.now known.now }
+        ensures ok { IfOk result (λ h. IsReadBy (T.Handle.named h) known.now) }
+        ensures cause { IfErr result (FetchCause T.W.files known.now view.new
+            (T.state tap.old) (T.state tap.new)) }
+        ensures keeps { KeepsView known.now.file view.old view.new }
+        ensures tap { OpensIfAtAll (T.state tap.old) (T.state tap.new) }
+    {
+        match self
+            .files
+            .lend(waiter, view, tap, known.file(), known.generation())
+        {
+            Ok(handle) => Ok(handle),
+            Err(LendError::ReadFault) => Err(CacheError::ReadFault),
+            Err(LendError::Again { from, to }) => Err(CacheError::Again { from, to }),
+            Err(LendError::NoMemory) => Err(CacheError::NoMemory),
+            Err(LendError::Busy(busy)) => Err(CacheError::Busy(busy)),
+        }
+    }
+}

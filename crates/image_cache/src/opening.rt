@@ -1,0 +1,87 @@
+//! The record of a file: opened, kept by a pass, and found there again.
+ghost use Rattle.std.specs.Prelude.{◌≡◌, ◌↔◌, ◌<◌, ◌≤◌, None, Some, IfOk, IfErr, OnOk, OnErr};
+ghost use Rattle.std.specs.Prelude.{IsSome, IsNone, IfSome, IsSomeAnd, slice_index};
+ghost use Rattle.tex_world.specs.World.{IsFile};
+ghost use Rattle.gen_board.specs.View.{AfterStep};
+ghost use Rattle.file_table.specs.Calls.{sighted, GivesRecord, LooksOnce, OpensIfAtAll};
+ghost use Rattle.image_cache.specs.Pass.{IsPassOf, KeepsAllButRecord};
+ghost use Rattle.image_cache.specs.Call.{OpenCause, Serves};
+
+use crate::cache::Cache;
+use crate::error::CacheError;
+use crate::pass::Pass;
+use file_table::{Record, RecordError};
+use std::sync::Arc;
+use tex_world::Tap;
+use waiter::Waiter;
+
+impl<T: Tap> Cache<T> {
+    /// The record of the newest known generation of a file. It is handed out: the pass has then no
+    /// record of its own until `keep`.
+    pub fn open<V: Waiter>(
+        &self,
+        waiter: &V,
+        pass: &mut Pass<T::W>,
+        tap: &mut T,
+        file: u32,
+    ) -> Result<Arc<Record<T::W>>, CacheError<V::Busy>>
+        requires pass { IsPassOf self.now pass.old }
+        requires file { file < self.now.files.board.files }
+        requires told { IsFile T.W.files file }
+        ensures ok { IfOk result (λ r. GivesRecord T.W.files file self.now.gate.cut
+            pass.old.view pass.new.view r.value) }
+        ensures cause { IfErr result (OpenCause T.W.files file
+            (sighted pass.old.view (T.state tap.old)) (sighted pass.new.view (T.state tap.new))) }
+        // What the call leaves.
+        ensures taken { OnOk result (pass.new.latest ≡ None) }
+        ensures err { OnErr result (pass.new.latest ≡ pass.old.latest) }
+        ensures same { KeepsAllButRecord pass.old pass.new }
+        ensures looks { LooksOnce file pass.old.view pass.new.view }
+        ensures once { OpensIfAtAll (T.state tap.old) (T.state tap.new) }
+    {
+        match self.files.record(waiter, &mut pass.view, tap, file) {
+            Ok(known) => {
+                pass.latest = None;
+                Ok(known)
+            }
+            Err(RecordError::ReadFault) => Err(CacheError::ReadFault),
+            Err(RecordError::Again { from, to }) => Err(CacheError::Again { from, to }),
+            Err(RecordError::NoMemory) => Err(CacheError::NoMemory),
+            Err(RecordError::Busy(busy)) => Err(CacheError::Busy(busy)),
+        }
+    }
+
+    /// The record is the one that the pass keeps for its next lookup.
+    pub fn keep(&self, pass: &mut Pass<T::W>, known: Arc<Record<T::W>>)
+        requires pass { IsPassOf self.now pass.old }
+        requires cut { known.value.cut ≡ self.now.gate.cut }
+        requires seen { known.value.generation ≤ slice_index pass.old.view.seen known.value.file }
+        ensures kept { pass.new.latest ≡ Some known.value }
+        ensures same { KeepsAllButRecord pass.old pass.new }
+        ensures view { pass.new.view ≡ pass.old.view }
+    {
+        pass.latest = Some(known);
+    }
+
+    /// The record that the pass keeps, where it is of this file and of its newest known generation,
+    /// shows no fault and fits the cut. It is handed out. The board is looked at once.
+    pub fn local(&self, pass: &mut Pass<T::W>, file: u32) -> Option<Arc<Record<T::W>>>
+        requires pass { IsPassOf self.now pass.old }
+        requires file { file < self.now.files.board.files }
+        ensures some { IsSome result ↔ IsSomeAnd pass.old.latest (Serves file pass.new.view) }
+        ensures value { IfSome result (λ r. pass.old.latest ≡ Some r.value) }
+        // What the call leaves.
+        ensures taken { IsSome result → pass.new.latest ≡ None }
+        ensures none { IsNone result → pass.new.latest ≡ pass.old.latest }
+        ensures same { KeepsAllButRecord pass.old pass.new }
+        ensures look { AfterStep file (slice_index pass.new.view.seen file)
+            pass.old.view pass.new.view }
+    {
+        let newest = self.files.board().look(&mut pass.view, file);
+        let serves = match &pass.latest {
+            Some(known) => known.file() == file && known.generation() == newest && known.fits(),
+            None => false,
+        };
+        if serves { pass.latest.take() } else { None }
+    }
+}

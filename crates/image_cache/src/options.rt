@@ -1,0 +1,70 @@
+//! What a cache is made with.
+ghost use Rattle.std.specs.Prelude.{◌≡◌};
+ghost use Rattle.image_cache.specs.Options.{first_bad};
+
+use thiserror::Error;
+use tile_layout::Cut;
+
+/// What a cache is made with.
+#[derive(Clone, Copy, Debug, PartialEq, Eq)]
+pub struct Options {
+    /// The bytes that unpinned tiles may take, 0 to 4294967296.
+    pub budget: u64,
+    /// The shards, 1 to 64.
+    pub shards: u32,
+    /// The passes that there may be at once, 1 to 16.
+    pub passes: u32,
+    /// The handles that may lie idle, 1 to 1024.
+    pub handles: u32,
+    /// How the levels of files are cut.
+    pub cut: Cut,
+}
+
+/// Why no cache was made.
+#[derive(Clone, Copy, Debug, PartialEq, Eq, Error)]
+pub enum NewError {
+    /// The option of this number is the first that is out of its range: 1 budget, 2 shards,
+    /// 3 passes, 4 handles, 5 autotile.
+    #[error("BadOptions")]
+    BadOptions(u32),
+    /// No memory was found.
+    #[error("NoMemory")]
+    NoMemory,
+}
+
+const MAX_BUDGET: u64 = 1 << 32;
+
+const MAX_SHARDS: u32 = 64;
+
+const MAX_PASSES: u32 = 16;
+
+const MAX_HANDLES: u32 = 1024;
+
+const AUTOTILE_STEP: u32 = 16;
+
+const MAX_AUTOTILE: u32 = 4096;
+
+impl Options {
+    /// The first option that is out of its range.
+    pub(crate) fn first_bad(&self) -> Option<u32>
+        ensures { result ≡ first_bad self.now }
+    {
+        if self.budget > MAX_BUDGET {
+            return Some(1);
+        }
+        if self.shards < 1 || MAX_SHARDS < self.shards {
+            return Some(2);
+        }
+        if self.passes < 1 || MAX_PASSES < self.passes {
+            return Some(3);
+        }
+        if self.handles < 1 || MAX_HANDLES < self.handles {
+            return Some(4);
+        }
+        let side = self.cut.autotile;
+        if MAX_AUTOTILE < side || side % AUTOTILE_STEP != 0 {
+            return Some(5);
+        }
+        None
+    }
+}

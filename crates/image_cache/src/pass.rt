@@ -1,0 +1,88 @@
+ghost use Rattle.std.specs.Prelude.{◌≡◌, ◌<◌, None, slice_index, slice_get};
+ghost use Rattle.std.specs.Option.{option_copied};
+ghost use Rattle.image_cache.specs.Pass.{pass_state, KeepsAllButCounts};
+ghost use Rattle.image_cache.specs.Call.{CountsNeed};
+
+use crate::pinned::Pinned;
+use file_table::Record;
+use gen_board::View;
+use std::marker::Model;
+use std::sync::Arc;
+use tex_world::World;
+use tile_store::Tile;
+
+/// What one caller has of a cache: what it has seen of the files, its microcache, the tiles that it
+/// holds, the record of its latest lookup, and its counts. It may move to another thread.
+#[derive(Drop)]
+pub struct Pass<W: World> {
+    pub(crate) view: View<W>,
+    pub(crate) pinned: Pinned<W>,
+    pub(crate) latest: Option<Arc<Record<W>>>,
+    pub(crate) needs: u64,
+    pub(crate) hits: u64,
+}
+
+impl<W: World> Model for Pass<W> {
+    ghost use Rattle.image_cache.specs.Pass.{PassState, kept_pass, IsPass};
+
+    ghost Value = { PassState };
+
+    ghost view = { λ p. kept_pass p.view p.pinned p.latest p.needs p.hits };
+
+    ghost invariant = { λ p. IsPass (kept_pass p.view p.pinned p.latest p.needs p.hits) };
+}
+
+impl<W: World> Pass<W> {
+    /// A pass that has pinned nothing.
+    pub(crate) fn of(view: View<W>, pinned: Pinned<W>) -> Pass<W>
+        ensures { result ≡ pass_state view pinned None 0 0 }
+    {
+        Pass {
+            view,
+            pinned,
+            latest: None,
+            needs: 0,
+            hits: 0,
+        }
+    }
+
+    /// How many cells its answers needed. It stays at 18446744073709551615 once it is there.
+    pub fn needs(&self) -> u64
+        ensures { result ≡ self.now.needs }
+    {
+        self.needs
+    }
+
+    /// How many of these its microcache had. It stays at 18446744073709551615 once it is there.
+    pub fn hits(&self) -> u64
+        ensures { result ≡ self.now.hits }
+    {
+        self.hits
+    }
+
+    /// The generation that it has seen of a file, or 0.
+    pub fn seen(&self, file: u32) -> u32
+        requires { file < self.now.view.board.files }
+        ensures { result ≡ slice_index self.now.view.seen file }
+    {
+        self.view.seen(file)
+    }
+
+    /// The tile that it holds at a place, the oldest at place 0.
+    pub fn held(&self, place: usize) -> Option<&Tile<W>>
+        ensures { option_copied result ≡ slice_get self.now.pinned.holds place }
+    {
+        self.pinned.held(place)
+    }
+
+    /// Counts a need, which the microcache had or not.
+    pub(crate) fn count_need(&mut self, hit: bool)
+        ensures counts { CountsNeed hit self.old self.new }
+        ensures kept { KeepsAllButCounts self.old self.new }
+    {
+        self.needs = self.needs.saturating_add(1);
+        if hit {
+            self.hits = self.hits.saturating_add(1);
+        }
+    }
+}
