@@ -1,0 +1,34 @@
+//! Caches over the files of a folder.
+ghost use Rattle.std.specs.Prelude.{◌≡◌, ◌≤◌, false, length, IfOk};
+ghost use Rattle.tex_world.specs.World.{max_files};
+ghost use Rattle.image_cache.specs.Pass.{IsPassOf};
+
+use image_cache::{Cache, Options, Pass};
+use std::alloc::Global;
+use std::test::Fail;
+use tex_world::Tap;
+use tile_layout::Cut;
+
+/// Cells of 16 by 16, and no generated level.
+pub(crate) const CUT: Cut = Cut {
+    autotile: 16,
+    automip: false,
+};
+
+/// A cache of so many files and its first pass.
+pub(crate) fn cache_of<T: Tap>(
+    alloc: Global,
+    options: Options,
+    files: u32,
+) -> Result<(Cache<T>, Pass<T::W>), Fail>
+    requires files { files ≤ max_files }
+    requires stored { options.cut.automip ≡ false }
+    ensures files { IfOk result (λ made. made.0.files.board.files ≡ files) }
+    ensures shards { IfOk result (λ made. length made.0.gate.id ≡ options.shards) }
+    ensures pass { IfOk result (λ made. IsPassOf made.0 made.1) }
+{
+    match Cache::new(alloc, options, files) {
+        Ok(made) => Ok(made),
+        Err(_refused) => Err("no cache".into()),
+    }
+}

@@ -1,0 +1,110 @@
+//! Options out of range, a pass that cannot be split, and what refusals are called.
+ghost use Rattle.std.specs.Prelude.{◌≡◌};
+
+use crate::folder::{CUT, cache_of};
+use host_folder::RealTap;
+use image_cache::{Cache, CacheError, NewError, Options, SplitError};
+use std::alloc::Global;
+use std::fmt::Display;
+use std::test::Fail;
+use tex_world::Tap;
+use tile_layout::Cut;
+use waiter::GaveUp;
+
+// Budget, shards, passes, handles and autotile, and the number of the first that is out of its
+// range, or 0.
+static ROWS: &[(u64, [u32; 4], u32)] = &[
+    (0, [1, 1, 1, 0], 0),
+    (4294967296, [64, 16, 1024, 4096], 0),
+    (4294967297, [1, 1, 1, 16], 1),
+    (0, [0, 1, 1, 16], 2),
+    (0, [65, 1, 1, 16], 2),
+    (0, [1, 0, 1, 16], 3),
+    (0, [1, 17, 1, 16], 3),
+    (0, [1, 1, 0, 16], 4),
+    (0, [1, 1, 1025, 16], 4),
+    (0, [1, 1, 1, 8], 5),
+    (0, [1, 1, 1, 17], 5),
+    (0, [1, 1, 1, 4112], 5),
+    // the first of several
+    (4294967297, [0, 0, 0, 1], 1),
+    (0, [0, 0, 0, 1], 2),
+    (0, [1, 0, 0, 1], 3),
+    (0, [1, 1, 0, 1], 4),
+];
+
+// The number of the option that is refused, 0 where a cache is made.
+fn refused<T: Tap>(alloc: Global, budget: u64, numbers: [u32; 4]) -> u32 {
+    let [shards, passes, handles, autotile] = numbers;
+    let cut = Cut {
+        autotile,
+        automip: false,
+    };
+    let options = Options {
+        budget,
+        shards,
+        passes,
+        handles,
+        cut,
+    };
+    match Cache::<T>::new(alloc, options, 1) {
+        Ok(_made) => 0,
+        Err(NewError::BadOptions(number)) => number,
+        Err(NewError::NoMemory) => 9,
+    }
+}
+
+#[test]
+fn options_out_of_range(rt: HostRuntime) -> Result<(), Fail> {
+    for (row, (budget, numbers, number)) in ROWS.iter().enumerate() {
+        let given = refused::<RealTap<HostRuntime>>(rt.alloc(), *budget, *numbers);
+        assert_eq!(rt; given, *number, "row {row}");
+    }
+    Ok(())
+}
+
+// Whether a pass of two permits is split, and why it is not once more.
+fn splits<T: Tap>(alloc: Global) -> Result<(bool, Option<SplitError>), Fail> {
+    let options = Options {
+        budget: 0,
+        shards: 1,
+        passes: 2,
+        handles: 1,
+        cut: CUT,
+    };
+    let (cache, mut pass) = cache_of::<T>(alloc, options, 1)?;
+    let first = match cache.split(&mut pass) {
+        Ok(_second) => true,
+        Err(_refused) => false,
+    };
+    match cache.split(&mut pass) {
+        Ok(_second) => Ok((first, None)),
+        Err(refused) => Ok((first, Some(refused))),
+    }
+}
+
+#[test]
+fn a_pass_of_one_permit_is_not_split(rt: HostRuntime) -> Result<(), Fail> {
+    let (first, refused) = splits::<RealTap<HostRuntime>>(rt.alloc())?;
+    assert!(rt; first, "of two permits");
+    assert!(rt; refused == Some(SplitError::NoPermit), "of one permit");
+    Ok(())
+}
+
+fn shown<E: Display + Drop>(alloc: Global, e: E) -> Result<String, Fail> {
+    Ok(format!(in alloc; "{e}")?)
+}
+
+#[test]
+fn a_refusal_is_called_by_its_name(rt: HostRuntime) -> Result<(), Fail> {
+    let alloc = rt.alloc();
+    let text = shown(alloc, NewError::BadOptions(2))?;
+    assert!(rt; text.as_str() == "BadOptions", "options");
+    let text = shown(alloc, SplitError::NoPermit)?;
+    assert!(rt; text.as_str() == "NoPermit", "permits");
+    let text = shown(alloc, CacheError::<GaveUp>::HoldsFull)?;
+    assert!(rt; text.as_str() == "HoldsFull", "holds");
+    let text = shown(alloc, CacheError::<GaveUp>::Again { from: 1, to: 2 })?;
+    assert!(rt; text.as_str() == "Again", "generations");
+    Ok(())
+}
