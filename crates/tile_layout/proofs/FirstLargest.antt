@@ -1,7 +1,6 @@
 -- No level is larger than level 0.
 use Rattle.std.proofs.Common.{◌≡◌, ℕ, zero, suc, ◌<◌, ◌≤◌, max, sym, ◌∙◌, ap, arith, inl, inr}
 use Rattle.std.proofs.lemmas.Bool.{cases_lt, eqb-true, and_parts}
-use Rattle.std.specs.Prelude.{◌==◌}
 use Rattle.tiff_dirs.specs.Block.{LevelShape}
 use Rattle.tiff_dirs.specs.Facts.{IsChain}
 use Rattle.tiff_dirs.specs.Level.{halved}

@@ -7,6 +7,7 @@ pub mod BlockLemmas
 pub mod WalkLemmas
 pub mod GoodLevels
 pub mod CellLemmas
+pub mod HalvingCells
 pub mod GridLemmas
 pub mod FirstLargest
 pub mod KeyLemmas

@@ -1,5 +1,5 @@
 -- The texels of stored levels are the samples that stand in the file.
-use Rattle.std.proofs.Common.{◌≡◌, ℕ, zero, suc, ◌<◌, List, refl, ◌∙◌, sym, ap, subst}
+use Rattle.std.proofs.Common.{◌≡◌, ℕ, zero, suc, ◌<◌, List, refl, sym, subst}
 use Rattle.std.proofs.lemmas.Bool.{lt-ltb}
 use Rattle.tiff_dirs.specs.Block.{Level}
 use Rattle.tiff_dirs.specs.Texel.{sample_in}

@@ -6,9 +6,11 @@ pub mod CutSide
 pub mod Cell
 pub mod Grid
 pub mod Texel
+pub mod Halving
 pub mod Pieces
 pub mod Walk
 pub mod TexelFormat
 pub mod FormatOf
 pub mod Blocks
 pub mod WholeRows
+pub mod Value

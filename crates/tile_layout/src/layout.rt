@@ -14,6 +14,7 @@ ghost use Rattle.tile_layout.specs.Cell.{cells_down, cell_count, cell_index, cel
 ghost use Rattle.tile_layout.specs.Cell.{CellsFit, pattern_shape, channels_in, bit_depth_in};
 ghost use Rattle.tile_layout.specs.CutSide.{IsCellSide, max_cells};
 ghost use Rattle.tile_layout.specs.Grid.{shown_grid};
+ghost use Rattle.tile_layout.specs.Halving.{HalvesWithinCells};
 ghost use Rattle.tile_layout.specs.WholeRows.{block_width, block_rows, AreWholeRows, StandsWhole};
 
 use crate::cut::Cut;
@@ -142,11 +143,13 @@ impl Layout {
     }
 
     /// How a level is cut into cells: a tiled one into its tiles, a stripped one into squares of
-    /// the cut or, where that is 0, into one cell, and a generated one as level 0 is.
+    /// the cut or, where that is 0, into one cell, and a generated one as level 0 is. The four
+    /// texels from which one of the next level is made lie in one cell.
     pub fn grid(&self, level: u32, cut: Cut) -> Grid
         requires level { HasLevel self.now level }
         requires cut { IsCut cut }
         ensures value { shown_grid result ≡ cut_level_in self.now cut level }
+        ensures halving { HalvesWithinCells (cut_level_in self.now cut level) }
     {
         let (width, height) = self.size(level);
         let (cell_width, cell_height) = cell_sides(self.pattern(level), cut);

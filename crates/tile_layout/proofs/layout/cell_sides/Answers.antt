@@ -8,6 +8,7 @@ returns-in-Some-clause-across c = λ side le.
       some = omega (arith, is.0.low);
       high = is.0.high;
       long = λ short. omega (arith, is.0.low);
+      even = λ cut. omega (arith, is.0.multiple);
     }
 
 pub returns-in-Some-clause-down : goal.returns-in-Some-clause-down
@@ -17,4 +18,5 @@ returns-in-Some-clause-down c = λ side le.
       some = omega (arith, is.1.low);
       high = is.1.high;
       long = λ short. omega (arith, is.1.low);
+      even = λ cut. omega (arith, is.1.multiple);
     }

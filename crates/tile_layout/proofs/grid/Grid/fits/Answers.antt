@@ -1,4 +1,4 @@
-use Rattle.std.proofs.Common.{◌≡◌, ◌*◌, refl, arith}
+use Rattle.std.proofs.Common.{◌≡◌, ◌*◌, refl}
 use Rattle.std.proofs.lemmas.Bool.{leb-true, le-leb}
 use Rattle.tile_layout.specs.Grid.{shown_grid}
 use Rattle.tile_layout.specs.Cell.{max_cell_bytes}
