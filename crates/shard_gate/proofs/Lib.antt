@@ -3,6 +3,7 @@ mod NewLemmas
 mod PermitLemmas
 mod RuleLemmas
 mod SeatLemmas
+pub mod SinceLemmas
 mod SumLemmas
 mod TagLemmas
 mod TileLemmas

@@ -6,7 +6,7 @@ use Rattle.tile_layout.specs.declared.cut.Cut.{Cut}
 use Rattle.shard_gate.specs.Seated.{ShardId, SeatAt, IsMadeBy, first_seat}
 use Rattle.shard_gate.specs.Gate.{AreLimits, IsFirstSeat, max_pins}
 use Rattle.shard_gate.specs.Kept.{IsPinSeat, gate_state, seat_state}
-use Rattle.shard_gate.proofs.SeatLemmas.{first_parts, first_shards, first_turns}
+use Rattle.shard_gate.proofs.SeatLemmas.{first_parts, first_shards, first_visits}
 
 module _ (tables : List ShardId) (seats : List SeatAt) (pins : List ℕ) (passes : ℕ)
     (each : seats ≡ map first_seat tables) (none : pins ≡ []) where
@@ -32,5 +32,5 @@ module _ (tables : List ShardId) (seats : List SeatAt) (pins : List ℕ) (passes
         gate = first_shards tables;
         permits = refl;
         pins = none;
-        turns = first_turns tables;
+        visits = first_visits tables;
       })

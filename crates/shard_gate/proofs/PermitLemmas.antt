@@ -8,7 +8,8 @@ use Rattle.tile_layout.specs.declared.cut.Cut.{Cut}
 use Rattle.shard_gate.specs.Seated.{ShardId, SeatAt, shard_of_seat, kept_seat, new_seat}
 use Rattle.shard_gate.specs.Seated.{both_seats, joined_seats}
 use Rattle.shard_gate.specs.Gate.{PinSeatState, IsSecondSeat, AfterSplit, AfterJoin, max_pins}
-use Rattle.shard_gate.specs.Kept.{IsPinSeat, IsPartOf, IsGate, seat_state, turns_of_seat}
+use Rattle.shard_gate.specs.Visit.{visits_at}
+use Rattle.shard_gate.specs.Kept.{IsPinSeat, IsPartOf, IsGate, seat_state, visits_of_seat}
 
 -- A change of permits alone leaves each seat at its shard.
 pub same_by : {Y : Type 0} (f : SeatAt → Y) (g : SeatAt → SeatAt) (seats : List SeatAt)
@@ -16,12 +17,12 @@ pub same_by : {Y : Type 0} (f : SeatAt → Y) (g : SeatAt → SeatAt) (seats : L
 same_by f g [] stays = refl
 same_by f g (s ∷ seats) stays = λ i. stays s i ∷ same_by f g seats stays i
 
--- a new seat has taken no turn
-pub no_turns : (seats : List SeatAt) (k : ℕ)
-    → get_or (map turns_of_seat (map new_seat seats)) k 0 ≡ 0
-no_turns [] k = refl
-no_turns (s ∷ seats) zero = refl
-no_turns (s ∷ seats) (suc k) = no_turns seats k
+-- a new seat has made no visit
+pub no_visits : (seats : List SeatAt) (k : ℕ)
+    → visits_at k (map visits_of_seat (map new_seat seats)) ≡ []
+no_visits [] k = refl
+no_visits (s ∷ seats) zero = refl
+no_visits (s ∷ seats) (suc k) = no_visits seats k
 
 module _ (seats : List SeatAt) (permits : ℕ) (pins : List ℕ) (room : ℕ)
     (kept : IsPinSeat seats permits pins room) (p : PinSeatState)
@@ -51,8 +52,8 @@ module _ (seats : List SeatAt) (permits : ℕ) (pins : List ℕ) (room : ℕ)
         ∙ ap (λ (q : PinSeatState). q.gate) is;
     permits = ap (λ (q : PinSeatState). q.permits - 1) is;
     pins = ap (λ (q : PinSeatState). q.pins) is;
-    turns = same_by turns_of_seat kept_seat seats (λ s. refl)
-        ∙ ap (λ (q : PinSeatState). q.turns) is;
+    visits = same_by visits_of_seat kept_seat seats (λ s. refl)
+        ∙ ap (λ (q : PinSeatState). q.visits) is;
   }
 
   pub second_seat : IsSecondSeat p (seat_state (map new_seat seats) 1 [])
@@ -61,7 +62,7 @@ module _ (seats : List SeatAt) (permits : ℕ) (pins : List ℕ) (room : ℕ)
         ∙ ap (λ (q : PinSeatState). q.gate) is;
     permits = refl;
     pins = refl;
-    turns = no_turns seats;
+    visits = no_visits seats;
   }
 
   -- Each shard of the seat has the passes of the gate.
@@ -178,5 +179,5 @@ module _ (a b : List SeatAt) (own theirs : ℕ) (pins held : List ℕ) (room spa
       ap (λ (s : PinSeatState). s.permits) is_q,
     );
     pins = ap (λ (s : PinSeatState). s.pins) is;
-    turns = joined_by turns_of_seat a b (λ x y. refl) ∙ ap (λ (s : PinSeatState). s.turns) is;
+    visits = joined_by visits_of_seat a b (λ x y. refl) ∙ ap (λ (s : PinSeatState). s.visits) is;
   }

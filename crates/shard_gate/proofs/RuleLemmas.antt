@@ -10,15 +10,17 @@ use prog.Atomic.{either}
 use Rattle.atomic_table.specs.Table.{State, Me, Act, keeps, takes, gives, step, rest, put_back}
 use Rattle.atomic_table.specs.Table.{Valid, stepped, carried_after, Allows, Splits, Joins}
 use Rattle.atomic_table.proofs.Lists.{at_set, at_snoc, set_here, exchanged}
+use Rattle.tile_store.specs.Entry.{Entries}
 use Rattle.shard_gate.specs.declared.standing.Standing.{Standing}
 use Rattle.shard_gate.specs.declared.rule.Terms.{Terms}
 use Rattle.shard_gate.specs.Turn.{OneTurn, IsOf, Took, Gave, Counted}
 use Rattle.shard_gate.specs.Turn.{turn_word, tag_word, turn_of, permits_of, with_turn, without_turn}
+use Rattle.shard_gate.specs.Turn.{entries_of}
 use Rattle.shard_gate.specs.Turn.{kept_standing, new_standing, both_standings, spent_standing}
 use Rattle.shard_gate.specs.Seated.{IsIdle}
 use Rattle.shard_gate.proofs.SumLemmas.{sum_set, sum_has}
 
-module _ {S : Type 0} (lawful : ℕ → S → Type 0) (terms : Terms) where
+module _ {S : Type 0} (lawful : ℕ → S → Type 0) (shown : S → Entries) (terms : Terms) where
   -- each seat is of the table
   abbrev pub EachIsOf : List Standing → Type 0
   EachIsOf views = (seat : ℕ) (v : Standing) → get_elem? views seat ≡ some v → IsOf terms v
@@ -73,7 +75,7 @@ module _ {S : Type 0} (lawful : ℕ → S → Type 0) (terms : Terms) where
 
   pub take_allowed : (slots id : ℕ) (me : Me S Standing) → IsIdle me
       → Allows (OneTurn lawful terms) slots id me turn_word (λ n. either (n == 0) 1 n)
-      (Took lawful (step slots turn_word 0 1 none) me)
+      (Took lawful shown (step slots turn_word 0 1 none) me)
   take_allowed slots id me idle s kept homes at fits =
       let n : ℕ = slice_index s.words turn_word in
       let right : IsOf terms me.0 = kept.views id me.0 at in
@@ -81,19 +83,19 @@ module _ {S : Type 0} (lawful : ℕ → S → Type 0) (terms : Terms) where
       exchanged n 0 1
       (λ m. (w : Standing) × (a : Act S) × Valid s.homes me.1 a
       × OneTurn lawful terms (stepped s turn_word m id me.1 w a)
-      × Took lawful (step slots turn_word 0 1 none) me n (w, carried_after me.1 a))
-      (λ free. let home = kept.home free in (
-        with_turn me.0,
+      × Took lawful shown (step slots turn_word 0 1 none) me n (w, carried_after me.1 a))
+      (λ free. let home = kept.home free in let won = with_turn (shown home.0) me.0 in (
+        won,
         takes 0 home.0,
         home.1,
-        after s id 1 me.0 (with_turn me.0) (set s.homes 0 none) kept at (omega arith)
+        after s id 1 me.0 won (set s.homes 0 none) kept at (omega arith)
             (omega (arith, free, none_out)) refl
-            (other_view me.0 (with_turn me.0) right idle.live refl refl refl)
+            (other_view me.0 won right idle.live refl refl refl)
             (λ e. absurd (omega arith)),
         record {
           won = λ _. (
             home.0,
-            ap (λ l. (with_turn me.0, (0, home.0) ∷ l)) idle.slots,
+            ap (λ l. (won, (0, home.0) ∷ l)) idle.slots,
             subst (λ t. lawful t home.0) (sym (right.tag idle.live)) home.2,
           );
           lost = λ e. absurd (e free);
@@ -110,21 +112,22 @@ module _ {S : Type 0} (lawful : ℕ → S → Type 0) (terms : Terms) where
   pub give_allowed : (slots id : ℕ) (me : Me S Standing) (body : S) → me.0.live ≡ true
       → me.0.has_turn ≡ true → me.1 ≡ (0, body) ∷ [] → lawful me.0.tag body → slots ≡ 1
       → Allows (OneTurn lawful terms) slots id me turn_word (λ _. 0)
-      (λ _. Gave (step slots turn_word 0 0 none) me 0)
+      (λ _. Gave shown (step slots turn_word 0 0 none) me 0)
   give_allowed slots id me body live turn has right one s kept homes at fits =
       let view : IsOf terms me.0 = kept.views id me.0 at in
+      let left = without_turn (entries_of shown me.1) me.0 in
       let one_out : turn_of me.0 ≡ 1 = ap (λ b. cond b 1 0) turn in
       let out : turn_of me.0 ≤ slice_index s.words turn_word =
       subst (λ n. turn_of me.0 ≤ n) kept.turn (sum_has turn_of s.views id me.0 at) in
       let there : get_elem? (put_back s.homes me.1) 0 ≡ some (some body) =
       ap (λ c. get_elem? (put_back s.homes c) 0) has
       ∙ set_here s.homes 0 (some body) (omega (arith, homes, one)) in (
-        without_turn me.0,
+        left,
         gives,
         tt,
-        after s id 0 me.0 (without_turn me.0) (put_back s.homes me.1) kept at zero-le
+        after s id 0 me.0 left (put_back s.homes me.1) kept at zero-le
             (omega (arith, one_out, out, kept.most)) refl
-            (other_view me.0 (without_turn me.0) view live refl refl refl)
+            (other_view me.0 left view live refl refl refl)
             (λ _. (body, there, subst (λ t. lawful t body) (view.tag live) right)),
         record { view = refl; slots = ap rest has },
       )

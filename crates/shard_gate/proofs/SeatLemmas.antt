@@ -8,7 +8,8 @@ use Rattle.std.proofs.lemmas.List.Sorted.{IsPermutation-swap_remove}
 use Rattle.std.proofs.lemmas.List.Elements.{All-map}
 use Rattle.shard_gate.specs.Seated.{ShardId, SeatAt, shard_of_seat, first_seat, IsMadeBy}
 use Rattle.shard_gate.specs.Gate.{PinSeatState, OnePinMore, OnePinLess, max_passes, max_pins}
-use Rattle.shard_gate.specs.Kept.{IsPinSeat, IsPartOf, seat_state, turns_of_seat}
+use Rattle.shard_gate.specs.Visit.{visits_at}
+use Rattle.shard_gate.specs.Kept.{IsPinSeat, IsPartOf, seat_state, visits_of_seat}
 
 pub few_permits : (seats : List SeatAt) (permits : ℕ) (pins : List ℕ) (room : ℕ)
     → IsPinSeat seats permits pins room → permits ≤ max_passes
@@ -92,9 +93,9 @@ pub first_shards : (tables : List ShardId) → map shard_of_seat (map first_seat
 first_shards [] = refl
 first_shards (t ∷ tables) = ap (λ (l : List ShardId). t ∷ l) (first_shards tables)
 
--- It has taken no turn.
-pub first_turns : (tables : List ShardId) (k : ℕ)
-    → get_or (map turns_of_seat (map first_seat tables)) k 0 ≡ 0
-first_turns [] k = refl
-first_turns (t ∷ tables) zero = refl
-first_turns (t ∷ tables) (suc k) = first_turns tables k
+-- It has made no visit.
+pub first_visits : (tables : List ShardId) (k : ℕ)
+    → visits_at k (map visits_of_seat (map first_seat tables)) ≡ []
+first_visits [] k = refl
+first_visits (t ∷ tables) zero = refl
+first_visits (t ∷ tables) (suc k) = first_visits tables k

@@ -1,6 +1,6 @@
 -- Which gate is it, what is known of a caller's seat at it, and what does each call leave of that?
-use Rattle.std.specs.Prelude.{◌≡◌, ◌≢◌, ℕ, ◌+◌, ◌-◌, ◌*◌, ◌/◌, ◌%◌, ◌^◌, ◌<◌, ◌≤◌, List, [], ◌∷◌}
-use Rattle.std.specs.Prelude.{length, slice_index, IsPermutation, Result, Option, IfOk, IfSome}
+use Rattle.std.specs.Prelude.{◌≡◌, ℕ, ◌+◌, ◌-◌, ◌*◌, ◌/◌, ◌%◌, ◌^◌, ◌≤◌, List, [], ◌∷◌}
+use Rattle.std.specs.Prelude.{length, IsPermutation, Result, Option, IfOk, IfSome}
 use Rattle.std.specs.Prelude.{IfNone}
 use Rattle.std.specs.List.{All}
 use Rattle.tex_world.specs.World.{Files}
@@ -8,12 +8,13 @@ use Rattle.tile_layout.specs.declared.cut.Cut.{Cut}
 use Rattle.tile_layout.specs.declared.shard_count.ShardCount.{ShardCount}
 use Rattle.tile_layout.specs.Cut.{IsCut}
 use Rattle.tile_layout.specs.Key.{generation_of, file_of, level_of, index_of}
-use Rattle.tile_layout.specs.Cell.{cut_level_of, cell_rect}
 use Rattle.tile_store.specs.Tile.{CachedTile}
 use Rattle.tile_store.specs.Told.{ToldBy}
-use Rattle.tile_store.specs.Entry.{Entries, pin_sum, loose_bytes}
+use Rattle.tile_store.specs.Entry.{Entries}
 use Rattle.tile_store.specs.Tag.{tag_of}
-use Rattle.tile_store.specs.Lawful.{FitsCut, Lawful}
+use Rattle.tile_store.specs.Lawful.{HasCell, FitsCut, Lawful}
+use Rattle.shard_gate.specs.Visit.{Visit, visits_at}
+use Rattle.shard_gate.specs.Given.{IsCountOf}
 use Rattle.shard_gate.specs.Seated.{ShardId}
 use Rattle.shard_gate.specs.declared.error.NotPinned.{NotPinned}
 use Rattle.shard_gate.specs.declared.error.NotPinned.TheVariants.{NoMemory, Busy}
@@ -33,6 +34,14 @@ max_passes = 16
 -- the pins that a seat may hold for each of its permits
 abbrev pub max_pins : ℕ
 max_pins = 7
+
+-- the slots of a shard beside those that all seats may pin
+abbrev pub more_slots : ℕ
+more_slots = 1024
+
+-- the slots of a shard, by the permits of all seats
+abbrev pub slots_of : ℕ → ℕ
+slots_of all_permits = max_pins * all_permits + more_slots
 
 -- the shard of a key, among so many
 abbrev pub shard_of : ℕ → ℕ → ℕ
@@ -57,8 +66,8 @@ pub record PinSeatState : Type 0 where
   pub permits : ℕ
   -- the keys of the pins that it holds, each as often as it has pinned it
   pub pins : List ℕ
-  -- how often it has taken the turn of each shard
-  pub turns : List ℕ
+  -- its visits to each shard, the last first
+  pub visits : List (List Visit)
 
 -- What is known of a pin.
 pub record PinState : Type 0 where
@@ -81,17 +90,17 @@ pub record IsNewGate (budget shards passes : ℕ) (cut_given : Cut) (gate : Gate
   pub all_permits : gate.passes ≡ passes
   pub tags : All (λ id. id.tag ≡ tag_of (budget / shards) cut_given) gate.id
 
--- The seat of a new gate has all permits and no pin, and has taken no turn.
+-- The seat of a new gate has all permits and no pin, and has made no visit.
 pub record IsFirstSeat (made : GateState) (seat : PinSeatState) : Type 0 where
   pub gate : seat.gate ≡ made.id
   pub permits : seat.permits ≡ made.passes
   pub pins : seat.pins ≡ []
-  pub turns : (k : ℕ) → slice_index seat.turns k ≡ 0
+  pub visits : (k : ℕ) → visits_at k seat.visits ≡ []
 
--- where the world tells, the tile's rectangle is that of the cell of its key
+-- where the world tells, the key names a cell of its file under the cut, and the tile has the
+-- rectangle of that cell
 abbrev pub HasCellRect : Files → Cut → CachedTile → Type 0
-HasCellRect files cut tile = ToldBy files tile.key (λ bytes.
-    tile.rect ≡ cell_rect (cut_level_of bytes cut (level_of tile.key)) (index_of tile.key))
+HasCellRect files cut tile = ToldBy files tile.key (λ bytes. HasCell cut bytes tile)
 
 -- The tile is that of the key, and where the world tells it is the cell under the cut.
 pub record IsTileOf (files : Files) (cut : Cut) (key : ℕ) (tile : CachedTile) : Type 0 where
@@ -109,10 +118,8 @@ IfNotFound result P = IfOk result (λ found. IfNone found P)
 -- The count is that of entries which are lawful for the tag.
 pub record CountsLawful (files : Files) (tag : ℕ) (count : ShardCount) : Type 0 where
   pub entries : Entries
+  pub numbers : IsCountOf entries count
   pub lawful : Lawful files tag entries
-  pub tiles : count.tiles ≡ length entries
-  pub pins : count.pins ≡ pin_sum entries
-  pub loose : count.loose ≡ loose_bytes entries
 
 -- The seat belongs to the same gate, with the same permits and the same pins.
 pub record SamePins (old new : PinSeatState) : Type 0 where
@@ -137,65 +144,30 @@ pub record IsSameSeat (old new : PinSeatState) : Type 0 where
   pub gate : new.gate ≡ old.gate
   pub permits : new.permits ≡ old.permits
   pub pins : new.pins ≡ old.pins
-  pub turns : new.turns ≡ old.turns
+  pub visits : new.visits ≡ old.visits
 
 -- The tile comes back where the waiter gave up.
 abbrev pub GivesBackIfBusy : {W B : Type 0} → CachedTile → NotPinned W B → Type 0
 GivesBackIfBusy tile NoMemory = Unit {0}
 GivesBackIfBusy tile (Busy back busy) = back ≡ tile
 
--- The turn of this shard was taken once more, and that of no other.
-pub record OneTurnMore (shard : ℕ) (old new : List ℕ) : Type 0 where
-  pub here : slice_index new shard ≡ slice_index old shard + 1
-  pub others : (k : ℕ) → k ≢ shard → slice_index new k ≡ slice_index old k
-
--- The turn of this shard may have been taken, and that of no other.
-pub record TurnsOf (shard : ℕ) (old new : List ℕ) : Type 0 where
-  pub here : slice_index old shard ≤ slice_index new shard
-  pub others : (k : ℕ) → k ≢ shard → slice_index new k ≡ slice_index old k
-
--- The turn of this shard was taken.
-abbrev pub HasTurned : ℕ → List ℕ → List ℕ → Type 0
-HasTurned shard old new = slice_index old shard < slice_index new shard
-
--- The turn of each of the first shards was taken once more, and that of no other.
-pub record TurnsBelow (count : ℕ) (old new : List ℕ) : Type 0 where
-  pub below : (k : ℕ) → k < count → slice_index new k ≡ slice_index old k + 1
-  pub others : (k : ℕ) → count ≤ k → slice_index new k ≡ slice_index old k
-
--- The turns of the first shards were taken once each, but not of all, and no other.
-abbrev pub TurnsOfSome : ℕ → List ℕ → List ℕ → Type 0
-TurnsOfSome count old new = (n : ℕ) × (n < count) × TurnsBelow n old new
-
--- The turn of the key's shard was taken once, and no other.
-abbrev pub OneTurnAt : GateState → ℕ → PinSeatState → PinSeatState → Type 0
-OneTurnAt gate key old new = OneTurnMore (shard_of (length gate.id) key) old.turns new.turns
-
--- The turn of the key's shard may have been taken, and no other.
-abbrev pub TurnsAt : GateState → ℕ → PinSeatState → PinSeatState → Type 0
-TurnsAt gate key old new = TurnsOf (shard_of (length gate.id) key) old.turns new.turns
-
--- The turn of the key's shard was taken.
-abbrev pub HasTurnedAt : GateState → ℕ → PinSeatState → PinSeatState → Type 0
-HasTurnedAt gate key old new = HasTurned (shard_of (length gate.id) key) old.turns new.turns
-
--- The new seat has one permit and no pin, and has taken no turn.
+-- The new seat has one permit and no pin, and has made no visit.
 pub record IsSecondSeat (old seat : PinSeatState) : Type 0 where
   pub gate : seat.gate ≡ old.gate
   pub permits : seat.permits ≡ 1
   pub pins : seat.pins ≡ []
-  pub turns : (k : ℕ) → slice_index seat.turns k ≡ 0
+  pub visits : (k : ℕ) → visits_at k seat.visits ≡ []
 
 -- A seat keeps all permits but one, and all its pins.
 pub record AfterSplit (old new : PinSeatState) : Type 0 where
   pub gate : new.gate ≡ old.gate
   pub permits : new.permits ≡ old.permits - 1
   pub pins : new.pins ≡ old.pins
-  pub turns : new.turns ≡ old.turns
+  pub visits : new.visits ≡ old.visits
 
 -- A seat has the permits of both, and its own pins.
 pub record AfterJoin (other old new : PinSeatState) : Type 0 where
   pub gate : new.gate ≡ old.gate
   pub permits : new.permits ≡ old.permits + other.permits
   pub pins : new.pins ≡ old.pins
-  pub turns : new.turns ≡ old.turns
+  pub visits : new.visits ≡ old.visits

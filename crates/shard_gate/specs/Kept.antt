@@ -4,13 +4,14 @@ use Rattle.std.specs.List.{All}
 use Rattle.tile_layout.specs.declared.cut.Cut.{Cut}
 use Rattle.tile_layout.specs.Cut.{IsCut}
 use Rattle.tile_store.specs.Tag.{tag_of}
+use Rattle.shard_gate.specs.Visit.{Visit}
 use Rattle.shard_gate.specs.Seated.{ShardId, SeatAt, shard_of_seat, IsMadeBy}
 use Rattle.shard_gate.specs.Gate.{GateState, PinSeatState}
 use Rattle.shard_gate.specs.Gate.{max_shards, max_passes, max_pins, max_budget}
 
--- the turns of a seat
-abbrev pub turns_of_seat : SeatAt → ℕ
-turns_of_seat s = s.turns
+-- the visits of a seat
+abbrev pub visits_of_seat : SeatAt → List Visit
+visits_of_seat s = s.visits
 
 -- what is known of the seat that has these at the shards
 abbrev pub seat_state : List SeatAt → ℕ → List ℕ → PinSeatState
@@ -18,7 +19,7 @@ seat_state seats permits pins = record {
   gate = map shard_of_seat seats;
   permits = permits;
   pins = pins;
-  turns = map turns_of_seat seats;
+  visits = map visits_of_seat seats;
 }
 
 -- The seat at a shard has these permits, which are not more than the passes, and there is room for

@@ -1,5 +1,9 @@
+pub mod Visit
+pub mod Given
 pub mod Turn
 pub mod Seated
 pub mod Gate
 pub mod Kept
-pub mod Visit
+pub mod Work
+pub mod Calls
+pub mod Since

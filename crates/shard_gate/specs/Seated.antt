@@ -4,6 +4,7 @@ use Rattle.atomic_table.specs.Table.{Me}
 use Rattle.atomic_table.specs.Seated.{TableId}
 use Rattle.atomic_table.specs.declared.shared.Seat.{Seat}
 use Rattle.shard_gate.specs.Turn.{word_count}
+use Rattle.shard_gate.specs.Visit.{Visit}
 use Rattle.std.specs.List.{All}
 use Rattle.shard_gate.specs.declared.standing.Standing.{Standing}
 use Rattle.shard_gate.specs.declared.rule.Terms.{Terms}
@@ -35,8 +36,8 @@ pub record SeatAt : Type 0 where
   -- the shard that it belongs to
   pub shard : ShardId
   pub permits : ℕ
-  -- how often it has taken the turn of the shard
-  pub turns : ℕ
+  -- its visits to the shard, the last first
+  pub visits : List Visit
 
 -- The table has the words and the one slot.
 pub record IsLaid (passes : ℕ) (table : TableId) : Type 0 where
@@ -54,7 +55,7 @@ module _ {S : Type 0} where
       table = seat.table_id;
     };
     permits = seat.me.0.permits;
-    turns = seat.me.0.turns;
+    visits = seat.me.0.visits;
   }
 
   -- The seat has no turn and no body.
@@ -74,15 +75,15 @@ shard_of_seat s = s.shard
 
 -- the first seat at a shard has all permits
 abbrev pub first_seat : ShardId → SeatAt
-first_seat id = record { shard = id; permits = id.passes; turns = 0 }
+first_seat id = record { shard = id; permits = id.passes; visits = [] }
 
 -- a seat keeps all permits but one
 abbrev pub kept_seat : SeatAt → SeatAt
 kept_seat s = record s { permits = s.permits - 1 }
 
--- that one is the permit of a new seat, which has taken no turn yet
+-- that one is the permit of a new seat, which has made no visit yet
 abbrev pub new_seat : SeatAt → SeatAt
-new_seat s = record s { permits = 1; turns = 0 }
+new_seat s = record s { permits = 1; visits = [] }
 
 -- a seat with the permits of both
 abbrev pub both_seats : SeatAt → SeatAt → SeatAt

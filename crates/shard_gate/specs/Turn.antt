@@ -2,11 +2,13 @@
 use Rattle.std.specs.Prelude.{◌≡◌, ◌≢◌, ℕ, ◌+◌, ◌-◌, ◌≤◌, true, false, cond, List, [], ◌∷◌, length}
 use Rattle.std.specs.Prelude.{slice_index}
 use Rattle.std.specs.List.{sum_by}
+use Rattle.tile_store.specs.Entry.{Entries}
 use mathlib.Core.Option.{some}
 use lib.ListN.{get_elem?}
 use Rattle.atomic_table.specs.Table.{State, Me, Step}
 use Rattle.shard_gate.specs.declared.standing.Standing.{Standing}
 use Rattle.shard_gate.specs.declared.rule.Terms.{Terms}
+use Rattle.shard_gate.specs.Visit.{begun, ended}
 
 -- the words of a table, of which two in the middle are used: so within 128 bytes of the turn stands
 -- nothing of another table
@@ -37,7 +39,7 @@ first_standing terms = record {
   passes = terms.passes;
   permits = terms.passes;
   has_turn = false;
-  turns = 0;
+  visits = [];
 }
 
 -- A live seat names the table's tag and passes. A spent seat has no permit and no turn.
@@ -47,21 +49,21 @@ pub record IsOf (terms : Terms) (v : Standing) : Type 0 where
   pub permits : v.live ≡ false → v.permits ≡ 0
   pub turn : v.live ≡ false → v.has_turn ≡ false
 
--- what the seat knows once it has the turn
-abbrev pub with_turn : Standing → Standing
-with_turn v = record v { has_turn = true; turns = v.turns + 1 }
+-- what the seat knows once it has the turn, and a body with these entries
+abbrev pub with_turn : Entries → Standing → Standing
+with_turn es v = record v { has_turn = true; visits = begun es ∷ v.visits }
 
--- what it knows once it has given the turn back
-abbrev pub without_turn : Standing → Standing
-without_turn v = record v { has_turn = false }
+-- what it knows once it has given the turn back, with these
+abbrev pub without_turn : Entries → Standing → Standing
+without_turn es v = record v { has_turn = false; visits = ended es v.visits }
 
 -- a seat keeps all permits but one
 abbrev pub kept_standing : Standing → Standing
 kept_standing v = record v { permits = v.permits - 1 }
 
--- that one is the permit of a new seat, which has taken no turn yet
+-- that one is the permit of a new seat, which has made no visit yet
 abbrev pub new_standing : Standing → Standing
-new_standing v = record v { permits = 1; turns = 0 }
+new_standing v = record v { permits = 1; visits = [] }
 
 -- the permits of both
 abbrev pub both_standings : Standing → Standing → Standing
@@ -75,7 +77,7 @@ spent_standing = record {
   passes = 0;
   permits = 0;
   has_turn = false;
-  turns = 0;
+  visits = [];
 }
 
 module _ {S : Type 0} where
@@ -93,25 +95,30 @@ module _ {S : Type 0} where
         → (body : S) × (get_elem? s.homes 0 ≡ some (some body)) × lawful terms.tag body
     pub permits : sum_by permits_of s.views ≡ terms.passes
 
-  -- The seat has the turn, with a body that is lawful for its tag.
-  abbrev pub HasBody : (ℕ → S → Type 0) → Standing → Me S Standing → Type 0
-  HasBody lawful old new =
-      (body : S) × (new ≡ (with_turn old, (0, body) ∷ [])) × lawful old.tag body
+  -- The seat has the turn, with a body that is lawful for its tag. That began a visit.
+  abbrev pub HasBody : (ℕ → S → Type 0) → (S → Entries) → Standing → Me S Standing → Type 0
+  HasBody lawful shown old new =
+      (body : S) × (new ≡ (with_turn (shown body) old, (0, body) ∷ [])) × lawful old.tag body
+
+  -- the entries of the body in the slot that a seat has
+  abbrev pub entries_of : (S → Entries) → List (ℕ × S) → Entries
+  entries_of shown [] = []
+  entries_of shown (slot ∷ slots) = shown slot.1
 
   -- These slots are one body, which is lawful for the tag.
   abbrev pub AreLawful : (ℕ → S → Type 0) → ℕ → List (ℕ × S) → Type 0
   AreLawful lawful tag slots = (body : S) × (slots ≡ (0, body) ∷ []) × lawful tag body
 
   -- A take that finds the turn free has it, and else nothing has changed.
-  pub record Took (lawful : ℕ → S → Type 0) (step : Step S) (old : Me S Standing) (found : ℕ)
-      (new : Me S Standing) : Type 0 where
-    pub won : found ≡ 0 → HasBody lawful old.0 new
+  pub record Took (lawful : ℕ → S → Type 0) (shown : S → Entries) (step : Step S)
+      (old : Me S Standing) (found : ℕ) (new : Me S Standing) : Type 0 where
+    pub won : found ≡ 0 → HasBody lawful shown old.0 new
     pub lost : found ≢ 0 → new ≡ old
 
-  -- After a give the seat has neither turn nor body.
-  pub record Gave (step : Step S) (old : Me S Standing) (found : ℕ) (new : Me S Standing)
-      : Type 0 where
-    pub view : new.0 ≡ without_turn old.0
+  -- After a give the seat has neither turn nor body, and its last visit is over.
+  pub record Gave (shown : S → Entries) (step : Step S) (old : Me S Standing) (found : ℕ)
+      (new : Me S Standing) : Type 0 where
+    pub view : new.0 ≡ without_turn (entries_of shown old.1) old.0
     pub slots : new.1 ≡ []
 
   -- A load changes nothing, and tells that the seat has no more permits than all together.

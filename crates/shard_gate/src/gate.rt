@@ -1,9 +1,11 @@
-ghost use Rattle.std.specs.Prelude.{◌≡◌, ◌+◌, ◌-◌, ◌*◌, ◌<◌, ◌≤◌, [], length, Contains};
-ghost use Rattle.std.specs.Prelude.{IfOk, IfErr, OnOk, OnErr, OnSome};
+ghost use Rattle.std.specs.Prelude.{◌≡◌, ◌-◌, ◌*◌, ◌<◌, ◌≤◌, [], length, Contains};
+ghost use Rattle.std.specs.Prelude.{IfOk, IfErr, OnOk, OnErr, OnSome, option_map};
 ghost use Rattle.shard_gate.specs.Gate.{max_pins, shard_of, AreLimits, IsNewGate, IsFirstSeat};
 ghost use Rattle.shard_gate.specs.Gate.{IsTileOf, HasCellRect, SamePins, OnePinMore, OnePinLess};
-ghost use Rattle.shard_gate.specs.Gate.{OneTurnMore, TurnsBelow, TurnsOfSome, IsSameSeat};
-ghost use Rattle.shard_gate.specs.Gate.{TurnsAt, HasTurnedAt, OneTurnAt, CountsLawful};
+ghost use Rattle.shard_gate.specs.Gate.{IsSameSeat, slots_of};
+ghost use Rattle.shard_gate.specs.Given.{Finds, Inserts, Releases, Purges, Counts};
+ghost use Rattle.shard_gate.specs.Given.{AtShard, AtFirst, AtSome};
+ghost use Rattle.shard_gate.specs.Calls.{tile_of, VisitsAt, IfNotPinned, IfNotInserted};
 ghost use Rattle.shard_gate.specs.Gate.{IfFound, IfNotFound};
 ghost use Rattle.shard_gate.specs.Gate.{IsSecondSeat, AfterSplit, AfterJoin, GivesBackIfBusy};
 ghost use Rattle.std.specs.Arc.{arc_value};
@@ -103,8 +105,10 @@ impl<W: World> Gate<W> {
         ensures pinned { IfOk result (λ found. OnSome found (OnePinMore key p.old p.new)) }
         ensures none { IfNotFound result (SamePins p.old p.new) }
         ensures err { OnErr result (SamePins p.old p.new) }
-        ensures turns { TurnsAt self.now key p.old p.new }
-        ensures turned { OnOk result (HasTurnedAt self.now key p.old p.new) }
+        // Which entries it found, and which it gave back.
+        ensures visits { IfOk result (λ found.
+            VisitsAt self.now key (Finds key (option_map tile_of found)) p.old p.new) }
+        ensures refused { IfErr result (λ e. VisitsAt self.now key (IfNotPinned e) p.old p.new) }
     {
         match self.find(waiter, p, key) {
             Ok(Some(tile)) => {
@@ -132,8 +136,11 @@ impl<W: World> Gate<W> {
         // What the call leaves of the seat.
         ensures pinned { OnOk result (OnePinMore tile.key p.old p.new) }
         ensures err { OnErr result (SamePins p.old p.new) }
-        ensures turns { TurnsAt self.now tile.key p.old p.new }
-        ensures turned { OnOk result (HasTurnedAt self.now tile.key p.old p.new) }
+        // Which entries it found, and which it gave back.
+        ensures visits { IfOk result (λ pin. VisitsAt self.now tile.key
+            (Inserts (slots_of self.now.passes) tile pin.tile) p.old p.new) }
+        ensures refused { IfErr result (λ e.
+            VisitsAt self.now tile.key (IfNotInserted e) p.old p.new) }
     {
         let key = tile.key();
         match self.insert(waiter, p, key, tile) {
@@ -156,7 +163,8 @@ impl<W: World> Gate<W> {
         requires gate { p.old.gate ≡ self.now.id }
         requires made { Contains p.old.pins pin.tile.key }
         ensures ok { OnOk result (OnePinLess pin.tile.key p.old p.new) }
-        ensures turns { OnOk result (OneTurnAt self.now pin.tile.key p.old p.new) }
+        ensures visits { OnOk result (VisitsAt self.now pin.tile.key
+            (Releases self.now.share pin.tile.key) p.old p.new) }
         ensures err { OnErr result (IsSameSeat p.old p.new) }
         ensures back { IfErr result (λ e. e.pin ≡ pin) }
     {
@@ -180,8 +188,10 @@ impl<W: World> Gate<W> {
         below: u32,
     ) -> Result<(), T::Busy>
         requires { p.old.gate ≡ self.now.id }
-        ensures ok { OnOk result (TurnsBelow (length self.now.id) p.old.turns p.new.turns) }
-        ensures err { OnErr result (TurnsOfSome (length self.now.id) p.old.turns p.new.turns) }
+        ensures visits { OnOk result
+            (AtFirst (length self.now.id) (Purges file below) p.old.visits p.new.visits) }
+        ensures err { OnErr result
+            (AtSome (length self.now.id) (Purges file below) p.old.visits p.new.visits) }
         ensures same { SamePins p.old p.new }
     {
         for shard in 0..self.tables.len() {
@@ -201,12 +211,13 @@ impl<W: World> Gate<W> {
     ) -> Result<ShardCount, T::Busy>
         requires gate { p.old.gate ≡ self.now.id }
         requires shard { shard < length self.now.id }
-        ensures lawful { IfOk result (CountsLawful W.files (tag_of self.now.share self.now.cut)) }
+        // One record has the numbers, the entries that they are of, and the visit that found them.
+        ensures lawful { IfOk result (λ count. AtShard shard
+            (Counts W.files (tag_of self.now.share self.now.cut) count) p.old.visits p.new.visits) }
         ensures share { IfOk result (λ count. count.share ≡ self.now.share) }
         ensures within { IfOk result (λ count. count.loose ≤ count.share) }
         // What the call leaves of the seat.
         ensures same { SamePins p.old p.new }
-        ensures turns { OnOk result (OneTurnMore shard p.old.turns p.new.turns) }
         ensures err { OnErr result (IsSameSeat p.old p.new) }
     {
         let shard = shard as usize;
@@ -275,7 +286,8 @@ impl<W: World> Gate<W> {
         requires gate { p.old.gate ≡ self.now.id }
         requires shard { shard < length self.now.id }
         ensures same { SamePins p.old p.new }
-        ensures turns { OnOk result (OneTurnMore shard p.old.turns p.new.turns) }
+        ensures visits { OnOk result
+            (AtShard shard (Purges stale.file stale.below) p.old.visits p.new.visits) }
         ensures err { OnErr result (IsSameSeat p.old p.new) }
     {
         self.tables[shard].purge(waiter, &mut p.seats[shard], stale)
@@ -291,8 +303,9 @@ impl<W: World> Gate<W> {
         requires { p.old.gate ≡ self.now.id }
         ensures some { IfFound result (λ tile. IsTileOf W.files self.now.cut key (arc_value tile)) }
         ensures same { SamePins p.old p.new }
-        ensures turns { TurnsAt self.now key p.old p.new }
-        ensures turned { OnOk result (HasTurnedAt self.now key p.old p.new) }
+        ensures visits { IfOk result (λ tile.
+            VisitsAt self.now key (Finds key (option_map arc_value tile)) p.old p.new) }
+        ensures refused { IfErr result (λ e. VisitsAt self.now key (IfNotPinned e) p.old p.new) }
     {
         let shard = self.shard_of(key);
         self.tables[shard].find(waiter, &mut p.seats[shard], key)
@@ -312,8 +325,9 @@ impl<W: World> Gate<W> {
         ensures ok { IfOk result (λ kept. IsTileOf W.files self.now.cut tile.key (arc_value kept)) }
         ensures back { IfErr result (GivesBackIfBusy tile) }
         ensures same { SamePins p.old p.new }
-        ensures turns { TurnsAt self.now key p.old p.new }
-        ensures turned { OnOk result (HasTurnedAt self.now key p.old p.new) }
+        ensures visits { IfOk result (λ kept. VisitsAt self.now key
+            (Inserts (slots_of self.now.passes) tile (arc_value kept)) p.old p.new) }
+        ensures refused { IfErr result (λ e. VisitsAt self.now key (IfNotInserted e) p.old p.new) }
     {
         let shard = self.shard_of(key);
         let slots = PINS as u32 * self.passes + MORE_SLOTS;
@@ -329,7 +343,8 @@ impl<W: World> Gate<W> {
     ) -> Result<(), T::Busy>
         requires { p.old.gate ≡ self.now.id }
         ensures same { SamePins p.old p.new }
-        ensures turns { OnOk result (OneTurnAt self.now key p.old p.new) }
+        ensures visits { OnOk result
+            (VisitsAt self.now key (Releases self.now.share key) p.old p.new) }
         ensures err { OnErr result (IsSameSeat p.old p.new) }
     {
         let shard = self.shard_of(key);

@@ -7,8 +7,7 @@ use tex_world::World;
 use tile_layout::TileKey;
 
 /// What one caller has of a gate: its permits, and the keys of its pins. In a clause it is these,
-/// with the gate that it belongs to and the number of turns that it took of each shard, which takes
-/// no bytes.
+/// with the gate that it belongs to and its visits to each shard, which take no bytes.
 #[derive(Drop)]
 pub struct PinSeat<W: World> {
     pub(crate) seats: Vec<ShardSeat<W>>,
@@ -55,7 +54,7 @@ impl<W: World> PinSeat<W> {
     pub(crate) fn note(&mut self, key: TileKey)
         requires { length self.old.pins < max_pins * self.old.permits }
         ensures pins { OnePinMore key self.old self.new }
-        ensures turns { self.new.turns ≡ self.old.turns }
+        ensures visits { self.new.visits ≡ self.old.visits }
     {
         self.pins.push_reserved(key);
     }
@@ -64,7 +63,7 @@ impl<W: World> PinSeat<W> {
     pub(crate) fn forget(&mut self, key: TileKey)
         requires { Contains self.old.pins key }
         ensures pins { OnePinLess key self.old self.new }
-        ensures turns { self.new.turns ≡ self.old.turns }
+        ensures visits { self.new.visits ≡ self.old.visits }
     {
         let at = place_of(self.pins.as_slice(), key);
         self.pins.swap_remove(at);

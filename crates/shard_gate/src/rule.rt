@@ -1,14 +1,18 @@
 ghost use Rattle.std.specs.Prelude.{ℕ};
+ghost use Rattle.tile_store.specs.Entry.{Entries};
 ghost use Rattle.shard_gate.specs.Turn.{OneTurn, first_standing};
 
 use crate::standing::Standing;
 use atomic_table::TableRule;
 use std::marker::PhantomData;
 
-/// Which bodies may lie in a table. It is a name without data.
+/// Which bodies may lie in a table, and what a visit shows of one. It is a name without data.
 pub(crate) trait BodyRule<S> {
     /// The body may lie in a table of the tag.
     ghost lawful: { ℕ → S → Type 0 };
+
+    /// The entries of the body.
+    ghost shown: { S → Entries };
 }
 
 /// What a table is told when it is made.

@@ -1,11 +1,13 @@
 //! Visits to one shard: the seat takes the turn, works on the tiles, and gives the turn back.
-ghost use Rattle.std.specs.Prelude.{◌≡◌, ◌+◌, ◌<◌, ◌≤◌, OnOk, OnErr, IfOk, IfErr};
+ghost use Rattle.std.specs.Prelude.{◌≡◌, ◌≤◌, OnErr, IfOk, IfErr, OnOk, option_map};
 ghost use Rattle.std.specs.Arc.{arc_value};
 ghost use Rattle.tile_store.specs.Tag.{share_of, cut_of};
 ghost use Rattle.tile_store.specs.Lawful.{FitsCut};
-ghost use Rattle.shard_gate.specs.Visit.{visited, HasVisited, GivesBackIfFull};
-ghost use Rattle.shard_gate.specs.Visit.{FoundUnder, KeptUnder};
-ghost use Rattle.shard_gate.specs.Gate.{GivesBackIfBusy, CountsLawful};
+ghost use Rattle.shard_gate.specs.Given.{Finds, Inserts, Releases, Purges, Counts};
+ghost use Rattle.shard_gate.specs.Work.{IsSeatOf, FoundUnder, KeptUnder, GivesBackIfFull};
+ghost use Rattle.shard_gate.specs.Work.{FindVisit, InsertVisit};
+ghost use Rattle.shard_gate.specs.Calls.{IfNotPinned, IfNotInserted};
+ghost use Rattle.shard_gate.specs.Gate.{GivesBackIfBusy};
 
 use crate::error::{NotFound, NotInserted, NotPinned, PinError};
 use crate::rule::BodyRule;
@@ -41,9 +43,12 @@ pub(crate) struct LawfulShards<W> {
 
 impl<W: World> BodyRule<Slot<W>> for LawfulShards<W> {
     ghost use Rattle.crossbeam_utils.specs.Padded.{padded_value};
+    ghost use Rattle.tile_store.specs.Entry.{Entries};
     ghost use Rattle.tile_store.specs.Lawful.{Lawful};
 
     ghost lawful = { λ tag slot. Lawful W.files tag (padded_value slot) };
+
+    ghost shown = { λ slot. padded_value slot };
 }
 
 impl<W: World> ShardTable<W> {
@@ -56,7 +61,9 @@ impl<W: World> ShardTable<W> {
     ) -> Result<Result<Option<Arc<Tile<W>>>, NotFound>, T::Busy>
         requires { seat.old.shard ≡ self.now }
         ensures some { IfOk result (FoundUnder arc_value W.files self.now.tag key) }
-        ensures ok { OnOk result (seat.new ≡ visited seat.old) }
+        ensures seat { IsSeatOf seat.old seat.new }
+        ensures ok { IfOk result (λ answer.
+            FindVisit arc_value key answer seat.old.visits seat.new.visits) }
         ensures err { OnErr result (seat.new ≡ seat.old) }
     {
         if let Err(busy) = self.take(waiter, &mut seat.seat) {
@@ -78,8 +85,10 @@ impl<W: World> ShardTable<W> {
     ) -> Result<Option<Arc<Tile<W>>>, PinError<T::Busy>>
         requires { seat.old.shard ≡ self.now }
         ensures some { FoundUnder arc_value W.files self.now.tag key result }
-        ensures seat { HasVisited seat.old seat.new }
-        ensures ok { OnOk result (seat.old.turns < seat.new.turns) }
+        ensures seat { IsSeatOf seat.old seat.new }
+        ensures ok { IfOk result (λ tile.
+            Finds key (option_map arc_value tile) seat.old.visits seat.new.visits) }
+        ensures err { IfErr result (λ e. IfNotPinned e seat.old.visits seat.new.visits) }
     {
         for failed in 0..waiter.tries() {
             match self.visit_find(waiter, seat, key) {
@@ -104,7 +113,9 @@ impl<W: World> ShardTable<W> {
         requires fits { FitsCut W.files (cut_of self.now.tag) tile }
         ensures some { IfOk result (KeptUnder arc_value W.files self.now.tag tile.key) }
         ensures full { IfOk result (λ answer. IfErr answer (GivesBackIfFull tile)) }
-        ensures ok { OnOk result (seat.new ≡ visited seat.old) }
+        ensures seat { IsSeatOf seat.old seat.new }
+        ensures ok { IfOk result (λ answer.
+            InsertVisit arc_value slots tile answer seat.old.visits seat.new.visits) }
         ensures back { IfErr result (λ back. back.0 ≡ tile) }
         ensures err { OnErr result (seat.new ≡ seat.old) }
     {
@@ -129,8 +140,10 @@ impl<W: World> ShardTable<W> {
         requires fits { FitsCut W.files (cut_of self.now.tag) tile }
         ensures some { KeptUnder arc_value W.files self.now.tag tile.key result }
         ensures back { IfErr result (GivesBackIfBusy tile) }
-        ensures seat { HasVisited seat.old seat.new }
-        ensures ok { OnOk result (seat.old.turns < seat.new.turns) }
+        ensures seat { IsSeatOf seat.old seat.new }
+        ensures ok { IfOk result (λ kept.
+            Inserts slots tile (arc_value kept) seat.old.visits seat.new.visits) }
+        ensures err { IfErr result (λ e. IfNotInserted e seat.old.visits seat.new.visits) }
     {
         let mut tile = tile;
         for failed in 0..waiter.tries() {
@@ -158,8 +171,8 @@ impl<W: World> ShardTable<W> {
     ) -> Result<(), T::Busy>
         requires shard { seat.old.shard ≡ self.now }
         requires share { share_of self.now.tag ≡ share }
-        ensures seat { HasVisited seat.old seat.new }
-        ensures ok { OnOk result (seat.new ≡ visited seat.old) }
+        ensures seat { IsSeatOf seat.old seat.new }
+        ensures ok { OnOk result (Releases share key seat.old.visits seat.new.visits) }
         ensures err { OnErr result (seat.new ≡ seat.old) }
     {
         if let Err(busy) = self.take(waiter, &mut seat.seat) {
@@ -179,8 +192,9 @@ impl<W: World> ShardTable<W> {
         stale: Stale,
     ) -> Result<(), T::Busy>
         requires shard { seat.old.shard ≡ self.now }
-        ensures seat { HasVisited seat.old seat.new }
-        ensures ok { OnOk result (seat.new ≡ visited seat.old) }
+        ensures seat { IsSeatOf seat.old seat.new }
+        ensures ok { OnOk result
+            (Purges stale.file stale.below seat.old.visits seat.new.visits) }
         ensures err { OnErr result (seat.new ≡ seat.old) }
     {
         if let Err(busy) = self.take(waiter, &mut seat.seat) {
@@ -201,11 +215,11 @@ impl<W: World> ShardTable<W> {
     ) -> Result<ShardCount, T::Busy>
         requires shard { seat.old.shard ≡ self.now }
         requires share { share_of self.now.tag ≡ share }
-        ensures lawful { IfOk result (CountsLawful W.files self.now.tag) }
         ensures share { IfOk result (λ count. count.share ≡ share) }
         ensures within { IfOk result (λ count. count.loose ≤ count.share) }
-        ensures seat { HasVisited seat.old seat.new }
-        ensures ok { OnOk result (seat.new ≡ visited seat.old) }
+        ensures seat { IsSeatOf seat.old seat.new }
+        ensures ok { IfOk result (λ count.
+            Counts W.files self.now.tag count seat.old.visits seat.new.visits) }
         ensures err { OnErr result (seat.new ≡ seat.old) }
     {
         if let Err(busy) = self.take(waiter, &mut seat.seat) {

@@ -1,3 +1,18 @@
+use std::marker::Model;
+
+/// The visits of a seat to its table, the last first. They are for contracts alone, and take no
+/// bytes.
+pub(crate) struct Visits {}
+
+impl Model for Visits {
+    ghost use Rattle.std.specs.Prelude.{List, []};
+    ghost use Rattle.shard_gate.specs.Visit.{Visit};
+
+    ghost Value = { List Visit };
+
+    ghost view = { λ v. [] };
+}
+
 /// What a seat at a table knows and may do. No value of it is made.
 pub(crate) struct Standing {
     /// No other seat has taken it in.
@@ -10,6 +25,6 @@ pub(crate) struct Standing {
     pub permits: u32,
     /// It has the turn, and the body with it.
     pub has_turn: bool,
-    /// How often it has taken the turn.
-    pub turns: u64,
+    /// Its visits: a take begins one, and the give ends it.
+    pub visits: Visits,
 }

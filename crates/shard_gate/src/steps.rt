@@ -14,14 +14,16 @@ pub(crate) struct Take<L> {
 }
 
 impl<S, L: BodyRule<S>> Play<S, Standing> for Take<L> {
-    ghost then = { Took L.lawful };
+    ghost then = { Took L.lawful L.shown };
 }
 
 /// A store of 0 to the turn word.
-pub(crate) struct Give;
+pub(crate) struct Give<L> {
+    rule: PhantomData<L>,
+}
 
-impl<S> Play<S, Standing> for Give {
-    ghost then = { Gave };
+impl<S, L: BodyRule<S>> Play<S, Standing> for Give<L> {
+    ghost then = { Gave L.shown };
 }
 
 /// A load of the turn word, which tells that no seat has more permits than all together.

@@ -3,7 +3,7 @@ use atomic_table::Seat;
 use std::marker::Model;
 
 /// A seat at one table while it has no turn. In a clause it is which table it belongs to, with its
-/// permits and the number of turns that it has taken.
+/// permits and its visits to it.
 #[derive(Drop)]
 pub(crate) struct TurnSeat<S> {
     pub(crate) seat: Seat<S, Standing>,

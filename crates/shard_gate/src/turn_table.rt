@@ -1,6 +1,7 @@
 ghost use Rattle.std.specs.Prelude.{◌≡◌, ◌<◌, ◌≤◌, true, false, [], ◌∷◌, slice_index};
 ghost use Rattle.std.specs.Prelude.{IfOk, OnOk, OnErr};
-ghost use Rattle.shard_gate.specs.Turn.{turn_word, tag_word, HasBody, AreLawful, without_turn};
+ghost use Rattle.shard_gate.specs.Turn.{turn_word, tag_word, HasBody, AreLawful};
+ghost use Rattle.shard_gate.specs.Turn.{without_turn, entries_of};
 ghost use Rattle.shard_gate.specs.Seated.{IsIdle, seat_at, IsMadeBy, first_seat};
 ghost use Rattle.shard_gate.specs.Seated.{kept_seat, new_seat, both_seats};
 
@@ -81,7 +82,7 @@ impl<S: Drop, L: BodyRule<S>> TurnTable<S, L> {
     ) -> Result<(), T::Busy>
         requires table { (seat_at seat.old).shard ≡ self.now }
         requires idle { IsIdle seat.old.me }
-        ensures ok { OnOk result (HasBody L.lawful seat.old.me.0 seat.new.me) }
+        ensures ok { OnOk result (HasBody L.lawful L.shown seat.old.me.0 seat.new.me) }
         ensures err { OnErr result (seat.new.me ≡ seat.old.me) }
         ensures table { seat.new.table_id ≡ seat.old.table_id }
     {
@@ -98,7 +99,7 @@ impl<S: Drop, L: BodyRule<S>> TurnTable<S, L> {
     fn try_take(&self, seat: &mut Seat<S, Standing>) -> bool
         requires table { (seat_at seat.old).shard ≡ self.now }
         requires idle { IsIdle seat.old.me }
-        ensures won { result ≡ true → HasBody L.lawful seat.old.me.0 seat.new.me }
+        ensures won { result ≡ true → HasBody L.lawful L.shown seat.old.me.0 seat.new.me }
         ensures lost { result ≡ false → seat.new.me ≡ seat.old.me }
         ensures table { seat.new.table_id ≡ seat.old.table_id }
     {
@@ -111,11 +112,12 @@ impl<S: Drop, L: BodyRule<S>> TurnTable<S, L> {
         requires table { (seat_at seat.old).shard ≡ self.now }
         requires turn { (seat.old.me.0.live ≡ true) × (seat.old.me.0.has_turn ≡ true) }
         requires lawful { AreLawful L.lawful self.now.tag seat.old.me.1 }
-        ensures view { seat.new.me.0 ≡ without_turn seat.old.me.0 }
+        ensures view { seat.new.me.0
+            ≡ without_turn (entries_of L.shown seat.old.me.1) seat.old.me.0 }
         ensures slots { seat.new.me.1 ≡ [] }
         ensures table { seat.new.table_id ≡ seat.old.table_id }
     {
-        self.table.shared.store::<Give>(seat, TURN, 0);
+        self.table.shared.store::<Give<L>>(seat, TURN, 0);
     }
 
     /// One permit goes to a second seat.

@@ -6,8 +6,9 @@ ghost use Rattle.tile_store.specs.Entry.{tile_at, HasPin};
 ghost use Rattle.tile_store.specs.Changes.{pinned_first, inserted, kept_tile};
 ghost use Rattle.tile_store.specs.Tag.{share_of};
 ghost use Rattle.tile_store.specs.Lawful.{FitsTag, KeepsLawful, KeepsLawfulFor};
-ghost use Rattle.shard_gate.specs.Visit.{FoundAmong, KeptAmong, released, room_of};
-ghost use Rattle.shard_gate.specs.Visit.{MissedCause, TurnedDownCause, GivesBackIfFull, IsCountOf};
+ghost use Rattle.shard_gate.specs.Given.{released, room_of, IsCountOf};
+ghost use Rattle.shard_gate.specs.Work.{FoundAmong, KeptAmong};
+ghost use Rattle.shard_gate.specs.Work.{MissedCause, TurnedDownCause, GivesBackIfFull};
 
 use crate::error::{NotFound, NotInserted};
 use std::sync::Arc;
@@ -65,8 +66,7 @@ pub(crate) fn insert_in<W: World>(
 
 /// Takes a pin from the tile of a key. Where it has none, nothing changes.
 pub(crate) fn release_in<W: World>(shard: &mut Shard<W>, key: TileKey, share: u64)
-    ensures pinned { HasPin key shard.old → shard.new ≡ released share key shard.old }
-    ensures unpinned { ¬ HasPin key shard.old → shard.new ≡ shard.old }
+    ensures entries { shard.new ≡ released share key shard.old }
     ensures lawful { KeepsLawfulFor W.files (λ tag. share_of tag ≡ share) shard.old shard.new }
 {
     if shard.is_pinned(key) {

@@ -7,10 +7,10 @@ use Rattle.std.proofs.lemmas.List.Elements.{All-nil, All-cons, All-filter}
 use Rattle.std.proofs.lemmas.List.Sums.{sum_by-cons}
 use Rattle.tex_world.specs.World.{Files}
 use Rattle.tile_store.specs.Tile.{CachedTile}
-use Rattle.tile_store.specs.Entry.{EntryState, entry_of, Entries, unpinned_bytes, loose_bytes, entry_at, HasPin}
+use Rattle.tile_store.specs.Entry.{EntryState, Entries, unpinned_bytes, loose_bytes, entry_at, HasPin}
 use Rattle.tile_store.specs.Entry.{AreEntries, IsEntry, is_unpinned}
 use Rattle.tile_store.specs.Changes.{pinned_first, unpinned_once, with_first, with_room, kept_within}
-use Rattle.tile_store.specs.Changes.{without_last_unpinned, without_stale, is_stale}
+use Rattle.tile_store.specs.Changes.{without_last_unpinned, without_stale, is_stale, new_entry}
 use Rattle.tile_store.specs.Tag.{share_of, cut_of}
 use Rattle.tile_store.specs.Lawful.{FitsCut, FitsTag, Lawful}
 use Rattle.tile_store.proofs.PinLemmas.{loose-pinned_first, All-pinned_first, All-unpinned_once, some_entry}
@@ -87,13 +87,13 @@ module _ (files : Files) (tag : ℕ) where
         → Lawful files tag (with_first tile (with_room slots es))
     lawful_inserted tile slots fits distinct = record {
       distinct = distinct;
-      cells = All-cons HasCell (tile.key, entry_of tile 1) (with_room slots es) fits
+      cells = All-cons HasCell (tile.key, new_entry tile) (with_room slots es) fits
           (All-with_room HasCell slots es lawful.cells);
       share = omega (
         arith,
         was_within,
         loose-with_room slots es,
-        sum_by-cons unpinned_bytes (entry_of tile 1) (values_of (with_room slots es)),
+        sum_by-cons unpinned_bytes (new_entry tile) (values_of (with_room slots es)),
       );
     }
 

@@ -5,4 +5,5 @@ pub mod EvictLemmas
 pub mod WithinLemmas
 pub mod PurgeLemmas
 pub mod ShardLemmas
+pub mod StayLemmas
 pub mod LawfulLemmas

@@ -12,10 +12,11 @@ use Rattle.lru.specs.LruCache.{LruCache}
 use Rattle.tile_layout.specs.Cell.{max_cell_bytes}
 use Rattle.tile_layout.specs.Key.{generation_of, file_of}
 use Rattle.tile_store.specs.Tile.{CachedTile, tile_bytes}
-use Rattle.tile_store.specs.Entry.{EntryState, entry_of, Entries, unpinned_bytes, pin_sum, loose_bytes}
+use Rattle.tile_store.specs.Entry.{EntryState, Entries, unpinned_bytes, pin_sum, loose_bytes}
 use Rattle.tile_store.specs.Entry.{entry_at, unpinned_at, IsEntry, is_unpinned, is_pinned, pinned_count}
 use Rattle.tile_store.specs.Changes.{pinned_first, unpinned_once, with_first, with_room, kept_within}
 use Rattle.tile_store.specs.Changes.{without_last_unpinned, without_stale, is_stale, one_less, inserted}
+use Rattle.tile_store.specs.Changes.{new_entry}
 use Rattle.tile_store.specs.Leaving.{within_slots}
 use Rattle.tile_store.specs.Inside.{IsShard}
 use Rattle.tile_store.proofs.PinLemmas.{pin_sum-pinned_first, loose-pinned_first, length-pinned_first}
@@ -68,7 +69,7 @@ pinned_count-first : (tile : CachedTile) (es : Entries)
     → pinned_count (with_first tile es) ≡ pinned_count es + 1
 pinned_count-first tile es = omega (
   arith,
-  sum_by-cons (λ x. cond (is_pinned x) 1 0) (tile.key, entry_of tile 1) es,
+  sum_by-cons (λ x. cond (is_pinned x) 1 0) (tile.key, new_entry tile) es,
 )
 
 small_entry : (e : EntryState) → tile_bytes e.tile ≤ max_cell_bytes
@@ -259,15 +260,15 @@ module _ (order : LruCache ℕ EntryState) (pins loose : ℕ) (is : IsShard (Som
             pins_are,
             ap pin_sum entries,
             roomy.pins,
-            sum_by-cons (λ (n : EntryState). n.pins) (entry_of tile 1) (values_of (with_room slots es)),
+            sum_by-cons (λ (n : EntryState). n.pins) (new_entry tile) (values_of (with_room slots es)),
           );
           loose_is = omega (
             arith,
             loose_are,
             sum,
-            sum_by-cons unpinned_bytes (entry_of tile 1) (values_of es),
+            sum_by-cons unpinned_bytes (new_entry tile) (values_of es),
           );
-          keyed = subst (All IsEntry) (sym entries) (All-cons IsEntry (tile.key, entry_of tile 1)
+          keyed = subst (All IsEntry) (sym entries) (All-cons IsEntry (tile.key, new_entry tile)
               (with_room slots es) (record { key = refl; bytes = small })
               (All-with_room IsEntry slots es all_keyed));
           few = omega (arith, ap length entries, roomy.few);

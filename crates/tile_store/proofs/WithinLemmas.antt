@@ -51,7 +51,7 @@ kept_within-all share (e ∷ es) h =
 
 -- ---- where not all fit, the last unpinned one may leave first
 
-filter_without : (es : Entries) → filter is_pinned (without_last_unpinned es) ≡ filter is_pinned es
+pub filter_without : (es : Entries) → filter is_pinned (without_last_unpinned es) ≡ filter is_pinned es
 filter_without [] = refl
 filter_without (e ∷ es) =
     elim (list_any is_unpinned es) as (λ b. filter is_pinned (cond b (e ∷ without_last_unpinned es)
@@ -75,7 +75,7 @@ filter_pinned (e ∷ es) h =
     let parts = or_false (is_unpinned e) (list_any is_unpinned es) h in
     rw parts.0 (ap (λ l. e ∷ l) (filter_pinned es parts.1))
 
-unpinned_has : (e : EntryState) → 0 < unpinned_bytes e → (e.pins == 0) ≡ true
+pub unpinned_has : (e : EntryState) → 0 < unpinned_bytes e → (e.pins == 0) ≡ true
 unpinned_has e h =
     (elim (e.pins == 0) as (λ u. 0 < cond u (tile_bytes e.tile) 0 → u ≡ true) [
       | true ↦ λ some. refl

@@ -6,16 +6,20 @@ use Rattle.std.specs.Option.{option_map_or}
 use Rattle.std.specs.Map.{remove_entry, set_value}
 use Rattle.tile_layout.specs.Key.{generation_of, file_of}
 use Rattle.tile_store.specs.Tile.{CachedTile}
-use Rattle.tile_store.specs.Entry.{EntryState, entry_of, Entries, is_unpinned, is_pinned}
+use Rattle.tile_store.specs.Entry.{EntryState, Entries, is_unpinned, is_pinned, pinned_entries}
 use Rattle.tile_store.specs.Entry.{unpinned_bytes, entry_at}
 
 -- the entry with one pin more
 abbrev pub one_more : EntryState → EntryState
-one_more entry = entry_of entry.tile (entry.pins + 1)
+one_more entry = record entry { pins = entry.pins + 1 }
 
 -- the entry with one pin less
 abbrev pub one_less : EntryState → EntryState
-one_less entry = entry_of entry.tile (entry.pins - 1)
+one_less entry = record entry { pins = entry.pins - 1 }
+
+-- the entry of a new tile, which has one pin
+abbrev pub new_entry : CachedTile → EntryState
+new_entry new_tile = record { tile = new_tile; pins = 1 }
 
 -- The entry of the key has one pin more and stands first.
 abbrev pub pinned_first : ℕ → Entries → Entries
@@ -36,7 +40,7 @@ with_room slots es = if nat_le slots (length es) then without_last_unpinned es e
 
 -- the entry of a tile stands first, with one pin
 abbrev pub with_first : CachedTile → Entries → Entries
-with_first tile es = (tile.key, entry_of tile 1) ∷ es
+with_first tile es = (tile.key, new_entry tile) ∷ es
 
 -- so it stands in the new entries before the old
 abbrev pub IsFirst : CachedTile → Entries → Entries → Type 0
@@ -48,6 +52,12 @@ abbrev pub inserted : CachedTile → ℕ → Entries → Entries
 inserted tile slots es =
     option_map_or (λ _. pinned_first tile.key es) (entry_at tile.key es)
     (with_first tile (with_room slots es))
+
+-- The tile is pinned, and nothing has left: an entry that has its key is pinned, else the new entry
+-- stands first.
+abbrev pub with_pin : CachedTile → Entries → Entries
+with_pin tile es =
+    option_map_or (λ _. pinned_first tile.key es) (entry_at tile.key es) (with_first tile es)
 
 -- the tile that is then kept under its key
 abbrev pub kept_tile : CachedTile → Entries → CachedTile
@@ -74,3 +84,7 @@ is_stale file below e =
 -- These entries have left, and no others.
 abbrev pub without_stale : ℕ → ℕ → Entries → Entries
 without_stale file below es = filter (λ e. not (is_stale file below e)) es
+
+-- Only unpinned entries left: the pinned ones are the same, in the same order.
+abbrev pub KeepsPinned : Entries → Entries → Type 0
+KeepsPinned old new = pinned_entries new ≡ pinned_entries old

@@ -2,7 +2,7 @@
 use Rattle.std.specs.Prelude.{◌≡◌, ℕ, ◌<◌, ◌≤◌, ◌^◌, ◌==◌, Bool, not, nat_eq, List, length}
 use Rattle.std.specs.Prelude.{Option, option_map, IsSomeAnd, if◌then◌else◌}
 use Rattle.std.specs.Option.{option_map_or}
-use Rattle.std.specs.List.{All, IsDistinct, sum_by, count_by}
+use Rattle.std.specs.List.{All, IsDistinct, sum_by, count_by, filter}
 use Rattle.std.specs.Map.{keys_of, values_of, lookup}
 use Rattle.tile_layout.specs.Cell.{max_cell_bytes}
 use Rattle.tile_store.specs.Tile.{CachedTile, tile_bytes}
@@ -11,10 +11,6 @@ use Rattle.tile_store.specs.Tile.{CachedTile, tile_bytes}
 pub record EntryState : Type 0 where
   pub tile : CachedTile
   pub pins : ℕ
-
--- a tile with so many pins
-abbrev pub entry_of : CachedTile → ℕ → EntryState
-entry_of tile pins = record { tile = tile; pins = pins }
 
 -- the entries of a shard by their keys
 abbrev pub Entries : Type 0
@@ -27,6 +23,10 @@ is_unpinned e = e.1.pins == 0
 -- it has one
 abbrev pub is_pinned : ℕ × EntryState → Bool
 is_pinned e = not (is_unpinned e)
+
+-- the pinned entries, in their order
+abbrev pub pinned_entries : Entries → Entries
+pinned_entries es = filter is_pinned es
 
 -- the bytes of an entry that has no pin, and 0 of one that has
 abbrev pub unpinned_bytes : EntryState → ℕ

@@ -1,19 +1,27 @@
 -- When are the entries of a shard lawful for its tag?
-use Rattle.std.specs.Prelude.{◌≡◌, ℕ, ◌≤◌, nat_eq, List}
+use Rattle.std.specs.Prelude.{◌≡◌, ℕ, ◌<◌, ◌≤◌, nat_eq, List}
 use Rattle.std.specs.List.{All, IsDistinct}
 use Rattle.std.specs.Map.{keys_of}
 use Rattle.tex_world.specs.World.{Files}
 use Rattle.tile_layout.specs.declared.cut.Cut.{Cut}
 use Rattle.tile_layout.specs.Key.{level_of, index_of}
-use Rattle.tile_layout.specs.Cell.{cut_level_of, cell_rect}
+use Rattle.tile_layout.specs.Level.{level_count}
+use Rattle.tile_layout.specs.Cell.{cut_level_of, cell_count, cell_rect}
 use Rattle.tile_store.specs.Tile.{CachedTile}
 use Rattle.tile_store.specs.Told.{ToldBy, IsOfBytes}
 use Rattle.tile_store.specs.Entry.{Entries, loose_bytes}
 use Rattle.tile_store.specs.Tag.{share_of, cut_of}
 
+-- The key of the tile names a cell that a file with these bytes has under this cut, and the tile
+-- has the rectangle of that cell.
+pub record HasCell (cut : Cut) (bytes : List ℕ) (tile : CachedTile) : Type 0 where
+  pub level : level_of tile.key < level_count bytes cut.automip
+  pub index : index_of tile.key < cell_count (cut_level_of bytes cut (level_of tile.key))
+  pub rect : tile.rect ≡ cell_rect (cut_level_of bytes cut (level_of tile.key)) (index_of tile.key)
+
 -- the tile is a cell, under this cut, of a file with these bytes: the one that its key names
 pub record IsCellOf (cut : Cut) (bytes : List ℕ) (tile : CachedTile) : Type 0 where
-  pub rect : tile.rect ≡ cell_rect (cut_level_of bytes cut (level_of tile.key)) (index_of tile.key)
+  pub cell : HasCell cut bytes tile
   pub of_bytes : IsOfBytes bytes tile
 
 -- the tile fits the cut: where the world tells, it is a cell of its file under the cut

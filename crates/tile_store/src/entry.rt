@@ -1,8 +1,8 @@
 ghost use Rattle.std.specs.Prelude.{◌≡◌, ◌+◌, ◌≤◌, ◌<◌, ◌^◌, ◌==◌, ◌↔◌, IsTrue, IfOk};
 ghost use Rattle.std.specs.Arc.{arc_value};
 ghost use Rattle.tile_layout.specs.Cell.{max_cell_bytes};
-ghost use Rattle.tile_store.specs.Entry.{entry_of, unpinned_bytes};
-ghost use Rattle.tile_store.specs.Changes.{one_more, one_less, is_stale};
+ghost use Rattle.tile_store.specs.Entry.{unpinned_bytes};
+ghost use Rattle.tile_store.specs.Changes.{one_more, one_less, new_entry, is_stale};
 
 use crate::tile::Tile;
 use std::alloc::Global;
@@ -20,17 +20,17 @@ pub struct Entry<W: World> {
 
 impl<W: World> Model for Entry<W> {
     ghost use Rattle.std.specs.Arc.{arc_value};
-    ghost use Rattle.tile_store.specs.Entry.{EntryState, entry_of};
+    ghost use Rattle.tile_store.specs.Entry.{EntryState};
 
     ghost Value = { EntryState };
 
-    ghost view = { λ e. entry_of (arc_value e.tile) e.pins };
+    ghost view = { λ e. record { tile = arc_value e.tile; pins = e.pins } };
 }
 
 impl<W: World> Entry<W> {
     /// An entry with one pin.
     pub(crate) fn pinned(tile: Arc<Tile<W>>) -> Entry<W>
-        ensures { result ≡ entry_of (arc_value tile) 1 }
+        ensures { result ≡ new_entry (arc_value tile) }
     {
         Entry { tile, pins: 1 }
     }

@@ -4,7 +4,7 @@ ghost use Rattle.std.specs.Arc.{arc_value};
 ghost use Rattle.tile_store.specs.Entry.{entry_at, tile_at, HasPin, pin_sum, loose_bytes};
 ghost use Rattle.tile_store.specs.Entry.{pinned_count, AreEntries};
 ghost use Rattle.tile_store.specs.Changes.{pinned_first, inserted, kept_tile, unpinned_once};
-ghost use Rattle.tile_store.specs.Changes.{kept_within, without_stale};
+ghost use Rattle.tile_store.specs.Changes.{kept_within, without_stale, with_pin, KeepsPinned};
 ghost use Rattle.tile_store.specs.Tag.{share_of};
 ghost use Rattle.tile_store.specs.Lawful.{FitsTag, Lawful, KeepsLawful, KeepsLawfulFor};
 
@@ -92,6 +92,7 @@ impl<W: World> Shard<W> {
         ensures keyed { IfOk result (λ kept. (arc_value kept).key ≡ tile.key) }
         // What the call leaves.
         ensures entries { OnOk result (self.new ≡ inserted tile slots self.old) }
+        ensures pinned { OnOk result (KeepsPinned (with_pin tile self.old) self.new) }
         ensures err { OnErr result (self.new ≡ self.old) }
         ensures lawful { KeepsLawfulFor W.files (FitsTag W.files tile) self.old self.new }
     {
@@ -109,6 +110,7 @@ impl<W: World> Shard<W> {
         requires pins { pin_sum self.old + 1 < 2 ^ 32 }
         ensures kept { IfOk result (λ kept. arc_value kept ≡ tile) }
         ensures entries { OnOk result (self.new ≡ inserted tile slots self.old) }
+        ensures pinned { OnOk result (KeepsPinned (with_pin tile self.old) self.new) }
         ensures err { OnErr result (self.new ≡ self.old) }
         ensures lawful { KeepsLawfulFor W.files (FitsTag W.files tile) self.old self.new }
     {
@@ -140,6 +142,7 @@ impl<W: World> Shard<W> {
     pub fn release(&mut self, key: TileKey, share: u64)
         requires { HasPin key self.old }
         ensures entries { self.new ≡ kept_within share (unpinned_once key self.old) }
+        ensures pinned { KeepsPinned (unpinned_once key self.old) self.new }
         ensures within { loose_bytes self.new ≤ share }
         ensures lawful { KeepsLawfulFor W.files (λ tag. share_of tag ≡ share) self.old self.new }
     {
@@ -155,6 +158,7 @@ impl<W: World> Shard<W> {
     /// The unpinned tiles of a file leave whose generation is below the bound, and no others.
     pub fn purge(&mut self, file: u32, below: u32)
         ensures entries { self.new ≡ without_stale file below self.old }
+        ensures pinned { KeepsPinned self.old self.new }
         ensures lawful { KeepsLawful W.files self.old self.new }
     {
         if let Some(order) = &mut self.order {

@@ -1,7 +1,7 @@
 -- What a visit to one shard leaves of the seat, and what it answers.
-use Rattle.std.proofs.Common.{subst, ℕ, IfOk}
-use Rattle.shard_gate.specs.Gate.{CountsLawful}
-use Rattle.shard_gate.proofs.VisitLemmas.{same_pins, one_turn, same_seat, on_ok, on_err}
+use Rattle.std.proofs.Common.{subst, ℕ}
+use Rattle.shard_gate.specs.Given.{Counts}
+use Rattle.shard_gate.proofs.VisitLemmas.{same_pins, at_shard, same_seat, if_ok, on_err}
 use Rattle.shard_gate.proofs.VisitLemmas.{tag_here, share_here}
 use Rattle.shard_gate.proofs.gate.Gate.count.Goals as goal
 
@@ -12,12 +12,17 @@ returns-clause-same g c =
     c.requires.shard c.index_mut.result.now c.count.new.seat _ c.index_mut.ensures.value
     c.count.ensures.seat
 
-pub returns-clause-turns : goal.returns-clause-turns
-returns-clause-turns g c =
-    on_ok c.count.result _ _
-    (one_turn c.p.inside.seats.items c.p.inside.permits c.p.inside.pins.items
+pub returns-clause-lawful : goal.returns-clause-lawful
+returns-clause-lawful g c = if_ok c.count.result _ _
+    (λ count counted. at_shard c.p.inside.seats.items c.p.inside.permits c.p.inside.pins.items
     c.args.p.now c.p.view_is c.args.self.now.id c.requires.gate c.args.shard
-    c.requires.shard c.index_mut.result.now c.count.new.seat _ c.index_mut.ensures.value)
+    c.requires.shard c.index_mut.result.now c.count.new.seat _ c.index_mut.ensures.value
+    (Counts g.W.World.files _ count)
+    (subst (λ (tag : ℕ). Counts g.W.World.files tag count c.index_mut.result.now.visits
+    c.count.new.seat.visits)
+    (tag_here c.self.inside.tables.items c.self.inside.share c.self.inside.cut
+    c.self.inside.passes c.args.self.now c.self.view_is c.self.invariant c.args.shard
+    c.requires.shard c.index.result.now _ c.index.ensures) counted))
     c.count.ensures.ok
 
 pub returns-clause-err : goal.returns-clause-err
@@ -26,14 +31,6 @@ returns-clause-err g c = on_err c.count.result _ _
     c.args.p.now c.p.view_is c.args.self.now.id c.requires.gate c.args.shard
     c.requires.shard c.index_mut.result.now c.count.new.seat _ c.index_mut.ensures.value)
     c.count.ensures.err
-
-pub returns-clause-lawful : goal.returns-clause-lawful
-returns-clause-lawful g c =
-    subst (λ (tag : ℕ). IfOk c.count.result (CountsLawful g.W.World.files tag))
-    (tag_here c.self.inside.tables.items c.self.inside.share c.self.inside.cut
-    c.self.inside.passes c.args.self.now c.self.view_is c.self.invariant c.args.shard
-    c.requires.shard c.index.result.now _ c.index.ensures)
-    c.count.ensures.lawful
 
 pub count-requires-clause-share : goal.count-requires-clause-share
 count-requires-clause-share g c =

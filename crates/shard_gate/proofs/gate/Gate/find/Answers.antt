@@ -1,10 +1,11 @@
 -- What a visit to one shard leaves of the seat, and what it answers.
-use Rattle.std.proofs.Common.{subst, ℕ, map, set, IfOk, IfSome}
+use Rattle.std.proofs.Common.{subst, IfOk, IfSome, option_map}
 use Rattle.std.specs.Arc.{arc_value}
 use Rattle.tile_layout.specs.declared.cut.Cut.{Cut}
-use Rattle.shard_gate.specs.Gate.{IsTileOf, TurnsOf, HasTurned}
-use Rattle.shard_gate.specs.Kept.{turns_of_seat}
-use Rattle.shard_gate.proofs.VisitLemmas.{same_pins, turns_of, has_turned, on_ok, cut_here}
+use Rattle.shard_gate.specs.Gate.{IsTileOf}
+use Rattle.shard_gate.specs.Given.{Finds}
+use Rattle.shard_gate.specs.Calls.{IfNotPinned}
+use Rattle.shard_gate.proofs.VisitLemmas.{same_pins, at_key, if_ok, if_err, cut_here}
 use Rattle.shard_gate.proofs.gate.Gate.find.Goals as goal
 
 pub returns-clause-same : goal.returns-clause-same
@@ -14,25 +15,21 @@ returns-clause-same g c =
     c.shard_of-shard.ensures.low c.index_mut.result.now c.find.new.seat _ c.index_mut.ensures.value
     c.find.ensures.seat
 
-pub returns-clause-turns : goal.returns-clause-turns
-returns-clause-turns g c =
-    subst (λ (n : ℕ). TurnsOf n c.args.p.now.turns
-    (map turns_of_seat (set c.p.inside.seats.items c.shard_of-shard.result c.find.new.seat)))
-    c.shard_of-shard.ensures.value
-    (turns_of c.p.inside.seats.items c.p.inside.permits c.p.inside.pins.items
+pub returns-clause-visits : goal.returns-clause-visits
+returns-clause-visits g c = if_ok c.find.result _ _
+    (λ tile. at_key c.p.inside.seats.items c.p.inside.permits c.p.inside.pins.items
     c.args.p.now c.p.view_is c.args.self.now.id c.requires c.shard_of-shard.result
     c.shard_of-shard.ensures.low c.index_mut.result.now c.find.new.seat _ c.index_mut.ensures.value
-    c.find.ensures.seat)
+    _ c.shard_of-shard.ensures.value (Finds c.args.key (option_map arc_value tile)))
+    c.find.ensures.ok
 
-pub returns-clause-turned : goal.returns-clause-turned
-returns-clause-turned g c = on_ok c.find.result _ _
-    (λ more. subst (λ (n : ℕ). HasTurned n c.args.p.now.turns
-    (map turns_of_seat (set c.p.inside.seats.items c.shard_of-shard.result c.find.new.seat)))
-    c.shard_of-shard.ensures.value
-    (has_turned c.p.inside.seats.items c.p.inside.permits c.p.inside.pins.items
+pub returns-clause-refused : goal.returns-clause-refused
+returns-clause-refused g c = if_err c.find.result _ _
+    (λ e. at_key c.p.inside.seats.items c.p.inside.permits c.p.inside.pins.items
     c.args.p.now c.p.view_is c.args.self.now.id c.requires c.shard_of-shard.result
     c.shard_of-shard.ensures.low c.index_mut.result.now c.find.new.seat _ c.index_mut.ensures.value
-    more)) c.find.ensures.ok
+    _ c.shard_of-shard.ensures.value (IfNotPinned e))
+    c.find.ensures.err
 
 pub returns-clause-some : goal.returns-clause-some
 returns-clause-some g c =

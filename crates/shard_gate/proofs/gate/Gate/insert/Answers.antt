@@ -1,11 +1,12 @@
 -- What a visit to one shard leaves of the seat, and what it answers.
-use Rattle.std.proofs.Common.{subst, sym, ℕ, map, set, IfOk}
+use Rattle.std.proofs.Common.{ℕ, subst, sym, ap, IfOk}
 use Rattle.std.specs.Arc.{arc_value}
 use Rattle.tile_layout.specs.declared.cut.Cut.{Cut}
 use Rattle.tile_store.specs.Lawful.{FitsCut}
-use Rattle.shard_gate.specs.Gate.{IsTileOf, TurnsOf, HasTurned}
-use Rattle.shard_gate.specs.Kept.{turns_of_seat}
-use Rattle.shard_gate.proofs.VisitLemmas.{same_pins, turns_of, has_turned, on_ok, cut_here}
+use Rattle.shard_gate.specs.Gate.{GateState, IsTileOf, slots_of}
+use Rattle.shard_gate.specs.Given.{Inserts}
+use Rattle.shard_gate.specs.Calls.{IfNotInserted}
+use Rattle.shard_gate.proofs.VisitLemmas.{same_pins, at_key, if_ok, if_err, cut_here}
 use Rattle.shard_gate.proofs.gate.Gate.insert.Goals as goal
 
 pub returns-clause-same : goal.returns-clause-same
@@ -15,25 +16,25 @@ returns-clause-same g c =
     c.shard_of-shard.ensures.low c.index_mut.result.now c.insert.new.seat _ c.index_mut.ensures.value
     c.insert.ensures.seat
 
-pub returns-clause-turns : goal.returns-clause-turns
-returns-clause-turns g c =
-    subst (λ (n : ℕ). TurnsOf n c.args.p.now.turns
-    (map turns_of_seat (set c.p.inside.seats.items c.shard_of-shard.result c.insert.new.seat)))
-    c.shard_of-shard.ensures.value
-    (turns_of c.p.inside.seats.items c.p.inside.permits c.p.inside.pins.items
+pub returns-clause-visits : goal.returns-clause-visits
+returns-clause-visits g c = if_ok c.insert.result _ _
+    (λ kept inserted. at_key c.p.inside.seats.items c.p.inside.permits c.p.inside.pins.items
     c.args.p.now c.p.view_is c.args.self.now.id c.requires.gate c.shard_of-shard.result
     c.shard_of-shard.ensures.low c.index_mut.result.now c.insert.new.seat _ c.index_mut.ensures.value
-    c.insert.ensures.seat)
+    _ c.shard_of-shard.ensures.value
+    (Inserts (slots_of c.args.self.now.passes) c.args.tile (arc_value kept))
+    (subst (λ (n : ℕ). Inserts (slots_of n) c.args.tile (arc_value kept)
+    c.index_mut.result.now.visits c.insert.new.seat.visits)
+    (ap (λ (a : GateState). a.passes) c.self.view_is) inserted))
+    c.insert.ensures.ok
 
-pub returns-clause-turned : goal.returns-clause-turned
-returns-clause-turned g c = on_ok c.insert.result _ _
-    (λ more. subst (λ (n : ℕ). HasTurned n c.args.p.now.turns
-    (map turns_of_seat (set c.p.inside.seats.items c.shard_of-shard.result c.insert.new.seat)))
-    c.shard_of-shard.ensures.value
-    (has_turned c.p.inside.seats.items c.p.inside.permits c.p.inside.pins.items
+pub returns-clause-refused : goal.returns-clause-refused
+returns-clause-refused g c = if_err c.insert.result _ _
+    (λ e. at_key c.p.inside.seats.items c.p.inside.permits c.p.inside.pins.items
     c.args.p.now c.p.view_is c.args.self.now.id c.requires.gate c.shard_of-shard.result
     c.shard_of-shard.ensures.low c.index_mut.result.now c.insert.new.seat _ c.index_mut.ensures.value
-    more)) c.insert.ensures.ok
+    _ c.shard_of-shard.ensures.value (IfNotInserted e))
+    c.insert.ensures.err
 
 pub returns-clause-ok : goal.returns-clause-ok
 returns-clause-ok g c =

@@ -1,9 +1,10 @@
--- The turn of each shard so far was taken once.
-use Rattle.shard_gate.specs.Gate.{SamePins, TurnsBelow}
+-- Each shard so far was visited once, and its stale entries left.
+use Rattle.shard_gate.specs.Gate.{SamePins}
+use Rattle.shard_gate.specs.Given.{AtFirst, Purges}
 use Rattle.shard_gate.proofs.gate.Gate.purge.Given as goal
 
 abbrev pub invariant-loop-shard : goal.invariant-loop-shard
 invariant-loop-shard g l = record {
   same : SamePins l.fn.p l.p;
-  turns : TurnsBelow l.shard l.fn.p.turns l.p.turns;
+  visits : AtFirst l.shard (Purges l.fn.file l.fn.below) l.fn.p.visits l.p.visits;
 }

@@ -1,5 +1,6 @@
 -- What a visit to one shard leaves of the seat, and what it answers.
-use Rattle.shard_gate.proofs.VisitLemmas.{same_pins, one_turn, same_seat, on_ok, on_err}
+use Rattle.shard_gate.specs.Given.{Purges}
+use Rattle.shard_gate.proofs.VisitLemmas.{same_pins, at_shard, same_seat, on_ok, on_err}
 use Rattle.shard_gate.proofs.gate.Gate.purge_shard.Goals as goal
 
 pub returns-clause-same : goal.returns-clause-same
@@ -9,13 +10,12 @@ returns-clause-same g c =
     c.requires.shard c.index_mut.result.now c.purge.new.seat _ c.index_mut.ensures.value
     c.purge.ensures.seat
 
-pub returns-clause-turns : goal.returns-clause-turns
-returns-clause-turns g c =
-    on_ok c.purge.result _ _
-    (one_turn c.p.inside.seats.items c.p.inside.permits c.p.inside.pins.items
+pub returns-clause-visits : goal.returns-clause-visits
+returns-clause-visits g c = on_ok c.purge.result _ _
+    (at_shard c.p.inside.seats.items c.p.inside.permits c.p.inside.pins.items
     c.args.p.now c.p.view_is c.args.self.now.id c.requires.gate c.args.shard
-    c.requires.shard c.index_mut.result.now c.purge.new.seat _ c.index_mut.ensures.value)
-    c.purge.ensures.ok
+    c.requires.shard c.index_mut.result.now c.purge.new.seat _ c.index_mut.ensures.value
+    (Purges c.args.stale.file c.args.stale.below)) c.purge.ensures.ok
 
 pub returns-clause-err : goal.returns-clause-err
 returns-clause-err g c = on_err c.purge.result _ _

@@ -1,8 +1,8 @@
 -- What a visit to one shard leaves of the seat, and what it answers.
-use Rattle.std.proofs.Common.{subst, ℕ, map, set}
-use Rattle.shard_gate.specs.Gate.{OneTurnMore}
-use Rattle.shard_gate.specs.Kept.{turns_of_seat}
-use Rattle.shard_gate.proofs.VisitLemmas.{same_pins, one_turn, same_seat, on_ok, on_err, share_here}
+use Rattle.std.proofs.Common.{ℕ, subst, ap}
+use Rattle.shard_gate.specs.Gate.{GateState}
+use Rattle.shard_gate.specs.Given.{Releases}
+use Rattle.shard_gate.proofs.VisitLemmas.{same_pins, at_key, same_seat, on_ok, on_err, share_here}
 use Rattle.shard_gate.proofs.gate.Gate.release.Goals as goal
 
 pub returns-clause-same : goal.returns-clause-same
@@ -12,16 +12,15 @@ returns-clause-same g c =
     c.shard_of-shard.ensures.low c.index_mut.result.now c.release.new.seat _ c.index_mut.ensures.value
     c.release.ensures.seat
 
-pub returns-clause-turns : goal.returns-clause-turns
-returns-clause-turns g c =
-    on_ok c.release.result _ _
-    (λ visit. subst (λ (n : ℕ). OneTurnMore n c.args.p.now.turns
-    (map turns_of_seat (set c.p.inside.seats.items c.shard_of-shard.result c.release.new.seat)))
-    c.shard_of-shard.ensures.value
-    (one_turn c.p.inside.seats.items c.p.inside.permits c.p.inside.pins.items
+pub returns-clause-visits : goal.returns-clause-visits
+returns-clause-visits g c = on_ok c.release.result _ _
+    (λ released. at_key c.p.inside.seats.items c.p.inside.permits c.p.inside.pins.items
     c.args.p.now c.p.view_is c.args.self.now.id c.requires c.shard_of-shard.result
     c.shard_of-shard.ensures.low c.index_mut.result.now c.release.new.seat _ c.index_mut.ensures.value
-    visit)) c.release.ensures.ok
+    _ c.shard_of-shard.ensures.value (Releases c.args.self.now.share c.args.key)
+    (subst (λ (share : ℕ). Releases share c.args.key c.index_mut.result.now.visits
+    c.release.new.seat.visits) (ap (λ (a : GateState). a.share) c.self.view_is) released))
+    c.release.ensures.ok
 
 pub returns-clause-err : goal.returns-clause-err
 returns-clause-err g c = on_err c.release.result _ _

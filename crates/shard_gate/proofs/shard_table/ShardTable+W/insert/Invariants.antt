@@ -1,10 +1,12 @@
--- The seat has visited the shard, and the tile came back.
+-- So far the seat has met a full shard alone, and the tile came back.
 use Rattle.std.proofs.Common.{◌≡◌}
-use Rattle.shard_gate.specs.Visit.{HasVisited}
+use Rattle.shard_gate.specs.Given.{Waits}
+use Rattle.shard_gate.specs.Work.{IsSeatOf}
 use Rattle.shard_gate.proofs.shard_table.ShardTable+W.insert.Given as goal
 
 abbrev pub invariant-loop-failed : goal.invariant-loop-failed
 invariant-loop-failed g l = record {
-  seat : HasVisited l.fn.seat l.seat;
+  seat : IsSeatOf l.fn.seat l.seat;
+  visits : Waits l.fn.seat.visits l.seat.visits;
   tile : l.tile ≡ l.fn.tile;
 }

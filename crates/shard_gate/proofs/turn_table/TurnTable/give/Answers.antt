@@ -11,7 +11,7 @@ store-requires g c =
     let body = c.requires.lawful in (
       ap (λ (z : ShardId). z.table) same,
       omega (arith, c.self.invariant.words),
-      give_allowed g.L.BodyRule.lawful key _ _ _ body.0 c.requires.turn.0 c.requires.turn.1
+      give_allowed g.L.BodyRule.lawful g.L.BodyRule.shown key _ _ _ body.0 c.requires.turn.0 c.requires.turn.1
           body.1 (subst (λ (z : ShardId). g.L.BodyRule.lawful z.tag body.0)
           (sym c.requires.table) body.2) c.self.invariant.slots,
     )

@@ -15,7 +15,7 @@ join_seat-requires g c =
       ap (λ (z : ShardId). z.table) theirs,
       c.other.invariant.idle.slots,
       omega (arith, c.self.invariant.words),
-      join_allowed g.L.BodyRule.lawful key _ _ _ _ c.seat.invariant.idle.live c.other.invariant.idle.turn,
+      join_allowed g.L.BodyRule.lawful g.L.BodyRule.shown key _ _ _ _ c.seat.invariant.idle.live c.other.invariant.idle.turn,
     )
 
 pub load-requires : goal.load-requires
@@ -24,6 +24,6 @@ load-requires g c =
     let joined = c.join_seat.ensures in (
       joined.0 ∙ ap (λ (z : ShardId). z.table) own,
       omega (arith, c.self.invariant.words),
-      count_allowed g.L.BodyRule.lawful c.self.inside.table.shared.key _ _ _
+      count_allowed g.L.BodyRule.lawful g.L.BodyRule.shown c.self.inside.table.shared.key _ _ _
           (ap (λ (m : Me g.row.S.Denot Standing). m.0.live) joined.2 ∙ c.seat.invariant.idle.live),
     )

@@ -10,6 +10,6 @@ split_seat-new-requires g c =
     let key = c.self.inside.table.shared.key in (
       ap (λ (z : ShardId). z.table) same,
       omega (arith, c.self.invariant.words),
-      split_allowed g.L.BodyRule.lawful key _ _ c.seat.invariant.idle.live c.seat.invariant.idle.turn
+      split_allowed g.L.BodyRule.lawful g.L.BodyRule.shown key _ _ c.seat.invariant.idle.live c.seat.invariant.idle.turn
           (omega (arith, ap (λ (v : SeatAt). v.permits) c.seat.view_is, c.requires.permits)),
     )

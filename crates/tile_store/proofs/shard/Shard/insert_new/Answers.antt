@@ -3,12 +3,13 @@ use Rattle.std.specs.List.{IsDistinct}
 use Rattle.std.specs.Map.{keys_of}
 use Rattle.tile_layout.specs.Cell.{max_cell_bytes}
 use Rattle.tile_store.specs.Tile.{tile_bytes}
-use Rattle.tile_store.specs.Entry.{loose_bytes, pinned_count}
+use Rattle.tile_store.specs.Entry.{loose_bytes, pinned_count, pinned_entries}
 use Rattle.tile_store.specs.Changes.{with_first, with_room}
 use Rattle.tile_store.specs.Leaving.{within_slots}
 use Rattle.tile_store.specs.Inside.{entries_in, IsShard}
 use Rattle.tile_store.specs.Lawful.{Lawful}
 use Rattle.tile_store.proofs.ShardLemmas.{within_slots-first, shard_inserted, inserted-new}
+use Rattle.tile_store.proofs.StayLemmas.{stay-inserted}
 use Rattle.tile_store.proofs.LawfulLemmas.{lawful_inserted}
 use Rattle.tile_store.proofs.shard.Shard.insert_new.Goals as goal
 
@@ -47,6 +48,10 @@ returns-clause-entries g c =
     ∙ within_slots-first tile c.args.slots es room
     ∙ ap (λ l. with_first tile (with_room c.args.slots l)) same
     ∙ sym (inserted-new tile c.args.slots c.args.self.now c.requires.absent)
+
+pub returns-clause-pinned : goal.returns-clause-pinned
+returns-clause-pinned g c = ap pinned_entries (returns-clause-entries g c)
+    ∙ stay-inserted c.args.tile c.args.slots c.args.self.now
 
 pub returns-clause-lawful : goal.returns-clause-lawful
 returns-clause-lawful g c = λ tag fits old.

@@ -1,9 +1,11 @@
 use Rattle.std.proofs.Common.{◌∙◌, Some, nat_eq, ap, sym, subst}
 use Rattle.std.specs.List.{IsDistinct}
 use Rattle.std.specs.Map.{keys_of}
+use Rattle.tile_store.specs.Entry.{pinned_entries}
 use Rattle.tile_store.specs.Inside.{entries_in, IsShard}
 use Rattle.tile_store.specs.Lawful.{Lawful}
 use Rattle.tile_store.proofs.ShardLemmas.{shard_purged}
+use Rattle.tile_store.proofs.StayLemmas.{stay-without_stale}
 use Rattle.tile_store.proofs.LawfulLemmas.{lawful_purged}
 use Rattle.tile_store.proofs.shard.Shard.purge.Goals as goal
 
@@ -13,6 +15,11 @@ invariant_of-self g c =
     subst (λ o. IsShard o c.self.inside.pins c.self.inside.loose) c.in-Some.is c.self.invariant in
     shard_purged c.in-Some.order c.self.inside.pins c.self.inside.loose is c.purge.new.order
     c.purge.ensures.cap c.args.file c.args.below c.purge.result c.purge.ensures.entries c.purge.ensures.bytes
+
+pub returns-in-Some-clause-pinned : goal.returns-in-Some-clause-pinned
+returns-in-Some-clause-pinned g c = ap pinned_entries c.purge.ensures.entries
+    ∙ stay-without_stale c.args.file c.args.below c.in-Some.order.entries
+    ∙ ap pinned_entries (ap entries_in (sym c.in-Some.is) ∙ c.self.view_is)
 
 pub returns-in-Some-clause-lawful : goal.returns-in-Some-clause-lawful
 returns-in-Some-clause-lawful g c = λ tag old.

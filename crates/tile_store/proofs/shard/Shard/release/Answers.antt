@@ -1,12 +1,13 @@
 use Rattle.std.proofs.Common.{◌≡◌, ◌+◌, ◌-◌, ◌<◌, ◌≤◌, ◌^◌, ◌∙◌, Some, nat_eq, ap, sym, subst, arith}
 use Rattle.std.specs.List.{IsDistinct}
 use Rattle.std.specs.Map.{keys_of}
-use Rattle.tile_store.specs.Entry.{entry_at, unpinned_at, HasPin, pin_sum, loose_bytes}
+use Rattle.tile_store.specs.Entry.{entry_at, unpinned_at, HasPin, pin_sum, loose_bytes, pinned_entries}
 use Rattle.tile_store.specs.Changes.{kept_within, unpinned_once}
 use Rattle.tile_store.specs.Inside.{entries_in, IsShard}
 use Rattle.tile_store.specs.Lawful.{Lawful}
 use Rattle.tile_store.proofs.PinLemmas.{some_entry, pins-le}
 use Rattle.tile_store.proofs.ShardLemmas.{loose_fits, shard_unpinned, shard_within}
+use Rattle.tile_store.proofs.StayLemmas.{stay-kept_within}
 use Rattle.tile_store.proofs.LawfulLemmas.{lawful_released}
 use Rattle.tile_store.proofs.shard.Shard.release.Goals as goal
 
@@ -62,6 +63,13 @@ invariant_of-self g c =
     c.evict_past-self-inside.new.order c.evict_past-self-inside.ensures.cap c.args.share
     c.evict_past-self-inside.result c.evict_past-self-inside.ensures.entries
     c.evict_past-self-inside.ensures.loose
+
+pub returns-in-Some-clause-pinned : goal.returns-in-Some-clause-pinned
+returns-in-Some-clause-pinned g c =
+    let same = ap entries_in (sym c.in-Some.is) ∙ c.self.view_is in
+    ap pinned_entries c.evict_past-self-inside.ensures.entries
+    ∙ stay-kept_within c.args.share c.unpin.new.order.entries
+    ∙ ap pinned_entries (c.unpin.ensures.entries ∙ ap (unpinned_once c.args.key) same)
 
 pub returns-in-Some-clause-lawful : goal.returns-in-Some-clause-lawful
 returns-in-Some-clause-lawful g c = λ tag share_is old.
