@@ -75,6 +75,14 @@ pub record GivesRecord (files : Files) (file : ℕ) (cut : Cut) (old new : ViewS
   pub new_enough : slice_index old.seen file ≤ state.generation
   pub seen : state.generation ≤ slice_index new.seen file
 
+-- Where the word of the file was stepped on so often, the record is of exactly the generation that
+-- the view has then seen of it. Told for the steps without a raise, no older record is given than
+-- the one that was looked at.
+abbrev pub IsAsSeen : ℕ → ℕ → ViewState → ViewState → RecordState → Type 0
+IsAsSeen steps file old new state =
+    slice_index new.steps file ≡ slice_index old.steps file + steps
+    → slice_index new.seen file ≡ state.generation
+
 -- The file was met in the generation `from`, which is at least `least`, and then in the newer `to`.
 pub record MeetsNewer (files : Files) (file least from to : ℕ) (old new : TapState) : Type 0 where
   pub from_real : IsReal files file from

@@ -4,7 +4,7 @@ ghost use Rattle.gen_board.specs.View.{IsNewView};
 ghost use Rattle.tile_layout.specs.Cut.{IsCut};
 ghost use Rattle.file_table.specs.Calls.{sighted, RaisesIfAtAll, LooksOnce, OpensOnce};
 ghost use Rattle.file_table.specs.Files.{HasLocks};
-ghost use Rattle.file_table.specs.Calls.{GivesRecord, OpensIfAtAll, RecordCause};
+ghost use Rattle.file_table.specs.Calls.{GivesRecord, IsAsSeen, OpensIfAtAll, RecordCause};
 
 use crate::error::RecordError;
 use crate::home::put_back;
@@ -102,9 +102,10 @@ impl<T: Tap> Files<T> {
 
     /// The record of the newest known generation of a file.
     ///
-    /// The board is looked at once. A record that is kept and new enough is answered without a call
-    /// of the tap. Else the file is opened and read, and its record is kept, unless the waiter then
-    /// gives up. The lock of the file's record is held for no read and for no growth of memory.
+    /// The board is looked at once. A record that is kept and at least as new as what the view has
+    /// then seen is answered without a call of the tap. Else the file is opened and read, and its
+    /// record is kept, unless the waiter then gives up. The lock of the file's record is held for no
+    /// read and for no growth of memory.
     pub fn record<V: Waiter>(
         &self,
         waiter: &V,
@@ -117,6 +118,7 @@ impl<T: Tap> Files<T> {
         requires told { IsFile T.W.files file }
         ensures ok { IfOk result (λ r. GivesRecord T.W.files file self.now.cut view.old view.new
             r.value) }
+        ensures as_seen { IfOk result (λ r. IsAsSeen 1 file view.old view.new r.value) }
         ensures cause { IfErr result (RecordCause T.W.files file
             (sighted view.old (T.state tap.old)) (sighted view.new (T.state tap.new))) }
 
@@ -125,6 +127,7 @@ impl<T: Tap> Files<T> {
         ensures once { OpensIfAtAll (T.state tap.old) (T.state tap.new) }
     {
         let least = self.board.look(view, file);
+        let _seen = view.seen(file);
         let known = match self.known(waiter, file, least) {
             Ok(known) => known,
             Err(busy) => return Err(RecordError::Busy(busy)),
@@ -176,6 +179,8 @@ impl<T: Tap> Files<T> {
         requires real { IsReal T.W.files file generation }
         ensures raises { RaisesIfAtAll file view.old view.new }
         ensures seen { generation ≤ slice_index view.new.seen file }
+        ensures same { slice_index view.new.steps file ≡ slice_index view.old.steps file →
+            view.new ≡ view.old }
     {
         if view.seen(file) < generation {
             self.board.raise(view, file, generation);
@@ -196,6 +201,7 @@ impl<T: Tap> Files<T> {
         requires told { IsFile T.W.files file }
         ensures ok { IfOk result (λ r. GivesRecord T.W.files file self.now.cut view.old view.new
             r.value) }
+        ensures as_seen { IfOk result (λ r. IsAsSeen 0 file view.old view.new r.value) }
         ensures cause { IfErr result (RecordCause T.W.files file
             (sighted view.old (T.state tap.old)) (sighted view.new (T.state tap.new))) }
         ensures raises { RaisesIfAtAll file view.old view.new }

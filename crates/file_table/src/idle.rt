@@ -1,5 +1,5 @@
 ghost use Rattle.std.specs.Prelude.{◌≡◌, ◌↔◌, ◌⊎◌, ◌<◌, ◌≤◌, nat_eq, [], length};
-ghost use Rattle.std.specs.Prelude.{None, IsTrue, IfOk, IfSome};
+ghost use Rattle.std.specs.Prelude.{None, IsTrue, IfOk, IfSome, IsSome};
 ghost use Rattle.std.specs.List.{IsDistinct};
 ghost use Rattle.std.specs.Map.{keys_of, lookup};
 ghost use Rattle.file_table.specs.Idle.{AreOwn, HasNewer, IsLeft, Settles, Declines};
@@ -88,8 +88,8 @@ impl<H: TapHandle + Drop> IdleHandles<H> {
     }
 
     /// Makes a handle the one of its file, the latest, in the place of one that is not newer. The
-    /// one whose place it takes comes back, or the handle itself where that of its file is newer or
-    /// no memory is found.
+    /// one whose place it takes comes back, or the handle itself where that of its file is newer.
+    /// Where its file has none it comes back where no memory is found.
     pub fn settle(&mut self, handle: H) -> Option<H>
         ensures newer { HasNewer H.named self.old.entries
             (H.named handle).file (H.named handle).generation →
@@ -98,6 +98,10 @@ impl<H: TapHandle + Drop> IdleHandles<H> {
             (H.named handle).file (H.named handle).generation → ⊥) →
             Settles (H.named handle).file handle self.old self.new result
             ⊎ Declines handle self.old self.new result }
+        ensures there { IsSome (lookup (nat_eq (H.named handle).file) self.old.entries) →
+            (HasNewer H.named self.old.entries
+            (H.named handle).file (H.named handle).generation → ⊥) →
+            Settles (H.named handle).file handle self.old self.new result }
     {
         let file = handle.file();
         if self.has_newer(file, handle.generation()) {

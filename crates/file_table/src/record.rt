@@ -3,6 +3,8 @@ ghost use Rattle.std.specs.Option.{ForSome};
 ghost use Rattle.tex_world.specs.World.{IsReal};
 ghost use Rattle.tiff_dirs.specs.Level.{max_levels};
 ghost use Rattle.tile_layout.specs.Cut.{IsCut};
+ghost use Rattle.tile_layout.specs.Grid.{shown_grid};
+ghost use Rattle.tile_layout.specs.Halving.{HalvesWithinCells};
 ghost use Rattle.file_table.specs.Record.{layout_of, HasCutLevel, CountsLevels, CutsLevel};
 ghost use Rattle.file_table.specs.Record.{TellsFit, AreGridsOf};
 
@@ -125,10 +127,12 @@ impl<W: World> Record<W> {
         self.grids.len() as u32
     }
 
-    /// How a level is cut into cells.
+    /// How a level is cut into cells. The four texels from which one of the next level is made lie
+    /// in one cell.
     pub fn grid(&self, level: u32) -> Grid
         requires { HasCutLevel self.now level }
         ensures value { CutsLevel self.now level result }
+        ensures halving { HalvesWithinCells (shown_grid result) }
         ensures few { level < max_levels }
     {
         self.grids[level as usize]

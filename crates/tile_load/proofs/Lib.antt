@@ -10,3 +10,7 @@ pub mod Regions
 pub mod KnownLayouts
 pub mod RunValues
 pub mod WholeRows
+pub mod ZeroTexels
+pub mod PieceEnds
+pub mod RectZeros
+pub mod ToldTiles

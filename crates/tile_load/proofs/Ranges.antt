@@ -16,7 +16,7 @@ range_parts a (suc m) n =
     rw (more, behind) (ap (λ (r : List ℕ). a ∷ r) (range_parts (a + 1) m n))
 
 -- the same pieces over two ranges
-pub flat_alike : (f g : ℕ → List ℕ) (a b n : ℕ) → ((i : ℕ) → i < n → f (a + i) ≡ g (b + i))
+pub flat_alike : {X : Type 0} (f g : ℕ → List X) (a b n : ℕ) → ((i : ℕ) → i < n → f (a + i) ≡ g (b + i))
     → flat_map f (range_with_len a n) ≡ flat_map g (range_with_len b n)
 flat_alike f g a b zero same = refl
 flat_alike f g a b (suc n) same =
@@ -30,7 +30,7 @@ flat_alike f g a b (suc n) same =
     next c i = omega arith
 
 -- the same values over two ranges
-pub map_alike : (f g : ℕ → ℕ) (a b n : ℕ) → ((i : ℕ) → i < n → f (a + i) ≡ g (b + i))
+pub map_alike : {X : Type 0} (f g : ℕ → X) (a b n : ℕ) → ((i : ℕ) → i < n → f (a + i) ≡ g (b + i))
     → map f (range_with_len a n) ≡ map g (range_with_len b n)
 map_alike f g a b zero same = refl
 map_alike f g a b (suc n) same =
@@ -64,7 +64,7 @@ flat_zeros m a (suc n) =
     rw (flat_zeros m (a + 1) n, sum) (replicate-append-replicate m (n * m) 0)
 
 -- rows of n values stand one after the other
-pub flat_rows : (f : ℕ → ℕ) (n a m : ℕ)
+pub flat_rows : {X : Type 0} (f : ℕ → X) (n a m : ℕ)
     → flat_map (λ i. map (λ c. f (i * n + c)) (range_with_len 0 n)) (range_with_len a m)
     ≡ map f (range_with_len (a * n) (m * n))
 flat_rows f n a zero = let none : 0 ≡ 0 * n = omega arith in

@@ -27,12 +27,12 @@ abbrev pub row_of : Rect → ℕ → ℕ
 row_of rect j = rect.y + j / rect.w
 
 -- where there are texels there are columns
-some_columns : (w h j : ℕ) → j < w * h → 0 < w
+pub some_columns : (w h j : ℕ) → j < w * h → 0 < w
 some_columns zero h j lt = absurd (omega arith)
 some_columns (suc w) h j lt = omega arith
 
 -- a texel of the rectangle is in one of its rows
-row_below : (j w h : ℕ) → j < w * h → j / w < h
+pub row_below : (j w h : ℕ) → j < w * h → j / w < h
 row_below j w h lt = elim (cases_lt (j / w) h) [
   | inl below ↦ below
   | inr above ↦ absurd (omega (arith, mul-le-mul_left w above, div-add-mod j w))
@@ -94,6 +94,11 @@ rect_appended bytes level unpacking rect old new more =
     } in
     more.behind ∙ ap (λ (v : List ℕ). old ++ v)
     (texels_listed texel level.shape.channels rect more.added are)
+
+-- what is so whether or not a call succeeded
+pub any_ok : {T E P : Type 0} (result : Result T E) → P → OnOk result P
+any_ok (Ok x) p = p
+any_ok (Err e) p = tt
 
 -- what is so where a call succeeded, by a fact that is so there
 pub on_ok : {T E P Q : Type 0} (result : Result T E) → (P → Q) → OnOk result P → OnOk result Q

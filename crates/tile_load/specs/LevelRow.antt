@@ -34,6 +34,10 @@ module _ (big : Bool) (bytes : List ℕ) (level : Level) where
   unfoldable pub level_rows : Overlap → ℕ → ℕ → List ℕ
   level_rows columns top n = flat_map (λ j. level_row columns (top + j)) (range_with_len 0 n)
 
+-- how many values a row of the region has, so many of a texel
+abbrev pub values_in_row : Overlap → ℕ → ℕ
+values_in_row columns channels = (columns.before + columns.inside + columns.after) * channels
+
 -- they are rows of a stored level, read as values, with their columns on the level
 pub record AreRowsOf (file : Kept) (level : ℕ) (unpacking : Unpacking) (columns : Overlap)
     : Type 0 where

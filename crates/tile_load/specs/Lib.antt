@@ -5,6 +5,8 @@ pub mod Window
 pub mod Run
 pub mod LevelRow
 pub mod RegionRead
+pub mod Beyond
+pub mod Zeros
 pub mod Load
 pub mod LoadError
 pub mod CellTile

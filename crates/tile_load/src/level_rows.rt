@@ -1,10 +1,11 @@
 //! The rows of a level that a region meets.
 
-ghost use Rattle.std.specs.Prelude.{◌≡◌, ◌+◌, ◌^◌, ◌≤◌, ◌<◌, ◌++◌, OnOk};
+ghost use Rattle.std.specs.Prelude.{◌≡◌, ◌+◌, ◌*◌, ◌^◌, ◌≤◌, ◌<◌, ◌++◌, length, OnOk};
 ghost use Rattle.std.specs.Option.{ForSome};
 ghost use Rattle.tile_layout.specs.Kept.{level_in};
 ghost use Rattle.tile_layout.specs.Blocks.{HoldsBlocks};
 ghost use Rattle.tile_load.specs.LevelRow.{level_row, level_rows, AreRowsOf};
+ghost use Rattle.tile_load.specs.LevelRow.{values_in_row};
 ghost use Rattle.tile_load.specs.Window.{AreWindows};
 ghost use Rattle.tile_load.specs.RegionRead.{LeavesRegion};
 
@@ -35,6 +36,9 @@ impl<'a> LevelRows<'a> {
         reading: &mut Reading,
     ) -> Result<(), RegionError<B::Error>>
         requires { y < (level_in self.now.layout.now self.now.level).shape.height }
+        ensures count { OnOk result (length reading.new.values.items
+            ≡ length reading.old.values.items
+            + values_in_row self.now.columns self.now.unpacking.format.channels) }
         ensures told { ForSome (B.bytes reader.old) (λ bytes.
             AreWindows bytes reading.old.windows.items
             → HoldsBlocks bytes (level_in self.now.layout.now self.now.level)
@@ -69,6 +73,9 @@ impl<'a> LevelRows<'a> {
         requires after { self.now.columns.after ≡ 0 }
         requires rows { rows.now.first + rows.now.inside
             ≤ (level_in self.now.layout.now self.now.level).shape.height }
+        ensures count { OnOk result (length reading.new.values.items
+            ≡ length reading.old.values.items + rows.now.inside
+            * values_in_row self.now.columns self.now.unpacking.format.channels) }
         ensures told { ForSome (B.bytes reader.old) (λ bytes.
             AreWindows bytes reading.old.windows.items
             → HoldsBlocks bytes (level_in self.now.layout.now self.now.level)
@@ -101,6 +108,9 @@ impl<'a> LevelRows<'a> {
         requires rows { rows.now.first + rows.now.inside
             ≤ (level_in self.now.layout.now self.now.level).shape.height }
         requires few { rows.now.first + rows.now.inside < 2 ^ 32 }
+        ensures count { OnOk result (length reading.new.values.items
+            ≡ length reading.old.values.items + rows.now.inside
+            * values_in_row self.now.columns self.now.unpacking.format.channels) }
         ensures told { ForSome (B.bytes reader.old) (λ bytes.
             AreWindows bytes reading.old.windows.items
             → HoldsBlocks bytes (level_in self.now.layout.now self.now.level)
@@ -129,6 +139,9 @@ impl<'a> LevelRows<'a> {
         requires rows { rows.now.first + rows.now.inside
             ≤ (level_in self.now.layout.now self.now.level).shape.height }
         requires few { rows.now.first + rows.now.inside < 2 ^ 32 }
+        ensures count { OnOk result (length reading.new.values.items
+            ≡ length reading.old.values.items + rows.now.inside
+            * values_in_row self.now.columns self.now.unpacking.format.channels) }
         ensures told { ForSome (B.bytes reader.old) (λ bytes.
             AreWindows bytes reading.old.windows.items
             → HoldsBlocks bytes (level_in self.now.layout.now self.now.level)

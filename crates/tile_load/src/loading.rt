@@ -8,7 +8,8 @@ ghost use Rattle.tile_layout.specs.Cut.{IsCut};
 ghost use Rattle.tile_layout.specs.Kept.{level_in};
 ghost use Rattle.tile_layout.specs.Texel.{texel_at, AreTexelsOn, FitDepth};
 ghost use Rattle.tile_load.specs.Load.{IsLayoutOf, IsReadBy, NamesCell};
-ghost use Rattle.tile_load.specs.CellTile.{IsCellTile};
+ghost use Rattle.tile_load.specs.Beyond.{CountAsZero, IsFilled, IsAllBeyond};
+ghost use Rattle.tile_load.specs.CellTile.{IsCellTile, HasZeros, IsCellBeyond};
 ghost use Rattle.tile_load.specs.LoadError.{LeavesTap};
 ghost use Rattle.tile_store.specs.Told.{IsTold};
 
@@ -26,7 +27,8 @@ use tile_store::Tile;
 /// record's file and generation.
 ///
 /// The record shows no fault, and all cells of its file fit the cut, which may be another one than
-/// the record's own.
+/// the record's own. A piece of a row that does not lie below the handle's length, as comes only
+/// over a world that does not tell, is not read, and its samples count as 0.
 pub fn load<T: Tap>(
     alloc: Global,
     tap: &mut T,
@@ -43,6 +45,11 @@ pub fn load<T: Tap>(
     ensures tile { IsOkAnd known.now.layout (λ layout.
         IfOk result (IsCellTile layout cut key)) }
     ensures told { IfOk result (IsTold T.W.files) }
+    ensures zeros { IsOkAnd known.now.layout (λ layout.
+        IfOk result (HasZeros layout (T.Handle.named handle.old).len)) }
+    ensures unread { IfOk known.now.layout (λ layout.
+        IsCellBeyond layout cut key (T.Handle.named handle.old).len
+        → T.state tap.new ≡ T.state tap.old) }
     ensures tap { LeavesTap T.W.files
         (lent_of (T.Handle.named handle.old) (T.state tap.old))
         (lent_of (T.Handle.named handle.new) (T.state tap.new)) result }
@@ -59,6 +66,7 @@ pub fn load<T: Tap>(
 /// A cell that is whole rows of a strip or tile, as a stored tile is, or of several that follow
 /// each other directly in the file, takes a read for each 256 KiB. So do rows that stand close
 /// together. Besides the tile it takes the bytes of a row and at most 256 KiB that are read ahead.
+/// A piece that does not lie below the handle's length is not read, and its samples count as 0.
 pub fn load_at<T: Tap>(
     alloc: Global,
     tap: &mut T,
@@ -74,6 +82,9 @@ pub fn load_at<T: Tap>(
         (T.Handle.named handle.old).generation) (λ bytes. IsLayoutOf bytes layout.now) }
     ensures tile { IfOk result (IsCellTile layout.now cut key) }
     ensures told { IfOk result (IsTold T.W.files) }
+    ensures zeros { IfOk result (HasZeros layout.now (T.Handle.named handle.old).len) }
+    ensures unread { IsCellBeyond layout.now cut key (T.Handle.named handle.old).len
+        → T.state tap.new ≡ T.state tap.old }
     ensures tap { LeavesTap T.W.files
         (lent_of (T.Handle.named handle.old) (T.state tap.old))
         (lent_of (T.Handle.named handle.new) (T.state tap.new)) result }
@@ -112,6 +123,12 @@ fn read_place<T: Tap>(
         AreTexelsOn (texel_at bytes place.now.level)
         (level_in place.now.layout.now place.now.level).shape.channels
         place.now.rect texels.items)) }
+    ensures zeros { IfOk result (λ texels. CountAsZero
+        (level_in place.now.layout.now place.now.level) (T.Handle.named handle.old).len
+        place.now.rect texels.items) }
+    ensures unread { IsFilled place.now.rect → IsAllBeyond
+        (level_in place.now.layout.now place.now.level) (T.Handle.named handle.old).len
+        place.now.rect → T.state tap.new ≡ T.state tap.old }
     ensures tap { LeavesTap T.W.files
         (lent_of (T.Handle.named handle.old) (T.state tap.old))
         (lent_of (T.Handle.named handle.new) (T.state tap.new)) result }

@@ -1,6 +1,7 @@
 //! A reading of the pieces of a level: the values so far, and what was read ahead.
 
 ghost use Rattle.std.specs.Prelude.{◌≡◌, ◌+◌, ◌*◌, ◌≤◌, ◌<◌, ◌++◌, ℕ, [], length, replicate, OnOk};
+ghost use Rattle.std.specs.List.{All};
 ghost use Rattle.std.specs.Option.{ForSome};
 ghost use Rattle.std.specs.List.{flat_map};
 ghost use Rattle.tiff_dirs.specs.Block.{Level};
@@ -12,6 +13,8 @@ ghost use Rattle.tile_load.specs.LevelRow.{values_at};
 ghost use Rattle.tile_load.specs.SampleValue.{KeepsDepth};
 ghost use Rattle.tile_load.specs.Window.{AreWindows};
 ghost use Rattle.tile_load.specs.RegionRead.{LeavesRegion};
+ghost use Rattle.tile_load.specs.Beyond.{IsFilled, IsAllBeyond};
+ghost use Rattle.tile_load.specs.Zeros.{AddsTexel, AddsTexels, AddsZeros, LiesBeyond};
 
 use crate::place::Place;
 use crate::region::RegionError;
@@ -23,7 +26,7 @@ use crate::unpacking::Unpacking;
 use crate::window::{Window, ready};
 use std::alloc::{AllocError, Global};
 use tiff_dirs::ByteReader;
-use tile_layout::{Piece, Pieces, Rect};
+use tile_layout::{Piece, Pieces, Rect, TexelFormat};
 
 /// The most bytes that the windows of a row read ahead, all together.
 pub(crate) const MAX_AHEAD: u64 = 256 * 1024;
@@ -46,6 +49,17 @@ fn window_of(row: &mut u32, y: u32, next: usize) -> usize
     } else {
         *row = y;
         0
+    }
+}
+
+/// The bytes of a piece.
+fn span_of(piece: &Piece, format: &TexelFormat) -> Span
+    ensures at { result.at ≡ piece.now.at }
+    ensures size { result.size ≡ piece.now.n * format.now.texel_bytes }
+{
+    Span {
+        at: piece.at,
+        size: piece.n as usize * format.texel_bytes,
     }
 }
 
@@ -85,7 +99,46 @@ impl Reading {
         Ok(())
     }
 
-    /// Appends the numbers of the texels of a piece, read through window k.
+    /// Appends the numbers of the texels of a piece that lies in the file, read through window k.
+    fn read_span<B: ByteReader>(
+        &mut self,
+        reader: &mut B,
+        unpacking: &Unpacking,
+        piece: &Piece,
+        k: usize,
+    ) -> Result<(), RegionError<B::Error>>
+        requires there { k < length self.old.windows.items }
+        requires below { piece.now.at + piece.now.n * unpacking.now.format.texel_bytes
+            ≤ B.size reader.old }
+        ensures next { OnOk result (length self.new.windows.items
+            ≡ length self.old.windows.items) }
+        ensures count { OnOk result (AddsTexel ⊥
+            (piece.now.n * unpacking.now.format.channels)
+            self.old.values.items self.new.values.items) }
+        ensures low { OnOk result (KeepsDepth unpacking.now
+            self.old.values.items self.new.values.items) }
+        ensures told { ForSome (B.bytes reader.old) (λ bytes. (level : Level) → (right : ℕ)
+            → AreWindows bytes self.old.windows.items
+            → IsFormatOf unpacking.now.format.big level.shape unpacking.now.format
+            → LiesSideBySide level right piece.now
+            → OnOk result (AreWindows bytes self.new.windows.items
+            × (self.new.values.items ≡ self.old.values.items
+            ++ flat_map (values_at unpacking.now.format.big bytes level unpacking.now.scaled)
+            (row_texels piece.now.x piece.now.y piece.now.n)))) }
+        ensures reader { LeavesRegion B.keeps B.refuses reader.old reader.new result }
+    {
+        let most = MAX_AHEAD / self.windows.len() as u64;
+        let behind = self.rows.behind(piece.y);
+        let window = &mut self.windows[k];
+        let span = span_of(piece, &unpacking.format);
+        window.fill(reader, &span, &behind, most)?;
+        let count = piece.n as usize * unpacking.format.channels;
+        push_samples(&mut self.values, unpacking, window.piece(&span), count)?;
+        Ok(())
+    }
+
+    /// Appends the numbers of the texels of a piece, read through window k: 0 where it does not lie
+    /// in the file.
     fn read_piece<B: ByteReader>(
         &mut self,
         reader: &mut B,
@@ -95,8 +148,13 @@ impl Reading {
     ) -> Result<(), RegionError<B::Error>>
         requires { k ≤ length self.old.windows.items }
         ensures next { OnOk result (k < length self.new.windows.items) }
-        ensures count { OnOk result (length self.new.values.items
-            ≡ length self.old.values.items + piece.now.n * unpacking.now.format.channels) }
+        ensures count { OnOk result (AddsTexel
+            (B.size reader.old < piece.now.at + piece.now.n * unpacking.now.format.texel_bytes)
+            (piece.now.n * unpacking.now.format.channels)
+            self.old.values.items self.new.values.items) }
+        ensures unread { B.size reader.old
+            < piece.now.at + piece.now.n * unpacking.now.format.texel_bytes
+            → reader.new ≡ reader.old }
         ensures low { OnOk result (KeepsDepth unpacking.now
             self.old.values.items self.new.values.items) }
         ensures told { ForSome (B.bytes reader.old) (λ bytes. (level : Level) → (right : ℕ)
@@ -110,18 +168,11 @@ impl Reading {
         ensures reader { LeavesRegion B.keeps B.refuses reader.old reader.new result }
     {
         ready(&mut self.windows, k)?;
-        let most = MAX_AHEAD / self.windows.len() as u64;
-        let behind = self.rows.behind(piece.y);
-        let window = &mut self.windows[k];
-        let format = &unpacking.format;
-        let texels = piece.n as usize;
-        let span = Span {
-            at: piece.at,
-            size: texels * format.texel_bytes,
-        };
-        window.fill(reader, &span, &behind, most)?;
-        let count = texels * format.channels;
-        push_samples(&mut self.values, unpacking, window.piece(&span), count)?;
+        let span = span_of(piece, &unpacking.format);
+        if span.lies_below(reader.len()) {
+            return self.read_span(reader, unpacking, piece, k);
+        }
+        self.push_zeros(u64::from(piece.n) * unpacking.format.channels as u64)?;
         Ok(())
     }
 
@@ -135,6 +186,15 @@ impl Reading {
     ) -> Result<(), RegionError<B::Error>>
         ensures count { OnOk result (length self.new.values.items ≡ length self.old.values.items
             + length pieces.old.texels * unpacking.now.format.channels) }
+        ensures zeros { IsFormatOf unpacking.now.format.big pieces.old.level.shape
+            unpacking.now.format → OnOk result (AddsTexels
+            (LiesBeyond pieces.old.level pieces.old.right (B.size reader.old))
+            unpacking.now.format.channels pieces.old.texels
+            self.old.values.items self.new.values.items) }
+        ensures unread { IsFormatOf unpacking.now.format.big pieces.old.level.shape
+            unpacking.now.format
+            → All (LiesBeyond pieces.old.level pieces.old.right (B.size reader.old))
+            pieces.old.texels → reader.new ≡ reader.old }
         ensures low { OnOk result (KeepsDepth unpacking.now
             self.old.values.items self.new.values.items) }
         ensures told { ForSome (B.bytes reader.old) (λ bytes.
@@ -170,6 +230,12 @@ impl Reading {
         ensures count { OnOk result (length self.new.values.items
             ≡ length self.old.values.items
             + place.now.rect.w * place.now.rect.h * unpacking.now.format.channels) }
+        ensures zeros { OnOk result (AddsZeros
+            (level_in place.now.layout.now place.now.level) (B.size reader.old) place.now.rect
+            self.old.values.items self.new.values.items) }
+        ensures unread { IsFilled place.now.rect → IsAllBeyond
+            (level_in place.now.layout.now place.now.level) (B.size reader.old) place.now.rect
+            → reader.new ≡ reader.old }
         ensures low { OnOk result (KeepsDepth unpacking.now
             self.old.values.items self.new.values.items) }
         ensures told { ForSome (B.bytes reader.old) (λ bytes.
@@ -182,7 +248,7 @@ impl Reading {
             (rect_texels place.now.rect)))) }
         ensures reader { LeavesRegion B.keeps B.refuses reader.old reader.new result }
     {
-        match Run::of(place.layout, place.level, place.rect) {
+        match Run::of(place, &unpacking.format, reader.len()) {
             Some(run) => read_run(reader, unpacking, &run, &mut self.values),
             None => {
                 let mut pieces = place.layout.pieces(place.level, place.rect);

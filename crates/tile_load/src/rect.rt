@@ -9,6 +9,7 @@ ghost use Rattle.tile_layout.specs.Kept.{stored_count, level_in};
 ghost use Rattle.tile_layout.specs.Pieces.{LiesOnLevel};
 ghost use Rattle.tile_layout.specs.Texel.{AreTexelsOn, FitDepth};
 ghost use Rattle.tile_load.specs.RegionRead.{LeavesRegion};
+ghost use Rattle.tile_load.specs.Beyond.{CountAsZero, IsFilled, IsAllBeyond};
 
 use crate::place::Place;
 use crate::reading::Reading;
@@ -20,7 +21,8 @@ use tiff_dirs::ByteReader;
 use tile_layout::{Layout, Rect};
 
 /// The samples of a rectangle of a stored level, in the depth of the file: row by row, those of a
-/// texel side by side.
+/// texel side by side. A piece of a row that does not lie below the reader's length is not read,
+/// and its samples count as 0: over told bytes there is none.
 ///
 /// Besides them it takes the bytes of a row and at most 256 KiB that are read ahead.
 pub fn read_rect<B: ByteReader>(
@@ -35,6 +37,11 @@ pub fn read_rect<B: ByteReader>(
     ensures count { IfOk result (λ samples. length samples.items
         ≡ rect.w * rect.h * (level_in layout.now level).shape.channels) }
     ensures low { IfOk result (λ samples. FitDepth (bit_depth_in layout.now) samples.items) }
+    ensures zeros { IfOk result (λ samples. CountAsZero
+        (level_in layout.now level) (B.size reader.old) rect samples.items) }
+    ensures unread { IsFilled rect
+        → IsAllBeyond (level_in layout.now level) (B.size reader.old) rect
+        → reader.new ≡ reader.old }
     ensures told { ForSome (B.bytes reader.old) (λ bytes.
         HoldsBlocks bytes (level_in layout.now level)
         → IfOk result (λ samples. AreTexelsOn

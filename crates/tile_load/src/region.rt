@@ -1,6 +1,6 @@
 //! The values of a region, read row by row.
 
-ghost use Rattle.std.specs.Prelude.{◌≡◌, ◌*◌, ◌<◌, IfOk};
+ghost use Rattle.std.specs.Prelude.{◌≡◌, ◌*◌, ◌<◌, length, IfOk};
 ghost use Rattle.std.specs.Option.{ForSome};
 ghost use Rattle.tile_layout.specs.Kept.{stored_count, level_in};
 ghost use Rattle.tile_layout.specs.Blocks.{HoldsBlocks};
@@ -60,6 +60,8 @@ pub fn read_region<B: ByteReader>(
     region: &Region,
 ) -> Result<Vec<u16>, RegionError<B::Error>>
     requires { region.now.level < stored_count layout.now }
+    ensures count { IfOk result (λ values. length values.items ≡ region.now.w * region.now.h
+        * (level_in layout.now region.now.level).shape.channels) }
     ensures told { ForSome (B.bytes reader.old) (λ bytes.
         HoldsBlocks bytes (level_in layout.now region.now.level)
         → IfOk result (λ values. values.items ≡ region_values layout.now.big bytes

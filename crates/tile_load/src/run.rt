@@ -5,14 +5,14 @@ ghost use Rattle.std.specs.Prelude.{OnOk};
 ghost use Rattle.std.specs.Option.{ForSome};
 ghost use Rattle.tiff_dirs.specs.Block.{Level};
 ghost use Rattle.tile_layout.specs.FormatOf.{IsFormatOf};
-ghost use Rattle.tile_layout.specs.Kept.{level_in, stored_count};
-ghost use Rattle.tile_layout.specs.Pieces.{LiesOnLevel};
+ghost use Rattle.tile_layout.specs.Kept.{level_in};
 ghost use Rattle.tile_layout.specs.WholeRows.{StandsWhole};
 ghost use Rattle.tile_load.specs.RegionRead.{LeavesRegion};
 ghost use Rattle.tile_load.specs.Run.{AppendsRun, AppendsValues, StandSideBySide};
 ghost use Rattle.tile_load.specs.SampleValue.{KeepsDepth};
 ghost use Rattle.tile_load.specs.Window.{IsWindow};
 
+use crate::place::Place;
 use crate::reading::MAX_AHEAD;
 use crate::region::RegionError;
 use crate::rows::RowsBehind;
@@ -22,7 +22,7 @@ use crate::unpacking::Unpacking;
 use crate::window::Window;
 use std::alloc::AllocError;
 use tiff_dirs::ByteReader;
-use tile_layout::{Layout, Rect, TexelFormat};
+use tile_layout::TexelFormat;
 
 /// Texels that stand side by side in the file: so many from a place on.
 #[derive(Clone, Copy, Debug)]
@@ -32,22 +32,33 @@ pub(crate) struct Run {
 }
 
 impl Run {
-    /// The texels of a rectangle of a stored level, where they stand side by side, row behind row.
-    pub(crate) fn of(layout: &Layout, level: u32, rect: Rect) -> Option<Run>
-        requires stored { level < stored_count layout.now }
-        requires inside { LiesOnLevel layout.now level rect }
-        ensures texels { IfSome result (λ run. run.texels ≡ rect.w * rect.h) }
-        ensures whole { IfSome result (λ run.
-            StandsWhole (level_in layout.now level) rect run.at) }
+    /// The texels of a rectangle of a stored level, where they stand side by side, row behind row,
+    /// below a length of the file.
+    pub(crate) fn of(place: &Place<'_>, format: &TexelFormat, len: u64) -> Option<Run>
+        requires { IsFormatOf place.now.layout.now.big
+            (level_in place.now.layout.now place.now.level).shape format.now }
+        ensures texels { IfSome result (λ run.
+            run.texels ≡ place.now.rect.w * place.now.rect.h) }
+        ensures whole { IfSome result (λ run. StandsWhole
+            (level_in place.now.layout.now place.now.level) place.now.rect run.at) }
+        ensures below { IfSome result (λ run.
+            run.at + run.texels * format.now.texel_bytes ≤ len) }
     {
+        let rect = place.rect;
         if rect.h == 0 {
             return None;
         }
-        let at = layout.whole_rows(level, rect)?;
-        Some(Run {
+        let at = place.layout.whole_rows(place.level, rect)?;
+        let texels = rect.w as usize * rect.h as usize;
+        let span = Span {
             at,
-            texels: rect.w as usize * rect.h as usize,
-        })
+            size: texels * format.texel_bytes,
+        };
+        if span.lies_below(len) {
+            Some(Run { at, texels })
+        } else {
+            None
+        }
     }
 }
 
@@ -73,15 +84,15 @@ fn read_part<B: ByteReader>(
     window: &mut Window,
     values: &mut Vec<u16>,
 ) -> Result<(), RegionError<B::Error>>
-    requires { part.now.at + part.now.texels * unpacking.now.format.texel_bytes < 2 ^ 64 }
+    requires fits { part.now.at + part.now.texels * unpacking.now.format.texel_bytes < 2 ^ 64 }
+    requires below { part.now.at + part.now.texels * unpacking.now.format.texel_bytes
+        ≤ B.size reader.old }
     ensures count { OnOk result (length values.new.items
         ≡ length values.old.items + part.now.texels * unpacking.now.format.channels) }
     ensures low { OnOk result (KeepsDepth unpacking.now values.old.items values.new.items) }
     ensures told { ForSome (B.bytes reader.old) (λ bytes.
-        IsWindow bytes window.old
-        → part.now.at + part.now.texels * unpacking.now.format.texel_bytes ≤ length bytes
-        → OnOk result (IsWindow bytes window.new × AppendsRun bytes unpacking.now
-        part.now values.old.items values.new.items)) }
+        IsWindow bytes window.old → OnOk result (IsWindow bytes window.new
+        × AppendsRun bytes unpacking.now part.now values.old.items values.new.items)) }
     ensures reader { LeavesRegion B.keeps B.refuses reader.old reader.new result }
 {
     let format = &unpacking.format;
@@ -113,7 +124,9 @@ pub(crate) fn read_run<B: ByteReader>(
     run: &Run,
     values: &mut Vec<u16>,
 ) -> Result<(), RegionError<B::Error>>
-    requires { run.now.at + run.now.texels * unpacking.now.format.texel_bytes < 2 ^ 64 }
+    requires fits { run.now.at + run.now.texels * unpacking.now.format.texel_bytes < 2 ^ 64 }
+    requires below { run.now.at + run.now.texels * unpacking.now.format.texel_bytes
+        ≤ B.size reader.old }
     ensures count { OnOk result (length values.new.items
         ≡ length values.old.items + run.now.texels * unpacking.now.format.channels) }
     ensures low { OnOk result (KeepsDepth unpacking.now values.old.items values.new.items) }
@@ -121,7 +134,6 @@ pub(crate) fn read_run<B: ByteReader>(
         (level : Level) → (x_of y_of : ℕ → ℕ)
         → IsFormatOf unpacking.now.format.big level.shape unpacking.now.format
         → StandSideBySide level run.now x_of y_of
-        → run.now.at + run.now.texels * unpacking.now.format.texel_bytes ≤ length bytes
         → OnOk result (AppendsValues bytes level unpacking.now run.now.texels x_of y_of
         values.old.items values.new.items)) }
     ensures reader { LeavesRegion B.keeps B.refuses reader.old reader.new result }

@@ -76,8 +76,8 @@ impl Window {
             .min(most)
     }
 
-    /// Has the window hold the bytes of a piece of a row, 0 where they do not lie in the file.
-    /// Where it must read, it reads up to `most` bytes ahead, for the rows to come.
+    /// Has the window hold the bytes of a piece of a row that lie in the file. Where it must read,
+    /// it reads up to `most` bytes ahead, for the rows to come.
     pub(crate) fn fill<B: ByteReader>(
         &mut self,
         reader: &mut B,
@@ -85,10 +85,10 @@ impl Window {
         behind: &RowsBehind,
         most: u64,
     ) -> Result<(), RegionError<B::Error>>
+        requires { span.now.at + span.now.size ≤ B.size reader.old }
         ensures holds { OnOk result (HoldsSpan self.new span.now) }
         ensures told { ForSome (B.bytes reader.old) (λ bytes.
-            IsWindow bytes self.old → span.now.at + span.now.size ≤ length bytes
-            → OnOk result (IsWindow bytes self.new)) }
+            IsWindow bytes self.old → OnOk result (IsWindow bytes self.new)) }
         ensures reader { LeavesRegion B.keeps B.refuses reader.old reader.new result }
     {
         let stride = span.at.saturating_sub(self.last);
@@ -97,15 +97,9 @@ impl Window {
             return Ok(());
         }
         self.at = span.at;
-        let len = reader.len();
         let size = span.size as u64;
-        if span.at > len || size > len - span.at {
-            self.bytes.clear();
-            self.bytes.resize(span.size, 0)?;
-            return Ok(());
-        }
         self.ahead = self.more(stride, size, behind, most);
-        let long = span.size + self.ahead.min(len - span.at - size) as usize;
+        let long = span.size + self.ahead.min(reader.len() - span.at - size) as usize;
         self.bytes.resize(long, 0)?;
         match reader.read(span.at, &mut self.bytes) {
             Ok(()) => Ok(()),

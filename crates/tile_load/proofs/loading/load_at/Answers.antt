@@ -4,6 +4,7 @@ use Rattle.tile_layout.specs.Key.{level_of, index_of}
 use Rattle.tile_layout.specs.Cell.{rect_bytes, cell_rect, cut_level_in, channels_in}
 use Rattle.tile_layout.specs.Cell.{max_cell_bytes}
 use Rattle.tile_layout.specs.Kept.{stored_count}
+use Rattle.tile_load.proofs.ToldTiles.{tile_told}
 use Rattle.tile_load.proofs.loading.load_at.Goals as goal
 
 pub new-requires-clause-tile : goal.new-requires-clause-tile
@@ -41,3 +42,12 @@ new-requires-clause-tile g c =
       texels = count;
       bytes = omega (arith, count, few, bytes);
     }
+
+pub new-requires-clause-told : goal.new-requires-clause-told
+new-requires-clause-told g c =
+    let handle = g.T.Handle.TapHandle.named c.args.handle.now in
+    tile_told g.T.W.World.files handle c.args.layout.now c.args.cut c.args.key c.requires.cell
+    c.cell_rect-rect.result c.channels.result c.in-Ok.texels.items c.channels.ensures.first
+    c.channels.ensures.value c.in-Ok.ensures.low
+    (g.met.T.Handle.TapHandle.honest c.args.handle.now).real c.requires.layout
+    (rw c.level-level.ensures.value at c.in-Ok.ensures.told)

@@ -1,4 +1,4 @@
-use Rattle.std.proofs.Common.{◌≡◌, ◌∙◌, ℕ, ◌+◌, ◌*◌, ◌≤◌, length, ap, arith}
+use Rattle.std.proofs.Common.{◌≡◌, ◌∙◌, ℕ, ◌+◌, ◌*◌, ◌≤◌, ap, arith}
 use Rattle.std.proofs.lemmas.Result.{err_from_is_err_and}
 use Rattle.tiff_dirs.specs.Block.{texel_bytes}
 use Rattle.tile_load.specs.declared.run.Run.{Run}
@@ -6,11 +6,22 @@ use Rattle.tile_load.proofs.Leaves.{leaves_after}
 use Rattle.tile_load.proofs.RunValues.{bytes_within, part_stands, appends_none, appends_more}
 use Rattle.tile_load.proofs.run.read_run.Goals as goal
 
-pub read_part-requires : goal.read_part-requires
-read_part-requires g c =
+pub read_part-requires-clause-fits : goal.read_part-requires-clause-fits
+read_part-requires-clause-fits g c =
     omega (
       arith,
-      c.requires,
+      c.requires.fits,
+      bytes_within (c.parts.done + c.min.result) c.args.run.now.texels
+          c.args.unpacking.now.format.texel_bytes
+          (omega (arith, c.min.ensures, c.parts.invariant.within)),
+    )
+
+pub read_part-requires-clause-below : goal.read_part-requires-clause-below
+read_part-requires-clause-below g c =
+    omega (
+      arith,
+      c.requires.below,
+      g.met.B.ByteReader.lawful.same_size _ _ c.parts.invariant.keeps,
       bytes_within (c.parts.done + c.min.result) c.args.run.now.texels
           c.args.unpacking.now.format.texel_bytes
           (omega (arith, c.min.ensures, c.parts.invariant.within)),
@@ -31,7 +42,7 @@ parts-init g c = record {
   within = omega arith;
   count = omega arith;
   low = λ unscaled fit. fit;
-  told = λ bytes told inside. (
+  told = λ bytes told. (
     c.new-window.ensures bytes,
     λ level x_of y_of is stand.
         appends_none bytes level c.args.unpacking.now x_of y_of c.reserve.new.values.items,
@@ -54,16 +65,10 @@ parts-preserved g c =
       within = within;
       count = omega (arith, before.count, c.in_ok-read_part.ensures.count);
       low = λ unscaled fit. c.in_ok-read_part.ensures.low unscaled (before.low unscaled fit);
-      told = λ bytes told inside.
-          let so_far = before.told bytes told inside in
+      told = λ bytes told.
+          let so_far = before.told bytes told in
           let still = g.met.B.ByteReader.lawful.same_bytes _ _ before.keeps ∙ told in
-          let part_in : part.at + n * format.texel_bytes ≤ length bytes =
-          omega (
-            arith,
-            inside,
-            bytes_within (c.parts.done + n) run.texels format.texel_bytes within,
-          ) in
-          let read = c.in_ok-read_part.ensures.told bytes still so_far.0 part_in in (
+          let read = c.in_ok-read_part.ensures.told bytes still so_far.0 in (
             read.0,
             λ level x_of y_of is stand.
                 let unit : format.texel_bytes ≡ texel_bytes level.shape =

@@ -16,8 +16,7 @@ invariant-parts g l = record {
       ≡ length l.initial.values.items + l.done * l.unpacking.format.channels;
   low : KeepsDepth l.unpacking l.initial.values.items l.values.items;
   told : ForSome (g.B.ByteReader.bytes l.initial.reader) (λ bytes.
-      l.run.at + l.run.texels * l.unpacking.format.texel_bytes ≤ length bytes
-      → IsWindow bytes l.window × ((level : Level) → (x_of y_of : ℕ → ℕ)
+      IsWindow bytes l.window × ((level : Level) → (x_of y_of : ℕ → ℕ)
       → IsFormatOf l.unpacking.format.big level.shape l.unpacking.format
       → StandSideBySide level l.run x_of y_of
       → AppendsValues bytes level l.unpacking l.done x_of y_of

@@ -1,4 +1,4 @@
-use Rattle.std.proofs.Common.{◌∙◌}
+use Rattle.std.proofs.Common.{◌∙◌, arith}
 use Rattle.std.proofs.lemmas.Result.{err_from_is_err_and}
 use Rattle.tile_layout.specs.Kept.{level_in}
 use Rattle.tile_load.proofs.Leaves.{leaves_after}
@@ -8,6 +8,7 @@ use Rattle.tile_load.proofs.level_rows.LevelRows.read_each.Goals as goal
 pub loop-j-init : goal.loop-j-init
 loop-j-init g c = record {
   keeps = g.met.B.ByteReader.lawful.itself c.args.reader.now;
+  count = omega arith;
   told = λ bytes told windows holds.
       let rows = c.args.self.now in (
         windows,
@@ -21,6 +22,7 @@ loop-j-preserved g c = record {
   keeps =
       g.met.B.ByteReader.lawful.chains _ _ _ c.loop-j.invariant.keeps
       c.in_ok-read_row.ensures.reader;
+  count = omega (arith, c.loop-j.invariant.count, c.in_ok-read_row.ensures.count);
   told = λ bytes told windows holds.
       let level_rows = c.args.self.now in
       let still = g.met.B.ByteReader.lawful.same_bytes _ _ c.loop-j.invariant.keeps ∙ told in

@@ -1,8 +1,8 @@
-use Rattle.std.proofs.Common.{◌≡◌, ◌++◌}
+use Rattle.std.proofs.Common.{◌≡◌, ◌+◌, ◌*◌, ◌++◌, length}
 use Rattle.std.specs.Option.{ForSome}
 use Rattle.tile_layout.specs.Kept.{level_in}
 use Rattle.tile_layout.specs.Blocks.{HoldsBlocks}
-use Rattle.tile_load.specs.LevelRow.{level_rows}
+use Rattle.tile_load.specs.LevelRow.{level_rows, values_in_row}
 use Rattle.tile_load.specs.Window.{AreWindows}
 use Rattle.tile_load.proofs.level_rows.LevelRows.read_each.Given as goal
 
@@ -10,6 +10,8 @@ use Rattle.tile_load.proofs.level_rows.LevelRows.read_each.Given as goal
 abbrev pub invariant-loop-j : goal.invariant-loop-j
 invariant-loop-j g l = record {
   keeps : g.B.ByteReader.keeps l.initial.reader l.reader;
+  count : length l.reading.values.items ≡ length l.initial.reading.values.items
+      + l.j * values_in_row l.self.columns l.self.unpacking.format.channels;
   told : ForSome (g.B.ByteReader.bytes l.initial.reader) (λ bytes.
       AreWindows bytes l.initial.reading.windows.items
       → HoldsBlocks bytes (level_in l.self.layout.now l.self.level)

@@ -1,5 +1,8 @@
 use Rattle.std.proofs.Common.{◌≡◌, ◌*◌, ◌++◌, ap, arith, replicate, rules}
-use Rattle.std.proofs.Common.{sym, subst}
+use Rattle.std.proofs.Common.{sym, subst, ℕ, ◌∙◌, length}
+use Rattle.tile_layout.specs.declared.rect.Rect.{Rect}
+use Rattle.tile_layout.proofs.TexelLemmas.{length-rect_texels}
+use Rattle.tile_load.proofs.ZeroTexels.{zeros_long}
 use Rattle.tiff_dirs.specs.Block.{Level}
 use Rattle.tile_layout.specs.Kept.{level_in}
 use Rattle.tile_layout.specs.Blocks.{HoldsBlocks}
@@ -44,4 +47,25 @@ returns-clause-told g c = λ bytes told windows holds.
       row_is big bytes level columns c.args.y c.args.reading.now.values.items
           c.push_zeros.new.self.values.items c.read_pieces.new.self.values.items
           c.push_zeros-2.new.self.values.items front all.1 back,
+    )
+
+pub returns-clause-count : goal.returns-clause-count
+returns-clause-count g c =
+    let n = c.args.self.now.unpacking.format.channels in
+    let columns = c.args.self.now.columns in
+    let walk = c.pieces-pieces.ensures.value in
+    let rect : Rect = record { x = columns.first; y = c.args.y; w = columns.inside; h = 1 } in
+    let texels : length c.pieces-pieces.result.texels ≡ columns.inside * 1 =
+    ap (λ (w : Walk). length w.texels) walk ∙ length-rect_texels rect in
+    let inside : length c.pieces-pieces.result.texels * n ≡ columns.inside * n =
+    ap (λ (m : ℕ). m * n) texels ∙ omega arith in
+    omega (
+      arith,
+      zeros_long (columns.before * n) c.args.reading.now.values.items
+          c.push_zeros.new.self.values.items (search (rules, c.in_ok-push_zeros.ensures.values)),
+      c.in_ok-read_pieces.ensures.count,
+      inside,
+      zeros_long (columns.after * n) c.read_pieces.new.self.values.items
+          c.push_zeros-2.new.self.values.items
+          (search (rules, c.in_ok-push_zeros-2.ensures.values)),
     )

@@ -1,52 +1,6 @@
-use Rattle.std.proofs.Common.{◌≡◌, ℕ, ◌+◌, ◌*◌, ◌≤◌, List, ◌++◌, length, map, ap, ◌∙◌, arith}
-use Rattle.std.specs.List.{range_with_len}
-use Rattle.std.proofs.lemmas.List.{length-append}
-use Rattle.std.proofs.lemmas.List.FromFn.{length-map-range_with_len}
-use Rattle.tiff_dirs.specs.Block.{sample_bytes, texel_bytes}
-use Rattle.tile_layout.specs.Pieces.{block_of}
-use Rattle.tile_load.specs.SampleValue.{unpacked_value}
-use Rattle.tile_load.proofs.PieceValues.{piece_values}
-use Rattle.tile_load.proofs.Windows.{window_at, window_set}
 use Rattle.tile_load.proofs.reading.Reading.read_piece.Goals as goal
 
--- n texels of that many samples of that size
-samples_of : (n unit channels size : ℕ) → unit ≡ channels * size
-    → n * unit ≡ size * (n * channels)
-samples_of n unit channels size is = rw is (omega arith)
-
-pub returns-clause-told : goal.returns-clause-told
-returns-clause-told g c = λ bytes told level right windows is lies holds.
-    let format = c.args.unpacking.now.format in
-    let piece = c.args.piece.now in
-    let span = c.piece.result.now in
-    let list = c.ready.new.windows.items in
-    let ready = c.in_ok-ready.ensures.told bytes windows in
-    let window = window_at bytes list c.args.k c.index_mut-window.result.now
-    c.index_mut-window.result.now ready c.in_ok-ready.ensures.some
-    c.index_mut-window.ensures.value in
-    let unit : format.texel_bytes ≡ texel_bytes level.shape =
-    rw (← is.channels, ← is.depth) format.in_range.bytes in
-    let inside : piece.at + piece.n * format.texel_bytes ≤ length bytes =
-    rw unit (omega (arith, lies.block.to, holds (block_of level.shape piece) lies.block.is)) in
-    let new = c.in_ok-fill.ensures.told bytes told window inside in
-    let long : length span ≡ sample_bytes level.shape.depth * (piece.n * level.shape.channels) =
-    c.piece.ensures.long
-    ∙ samples_of piece.n format.texel_bytes level.shape.channels (sample_bytes level.shape.depth)
-    unit in
-    let values : ℕ → ℕ = unpacked_value c.args.unpacking.now span in (
-      window_set bytes list c.args.k c.fill.new.self ready new,
-      c.in_ok-push_samples.ensures.values
-          ∙ ap (λ (v : List ℕ). c.args.self.now.values.items ++ v)
-          (ap (λ (n : ℕ). map values (range_with_len 0 (piece.n * n))) is.channels
-          ∙ piece_values format.big bytes level c.args.unpacking.now is right piece lies span
-          (c.piece.ensures.told bytes new) long),
-    )
-
-pub returns-clause-count : goal.returns-clause-count
-returns-clause-count g c =
-    let old = c.args.self.now.values.items in
-    let count = c.args.piece.now.n * c.args.unpacking.now.format.channels in
-    let value : ℕ → ℕ = unpacked_value c.args.unpacking.now c.piece.result.now in
-    ap length c.in_ok-push_samples.ensures.values
-    ∙ length-append old (map value (range_with_len 0 count))
-    ∙ ap (λ n. length old + n) (length-map-range_with_len value 0 count)
+pub returns-then-lies_below-clause-told : goal.returns-then-lies_below-clause-told
+returns-then-lies_below-clause-told g c = λ bytes told level right windows is lies holds.
+    c.read_span.ensures.told bytes told level right (c.in_ok-ready.ensures.told bytes windows) is
+    lies

@@ -1,9 +1,15 @@
-use Rattle.std.proofs.Common.{◌≡◌, ◌*◌, ◌++◌, ◌∙◌, ℕ, ap, arith, refl, sym, List, append_assoc}
+use Rattle.std.proofs.Common.{◌≡◌, ◌*◌, ◌++◌, ◌∙◌, ℕ, ap, arith, refl, sym, subst, List, append_assoc}
 use Rattle.std.specs.List.{flat_map}
 use Rattle.std.proofs.lemmas.List.{append-nil}
 use Rattle.std.proofs.lemmas.List.Concat.{flat_map-append}
 use Rattle.std.proofs.lemmas.Result.{err_from_is_err_and}
+use Rattle.tiff_dirs.specs.Block.{Level, texel_bytes}
+use Rattle.tile_layout.specs.FormatOf.{IsFormatOf}
 use Rattle.tile_layout.specs.Pieces.{row_texels}
+use Rattle.tile_load.specs.declared.unpacking.Unpacking.{Unpacking}
+use Rattle.tile_load.specs.Zeros.{AddsTexels, LiesBeyond}
+use Rattle.tile_load.proofs.ZeroTexels.{adds_then, adds_long}
+use Rattle.tile_load.proofs.PieceEnds.{piece_adds, taken_far}
 use Rattle.tile_layout.proofs.WalkLemmas.{length_taken}
 use Rattle.tile_load.specs.LevelRow.{values_at}
 use Rattle.tile_load.proofs.Leaves.{leaves_after}
@@ -21,11 +27,20 @@ values_taken values old mid new all left row rest parts so_far more =
     ∙ ap (λ (v : List ℕ). mid ++ v) (sym (flat_map-append values row rest))
     ∙ ap (λ (t : List (ℕ × ℕ)). mid ++ flat_map values t) (sym parts) ∙ so_far
 
+-- the bytes of a texel
+unit_of : (unpacking : Unpacking) (level : Level)
+    → IsFormatOf unpacking.format.big level.shape unpacking.format
+    → unpacking.format.texel_bytes ≡ texel_bytes level.shape
+unit_of unpacking level is = rw (← is.channels, ← is.depth) unpacking.format.in_range.bytes
+
 pub pieces-init : goal.pieces-init
 pieces-init g c = record {
   keeps = g.met.B.ByteReader.lawful.itself c.args.reader.now;
   some = omega arith;
   level = refl;
+  right = refl;
+  zeros = λ format last more. more;
+  unread = λ format far. (far, refl);
   count = refl;
   low = λ unscaled fit. fit;
   told = λ bytes told windows format holds. (windows, refl);
@@ -39,10 +54,43 @@ pieces-preserved g c =
       keeps = g.met.B.ByteReader.lawful.chains _ _ _ before.keeps c.in_ok-read_piece.ensures.reader;
       some = omega (arith, c.in_ok-read_piece.ensures.next);
       level = takes.level ∙ before.level;
+      right = takes.right ∙ before.right;
+      zeros = λ format last more.
+          let level = c.args.pieces.now.level in
+          let right = c.args.pieces.now.right in
+          let n = c.args.unpacking.now.format.channels in
+          let far = LiesBeyond level right (g.B.ByteReader.size c.args.reader.now) in
+          let row = row_texels c.in-Some.piece.x c.in-Some.piece.y c.in-Some.piece.n in
+          let rest = c.next.new.self.texels in
+          let old = c.pieces.self.values.items in
+          before.zeros format last
+          (subst (λ (ts : List (ℕ × ℕ)). AddsTexels far n ts old last) (sym takes.texels)
+          (adds_then far n row rest old c.read_piece.new.self.values.items last
+          (piece_adds level right (g.B.ByteReader.size c.args.reader.now) c.in-Some.piece
+          (rw (before.level, before.right) at takes.lies) n old c.read_piece.new.self.values.items
+          (rw (
+            g.met.B.ByteReader.lawful.same_size _ _ before.keeps,
+            unit_of c.args.unpacking.now level format,
+          ) at c.in_ok-read_piece.ensures.count)) more));
+      unread = λ format far.
+          let level = c.args.pieces.now.level in
+          let len = g.B.ByteReader.size c.args.reader.now in
+          let so_far = before.unread format far in
+          let both = taken_far c.pieces.pieces c.next.new.self c.in-Some.piece level
+          c.args.pieces.now.right len before.level before.right takes so_far.0 in
+          let there = rw (
+            ← g.met.B.ByteReader.lawful.same_size _ _ before.keeps,
+            ← unit_of c.args.unpacking.now level format,
+          ) at both.0 in (
+            both.1,
+            c.in_ok-read_piece.ensures.unread there ∙ so_far.1,
+          );
       count = omega (
         arith,
         before.count,
-        c.in_ok-read_piece.ensures.count,
+        adds_long (c.in-Some.piece.n * c.args.unpacking.now.format.channels)
+            c.pieces.self.values.items c.read_piece.new.self.values.items
+            c.in_ok-read_piece.ensures.count,
         ap (λ n. n * c.args.unpacking.now.format.channels)
             (length_taken c.pieces.pieces c.in-Some.piece c.next.new.self takes),
       );
@@ -84,3 +132,27 @@ returns-in_err-read_piece-clause-reader g c =
     g.met.B.ByteReader.lawful.chains (Unit {0}) (Unit {0}) c.args.reader.now c.pieces.reader
     c.read_piece.new.reader c.in_err-read_piece.field-0.0
     c.pieces.invariant.keeps c.in_err-read_piece.ensures.reader)
+
+pub returns-clause-zeros : goal.returns-clause-zeros
+returns-clause-zeros g c = λ format.
+    let old = c.pieces.self.values.items in
+    let far = LiesBeyond c.args.pieces.now.level c.args.pieces.now.right
+    (g.B.ByteReader.size c.args.reader.now) in
+    c.pieces.invariant.zeros format old
+    (subst
+    (λ (ts : List (ℕ × ℕ)). AddsTexels far c.args.unpacking.now.format.channels ts old old)
+    (sym c.in_default.ensures.steps.0) refl)
+
+pub returns-in_err-read_piece-clause-unread : goal.returns-in_err-read_piece-clause-unread
+returns-in_err-read_piece-clause-unread g c = λ format far.
+    let level = c.args.pieces.now.level in
+    let before = c.pieces.invariant in
+    let so_far = before.unread format far in
+    let both = taken_far c.pieces.pieces c.next.new.self c.in-Some.piece level
+    c.args.pieces.now.right (g.B.ByteReader.size c.args.reader.now) before.level before.right
+    c.in-Some.ensures.steps so_far.0 in
+    let there = rw (
+      ← g.met.B.ByteReader.lawful.same_size _ _ before.keeps,
+      ← unit_of c.args.unpacking.now level format,
+    ) at both.0 in
+    c.in_err-read_piece.ensures.unread there ∙ so_far.1

@@ -1,9 +1,10 @@
-use Rattle.std.proofs.Common.{◌≡◌, ◌+◌, ◌*◌, ◌++◌, ◌≤◌, length}
+use Rattle.std.proofs.Common.{◌≡◌, ℕ, ◌+◌, ◌*◌, ◌++◌, ◌≤◌, List, length}
 use Rattle.std.specs.Option.{ForSome}
-use Rattle.std.specs.List.{flat_map}
+use Rattle.std.specs.List.{flat_map, All}
 use Rattle.tile_layout.specs.FormatOf.{IsFormatOf}
 use Rattle.tile_layout.specs.Blocks.{HoldsBlocks}
 use Rattle.tile_load.specs.LevelRow.{values_at}
+use Rattle.tile_load.specs.Zeros.{AddsTexels, LiesBeyond}
 use Rattle.tile_load.specs.SampleValue.{KeepsDepth}
 use Rattle.tile_load.specs.Window.{AreWindows}
 use Rattle.tile_load.proofs.reading.Reading.read_pieces.Given as goal
@@ -14,6 +15,21 @@ invariant-pieces g l = record {
   keeps : g.B.ByteReader.keeps l.initial.reader l.reader;
   some : l.k ≤ length l.self.windows.items;
   level : l.pieces.level ≡ l.initial.pieces.level;
+  right : l.pieces.right ≡ l.initial.pieces.right;
+  zeros : IsFormatOf l.unpacking.format.big l.initial.pieces.level.shape l.unpacking.format
+      → (last : List ℕ)
+      → AddsTexels (LiesBeyond l.initial.pieces.level l.initial.pieces.right
+      (g.B.ByteReader.size l.initial.reader)) l.unpacking.format.channels
+      l.pieces.texels l.self.values.items last
+      → AddsTexels (LiesBeyond l.initial.pieces.level l.initial.pieces.right
+      (g.B.ByteReader.size l.initial.reader)) l.unpacking.format.channels
+      l.initial.pieces.texels l.initial.self.values.items last;
+  unread : IsFormatOf l.unpacking.format.big l.initial.pieces.level.shape l.unpacking.format
+      → All (LiesBeyond l.initial.pieces.level l.initial.pieces.right
+      (g.B.ByteReader.size l.initial.reader)) l.initial.pieces.texels
+      → All (LiesBeyond l.initial.pieces.level l.initial.pieces.right
+      (g.B.ByteReader.size l.initial.reader)) l.pieces.texels
+      × (l.reader ≡ l.initial.reader);
   count : length l.self.values.items + length l.pieces.texels * l.unpacking.format.channels
       ≡ length l.initial.self.values.items
       + length l.initial.pieces.texels * l.unpacking.format.channels;

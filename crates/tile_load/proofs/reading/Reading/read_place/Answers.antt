@@ -1,11 +1,14 @@
-use Rattle.std.proofs.Common.{◌≡◌, ◌+◌, ◌*◌, ◌≤◌, length, ap, ◌∙◌, sym, subst, OnOk}
-use Rattle.tiff_dirs.specs.Block.{Level, texel_bytes}
+use Rattle.std.proofs.Common.{◌≡◌, ◌+◌, ◌*◌, length, ap, ◌∙◌, sym, subst, arith, OnOk}
+use Rattle.std.specs.List.{All}
+use Rattle.tiff_dirs.specs.Block.{Level}
 use Rattle.tile_layout.specs.Blocks.{HoldsBlocks}
 use Rattle.tile_layout.specs.Kept.{level_in}
 use Rattle.tile_layout.specs.Pieces.{Walk}
 use Rattle.tile_layout.proofs.TexelLemmas.{length-rect_texels}
 use Rattle.tile_load.proofs.SampleValues.{own_order}
-use Rattle.tile_load.proofs.WholeRows.{column_of, row_of, run_stands, rect_appended, on_ok}
+use Rattle.tile_load.proofs.WholeRows.{column_of, row_of, run_stands, rect_appended, on_ok, any_ok}
+use Rattle.tile_load.proofs.RectZeros.{below_of_run, rect_adds, rect_far}
+use Rattle.tile_load.specs.Zeros.{AddsZeros, LiesBeyond}
 use Rattle.tile_load.proofs.reading.Reading.read_place.Goals as goal
 
 pub returns-in-Some-clause-count : goal.returns-in-Some-clause-count
@@ -26,10 +29,6 @@ returns-in-Some-clause-told g c = λ bytes told windows holds.
     let whole = c.in-Some.ensures.whole in
     let count : run.texels ≡ rect.w * rect.h = c.in-Some.ensures.texels in
     let own = own_order place.layout.now.big level.shape unpacking.format c.requires in
-    let unit : unpacking.format.texel_bytes ≡ texel_bytes level.shape =
-    rw (← c.requires.channels, ← c.requires.depth) unpacking.format.in_range.bytes in
-    let inside : run.at + run.texels * unpacking.format.texel_bytes ≤ length bytes =
-    rw (unit, count) (whole.inside bytes holds) in
     on_ok c.read_run.result
     (λ more. (
       windows,
@@ -37,7 +36,7 @@ returns-in-Some-clause-told g c = λ bytes told windows holds.
           c.args.self.now.values.items c.read_run.new.values.items (rw count at more)),
     ))
     (c.read_run.ensures.told bytes told level (column_of rect) (row_of rect) own
-    (run_stands level rect run whole count) inside)
+    (run_stands level rect run whole count))
 
 pub returns-in-None-clause-count : goal.returns-in-None-clause-count
 returns-in-None-clause-count g c =
@@ -60,3 +59,54 @@ returns-in-None-clause-told g c = λ bytes told windows holds.
     let read = c.read_pieces.ensures.told bytes told windows (rw level_is format)
     (subst (λ (l : Level). HoldsBlocks bytes l) (sym level_is) holds) in
     rw (walk, c.requires.order) at read
+
+-- each piece of a run lies below the length
+pub returns-in-Some-clause-zeros : goal.returns-in-Some-clause-zeros
+returns-in-Some-clause-zeros g c =
+    let place = c.args.place.now in
+    let level = level_in place.layout.now place.level in
+    let len = g.B.ByteReader.size c.args.reader.now in
+    let run = c.in-Some.run' in
+    let low = below_of_run c.args.unpacking.now.format place.layout.now.big level place.rect run len
+    c.requires c.in-Some.ensures.whole c.in-Some.ensures.texels
+    (rw c.len.ensures at c.in-Some.ensures.below) in
+    let none : AddsZeros level len place.rect c.args.self.now.values.items c.read_run.new.values.items =
+    λ i j channel across down some far. absurd (omega (arith, low i j across down, far)) in
+    any_ok c.read_run.result none
+
+pub returns-in-Some-clause-unread : goal.returns-in-Some-clause-unread
+returns-in-Some-clause-unread g c = λ filled far.
+    let place = c.args.place.now in
+    let level = level_in place.layout.now place.level in
+    let len = g.B.ByteReader.size c.args.reader.now in
+    let run = c.in-Some.run' in
+    let low = below_of_run c.args.unpacking.now.format place.layout.now.big level place.rect run len
+    c.requires c.in-Some.ensures.whole c.in-Some.ensures.texels
+    (rw c.len.ensures at c.in-Some.ensures.below) in
+    absurd (omega (arith, low 0 0 filled.wide filled.high, far 0 0 filled.wide filled.high))
+
+pub returns-in-None-clause-zeros : goal.returns-in-None-clause-zeros
+returns-in-None-clause-zeros g c =
+    let place = c.args.place.now in
+    let level = level_in place.layout.now place.level in
+    let format = own_order place.layout.now.big level.shape c.args.unpacking.now.format c.requires in
+    let walk = c.pieces-pieces.ensures.value in
+    let level_is = ap (λ (w : Walk). w.level) walk in
+    let read = c.read_pieces.ensures.zeros (rw level_is format) in
+    let adds = rw walk at read in
+    on_ok c.read_pieces.result
+    (λ more. rect_adds level (g.B.ByteReader.size c.args.reader.now) place.rect
+    c.args.unpacking.now.format.channels c.args.self.now.values.items
+    c.read_pieces.new.self.values.items c.requires.channels more) adds
+
+pub returns-in-None-clause-unread : goal.returns-in-None-clause-unread
+returns-in-None-clause-unread g c = λ filled beyond.
+    let place = c.args.place.now in
+    let level = level_in place.layout.now place.level in
+    let len = g.B.ByteReader.size c.args.reader.now in
+    let format = own_order place.layout.now.big level.shape c.args.unpacking.now.format c.requires in
+    let walk = c.pieces-pieces.ensures.value in
+    let level_is = ap (λ (w : Walk). w.level) walk in
+    c.read_pieces.ensures.unread (rw level_is format)
+    (subst (λ (w : Walk). All (LiesBeyond w.level w.right len) w.texels) (sym walk)
+    (rect_far level len place.rect beyond))
