@@ -195,6 +195,44 @@ static READS: &[ReadsRow] = &[
     ("distant rows", "A to=32890 18=0,32", (100, 0, 10, 4), 4, 40),
 ];
 
+/// A file that is cut off behind so many bytes, the samples that it then has, and how many reads
+/// they take. Its pieces are rows of 4 bytes from 122 on.
+type ShortRow = (&'static str, usize, &'static [u16], u64);
+
+static SHORT: &[ShortRow] = &[
+    (
+        "A",
+        137,
+        &[0, 1, 2, 3, 16, 17, 18, 19, 32, 33, 34, 35, 0, 0, 0, 0],
+        1,
+    ),
+    (
+        "A 66=0",
+        137,
+        &[
+            255, 254, 253, 252, 239, 238, 237, 236, 223, 222, 221, 220, 0, 0, 0, 0,
+        ],
+        1,
+    ),
+    ("A 66=0", 125, &[0; 16], 0),
+];
+
+// The layout is that of the whole file.
+#[test]
+fn counts_as_zero_what_lies_beyond(rt: HostRuntime) -> Result<(), Fail> {
+    for (file, len, wanted, reads) in SHORT {
+        let bytes = file_of(rt.alloc(), file)?;
+        let layout = layout_in(rt.alloc(), &bytes)?;
+        let mut reader = MemReader::new(bytes.get(..*len).ok_or("shorter")?, 0);
+        match samples_of(rt.alloc(), &mut reader, &layout, 0, (0, 0, 4, 4)) {
+            Some(Ok(samples)) => assert!(rt; samples.as_slice() == *wanted, "{file}, {len}"),
+            _ => return Err("not read".into()),
+        }
+        assert_eq!(rt; reader.reads, *reads, "{file}, {len}");
+    }
+    Ok(())
+}
+
 /// The column and the row of texel k of a rectangle.
 fn texel_of((x, y, w, _): Place, k: u64) -> (u64, u64) {
     let w = u64::from(w).max(1);

@@ -73,6 +73,7 @@ impl<R: Files<File = File> + AllocGlobal + Clone + Drop> Folder for RealFolder<R
 
     fn enter(&mut self, alloc: Global, path: &str) -> Result<(), EnterError> {
         self.listing = None;
+        self.over = false;
         match self.list(alloc, path) {
             Ok(listing) => {
                 self.listing = Some(listing);

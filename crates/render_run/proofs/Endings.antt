@@ -1,5 +1,6 @@
 -- What an ending whose text was written says of the top call.
-use Rattle.std.proofs.Common.{◌≡◌, ◌≤◌, inl, inr, ℕ, List, Option, sym, arith}
+use Rattle.std.proofs.Common.{◌≤◌, inl, inr, ℕ, List, Option, sym, arith}
+use Rattle.std.specs.Prelude.{IsTrue}
 use Rattle.tex_world.specs.World.{Files}
 use Rattle.render_run.specs.declared.prepare.Ending.{Ending}
 use Rattle.render_run.specs.declared.prepare.Ending.TheVariants.{BadWords, FolderFault}
@@ -44,7 +45,7 @@ module _ (files : Files) (path : Option (List ℕ)) (old new : Around) (ends : �
   }
 
   -- no memory was found, and nothing was written
-  lacking : new.folder.over ≡ old.folder.over → LacksMemory old.sink new.sink ends
+  lacking : (IsTrue new.folder.over → IsTrue old.folder.over) → LacksMemory old.sink new.sink ends
       → Runs files path old new ends
   lacking mark lacks = record {
     answered = λ few. absurd (omega (arith, lacks.as_lacking));
@@ -58,10 +59,10 @@ module _ (files : Files) (path : Option (List ℕ)) (old new : Around) (ends : �
   -- each ending
   pub ended_runs : (ending : Ending) → IsEnded files path (inputs_in old) (inputs_in new) ending
       → EndedAs ending old.sink new.sink ends → Runs files path old new ends
-  ended_runs NoMemory ended lacks = lacking (ended.mark (λ e. cc)) lacks
+  ended_runs NoMemory ended lacks = lacking ended.mark lacks
   ended_runs (NotAList bad) ended (inl text) =
       written (NotAList bad) ended (omega arith) (omega arith) text
-  ended_runs (NotAList bad) ended (inr lacks) = lacking (ended.mark (λ e. cc)) lacks
+  ended_runs (NotAList bad) ended (inr lacks) = lacking (λ over. absurd (ended.mark over)) lacks
   ended_runs BadWords ended text = written BadWords ended (omega arith) (omega arith) text
   ended_runs FolderFault ended text = written FolderFault ended (omega arith) (omega arith) text
   ended_runs TooManyFiles ended text = written TooManyFiles ended (omega arith) (omega arith) text

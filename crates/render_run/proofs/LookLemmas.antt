@@ -1,5 +1,5 @@
 -- What does a texel of a told file have, and when are all told?
-use Rattle.std.proofs.Common.{◌≡◌, ◌∙◌, ℕ, ◌+◌, ◌<◌, ◌≤◌, Bool, true, false, ltb, List, length, map}
+use Rattle.std.proofs.Common.{◌≡◌, ◌∙◌, ℕ, ◌<◌, Bool, true, false, ltb, List, length, map}
 use Rattle.std.proofs.Common.{get_or, Option, Some, None, pos, refl, sym, subst, add-zero, zero-add, arith}
 use borrow.Author.Tests.{ltb-false}
 use Rattle.std.specs.Prelude.{if◌then◌else◌}
@@ -13,9 +13,8 @@ use Rattle.std.proofs.lemmas.List.{append-nil, length-map, get_or_past}
 use Rattle.std.proofs.lemmas.List.Sums.{AllPass-from_list_all, list_all-from_AllPass}
 use Rattle.std.proofs.lemmas.List.FromFn.{get_or-range_with_len, get_or-map-range_with_len}
 use Rattle.std.proofs.lemmas.List.FromFn.{length-range_with_len}
-use Rattle.tiff_dirs.specs.Block.{Level, blocks_of, block_bytes}
+use Rattle.tiff_dirs.specs.Block.{Level, blocks_of}
 use Rattle.tiff_dirs.specs.Texel.{value_of, sample_in}
-use Rattle.tiff_dirs.specs.Level.{level_of}
 use Rattle.tile_layout.specs.Kept.{Kept, stored_count, level_in}
 use Rattle.tile_layout.specs.Blocks.{HoldsBlocks}
 use Rattle.tile_layout.proofs.GoodLevels.{good_level}

@@ -1,12 +1,11 @@
 -- A reply that was made is the reply on the bytes.
 use Rattle.std.proofs.Common.{◌≡◌, ◌∙◌, ℕ, ◌<◌, ◌≤◌, ltb, true, false, List, None, Result}
-use Rattle.std.proofs.Common.{Err, IfOk, refl, sym, ap}
+use Rattle.std.proofs.Common.{Err, IfOk, refl, ap}
 use Rattle.std.proofs.lemmas.Bool.{le-ltb, lt-ltb}
 use Rattle.tiff_dirs.specs.declared.fault.DirsError.{DirsError}
 use Rattle.tiff_dirs.specs.declared.fault.DirsError.TheVariants.{Fault, Reader, NoMemory}
 use Rattle.tiff_dirs.specs.declared.dirs.Dirs.{Dirs}
 use Rattle.tiff_dirs.specs.Bytes.{is_big}
-use Rattle.tiff_dirs.specs.Block.{Level}
 use Rattle.tiff_dirs.specs.Level.{level_of, first_fault, stored_levels}
 use Rattle.tiff_dirs.specs.Dirs.{Tells}
 use Rattle.tile_layout.specs.Kept.{Kept, stored_count, level_in}

@@ -1,6 +1,5 @@
 -- A line that stands for an answer meets what the answer meets.
 use Rattle.std.proofs.Common.{inl, inr, ℕ, ◌≤◌, List, [], ◌∷◌, ◌++◌, Option}
-use Rattle.std.proofs.Common.{Some, None, refl}
 use Rattle.std.specs.Option.{ForSome}
 use Rattle.std.proofs.lemmas.Option.{none-some}
 use Rattle.tex_world.specs.World.{Files}

@@ -1,5 +1,5 @@
 -- What tells the line that stands for an answer where no memory is found?
-use Rattle.std.proofs.Common.{◌≡◌, ℕ, ◌≤◌, false, Option, Some, None, inl, inr, refl}
+use Rattle.std.proofs.Common.{◌≡◌, ℕ, false, Option, Some, None, inl, inr, refl}
 use Rattle.tex_world.specs.World.{Files}
 use Rattle.request_lang.specs.declared.request.Request.{Request}
 use Rattle.request_lang.specs.declared.request.Request.TheVariants.{Tex, Pixels, Info, Sync}

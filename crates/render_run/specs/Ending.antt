@@ -44,12 +44,15 @@ pub record IsNotEntered (path : Option (List ℕ)) (folder : FolderState) : Type
   pub has_path : IsSome path
   pub none : folder.entered ≡ None
 
--- The folder of the path was entered, and the feed gave a list of these requests. The mark for too
--- many files stays.
+-- the latest `enter` did not answer that there are too many files
+abbrev pub HasNoMark : FolderState → Type 0
+HasNoMark folder = IsTrue folder.over → ⊥
+
+-- The folder of the path was entered, and the feed gave a list of these requests.
 pub record IsPrepared (path : Option (List ℕ)) (old new : Inputs) (requests : List Request)
     : Type 0 where
   pub folder : IsEntered path new.folder
-  pub mark : new.folder.over ≡ old.folder.over
+  pub mark : HasNoMark new.folder
   pub listed : FeedSays (Ok requests) old.feed new.feed
 
 -- ---- endings
@@ -90,12 +93,21 @@ Ends files path old new ending =
     (EnterEnds files path old.folder new.folder ending × (new.feed ≡ old.feed))
     ⊎ (IsEntered path new.folder × ListEnds old.feed new.feed ending)
 
--- The ending has its cause, no tap was made, and the mark for too many files stays unless that is
--- the ending.
+-- Whether the mark for too many files is set: exactly where that is the ending. Where the words are
+-- none the folder was not entered, and the mark stays. Where memory was wanting it was not set anew.
+abbrev pub MarksAs : FolderState → FolderState → Ending → Type 0
+MarksAs old new TooManyFiles = IsTrue new.over
+MarksAs old new BadWords = new.over ≡ old.over
+MarksAs old new NoMemory = IsTrue new.over → IsTrue old.over
+MarksAs old new FolderFault = HasNoMark new
+MarksAs old new ListFault = HasNoMark new
+MarksAs old new (NotAList bad) = HasNoMark new
+
+-- The ending has its cause, no tap was made, and the mark for too many files is set as it says.
 pub record IsEnded (files : Files) (path : Option (List ℕ)) (old new : Inputs) (ending : Ending)
     : Type 0 where
   pub cause : Ends files path old new ending
-  pub mark : (ending ≡ TooManyFiles → ⊥) → new.folder.over ≡ old.folder.over
+  pub mark : MarksAs old.folder new.folder ending
   pub taps : new.folder.made ≡ old.folder.made
 
 -- the status of an ending

@@ -1,7 +1,7 @@
 -- Which image do the stored levels of a file make, and what does a lookup on it answer?
 -- (docs/FILTERING.md)
 use Rattle.std.specs.Prelude.{ℕ, ◌+◌, nat_le, nat_lt, Bool, List, length, map, slice_index}
-use Rattle.std.specs.Prelude.{Option, Some, None, Result, Err, if◌then◌else◌}
+use Rattle.std.specs.Prelude.{Option, Some, None, Err, if◌then◌else◌}
 use Rattle.std.specs.List.{list_all, range_with_len}
 use Rattle.tiff_dirs.specs.Block.{Level, blocks_of, block_bytes}
 use Rattle.tiff_dirs.specs.Texel.{sample_in, value_of}

@@ -6,7 +6,6 @@ use Rattle.tiff_dirs.specs.Reader.{IsReader}
 use Rattle.tile_layout.specs.Kept.{Kept}
 use Rattle.tile_load.specs.declared.region.RegionError.{RegionError}
 use Rattle.tile_load.specs.declared.region.RegionError.TheVariants.{Reader, NoMemory}
-use Rattle.texel_filter.specs.Image.{Values}
 use Rattle.render_run.specs.Look.{told_values, RefusedBy}
 
 -- a refused region changes no byte

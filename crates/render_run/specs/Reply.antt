@@ -1,5 +1,6 @@
 -- Which line may a request be answered with, over the files of a world?
-use Rattle.std.specs.Prelude.{◌≡◌, ◌⊎◌, ℕ, ◌<◌, nat_lt, IsTrue, IsFalse, List, [], ◌∷◌}
+use Rattle.std.specs.Prelude.{◌≡◌, ◌⊎◌, ℕ, ◌*◌, ◌<◌, ◌≤◌, nat_lt, IsTrue, IsFalse, List, [], ◌∷◌}
+use Rattle.std.specs.Prelude.{length}
 use Rattle.std.specs.Prelude.{Option, Some, None, ⊤, if◌then◌else◌}
 use Rattle.std.specs.Option.{ForSome, option_map_or, option_and_then}
 use Rattle.tex_world.specs.World.{Files, IsReal}
@@ -66,11 +67,40 @@ unfoldable pub reply_on : List ℕ → ℕ → Question → Answer
 reply_on bytes generation q =
     option_map_or (BadFile generation) (first_fault bytes) (content_on bytes generation q)
 
+-- ---- the form of a line on one generation, whether or not its bytes are told
+
+-- what a file is, or the fault that it shows
+abbrev pub IsFactsLine : Answer → Type 0
+IsFactsLine (Info info) = ⊤
+IsFactsLine (BadFile generation fault) = ⊤
+IsFactsLine _ = ⊥
+
+-- as many values as the region has samples; or that the level is none of so many; or a fault
+abbrev pub IsRegionLine : Region → Answer → Type 0
+IsRegionLine r (Pixels generation channels values) = length values ≡ r.w * r.h * channels
+IsRegionLine r (NoLevel generation levels) = levels ≤ r.level
+IsRegionLine r (BadFile generation fault) = ⊤
+IsRegionLine r _ = ⊥
+
+-- as many values as channels were asked for, or a fault
+abbrev pub IsLookLine : TexRequest → Answer → Type 0
+IsLookLine r (Tex generation values) = length values ≡ r.nch
+IsLookLine r (BadFile generation fault) = ⊤
+IsLookLine r _ = ⊥
+
+-- the line has the form of its question
+abbrev pub HasForm : Question → Answer → Type 0
+HasForm Facts line = IsFactsLine line
+HasForm (Values r) line = IsRegionLine r line
+HasForm (Look r) line = IsLookLine r line
+
 -- ---- on the files of a world
 
--- The line tells one real generation of the file, and is the reply on its bytes.
+-- The line has the form of its question, tells one real generation of the file, and is the reply on
+-- its bytes.
 pub record IsReplyOf (files : Files) (file : ℕ) (q : Question) (generation : ℕ) (line : Answer)
     : Type 0 where
+  pub form : HasForm q line
   pub real : IsReal files file generation
   pub reply : ForSome (files.held file generation) (λ bytes. line ≡ reply_on bytes generation q)
 

@@ -1,8 +1,8 @@
 -- What has the top call done when it ends with a status? (docs/REQUESTS.md, "Statuses")
-use Rattle.std.specs.Prelude.{◌≡◌, ◌⊎◌, ℕ, ◌+◌, ◌<◌, ◌≤◌, Bool, List, take, Option}
+use Rattle.std.specs.Prelude.{◌≡◌, ◌⊎◌, ℕ, ◌+◌, ◌<◌, ◌≤◌, Bool, IsTrue, List, take, Option}
 use Rattle.std.specs.Prelude.{if◌then◌else◌}
 use Rattle.std.specs.List.{flat_map, list_any, count_by, AllPairs}
-use Rattle.tex_world.specs.Counts.{last_count, Rises, RisesByAtLeast}
+use Rattle.tex_world.specs.Counts.{last_count, Rises, RisesByOne, RisesByAtLeast}
 use Rattle.tex_world.specs.World.{Files}
 use Rattle.tex_world.specs.Folder.{FolderState}
 use Rattle.tex_world.specs.Stream.{Appends, AppendsPart}
@@ -80,14 +80,19 @@ inputs_in around = inputs_of around.folder around.feed
 abbrev pub progress_in : Around → Progress
 progress_in around = progress_of (source_of_folder around.folder) around.sink
 
+-- as many taps were made as there are workers: one
+abbrev pub MakesTaps : FolderState → FolderState → Type 0
+MakesTaps old new = RisesByOne old.made new.made
+
 -- The folder of the path was entered, the feed was read to its end, its bytes are a list, and all
--- of that was answered over the files of the folder.
+-- of that was answered over the files of the folder, by each worker through a tap of its own.
 pub record IsAnswered (files : Files) (path : Option (List ℕ)) (old new : Around) (ends : ℕ)
     : Type 0 where
   pub requests : List Request
   pub prepared : IsPrepared path (inputs_in old) (inputs_in new) requests
   pub answers : Answers (catalog_of files new.folder) requests (progress_in old) (progress_in new)
       ends
+  pub made : MakesTaps old.folder new.folder
 
 -- No list was answered: an ending has its cause, and its text was written.
 pub record Stops (files : Files) (path : Option (List ℕ)) (old new : Around) (ends : ℕ)
@@ -116,10 +121,10 @@ pub record BreaksOff (files : Files) (path : Option (List ℕ)) (old new : Aroun
   pub failed : Rises old.sink.faults new.sink.faults
   pub part : StopsPart files path old new ⊎ ListPart files path old new
 
--- Nothing was written, and the mark for too many files stays.
+-- Nothing was written, and the mark for too many files was not set.
 pub record WritesNothing (old new : Around) : Type 0 where
   pub sink : new.sink.holds ≡ old.sink.holds
-  pub mark : new.folder.over ≡ old.folder.over
+  pub mark : IsTrue new.folder.over → IsTrue old.folder.over
 
 -- As many taps were given back as were made.
 pub record GivesTapsBack (old new : FolderState) : Type 0 where

@@ -1,5 +1,5 @@
 -- What is written for an ending, and what is left around a call?
-use Rattle.std.specs.Prelude.{◌≡◌, ◌⊎◌, ℕ, ◌≤◌, List, Option, Result, Err}
+use Rattle.std.specs.Prelude.{◌≡◌, ◌⊎◌, ℕ, ◌≤◌, List}
 use Rattle.tex_world.specs.Counts.{Rises}
 use Rattle.tex_world.specs.Folder.{FolderState}
 use Rattle.tex_world.specs.Stream.{Appends, AppendsPart}
@@ -62,7 +62,3 @@ pub record KeepsTaps (old new : FolderState) : Type 0 where
   pub returned : new.returned ≡ old.returned
   pub faults : old.faults ≤ new.faults
   pub moves : new.moves ≡ old.moves
-
--- The mark for too many files stays, unless that is the ending.
-abbrev pub KeepsMark : {T : Type 0} → FolderState → FolderState → Result T Ending → Type 0
-KeepsMark old new result = (result ≡ Err ending.TooManyFiles → ⊥) → new.over ≡ old.over

@@ -1,13 +1,13 @@
 //! The steps before the first answer: the words, the folder and the list.
 
-ghost use Rattle.std.specs.Prelude.{◌≡◌, IfOk, IfErr, Ok};
+ghost use Rattle.std.specs.Prelude.{◌≡◌, IfOk, IfErr, OnOk, Ok};
 ghost use Rattle.std.specs.List.{list_all};
 ghost use Rattle.render_run.specs.Around.{feed_state, inputs_of};
 ghost use Rattle.render_run.specs.Question.{is_answered as form_is_answered};
 ghost use Rattle.render_run.specs.ListRead.{FeedSays, answered_list};
 ghost use Rattle.render_run.specs.Ending.{path_of, WordsCause, IsEntered, EnterEnds, ListEnds};
-ghost use Rattle.render_run.specs.Ending.{IsPrepared, IsEnded, IsAsSaid};
-ghost use Rattle.render_run.specs.Written.{KeepsTaps, KeepsMark};
+ghost use Rattle.render_run.specs.Ending.{IsPrepared, IsEnded, IsAsSaid, HasNoMark, MarksAs};
+ghost use Rattle.render_run.specs.Written.{KeepsTaps};
 
 use crate::list::{ListError, read_list};
 use crate::question::is_answered;
@@ -56,7 +56,8 @@ fn enter_folder<F: Folder>(alloc: Global, words: &[String], folder: &mut F) -> R
         (λ _. IsEntered (path_of words.now) (F.state folder.new)) }
     ensures cause { IfErr result
         (EnterEnds F.W.files (path_of words.now) (F.state folder.old) (F.state folder.new)) }
-    ensures mark { KeepsMark (F.state folder.old) (F.state folder.new) result }
+    ensures no_mark { OnOk result (HasNoMark (F.state folder.new)) }
+    ensures mark { IfErr result (MarksAs (F.state folder.old) (F.state folder.new)) }
     ensures taps { KeepsTaps (F.state folder.old) (F.state folder.new) }
 {
     let path = match folder_path(alloc, words) {

@@ -8,6 +8,7 @@ ghost use Rattle.texel_filter.specs.Filter.{lookup_value};
 ghost use Rattle.render_run.specs.Look.{picture_of};
 ghost use Rattle.render_run.specs.Question.{has_channels, may_be_asked};
 ghost use Rattle.render_run.specs.Reply.{facts_on, region_on, tex_on, reply_on};
+ghost use Rattle.render_run.specs.Reply.{IsFactsLine, IsRegionLine, IsLookLine, HasForm};
 ghost use Rattle.render_run.specs.ReplyMade.{IsGoodLayout, IsRefusalFor};
 ghost use Rattle.tile_load.specs.RegionRead.{LeavesRegion};
 
@@ -36,6 +37,7 @@ fn refusal<E>(generation: u32, error: DirsError<E>) -> Result<Answer, RegionErro
 fn facts(generation: u32, layout: &Layout) -> Answer
     ensures told { (bytes : List ℕ) → IsGoodLayout bytes layout.now
         → result ≡ facts_on bytes generation }
+    ensures form { IsFactsLine result }
     ensures basis { basis_of result ≡ OnBytes generation }
 {
     let stored = layout.stored();
@@ -61,6 +63,7 @@ fn region_reply<B: ByteReader>(
 ) -> Result<Answer, RegionError<B::Error>>
     ensures told { ForSome (B.bytes reader.old) (λ bytes. IsGoodLayout bytes layout.now
         → IfOk result (λ answer. answer ≡ region_on bytes generation region.now)) }
+    ensures form { IfOk result (IsRegionLine region.now) }
     ensures basis { IfOk result (λ answer. basis_of answer ≡ OnBytes generation) }
     ensures reader { LeavesRegion B.keeps B.refuses reader.old reader.new result }
 {
@@ -113,6 +116,7 @@ fn look_reply<B: ByteReader>(
     requires { IsTrue (has_channels request.now) }
     ensures told { ForSome (B.bytes reader.old) (λ bytes. IsGoodLayout bytes layout.now
         → IfOk result (λ answer. answer ≡ tex_on bytes generation request.now)) }
+    ensures form { IfOk result (IsLookLine request.now) }
     ensures basis { IfOk result (λ answer. basis_of answer ≡ OnBytes generation) }
     ensures reader { LeavesRegion B.keeps B.refuses reader.old reader.new result }
 {
@@ -136,6 +140,7 @@ pub(crate) fn reply_on_bytes<B: ByteReader>(
     requires { IsTrue (may_be_asked question.now) }
     ensures told { ForSome (B.bytes reader.old)
         (λ bytes. IfOk result (λ answer. answer ≡ reply_on bytes generation question.now)) }
+    ensures form { IfOk result (HasForm question.now) }
     ensures basis { IfOk result (λ answer. basis_of answer ≡ OnBytes generation) }
     ensures reader { LeavesRegion B.keeps B.refuses reader.old reader.new result }
 {

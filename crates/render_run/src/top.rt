@@ -8,7 +8,7 @@ ghost use Rattle.render_run.specs.Around.{feed_state, sink_state, around_of, pro
 ghost use Rattle.render_run.specs.Around.{source_of_folder, catalog_of};
 ghost use Rattle.render_run.specs.Question.{is_answered};
 ghost use Rattle.render_run.specs.Ending.{path_of};
-ghost use Rattle.render_run.specs.Run.{Answers, AnswersPart, GivesTapsBack, Runs};
+ghost use Rattle.render_run.specs.Run.{Answers, AnswersPart, GivesTapsBack, MakesTaps, Runs};
 ghost use Rattle.render_run.specs.Written.{StatusWritten, EndedAs, IsAnswerStatus, KeepsEntered};
 
 use crate::answering::{Worker, answer_list};
@@ -92,6 +92,8 @@ fn answer_through_tap<F: Folder, O: Sink>(
         → Answers (catalog_of F.W.files (F.state folder.new)) requests.now (progress_of
         (source_of_folder (F.state folder.old)) (sink_state O.faults O.holds out.old)) (progress_of
         (source_of_folder (F.state folder.new)) (sink_state O.faults O.holds out.new)) result }
+    ensures made { result ≤ with_refusals
+        → MakesTaps (F.state folder.old) (F.state folder.new) }
     ensures part { result ≡ not_written
         → AnswersPart (catalog_of F.W.files (F.state folder.new)) requests.now (progress_of
         (source_of_folder (F.state folder.old)) (sink_state O.faults O.holds out.old)) (progress_of

@@ -1,14 +1,14 @@
 -- The lines of a list one after the other, as a loop reads them.
-use Rattle.std.proofs.Common.{◌≡◌, ℕ, zero, suc, ◌+◌, ◌-◌, ◌<◌, ◌≤◌, ◌==◌, Bool, true, false}
-use Rattle.std.proofs.Common.{List, [], ◌∷◌, ◌++◌, length, get_or, take, drop, Some, None}
+use Rattle.std.proofs.Common.{◌≡◌, ℕ, zero, suc, ◌+◌, ◌-◌, ◌<◌, ◌≤◌, ◌==◌, true, false}
+use Rattle.std.proofs.Common.{List, [], ◌∷◌, ◌++◌, length, get_or, take, drop}
 use Rattle.std.proofs.Common.{Ok, Err, refl, sym, ap, ◌∙◌, append_assoc, add-one, arith}
 use Rattle.std.proofs.lemmas.Bool.{le-leb, lt-leb}
 use Rattle.std.proofs.lemmas.List.{append-nil, take_rest}
-use Rattle.memchr.specs.Find.{IsFirstByte, is_byte}
 use Rattle.request_lang.specs.declared.request.Request.{Request}
 use Rattle.request_lang.specs.declared.cause.Cause.{Cause}
 use Rattle.request_lang.specs.declared.cause.Cause.TheVariants.{TooLong}
 use Rattle.request_lang.specs.RequestForm.{request_of}
+use Rattle.request_lang.specs.LineEnd.{IsLineEnd}
 use Rattle.request_lang.specs.Grammar.{lines_of, content, is_passed_over}
 use Rattle.request_lang.specs.Grammar.{before_rest, behind, bad_at}
 use Rattle.request_lang.specs.Grammar.{requests_of, list_of, Parsed, max_list_bytes, whole_list}
@@ -34,27 +34,17 @@ lines_of_whole (b ∷ c ∷ bytes) lt none =
     let later = lines_of_whole (c ∷ bytes) (omega arith) (λ k h. none (suc k) (omega arith)) in
     rw (none 0 (omega arith), later) refl
 
--- what is not true is false
-not_true : (b : Bool) → (b ≡ true → ⊥) → b ≡ false
-not_true true never = absurd (never refl)
-not_true false never = refl
-
 -- the first line ends at the first line feed
-pub lines_of_first : (bytes : List ℕ) (i : ℕ) → IsFirstByte (is_byte 10) bytes (Some i)
+pub lines_of_first : (bytes : List ℕ) (i : ℕ) → IsLineEnd bytes i → i < length bytes
     → lines_of bytes ≡ take i bytes ∷ lines_of (take (length bytes - (i + 1)) (drop (i + 1) bytes))
-lines_of_first bytes i found =
+lines_of_first bytes i ends inside =
     rw (take_rest bytes (i + 1), add-one)
-    (
-    lines_of_cut bytes i found.0.high found.1
-    (λ k h. not_true (get_or bytes k 0 == 10) (found.0.before k (omega arith) h))
-    )
+    (lines_of_cut bytes i inside (ends.here inside) ends.before)
 
 -- without a line feed all of it is the last line
-pub lines_of_last : (bytes : List ℕ) → 0 < length bytes → IsFirstByte (is_byte 10) bytes None
+pub lines_of_last : (bytes : List ℕ) → 0 < length bytes → IsLineEnd bytes (length bytes)
     → lines_of bytes ≡ bytes ∷ []
-lines_of_last bytes some none =
-    lines_of_whole bytes some
-    (λ k h. not_true (get_or bytes k 0 == 10) (none k (omega arith) h))
+lines_of_last bytes some ends = lines_of_whole bytes some ends.before
 
 pub ruleset first_line = (lines_of_first, lines_of_last)
 

@@ -3,6 +3,7 @@ pub mod NameText
 pub mod LineField
 pub mod RequestForm
 pub mod Grammar
+pub mod LineEnd
 pub mod Parsing
 pub mod Basis
 pub mod Line

@@ -1,16 +1,16 @@
 //! A list of requests: its lines, and what they say.
 
-ghost use Rattle.std.specs.Prelude.{◌≡◌, ◌<◌, length, IfOk, [], ◌∷◌, true};
+ghost use Rattle.std.specs.Prelude.{◌≡◌, ◌+◌, ◌<◌, ◌≤◌, length, IfOk, [], ◌∷◌, true, IsTrue};
 ghost use Rattle.std.specs.Str.{IsAscii};
 ghost use Rattle.std.specs.Option.{IfNone, IfSome};
 ghost use Rattle.request_lang.specs.RequestForm as form;
 ghost use Rattle.request_lang.specs.Grammar as spec;
+ghost use Rattle.request_lang.specs.LineEnd.{IsLineEnd, AreEightOthers};
 ghost use Rattle.request_lang.specs.Parsing.{Parses, Gives, refused_at};
 
 use crate::cause::{Cause, ParseError, Refusal};
 use crate::request::Request;
 use crate::request_form::request_of;
-use memchr::memchr;
 use std::alloc::Global;
 
 /// The most bytes that a list has.
@@ -21,6 +21,36 @@ const MAX_REQUESTS: usize = 1048576;
 
 /// What stands for all of the list in place of a line.
 const WHOLE_LIST: u32 = 0;
+
+/// None of eight bytes is a line feed.
+#[inline(always)]
+fn has_no_feed(bytes: &[u8], at: usize) -> bool
+    requires { at + 8 ≤ length bytes.now }
+    ensures { IsTrue result → AreEightOthers bytes.now at }
+{
+    (bytes[at] != b'\n')
+        & (bytes[at + 1] != b'\n')
+        & (bytes[at + 2] != b'\n')
+        & (bytes[at + 3] != b'\n')
+        & (bytes[at + 4] != b'\n')
+        & (bytes[at + 5] != b'\n')
+        & (bytes[at + 6] != b'\n')
+        & (bytes[at + 7] != b'\n')
+}
+
+/// How many bytes stand before the first line feed: all where there is none.
+fn line_bytes(bytes: &[u8]) -> usize
+    ensures { IsLineEnd bytes.now result }
+{
+    let mut end = 0;
+    'eights: while bytes.len() - end >= 8 && has_no_feed(bytes, end) {
+        end += 8;
+    }
+    'bytes: while end < bytes.len() && bytes[end] != b'\n' {
+        end += 1;
+    }
+    end
+}
 
 /// The first line of what is left of a list, and what stands behind it.
 #[tactic(auto, using(crate::proofs::LineLemmas::first_line))]
@@ -33,10 +63,11 @@ fn next_line(bytes: &[u8]) -> Option<(&[u8], &[u8])>
     if bytes.is_empty() {
         return None;
     }
-    match memchr(b'\n', bytes) {
-        Some(at) => Some((&bytes[..at], &bytes[at + 1..])),
-        None => Some((bytes, &[])),
+    let end = line_bytes(bytes);
+    if end == bytes.len() {
+        return Some((bytes, &[]));
     }
+    Some((&bytes[..end], &bytes[end + 1..]))
 }
 
 /// A line without the one carriage return that it may end with.

@@ -1,11 +1,13 @@
 //! Numbers as they are printed.
 
-ghost use Rattle.std.specs.Prelude.{◌≡◌};
+ghost use Rattle.std.specs.Prelude.{◌≡◌, ◌≤◌, drop};
 ghost use Rattle.request_lang.specs.Line.{number_behind, numbers_behind};
 ghost use Rattle.request_lang.specs.Appending.{Pushes};
 
-use itoa::Buffer;
 use std::alloc::AllocError;
+
+/// The bytes of the largest number, and the one before it.
+const ROOM_BYTES: usize = 21;
 
 /// Appends a text.
 pub(crate) fn push_text(out: &mut Vec<u8>, text: &[u8]) -> Result<(), AllocError>
@@ -14,14 +16,30 @@ pub(crate) fn push_text(out: &mut Vec<u8>, text: &[u8]) -> Result<(), AllocError
     out.extend_from_slice(text)
 }
 
+/// Writes a number in decimal behind a byte at the end of the room, and says where it begins.
+fn put_number(room: &mut [u8; ROOM_BYTES], byte: u8, number: u64) -> usize
+    ensures written { drop result room.new ≡ number_behind byte number }
+    ensures within { result ≤ ROOM_BYTES }
+{
+    let mut left = number;
+    let mut at = ROOM_BYTES;
+    'digits: while left >= 10 {
+        at -= 1;
+        room[at] = b'0' + (left % 10) as u8;
+        left /= 10;
+    }
+    room[at - 1] = b'0' + left as u8;
+    room[at - 2] = byte;
+    at - 2
+}
+
 /// Appends a number in decimal behind a byte.
-#[tactic(auto, using(crate::proofs::AppendLemmas::kept))]
 fn push_number(out: &mut Vec<u8>, byte: u8, number: u64) -> Result<(), AllocError>
     ensures { Pushes (number_behind byte number) out.old.items out.new.items result }
 {
-    let mut buffer = Buffer::new();
-    push_text(out, &[byte])?;
-    push_text(out, buffer.format(number).as_bytes())
+    let mut room = [0u8; ROOM_BYTES];
+    let at = put_number(&mut room, byte, number);
+    push_text(out, &room[at..])
 }
 
 /// Appends numbers, each behind the byte.

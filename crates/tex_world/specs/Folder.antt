@@ -1,5 +1,5 @@
 -- What do the calls of a folder give, when may each be refused, and which counts do they raise?
-use Rattle.std.specs.Prelude.{◌≡◌, ◌⊎◌, ◌↔◌, ℕ, ◌+◌, ◌<◌, ◌≤◌, min, Bool, false, IsTrue, List}
+use Rattle.std.specs.Prelude.{◌≡◌, ◌↔◌, ℕ, ◌+◌, ◌<◌, ◌≤◌, min, Bool, false, IsTrue, List}
 use Rattle.std.specs.Prelude.{Option, Some, None, IsSome, Result, Ok, Err, ⊤}
 use Rattle.std.specs.Option.{ForSome}
 use Rattle.tex_world.specs.Counts.{last_count, Rises, RisesByOne}
@@ -18,7 +18,7 @@ pub record FolderState : Type 0 where
   pub made : ℕ
   -- taps given back
   pub returned : ℕ
-  -- more files than `max_files` were found
+  -- the latest `enter` found more files than `max_files`
   pub over : Bool
   -- the path that was entered, if one was
   pub entered : Option (List ℕ)
@@ -67,8 +67,8 @@ EnterCause files old new Failed = Rises old.faults new.faults
 EnterCause files old new TooMany = IsTrue files.tells → ⊥
 EnterCause files old new NoMemory = ⊤
 
--- After an answered `enter` the folder is entered, after a refused one it is not. `TooMany` alone
--- sets the mark.
+-- After an answered `enter` the folder is entered, after a refused one it is not. The mark is set
+-- exactly after `TooMany`.
 pub record AfterEnter (path : List ℕ) (old new : FolderState)
     (result : Result (Unit {0}) EnterError) : Type 0 where
   pub faults : old.faults ≤ new.faults
@@ -77,7 +77,7 @@ pub record AfterEnter (path : List ℕ) (old new : FolderState)
   pub returned : new.returned ≡ old.returned
   pub entered : result ≡ Ok tt → new.entered ≡ Some path
   pub refused : (e : EnterError) → result ≡ Err e → new.entered ≡ None
-  pub over : IsTrue new.over ↔ (IsTrue old.over ⊎ (result ≡ Err TooMany))
+  pub over : IsTrue new.over ↔ (result ≡ Err TooMany)
 
 -- ---- tap and back
 

@@ -1,8 +1,7 @@
 use Rattle.std.proofs.Common.{◌≡◌, ◌∙◌, ◌++◌, ap, List, ℕ, length, take, drop, arith}
 use Rattle.std.proofs.Math.Seq.{take-append_seam}
 use Rattle.request_lang.specs.declared.answer.Answer.TheVariants.{Tex}
-use Rattle.tile_layout.specs.Kept.{Kept, kept_of}
-use Rattle.texel_filter.specs.Image.{AreValues}
+use Rattle.tile_layout.specs.Kept.{kept_of}
 use Rattle.texel_filter.specs.Filter.{lookup_value}
 use Rattle.render_run.specs.Look.{picture_of}
 use Rattle.render_run.proofs.LookLemmas.{listed}

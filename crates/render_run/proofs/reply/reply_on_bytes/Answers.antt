@@ -1,4 +1,4 @@
-use Rattle.std.proofs.Common.{◌∙◌, sym}
+use Rattle.std.proofs.Common.{◌∙◌}
 use Rattle.render_run.specs.declared.question.Question.TheVariants.{Facts, Values, Look}
 use Rattle.render_run.specs.ReplyMade.{IsGoodLayout}
 use Rattle.render_run.proofs.Replies.{refused_told, content_reply}

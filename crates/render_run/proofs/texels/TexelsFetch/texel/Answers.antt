@@ -1,4 +1,4 @@
-use Rattle.std.proofs.Common.{◌≡◌, ◌∙◌, ◌<◌, ℕ, ap, sym, subst}
+use Rattle.std.proofs.Common.{◌≡◌, ◌∙◌, ◌<◌, ap, sym, subst}
 use Rattle.tiff_dirs.specs.Block.{Level}
 use Rattle.tile_layout.specs.Kept.{level_in}
 use Rattle.tile_layout.proofs.LevelLemmas.{side_stored}
