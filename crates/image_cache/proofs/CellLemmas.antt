@@ -10,7 +10,7 @@ use Rattle.tile_layout.specs.Level.{level_count_in}
 use Rattle.tile_layout.specs.Cell.{cell_count, cut_level_in}
 use Rattle.tile_load.specs.Load.{NamesCell, IsReadBy}
 use Rattle.file_table.specs.Record.{RecordState}
-use Rattle.image_cache.specs.declared.texel.CellAt.{CellAt}
+use Rattle.pinned_tiles.specs.declared.cell.CellAt.{CellAt}
 use Rattle.image_cache.specs.Texel.{IsCellOf, IsCellUnder}
 
 -- what follows for a value that is there

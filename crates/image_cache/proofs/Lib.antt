@@ -1,4 +1,4 @@
-mod PinnedLemmas
-mod ValueLemmas
 mod CellLemmas
-mod TexelLemmas
+pub mod TexelLemmas
+mod NeedLemmas
+mod FillLemmas

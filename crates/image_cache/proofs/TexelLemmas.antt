@@ -16,10 +16,14 @@ use Rattle.tile_layout.specs.Cell.{bit_depth_in, bit_depth_of}
 use Rattle.tile_store.specs.Tile.{CachedTile}
 use Rattle.file_table.specs.Record.{RecordState, IsRecord}
 use Rattle.tile_load.proofs.KnownLayouts.{layout_told}
-use Rattle.image_cache.specs.declared.texel.TexelAt.{TexelAt}
-use Rattle.image_cache.specs.declared.texel.CellAt.{CellAt}
-use Rattle.image_cache.specs.Texel.{IsCellIn, IsCellAt, IsCellUnder, cell_of, AreValuesAt, AreToldValues}
-use Rattle.image_cache.specs.Call.{AsksFor, AsksForCellAt, NoneFalls, FetchCause}
+use Rattle.texel_values.specs.declared.texel_at.TexelAt.{TexelAt}
+use Rattle.pinned_tiles.specs.declared.cell.CellAt.{CellAt}
+use Rattle.tile_store.specs.Told.{ToldBy}
+use Rattle.image_cache.specs.Texel.{IsCellIn, IsCellAt, IsCellOf, IsCellUnder, cell_of}
+use Rattle.texel_values.specs.Values.{AreValuesAt, AreToldValues}
+use Rattle.pinned_tiles.specs.Pinned.{AsksFor}
+use Rattle.image_cache.specs.Call.{AsksForCellAt, NoneFalls}
+use Rattle.image_cache.specs.Cause.{FetchCause}
 
 -- a world that holds bytes tells
 tells_of : (files : Files) → IsWorld files → (n g : ℕ) (bytes : List ℕ)
@@ -70,6 +74,41 @@ values_told files world state at cell tile depth out bytes honest is_at key same
         → IsOkAnd layout (λ kept. Unit {0})
     some_layout (Ok kept) under = tt
     some_layout (Err fault) under = absurd under
+
+-- What a tile of a cell of the record tells of its file's bytes, if its samples have their bits.
+pub told_by_record : (files : Files) → IsWorld files → (state : RecordState) (cell : CellAt)
+    (key depth : ℕ) (bytes : List ℕ) (P : List ℕ → Type 0) → IsRecord files state
+    → IsCellOf state cell → key ≡ cell.key → IfOk state.layout (λ kept. depth ≡ bit_depth_in kept)
+    → ToldBy files key (λ b. depth ≡ bit_depth_of b → P b)
+    → files.held state.file state.generation ≡ Some bytes → P bytes
+told_by_record files world state cell key depth bytes P honest of keyed same told held =
+    let file : file_of key ≡ state.file = ap file_of keyed ∙ of.file in
+    let generation : generation_of key ≡ state.generation = ap generation_of keyed ∙ of.generation in
+    of_held (files.held (file_of key) (generation_of key)) bytes
+    (λ b. depth ≡ bit_depth_of b → P b)
+    (ap (λ (n : ℕ). files.held n (generation_of key)) file
+    ∙ (ap (λ (n : ℕ). files.held state.file n) generation ∙ held))
+    (told (tells_of files world state.file state.generation bytes held))
+    (depth_told files state depth bytes state.layout refl honest held
+    (some_layout state.layout of.under) same)
+  where
+    some_layout : (layout : Result Kept TiffFault)
+        → IsOkAnd layout (λ kept. IsCellUnder kept state.cut cell)
+        → IsOkAnd layout (λ kept. Unit {0})
+    some_layout (Ok kept) under = tt
+    some_layout (Err fault) under = absurd under
+
+-- what is so of the key of a texel's cell
+pub at_cell : (P : ℕ → Type 0) (state : RecordState) (at : TexelAt) (cell : CellAt)
+    → IsCellIn state at cell → P cell.key
+    → IfOk state.layout (λ kept. P (cell_of state.generation state.file state.cut kept at).key)
+at_cell P state at cell is here = by state.layout is
+  where
+    by : (layout : Result Kept TiffFault)
+        → IsOkAnd layout (λ kept. cell ≡ cell_of state.generation state.file state.cut kept at)
+        → IfOk layout (λ kept. P (cell_of state.generation state.file state.cut kept at).key)
+    by (Ok kept) same = subst (λ (c : CellAt). P c.key) same here
+    by (Err fault) same = tt
 
 pub asks_at : (state : RecordState) (at : TexelAt) (cell : CellAt) (old new : List CachedTile)
     → IsCellIn state at cell → AsksFor cell.key old new → AsksForCellAt state at old new

@@ -1,23 +1,23 @@
 -- What do the calls of a cache give, when may each be refused, and what do they leave of the pass?
-use Rattle.std.specs.Prelude.{◌≡◌, ℕ, ◌<◌, ◌≤◌, ◌++◌, Bool, List, [], ◌∷◌, length, slice_index}
-use Rattle.std.specs.Prelude.{⊤, if◌then◌else◌, Result, Ok, IfOk, IsOkAnd}
-use Rattle.tex_world.specs.Counts.{Rises}
-use Rattle.tex_world.specs.World.{Files, IsReal}
+use Rattle.std.specs.Prelude.{◌≡◌, ◌⊎◌, ℕ, ◌≤◌, ◌++◌, Bool, IsTrue, List, ◌∷◌, []}
+use Rattle.std.specs.Prelude.{length, count_by, slice_index}
+use Rattle.std.specs.Prelude.{if◌then◌else◌, None, Result, Ok, IfOk, IsOkAnd, IsSomeAnd}
+use Rattle.tex_world.specs.World.{Files}
 use Rattle.tex_world.specs.Tap.{TapState}
 use Rattle.gen_board.specs.View.{ViewState}
 use Rattle.file_table.specs.Record.{RecordState}
-use Rattle.file_table.specs.Calls.{KeepsView, Sighted, MeetsNewer, OpensOnce}
-use Rattle.micro.specs.Recent.{AreRecent}
+use Rattle.file_table.specs.Calls.{KeepsView, Sighted, GivesRecord}
+use Rattle.micro.specs.Items.{key_first}
+use Rattle.micro.specs.Runs.{AreAsked}
+use Rattle.tile_layout.specs.declared.cut.Cut.{Cut}
 use Rattle.tile_layout.specs.Cell.{CellsFit}
 use Rattle.tile_store.specs.Tile.{CachedTile}
-use Rattle.image_cache.specs.declared.error.CacheError.{CacheError}
-use Rattle.image_cache.specs.declared.error.CacheError.TheVariants as refused
-use Rattle.image_cache.specs.declared.error.SplitError.{SplitError}
-use Rattle.image_cache.specs.declared.error.SplitError.TheVariants as undivided
-use Rattle.image_cache.specs.declared.texel.TexelAt.{TexelAt}
-use Rattle.image_cache.specs.Pass.{PassState, SamePlace, counted}
-use Rattle.image_cache.specs.Pinned.{key_in}
-use Rattle.image_cache.specs.Texel.{cell_of}
+use Rattle.tile_store.specs.Lawful.{FitsCut}
+use Rattle.texel_values.specs.declared.texel_at.TexelAt.{TexelAt}
+use Rattle.image_cache.specs.Pass.{PassState, SamePlace, SameCounts, SameView, counted}
+use Rattle.image_cache.specs.Pass.{counted_together}
+use Rattle.pinned_tiles.specs.Pinned.{key_in, AsksFor, IsAskedFor}
+use Rattle.image_cache.specs.Texel.{IsTexelOf, cell_of}
 
 -- ---- a need
 
@@ -26,22 +26,27 @@ pub record CountsNeed (hit : Bool) (old new : PassState) : Type 0 where
   pub needs : new.needs ≡ counted old.needs
   pub hits : new.hits ≡ (if hit then counted old.hits else old.hits)
 
--- Of a pass whose microcache has the latest of the keys that it asked for: so it is once it has
--- asked for this one too.
-abbrev pub AsksFor : ℕ → List CachedTile → List CachedTile → Type 0
-AsksFor key old new = (asked : List ℕ) → AreRecent key_in asked old
-    → AreRecent key_in (asked ++ key ∷ []) new
-
 -- the same of the cell that holds a texel of a record
 abbrev pub AsksForCellAt : RecordState → TexelAt → List CachedTile → List CachedTile → Type 0
 AsksForCellAt state at old new = IfOk state.layout (λ kept.
     AsksFor (cell_of state.generation state.file state.cut kept at).key old new)
 
+-- It was asked for that cell: its tile, which was there or was placed, stands first.
+abbrev pub TurnsToCellAt : RecordState → TexelAt → List CachedTile → List CachedTile → Type 0
+TurnsToCellAt state at old new = IfOk state.layout (λ kept.
+    IsAskedFor (cell_of state.generation state.file state.cut kept at).key old new)
+
+-- The tile of that cell is moved to the first place, and no other tile is.
+abbrev pub MovesCellAt : RecordState → TexelAt → List CachedTile → List CachedTile → Type 0
+MovesCellAt state at old new = IfOk state.layout (λ kept.
+    new ≡ key_first key_in (cell_of state.generation state.file state.cut kept at).key old)
+
 -- What a need leaves of a pass, whatever it is answered: only this file's number was seen to rise,
--- its microcache has two tiles at most, and its holds and its record are as they were.
+-- and its holds and its record are as they were.
 pub record AfterNeed (file : ℕ) (old new : PassState) : Type 0 where
   pub place : SamePlace old new
   pub view : KeepsView file old.view new.view
+  pub steps : slice_index old.view.steps file ≤ slice_index new.view.steps file
   pub few : length new.pinned.recent ≤ 2
   pub holds : new.pinned.holds ≡ old.pinned.holds
   pub latest : new.latest ≡ old.latest
@@ -55,6 +60,11 @@ pub record KeepsAllButRecent (old new : PassState) : Type 0 where
   pub holds : new.pinned.holds ≡ old.pinned.holds
   pub hand : new.pinned.hand ≡ old.pinned.hand
   pub latest : new.latest ≡ old.latest
+
+-- Nothing is in hand but what was there before, unless the waiter can give up.
+abbrev pub LeavesNoHand : Type 0 → PassState → PassState → Type 0
+LeavesNoHand Busy old new = (new.pinned.hand ≡ None)
+    ⊎ ((new.pinned.hand ≡ old.pinned.hand) ⊎ Busy)
 
 -- It is answered, the tap had no call, and the pass has seen and looked at nothing.
 pub record AnswersWarm {E : Type 0} (old new : Sighted) (result : Result (Unit {0}) E)
@@ -72,50 +82,72 @@ pub record NoneFalls (old new : TapState) : Type 0 where
   pub asks : new.asks ≡ old.asks
   pub newest : new.newest ≡ old.newest
 
--- ---- causes
+-- ---- several needs
 
--- The generation `from` of a file was asked for, and the newer `to` was met, which the pass has
--- then seen.
-pub record MetNewer (files : Files) (file generation from to : ℕ) (new : ViewState)
-    (tap_old tap_new : TapState) : Type 0 where
-  pub from_is : from ≡ generation
-  pub from_real : IsReal files file from
-  pub to_real : IsReal files file to
-  pub newer : from < to
-  pub seen : to ≤ slice_index new.seen file
-  pub moves : Rises tap_old.moves tap_new.moves
+-- These cells were needed in turn: so many needs are counted, the microcache was asked for their
+-- keys, and where the world tells each that it had is a hit.
+pub record Needs (files : Files) (keys : List ℕ) (old new : PassState) : Type 0 where
+  pub answers : List Bool
+  pub asked : AreAsked key_in old.pinned.recent keys answers new.pinned.recent
+  pub needs : new.needs ≡ counted_together old.needs (length keys)
+  pub hits : IsTrue files.tells
+      → new.hits ≡ counted_together old.hits (count_by (λ hit. hit) answers)
 
--- Why a texel of a record is not given: a call of the tap failed, a newer generation was met,
--- memory was wanting, or the waiter gave up.
-abbrev pub FetchCause : {B : Type 0} → Files → RecordState → ViewState → TapState → TapState
-    → CacheError B → Type 0
-FetchCause files r new tap_old tap_new (refused.Again from to) =
-    MetNewer files r.file r.generation from to new tap_old tap_new
-FetchCause files r new tap_old tap_new refused.ReadFault = Rises tap_old.faults tap_new.faults
-FetchCause files r new tap_old tap_new refused.NoMemory = ⊤
-FetchCause files r new tap_old tap_new (refused.Busy b) = ⊤
-FetchCause files r new tap_old tap_new (refused.BadFile generation fault) = ⊥
-FetchCause files r new tap_old tap_new (refused.TileTooLarge generation) = ⊥
-FetchCause files r new tap_old tap_new (refused.NoLevel generation levels) = ⊥
-FetchCause files r new tap_old tap_new (refused.Outside generation) = ⊥
-FetchCause files r new tap_old tap_new refused.RegionTooLarge = ⊥
-FetchCause files r new tap_old tap_new refused.HoldsFull = ⊥
+-- No count has fallen.
+pub record CountsOn (old new : PassState) : Type 0 where
+  pub needs : old.needs ≤ new.needs
+  pub hits : old.hits ≤ new.hits
 
--- Why a file is not opened. A newer generation was met than one that is at least what the pass had
--- seen.
-abbrev pub OpenCause : {B : Type 0} → Files → ℕ → Sighted → Sighted → CacheError B → Type 0
-OpenCause files file old new (refused.Again from to) =
-    MeetsNewer files file (slice_index old.view.seen file) from to old.tap new.tap
-    × (to ≤ slice_index new.view.seen file)
-OpenCause files file old new refused.ReadFault = Rises old.tap.faults new.tap.faults
-OpenCause files file old new refused.NoMemory = OpensOnce old.tap new.tap
-OpenCause files file old new (refused.Busy b) = new.tap ≡ old.tap
-OpenCause files file old new (refused.BadFile generation fault) = ⊥
-OpenCause files file old new (refused.TileTooLarge generation) = ⊥
-OpenCause files file old new (refused.NoLevel generation levels) = ⊥
-OpenCause files file old new (refused.Outside generation) = ⊥
-OpenCause files file old new refused.RegionTooLarge = ⊥
-OpenCause files file old new refused.HoldsFull = ⊥
+-- ---- the calls on a file
+
+-- What a call on a file leaves of a pass, whatever it answers: only this file's number was seen to
+-- rise, and no count has fallen.
+pub record AfterCall (file : ℕ) (old new : PassState) : Type 0 where
+  pub place : SamePlace old new
+  pub view : KeepsView file old.view new.view
+  pub counts : CountsOn old new
+
+-- What a step of a call by a record leaves of a pass, whatever it answers: only this file's number
+-- was seen to rise, and its own record is as it was.
+pub record AfterStep (file : ℕ) (old new : PassState) : Type 0 where
+  pub place : SamePlace old new
+  pub view : KeepsView file old.view new.view
+  pub latest : new.latest ≡ old.latest
+
+-- Its microcache and its counts are as they were.
+pub record KeepsRecent (old new : PassState) : Type 0 where
+  pub recent : new.pinned.recent ≡ old.pinned.recent
+  pub counts : SameCounts old new
+
+-- The record is one that was given to this call, of this generation, and P is so of it. The pass
+-- keeps it.
+abbrev pub KeepsGiven : Files → ℕ → Cut → PassState → PassState → ℕ → (RecordState → Type 0)
+    → Type 0
+KeepsGiven files file cut old new generation P = IsSomeAnd new.latest (λ r.
+    GivesRecord files file cut old.view new.view r × (r.generation ≡ generation) × P r)
+
+-- The pass keeps the record that it kept, or one that was given to this call.
+abbrev pub KeepsOne : Files → ℕ → Cut → PassState → PassState → Type 0
+KeepsOne files file cut old new = (new.latest ≡ old.latest)
+    ⊎ IsSomeAnd new.latest (GivesRecord files file cut old.view new.view)
+
+-- ---- holds
+
+-- The cell that holds a texel of a record is held, behind the others.
+pub record HoldsCell (files : Files) (at : TexelAt) (old new : PassState) (r : RecordState)
+    : Type 0 where
+  pub tile : CachedTile
+  pub held : new.pinned.holds ≡ old.pinned.holds ++ tile ∷ []
+  pub fits : FitsCut files r.cut tile
+  pub cell : IsOkAnd r.layout (λ kept. CellsFit kept r.cut × IsTexelOf kept r.cut at
+      × (tile.key ≡ (cell_of r.generation r.file r.cut kept at).key))
+
+-- All of it but its holds and its hand is as it was.
+pub record KeepsAllButHolds (old new : PassState) : Type 0 where
+  pub place : SamePlace old new
+  pub view : SameView old new
+  pub recent : KeepsRecent old new
+  pub latest : new.latest ≡ old.latest
 
 -- The record is of this file and of the generation that was just seen, shows no fault and fits the
 -- cut.
@@ -123,8 +155,3 @@ pub record Serves (file : ℕ) (view : ViewState) (r : RecordState) : Type 0 whe
   pub of_file : r.file ≡ file
   pub newest : r.generation ≡ slice_index view.seen file
   pub fits : IsOkAnd r.layout (λ kept. CellsFit kept r.cut)
-
--- why a pass was not split
-abbrev pub SplitCause : ℕ → SplitError → Type 0
-SplitCause permits undivided.NoPermit = permits ≡ 1
-SplitCause permits undivided.NoMemory = 1 < permits

@@ -1,5 +1,10 @@
+pub use Rattle.pinned_tiles.specs.Pinned
+pub use Rattle.pinned_tiles.specs.Cell
+pub use Rattle.texel_values.specs.Values
 pub mod Options
 pub mod Pass
-pub mod Pinned
 pub mod Texel
+pub mod Facts
 pub mod Call
+pub mod Cause
+pub mod Region

@@ -1,22 +1,17 @@
 -- What is known of a cache and of its passes, and what does each call leave of a pass?
-use Rattle.std.specs.Prelude.{◌≡◌, ℕ, ◌+◌, ◌-◌, ◌^◌, ◌≤◌, min, max, List, []}
-use Rattle.std.specs.Prelude.{Option, None, IfSome, length, slice_index, false}
+use Rattle.std.specs.Prelude.{◌≡◌, ℕ, ◌+◌, ◌-◌, ◌^◌, ◌≤◌, min, max, []}
+use Rattle.std.specs.Prelude.{Option, None, IfSome, slice_index, false}
 use Rattle.std.specs.Option.{option_map}
 use Rattle.std.specs.declared.sync.Arc.{Arc}
 use Rattle.std.specs.Arc.{arc_value}
-use Rattle.tex_world.specs.World.{max_files}
-use Rattle.tile_layout.specs.declared.cut.Cut.{Cut}
+use Rattle.tex_world.specs.World.{Files, max_files}
 use Rattle.tile_layout.specs.Cut.{IsCut}
-use Rattle.tile_store.specs.Tile.{CachedTile}
 use Rattle.gen_board.specs.View.{ViewState}
 use Rattle.file_table.specs.Files.{FilesState}
 use Rattle.file_table.specs.Record.{RecordState}
-use Rattle.shard_gate.specs.Gate.{GateState, PinSeatState, IsNewGate}
+use Rattle.shard_gate.specs.Gate.{GateState, IsNewGate}
+use Rattle.pinned_tiles.specs.Pinned.{PinnedState, ArePinned}
 use Rattle.image_cache.specs.declared.options.Options.{Options}
-
--- the tiles that a pass may hold
-abbrev pub max_holds : ℕ
-max_holds = 4
 
 -- What is known of a cache.
 pub record CacheState : Type 0 where
@@ -24,19 +19,6 @@ pub record CacheState : Type 0 where
   pub files : FilesState
   -- its tiles
   pub gate : GateState
-
--- What a pass has pinned.
-pub record PinnedState : Type 0 where
-  -- its permits and its pins
-  pub seat : PinSeatState
-  -- how the levels are cut whose cells its tiles are
-  pub cut : Cut
-  -- its microcache: the tiles that it read last, the latest first
-  pub recent : List CachedTile
-  -- the tiles that it holds, the oldest first
-  pub holds : List CachedTile
-  -- a tile whose pin could not be given back yet
-  pub hand : Option CachedTile
 
 -- What is known of a pass.
 pub record PassState : Type 0 where
@@ -63,12 +45,20 @@ abbrev pub kept_pass : {Z : Type 0} → ViewState → PinnedState → Option (Ar
 kept_pass view pinned latest needs hits =
     pass_state view pinned (option_map arc_value latest) needs hits
 
--- What holds of every pass: its microcache has two tiles at most, its record is used under its cut,
--- and it has seen the record's generation of its file.
-pub record IsPass (pass : PassState) : Type 0 where
-  pub few : length pass.pinned.recent ≤ 2
+-- What holds of every pass: its pins are those of its tiles, two at most in its microcache and four
+-- at most that it holds, and where the world tells each is a cell of its file. Its record is used
+-- under its cut, it has seen the record's generation of its file, and it counts no hit that is no
+-- need.
+pub record IsPass (files : Files) (pass : PassState) : Type 0 where
+  pub are : ArePinned files pass.pinned
   pub cut : IfSome pass.latest (λ r. r.cut ≡ pass.pinned.cut)
   pub seen : IfSome pass.latest (λ r. r.generation ≤ slice_index pass.view.seen r.file)
+  pub counted : pass.hits ≤ pass.needs
+
+-- The record is used under the cut of the pass, which has seen its generation.
+pub record IsKeptBy (pass : PassState) (r : RecordState) : Type 0 where
+  pub cut : r.cut ≡ pass.pinned.cut
+  pub seen : r.generation ≤ slice_index pass.view.seen r.file
 
 -- the pass is one of the cache's
 pub record IsPassOf (cache : CacheState) (pass : PassState) : Type 0 where
@@ -215,5 +205,6 @@ pub record AfterJoin (other old new : PassState) : Type 0 where
   pub tiles : SameTiles old new
   pub latest : new.latest ≡ old.latest
   pub seen : SeesBoth other old new
+  pub steps : new.view.steps ≡ old.view.steps
   pub needs : new.needs ≡ counted_together old.needs other.needs
   pub hits : new.hits ≡ counted_together old.hits other.hits

@@ -2,18 +2,19 @@
 ghost use Rattle.std.specs.Prelude.{◌≡◌, ◌<◌, ◌≤◌, false, [], None, length, IfOk, IfErr, OnOk, OnErr};
 ghost use Rattle.tex_world.specs.World.{max_files};
 ghost use Rattle.tile_store.specs.Tag.{tag_of};
-ghost use Rattle.shard_gate.specs.Gate.{CountsLawful};
+ghost use Rattle.shard_gate.specs.Given.{AtShard, Counts};
 ghost use Rattle.image_cache.specs.Options.{NewCause, first_bad};
 ghost use Rattle.image_cache.specs.Pass.{IsPassOf, IsNewCache, IsFirstPass, IsSecondPass};
 ghost use Rattle.image_cache.specs.Pass.{IsSamePass, AfterSplit, AfterJoin, SeesBoth};
 ghost use Rattle.image_cache.specs.Pass.{KeepsAllButView, KeepsAllButTiles};
-ghost use Rattle.image_cache.specs.Call.{SplitCause};
+ghost use Rattle.image_cache.specs.Cause.{SplitCause};
+ghost use Rattle.pinned_tiles.specs.Pinned.{LeavesPart};
 
 use crate::error::{NotJoined, SplitError};
 use crate::options::{NewError, Options};
 use crate::pass::Pass;
-use crate::pinned::{Pinned, room_for_holds};
 use file_table::Files;
+use pinned_tiles::Pinned;
 use shard_gate::Gate;
 use std::alloc::Global;
 use std::marker::Model;
@@ -81,8 +82,10 @@ impl<T: Tap> Cache<T> {
     ) -> Result<ShardCount, V::Busy>
         requires pass { IsPassOf self.now pass.old }
         requires shard { shard < length self.now.gate.id }
-        ensures lawful { IfOk result (CountsLawful T.W.files
-            (tag_of self.now.gate.share self.now.gate.cut)) }
+        // One record has the numbers, the entries that they are of, and the visit that found them.
+        ensures lawful { IfOk result (λ count. AtShard shard
+            (Counts T.W.files (tag_of self.now.gate.share self.now.gate.cut) count)
+            pass.old.pinned.seat.visits pass.new.pinned.seat.visits) }
         ensures share { IfOk result (λ count. count.share ≡ self.now.gate.share) }
         ensures within { IfOk result (λ count. count.loose ≤ count.share) }
         ensures same { IsSamePass pass.old pass.new }
@@ -137,10 +140,11 @@ impl<T: Tap> Cache<T> {
         requires other { IsPassOf self.now other }
         ensures ok { OnOk result (AfterJoin other keep.old keep.new) }
         ensures err { OnErr result (IsSamePass keep.old keep.new) }
+        // The other pass, where the waiter gives up.
         ensures back { IfErr result (λ e. KeepsAllButTiles other e.other) }
+        ensures part { IfErr result (λ e. LeavesPart other.pinned e.other.pinned) }
     {
         let released = other.pinned.release_all(&self.gate, waiter);
-        other.pinned.know_pins();
         if let Err(busy) = released {
             return Err(NotJoined { other, busy });
         }
@@ -163,7 +167,7 @@ impl<T: Tap> Cache<T> {
             hits,
         } = other;
         self.files.board().join(&mut keep.view, view);
-        self.gate.join(&mut keep.pinned.seat, pinned.into_seat());
+        keep.pinned.join(&self.gate, pinned);
         keep.needs = keep.needs.saturating_add(needs);
         keep.hits = keep.hits.saturating_add(hits);
     }
@@ -178,6 +182,7 @@ impl<T: Tap> Cache<T> {
     {
         let view = self.files.board().split(&mut pass.view)?;
         let pinned = pass.pinned.split(self.alloc, &self.gate)?;
+        pinned.know();
         Ok(Pass::of(view, pinned))
     }
 }
@@ -197,7 +202,8 @@ fn made<T: Tap>(
     let cut = options.cut;
     let (files, view) = Files::new(alloc, files, options.handles as usize, cut)?;
     let (gate, seat) = Gate::new(alloc, options.budget, options.shards, options.passes, cut)?;
-    let pinned = Pinned::new(seat, cut, room_for_holds(alloc)?);
+    let pinned = Pinned::new(alloc, seat, cut)?;
+    pinned.know();
     let cache = Cache {
         alloc,
         files,

@@ -41,6 +41,18 @@ pub enum CacheError<B> {
     Busy(B),
 }
 
+/// Why a hold was not released.
+#[derive(Clone, Copy, Debug, PartialEq, Eq, Error)]
+#[error_bound(B: Debug)]
+pub enum NotReleased<B> {
+    /// No tile is held at that place.
+    #[error("NothingHeld")]
+    NothingHeld,
+    /// The waiter gave up.
+    #[error("Busy")]
+    Busy(B),
+}
+
 /// Why a pass was not split.
 #[derive(Clone, Copy, Debug, PartialEq, Eq, Error)]
 pub enum SplitError {

@@ -1,5 +1,6 @@
 //! One texel: from the microcache, else from the shards, else from the file.
-ghost use Rattle.std.specs.Prelude.{◌≡◌, true, OnOk, OnErr, IfErr, IsTrue, IsFalse, IsSomeAnd};
+ghost use Rattle.std.specs.Prelude.{◌≡◌, ◌⊎◌, true, None, OnOk, OnErr, IfErr};
+ghost use Rattle.std.specs.Prelude.{IsTrue, IsFalse, IsSomeAnd, IfOk, IfSome, IsNone};
 ghost use Rattle.std.specs.Option.{ForSome};
 ghost use Rattle.tex_world.specs.World.{Files};
 ghost use Rattle.tex_world.specs.Tap.{TapState};
@@ -9,20 +10,26 @@ ghost use Rattle.file_table.specs.Calls.{sighted};
 ghost use Rattle.shard_gate.specs.Gate.{IsTileOf};
 ghost use Rattle.micro.specs.Items.{HasKey};
 ghost use Rattle.image_cache.specs.Pass.{IsPassOf, SameCounts};
-ghost use Rattle.image_cache.specs.Pinned.{key_in};
-ghost use Rattle.image_cache.specs.Texel.{IsRecordOf, IsTexelIn, IsCellOf, IsCellAt, has_cell};
-ghost use Rattle.image_cache.specs.Texel.{has_cell_at, AreValuesAt};
-ghost use Rattle.image_cache.specs.Call.{CountsNeed, AsksFor, AsksForCellAt, AfterNeed};
-ghost use Rattle.image_cache.specs.Call.{KeepsAllButRecent, FetchCause, NoneFalls, AnswersWarm};
+ghost use Rattle.pinned_tiles.specs.Pinned.{key_in, AsksFor, IsAskedFor};
+ghost use Rattle.pinned_tiles.specs.Cell.{has_cell, is_tile_of};
+ghost use Rattle.image_cache.specs.Texel.{IsRecordOf, IsTexelIn, IsCellOf, IsCellAt};
+ghost use Rattle.image_cache.specs.Texel.{has_cell_at};
+ghost use Rattle.texel_values.specs.Values.{AreValuesAt};
+ghost use Rattle.image_cache.specs.Call.{CountsNeed, AsksForCellAt, TurnsToCellAt, MovesCellAt};
+ghost use Rattle.image_cache.specs.Call.{AfterNeed};
+ghost use Rattle.image_cache.specs.Call.{LeavesNoHand, KeepsAllButRecent, NoneFalls, AnswersWarm};
+ghost use Rattle.image_cache.specs.Cause.{FetchCause};
 
 use crate::cache::Cache;
 use crate::error::CacheError;
 use crate::pass::Pass;
-use crate::texel::{CellAt, TexelAt, cell_at, depth_of};
-use crate::values::write_values;
+use crate::texel::{cell_at, depth_of};
 use file_table::Record;
+use pinned_tiles::CellAt;
 use shard_gate::PinError;
 use tex_world::Tap;
+use texel_values::{TexelAt, write_values};
+use tile_store::Tile;
 use waiter::Waiter;
 
 impl<T: Tap> Cache<T> {
@@ -53,11 +60,16 @@ impl<T: Tap> Cache<T> {
             pass.old pass.new }
         ensures asked { OnOk result (AsksForCellAt known.now at
             pass.old.pinned.recent pass.new.pinned.recent) }
+        ensures turned { OnOk result (TurnsToCellAt known.now at
+            pass.old.pinned.recent pass.new.pinned.recent) }
+        ensures hand { LeavesNoHand V.Busy pass.old pass.new }
         ensures same { AfterNeed known.now.file pass.old pass.new }
         // A cell that the microcache has takes no call of the tap and no memory.
         ensures warm { IsTrue (has_cell_at known.now at pass.old.pinned.recent) → AnswersWarm
             (sighted pass.old.view (T.state tap.old)) (sighted pass.new.view (T.state tap.new))
             result }
+        ensures moved { IsTrue (has_cell_at known.now at pass.old.pinned.recent) → MovesCellAt
+            known.now at pass.old.pinned.recent pass.new.pinned.recent }
     {
         if self.fetch_local(pass, known, at, out) {
             return Ok(());
@@ -96,6 +108,10 @@ impl<T: Tap> Cache<T> {
         ensures need { IsTrue result → CountsNeed true pass.old pass.new }
         ensures asked { IsTrue result → AsksForCellAt known.now at
             pass.old.pinned.recent pass.new.pinned.recent }
+        ensures turned { IsTrue result → TurnsToCellAt known.now at
+            pass.old.pinned.recent pass.new.pinned.recent }
+        ensures moved { IsTrue result → MovesCellAt known.now at
+            pass.old.pinned.recent pass.new.pinned.recent }
         ensures kept { IsTrue result → KeepsAllButRecent pass.old pass.new }
         // And where not.
         ensures same { IsFalse result → (pass.new ≡ pass.old) × (out.new ≡ out.old) }
@@ -110,7 +126,7 @@ impl<T: Tap> Cache<T> {
     }
 
     /// The cell that holds a texel.
-    fn cell(&self, known: &Record<T::W>, at: TexelAt) -> CellAt
+    pub(crate) fn cell(&self, known: &Record<T::W>, at: TexelAt) -> CellAt
         requires known { IsRecordOf T.W.files self.now known.now }
         requires inside { IsTexelIn known.now at }
         ensures { IsCellAt known.now at result }
@@ -170,21 +186,88 @@ impl<T: Tap> Cache<T> {
         ensures counts { SameCounts pass.old pass.new }
         ensures asked { OnOk result (AsksForCellAt known.now at
             pass.old.pinned.recent pass.new.pinned.recent) }
+        ensures turned { OnOk result (TurnsToCellAt known.now at
+            pass.old.pinned.recent pass.new.pinned.recent) }
+        ensures hand { LeavesNoHand V.Busy pass.old pass.new }
         ensures same { AfterNeed known.now.file pass.old pass.new }
     {
         let cell = self.cell(known, at);
-        self.bring(waiter, pass, tap, known, &cell)?;
-        if self.writes(pass, known, &cell, at, out) {
-            return Ok(());
+        match self.need_tile(waiter, pass, tap, known, &cell)? {
+            Some(apart) => {
+                write_values(&apart, depth_of(known), at, out);
+                Ok(())
+            }
+            None => {
+                self.writes(pass, known, &cell, at, out);
+                Ok(())
+            }
         }
-        // Over a world that does not tell, a shard may have another tile of the key. It is not
-        // read, and the one that is loaded is given up.
-        let apart = match self.load_cell(waiter, &mut pass.view, tap, known, &cell) {
-            Ok(apart) => apart,
-            Err(e) => return Err(e),
-        };
-        write_values(&apart, depth_of(known), at, out);
-        Ok(())
+    }
+
+    /// The tile of a cell that is needed. None where it stands first in the microcache then.
+    ///
+    /// Over a world that does not tell, a shard may have another tile of the cell's key. It is not
+    /// read, and one that is loaded apart is answered.
+    pub(crate) fn need_tile<V: Waiter>(
+        &self,
+        waiter: &V,
+        pass: &mut Pass<T::W>,
+        tap: &mut T,
+        known: &Record<T::W>,
+        cell: &CellAt,
+    ) -> Result<Option<Tile<T::W>>, CacheError<V::Busy>>
+        requires pass { IsPassOf self.now pass.old }
+        requires known { IsRecordOf T.W.files self.now known.now }
+        requires cell { IsCellOf known.now cell.now }
+        ensures apart { IfOk result (λ apart. IfSome apart (λ tile. (tile.key ≡ cell.now.key)
+            × IsTrue (is_tile_of cell.now tile))) }
+        ensures first { IfOk result (λ apart. IsNone apart →
+            IsTrue (has_cell cell.now pass.new.pinned.recent)) }
+        ensures cause { IfErr result (FetchCause T.W.files known.now pass.new.view
+            (T.state tap.old) (T.state tap.new)) }
+        ensures tap { NoneFalls (T.state tap.old) (T.state tap.new) }
+        // What the call leaves of the pass.
+        ensures counts { SameCounts pass.old pass.new }
+        ensures asked { OnOk result (AsksFor cell.now.key
+            pass.old.pinned.recent pass.new.pinned.recent) }
+        ensures turned { OnOk result (IsAskedFor cell.now.key
+            pass.old.pinned.recent pass.new.pinned.recent) }
+        ensures hand { LeavesNoHand V.Busy pass.old pass.new }
+        ensures same { AfterNeed known.now.file pass.old pass.new }
+    {
+        self.bring(waiter, pass, tap, known, cell)?;
+        if pass.pinned.tile_of(cell).is_some() {
+            return Ok(None);
+        }
+        match self.load_apart(waiter, pass, tap, known, cell) {
+            Ok(tile) => Ok(Some(tile)),
+            Err(e) => Err(e),
+        }
+    }
+
+    /// The tile of a cell, loaded for one need alone.
+    fn load_apart<V: Waiter>(
+        &self,
+        waiter: &V,
+        pass: &mut Pass<T::W>,
+        tap: &mut T,
+        known: &Record<T::W>,
+        cell: &CellAt,
+    ) -> Result<Tile<T::W>, CacheError<V::Busy>>
+        requires pass { IsPassOf self.now pass.old }
+        requires known { IsRecordOf T.W.files self.now known.now }
+        requires cell { IsCellOf known.now cell.now }
+        ensures keyed { IfOk result (λ tile. tile.key ≡ cell.now.key) }
+        ensures of_cell { IfOk result (λ tile. IsTrue (is_tile_of cell.now tile)) }
+        ensures cause { IfErr result (FetchCause T.W.files known.now pass.new.view
+            (T.state tap.old) (T.state tap.new)) }
+        ensures tap { NoneFalls (T.state tap.old) (T.state tap.new) }
+        // What the call leaves of the pass.
+        ensures pinned { pass.new.pinned ≡ pass.old.pinned }
+        ensures counts { SameCounts pass.old pass.new }
+        ensures same { AfterNeed known.now.file pass.old pass.new }
+    {
+        self.load_cell(waiter, &mut pass.view, tap, known, cell)
     }
 
     /// Puts the tile of a cell's key first in the microcache.
@@ -206,6 +289,9 @@ impl<T: Tap> Cache<T> {
         ensures counts { SameCounts pass.old pass.new }
         ensures asked { OnOk result (AsksFor cell.now.key
             pass.old.pinned.recent pass.new.pinned.recent) }
+        ensures turned { OnOk result (IsAskedFor cell.now.key
+            pass.old.pinned.recent pass.new.pinned.recent) }
+        ensures hand { LeavesNoHand V.Busy pass.old pass.new }
         ensures same { AfterNeed known.now.file pass.old pass.new }
     {
         if pass.pinned.find(cell.key) {
@@ -236,6 +322,7 @@ impl<T: Tap> Cache<T> {
         // What the call leaves of the pass.
         ensures counts { SameCounts pass.old pass.new }
         ensures recent { pass.new.pinned.recent ≡ pass.old.pinned.recent }
+        ensures empty { OnErr result ((pass.new.pinned.hand ≡ None) ⊎ V.Busy) }
         ensures same { AfterNeed known.now.file pass.old pass.new }
     {
         match pass.pinned.pin_next(&self.gate, waiter, cell.key) {

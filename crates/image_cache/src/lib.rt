@@ -3,19 +3,21 @@
 #![tactic(auto)]
 
 mod cache;
+mod checks;
 mod error;
+mod facts;
 mod fetching;
-mod lately;
+mod holding;
 mod loading;
 mod opening;
 mod options;
 mod pass;
-mod pinned;
+mod pixels;
 mod texel;
-mod values;
 
 pub use cache::Cache;
-pub use error::{CacheError, NotJoined, SplitError};
+pub use error::{CacheError, NotJoined, NotReleased, SplitError};
 pub use options::{NewError, Options};
 pub use pass::Pass;
-pub use texel::TexelAt;
+pub use pixels::Pixels;
+pub use texel_values::{Region, TexelAt};

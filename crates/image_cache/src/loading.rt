@@ -1,17 +1,19 @@
 //! A cell that no shard has: loaded from its file, under a handle that the table lends.
-ghost use Rattle.std.specs.Prelude.{◌≡◌, ◌<◌, IfOk, IfErr, IsTrue};
+ghost use Rattle.std.specs.Prelude.{◌≡◌, ◌<◌, ◌≤◌, IfOk, IfErr, IsTrue, slice_index};
 ghost use Rattle.file_table.specs.Calls.{KeepsView, OpensIfAtAll};
 ghost use Rattle.tile_load.specs.Load.{IsReadBy};
 ghost use Rattle.tile_store.specs.Told.{IsTold};
 ghost use Rattle.shard_gate.specs.Gate.{HasCellRect};
-ghost use Rattle.image_cache.specs.Texel.{IsRecordOf, IsCellOf, is_tile_of};
-ghost use Rattle.image_cache.specs.Call.{FetchCause, NoneFalls};
+ghost use Rattle.pinned_tiles.specs.Cell.{is_tile_of};
+ghost use Rattle.image_cache.specs.Texel.{IsRecordOf, IsCellOf};
+ghost use Rattle.image_cache.specs.Call.{NoneFalls};
+ghost use Rattle.image_cache.specs.Cause.{FetchCause};
 
 use crate::cache::Cache;
 use crate::error::CacheError;
-use crate::texel::CellAt;
 use file_table::{LendError, Record};
 use gen_board::View;
+use pinned_tiles::CellAt;
 use tex_world::Tap;
 use tile_load::{LoadError, load};
 use tile_store::Tile;
@@ -38,6 +40,8 @@ impl<T: Tap> Cache<T> {
         ensures cause { IfErr result (FetchCause T.W.files known.now view.new
             (T.state tap.old) (T.state tap.new)) }
         ensures keeps { KeepsView known.now.file view.old view.new }
+        ensures steps { slice_index view.old.steps known.now.file
+            ≤ slice_index view.new.steps known.now.file }
         ensures tap { NoneFalls (T.state tap.old) (T.state tap.new) }
     {
         // the record's layout is that of its bytes
@@ -78,6 +82,8 @@ impl<T: Tap> Cache<T> {
         ensures cause { IfErr result (FetchCause T.W.files known.now view.new
             (T.state tap.old) (T.state tap.new)) }
         ensures keeps { KeepsView known.now.file view.old view.new }
+        ensures steps { slice_index view.old.steps known.now.file
+            ≤ slice_index view.new.steps known.now.file }
         ensures tap { OpensIfAtAll (T.state tap.old) (T.state tap.new) }
     {
         match self

@@ -1,11 +1,12 @@
 //! The record of a file: opened, kept by a pass, and found there again.
 ghost use Rattle.std.specs.Prelude.{◌≡◌, ◌↔◌, ◌<◌, ◌≤◌, None, Some, IfOk, IfErr, OnOk, OnErr};
-ghost use Rattle.std.specs.Prelude.{IsSome, IsNone, IfSome, IsSomeAnd, slice_index};
+ghost use Rattle.std.specs.Prelude.{IsSome, IsNone, IfSome, IsSomeAnd, length, slice_index};
 ghost use Rattle.tex_world.specs.World.{IsFile};
 ghost use Rattle.gen_board.specs.View.{AfterStep};
 ghost use Rattle.file_table.specs.Calls.{sighted, GivesRecord, LooksOnce, OpensIfAtAll};
-ghost use Rattle.image_cache.specs.Pass.{IsPassOf, KeepsAllButRecord};
-ghost use Rattle.image_cache.specs.Call.{OpenCause, Serves};
+ghost use Rattle.image_cache.specs.Pass.{IsPassOf, IsKeptBy, KeepsAllButRecord};
+ghost use Rattle.image_cache.specs.Call.{Serves};
+ghost use Rattle.image_cache.specs.Cause.{OpenCause};
 
 use crate::cache::Cache;
 use crate::error::CacheError;
@@ -70,6 +71,10 @@ impl<T: Tap> Cache<T> {
         requires file { file < self.now.files.board.files }
         ensures some { IsSome result ↔ IsSomeAnd pass.old.latest (Serves file pass.new.view) }
         ensures value { IfSome result (λ r. pass.old.latest ≡ Some r.value) }
+        ensures kept { IfSome pass.old.latest (IsKeptBy pass.old) }
+        ensures few { length pass.new.pinned.recent ≤ 2 }
+        ensures serves { IfSome result (λ r. Serves file pass.new.view r.value
+            × (r.value.cut ≡ self.now.gate.cut)) }
         // What the call leaves.
         ensures taken { IsSome result → pass.new.latest ≡ None }
         ensures none { IsNone result → pass.new.latest ≡ pass.old.latest }

@@ -1,11 +1,12 @@
-ghost use Rattle.std.specs.Prelude.{◌≡◌, ◌<◌, None, slice_index, slice_get};
+ghost use Rattle.std.specs.Prelude.{◌≡◌, ◌<◌, ◌≤◌, length, None, slice_index, slice_get};
 ghost use Rattle.std.specs.Option.{option_copied};
-ghost use Rattle.image_cache.specs.Pass.{pass_state, KeepsAllButCounts};
+ghost use Rattle.pinned_tiles.specs.Pinned.{ArePinned};
+ghost use Rattle.image_cache.specs.Pass.{pass_state, max_count, KeepsAllButCounts};
 ghost use Rattle.image_cache.specs.Call.{CountsNeed};
 
-use crate::pinned::Pinned;
 use file_table::Record;
 use gen_board::View;
+use pinned_tiles::Pinned;
 use std::marker::Model;
 use std::sync::Arc;
 use tex_world::World;
@@ -29,12 +30,14 @@ impl<W: World> Model for Pass<W> {
 
     ghost view = { λ p. kept_pass p.view p.pinned p.latest p.needs p.hits };
 
-    ghost invariant = { λ p. IsPass (kept_pass p.view p.pinned p.latest p.needs p.hits) };
+    ghost invariant = { λ p.
+        IsPass W.files (kept_pass p.view p.pinned p.latest p.needs p.hits) };
 }
 
 impl<W: World> Pass<W> {
     /// A pass that has pinned nothing.
     pub(crate) fn of(view: View<W>, pinned: Pinned<W>) -> Pass<W>
+        requires { ArePinned W.files pinned }
         ensures { result ≡ pass_state view pinned None 0 0 }
     {
         Pass {
@@ -75,10 +78,22 @@ impl<W: World> Pass<W> {
         self.pinned.held(place)
     }
 
+    /// What holds of it. It does nothing.
+    pub(crate) fn know(&self)
+        ensures few { length self.now.pinned.recent ≤ 2 }
+        ensures needs { self.now.needs ≤ max_count }
+        ensures hits { self.now.hits ≤ max_count }
+    {
+        self.pinned.know();
+        let _needs = self.needs;
+        let _hits = self.hits;
+    }
+
     /// Counts a need, which the microcache had or not.
     pub(crate) fn count_need(&mut self, hit: bool)
         ensures counts { CountsNeed hit self.old self.new }
         ensures kept { KeepsAllButCounts self.old self.new }
+        ensures low { self.old.hits ≤ max_count }
     {
         self.needs = self.needs.saturating_add(1);
         if hit {

@@ -1,32 +1,16 @@
 //! A texel, and the cell that holds it.
 ghost use Rattle.std.specs.Prelude.{◌≡◌, ◌<◌, IfOk};
 ghost use Rattle.tex_world.specs.World.{max_files};
+ghost use Rattle.tiff_dirs.specs.Facts.{IsChannelCount};
 ghost use Rattle.tile_layout.specs.Cell.{channels_in, bit_depth_in};
 ghost use Rattle.file_table.specs.Record.{IsRecord};
-ghost use Rattle.image_cache.specs.Texel.{IsTexelIn, IsCellAt, is_tile_of};
+ghost use Rattle.image_cache.specs.Texel.{IsTexelIn, IsCellAt};
 
 use file_table::Record;
+use pinned_tiles::CellAt;
 use tex_world::World;
-use tile_layout::{Rect, TileKey};
-use tile_store::Tile;
-
-/// A texel of a level of a file.
-#[derive(Clone, Copy, Debug, PartialEq, Eq)]
-pub struct TexelAt {
-    pub level: u32,
-    /// The column, from 0 on.
-    pub x: u32,
-    /// The row, from 0 on.
-    pub y: u32,
-}
-
-/// A cell of a file: its key, its rectangle of the level, and the samples of a texel.
-#[derive(Clone, Copy, Debug, PartialEq, Eq)]
-pub struct CellAt {
-    pub key: TileKey,
-    pub rect: Rect,
-    pub channels: u32,
-}
+use texel_values::TexelAt;
+use tile_layout::TileKey;
 
 /// The cell that holds a texel of a record.
 pub(crate) fn cell_at<W: World>(known: &Record<W>, at: TexelAt) -> CellAt
@@ -44,8 +28,9 @@ pub(crate) fn cell_at<W: World>(known: &Record<W>, at: TexelAt) -> CellAt
 }
 
 /// The samples of a texel of a record that shows no fault.
-fn channels_of<W: World>(known: &Record<W>) -> u32
-    ensures { IfOk known.now.layout (λ kept. result ≡ channels_in kept) }
+pub(crate) fn channels_of<W: World>(known: &Record<W>) -> u32
+    ensures value { IfOk known.now.layout (λ kept. result ≡ channels_in kept) }
+    ensures in_range { IfOk known.now.layout (λ kept. IsChannelCount result) }
 {
     match known.layout() {
         Ok(layout) => layout.channels(),
@@ -64,17 +49,4 @@ pub(crate) fn depth_of<W: World>(known: &Record<W>) -> u32
         Ok(layout) => layout.depth(),
         Err(_) => 0,
     }
-}
-
-/// The tile of a cell's key has the rectangle of the cell, and its number of samples. Over a world
-/// that tells each has.
-pub(crate) fn is_tile_of<W: World>(tile: &Tile<W>, cell: &CellAt) -> bool
-    ensures { result ≡ is_tile_of cell.now tile.now }
-{
-    let (own, rect) = (tile.rect(), cell.rect);
-    own.x == rect.x
-        && own.y == rect.y
-        && own.w == rect.w
-        && own.h == rect.h
-        && tile.channels() == cell.channels
 }

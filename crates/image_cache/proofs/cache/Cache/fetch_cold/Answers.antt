@@ -1,16 +1,28 @@
--- The cell was brought first, and then loaded apart.
-use Rattle.image_cache.proofs.TexelLemmas.{values_told, cause_since}
+-- The tile stands first in the microcache, or was loaded apart.
+use Rattle.std.proofs.Common.{◌≡◌, ℕ, Option, IfSome, IsTrue, subst}
+use Rattle.tile_store.specs.Tile.{CachedTile}
+use Rattle.pinned_tiles.specs.Cell.{is_tile_of}
+use Rattle.pinned_tiles.specs.Pinned.{IsAskedFor}
+use Rattle.image_cache.proofs.TexelLemmas.{values_told, at_cell}
 use Rattle.image_cache.proofs.cache.Cache.fetch_cold.Goals as goal
 
-pub returns-in-Err-clause-cause : goal.returns-in-Err-clause-cause
-returns-in-Err-clause-cause g c =
-    cause_since g.T.W.World.files c.args.known.now c.load_cell.new.view
-    (g.T.Tap.state c.args.tap.now) (g.T.Tap.state c.bring.new.tap)
-    (g.T.Tap.state c.load_cell.new.tap) c.in-Err.e c.bring.ensures.tap c.in-Err.ensures.cause
+pub returns-in-Some-clause-turned : goal.returns-in-Some-clause-turned
+returns-in-Some-clause-turned g c =
+    at_cell (λ (key : ℕ). IsAskedFor key c.args.pass.now.pinned.recent
+    c.need_tile.new.pass.pinned.recent) c.args.known.now c.args.at c.cell-cell.result
+    c.cell-cell.ensures.is c.in_ok-apart.ensures.turned
 
-pub returns-clause-value : goal.returns-clause-value
-returns-clause-value g c bytes held =
+pub returns-in-None-clause-turned : goal.returns-in-None-clause-turned
+returns-in-None-clause-turned g c =
+    at_cell (λ (key : ℕ). IsAskedFor key c.args.pass.now.pinned.recent
+    c.need_tile.new.pass.pinned.recent) c.args.known.now c.args.at c.cell-cell.result
+    c.cell-cell.ensures.is c.in_ok-apart.ensures.turned
+
+pub returns-in-Some-clause-value : goal.returns-in-Some-clause-value
+returns-in-Some-clause-value g c bytes held =
     values_told g.T.W.World.files g.T.W.World.lawful c.args.known.now c.args.at c.cell-cell.result
-    c.in-Ok.apart c.depth_of.result c.write_values.new.out bytes c.depth_of.ensures.told
-    c.cell-cell.ensures c.in-Ok.ensures.keyed c.depth_of.ensures.value
+    c.in-Some.apart c.depth_of.result c.write_values.new.out bytes c.depth_of.ensures.told
+    c.cell-cell.ensures (subst (λ (o : Option CachedTile). IfSome o (λ tile.
+    (tile.key ≡ c.cell-cell.result.key) × IsTrue (is_tile_of c.cell-cell.result tile))) c.in-Some.is
+    c.in_ok-apart.ensures.apart).0 c.depth_of.ensures.value
     c.write_values.ensures.told held

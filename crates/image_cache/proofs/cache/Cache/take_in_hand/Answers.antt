@@ -1,6 +1,6 @@
 -- A tile that is not pinned has one of the two causes that may stand anywhere.
 use Rattle.std.proofs.Common.{sym, subst, IfErr}
-use Rattle.image_cache.specs.Call.{FetchCause}
+use Rattle.image_cache.specs.Cause.{FetchCause}
 use Rattle.image_cache.proofs.cache.Cache.take_in_hand.Goals.{in-Ok, in-Err-pin_new}
 use Rattle.image_cache.proofs.cache.Cache.take_in_hand.Goals as goal
 

@@ -1,0 +1,24 @@
+-- The texels of the tile are those of the record's file.
+use Rattle.std.proofs.Common.{ℕ, List, subst}
+use Rattle.tile_layout.specs.declared.rect.Rect.{Rect}
+use Rattle.tile_layout.specs.Key.{level_of}
+use Rattle.texel_values.specs.Window.{HasValuesOn}
+use Rattle.image_cache.proofs.TexelLemmas.{told_by_record}
+use Rattle.image_cache.proofs.NeedLemmas.{rect_like}
+use Rattle.image_cache.proofs.pixels.paint_part.Goals as goal
+
+pub returns-clause-value : goal.returns-clause-value
+returns-clause-value g c bytes held =
+    let files = g.W.World.files in
+    let tile = c.args.tile.now in
+    let cell = c.args.cell.now in
+    let area = c.args.area.now in
+    let new = c.paint.new.values in
+    let On : ℕ → Rect → Type 0 = λ l rect.
+    HasValuesOn bytes l rect area.window area.height new in
+    subst (λ (rect : Rect). On (level_of cell.key) rect) (rect_like cell tile c.requires.of_cell)
+    (subst (λ (k : ℕ). On (level_of k) tile.rect) c.requires.keyed
+    (told_by_record files g.W.World.lawful c.args.known.now cell tile.key c.depth_of.result bytes
+    (λ (b : List ℕ). HasValuesOn b (level_of tile.key) tile.rect area.window area.height new)
+    c.depth_of.ensures.told c.requires.cell c.requires.keyed c.depth_of.ensures.value
+    c.paint.ensures.told held))

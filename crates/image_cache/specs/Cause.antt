@@ -1,0 +1,193 @@
+-- Why is a call of a cache refused?
+use Rattle.std.specs.Prelude.{◌≡◌, ◌⊎◌, ℕ, ◌*◌, ◌<◌, ◌≤◌, length, slice_index, ⊤}
+use Rattle.std.specs.Prelude.{Err, IsOkAnd, IsSomeAnd}
+use Rattle.tex_world.specs.Counts.{Rises}
+use Rattle.tex_world.specs.World.{Files, IsReal}
+use Rattle.tex_world.specs.Tap.{TapState}
+use Rattle.gen_board.specs.View.{ViewState}
+use Rattle.tiff_dirs.specs.declared.fault.TiffFault.{TiffFault}
+use Rattle.tile_layout.specs.declared.cut.Cut.{Cut}
+use Rattle.tile_layout.specs.Level.{level_count_in}
+use Rattle.tile_layout.specs.Cell.{CellsFit}
+use Rattle.file_table.specs.Record.{RecordState}
+use Rattle.file_table.specs.Calls.{Sighted, MeetsNewer, OpensOnce, GivesRecord}
+use Rattle.image_cache.specs.declared.error.CacheError.{CacheError}
+use Rattle.image_cache.specs.declared.error.CacheError.TheVariants as refused
+use Rattle.image_cache.specs.declared.error.SplitError.{SplitError}
+use Rattle.image_cache.specs.declared.error.SplitError.TheVariants as undivided
+use Rattle.image_cache.specs.declared.error.NotReleased.{NotReleased}
+use Rattle.image_cache.specs.declared.error.NotReleased.TheVariants as unreleased
+use Rattle.texel_values.specs.declared.texel_at.TexelAt.{TexelAt}
+use Rattle.texel_values.specs.Region.{max_texels}
+use Rattle.image_cache.specs.Pass.{PassState}
+use Rattle.image_cache.specs.Texel.{IsTexelOf}
+
+-- ---- of a texel
+
+-- The generation `from` of a file was asked for, and the newer `to` was met, which the pass has
+-- then seen.
+pub record MetNewer (files : Files) (file generation from to : ℕ) (new : ViewState)
+    (tap_old tap_new : TapState) : Type 0 where
+  pub from_is : from ≡ generation
+  pub from_real : IsReal files file from
+  pub to_real : IsReal files file to
+  pub newer : from < to
+  pub seen : to ≤ slice_index new.seen file
+  pub moves : Rises tap_old.moves tap_new.moves
+
+-- Why a texel of a record is not given: a call of the tap failed, a newer generation was met,
+-- memory was wanting, or the waiter gave up, before the tap had a call or once a cell was loaded.
+abbrev pub FetchCause : {B : Type 0} → Files → RecordState → ViewState → TapState → TapState
+    → CacheError B → Type 0
+FetchCause files r new tap_old tap_new (refused.Again from to) =
+    MetNewer files r.file r.generation from to new tap_old tap_new
+FetchCause files r new tap_old tap_new refused.ReadFault = Rises tap_old.faults tap_new.faults
+FetchCause files r new tap_old tap_new refused.NoMemory = ⊤
+FetchCause files r new tap_old tap_new (refused.Busy b) = ⊤
+FetchCause files r new tap_old tap_new _ = ⊥
+
+-- ---- of a file that is opened
+
+-- Why a file is not opened. A newer generation was met than one that is at least what the pass had
+-- seen.
+abbrev pub OpenCause : {B : Type 0} → Files → ℕ → Sighted → Sighted → CacheError B → Type 0
+OpenCause files file old new (refused.Again from to) =
+    MeetsNewer files file (slice_index old.view.seen file) from to old.tap new.tap
+    × (to ≤ slice_index new.view.seen file)
+OpenCause files file old new refused.ReadFault = Rises old.tap.faults new.tap.faults
+OpenCause files file old new refused.NoMemory = OpensOnce old.tap new.tap
+OpenCause files file old new (refused.Busy b) = new.tap ≡ old.tap
+OpenCause files file old new _ = ⊥
+
+-- ---- of a call on a file
+
+-- A call on a file, before and after: the world, how its files are cut, the pass and the tap.
+pub record Around : Type 0 where
+  pub files : Files
+  pub file : ℕ
+  pub cut : Cut
+  pub old : PassState
+  pub new : PassState
+  pub tap_old : TapState
+  pub tap_new : TapState
+
+abbrev pub around : Files → ℕ → Cut → PassState → PassState → TapState → TapState → Around
+around files file cut old new tap_old tap_new = record {
+  files = files;
+  file = file;
+  cut = cut;
+  old = old;
+  new = new;
+  tap_old = tap_old;
+  tap_new = tap_new;
+}
+
+-- A newer generation was met than one that is at least what the pass had seen at entry, and the
+-- pass has then seen it.
+abbrev pub MetAgain : Around → ℕ → ℕ → Type 0
+MetAgain a from to =
+    MeetsNewer a.files a.file (slice_index a.old.view.seen a.file) from to a.tap_old a.tap_new
+    × (to ≤ slice_index a.new.view.seen a.file)
+
+-- It rests on a record that was given to this call and that the pass keeps.
+abbrev pub RestsOnGiven : Around → (RecordState → Type 0) → Type 0
+RestsOnGiven a P = IsSomeAnd a.new.latest (λ r.
+    GivesRecord a.files a.file a.cut a.old.view a.new.view r × P r)
+
+-- Why a call on a file is refused. `First` says what it refuses before it opens the file, and
+-- `Refuses` what it refuses by its record.
+abbrev pub HasCause : {B : Type 0} → Around → (CacheError B → Type 0)
+    → (RecordState → CacheError B → Type 0) → CacheError B → Type 0
+HasCause a First Refuses (refused.Again from to) = MetAgain a from to
+HasCause a First Refuses refused.ReadFault = Rises a.tap_old.faults a.tap_new.faults
+HasCause a First Refuses refused.NoMemory = ⊤
+HasCause a First Refuses (refused.Busy b) = ⊤
+HasCause a First Refuses e = First e ⊎ RestsOnGiven a (λ r. Refuses r e)
+
+-- ---- what a record refuses
+
+-- the file shows this fault
+pub record ShowsFault (r : RecordState) (generation : ℕ) (fault : TiffFault) : Type 0 where
+  pub of_generation : generation ≡ r.generation
+  pub shows : r.layout ≡ Err fault
+
+-- a cell of it takes more memory than a cell may
+pub record CellTooLarge (r : RecordState) (generation : ℕ) : Type 0 where
+  pub of_generation : generation ≡ r.generation
+  pub too_large : IsOkAnd r.layout (λ kept. ¬ CellsFit kept r.cut)
+
+-- all its cells fit, and it has only so many levels
+pub record LacksLevel (level : ℕ) (r : RecordState) (generation levels : ℕ) : Type 0 where
+  pub of_generation : generation ≡ r.generation
+  pub fits : IsOkAnd r.layout (λ kept. CellsFit kept r.cut
+      × (levels ≡ level_count_in kept r.cut.automip))
+  pub lacks : levels ≤ level
+
+-- all its cells fit and it has the level, but not the texel
+pub record LacksTexel (at : TexelAt) (r : RecordState) (generation : ℕ) : Type 0 where
+  pub of_generation : generation ≡ r.generation
+  pub fits : IsOkAnd r.layout (λ kept. CellsFit kept r.cut
+      × (at.level < level_count_in kept r.cut.automip) × (¬ IsTexelOf kept r.cut at))
+
+-- `info` refuses a file with a fault alone.
+abbrev pub InfoRefuses : {B : Type 0} → RecordState → CacheError B → Type 0
+InfoRefuses r (refused.BadFile generation fault) = ShowsFault r generation fault
+InfoRefuses r _ = ⊥
+
+-- A lookup refuses a file with a fault, and one that does not fit the cut.
+abbrev pub LookRefuses : {B : Type 0} → RecordState → CacheError B → Type 0
+LookRefuses r (refused.BadFile generation fault) = ShowsFault r generation fault
+LookRefuses r (refused.TileTooLarge generation) = CellTooLarge r generation
+LookRefuses r _ = ⊥
+
+-- A region is refused for its level too.
+abbrev pub PixelsRefuses : {B : Type 0} → ℕ → RecordState → CacheError B → Type 0
+PixelsRefuses level r (refused.NoLevel generation levels) = LacksLevel level r generation levels
+PixelsRefuses level r e = LookRefuses r e
+
+-- A cell is refused for its texel too.
+abbrev pub TileRefuses : {B : Type 0} → TexelAt → RecordState → CacheError B → Type 0
+TileRefuses at r (refused.Outside generation) = LacksTexel at r generation
+TileRefuses at r e = PixelsRefuses at.level r e
+
+-- ---- what is refused before a file is opened
+
+-- nothing
+abbrev pub NoneFirst : {B : Type 0} → CacheError B → Type 0
+NoneFirst e = ⊥
+
+-- a region of too many texels
+abbrev pub TooManyTexels : {B : Type 0} → ℕ → ℕ → CacheError B → Type 0
+TooManyTexels w h refused.RegionTooLarge = max_texels < w * h
+TooManyTexels w h _ = ⊥
+
+-- a fifth hold
+abbrev pub NoFurtherHold : {B : Type 0} → PassState → CacheError B → Type 0
+NoFurtherHold old refused.HoldsFull = length old.pinned.holds ≡ 4
+NoFurtherHold old _ = ⊥
+
+-- ---- a step by a record
+
+-- Why a step of a call by a record is refused: as a texel is not given, or by what `Refuses` says of
+-- the record.
+abbrev pub StepCause : {B : Type 0} → Files → RecordState → ViewState → TapState → TapState
+    → (RecordState → CacheError B → Type 0) → CacheError B → Type 0
+StepCause files r new tap_old tap_new Refuses (refused.Again from to) =
+    MetNewer files r.file r.generation from to new tap_old tap_new
+StepCause files r new tap_old tap_new Refuses refused.ReadFault =
+    Rises tap_old.faults tap_new.faults
+StepCause files r new tap_old tap_new Refuses refused.NoMemory = ⊤
+StepCause files r new tap_old tap_new Refuses (refused.Busy b) = ⊤
+StepCause files r new tap_old tap_new Refuses e = Refuses r e
+
+-- ---- other calls
+
+-- why a hold is not released
+abbrev pub ReleaseCause : {B : Type 0} → ℕ → PassState → NotReleased B → Type 0
+ReleaseCause place old unreleased.NothingHeld = length old.pinned.holds ≤ place
+ReleaseCause place old (unreleased.Busy b) = place < length old.pinned.holds
+
+-- why a pass was not split
+abbrev pub SplitCause : ℕ → SplitError → Type 0
+SplitCause permits undivided.NoPermit = permits ≡ 1
+SplitCause permits undivided.NoMemory = 1 < permits

@@ -1,0 +1,64 @@
+//! What is asked of a record before a cell of it is read.
+ghost use Rattle.std.specs.Prelude.{◌≡◌, ◌<◌, OnOk, IfOk, IfErr, IsOkAnd};
+ghost use Rattle.tile_layout.specs.Level.{level_count_in};
+ghost use Rattle.tile_layout.specs.Cell.{CellsFit};
+ghost use Rattle.file_table.specs.Record.{CutsLevel};
+ghost use Rattle.image_cache.specs.Texel.{IsTexelOf};
+ghost use Rattle.image_cache.specs.Cause.{LookRefuses, PixelsRefuses, TileRefuses};
+
+use crate::error::CacheError;
+use file_table::Record;
+use tex_world::World;
+use texel_values::TexelAt;
+use tile_layout::Grid;
+
+/// The record shows no fault, and all its cells fit the cut.
+pub(crate) fn fitting<W: World, B>(known: &Record<W>) -> Result<(), CacheError<B>>
+    ensures ok { OnOk result (IsOkAnd known.now.layout (λ kept. CellsFit kept known.now.cut)) }
+    ensures err { IfErr result (LookRefuses known.now) }
+{
+    let generation = known.generation();
+    if let Err(fault) = known.layout() {
+        return Err(CacheError::BadFile {
+            generation,
+            fault: *fault,
+        });
+    }
+    if known.fits() {
+        return Ok(());
+    }
+    Err(CacheError::TileTooLarge { generation })
+}
+
+/// The record shows no fault, all its cells fit the cut, and it has the level, which is cut so.
+pub(crate) fn level_in<W: World, B>(known: &Record<W>, level: u32) -> Result<Grid, CacheError<B>>
+    ensures ok { OnOk result (IsOkAnd known.now.layout (λ kept. CellsFit kept known.now.cut
+        × (level < level_count_in kept known.now.cut.automip))) }
+    ensures grid { IfOk result (CutsLevel known.now level) }
+    ensures err { IfErr result (PixelsRefuses level known.now) }
+{
+    fitting(known)?;
+    let levels = known.levels();
+    if level < levels {
+        return Ok(known.grid(level));
+    }
+    Err(CacheError::NoLevel {
+        generation: known.generation(),
+        levels,
+    })
+}
+
+/// The record shows no fault, all its cells fit the cut, and the texel lies in one of its levels.
+pub(crate) fn inside<W: World, B>(known: &Record<W>, at: TexelAt) -> Result<(), CacheError<B>>
+    ensures ok { OnOk result (IsOkAnd known.now.layout (λ kept.
+        CellsFit kept known.now.cut × IsTexelOf kept known.now.cut at)) }
+    ensures err { IfErr result (TileRefuses at known.now) }
+{
+    let grid = level_in(known, at.level)?;
+    if at.x < grid.across.size && at.y < grid.down.size {
+        return Ok(());
+    }
+    Err(CacheError::Outside {
+        generation: known.generation(),
+    })
+}

@@ -1,0 +1,75 @@
+//! What a file is: its size and its levels.
+ghost use Rattle.std.specs.Prelude.{◌≡◌, ◌<◌, IfOk, IfErr, IsOkAnd};
+ghost use Rattle.tex_world.specs.World.{IsFile};
+ghost use Rattle.file_table.specs.Calls.{LooksOnce, OpensIfAtAll};
+ghost use Rattle.image_cache.specs.Pass.{IsPassOf, KeepsAllButRecord};
+ghost use Rattle.image_cache.specs.Facts.{info_of};
+ghost use Rattle.image_cache.specs.Call.{KeepsGiven, KeepsOne};
+ghost use Rattle.image_cache.specs.Cause.{around, HasCause, NoneFirst, InfoRefuses};
+
+use crate::cache::Cache;
+use crate::error::CacheError;
+use crate::pass::Pass;
+use file_table::Record;
+use tex_world::{Tap, World};
+use tile_layout::Info;
+use waiter::Waiter;
+
+impl<T: Tap> Cache<T> {
+    /// What a file is: the sides of its level 0, its samples and their bits, how many levels it
+    /// stores, and how many it has under the cut.
+    pub fn info<V: Waiter>(
+        &self,
+        waiter: &V,
+        pass: &mut Pass<T::W>,
+        tap: &mut T,
+        file: u32,
+    ) -> Result<Info, CacheError<V::Busy>>
+        requires pass { IsPassOf self.now pass.old }
+        requires file { file < self.now.files.board.files }
+        requires told { IsFile T.W.files file }
+        ensures ok { IfOk result (λ info. KeepsGiven T.W.files file self.now.gate.cut
+            pass.old pass.new info.generation (λ r. IsOkAnd r.layout (λ kept.
+            info ≡ info_of r.generation kept r.cut))) }
+        ensures cause { IfErr result (HasCause (around T.W.files file self.now.gate.cut
+            pass.old pass.new (T.state tap.old) (T.state tap.new)) NoneFirst InfoRefuses) }
+        // What the call leaves.
+        ensures latest { KeepsOne T.W.files file self.now.gate.cut pass.old pass.new }
+        ensures same { KeepsAllButRecord pass.old pass.new }
+        ensures looks { LooksOnce file pass.old.view pass.new.view }
+        ensures once { OpensIfAtAll (T.state tap.old) (T.state tap.new) }
+    {
+        let known = self.open(waiter, pass, tap, file)?;
+        let answer = facts_in(&known);
+        self.keep(pass, known);
+        answer
+    }
+}
+
+/// What the file of a record is.
+fn facts_in<W: World, B>(known: &Record<W>) -> Result<Info, CacheError<B>>
+    ensures ok { IfOk result (λ info. IsOkAnd known.now.layout (λ kept.
+        info ≡ info_of known.now.generation kept known.now.cut)) }
+    ensures err { IfErr result (InfoRefuses known.now) }
+{
+    let generation = known.generation();
+    match known.layout() {
+        Ok(layout) => {
+            let stored = layout.stored();
+            let (width, height) = layout.size(0);
+            Ok(Info {
+                generation,
+                width,
+                height,
+                channels: layout.channels(),
+                depth: layout.depth(),
+                stored,
+                levels: known.levels(),
+            })
+        }
+        Err(fault) => Err(CacheError::BadFile {
+            generation,
+            fault: *fault,
+        }),
+    }
+}

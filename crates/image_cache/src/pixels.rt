@@ -1,0 +1,425 @@
+//! The values of a region, cell by cell.
+ghost use Rattle.std.specs.Prelude.{◌≡◌, ℕ, ◌+◌, ◌*◌, ◌<◌, ◌≤◌, ◌++◌, [], ◌∷◌, length, replicate};
+ghost use Rattle.std.specs.Prelude.{Err, IfOk, IfErr, IfSome, IsNone, IsTrue, OnOk, OnErr};
+ghost use Rattle.std.specs.Option.{ForSome};
+ghost use Rattle.tex_world.specs.World.{IsFile, max_files};
+ghost use Rattle.tiff_dirs.specs.Facts.{IsChannelCount};
+ghost use Rattle.texel_values.specs.Region.{max_texels, AreRegionValues, Appends};
+ghost use Rattle.texel_values.specs.Window.{HasValues, HasValuesOn, KeepsOthersOn};
+ghost use Rattle.texel_values.specs.Area.{IsPainted, IsZeroBeside, area_cell, area_cells};
+ghost use Rattle.tile_layout.specs.Grid.{shown_grid};
+ghost use Rattle.tile_layout.specs.Key.{key_of, level_of};
+ghost use Rattle.tile_layout.specs.Cell.{cell_rect};
+ghost use Rattle.pinned_tiles.specs.Cell.{has_cell, is_tile_of};
+ghost use Rattle.image_cache.specs.Pass.{IsPassOf};
+ghost use Rattle.image_cache.specs.Texel.{IsRecordOf, IsGivenBy, IsCellOf};
+ghost use Rattle.image_cache.specs.Call.{AfterCall, AfterNeed, CountsOn, KeepsGiven, KeepsOne};
+ghost use Rattle.image_cache.specs.Call.{LeavesNoHand, Needs, NoneFalls};
+ghost use Rattle.image_cache.specs.Region.{ReadsRegion, HasAreaAt, area_keys};
+ghost use Rattle.image_cache.specs.Cause.{around, HasCause, TooManyTexels, PixelsRefuses};
+ghost use Rattle.image_cache.specs.Cause.{StepCause, FetchCause};
+
+use crate::cache::Cache;
+use crate::checks::level_in;
+use crate::error::CacheError;
+use crate::pass::Pass;
+use crate::texel::{channels_of, depth_of};
+use file_table::Record;
+use pinned_tiles::CellAt;
+use std::alloc::Global;
+use tex_world::{NoMemory, Tap, World};
+use texel_values::{Area, Region, paint};
+use tile_layout::TileKey;
+use tile_store::Tile;
+use waiter::Waiter;
+
+/// What a region was read of.
+#[derive(Clone, Copy, Debug, PartialEq, Eq)]
+pub struct Pixels {
+    pub generation: u32,
+    /// The values of each texel.
+    pub channels: u32,
+}
+
+impl<T: Tap> Cache<T> {
+    /// Appends the 16-bit values of a region of a level: row by row, channels side by side, and 0
+    /// for each texel beside the level.
+    ///
+    /// Each cell that the region meets is needed once, row by row.
+    pub fn get_pixels<V: Waiter>(
+        &self,
+        waiter: &V,
+        pass: &mut Pass<T::W>,
+        tap: &mut T,
+        file: u32,
+        region: &Region,
+        out: &mut Vec<u16>,
+    ) -> Result<Pixels, CacheError<V::Busy>>
+        requires pass { IsPassOf self.now pass.old }
+        requires file { file < self.now.files.board.files }
+        requires told { IsFile T.W.files file }
+        ensures ok { IfOk result (λ pixels. KeepsGiven T.W.files file self.now.gate.cut
+            pass.old pass.new pixels.generation
+            (ReadsRegion T.W.files region.now pixels.channels pass.old pass.new)) }
+        ensures count { IfOk result (λ pixels. length out.new.items ≡ length out.old.items
+            + region.now.h * (region.now.w * pixels.channels)) }
+        ensures value { IfOk result (λ pixels. ForSome (T.W.files.held file pixels.generation)
+            (λ bytes. Appends (AreRegionValues bytes region.now) out.old.items out.new.items)) }
+        // Each refusal, with what it leaves of the output.
+        ensures cause { IfErr result (HasCause (around T.W.files file self.now.gate.cut
+            pass.old pass.new (T.state tap.old) (T.state tap.new))
+            (TooManyTexels region.now.w region.now.h) (PixelsRefuses region.now.level)) }
+        ensures too_large { max_texels < region.now.w * region.now.h
+            → result ≡ Err CacheError.RegionTooLarge }
+        ensures err { OnErr result (out.new.items ≡ out.old.items) }
+        // What the call leaves.
+        ensures latest { KeepsOne T.W.files file self.now.gate.cut pass.old pass.new }
+        ensures same { AfterCall file pass.old pass.new
+            × (pass.new.pinned.holds ≡ pass.old.pinned.holds) }
+        ensures hand { LeavesNoHand V.Busy pass.old pass.new }
+        ensures tap { NoneFalls (T.state tap.old) (T.state tap.new) }
+    {
+        if region.is_too_large() {
+            return Err(CacheError::RegionTooLarge);
+        }
+        let known = self.open(waiter, pass, tap, file)?;
+        let answer = self.pixels_of(waiter, pass, tap, &known, region, out);
+        self.keep(pass, known);
+        answer
+    }
+
+    /// The same of a record.
+    fn pixels_of<V: Waiter>(
+        &self,
+        waiter: &V,
+        pass: &mut Pass<T::W>,
+        tap: &mut T,
+        known: &Record<T::W>,
+        region: &Region,
+        out: &mut Vec<u16>,
+    ) -> Result<Pixels, CacheError<V::Busy>>
+        requires pass { IsPassOf self.now pass.old }
+        requires known { IsGivenBy T.W.files self.now known.now }
+        requires few { region.now.w * region.now.h ≤ max_texels }
+        ensures ok { IfOk result (λ pixels. (pixels.generation ≡ known.now.generation)
+            × ReadsRegion T.W.files region.now pixels.channels pass.old pass.new known.now) }
+        ensures count { IfOk result (λ pixels. length out.new.items ≡ length out.old.items
+            + region.now.h * (region.now.w * pixels.channels)) }
+        ensures value { OnOk result (ForSome (T.W.files.held known.now.file known.now.generation)
+            (λ bytes. Appends (AreRegionValues bytes region.now) out.old.items out.new.items)) }
+        ensures cause { IfErr result (StepCause T.W.files known.now pass.new.view
+            (T.state tap.old) (T.state tap.new) (PixelsRefuses region.now.level)) }
+        ensures err { OnErr result (out.new.items ≡ out.old.items) }
+        // What the call leaves.
+        ensures same { AfterNeed known.now.file pass.old pass.new }
+        ensures counts { CountsOn pass.old pass.new }
+        ensures hand { LeavesNoHand V.Busy pass.old pass.new }
+        ensures tap { NoneFalls (T.state tap.old) (T.state tap.new) }
+    {
+        pass.know();
+        let grid = level_in(known, region.level)?;
+        let area = Area::new(grid, region, channels_of(known));
+        let values = self.values_of(waiter, pass, tap, known, &area)?;
+        match append(out, &values) {
+            Ok(()) => Ok(Pixels {
+                generation: known.generation(),
+                channels: area.window.channels,
+            }),
+            Err(NoMemory) => Err(CacheError::NoMemory),
+        }
+    }
+
+    /// The values of an area.
+    fn values_of<V: Waiter>(
+        &self,
+        waiter: &V,
+        pass: &mut Pass<T::W>,
+        tap: &mut T,
+        known: &Record<T::W>,
+        area: &Area,
+    ) -> Result<Vec<u16>, CacheError<V::Busy>>
+        requires pass { IsPassOf self.now pass.old }
+        requires known { IsRecordOf T.W.files self.now known.now }
+        requires area { HasAreaAt area.now known.now }
+        requires few { area.now.window.width * area.now.height ≤ max_texels }
+        requires channels { IsChannelCount area.now.window.channels }
+        requires across { area.now.window.columns.before + area.now.window.columns.inside
+            ≤ area.now.window.width }
+        requires down { area.now.window.rows.before + area.now.window.rows.inside
+            ≤ area.now.height }
+        ensures count { IfOk result (λ values. length values.items
+            ≡ area.now.height * (area.now.window.width * area.now.window.channels)) }
+        ensures beside { IfOk result (λ values. IsZeroBeside area.now values.items) }
+        ensures value { IfOk result (λ values.
+            ForSome (T.W.files.held known.now.file known.now.generation)
+            (λ bytes. IsPainted bytes area.now values.items)) }
+        ensures needs { OnOk result (Needs T.W.files
+            (area_keys known.now area.now (area_cells area.now)) pass.old pass.new) }
+        ensures cause { IfErr result (FetchCause T.W.files known.now pass.new.view
+            (T.state tap.old) (T.state tap.new)) }
+        // What the call leaves.
+        ensures same { AfterNeed known.now.file pass.old pass.new }
+        ensures counts { CountsOn pass.old pass.new }
+        ensures hand { LeavesNoHand V.Busy pass.old pass.new }
+        ensures tap { NoneFalls (T.state tap.old) (T.state tap.new) }
+    {
+        pass.know();
+        let Ok(mut values) = zeros(self.alloc, area) else {
+            return Err(CacheError::NoMemory);
+        };
+        match self.fill(waiter, pass, tap, known, area, values.as_mut_slice()) {
+            Ok(()) => Ok(values),
+            Err(e) => Err(e),
+        }
+    }
+
+    /// Writes the values of all texels that a region has on its level.
+    fn fill<V: Waiter>(
+        &self,
+        waiter: &V,
+        pass: &mut Pass<T::W>,
+        tap: &mut T,
+        known: &Record<T::W>,
+        area: &Area,
+        values: &mut [u16],
+    ) -> Result<(), CacheError<V::Busy>>
+        requires pass { IsPassOf self.now pass.old }
+        requires known { IsRecordOf T.W.files self.now known.now }
+        requires area { HasAreaAt area.now known.now }
+        requires values { HasValues area.now.window area.now.height values.old }
+        ensures long { length values.new ≡ length values.old }
+        ensures beside { IsZeroBeside area.now values.old → IsZeroBeside area.now values.new }
+        ensures value { OnOk result (ForSome (T.W.files.held known.now.file known.now.generation)
+            (λ bytes. IsPainted bytes area.now values.new)) }
+        ensures needs { OnOk result (Needs T.W.files
+            (area_keys known.now area.now (area_cells area.now)) pass.old pass.new) }
+        ensures cause { IfErr result (FetchCause T.W.files known.now pass.new.view
+            (T.state tap.old) (T.state tap.new)) }
+        // What the call leaves.
+        ensures same { AfterNeed known.now.file pass.old pass.new }
+        ensures counts { CountsOn pass.old pass.new }
+        ensures hand { LeavesNoHand V.Busy pass.old pass.new }
+        ensures tap { NoneFalls (T.state tap.old) (T.state tap.new) }
+    {
+        pass.know();
+        'cells: for k in 0..area.cells() {
+            match self.fill_cell(waiter, pass, tap, known, area, k, values) {
+                Ok(()) => {}
+                Err(e) => return Err(e),
+            }
+        }
+        Ok(())
+    }
+
+    /// Writes the values of the texels that a region has in one of the cells that it meets, which
+    /// is needed once.
+    fn fill_cell<V: Waiter>(
+        &self,
+        waiter: &V,
+        pass: &mut Pass<T::W>,
+        tap: &mut T,
+        known: &Record<T::W>,
+        area: &Area,
+        k: u64,
+        values: &mut [u16],
+    ) -> Result<(), CacheError<V::Busy>>
+        requires pass { IsPassOf self.now pass.old }
+        requires known { IsRecordOf T.W.files self.now known.now }
+        requires area { HasAreaAt area.now known.now }
+        requires cell { k < area_cells area.now }
+        requires values { HasValues area.now.window area.now.height values.old }
+        ensures long { length values.new ≡ length values.old }
+        ensures others { KeepsOthersOn (cell_rect (shown_grid area.now.grid) (area_cell area.now k))
+            area.now.window area.now.height values.old values.new }
+        ensures value { OnOk result (ForSome (T.W.files.held known.now.file known.now.generation)
+            (λ bytes. HasValuesOn bytes area.now.level
+            (cell_rect (shown_grid area.now.grid) (area_cell area.now k))
+            area.now.window area.now.height values.new)) }
+        ensures needs { OnOk result (Needs T.W.files (key_of known.now.generation known.now.file
+            area.now.level (area_cell area.now k) ∷ []) pass.old pass.new) }
+        ensures cause { IfErr result (FetchCause T.W.files known.now pass.new.view
+            (T.state tap.old) (T.state tap.new)) }
+        // What the call leaves.
+        ensures same { AfterNeed known.now.file pass.old pass.new }
+        ensures counts { CountsOn pass.old pass.new }
+        ensures hand { LeavesNoHand V.Busy pass.old pass.new }
+        ensures tap { NoneFalls (T.state tap.old) (T.state tap.new) }
+    {
+        let cell = self.cell_of(known, area, k);
+        match self.need_counted(waiter, pass, tap, known, &cell)? {
+            Some(apart) => {
+                paint_part(&apart, known, &cell, area, values);
+                Ok(())
+            }
+            None => {
+                self.paint_local(pass, known, &cell, area, values);
+                Ok(())
+            }
+        }
+    }
+
+    /// A cell is needed, and a hit is counted where the microcache had it.
+    fn need_counted<V: Waiter>(
+        &self,
+        waiter: &V,
+        pass: &mut Pass<T::W>,
+        tap: &mut T,
+        known: &Record<T::W>,
+        cell: &CellAt,
+    ) -> Result<Option<Tile<T::W>>, CacheError<V::Busy>>
+        requires pass { IsPassOf self.now pass.old }
+        requires known { IsRecordOf T.W.files self.now known.now }
+        requires cell { IsCellOf known.now cell.now }
+        ensures apart { IfOk result (λ apart. IfSome apart (λ tile. (tile.key ≡ cell.now.key)
+            × IsTrue (is_tile_of cell.now tile))) }
+        ensures first { IfOk result (λ apart. IsNone apart →
+            IsTrue (has_cell cell.now pass.new.pinned.recent)) }
+        ensures needs { OnOk result (Needs T.W.files (cell.now.key ∷ []) pass.old pass.new) }
+        ensures cause { IfErr result (FetchCause T.W.files known.now pass.new.view
+            (T.state tap.old) (T.state tap.new)) }
+        // What the call leaves.
+        ensures same { AfterNeed known.now.file pass.old pass.new }
+        ensures counts { CountsOn pass.old pass.new }
+        ensures hand { LeavesNoHand V.Busy pass.old pass.new }
+        ensures tap { NoneFalls (T.state tap.old) (T.state tap.new) }
+    {
+        // the record's layout is that of its bytes, and a tile of the key that of its cell
+        let _known = known.generation();
+        pass.pinned.know();
+        let hit = pass.pinned.has(cell);
+        pass.count_need(hit);
+        self.need_tile(waiter, pass, tap, known, cell)
+    }
+
+    /// The k-th cell that a region meets.
+    fn cell_of(&self, known: &Record<T::W>, area: &Area, k: u64) -> CellAt
+        requires known { IsRecordOf T.W.files self.now known.now }
+        requires area { HasAreaAt area.now known.now }
+        requires cell { k < area_cells area.now }
+        ensures of { IsCellOf known.now result }
+        ensures key { result.key ≡ key_of known.now.generation known.now.file area.now.level
+            (area_cell area.now k) }
+        ensures level { level_of result.key ≡ area.now.level }
+        ensures rect { result.rect ≡ cell_rect (shown_grid area.now.grid) (area_cell area.now k) }
+        ensures right { result.rect.x + result.rect.w ≤ area.now.grid.across.size }
+        ensures bottom { result.rect.y + result.rect.h ≤ area.now.grid.down.size }
+        ensures channels { result.channels ≡ area.now.window.channels }
+    {
+        // it has no more files than a folder can have
+        let _files = self.files.board();
+        cell_met(known, area, k)
+    }
+
+    /// Writes the values of the texels that a region has in a cell of the microcache.
+    fn paint_local(
+        &self,
+        pass: &Pass<T::W>,
+        known: &Record<T::W>,
+        cell: &CellAt,
+        area: &Area,
+        values: &mut [u16],
+    )
+        requires has { IsTrue (has_cell cell.now pass.now.pinned.recent) }
+        requires cell { IsCellOf known.now cell.now }
+        requires right { cell.now.rect.x + cell.now.rect.w ≤ area.now.grid.across.size }
+        requires bottom { cell.now.rect.y + cell.now.rect.h ≤ area.now.grid.down.size }
+        requires channels { cell.now.channels ≡ area.now.window.channels }
+        requires values { HasValues area.now.window area.now.height values.old }
+        ensures long { length values.new ≡ length values.old }
+        ensures others { KeepsOthersOn cell.now.rect area.now.window area.now.height
+            values.old values.new }
+        ensures value { ForSome (T.W.files.held known.now.file known.now.generation)
+            (λ bytes. HasValuesOn bytes (level_of cell.now.key) cell.now.rect area.now.window
+            area.now.height values.new) }
+    {
+        let Some(tile) = pass.pinned.tile_of(cell) else {
+            unreachable!()
+        };
+        paint_part(tile, known, cell, area, values);
+    }
+}
+
+/// The values of an area of which no texel is written yet.
+fn zeros(alloc: Global, area: &Area) -> Result<Vec<u16>, NoMemory>
+    requires few { area.now.window.width * area.now.height ≤ max_texels }
+    requires channels { IsChannelCount area.now.window.channels }
+    ensures count { IfOk result (λ values. length values.items
+        ≡ area.now.height * (area.now.window.width * area.now.window.channels)) }
+    ensures zero { IfOk result (λ values. IsZeroBeside area.now values.items) }
+{
+    match filled(alloc, area.count()) {
+        Ok(values) => Ok(values),
+        Err(NoMemory) => Err(NoMemory),
+    }
+}
+
+/// So many values of 0.
+fn filled(alloc: Global, count: usize) -> Result<Vec<u16>, NoMemory>
+    ensures { IfOk result (λ values. values.items ≡ replicate count 0) }
+{
+    let mut values = Vec::new(alloc);
+    match values.resize(count, 0u16) {
+        Ok(()) => Ok(values),
+        Err(_) => Err(NoMemory),
+    }
+}
+
+/// Puts values behind others.
+fn append(out: &mut Vec<u16>, values: &Vec<u16>) -> Result<(), NoMemory>
+    ensures ok { OnOk result (out.new.items ≡ out.old.items ++ values.now.items) }
+    ensures err { OnErr result (out.new.items ≡ out.old.items) }
+{
+    match out.extend_from_slice(values.as_slice()) {
+        Ok(()) => Ok(()),
+        Err(_) => Err(NoMemory),
+    }
+}
+
+/// The k-th cell that a region meets.
+fn cell_met<W: World>(known: &Record<W>, area: &Area, k: u64) -> CellAt
+    requires file { known.now.file < max_files }
+    requires area { HasAreaAt area.now known.now }
+    requires cell { k < area_cells area.now }
+    ensures of { IsCellOf known.now result }
+    ensures key { result.key ≡ key_of known.now.generation known.now.file area.now.level
+        (area_cell area.now k) }
+    ensures level { level_of result.key ≡ area.now.level }
+    ensures rect { result.rect ≡ cell_rect (shown_grid area.now.grid) (area_cell area.now k) }
+    ensures right { result.rect.x + result.rect.w ≤ area.now.grid.across.size }
+    ensures bottom { result.rect.y + result.rect.h ≤ area.now.grid.down.size }
+    ensures channels { result.channels ≡ area.now.window.channels }
+{
+    // a file has few levels
+    let _grid = known.grid(area.level);
+    let index = area.cell(k);
+    CellAt {
+        key: TileKey::new(known.generation(), known.file(), area.level, index),
+        rect: area.grid.cell_rect(index),
+        channels: area.window.channels,
+    }
+}
+
+/// Writes the values of the texels that a region has in a cell, by a tile of the cell.
+fn paint_part<W: World>(
+    tile: &Tile<W>,
+    known: &Record<W>,
+    cell: &CellAt,
+    area: &Area,
+    values: &mut [u16],
+)
+    requires keyed { tile.now.key ≡ cell.now.key }
+    requires of_cell { IsTrue (is_tile_of cell.now tile.now) }
+    requires cell { IsCellOf known.now cell.now }
+    requires right { cell.now.rect.x + cell.now.rect.w ≤ area.now.grid.across.size }
+    requires bottom { cell.now.rect.y + cell.now.rect.h ≤ area.now.grid.down.size }
+    requires channels { cell.now.channels ≡ area.now.window.channels }
+    requires values { HasValues area.now.window area.now.height values.old }
+    ensures long { length values.new ≡ length values.old }
+    ensures others { KeepsOthersOn cell.now.rect area.now.window area.now.height
+        values.old values.new }
+    ensures value { ForSome (W.files.held known.now.file known.now.generation)
+        (λ bytes. HasValuesOn bytes (level_of cell.now.key) cell.now.rect area.now.window
+        area.now.height values.new) }
+{
+    paint(tile, depth_of(known), &area.window, area.height, values);
+}

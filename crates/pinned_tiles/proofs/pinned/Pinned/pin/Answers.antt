@@ -1,0 +1,35 @@
+-- There was room for one pin more.
+use Rattle.std.proofs.Common.{◌∙◌, ap, subst, map, Option, OnSome, IfSome}
+use Rattle.std.specs.Option.{option_map}
+use Rattle.shard_gate.specs.Gate.{PinState, OnePinMore, IsTileOf}
+use Rattle.pinned_tiles.specs.Pinned.{PinnedState}
+use Rattle.pinned_tiles.specs.Pinned.{tile_of_pin}
+use Rattle.pinned_tiles.proofs.PinnedLemmas.{room_for_pin, tile_pinned}
+use Rattle.pinned_tiles.proofs.pinned.Pinned.pin.Goals as goal
+
+pub pin-requires-clause-room : goal.pin-requires-clause-room
+pin-requires-clause-room g c =
+    room_for_pin g.W.World.files c.self.inside.cut
+    c.self.inside.seat c.self.inside.recent (map tile_of_pin c.self.inside.holds.items)
+    (option_map tile_of_pin c.self.inside.hand) c.self.invariant.0
+    (ap (λ (p : PinnedState). p.hand) c.self.view_is ∙ c.requires.hand)
+
+pub invariant_of-self : goal.invariant_of-self
+invariant_of-self g c = (
+  tile_pinned g.W.World.files c.self.inside.cut
+      c.self.inside.seat c.pin.new.p c.self.inside.recent
+      (map tile_of_pin c.self.inside.holds.items) (option_map tile_of_pin c.self.inside.hand)
+      c.in-Ok-Some.pin.tile c.args.key c.args.gate.now.cut c.self.invariant.0
+      (ap (λ (p : PinnedState). p.hand) c.self.view_is ∙ c.requires.hand)
+      (ap (λ (p : PinnedState). p.cut) c.self.view_is ∙ c.requires.gate.under)
+      (subst (λ (o : Option PinState). OnSome o
+      (OnePinMore c.args.key c.self.inside.seat c.pin.new.p)) c.in-Ok-Some.field-0-is
+      c.in-Ok-Some.ensures.pinned)
+      (subst (λ (o : Option PinState). IfSome o
+      (λ pin. IsTileOf g.W.World.files c.args.gate.now.cut c.args.key pin.tile))
+      c.in-Ok-Some.field-0-is c.in-Ok-Some.ensures.some),
+  c.self.invariant.1,
+)
+
+pub returns-in-Ok-Some-clause-are : goal.returns-in-Ok-Some-clause-are
+returns-in-Ok-Some-clause-are g c = (invariant_of-self g c).0

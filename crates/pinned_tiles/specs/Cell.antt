@@ -1,0 +1,22 @@
+-- When is a tile that of a cell, and when has a microcache that cell?
+use Rattle.std.specs.Prelude.{◌==◌, ◌&&◌, Bool, false, List}
+use Rattle.std.specs.List.{find}
+use Rattle.std.specs.Option.{option_map_or}
+use Rattle.tile_layout.specs.declared.rect.Rect.{Rect}
+use Rattle.tile_store.specs.Tile.{CachedTile}
+use Rattle.micro.specs.Items.{has_key}
+use Rattle.pinned_tiles.specs.declared.cell.CellAt.{CellAt}
+use Rattle.pinned_tiles.specs.Pinned.{key_in}
+
+-- two rectangles are the same
+abbrev pub is_rect : Rect → Rect → Bool
+is_rect a b = (a.x == b.x) && ((a.y == b.y) && ((a.w == b.w) && (a.h == b.h)))
+
+-- The tile has the rectangle of the cell, and its number of samples.
+abbrev pub is_tile_of : CellAt → CachedTile → Bool
+is_tile_of cell tile = is_rect tile.rect cell.rect && (tile.channels == cell.channels)
+
+-- the tile of its key, if there is one, is
+abbrev pub has_cell : CellAt → List CachedTile → Bool
+has_cell cell tiles =
+    option_map_or (is_tile_of cell) (find (has_key key_in cell.key) tiles) false

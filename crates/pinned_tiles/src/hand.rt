@@ -1,0 +1,120 @@
+//! The tile in hand: one that was pinned just now, or one whose pin is on its way back.
+ghost use Rattle.std.specs.Prelude.{◌≡◌, ◌⊎◌, ◌++◌, IsTrue, IsFalse, IsSomeAnd};
+ghost use Rattle.std.specs.Prelude.{None, OnOk, OnErr, IfOk};
+ghost use Rattle.shard_gate.specs.Gate.{HasCellRect, IsTileOf};
+ghost use Rattle.pinned_tiles.specs.Pinned.{ArePinned, PinsAt, KeepsTiles, LeavesPart};
+
+use crate::pinned::Pinned;
+use shard_gate::{Gate, NotPinned, NotUnpinned, PinError};
+use tex_world::World;
+use tile_layout::TileKey;
+use tile_store::Tile;
+use waiter::Waiter;
+
+impl<W: World> Pinned<W> {
+    /// Gives the pin of the tile in hand back. Where the waiter gives up it stays in hand.
+    pub fn release_hand<V: Waiter>(&mut self, gate: &Gate<W>, waiter: &V) -> Result<(), V::Busy>
+        requires gate { PinsAt gate.now self.old }
+        ensures ok { OnOk result (self.new.hand ≡ None) }
+        ensures err { OnErr result (self.new.hand ≡ self.old.hand) }
+        ensures part { LeavesPart self.old self.new }
+        ensures same { KeepsTiles self.old self.new }
+        ensures are { ArePinned W.files self.new }
+    {
+        let Some(pin) = self.hand.take() else {
+            return Ok(());
+        };
+        match gate.unpin(waiter, &mut self.seat, pin) {
+            Ok(()) => Ok(()),
+            Err(NotUnpinned { pin, busy }) => {
+                self.hand = Some(pin);
+                Err(busy)
+            }
+        }
+    }
+
+    /// The same, where nothing more can be done if the waiter gives up.
+    pub(crate) fn try_hand<V: Waiter>(&mut self, gate: &Gate<W>, waiter: &V)
+        requires gate { PinsAt gate.now self.old }
+        ensures hand { (self.new.hand ≡ None) ⊎ V.Busy }
+        ensures same { KeepsTiles self.old self.new }
+        ensures are { ArePinned W.files self.new }
+    {
+        let _given_back = self.release_hand(gate, waiter);
+    }
+
+    /// Pins the tile of a key, if its shard has one, and takes it in hand.
+    pub fn pin<V: Waiter>(
+        &mut self,
+        gate: &Gate<W>,
+        waiter: &V,
+        key: TileKey,
+    ) -> Result<bool, PinError<V::Busy>>
+        requires gate { PinsAt gate.now self.old }
+        requires hand { self.old.hand ≡ None }
+        ensures found { IfOk result (λ found. IsTrue found →
+            IsSomeAnd self.new.hand (IsTileOf W.files self.new.cut key)) }
+        ensures none { IfOk result (λ found. IsFalse found → self.new.hand ≡ None) }
+        ensures err { OnErr result (self.new.hand ≡ None) }
+        ensures same { KeepsTiles self.old self.new }
+        ensures are { ArePinned W.files self.new }
+    {
+        match gate.pin(waiter, &mut self.seat, key) {
+            Ok(Some(pin)) => {
+                self.hand = Some(pin);
+                Ok(true)
+            }
+            Ok(None) => Ok(false),
+            Err(e) => Err(e),
+        }
+    }
+
+    /// Keeps a tile in its shard, pinned, and takes it in hand. Where the shard has one of its key,
+    /// that one is pinned.
+    pub fn pin_new<V: Waiter>(
+        &mut self,
+        gate: &Gate<W>,
+        waiter: &V,
+        tile: Tile<W>,
+    ) -> Result<(), PinError<V::Busy>>
+        requires gate { PinsAt gate.now self.old }
+        requires hand { self.old.hand ≡ None }
+        requires cell { HasCellRect W.files self.old.cut tile }
+        ensures ok { OnOk result
+            (IsSomeAnd self.new.hand (IsTileOf W.files self.new.cut tile.key)) }
+        ensures err { OnErr result (self.new.hand ≡ None) }
+        ensures same { KeepsTiles self.old self.new }
+        ensures are { ArePinned W.files self.new }
+    {
+        match gate.pin_new(waiter, &mut self.seat, tile) {
+            Ok(pin) => {
+                self.hand = Some(pin);
+                Ok(())
+            }
+            Err(NotPinned::NoMemory) => Err(PinError::NoMemory),
+            Err(NotPinned::Busy { tile: _, busy }) => Err(PinError::Busy(busy)),
+        }
+    }
+
+    /// Pins the tile of a key, if its shard has one, and takes it in hand. A tile whose pin could
+    /// not be given back before is given back first.
+    pub fn pin_next<V: Waiter>(
+        &mut self,
+        gate: &Gate<W>,
+        waiter: &V,
+        key: TileKey,
+    ) -> Result<bool, PinError<V::Busy>>
+        requires gate { PinsAt gate.now self.old }
+        ensures found { IfOk result (λ found. IsTrue found →
+            IsSomeAnd self.new.hand (IsTileOf W.files self.new.cut key)) }
+        ensures none { IfOk result (λ found. IsFalse found → self.new.hand ≡ None) }
+        ensures err { OnErr result ((self.new.hand ≡ None) ⊎ V.Busy) }
+        ensures same { KeepsTiles self.old self.new }
+        ensures are { ArePinned W.files self.new }
+    {
+        if let Err(busy) = self.release_hand(gate, waiter) {
+            return Err(PinError::Busy(busy));
+        }
+        self.pin(gate, waiter, key)
+    }
+}

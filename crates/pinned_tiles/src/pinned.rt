@@ -1,0 +1,152 @@
+//! What a pass has pinned: the tiles of its microcache, those that it holds, and one in hand.
+ghost use Rattle.std.specs.Prelude.{◌≡◌, ◌+◌, ◌-◌, ◌<◌, ◌≤◌, [], length, vec_capacity, None};
+ghost use Rattle.std.specs.Prelude.{OnOk, OnErr, IfOk};
+ghost use Rattle.tile_store.specs.Tag.{tag_of};
+ghost use Rattle.shard_gate.specs.Given.{AtShard, Counts};
+ghost use Rattle.pinned_tiles.specs.Pinned.{max_holds, ArePinned, PinsAt, KeepsTiles};
+ghost use Rattle.pinned_tiles.specs.Pinned.{IsNewPart, IsSecondPart, KeepsAllButPermits};
+
+use crate::lately::Lately;
+use micro::Micro;
+use shard_gate::{Gate, Pin, PinSeat};
+use std::alloc::Global;
+use std::marker::Model;
+use tex_world::{NoMemory, World};
+use tile_layout::{Cut, ShardCount};
+use waiter::Waiter;
+
+/// The tiles that a pass may hold.
+pub const MAX_HOLDS: usize = 4;
+
+/// What a pass has pinned.
+///
+/// A tile that is pinned is in hand first, and goes from there into the microcache or to the holds.
+/// A tile that leaves is in hand until its pin was given back: where the waiter gives up it stays
+/// there, and the next call that pins gives it back first.
+#[derive(Drop)]
+pub struct Pinned<W: World> {
+    pub(crate) seat: PinSeat<W>,
+    pub(crate) cut: Cut,
+    pub(crate) recent: Micro<Lately<W>>,
+    pub(crate) holds: Vec<Pin<W>>,
+    pub(crate) hand: Option<Pin<W>>,
+}
+
+impl<W: World> Model for Pinned<W> {
+    ghost use Rattle.std.specs.Prelude.{◌≤◌, map, vec_capacity};
+    ghost use Rattle.std.specs.Option.{option_map};
+    ghost use Rattle.pinned_tiles.specs.Pinned.{PinnedState, max_holds};
+    ghost use Rattle.pinned_tiles.specs.Pinned.{pinned_state, ArePinned};
+
+    ghost Value = { PinnedState };
+
+    ghost view = { λ p. pinned_state p.seat p.cut p.recent p.holds.items p.hand };
+
+    ghost invariant = { λ p.
+        ArePinned W.files (pinned_state p.seat p.cut p.recent p.holds.items p.hand)
+        × (max_holds ≤ vec_capacity p.holds) };
+}
+
+/// Room for the tiles that a pass holds.
+fn room_for_holds<W: World>(alloc: Global) -> Result<Vec<Pin<W>>, NoMemory>
+    ensures empty { IfOk result (λ holds. holds.items ≡ []) }
+    ensures room { IfOk result (λ holds. max_holds ≤ vec_capacity holds) }
+{
+    match Vec::with_capacity(alloc, MAX_HOLDS) {
+        Ok(holds) => Ok(holds),
+        Err(_) => Err(NoMemory),
+    }
+}
+
+impl<W: World> Pinned<W> {
+    /// What a new pass has pinned: nothing. There is room for the tiles that it will hold.
+    pub fn new(alloc: Global, seat: PinSeat<W>, cut: Cut) -> Result<Pinned<W>, NoMemory>
+        requires pins { seat.pins ≡ [] }
+        requires permits { 1 ≤ seat.permits }
+        ensures { IfOk result (IsNewPart seat cut) }
+    {
+        let holds = room_for_holds(alloc)?;
+        Ok(Pinned::of(seat, cut, holds))
+    }
+
+    /// The same with that room.
+    fn of(seat: PinSeat<W>, cut: Cut, holds: Vec<Pin<W>>) -> Pinned<W>
+        requires pins { seat.pins ≡ [] }
+        requires permits { 1 ≤ seat.permits }
+        requires empty { holds.items ≡ [] }
+        requires room { max_holds ≤ vec_capacity holds }
+        ensures { IsNewPart seat cut result }
+    {
+        Pinned {
+            seat,
+            cut,
+            recent: Micro::new(),
+            holds,
+            hand: None,
+        }
+    }
+
+    /// Its pins are those of its tiles. It does nothing.
+    pub fn know(&self)
+        ensures { ArePinned W.files self.now }
+    {
+        let _permits = self.seat.permits();
+    }
+
+    /// The permits of its seat.
+    pub fn permits(&self) -> u32
+        ensures value { result ≡ self.now.seat.permits }
+        ensures some { 1 ≤ result }
+    {
+        self.seat.permits()
+    }
+
+    /// What a shard has.
+    pub fn count<V: Waiter>(
+        &mut self,
+        gate: &Gate<W>,
+        waiter: &V,
+        shard: u32,
+    ) -> Result<ShardCount, V::Busy>
+        requires gate { PinsAt gate.now self.old }
+        requires shard { shard < length gate.now.id }
+        ensures lawful { IfOk result (λ count. AtShard shard
+            (Counts W.files (tag_of gate.now.share gate.now.cut) count)
+            self.old.seat.visits self.new.seat.visits) }
+        ensures share { IfOk result (λ count. count.share ≡ gate.now.share) }
+        ensures within { IfOk result (λ count. count.loose ≤ count.share) }
+        ensures hand { self.new.hand ≡ self.old.hand }
+        ensures same { KeepsTiles self.old self.new }
+        ensures are { ArePinned W.files self.new }
+    {
+        gate.count(waiter, &mut self.seat, shard)
+    }
+
+    /// What a second pass has pinned: nothing. It has one permit of the seat.
+    pub fn split(&mut self, alloc: Global, gate: &Gate<W>) -> Result<Pinned<W>, NoMemory>
+        requires gate { PinsAt gate.now self.old }
+        requires permits { 1 < self.old.seat.permits }
+        ensures ok { IfOk result (IsSecondPart self.old) }
+        ensures permits { OnOk result (self.new.seat.permits ≡ self.old.seat.permits - 1) }
+        ensures err { OnErr result (self.new.seat.permits ≡ self.old.seat.permits) }
+        ensures same { KeepsAllButPermits self.old self.new }
+        ensures are { ArePinned W.files self.new }
+    {
+        self.know();
+        let holds = room_for_holds(alloc)?;
+        let seat = gate.split(&mut self.seat)?;
+        Ok(Pinned::of(seat, self.cut, holds))
+    }
+
+    /// It gets the permits of another pass, which has pinned nothing and ends.
+    pub fn join(&mut self, gate: &Gate<W>, other: Pinned<W>)
+        requires gate { PinsAt gate.now self.old }
+        requires other { other.seat.gate ≡ gate.now.id }
+        requires none { other.seat.pins ≡ [] }
+        ensures permits { self.new.seat.permits ≡ self.old.seat.permits + other.seat.permits }
+        ensures same { KeepsAllButPermits self.old self.new }
+        ensures are { ArePinned W.files self.new }
+    {
+        gate.join(&mut self.seat, other.seat);
+    }
+}

@@ -1,0 +1,126 @@
+//! The microcache: the two tiles that a pass read last.
+ghost use Rattle.std.specs.Prelude.{◌≡◌, ◌⊎◌, ◌↔◌, ◌+◌, [], length, true, false, None};
+ghost use Rattle.std.specs.Prelude.{IsTrue, IsFalse, IsSome, IsSomeAnd, IfSome, OnOk};
+ghost use Rattle.micro.specs.Items.{HasKey};
+ghost use Rattle.micro.specs.Runs.{IsAsked};
+ghost use Rattle.tile_store.specs.Lawful.{FitsCut};
+ghost use Rattle.pinned_tiles.specs.Pinned.{key_in, ArePinned, PinsAt, KeepsHolds, AsksFor};
+ghost use Rattle.pinned_tiles.specs.Pinned.{LeavesPart, tiles_in};
+ghost use Rattle.pinned_tiles.specs.Cell.{is_tile_of, has_cell};
+
+use crate::cell::{CellAt, is_tile_of};
+use crate::lately::Lately;
+use crate::pinned::Pinned;
+use shard_gate::Gate;
+use tex_world::World;
+use tile_layout::TileKey;
+use tile_store::Tile;
+use waiter::Waiter;
+
+impl<W: World> Pinned<W> {
+    /// Whether the microcache has a tile of the key. It then stands first.
+    pub fn find(&mut self, key: TileKey) -> bool
+        ensures some { IsTrue result → IsAsked key_in self.old.recent key true self.new.recent }
+        ensures none { IsFalse result →
+            (¬ HasKey key_in key self.old.recent) × (self.new.recent ≡ self.old.recent) }
+        ensures latest { IsTrue result → AsksFor key self.old.recent self.new.recent }
+        ensures hand { self.new.hand ≡ self.old.hand }
+        ensures same { KeepsHolds self.old self.new }
+        ensures are { ArePinned W.files self.new }
+    {
+        self.recent.find(key)
+    }
+
+    /// The tile of the microcache that is that of the cell.
+    pub fn tile_of(&self, cell: &CellAt) -> Option<&Tile<W>>
+        ensures some { IsSome result ↔ IsTrue (has_cell cell.now self.now.recent) }
+        ensures has { IsSome result → HasKey key_in cell.now.key self.now.recent }
+        ensures keyed { IfSome result (λ tile. tile.now.key ≡ cell.now.key) }
+        ensures of_cell { IfSome result (λ tile. IsTrue (is_tile_of cell.now tile.now)) }
+        ensures fits { IfSome result (λ tile. FitsCut W.files self.now.cut tile.now) }
+    {
+        match self.recent.peek(cell.key) {
+            Some(lately) if is_tile_of(lately.tile(), cell) => Some(lately.tile()),
+            _ => None,
+        }
+    }
+
+    /// Whether the microcache has a tile that is that of the cell.
+    pub fn has(&self, cell: &CellAt) -> bool
+        ensures { result ≡ has_cell cell.now self.now.recent }
+    {
+        self.tile_of(cell).is_some()
+    }
+
+    /// Puts the tile in hand, which has this key, first in the microcache. Of two that were there
+    /// the second leaves.
+    pub fn place<V: Waiter>(&mut self, gate: &Gate<W>, waiter: &V, key: TileKey)
+        requires gate { PinsAt gate.now self.old }
+        requires hand { IsSomeAnd self.old.hand (λ t. t.key ≡ key) }
+        requires absent { ¬ HasKey key_in key self.old.recent }
+        ensures asked { IsAsked key_in self.old.recent key false self.new.recent }
+        ensures latest { AsksFor key self.old.recent self.new.recent }
+        ensures hand { (self.new.hand ≡ None) ⊎ V.Busy }
+        ensures same { KeepsHolds self.old self.new }
+        ensures are { ArePinned W.files self.new }
+    {
+        self.move_in(key);
+        // where the waiter gives up it stays in hand
+        self.try_hand(gate, waiter);
+    }
+
+    /// The same; the tile that leaves is then in hand.
+    fn move_in(&mut self, key: TileKey)
+        requires hand { IsSomeAnd self.old.hand (λ t. t.key ≡ key) }
+        requires absent { ¬ HasKey key_in key self.old.recent }
+        ensures asked { IsAsked key_in self.old.recent key false self.new.recent }
+        ensures latest { AsksFor key self.old.recent self.new.recent }
+        ensures seat { self.new.seat ≡ self.old.seat }
+        ensures same { KeepsHolds self.old self.new }
+    {
+        let Some(pin) = self.hand.take() else {
+            unreachable!()
+        };
+        if let Some(left) = self.recent.place(Lately { pin }) {
+            self.hand = Some(left.into_pin());
+        }
+    }
+
+    /// The pins of the microcache, and that of the tile in hand, are given back.
+    pub fn release_recent<V: Waiter>(&mut self, gate: &Gate<W>, waiter: &V) -> Result<(), V::Busy>
+        requires gate { PinsAt gate.now self.old }
+        ensures hand { OnOk result (self.new.hand ≡ None) }
+        ensures recent { OnOk result (self.new.recent ≡ []) }
+        ensures part { LeavesPart self.old self.new }
+        ensures same { KeepsHolds self.old self.new }
+        ensures are { ArePinned W.files self.new }
+    {
+        if let Err(busy) = self.release_hand(gate, waiter) {
+            return Err(busy);
+        }
+        'tiles: while self.take_recent() {
+            if let Err(busy) = self.release_hand(gate, waiter) {
+                return Err(busy);
+            }
+        }
+        Ok(())
+    }
+
+    /// Takes the last tile of the microcache in hand, if there is one.
+    fn take_recent(&mut self) -> bool
+        requires hand { self.old.hand ≡ None }
+        ensures some { IsTrue result → length self.old.recent ≡ length self.new.recent + 1 }
+        ensures none { IsFalse result → (self.new.recent ≡ []) × (self.new.hand ≡ None) }
+        ensures tiles { tiles_in self.new ≡ tiles_in self.old }
+        ensures same { KeepsHolds self.old self.new }
+        ensures are { ArePinned W.files self.new }
+    {
+        match self.recent.take_last() {
+            Some(last) => {
+                self.hand = Some(last.into_pin());
+                true
+            }
+            None => false,
+        }
+    }
+}

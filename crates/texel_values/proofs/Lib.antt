@@ -1,0 +1,3 @@
+mod ValueLemmas
+pub mod PlaceLemmas
+pub mod AreaLemmas

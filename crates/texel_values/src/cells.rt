@@ -1,0 +1,75 @@
+//! The cells that a region meets.
+ghost use Rattle.std.specs.Prelude.{◌≡◌, ◌+◌, ◌*◌, ◌<◌, ◌≤◌};
+ghost use Rattle.tile_layout.specs.Cell.{cell_count};
+ghost use Rattle.tile_layout.specs.Grid.{shown_grid};
+ghost use Rattle.tiff_dirs.specs.Facts.{IsChannelCount};
+ghost use Rattle.texel_values.specs.Region.{max_texels};
+ghost use Rattle.texel_values.specs.Met.{cells_met};
+ghost use Rattle.texel_values.specs.Area.{IsAreaOf, area_cell, area_cells};
+
+use crate::area::Area;
+use crate::overlap::Overlap;
+use crate::region::Region;
+use crate::window::Window;
+use tile_layout::{CutSide, Grid};
+
+/// How many cells of a side the places on it meet.
+fn met(side: &CutSide, over: &Overlap) -> u32
+    requires { over.now.first + over.now.inside ≤ side.now.size }
+    ensures { result ≡ cells_met side.now.cell over.now.first over.now.inside }
+{
+    if over.inside == 0 {
+        return 0;
+    }
+    (over.first + over.inside - 1) / side.cell - over.first / side.cell + 1
+}
+
+impl Area {
+    /// The area of a region of a level, with so many values of a texel.
+    pub fn new(grid: Grid, region: &Region, channels: u32) -> Area
+        ensures { IsAreaOf (shown_grid grid) region.now channels result }
+    {
+        let window = Window {
+            columns: Overlap::new(region.x, region.w, grid.across.size),
+            rows: Overlap::new(region.y, region.h, grid.down.size),
+            width: region.w,
+            channels,
+        };
+        Area {
+            level: region.level,
+            grid,
+            window,
+            height: region.h,
+            across: met(&grid.across, &window.columns),
+            down: met(&grid.down, &window.rows),
+        }
+    }
+
+    /// The values of all its texels.
+    pub fn count(&self) -> usize
+        requires few { self.now.window.width * self.now.height ≤ max_texels }
+        requires channels { IsChannelCount self.now.window.channels }
+        ensures { result ≡ self.now.height * (self.now.window.width * self.now.window.channels) }
+    {
+        self.height as usize * (self.window.width as usize * self.window.channels as usize)
+    }
+
+    /// How many cells it meets.
+    pub fn cells(&self) -> u64
+        ensures { result ≡ area_cells self.now }
+    {
+        u64::from(self.down) * u64::from(self.across)
+    }
+
+    /// The number of the k-th of them in its level, row by row.
+    pub fn cell(&self, k: u64) -> u32
+        requires { k < area_cells self.now }
+        ensures value { result ≡ area_cell self.now k }
+        ensures in_range { result < cell_count (shown_grid self.now.grid) }
+    {
+        let (across, grid) = (u64::from(self.across), &self.grid);
+        let row = self.window.rows.first / grid.down.cell + (k / across) as u32;
+        let column = self.window.columns.first / grid.across.cell + (k % across) as u32;
+        row * grid.across.cells + column
+    }
+}

@@ -1,0 +1,89 @@
+//! The texels of a tile, written to the values of a region.
+ghost use Rattle.std.specs.Prelude.{◌≡◌, ◌⊎◌, ℕ, ◌+◌, ◌*◌, ◌<◌, ◌≤◌, ◌^◌, length, slice_index};
+ghost use Rattle.tile_store.specs.Tile.{AreSamples};
+ghost use Rattle.tile_layout.specs.Pieces.{LiesOn};
+ghost use Rattle.texel_values.specs.Values.{kept_value};
+ghost use Rattle.texel_values.specs.Window.{HasValues, Paints, PaintsTold};
+
+use crate::values::value_of;
+use crate::window::Window;
+use tex_world::World;
+use tile_store::Tile;
+
+/// Writes those texels of a tile that a region has to their places among its values, row by row,
+/// channels side by side.
+pub fn paint<W: World>(tile: &Tile<W>, depth: u32, window: &Window, height: u32, values: &mut [u16])
+    requires values { HasValues window.now height values.old }
+    requires channels { tile.now.channels ≡ window.now.channels }
+    requires right { tile.now.rect.x + tile.now.rect.w < 2 ^ 32 }
+    requires bottom { tile.now.rect.y + tile.now.rect.h < 2 ^ 32 }
+    requires columns { window.now.columns.first + window.now.columns.inside < 2 ^ 32 }
+    requires rows { window.now.rows.first + window.now.rows.inside < 2 ^ 32 }
+    ensures long { length values.new ≡ length values.old }
+    ensures paints { Paints tile.now depth window.now height values.old values.new }
+    ensures told { PaintsTold W.files tile.now depth window.now height values.new }
+{
+    // its key tells that it has the samples of its file
+    let _key = tile.key();
+    paint_tile(tile, depth, window, height, values);
+}
+
+/// The same, of whatever the tile has.
+fn paint_tile<W: World>(
+    tile: &Tile<W>,
+    depth: u32,
+    window: &Window,
+    height: u32,
+    values: &mut [u16],
+)
+    requires values { HasValues window.now height values.old }
+    requires channels { tile.now.channels ≡ window.now.channels }
+    requires right { tile.now.rect.x + tile.now.rect.w < 2 ^ 32 }
+    requires bottom { tile.now.rect.y + tile.now.rect.h < 2 ^ 32 }
+    requires columns { window.now.columns.first + window.now.columns.inside < 2 ^ 32 }
+    requires rows { window.now.rows.first + window.now.rows.inside < 2 ^ 32 }
+    ensures long { length values.new ≡ length values.old }
+    ensures paints { Paints tile.now depth window.now height values.old values.new }
+{
+    // no place among them is beyond their number
+    let _count = values.len();
+    let rect = tile.rect();
+    let (columns, rows) = (&window.columns, &window.rows);
+    let left = rect.x.max(columns.first);
+    let right = (rect.x + rect.w).min(columns.first + columns.inside);
+    let top = rect.y.max(rows.first);
+    let bottom = (rect.y + rect.h).min(rows.first + rows.inside);
+    if left >= right {
+        return;
+    }
+    let row = window.width as usize * window.channels as usize;
+    let from = (columns.before + (left - columns.first)) as usize * window.channels as usize;
+    for y in top..bottom {
+        let start = (rows.before + (y - rows.first)) as usize * row;
+        paint_row(tile.row(left, y, right - left), depth, start + from, values);
+    }
+}
+
+/// Writes the values of samples to places side by side, from one on.
+fn paint_row(samples: &[u16], depth: u32, from: usize, values: &mut [u16])
+    requires { from + length samples.now ≤ length values.old }
+    ensures long { length values.new ≡ length values.old }
+    ensures written { (k : ℕ) → k < length samples.now
+        → slice_index values.new (from + k) ≡ kept_value depth (slice_index samples.now k) }
+    ensures others { (k : ℕ) → (k < from) ⊎ (from + length samples.now ≤ k)
+        → slice_index values.new k ≡ slice_index values.old k }
+{
+    write_samples(samples, depth, &mut values[from..from + samples.len()]);
+}
+
+/// Writes the values of as many samples.
+fn write_samples(samples: &[u16], depth: u32, out: &mut [u16])
+    requires { length samples.now ≡ length out.old }
+    ensures long { length out.new ≡ length out.old }
+    ensures values { (k : ℕ) → k < length out.new
+        → slice_index out.new k ≡ kept_value depth (slice_index samples.now k) }
+{
+    for k in 0..out.len() {
+        out[k] = value_of(depth, samples[k]);
+    }
+}
