@@ -1,0 +1,106 @@
+-- What do the fetches of a lookup from the microcache leave, one after another?
+use Rattle.std.proofs.Common.{◌≡◌, ◌≤◌, refl, sym, ap, subst, ◌∙◌, inl, inr, List, [], ◌∷◌}
+use Rattle.std.proofs.Common.{length, Result, Ok, Err}
+use Rattle.std.specs.Prelude.{◌↔◌, IsTrue, is_ok}
+use Rattle.std.proofs.lemmas.List.Elements.{All-nil, All-cons, All-head, All-tail}
+use Rattle.file_table.specs.Record.{RecordState}
+use Rattle.texel_filter.specs.Image.{Texel}
+use Rattle.texel_filter.specs.Calls.{EachAnswered, OneRefused, LeftBy}
+use Rattle.image_cache.specs.Pass.{PassState, max_count}
+use Rattle.image_cache.specs.Call.{KeepsAllButRecent}
+use Rattle.texture_sys.specs.Needs.{HasCell, HasCells, AsksForEach, AsksForCells}
+use Rattle.texture_sys.specs.Fetches.{FindsCell, FetchesKept, Lacks}
+use Rattle.texture_sys.proofs.Chains.{still_there, each_needs}
+
+recent_none : (p q : PassState) → length p.pinned.recent ≤ 2 → q ≡ p → KeepsAllButRecent p q
+recent_none p q few is = subst (λ (x : PassState). KeepsAllButRecent p x) (sym is) (record {
+  place = record { board = refl; gate = refl; cut = refl; permits = refl };
+  view = refl;
+  few = few;
+  holds = refl;
+  hand = refl;
+  latest = refl;
+})
+
+recent_chain : (a b c : PassState) → KeepsAllButRecent a b → KeepsAllButRecent b c
+    → KeepsAllButRecent a c
+recent_chain a b c p q = record {
+  place = record {
+    board = q.place.board ∙ p.place.board;
+    gate = q.place.gate ∙ p.place.gate;
+    cut = q.place.cut ∙ p.place.cut;
+    permits = q.place.permits ∙ p.place.permits;
+  };
+  view = q.view ∙ p.view;
+  few = q.few;
+  holds = q.holds ∙ p.holds;
+  hand = q.hand ∙ p.hand;
+  latest = q.latest ∙ p.latest;
+}
+
+module _ (state : RecordState) where
+  -- ---- texels
+
+  pub kept_leaves : (texels : List Texel) (p q : PassState) → length p.pinned.recent ≤ 2
+      → EachAnswered (FetchesKept state) p texels q → KeepsAllButRecent p q
+  kept_leaves [] p q few is = recent_none p q few is
+  kept_leaves (t ∷ texels) p q few (mid, first, rest) =
+      recent_chain p mid q first.pass (kept_leaves texels mid q first.pass.few rest)
+
+  kept_each : (texels : List Texel) (p q : PassState) → EachAnswered (FetchesKept state) p texels q
+      → AsksForEach state texels p q
+  kept_each [] p q is = (
+    record {
+      needs = ap (λ (x : PassState). x.needs) is;
+      hits = ap (λ (x : PassState). x.hits) is;
+    },
+    ap (λ (x : PassState). x.pinned.recent) is,
+  )
+  kept_each (t ∷ texels) p q (mid, first, rest) = (mid, first.asks, kept_each texels mid q rest)
+
+  pub kept_asks : (texels : List Texel) (p q : PassState) → p.needs ≤ max_count
+      → EachAnswered (FetchesKept state) p texels q → AsksForCells state texels p q
+  kept_asks texels p q high each =
+      let asks = kept_each texels p q each in
+      record { each = asks; needs = each_needs state texels p q high asks }
+
+  -- ---- cells
+
+  cells_each : (texels : List Texel) (p q : PassState) → EachAnswered (FindsCell state) p texels q
+      → HasCells state p.pinned.recent texels
+  cells_each [] p q is = All-nil (HasCell state p.pinned.recent)
+  cells_each (t ∷ texels) p q (mid, first, rest) =
+      All-cons (HasCell state p.pinned.recent) t texels first.has
+      (subst (λ (x : PassState). HasCells state x.pinned.recent texels) first.same
+      (cells_each texels mid q rest))
+
+  module _ {E : Type 0} where
+    -- none is refused where the microcache has all cells
+    pub kept_none : (texels : List Texel) (p q : PassState) (e : E)
+        → HasCells state p.pinned.recent texels
+        → OneRefused (FetchesKept state) (Lacks state) p texels e q → ⊥
+    kept_none [] p q e has none = none
+    kept_none (t ∷ texels) p q e has (inl is) =
+        cc (All-head (HasCell state p.pinned.recent) t texels has, is.lacks)
+    kept_none (t ∷ texels) p q e has (inr (mid, first, rest)) =
+        kept_none texels mid q e (still_there state t texels p.pinned.recent mid.pinned.recent
+        first.moved (All-tail (HasCell state p.pinned.recent) t texels has)) rest
+
+    cells_none : (texels : List Texel) (p q : PassState) (e : E)
+        → HasCells state p.pinned.recent texels
+        → OneRefused (FindsCell state) (Lacks state) p texels e q → ⊥
+    cells_none [] p q e has none = none
+    cells_none (t ∷ texels) p q e has (inl is) =
+        cc (All-head (HasCell state p.pinned.recent) t texels has, is.lacks)
+    cells_none (t ∷ texels) p q e has (inr (mid, first, rest)) =
+        cells_none texels mid q e
+        (subst (λ (x : PassState). HasCells state x.pinned.recent texels) (sym first.same)
+        (All-tail (HasCell state p.pinned.recent) t texels has)) rest
+
+    -- All are found exactly where the microcache has them.
+    pub cells_left : (texels : List Texel) (p q : PassState) (result : Result (Unit {0}) E)
+        → LeftBy (FindsCell state) (Lacks state) p texels q result
+        → IsTrue (is_ok result) ↔ HasCells state p.pinned.recent texels
+    cells_left texels p q (Ok done) left = (λ is. cells_each texels p q left, λ has. refl)
+    cells_left texels p q (Err e) left =
+        (λ is. absurd (cc), λ has. absurd (cells_none texels p q e has left))

@@ -1,0 +1,10 @@
+mod MovedCells
+mod Lent
+mod Stays
+mod Chains
+mod KeptChains
+mod LookLemmas
+mod Asked
+mod TextureLemmas
+mod KeptRecord
+mod Warm

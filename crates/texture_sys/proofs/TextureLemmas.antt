@@ -1,0 +1,91 @@
+-- A lookup on the record that was found: what it answers, and why it is refused.
+use Rattle.std.proofs.Common.{◌≡◌, ℕ, ◌≤◌, sym, ap, subst, ◌∙◌, arith, List}
+use Rattle.std.proofs.Common.{Some, Result, Ok, Err, slice_index}
+use Rattle.std.specs.Prelude.{IfOk, OnOk}
+use Rattle.std.specs.Option.{ForSome}
+use Rattle.tex_world.specs.World.{Files, IsReal}
+use Rattle.tex_world.specs.Tap.{TapState}
+use Rattle.gen_board.specs.View.{ViewState}
+use Rattle.tile_layout.specs.declared.cut.Cut.{Cut}
+use Rattle.tile_layout.specs.Kept.{kept_of}
+use Rattle.tile_layout.specs.Cell.{CellsFit}
+use Rattle.file_table.specs.Record.{RecordState}
+use Rattle.file_table.specs.Calls.{sighted, GivesRecord, KeepsView}
+use Rattle.texel_filter.specs.declared.request.TexRequest.{TexRequest}
+use Rattle.image_cache.specs.declared.error.CacheError.{CacheError}
+use Rattle.image_cache.specs.declared.error.CacheError.TheVariants as refused
+use Rattle.image_cache.specs.Call.{NoneFalls}
+use Rattle.image_cache.proofs.TexelLemmas.{cause_since}
+use Rattle.texture_sys.specs.Call.{IsOfGeneration, IsLookOn, Answers, TextureCause}
+use Rattle.texture_sys.specs.Steps.{LookCause}
+use Rattle.texture_sys.proofs.LookLemmas.{good_layout, bad_layout}
+
+module _ (files : Files) (file : ℕ) (cut : Cut) (old mid new : ViewState) (k : RecordState)
+    (given : GivesRecord files file cut old mid k) (view : KeepsView k.file mid new) where
+  pub of_generation : (g : ℕ) → g ≡ k.generation → IsOfGeneration files file old new g
+  of_generation g is = subst (λ (n : ℕ). IsOfGeneration files file old new n) (sym is) (record {
+    real = subst (λ (n : ℕ). IsReal files n k.generation) given.of_file given.honest.real;
+    new_enough = given.new_enough;
+    seen = omega (arith, given.seen, view.later file);
+  })
+
+  pub given_later : GivesRecord files file cut old new k
+  given_later = record {
+    of_file = given.of_file;
+    under = given.under;
+    honest = given.honest;
+    new_enough = given.new_enough;
+    seen = omega (arith, given.seen, view.later file);
+  }
+
+  held_as : (g : ℕ) (bytes : List ℕ) → g ≡ k.generation → files.held file g ≡ Some bytes
+      → files.held k.file k.generation ≡ Some bytes
+  held_as g bytes is held = ap (λ (n : ℕ). files.held n k.generation) given.of_file
+      ∙ (ap (λ (n : ℕ). files.held file n) (sym is) ∙ held)
+
+  pub texture_value : {E : Type 0} (r : TexRequest) (out : List ℕ) (result : Result ℕ E)
+      → IfOk result (λ g. g ≡ k.generation)
+      → ForSome (files.held k.file k.generation) (λ bytes. OnOk result (IsLookOn k.cut bytes r out))
+      → IfOk result (Answers files file cut r old new out)
+  texture_value r out (Ok g) is value = record {
+    of = of_generation g is;
+    value = λ bytes held. subst (λ (c : Cut). IsLookOn c bytes r out) given.under
+        (value bytes (held_as g bytes is held));
+  }
+  texture_value r out (Err e) is value = tt
+
+  pub texture_cause : {B : Type 0} (tap_old tap_mid tap_new : TapState) (e : CacheError B)
+      → NoneFalls tap_old tap_mid → LookCause files k new tap_mid tap_new e
+      → TextureCause files file cut (sighted old tap_old) (sighted new tap_new) e
+  texture_cause tap_old tap_mid tap_new (refused.BadFile g fault) falls (is, bad) = (
+    of_generation g is,
+    λ bytes held. bad_layout bytes k.layout fault
+        (given.honest.layout bytes (held_as g bytes is held)) bad,
+  )
+  texture_cause tap_old tap_mid tap_new (refused.TileTooLarge g) falls (is, unfit) = (
+    of_generation g is,
+    λ bytes held.
+        let good = good_layout bytes k.layout (λ kept. ¬ CellsFit kept k.cut)
+        (given.honest.layout bytes (held_as g bytes is held)) unfit in
+        (good.0, subst (λ (c : Cut). ¬ CellsFit (kept_of bytes) c) given.under good.2),
+  )
+  texture_cause tap_old tap_mid tap_new (refused.Again from to) falls met =
+      let since = cause_since {B = Unit {0}} files k new tap_old tap_mid tap_new
+      (refused.Again from to) falls met in (
+        record {
+          from_real = subst (λ (n : ℕ). IsReal files n from) given.of_file since.from_real;
+          to_real = subst (λ (n : ℕ). IsReal files n to) given.of_file since.to_real;
+          new_enough = omega (arith, given.new_enough, since.from_is);
+          newer = since.newer;
+          moves = since.moves;
+        },
+        subst (λ (n : ℕ). to ≤ slice_index new.seen n) given.of_file since.seen,
+      )
+  texture_cause tap_old tap_mid tap_new refused.ReadFault falls rises =
+      cause_since {B = Unit {0}} files k new tap_old tap_mid tap_new refused.ReadFault falls rises
+  texture_cause tap_old tap_mid tap_new refused.NoMemory falls free = tt
+  texture_cause tap_old tap_mid tap_new (refused.Busy b) falls free = tt
+  texture_cause tap_old tap_mid tap_new (refused.NoLevel g levels) falls none = none
+  texture_cause tap_old tap_mid tap_new (refused.Outside g) falls none = none
+  texture_cause tap_old tap_mid tap_new refused.RegionTooLarge falls none = none
+  texture_cause tap_old tap_mid tap_new refused.HoldsFull falls none = none

@@ -1,0 +1,71 @@
+-- Four calls of `texel`, one after another.
+use Rattle.std.proofs.Common.{ap, arith, ◌∙◌, inl, inr, refl}
+use Rattle.std.proofs.lemmas.Result.{err_from_is_err_and}
+use Rattle.texel_filter.proofs.CallLemmas.{first_of_part, on_ok}
+use Rattle.texture_sys.specs.Fetches.{values_known}
+use Rattle.texture_sys.proofs.LookLemmas.{by_result}
+use Rattle.texture_sys.proofs.kept.KeptTexelsFetch.square.Goals as goal
+
+pub returns-in_err-texel-2-clause-left : goal.returns-in_err-texel-2-clause-left
+returns-in_err-texel-2-clause-left g c =
+    let p = err_from_is_err_and c.from_residual-in_err-texel-2.result
+    c.from_residual-in_err-texel-2.ensures.1 in
+    rw (p.1, p.2)
+    (inr (c.texel.new.self, c.in_ok-texel.ensures.ok, inl c.in_err-texel-2.ensures.err))
+
+pub returns-in_err-texel-3-clause-left : goal.returns-in_err-texel-3-clause-left
+returns-in_err-texel-3-clause-left g c =
+    let p = err_from_is_err_and c.from_residual-in_err-texel-3.result
+    c.from_residual-in_err-texel-3.ensures.1 in
+    rw (p.1, p.2)
+    (inr (
+      c.texel.new.self,
+      c.in_ok-texel.ensures.ok,
+      inr (c.texel-2.new.self, c.in_ok-texel-2.ensures.ok, inl c.in_err-texel-3.ensures.err),
+    ))
+
+pub returns-clause-left : goal.returns-clause-left
+returns-clause-left g c = by_result c.texel-4.result
+    (λ done is. rw is (
+      c.texel.new.self,
+      c.in_ok-texel.ensures.ok,
+      (
+        c.texel-2.new.self,
+        c.in_ok-texel-2.ensures.ok,
+        (
+          c.texel-3.new.self,
+          c.in_ok-texel-3.ensures.ok,
+          (c.texel-4.new.self, rw is at c.texel-4.ensures.ok, refl),
+        ),
+      ),
+    ))
+    (λ e is. rw is (inr (
+      c.texel.new.self,
+      c.in_ok-texel.ensures.ok,
+      inr (
+        c.texel-2.new.self,
+        c.in_ok-texel-2.ensures.ok,
+        inr (
+          c.texel-3.new.self,
+          c.in_ok-texel-3.ensures.ok,
+          inl (rw is at c.texel-4.ensures.err),
+        ),
+      ),
+    )))
+
+pub returns-clause-told : goal.returns-clause-told
+returns-clause-told g c = λ values is.
+    let files = g.T.W.World.files in
+    let k1 = ap (values_known files) c.in_ok-texel.ensures.ok.1 ∙ is in
+    let k2 = ap (values_known files) c.in_ok-texel-2.ensures.ok.1 ∙ k1 in
+    let k3 = ap (values_known files) c.in_ok-texel-3.ensures.ok.1 ∙ k2 in
+    let h1 = c.in_ok-texel.ensures.told values is in
+    let h2 = c.in_ok-texel-2.ensures.told values k1 in
+    let h3 = c.in_ok-texel-3.ensures.told values k2 in
+    let h4 = c.texel-4.ensures.told values k3 in
+    on_ok c.texel-4.result h4 (λ last. record {
+      left_top = first_of_part _ c.texel.new.out _ c.args.channels (omega arith) h1;
+      right_top = first_of_part _ c.texel-2.new.out _ c.args.channels (omega arith) h2;
+      left_bottom = first_of_part _ c.texel-3.new.out _ c.args.channels (omega arith) h3;
+      right_bottom = first_of_part _ c.texel-4.new.out _ c.args.channels (omega arith) last;
+    })

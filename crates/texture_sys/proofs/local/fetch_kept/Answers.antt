@@ -1,0 +1,14 @@
+-- The fetch gives back what it was lent.
+use Rattle.std.proofs.Common.{◌≡◌, rules}
+use Rattle.texture_sys.specs.Fetches.{FetchesKept, Lacks}
+use Rattle.texture_sys.proofs.Lent.{left_same, left_as}
+use Rattle.texture_sys.proofs.local.fetch_kept.Goals as goal
+
+pub returns-clause-left : goal.returns-clause-left
+returns-clause-left g c =
+    let pass = left_same c.lookup.new.f _ _ c.lookup.result _ _ c.lookup.ensures.left
+    (λ f. f.pass.ghost_name) (λ a b t p. p.0) (λ a b t e p. p.0) in
+    let back : c.lookup.new.f.pass.now ≡ c.pass-1.given.0 = search (rules, pass) in
+    rw (← back)
+    (left_as c.lookup.new.f _ _ c.lookup.result _ _ c.lookup.ensures.left (λ f. f.known.now)
+    (λ f. f.pass.now) FetchesKept Lacks (λ a b t p. (p.1, p.2)) (λ a b t e p. (p.1, p.2)))

@@ -1,0 +1,18 @@
+-- The fetch gives back what it was lent.
+use Rattle.std.proofs.Common.{◌≡◌, rules}
+use Rattle.texture_sys.specs.Fetches.{Fetches, Refuses, pass_tap}
+use Rattle.texture_sys.proofs.Lent.{left_same, left_as}
+use Rattle.texture_sys.proofs.texturing.fetch_all.Goals as goal
+
+pub returns-clause-left : goal.returns-clause-left
+returns-clause-left g c =
+    let pass = left_same c.lookup.new.f _ _ c.lookup.result _ _ c.lookup.ensures.left
+    (λ f. f.pass.ghost_name) (λ a b t p. p.0) (λ a b t e p. p.0) in
+    let tap = left_same c.lookup.new.f _ _ c.lookup.result _ _ c.lookup.ensures.left
+    (λ f. f.tap.ghost_name) (λ a b t p. p.1) (λ a b t e p. p.1) in
+    let pass_back : c.lookup.new.f.pass.now ≡ c.pass-1.given.0 = search (rules, pass) in
+    let tap_back : c.lookup.new.f.tap.now ≡ c.tap-1.given.0 = search (rules, tap) in
+    rw (← pass_back, ← tap_back)
+    (left_as c.lookup.new.f _ _ c.lookup.result _ _ c.lookup.ensures.left (λ f. f.known.now)
+    (λ f. pass_tap f.pass.now (g.T.Tap.state f.tap.now)) Fetches (Refuses g.T.W.World.files)
+    (λ a b t p. (p.2, p.3)) (λ a b t e p. (p.2, p.3)))

@@ -1,0 +1,54 @@
+-- The record was found, and then looked at.
+use Rattle.file_table.specs.Calls.{sighted}
+use Rattle.texture_sys.proofs.TextureLemmas.{texture_value, texture_cause}
+use Rattle.texture_sys.proofs.KeptRecord.{texture_kept, opening_cause, opening_kept}
+use Rattle.texture_sys.proofs.Warm.{texture_warm}
+use Rattle.texture_sys.proofs.LookLemmas.{by_error}
+use Rattle.texture_sys.proofs.texturing.texture.Goals as goal
+
+pub returns-clause-value : goal.returns-clause-value
+returns-clause-value g c =
+    texture_value g.T.W.World.files c.args.file c.args.cache.now.gate.cut c.args.pass.now.view
+    c.record_of.new.pass.view c.look_at.new.pass.view c.in-Ok.read.value c.in-Ok.ensures.ok
+    c.look_at.ensures.same.view c.args.r.now c.look_at.new.out c.look_at.result
+    c.look_at.ensures.ok c.look_at.ensures.value
+
+pub returns-clause-cause : goal.returns-clause-cause
+returns-clause-cause g c =
+    by_error c.look_at.result c.look_at.ensures.cause (λ e cause.
+    texture_cause g.T.W.World.files c.args.file c.args.cache.now.gate.cut c.args.pass.now.view
+    c.record_of.new.pass.view c.look_at.new.pass.view c.in-Ok.read.value c.in-Ok.ensures.ok
+    c.look_at.ensures.same.view (g.T.Tap.state c.args.tap.now)
+    (g.T.Tap.state c.record_of.new.tap) (g.T.Tap.state c.look_at.new.tap) e c.in-Ok.ensures.tap
+    cause)
+
+pub returns-clause-kept : goal.returns-clause-kept
+returns-clause-kept g c =
+    texture_kept g.T.W.World.files c.args.file c.args.cache.now.gate.cut c.args.pass.now
+    c.record_of.new.pass c.look_at.new.pass c.in-Ok.read.value c.in-Ok.ensures.ok
+    c.look_at.ensures.same.view c.look_at.ensures.same.latest c.args.r.now
+    (g.T.Tap.state c.record_of.new.tap) (g.T.Tap.state c.look_at.new.tap) c.look_at.result
+    c.in-Ok.ensures.same.keeps c.look_at.ensures.ok c.look_at.ensures.asks
+    c.look_at.ensures.cause
+
+pub returns-clause-warm : goal.returns-clause-warm
+returns-clause-warm g c =
+    texture_warm c.args.file c.args.r.now c.args.pass.now c.record_of.new.pass
+    c.look_at.new.pass (g.T.Tap.state c.args.tap.now) (g.T.Tap.state c.record_of.new.tap)
+    (g.T.Tap.state c.look_at.new.tap) c.in-Ok.read.value c.look_at.result
+    (c.look_at.ensures.same.view.later c.args.file) c.in-Ok.ensures.same.keeps.tiles.recent
+    c.look_at.ensures.warm c.args.pass.now.latest c.in-Ok.ensures.ready
+
+pub returns-in-Err-clause-kept : goal.returns-in-Err-clause-kept
+returns-in-Err-clause-kept g c =
+    opening_kept g.T.W.World.files c.args.file c.args.cache.now.gate.cut
+    (sighted c.args.pass.now.view (g.T.Tap.state c.args.tap.now))
+    (sighted c.record_of.new.pass.view (g.T.Tap.state c.record_of.new.tap)) c.args.pass.now
+    c.record_of.new.pass c.in-Err.e c.in-Err.ensures.cause c.in-Err.ensures.err
+
+pub returns-in-Err-clause-cause : goal.returns-in-Err-clause-cause
+returns-in-Err-clause-cause g c =
+    opening_cause g.T.W.World.files c.args.file c.args.cache.now.gate.cut
+    (sighted c.args.pass.now.view (g.T.Tap.state c.args.tap.now))
+    (sighted c.record_of.new.pass.view (g.T.Tap.state c.record_of.new.tap)) c.in-Err.e
+    c.in-Err.ensures.cause

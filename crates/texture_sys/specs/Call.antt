@@ -1,0 +1,157 @@
+-- What does a lookup through the cache answer, when may it be refused, and what does it leave?
+use Rattle.std.specs.Prelude.{◌≡◌, ◌⊎◌, ℕ, ◌<◌, ◌≤◌, ⊤, List, length, slice_index}
+use Rattle.std.specs.Prelude.{None, Some, Result, Ok, Err, IsOkAnd, IsSomeAnd}
+use Rattle.std.specs.Option.{ForSome}
+use Rattle.tex_world.specs.Counts.{Rises}
+use Rattle.tex_world.specs.World.{Files, IsReal}
+use Rattle.gen_board.specs.View.{ViewState}
+use Rattle.tiff_dirs.specs.Level.{first_fault}
+use Rattle.tile_layout.specs.declared.cut.Cut.{Cut}
+use Rattle.tile_layout.specs.Kept.{kept_of}
+use Rattle.tile_layout.specs.Cell.{CellsFit}
+use Rattle.file_table.specs.Record.{RecordState}
+use Rattle.file_table.specs.Calls.{Sighted, MeetsNewer, GivesRecord, KeepsView}
+use Rattle.texel_filter.specs.declared.request.TexRequest.{TexRequest}
+use Rattle.image_cache.specs.declared.error.CacheError.{CacheError}
+use Rattle.image_cache.specs.declared.error.CacheError.TheVariants as refused
+use Rattle.image_cache.specs.Pass.{PassState, SamePlace}
+use Rattle.image_cache.specs.Call.{Serves}
+use Rattle.texture_sys.specs.Look.{look_on}
+use Rattle.texture_sys.specs.Needs.{visits_on, HasCells, AsksForCells}
+
+-- ---- answers
+
+-- The generation is a real one of the file and at least what the pass had seen, and the pass has
+-- then seen at least it.
+pub record IsOfGeneration (files : Files) (file : ℕ) (old new : ViewState) (generation : ℕ)
+    : Type 0 where
+  pub real : IsReal files file generation
+  pub new_enough : slice_index old.seen file ≤ generation
+  pub seen : generation ≤ slice_index new.seen file
+
+-- The bytes show no fault, each cell takes no more memory than a cell may, and the values are those
+-- of the lookup on them.
+pub record IsLookOn (cut : Cut) (bytes : List ℕ) (r : TexRequest) (out : List ℕ) : Type 0 where
+  pub good : first_fault bytes ≡ None
+  pub fits : CellsFit (kept_of bytes) cut
+  pub values : out ≡ look_on cut bytes r
+
+-- The values are those of a lookup on the bytes of one generation of a file, where the world tells.
+pub record Answers (files : Files) (file : ℕ) (cut : Cut) (r : TexRequest) (old new : ViewState)
+    (out : List ℕ) (generation : ℕ) : Type 0 where
+  pub of : IsOfGeneration files file old new generation
+  pub value : ForSome (files.held file generation) (λ bytes. IsLookOn cut bytes r out)
+
+-- ---- causes
+
+-- Why a lookup is not answered.
+abbrev pub TextureCause : {B : Type 0} → Files → ℕ → Cut → Sighted → Sighted → CacheError B
+    → Type 0
+TextureCause files file cut old new (refused.BadFile generation fault) =
+    IsOfGeneration files file old.view new.view generation
+    × ForSome (files.held file generation) (λ bytes. first_fault bytes ≡ Some fault)
+TextureCause files file cut old new (refused.TileTooLarge generation) =
+    IsOfGeneration files file old.view new.view generation
+    × ForSome (files.held file generation) (λ bytes.
+    (first_fault bytes ≡ None) × ¬ CellsFit (kept_of bytes) cut)
+TextureCause files file cut old new (refused.Again from to) =
+    MeetsNewer files file (slice_index old.view.seen file) from to old.tap new.tap
+    × (to ≤ slice_index new.view.seen file)
+TextureCause files file cut old new refused.ReadFault = Rises old.tap.faults new.tap.faults
+TextureCause files file cut old new refused.NoMemory = ⊤
+TextureCause files file cut old new (refused.Busy b) = ⊤
+TextureCause files file cut old new (refused.NoLevel generation levels) = ⊥
+TextureCause files file cut old new (refused.Outside generation) = ⊥
+TextureCause files file cut old new refused.RegionTooLarge = ⊥
+TextureCause files file cut old new refused.HoldsFull = ⊥
+
+-- Why a record is not looked at: it shows a fault, or a cell takes too much memory.
+abbrev pub IsUnfit : {B : Type 0} → RecordState → CacheError B → Type 0
+IsUnfit k (refused.BadFile generation fault) =
+    (generation ≡ k.generation) × (k.layout ≡ Err fault)
+IsUnfit k (refused.TileTooLarge generation) =
+    (generation ≡ k.generation) × IsOkAnd k.layout (λ kept. ¬ CellsFit kept k.cut)
+IsUnfit k (refused.Again from to) = ⊥
+IsUnfit k refused.ReadFault = ⊥
+IsUnfit k refused.NoMemory = ⊥
+IsUnfit k (refused.Busy b) = ⊥
+IsUnfit k (refused.NoLevel generation levels) = ⊥
+IsUnfit k (refused.Outside generation) = ⊥
+IsUnfit k refused.RegionTooLarge = ⊥
+IsUnfit k refused.HoldsFull = ⊥
+
+-- ---- what a lookup leaves
+
+-- The pass has looked at this file's word, and at no other. No number that it had seen has fallen,
+-- its microcache has two tiles at most, and its holds are as they were.
+pub record AfterLookup (file : ℕ) (old new : PassState) : Type 0 where
+  pub place : SamePlace old new
+  pub view : KeepsView file old.view new.view
+  pub looks : slice_index old.view.steps file < slice_index new.view.steps file
+  pub few : length new.pinned.recent ≤ 2
+  pub holds : new.pinned.holds ≡ old.pinned.holds
+
+-- The record is that of the generation that was answered, and the cells that the lookup needed of
+-- it were asked for.
+pub record IsLookedUp (files : Files) (file : ℕ) (cut : Cut) (r : TexRequest) (old new : PassState)
+    (generation : ℕ) (state : RecordState) : Type 0 where
+  pub given : GivesRecord files file cut old.view new.view state
+  pub of : state.generation ≡ generation
+  pub asks : AsksForCells state (visits_on state r) old new
+
+-- The record is that of the generation that was refused.
+pub record IsRefused {B : Type 0} (files : Files) (file : ℕ) (cut : Cut) (old new : PassState)
+    (e : CacheError B) (state : RecordState) : Type 0 where
+  pub given : GivesRecord files file cut old.view new.view state
+  pub unfit : IsUnfit state e
+
+-- which record the pass keeps after a refusal
+abbrev pub KeepsAfter : {B : Type 0} → Files → ℕ → Cut → PassState → PassState → CacheError B
+    → Type 0
+KeepsAfter files file cut old new (refused.BadFile generation fault) =
+    IsSomeAnd new.latest (IsRefused {B = Unit {0}} files file cut old new
+    (refused.BadFile generation fault))
+KeepsAfter files file cut old new (refused.TileTooLarge generation) =
+    IsSomeAnd new.latest (IsRefused {B = Unit {0}} files file cut old new
+    (refused.TileTooLarge generation))
+KeepsAfter files file cut old new e =
+    (new.latest ≡ old.latest)
+    ⊎ IsSomeAnd new.latest (GivesRecord files file cut old.view new.view)
+
+-- Which record the pass then keeps: the one that was looked at. Where the file was not opened it is
+-- as before.
+abbrev pub KeepsRecord : {B : Type 0} → Files → ℕ → Cut → TexRequest → PassState → PassState
+    → Result ℕ (CacheError B) → Type 0
+KeepsRecord files file cut r old new (Ok generation) =
+    IsSomeAnd new.latest (IsLookedUp files file cut r old new generation)
+KeepsRecord files file cut r old new (Err e) = KeepsAfter files file cut old new e
+
+-- ---- warm lookups
+
+-- The record is of this file, shows no fault and fits its cut, and the pass has seen no newer
+-- generation.
+pub record IsReady (file : ℕ) (pass : PassState) (state : RecordState) : Type 0 where
+  pub of_file : state.file ≡ file
+  pub fits : IsOkAnd state.layout (λ kept. CellsFit kept state.cut)
+  pub newest : slice_index pass.view.seen file ≤ state.generation
+
+-- And the microcache has each cell that the lookup needs.
+pub record IsWarm (file : ℕ) (r : TexRequest) (pass : PassState) (state : RecordState)
+    : Type 0 where
+  pub ready : IsReady file pass state
+  pub cells : HasCells state pass.pinned.recent (visits_on state r)
+
+-- The generation is answered and the tap had no call, or a newer one was seen.
+abbrev pub AnswersWarm : {E : Type 0} → ℕ → ℕ → Sighted → Sighted → Result ℕ E → Type 0
+AnswersWarm file generation old new result =
+    ((result ≡ Ok generation) × (new.tap ≡ old.tap))
+    ⊎ (generation < slice_index new.view.seen file)
+
+-- ---- lookups in the microcache alone
+
+-- The record is of this file, of the number that was just seen, and fits its cut, and the
+-- microcache has each cell that the lookup needs.
+pub record ServesLocally (file : ℕ) (r : TexRequest) (old new : PassState) (state : RecordState)
+    : Type 0 where
+  pub serves : Serves file new.view state
+  pub cells : HasCells state old.pinned.recent (visits_on state r)

@@ -1,0 +1,5 @@
+pub mod Look
+pub mod Needs
+pub mod Fetches
+pub mod Call
+pub mod Steps

@@ -1,0 +1,51 @@
+-- Which cells does a lookup need, when has a microcache all of them, and what do the needs leave?
+use Rattle.std.specs.Prelude.{◌≡◌, List, [], ◌∷◌, length, true}
+use Rattle.std.specs.List.{All}
+use Rattle.tile_store.specs.Tile.{CachedTile}
+use Rattle.file_table.specs.Record.{RecordState}
+use Rattle.texel_filter.specs.declared.request.TexRequest.{TexRequest}
+use Rattle.texel_filter.specs.Image.{Texel}
+use Rattle.texel_filter.specs.Visits.{lookup_visits}
+use Rattle.texel_values.specs.declared.texel_at.TexelAt.{TexelAt}
+use Rattle.image_cache.specs.Pass.{PassState, SameCounts, counted_together}
+use Rattle.image_cache.specs.Texel.{has_cell_at}
+use Rattle.image_cache.specs.Call.{CountsNeed, AsksForCellAt}
+use Rattle.texture_sys.specs.Look.{sizes_known}
+
+-- the texel of an image, as the cache names it
+abbrev pub at_of : Texel → TexelAt
+at_of texel = record { level = texel.level; x = texel.x; y = texel.y }
+
+-- the texels that a lookup on a record visits, one after another
+abbrev pub visits_on : RecordState → TexRequest → List Texel
+visits_on state r = lookup_visits (sizes_known state) r
+
+-- ---- the microcache has them
+
+-- the cell that holds a texel of a record is among these tiles
+abbrev pub HasCell : RecordState → List CachedTile → Texel → Type 0
+HasCell state tiles texel = has_cell_at state (at_of texel) tiles ≡ true
+
+-- all cells that hold these texels are
+abbrev pub HasCells : RecordState → List CachedTile → List Texel → Type 0
+HasCells state tiles texels = All (HasCell state tiles) texels
+
+-- ---- asking for them
+
+-- The pass asked for the cell that holds a texel of a record: one need is counted, and a hit where
+-- its microcache had the cell, which has then the latest of the keys that were asked for.
+pub record AsksForCell (state : RecordState) (texel : Texel) (old new : PassState) : Type 0 where
+  pub need : CountsNeed (has_cell_at state (at_of texel) old.pinned.recent) old new
+  pub asked : AsksForCellAt state (at_of texel) old.pinned.recent new.pinned.recent
+
+-- The pass asked for the cells that hold these texels, one after another.
+abbrev pub AsksForEach : RecordState → List Texel → PassState → PassState → Type 0
+AsksForEach state [] old new = SameCounts old new × (new.pinned.recent ≡ old.pinned.recent)
+AsksForEach state (texel ∷ rest) old new =
+    (mid : PassState) × AsksForCell state texel old mid × AsksForEach state rest mid new
+
+-- So it did, and counted as many needs.
+pub record AsksForCells (state : RecordState) (texels : List Texel) (old new : PassState)
+    : Type 0 where
+  pub each : AsksForEach state texels old new
+  pub needs : new.needs ≡ counted_together old.needs (length texels)

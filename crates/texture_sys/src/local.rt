@@ -1,0 +1,161 @@
+//! A lookup in what the microcache has alone. It waits for nothing, has no tap and takes no
+//! memory.
+ghost use Rattle.std.specs.Prelude.{◌≡◌, ◌↔◌, ◌<◌, ◌≤◌, length, slice_index, IsTrue, IsFalse};
+ghost use Rattle.std.specs.Prelude.{IsSome, IsNone, IfSome, IsSomeAnd, OnOk, OnErr};
+ghost use Rattle.std.specs.Option.{ForSome};
+ghost use Rattle.tex_world.specs.World.{IsFile};
+ghost use Rattle.gen_board.specs.View.{AfterStep};
+ghost use Rattle.texel_filter.specs.Image.{IsChannelCount, AreValues, image_of};
+ghost use Rattle.texel_filter.specs.Filter.{lookup_value};
+ghost use Rattle.texel_filter.specs.Calls.{LeftBy};
+ghost use Rattle.image_cache.specs.Pass.{IsPassOf, KeepsAllButView};
+ghost use Rattle.image_cache.specs.Call.{KeepsAllButRecent};
+ghost use Rattle.texture_sys.specs.Look.{sizes_known};
+ghost use Rattle.texture_sys.specs.Needs.{visits_on, HasCells, AsksForCells};
+ghost use Rattle.texture_sys.specs.Fetches.{IsUnder, FetchesKept, Lacks, values_known};
+ghost use Rattle.texture_sys.specs.Call.{Answers, IsLookOn, IsLookedUp, AfterLookup};
+ghost use Rattle.texture_sys.specs.Call.{ServesLocally};
+
+use crate::kept::{KeptCells, KeptTexels, Lacking};
+use crate::known::Known;
+use image_cache::{Cache, Pass};
+use tex_world::Tap;
+use texel_filter::{MAX_CHANNELS, TexRequest, lookup};
+
+/// Writes the values of a lookup, where the record that the pass keeps is of the newest known
+/// generation of the file and the microcache has all cells that it needs, and answers that
+/// generation. Else none: then all but what the pass has seen is as before.
+pub fn texture_local<T: Tap>(
+    cache: &Cache<T>,
+    pass: &mut Pass<T::W>,
+    file: u32,
+    r: &TexRequest,
+    out: &mut [u16],
+) -> Option<u32>
+    requires pass { IsPassOf cache.now pass.old }
+    requires file { file < cache.now.files.board.files }
+    requires told { IsFile T.W.files file }
+    requires count { length out.old ≡ r.now.nch }
+    requires channels { IsChannelCount r.now.nch }
+    ensures some { IsSome result
+        ↔ IsSomeAnd pass.old.latest (ServesLocally file r.now pass.old pass.new) }
+    ensures value { IfSome result (Answers T.W.files file cache.now.gate.cut r.now
+        pass.old.view pass.new.view out.new) }
+    ensures none { IsNone result
+        → (out.new ≡ out.old) × KeepsAllButView pass.old pass.new }
+    // What the call leaves.
+    ensures same { AfterLookup file pass.old pass.new }
+    ensures look { AfterStep file (slice_index pass.new.view.seen file)
+        pass.old.view pass.new.view }
+    ensures kept { IfSome result (λ generation. IsSomeAnd pass.new.latest (IsLookedUp T.W.files
+        file cache.now.gate.cut r.now pass.old pass.new generation)) }
+    ensures latest { pass.new.latest ≡ pass.old.latest }
+{
+    let Some(read) = cache.local(pass, file) else {
+        return None;
+    };
+    let known = Known::of(read);
+    let generation = known.read().generation();
+    let looked = look_local(cache, pass, &known, r, out);
+    cache.keep(pass, known.into_read());
+    if looked { Some(generation) } else { None }
+}
+
+/// Writes the values of a lookup on a record, where the microcache has all cells that it needs.
+fn look_local<T: Tap>(
+    cache: &Cache<T>,
+    pass: &mut Pass<T::W>,
+    known: &Known<T::W>,
+    r: &TexRequest,
+    out: &mut [u16],
+) -> bool
+    requires pass { IsPassOf cache.now pass.old }
+    requires few { length pass.old.pinned.recent ≤ 2 }
+    requires under { IsUnder cache.now known.now }
+    requires count { length out.old ≡ r.now.nch }
+    requires channels { IsChannelCount r.now.nch }
+    ensures has { IsTrue result
+        ↔ HasCells known.now pass.old.pinned.recent (visits_on known.now r.now) }
+    ensures value { IsTrue result →
+        ForSome (T.W.files.held known.now.file known.now.generation) (λ bytes.
+        IsLookOn known.now.cut bytes r.now out.new) }
+    ensures same { IsFalse result → (out.new ≡ out.old) × (pass.new ≡ pass.old) }
+    // What the call leaves.
+    ensures asks { IsTrue result → AsksForCells known.now (visits_on known.now r.now)
+        pass.old pass.new }
+    ensures kept { KeepsAllButRecent pass.old pass.new }
+{
+    if !has_cells(cache, pass, known, r) {
+        return false;
+    }
+    write_kept(cache, pass, known, r, out);
+    true
+}
+
+/// Whether the microcache has all cells that a lookup on a record needs.
+fn has_cells<T: Tap>(
+    cache: &Cache<T>,
+    pass: &Pass<T::W>,
+    known: &Known<T::W>,
+    r: &TexRequest,
+) -> bool
+    requires pass { IsPassOf cache.now pass.now }
+    requires under { IsUnder cache.now known.now }
+    requires channels { IsChannelCount r.now.nch }
+    ensures { IsTrue result
+        ↔ HasCells known.now pass.now.pinned.recent (visits_on known.now r.now) }
+{
+    let mut cells = KeptCells { cache, pass, known };
+    let mut no_values = [0; MAX_CHANNELS];
+    lookup(&mut cells, r, &mut no_values[..r.nch as usize]).is_ok()
+}
+
+/// Writes the values of a lookup on a record. The microcache has all cells that it needs.
+fn write_kept<T: Tap>(
+    cache: &Cache<T>,
+    pass: &mut Pass<T::W>,
+    known: &Known<T::W>,
+    r: &TexRequest,
+    out: &mut [u16],
+)
+    requires pass { IsPassOf cache.now pass.old }
+    requires few { length pass.old.pinned.recent ≤ 2 }
+    requires under { IsUnder cache.now known.now }
+    requires cells { HasCells known.now pass.old.pinned.recent (visits_on known.now r.now) }
+    requires count { length out.old ≡ r.now.nch }
+    requires channels { IsChannelCount r.now.nch }
+    ensures value { ForSome (T.W.files.held known.now.file known.now.generation) (λ bytes.
+        IsLookOn known.now.cut bytes r.now out.new) }
+    ensures asks { AsksForCells known.now (visits_on known.now r.now) pass.old pass.new }
+    ensures kept { KeepsAllButRecent pass.old pass.new }
+{
+    // these tell that its layout is that of its bytes, and that the count is one of 64 bits
+    let _generation = known.read().generation();
+    let _needs = pass.needs();
+    match fetch_kept(cache, pass, known, r, out) {
+        Ok(()) => {}
+        Err(Lacking) => unreachable!(),
+    }
+}
+
+/// Writes the values of a lookup, whose texels are read from the microcache.
+fn fetch_kept<T: Tap>(
+    cache: &Cache<T>,
+    pass: &mut Pass<T::W>,
+    known: &Known<T::W>,
+    r: &TexRequest,
+    out: &mut [u16],
+) -> Result<(), Lacking>
+    requires pass { IsPassOf cache.now pass.old }
+    requires under { IsUnder cache.now known.now }
+    requires count { length out.old ≡ r.now.nch }
+    requires channels { IsChannelCount r.now.nch }
+    ensures told { ForSome (values_known T.W.files known.now) (λ v. OnOk result
+        (AreValues (lookup_value (image_of (sizes_known known.now) v) r.now) out.new)) }
+    ensures left { LeftBy (FetchesKept known.now) (Lacks known.now)
+        pass.old (visits_on known.now r.now) pass.new result }
+    ensures err { OnErr result (out.new ≡ out.old) }
+{
+    let mut texels = KeptTexels { cache, pass, known };
+    lookup(&mut texels, r, out)
+}

@@ -1,0 +1,230 @@
+//! A lookup with all that it may need.
+ghost use Rattle.std.specs.Prelude.{◌≡◌, ◌⊎◌, ◌<◌, ◌≤◌, Ok, length, slice_index, IsOkAnd};
+ghost use Rattle.std.specs.Prelude.{IfOk, IfErr, IfSome, OnOk, OnErr};
+ghost use Rattle.std.specs.Option.{ForSome};
+ghost use Rattle.tex_world.specs.World.{IsFile};
+ghost use Rattle.tile_layout.specs.Cell.{CellsFit};
+ghost use Rattle.file_table.specs.Calls.{sighted, GivesRecord};
+ghost use Rattle.texel_filter.specs.Image.{IsChannelCount, AreValues, image_of};
+ghost use Rattle.texel_filter.specs.Filter.{lookup_value};
+ghost use Rattle.texel_filter.specs.Calls.{LeftBy};
+ghost use Rattle.image_cache.specs.Pass.{IsPassOf};
+ghost use Rattle.image_cache.specs.Call.{AfterNeed, NoneFalls};
+ghost use Rattle.image_cache.specs.Cause.{OpenCause, FetchCause};
+ghost use Rattle.texture_sys.specs.Look.{sizes_known};
+ghost use Rattle.texture_sys.specs.Needs.{visits_on, HasCells, AsksForCells};
+ghost use Rattle.texture_sys.specs.Fetches.{IsUnder, Fetches, Refuses, pass_tap, values_known};
+ghost use Rattle.texture_sys.specs.Call.{Answers, IsLookOn, TextureCause, IsUnfit};
+ghost use Rattle.texture_sys.specs.Call.{AfterLookup, KeepsRecord};
+ghost use Rattle.texture_sys.specs.Call.{IsReady, IsWarm, AnswersWarm};
+ghost use Rattle.texture_sys.specs.Steps.{LookCause, AfterOpening, AfterLook};
+
+use crate::cached::CachedTexels;
+use crate::known::Known;
+use file_table::Record;
+use image_cache::{Cache, CacheError, Pass};
+use std::sync::Arc;
+use tex_world::{Tap, World};
+use texel_filter::{TexRequest, lookup};
+use waiter::Waiter;
+
+/// Writes the values of a lookup on the newest known generation of a file, and answers which that
+/// is.
+pub fn texture<V: Waiter, T: Tap>(
+    cache: &Cache<T>,
+    waiter: &V,
+    pass: &mut Pass<T::W>,
+    tap: &mut T,
+    file: u32,
+    r: &TexRequest,
+    out: &mut [u16],
+) -> Result<u32, CacheError<V::Busy>>
+    requires pass { IsPassOf cache.now pass.old }
+    requires file { file < cache.now.files.board.files }
+    requires told { IsFile T.W.files file }
+    requires count { length out.old ≡ r.now.nch }
+    requires channels { IsChannelCount r.now.nch }
+    ensures value { IfOk result (Answers T.W.files file cache.now.gate.cut r.now
+        pass.old.view pass.new.view out.new) }
+    ensures cause { IfErr result (TextureCause T.W.files file cache.now.gate.cut
+        (sighted pass.old.view (T.state tap.old)) (sighted pass.new.view (T.state tap.new))) }
+    ensures err { OnErr result (out.new ≡ out.old) }
+    // What the call leaves.
+    ensures same { AfterLookup file pass.old pass.new }
+    ensures kept { KeepsRecord T.W.files file cache.now.gate.cut r.now pass.old pass.new result }
+    ensures tap { NoneFalls (T.state tap.old) (T.state tap.new) }
+    // Where all cells that it needs are in the microcache, there is no call of the tap.
+    ensures warm { IfSome pass.old.latest (λ known. IsWarm file r.now pass.old known
+        → AnswersWarm file known.generation (sighted pass.old.view (T.state tap.old))
+        (sighted pass.new.view (T.state tap.new)) result) }
+{
+    let read = match record_of(cache, waiter, pass, tap, file) {
+        Ok(read) => read,
+        Err(e) => return Err(e),
+    };
+    look_at(cache, waiter, pass, tap, read, r, out)
+}
+
+/// The record of the newest known generation of a file: the one that the pass keeps, or else one
+/// that is opened. It is handed out.
+fn record_of<V: Waiter, T: Tap>(
+    cache: &Cache<T>,
+    waiter: &V,
+    pass: &mut Pass<T::W>,
+    tap: &mut T,
+    file: u32,
+) -> Result<Arc<Record<T::W>>, CacheError<V::Busy>>
+    requires pass { IsPassOf cache.now pass.old }
+    requires file { file < cache.now.files.board.files }
+    requires told { IsFile T.W.files file }
+    ensures ok { IfOk result (λ k. GivesRecord T.W.files file cache.now.gate.cut
+        pass.old.view pass.new.view k.value) }
+    ensures cause { IfErr result (OpenCause T.W.files file
+        (sighted pass.old.view (T.state tap.old)) (sighted pass.new.view (T.state tap.new))) }
+    // What the call leaves.
+    ensures err { OnErr result (pass.new.latest ≡ pass.old.latest) }
+    ensures same { AfterOpening file pass.old pass.new }
+    ensures tap { NoneFalls (T.state tap.old) (T.state tap.new) }
+    ensures ready { IfSome pass.old.latest (λ known. IsReady file pass.old known
+        → (IsOkAnd result (λ k. k.value ≡ known) × (T.state tap.new ≡ T.state tap.old))
+        ⊎ (known.generation < slice_index pass.new.view.seen file)) }
+{
+    match cache.local(pass, file) {
+        Some(read) => {
+            // it tells that the record is of the bytes of its generation
+            let _generation = read.generation();
+            Ok(read)
+        }
+        None => cache.open(waiter, pass, tap, file),
+    }
+}
+
+/// Writes the values of a lookup on a record, which the pass then keeps, whatever is answered.
+fn look_at<V: Waiter, T: Tap>(
+    cache: &Cache<T>,
+    waiter: &V,
+    pass: &mut Pass<T::W>,
+    tap: &mut T,
+    read: Arc<Record<T::W>>,
+    r: &TexRequest,
+    out: &mut [u16],
+) -> Result<u32, CacheError<V::Busy>>
+    requires pass { IsPassOf cache.now pass.old }
+    requires few { length pass.old.pinned.recent ≤ 2 }
+    requires under { IsUnder cache.now read.value }
+    requires told { IsFile T.W.files read.value.file }
+    requires seen { read.value.generation ≤ slice_index pass.old.view.seen read.value.file }
+    requires count { length out.old ≡ r.now.nch }
+    requires channels { IsChannelCount r.now.nch }
+    ensures ok { IfOk result (λ generation. generation ≡ read.value.generation) }
+    ensures value { ForSome (T.W.files.held read.value.file read.value.generation) (λ bytes.
+        OnOk result (IsLookOn read.value.cut bytes r.now out.new)) }
+    ensures cause { IfErr result (LookCause T.W.files read.value pass.new.view
+        (T.state tap.old) (T.state tap.new)) }
+    ensures err { OnErr result (out.new ≡ out.old) }
+    // What the call leaves.
+    ensures same { AfterLook read.value pass.old pass.new }
+    ensures asks { OnOk result (AsksForCells read.value (visits_on read.value r.now)
+        pass.old pass.new) }
+    ensures tap { NoneFalls (T.state tap.old) (T.state tap.new) }
+    ensures warm { IsOkAnd read.value.layout (λ kept. CellsFit kept read.value.cut)
+        → HasCells read.value pass.old.pinned.recent (visits_on read.value r.now)
+        → (result ≡ Ok read.value.generation) × (T.state tap.new ≡ T.state tap.old) }
+{
+    if let Err(e) = serves(&read) {
+        cache.keep(pass, read);
+        return Err(e);
+    }
+    let known = Known::of(read);
+    let generation = known.read().generation();
+    let looked = look_up(cache, waiter, pass, tap, &known, r, out);
+    cache.keep(pass, known.into_read());
+    match looked {
+        Ok(()) => Ok(generation),
+        Err(e) => Err(e),
+    }
+}
+
+/// Whether a record may be looked at.
+fn serves<W: World, B>(read: &Record<W>) -> Result<(), CacheError<B>>
+    ensures ok { OnOk result (IsOkAnd read.now.layout (λ kept. CellsFit kept read.now.cut)) }
+    ensures cause { IfErr result (IsUnfit read.now) }
+{
+    let generation = read.generation();
+    if let Err(fault) = read.layout() {
+        return Err(CacheError::BadFile {
+            generation,
+            fault: *fault,
+        });
+    }
+    if read.fits() {
+        Ok(())
+    } else {
+        Err(CacheError::TileTooLarge { generation })
+    }
+}
+
+/// Writes the values of a lookup on a record that may be looked at.
+fn look_up<V: Waiter, T: Tap>(
+    cache: &Cache<T>,
+    waiter: &V,
+    pass: &mut Pass<T::W>,
+    tap: &mut T,
+    known: &Known<T::W>,
+    r: &TexRequest,
+    out: &mut [u16],
+) -> Result<(), CacheError<V::Busy>>
+    requires pass { IsPassOf cache.now pass.old }
+    requires few { length pass.old.pinned.recent ≤ 2 }
+    requires under { IsUnder cache.now known.now }
+    requires count { length out.old ≡ r.now.nch }
+    requires channels { IsChannelCount r.now.nch }
+    ensures value { ForSome (T.W.files.held known.now.file known.now.generation) (λ bytes.
+        OnOk result (IsLookOn known.now.cut bytes r.now out.new)) }
+    ensures cause { IfErr result (FetchCause T.W.files known.now pass.new.view
+        (T.state tap.old) (T.state tap.new)) }
+    ensures err { OnErr result (out.new ≡ out.old) }
+    // What the call leaves.
+    ensures same { AfterNeed known.now.file pass.old pass.new }
+    ensures asks { OnOk result (AsksForCells known.now (visits_on known.now r.now)
+        pass.old pass.new) }
+    ensures tap { NoneFalls (T.state tap.old) (T.state tap.new) }
+    ensures warm { HasCells known.now pass.old.pinned.recent (visits_on known.now r.now)
+        → (result ≡ Ok tt) × (T.state tap.new ≡ T.state tap.old) }
+{
+    // these tell that its layout is that of its bytes, and that the count is one of 64 bits
+    let _generation = known.read().generation();
+    let _needs = pass.needs();
+    fetch_all(cache, waiter, pass, tap, known, r, out)
+}
+
+/// Writes the values of a lookup, whose texels are fetched through the cache.
+fn fetch_all<V: Waiter, T: Tap>(
+    cache: &Cache<T>,
+    waiter: &V,
+    pass: &mut Pass<T::W>,
+    tap: &mut T,
+    known: &Known<T::W>,
+    r: &TexRequest,
+    out: &mut [u16],
+) -> Result<(), CacheError<V::Busy>>
+    requires pass { IsPassOf cache.now pass.old }
+    requires under { IsUnder cache.now known.now }
+    requires count { length out.old ≡ r.now.nch }
+    requires channels { IsChannelCount r.now.nch }
+    ensures told { ForSome (values_known T.W.files known.now) (λ v. OnOk result
+        (AreValues (lookup_value (image_of (sizes_known known.now) v) r.now) out.new)) }
+    ensures left { LeftBy (Fetches known.now) (Refuses T.W.files known.now)
+        (pass_tap pass.old (T.state tap.old)) (visits_on known.now r.now)
+        (pass_tap pass.new (T.state tap.new)) result }
+    ensures err { OnErr result (out.new ≡ out.old) }
+{
+    let mut texels = CachedTexels {
+        cache,
+        waiter,
+        pass,
+        tap,
+        known,
+    };
+    lookup(&mut texels, r, out)
+}
