@@ -1,23 +1,26 @@
 #!/usr/bin/env python3
-"""Checks that docs/DEFINITIONS.md lists what has to be believed: each definition that the contracts
-of the public calls reach, and no other.
+"""Checks docs/DEFINITIONS.md: it has one row for each file of definitions that the contracts of the
+public calls reach, and no other row.
 
 A public call is a function that a library of the repository hands out, a method of a type or of a
-trait that it hands out, or a ghost member or field of one. It need not be a library that the program
-stands on already: whoever takes one believes its definitions. The crates that crates.txt has under its
-heading `Tests` are left out. What the clauses of a public call name in a crate's specs/ is reached, and
-so is what that names in turn. Laws and lemmas in specs/ have a proof in place of a meaning, so they are
-not followed.
+trait that it hands out, or a ghost member or field of one. The crates that crates.txt has under its
+heading `Tests` are left out. What the clauses of a public call name in a crate's specs/ is reached,
+and so is what that names in turn. Laws and lemmas in specs/ have a proof in place of a meaning, so
+they are not followed.
 
-Each stands on the page under its file, with its line to read aloud. Prints what is lacking and what is
-listed without need, and ends with status 1 where there is any. With --write it writes the rows of the
-page anew and leaves the text beside them; a file that has no heading yet gets one behind those of its
-crate, else at the end of the page, with the question that the file opens with as its text. With --list
-it prints each definition that is reached, with its crate, its file and its line.
+A row stands under the heading of its crate and has five cells: the file, its question, its source,
+the public calls that carry it with the labels of their clauses, and the tests. The script follows
+each call and label that a row names: the clause has to be there and to reach the file. Each test
+and each heading that a row names has to be there too. What is wrong is printed, with a row to begin
+from where one lacks, and the status is then 1.
+
+    --list     prints each definition that is reached: crate, file, name, the line to read aloud
+    --calls    prints for each file the public calls that reach it, with their labels
 """
 
 import re
 import sys
+from collections import namedtuple
 from pathlib import Path
 
 TOP = Path(__file__).resolve().parent.parent
@@ -26,15 +29,18 @@ PAGE = TOP / "docs" / "DEFINITIONS.md"
 TESTS = "Tests"
 
 WORD = re.compile(r"[\w\-◌>=+*/<≤≡∷']+(?:\.[\w\-]+)*", re.UNICODE)
-USE = re.compile(r"^\s*(?:pub |ghost )?use Rattle\.([\w.]+?)(?:\.\{([^}]*)\}| as (\w+))?;?\s*$", re.M)
+USE = re.compile(
+    r"^\s*(?:pub |ghost )?use Rattle\.([\w.]+?)(?:\.\{([^}]*)\}| as (\w+))?;?\s*$", re.M
+)
 HEAD = re.compile(
     r"^(?P<indent> *)(?P<kind>abbrev pub|unfoldable pub|pub record|pub data|abbrev|unfoldable"
     r"|record|data|pub) (?P<name>[\w◌>=+*\-']+)(?= |$)"
 )
+MEANINGS = ("abbrev pub", "unfoldable pub", "pub record", "pub data", "abbrev", "unfoldable")
 
-
-def fail(text):
-    sys.exit(f"check_definitions: {text}")
+# A clause of what is handed out: its owner (a type, a trait, or none), its function (or none), its
+# label, its text, and what the names of its file stand for.
+Clause = namedtuple("Clause", "crate owner function label text names")
 
 
 def libraries():
@@ -50,7 +56,7 @@ def libraries():
 
 
 def imports(text):
-    """What the names of a file stand for: (crate, module, name), or a whole module with name None."""
+    """What the names of a file stand for: crate, module and name, or none for a whole module."""
     found = {}
     for path, names, other in USE.findall(text):
         parts = path.split(".")
@@ -67,23 +73,13 @@ def imports(text):
     return found
 
 
-def opening(text):
-    """The comment that a file opens with."""
-    found = []
-    for line in text.splitlines():
-        if not line.startswith("--"):
-            break
-        found.append(line[2:].strip())
-    return " ".join(found)
-
-
 class Spec:
     """A file of specs/: its definitions, and what the words of each stand for."""
 
     def __init__(self, crate, file):
         self.crate, self.module = crate, file.stem
         text = file.read_text(encoding="utf-8")
-        self.imports, self.question = imports(text), opening(text)
+        self.imports, self.question = imports(text), self.opening(text)
         self.bodies, self.kinds, self.says = {}, {}, {}
         comment, name = [], None
         for line in text.splitlines():
@@ -97,8 +93,7 @@ class Spec:
             if head and not inner:
                 name = head["name"]
                 self.kinds[name] = head["kind"]
-                # a definition behind another one may share its line
-                self.says[name] = " ".join(comment) or next(reversed(self.says.values()), "")
+                self.says[name] = " ".join(comment) or "(no line of its own)"
                 self.bodies[name] = ""
             if bare and not bare.startswith(("use ", "pub use ", "module ")):
                 if name:
@@ -107,15 +102,18 @@ class Spec:
             if not bare:
                 comment = []
 
-    def is_definition(self, name):
-        return self.kinds.get(name) in (
-            "abbrev pub",
-            "unfoldable pub",
-            "pub record",
-            "pub data",
-            "abbrev",
-            "unfoldable",
-        )
+    @staticmethod
+    def opening(text):
+        """The comment that a file opens with."""
+        found = []
+        for line in text.splitlines():
+            if not line.startswith("--"):
+                break
+            found.append(line[2:].strip())
+        return " ".join(found)
+
+    def is_meaning(self, name):
+        return self.kinds.get(name) in MEANINGS
 
 
 def reached_by(text, names, spec_of, own=None):
@@ -146,84 +144,92 @@ def handed_out(lib):
 
 def braced(text, start):
     """The text in the braces that open at or behind a place, and the place behind them."""
-    at = text.index("{", start)
+    at = text.find("{", start)
     depth = 0
     for place in range(at, len(text)):
         depth += {"{": 1, "}": -1}.get(text[place], 0)
         if not depth:
             return text[at + 1 : place], place + 1
-    fail("braces that do not close")
+    return text[at + 1 :], len(text)
 
 
-CLAUSE = re.compile(r"\b(?:requires|ensures)\*?(?:\s+\w+)?\s*(?=\{)")
-GHOST = re.compile(r"\bghost\s+(?!use)\w+\s*[:=]\s*(?=\{)")
+CLAUSE = re.compile(r"\b(?:requires|ensures)\*?(?:\s+(\w+))?\s*(?=\{)")
+GHOST = re.compile(r"\bghost\s+(?!use)(\w+)\s*[:=]\s*(?=\{)")
 FUNCTION = re.compile(r"^(?P<indent> *)(?P<pub>pub )?(?:const |unsafe )*fn (?P<name>\w+)", re.M)
 BLOCK = re.compile(
     r"^(?P<pub>pub )?(?P<kind>impl|trait|struct|enum)\b(?P<head>[^{;]*)", re.M
 )
 
 
-def clauses(text):
-    """The clauses and ghost members of a text."""
-    for pattern in (CLAUSE, GHOST):
-        for found in pattern.finditer(text):
-            yield braced(text, found.end())[0]
-
-
-def functions(text, all_of_them):
-    """The contracts of the functions of a text that are handed out."""
-    for found in FUNCTION.finditer(text):
-        if not (found["pub"] or all_of_them):
-            continue
-        place, end = found.end(), len(text)
-        while True:
-            clause = CLAUSE.search(text, place)
-            brace = re.compile(r"[{;]").search(text, place)
-            if not clause or not brace or brace.start() < clause.start():
-                break
+def contract(text, place):
+    """The clauses of the function whose signature goes on at a place: label and text."""
+    depth = 0
+    while place < len(text):
+        clause = CLAUSE.match(text, place)
+        if clause and not depth:
             body, place = braced(text, clause.end())
-            yield body
-        del end
+            yield clause[1] or "", body
+            continue
+        letter = text[place]
+        if letter in "{;" and not depth:
+            return
+        depth += {"(": 1, "[": 1, ")": -1, "]": -1}.get(letter, 0)
+        place += 1
 
 
-def contracts(src, names):
+def functions(text, owner, is_wanted):
+    """Owner, function, label and text of each clause of the functions of a text."""
+    for found in FUNCTION.finditer(text):
+        if is_wanted(found):
+            for label, body in contract(text, found.end()):
+                yield owner, found["name"], label, body
+
+
+def ghosts(text, owner):
+    for found in GHOST.finditer(text):
+        yield owner, "", found[1], braced(text, found.end())[0]
+
+
+def handed_out_in(src, names):
     """The clauses of what a source file hands out."""
-    code = "\n".join(
-        "" if line.strip().startswith("//") else line for line in src.splitlines()
-    )
+    code = "\n".join("" if line.strip().startswith("//") else line for line in src.splitlines())
     blocks = []
     for found in BLOCK.finditer(code):
-        head = found["head"]
-        brace = code.find("{", found.end())
-        semi = code.find(";", found.end())
+        brace, semi = code.find("{", found.end()), code.find(";", found.end())
         if brace < 0 or (0 <= semi < brace):
             continue
         body, end = braced(code, brace)
         blocks.append((found.start(), end))
-        kind = found["kind"]
-        words = re.sub(r"<[^<>]*>", "", re.sub(r"<[^<>]*>", "", head))
-        named = re.findall(r"[A-Za-z_]\w*", words.split(" where ")[0])
-        if kind == "impl":
-            target = words.split(" for ")[-1]
-            target = re.findall(r"[A-Za-z_]\w*", target)
-            if not target or target[0] not in names:
-                continue
-            yield from functions(body, " for " in words)
-            yield from (braced(body, it.end())[0] for it in GHOST.finditer(body))
-        elif kind == "trait":
-            if named and named[0] in names:
-                yield from clauses(body)
-        elif named and named[0] in names:
-            yield from (braced(body, it.end())[0] for it in GHOST.finditer(body))
+        words = re.sub(r"<[^<>]*>", "", re.sub(r"<[^<>]*>", "", found["head"]))
+        words = words.split(" where ")[0]
+        of_trait = found["kind"] == "impl" and " for " in words
+        owner = re.findall(r"[A-Za-z_]\w*", words.split(" for ")[-1])[:1]
+        if not owner or owner[0] not in names:
+            continue
+        if found["kind"] in ("impl", "trait"):
+            every = of_trait or found["kind"] == "trait"
+            yield from functions(body, owner[0], lambda it: every or it["pub"])
+        yield from ghosts(body, owner[0])
     rest, last = "", 0
     for start, end in sorted(blocks):
         rest += code[last:start]
         last = max(last, end)
     rest += code[last:]
-    for found in FUNCTION.finditer(rest):
-        if found["pub"] and not found["indent"] and found["name"] in names:
-            end = FUNCTION.search(rest, found.end())
-            yield from functions(rest[found.start() : end.start() if end else len(rest)], False)
+    yield from functions(
+        rest, "", lambda it: it["pub"] and not it["indent"] and it["name"] in names
+    )
+
+
+def public_clauses():
+    """Each clause that a library of the repository hands out."""
+    for crate in libraries():
+        src = CRATES / crate / "src"
+        names = handed_out((src / "lib.rt").read_text(encoding="utf-8"))
+        for file in sorted(src.rglob("*.rt")):
+            text = file.read_text(encoding="utf-8")
+            known = imports(text)
+            for owner, function, label, body in handed_out_in(text, names):
+                yield Clause(crate, owner, function, label, body, known)
 
 
 def specs():
@@ -236,130 +242,158 @@ def specs():
     }
 
 
-def reached(spec_of):
-    """Each definition that has to be believed, in the order of crates and files."""
-    found, wanted = set(), []
-    for crate in libraries():
-        lib = CRATES / crate / "src" / "lib.rt"
-        names = handed_out(lib.read_text(encoding="utf-8"))
-        for file in sorted((CRATES / crate / "src").rglob("*.rt")):
-            src = file.read_text(encoding="utf-8")
-            known = imports(src)
-            for clause in contracts(src, names):
-                wanted += reached_by(clause, known, spec_of)
-    while wanted:
-        crate, module, name = wanted.pop()
-        spec = spec_of[crate, module]
-        if (crate, module, name) in found or not spec.is_definition(name):
-            continue
-        found.add((crate, module, name))
-        wanted += reached_by(spec.bodies[name], spec.imports, spec_of, spec)
-    order = {key: place for place, key in enumerate(spec_of)}
-    lines = {key: list(spec.bodies) for key, spec in spec_of.items()}
-    inside = lambda it: (order[it[:2]], lines[it[:2]].index(it[2]))
-    return [(*it, spec_of[it[:2]].says[it[2]]) for it in sorted(found, key=inside)]
+class Reach:
+    """Which definitions a text reaches, also by way of others."""
+
+    def __init__(self, spec_of):
+        self.spec_of, self.next_to = spec_of, {}
+
+    def is_meaning(self, it):
+        return self.spec_of[it[:2]].is_meaning(it[2])
+
+    def beside(self, it):
+        """The definitions that a definition names."""
+        if it not in self.next_to:
+            spec = self.spec_of[it[:2]]
+            named = reached_by(spec.bodies[it[2]], spec.imports, self.spec_of, spec)
+            self.next_to[it] = {other for other in named if self.is_meaning(other)}
+        return self.next_to[it]
+
+    def of(self, clause):
+        """The definitions that a clause reaches."""
+        named = reached_by(clause.text, clause.names, self.spec_of)
+        wanted = [it for it in named if self.is_meaning(it)]
+        found = set(wanted)
+        while wanted:
+            more = self.beside(wanted.pop()) - found
+            found |= more
+            wanted += more
+        return found
 
 
-def sections(wanted):
-    """The definitions by the files that they stand in."""
-    found = {}
-    for crate, module, name, says in wanted:
-        found.setdefault((crate, module), []).append((name, says))
+def tests():
+    """The names of the test functions of the repository."""
+    found = set()
+    for file in CRATES.glob("*/src/**/*.rt"):
+        text = file.read_text(encoding="utf-8")
+        found.update(re.findall(r"#\[test\]\s*(?:#\[[^\]]*\]\s*)*(?:pub )?fn (\w+)", text))
     return found
 
 
-def row(name, says):
-    return f"| `{name}` | {says.replace('|', chr(92) + '|')} |"
+def call_of(clause):
+    """A call as a row names it."""
+    return "::".join(it for it in (clause.owner, clause.function) if it)
 
 
-HEADING = "### `crates/{}/specs/{}.antt`"
-TABLE = ["| Definition | It says |", "|---|---|"]
-
-
-def parsed():
-    """The lines of the page, and those of the section of each file: its place, text and rows."""
-    lines = PAGE.read_text(encoding="utf-8").splitlines()
-    found, key = {}, None
-    for place, line in enumerate(lines):
-        heading = re.fullmatch(r"### `crates/(\w+)/specs/(\w+)\.antt`", line)
+def rows():
+    """The rows of the page: crate, file and the other cells, with the number of the line."""
+    crate, known = None, set(libraries())
+    for place, line in enumerate(PAGE.read_text(encoding="utf-8").splitlines(), 1):
+        heading = re.match(r"#+\s+\W*(\w+)", line)
         if heading:
-            key = heading[1], heading[2]
-            found[key] = []
-        elif line.startswith("#"):
-            key = None
-        elif key and line.startswith("| `"):
-            found[key].append(line)
-    return lines, found
+            crate = heading[1] if heading[1] in known else None
+        elif crate and line.startswith("| `"):
+            cells = [it.strip() for it in re.split(r"(?<!\\)\|", line.strip().strip("|"))]
+            yield place, crate, cells[0].strip("`"), cells[1:]
 
 
-def with_headings(lines, wanted, spec_of):
-    """The lines of the page, and a heading for each file that has none."""
-    lines = list(lines)
-    for key in sections(wanted):
-        headings = [HEADING.format(*it) for it in spec_of if it[0] == key[0]]
-        if HEADING.format(*key) in lines:
-            continue
-        there = [place for place, line in enumerate(lines) if line in headings]
-        text = [HEADING.format(*key), "", spec_of[key].question, "", *TABLE, ""]
-        if there:
-            rest = range(there[-1] + 1, len(lines))
-            place = next((it for it in rest if lines[it].startswith("#")), len(lines))
-        else:
-            place, text = len(lines), [f"## {key[0]}", "", *text]
-        gap = [""] if place and lines[place - 1] else []
-        lines[place:place] = [*gap, *text]
-    return lines
+CARRIED = re.compile(r"`([\w:]+)`(?:\s*\(([^)]*)\))?")
+DOCUMENT = re.compile(r"(FORMAT|FILTERING|CACHE|REQUESTS)(?: (.+))?")
 
 
-def rewritten(wanted, spec_of):
-    """The page with the rows that it has to have; what is written beside them stays."""
-    text, key = [], None
-    for line in with_headings(parsed()[0], wanted, spec_of):
-        heading = re.fullmatch(r"### `crates/(\w+)/specs/(\w+)\.antt`", line)
-        if heading:
-            key = heading[1], heading[2]
-        elif line.startswith("#"):
-            key = None
-        if key and line == TABLE[0]:
-            rows = sections(wanted).get(key, [])
-            text += [*TABLE, *(row(*it) for it in rows)]
-        elif not (key and line.startswith("|")):
-            text.append(line)
-    PAGE.write_text("\n".join(text).rstrip("\n") + "\n", encoding="utf-8")
+def has_heading(source):
+    """A source that names a document of docs/ names a heading of it, or none."""
+    named = DOCUMENT.fullmatch(source)
+    if not named or not named[2]:
+        return True
+    page = TOP / "docs" / f"{named[1]}.md"
+    return f"## {named[2]}" in page.read_text(encoding="utf-8").splitlines()
+
+
+def faults_of_row(key, cells, clauses, test_names):
+    """What is wrong with the cells of a row."""
+    if len(cells) != 4:
+        yield f"has {len(cells) + 1} cells, and not 5"
+        return
+    question, source, carried, tested = cells
+    if not question or not source or not tested:
+        yield "has an empty cell"
+    if not has_heading(source):
+        yield f"names {source}, which is no heading"
+    calls = CARRIED.findall(carried)
+    if not calls:
+        yield "names no call that carries it"
+    for call, labels in calls:
+        there = [it for it in clauses if call in (call_of(it[0]), it[0].function, it[0].owner)]
+        if not there:
+            yield f"names the call {call}, which no library hands out"
+        for label in [it.strip() for it in labels.split(",")] if labels else [None]:
+            of_label = [it for it in there if label in (None, it[0].label)]
+            if there and not of_label:
+                yield f"names the clause {label} of {call}, which has none of this label"
+            elif there and not any(key in files for _, files in of_label):
+                yield f"names {call} {label or ''}, from where no definition of the file is reached"
+    for name in re.findall(r"`(\w+)`", tested):
+        if name not in test_names:
+            yield f"names the test {name}, which is not there"
+
+
+def row_to_begin_from(key, spec, clauses):
+    """A row for a file, with a call that reaches it, of its own crate where there is one."""
+    reaching = [it for it, files in clauses if key in files]
+    reaching.sort(key=lambda it: it.crate != key[0])
+    question = spec.question.partition("?")[0] + "?"
+    call = f"`{call_of(reaching[0])}` ({reaching[0].label})"
+    return f"| `{key[1]}` | {question} | own | {call} | none |"
+
+
+def check(spec_of, wanted, clauses):
+    status, seen, test_names = 0, set(), tests()
+    files = {it[:2] for it in wanted}
+    for place, crate, file, cells in rows():
+        key = crate, file
+        faults = list(faults_of_row(key, cells, clauses, test_names)) if key in files else []
+        if key in seen:
+            faults.append("has a second row")
+        if key not in files:
+            faults.append("is reached by no public call, or is not there")
+        seen.add(key)
+        for it in faults:
+            print(f"docs/DEFINITIONS.md:{place}: {crate}/specs/{file}.antt {it}")
+            status = 1
+    for key in [it for it in spec_of if it in files and it not in seen]:
+        print(f"docs/DEFINITIONS.md: under the heading {key[0]} a row lacks:")
+        print(row_to_begin_from(key, spec_of[key], clauses))
+        status = 1
+    if not status:
+        print(f"docs/DEFINITIONS.md has a row for each of the {len(files)} files whose definitions")
+        print(f"the public calls reach, {len(wanted)} definitions in all")
+    return status
 
 
 def main(words):
     spec_of = specs()
-    wanted = reached(spec_of)
+    reach = Reach(spec_of)
+    clauses, wanted = [], set()
+    for clause in public_clauses():
+        found = reach.of(clause)
+        wanted |= found
+        clauses.append((clause, {it[:2] for it in found}))
     if words == ["--list"]:
-        for it in wanted:
-            print(*it, sep="\t")
+        for key, spec in spec_of.items():
+            for name in spec.bodies:
+                if (*key, name) in wanted:
+                    print(*key, name, spec.says[name], sep="\t")
         return 0
-    if words == ["--write"]:
-        rewritten(wanted, spec_of)
+    if words == ["--calls"]:
+        for key in spec_of:
+            for clause, files in clauses:
+                if key in files:
+                    print(*key, f"{clause.crate}: {call_of(clause)}", clause.label, sep="\t")
         return 0
     if words:
-        fail("it takes no words, --list or --write")
-    _, there = parsed()
-    status = 0
-    for key, rows in sections(wanted).items():
-        should = [row(*it) for it in rows]
-        for it in should:
-            if it not in there.get(key, []):
-                print("lacking or changed:", HEADING.format(*key), it)
-                status = 1
-    for key, rows in there.items():
-        should = [row(*it) for it in sections(wanted).get(key, [])]
-        for it in rows:
-            if it not in should:
-                print("listed without need:", HEADING.format(*key), it)
-                status = 1
-        if not should and not rows:
-            print("a heading without definitions:", HEADING.format(*key))
-            status = 1
-    if not status:
-        print(f"docs/DEFINITIONS.md lists the {len(wanted)} definitions that the public calls reach")
-    return status
+        sys.exit("check_definitions: it takes no words, --list or --calls")
+    return check(spec_of, wanted, clauses)
 
 
 if __name__ == "__main__":
