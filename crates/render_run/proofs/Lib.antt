@@ -1,10 +1,9 @@
-pub mod StandIns
-pub mod Passing
-pub mod Counting
-pub mod Said
-pub mod OneMore
-pub mod Replies
-pub mod LookLemmas
-pub mod Fetching
-pub mod Taken
-pub mod Endings
+mod Passing
+mod Taken
+mod Counting
+mod DealingLemmas
+mod RegionLemmas
+mod OneMore
+mod Rounds
+mod Folders
+mod Endings

@@ -1,147 +1,150 @@
--- One request more is answered.
-use Rattle.std.proofs.Common.{◌≡◌, ℕ, Bool, true, false, ◌||◌, List, [], ◌∷◌, ◌++◌}
-use Rattle.std.proofs.Common.{slice_index, Option, Some, refl, sym, ap, ◌∙◌, arith}
+-- One line more, and the lines of one round more.
+use Rattle.std.proofs.Common.{◌≡◌, ℕ, ◌+◌, ◌%◌, ◌<◌, List, [], ◌∷◌, ◌++◌}
+use Rattle.std.proofs.Common.{map, length, slice_index, Option, Some, refl, sym, ap, subst, ◌∙◌}
+use Rattle.std.proofs.Common.{append_assoc, arith}
+use Rattle.std.specs.List.{All, range_with_len}
 use Rattle.std.proofs.lemmas.List.{append-nil}
-use Rattle.std.proofs.lemmas.List.Folds.{list_any-append}
 use Rattle.std.proofs.lemmas.List.Sums.{sum_by_push}
-use Rattle.std.proofs.lemmas.List.Concat.{flat_map-append}
-use Rattle.std.proofs.lemmas.List.Elements.{All-push}
+use Rattle.std.proofs.lemmas.List.Elements.{All-push, All-nil, All-cons}
 use Rattle.std.proofs.lemmas.List.Quantifiers.{all_pairs_push}
-use Rattle.tex_world.specs.Stream.{AppendsPart}
 use Rattle.request_lang.specs.declared.request.Request.{Request}
 use Rattle.request_lang.specs.declared.answer.Answer.{Answer}
-use Rattle.render_run.specs.Around.{SourceState, SinkState, Progress, Catalog, progress_of}
-use Rattle.request_lang.specs.Line.{line_of}
-use Rattle.request_lang.specs.Basis.{is_refusal, basis_of, is_fault, is_move}
-use Rattle.render_run.specs.Reply.{Placed, MeetsAt, file_named_in}
+use Rattle.request_lang.specs.Basis.{basis_of, is_fault, is_move}
+use Rattle.tex_world.specs.World.{Files}
+use Rattle.tile_layout.specs.declared.cut.Cut.{Cut}
+use Rattle.render_run.specs.declared.question.Task.{Task}
+use Rattle.render_run.specs.Around.{SourceState, Sight, Setup}
+use Rattle.render_run.specs.Question.{task_of}
+use Rattle.render_run.specs.Dealing.{Place, place}
+use Rattle.render_run.specs.Reply.{Line, Meets, MeetsAll}
 use Rattle.render_run.specs.Fresh.{IsFresher}
-use Rattle.render_run.specs.Run.{AreLinesFor, some_refused, lines_text}
-use Rattle.render_run.specs.Answering.{GoesOn, HasCause, IsKnown, KeepsKnown, IsKnownOf}
-use Rattle.render_run.specs.Answering.{AreLinesSoFar, SoFar}
-use Rattle.render_run.specs.Page.{outgoing_of, Says, Writes, WritesPart}
+use Rattle.render_run.specs.Answering.{AnswersTask, AnswersEach, IsSeenOf, AreLinesSoFar}
 use Rattle.render_run.proofs.Counting.{one_if, faults_more, moves_more}
-use Rattle.render_run.proofs.Passing.{passes_more, passes_part}
-use Rattle.render_run.proofs.Said.{said_meets, said_early, said_late, meets_push}
 
--- the text of lines with one more
-text_more : (lines : List Placed) (line : Placed)
-    → lines_text (lines ++ line ∷ []) ≡ lines_text lines ++ line_of line.answer
-text_more lines line =
-    flat_map-append (λ (l : Placed). line_of l.answer) lines (line ∷ [])
-    ∙ ap (λ (t : List ℕ). lines_text lines ++ t) (append-nil (line_of line.answer))
+-- a line more meets a request more
+pub meets_push : (setup : Setup) (rs : List Request) (lines : List Line) (r : Request)
+    (line : Line) → MeetsAll setup rs lines → Meets setup r line
+    → MeetsAll setup (rs ++ r ∷ []) (lines ++ line ∷ [])
+meets_push setup [] [] r line met meets = (meets, tt)
+meets_push setup [] (l ∷ lines) r line met meets = absurd met
+meets_push setup (s ∷ rs) [] r line met meets = absurd met
+meets_push setup (s ∷ rs) (l ∷ lines) r line met meets =
+    (met.0, meets_push setup rs lines r line met.1 meets)
 
--- a test, or none
-or_false : (b : Bool) → (b || false) ≡ b
-or_false true = refl
-or_false false = refl
-
--- some line is a refusal, or the one more is
-refused_push : (lines : List Placed) (line : Placed)
-    → some_refused (lines ++ line ∷ []) ≡ (some_refused lines || is_refusal line.answer)
-refused_push lines line =
-    list_any-append (λ (l : Placed). is_refusal l.answer) lines (line ∷ [])
-    ∙ ap (λ (b : Bool). some_refused lines || b) (or_false (is_refusal line.answer))
-
--- ---- all together
-
-module _ (catalog : Catalog) (rs : List Request) (r : Request) (file : Option ℕ)
-    (before after : List ℕ) (answer : Answer) (t0 t1 t2 : SourceState)
-    (found : file ≡ file_named_in catalog r) (meets : MeetsAt catalog.files file r answer)
-    (one : KeepsKnown catalog.files file before after answer)
-    (cause : HasCause t1 t2 (basis_of answer)) (on : GoesOn t1 t2) where
-  -- a line that stands for the answer, on its file
-  placed : Answer → Placed
-  placed line = record { file = file; answer = line }
-
-  -- the lines with one more tell as much
-  lines_more : (lines : List Placed) (line : Answer)
-      → AreLinesSoFar catalog rs before t0 t1 lines → Says answer line
-      → AreLinesSoFar catalog (rs ++ r ∷ []) after t0 t2 (lines ++ placed line ∷ [])
-  unfolding placed
-  lines_more lines line told says = record {
-    lines_for = record {
-      met = meets_push catalog rs lines r (placed line) told.lines_for.met (record {
-        file = found;
-        answer = said_meets catalog.files file r answer line meets says;
-      });
-      fresh = all_pairs_push IsFresher lines (placed line) told.lines_for.fresh
-          (λ k d lt n first second g late h early.
-          let known = told.seen_all k d lt n first g late in
-          let newer =
-          said_early (slice_index before n) (slice_index after n) answer line
-          (one.fresh n second) says h early in
-          omega (arith, known, newer));
-      faults =
-          rw (sum_by_push (λ (l : Placed). one_if (is_fault (basis_of l.answer))) lines
-          (placed line))
-          (faults_more _ t0 t1 t2 answer line says cause on told.lines_for.faults);
-      moves =
-          rw (sum_by_push (λ (l : Placed). one_if (is_move (basis_of l.answer))) lines
-          (placed line))
-          (moves_more _ t0 t1 t2 answer line says cause on told.lines_for.moves);
-    };
-    seen_all = All-push (IsKnownOf after) lines (placed line)
-        (λ k d lt n is g late. let known = told.seen_all k d lt n is g late in
-        omega (arith, known, one.later n))
-        (λ n is. said_late (slice_index before n) (slice_index after n) answer line
-        (one.fresh n is) says);
-    known = one.known;
+module _ (setup : Setup) (old : SourceState) where
+  -- what the lines tell, with one more
+  lines_more : (front : List Request) (lines : List Line) (r : Request) (line : Line)
+      (before after : Sight)
+      → AreLinesSoFar setup front old before lines
+      → line.file ≡ (task_of setup.number_of r).file
+      → AnswersTask setup.files setup.cut (task_of setup.number_of r) before after line.answer
+      → AreLinesSoFar setup (front ++ r ∷ []) old after (lines ++ line ∷ [])
+  lines_more front lines r line before after told found one = record {
+    met = meets_push setup front lines r line told.met (record {
+      file = found;
+      answer = rw found one.meets;
+    });
+    fresh = all_pairs_push IsFresher lines line told.fresh
+        (λ k d lt placed n first second g late h early.
+        let known = told.seen k d lt n first g late in
+        let newer = (one.after.fresh n (sym found ∙ second)).early h early in
+        omega (arith, known, newer));
+    faults =
+        rw (sum_by_push (λ (l : Line). one_if (is_fault (basis_of l.answer))) lines line)
+        (faults_more _ old before.source after.source one.after.counts (basis_of line.answer)
+        one.after.cause told.faults);
+    moves =
+        rw (sum_by_push (λ (l : Line). one_if (is_move (basis_of l.answer))) lines line)
+        (moves_more _ old before.source after.source one.after.counts (basis_of line.answer)
+        one.after.cause told.moves);
+    seen = All-push (IsSeenOf after.seen) lines line
+        (λ k d lt n is g late. let known = told.seen k d lt n is g late in
+        omega (arith, known, one.after.later n))
+        (λ n is. (one.after.fresh n (sym found ∙ is)).late);
   }
 
-  module _ (s0 s1 s2 : SinkState) (p1 p2 : List ℕ) where
-    -- they were passed on with it
-    pub one_more : (refused said both : Bool)
-        → SoFar catalog rs before (progress_of t0 s0) (progress_of t1 s1) p1 refused
-        → Writes answer (outgoing_of p1 s1) (outgoing_of p2 s2) said → both ≡ (refused || said)
-        → SoFar catalog (rs ++ r ∷ []) after (progress_of t0 s0) (progress_of t2 s2) p2 both
-    unfolding placed
-    one_more refused said both so_far wrote either = record {
-      lines = so_far.lines ++ placed wrote.line ∷ [];
-      so_far = lines_more so_far.lines wrote.line so_far.so_far wrote.says;
-      written =
-          rw (text_more so_far.lines (placed wrote.line))
-          (passes_more _ (line_of wrote.line) (outgoing_of [] s0) (outgoing_of p1 s1)
-          (outgoing_of p2 s2) so_far.written wrote.passes);
-      refusal =
-          either ∙ rw (so_far.refusal, wrote.refusal)
-          (sym (refused_push so_far.lines (placed wrote.line)));
-    }
+-- ---- the lines of a round
 
-    -- or a first part of them was put
-    pub part_of_one_more : (refused : Bool)
-        → SoFar catalog rs before (progress_of t0 s0) (progress_of t1 s1) p1 refused
-        → WritesPart answer (outgoing_of p1 s1) s2.holds
-        → (lines : List Placed)
-        × AreLinesFor catalog (rs ++ r ∷ []) t0 t2 lines
-        × AppendsPart (lines_text lines) s0.holds s2.holds
-    unfolding placed
-    part_of_one_more refused so_far wrote = (
-      so_far.lines ++ placed wrote.line ∷ [],
-      (lines_more so_far.lines wrote.line so_far.so_far wrote.says).lines_for,
-      rw (text_more so_far.lines (placed wrote.line))
-          (passes_part _ (line_of wrote.line) (outgoing_of [] s0) (outgoing_of p1 s1) s2.holds
-          so_far.written wrote.part),
-    )
+module _ (setup : Setup) (round : ℕ) where
+  -- the lines of answers of a round, the first of which is its i-th
+  unfoldable pub placed : ℕ → List Request → List Answer → List Line
+  placed i [] answers = []
+  placed i (r ∷ rs) [] = []
+  placed i (r ∷ rs) (a ∷ answers) = record {
+    place = place round (i % setup.workers);
+    file = (task_of setup.number_of r).file;
+    answer = a;
+  } ∷ placed (i + 1) rs answers
 
--- before the first request
-pub none_yet : (catalog : Catalog) (seen : List ℕ) (progress : Progress)
-    → IsKnown catalog.files seen → SoFar catalog [] seen progress progress [] false
-none_yet catalog seen progress known = record {
-  lines = [];
-  so_far = record {
-    lines_for = record {
-      met = tt;
-      fresh = λ i j d lt below. absurd (omega arith);
-      faults = record { later = omega arith; by_n = λ below. omega arith };
-      moves = record { later = omega arith; by_n = λ below. omega arith };
-    };
-    seen_all = λ k d lt. absurd (omega arith);
-    known = known;
-  };
-  written = record {
-    put = [];
-    all = refl;
-    appended = λ bytes is. is ∙ ap Some (sym (append-nil bytes));
-  };
-  refusal = refl;
-}
+  -- what the lines tell, with those of a round more
+  pub round_more : (old : SourceState) (front : List Request) (lines : List Line) (i : ℕ)
+      (rs : List Request) (answers : List Answer) (before after : Sight)
+      → AreLinesSoFar setup front old before lines
+      → AnswersEach setup.files setup.cut (map (task_of setup.number_of) rs) answers before after
+      → AreLinesSoFar setup (front ++ rs) old after (lines ++ placed i rs answers)
+  unfolding placed
+  round_more old front lines i [] [] before after told each =
+      rw (append-nil front, append-nil lines, each) told
+  round_more old front lines i [] (a ∷ answers) before after told each = absurd each
+  round_more old front lines i (r ∷ rs) [] before after told each = absurd each
+  round_more old front lines i (r ∷ rs) (a ∷ answers) before after told each =
+      let line : Line = record {
+        place = place round (i % setup.workers);
+        file = (task_of setup.number_of r).file;
+        answer = a;
+      } in
+      let rest = round_more old (front ++ r ∷ []) (lines ++ line ∷ []) (i + 1) rs answers each.0
+      after (lines_more setup old front lines r line before each.0 told refl each.1) each.2 in
+      subst (λ (requests : List Request). AreLinesSoFar setup requests old after
+      (lines ++ (line ∷ placed (i + 1) rs answers))) (append_assoc front (r ∷ []) rs)
+      (subst (λ (all : List Line). AreLinesSoFar setup ((front ++ r ∷ []) ++ rs) old after all)
+      (append_assoc lines (line ∷ []) (placed (i + 1) rs answers)) rest)
+
+  -- where they lie
+  pub placed_places : (i : ℕ) (rs : List Request) (answers : List Answer) (before after : Sight)
+      → AnswersEach setup.files setup.cut (map (task_of setup.number_of) rs) answers before after
+      → map (λ (l : Line). l.place) (placed i rs answers)
+      ≡ map (λ k. place round (k % setup.workers)) (range_with_len i (length rs))
+  unfolding placed
+  placed_places i [] [] before after each = refl
+  placed_places i [] (a ∷ answers) before after each = absurd each
+  placed_places i (r ∷ rs) [] before after each = absurd each
+  placed_places i (r ∷ rs) (a ∷ answers) before after each =
+      ap (λ (rest : List Place). place round (i % setup.workers) ∷ rest)
+      (placed_places (i + 1) rs answers each.0 after each.2)
+
+  -- their answers
+  pub placed_answers : (i : ℕ) (rs : List Request) (answers : List Answer) (before after : Sight)
+      → AnswersEach setup.files setup.cut (map (task_of setup.number_of) rs) answers before after
+      → map (λ (l : Line). l.answer) (placed i rs answers) ≡ answers
+  unfolding placed
+  placed_answers i [] [] before after each = refl
+  placed_answers i [] (a ∷ answers) before after each = absurd each
+  placed_answers i (r ∷ rs) [] before after each = absurd each
+  placed_answers i (r ∷ rs) (a ∷ answers) before after each =
+      ap (λ (rest : List Answer). a ∷ rest)
+      (placed_answers (i + 1) rs answers each.0 after each.2)
+
+  -- they are in the round
+  pub placed_rounds : (i : ℕ) (rs : List Request) (answers : List Answer)
+      → All (λ l. l.place.round < round + 1) (placed i rs answers)
+  unfolding placed
+  placed_rounds i [] answers = All-nil (λ (l : Line). l.place.round < round + 1)
+  placed_rounds i (r ∷ rs) [] = All-nil (λ (l : Line). l.place.round < round + 1)
+  placed_rounds i (r ∷ rs) (a ∷ answers) =
+      All-cons (λ (l : Line). l.place.round < round + 1) _ _ (omega arith)
+      (placed_rounds (i + 1) rs answers)
+
+-- ---- one answer more of a round
+
+-- a worker answered one request more
+pub each_push : (files : Files) (cut : Cut) (tasks : List Task) (answers : List Answer)
+    (old mid new : Sight) (task : Task) (answer : Answer)
+    → AnswersEach files cut tasks answers old mid → AnswersTask files cut task mid new answer
+    → AnswersEach files cut (tasks ++ task ∷ []) (answers ++ answer ∷ []) old new
+each_push files cut [] [] old mid new task answer each one =
+    (new, subst (λ (s : Sight). AnswersTask files cut task s new answer) each one, refl)
+each_push files cut [] (a ∷ answers) old mid new task answer each one = absurd each
+each_push files cut (t ∷ tasks) [] old mid new task answer each one = absurd each
+each_push files cut (t ∷ tasks) (a ∷ answers) old mid new task answer each one =
+    (each.0, each.1, each_push files cut tasks answers each.0 mid new task answer each.2 one)

@@ -1,6 +1,7 @@
 -- Texts that are passed on one after another.
 use Rattle.std.proofs.Common.{◌≡◌, ℕ, ◌+◌, List, [], ◌++◌, length, take, Option, Some}
-use Rattle.std.proofs.Common.{Result, Ok, Err, OnOk, OnErr, sym, ap, ◌∙◌, append_assoc, arith}
+use Rattle.std.proofs.Common.{Result, Ok, Err, OnOk, OnErr, refl, sym, ap, ◌∙◌, append_assoc}
+use Rattle.std.proofs.Common.{arith}
 use Rattle.std.proofs.Math.Seq.{take-append-add}
 use Rattle.std.proofs.lemmas.List.{append-nil, length-append, take-append-le}
 use Rattle.tex_world.specs.Stream.{Appends, AppendsPart}
@@ -125,3 +126,33 @@ pub rest_part : (text : List ℕ) (old mid : Outgoing) (new : Option (List ℕ))
 rest_part text old mid new passes part =
     rw (← passes.all)
     (part_more passes.put mid.waits old.holds mid.holds new passes.appended part)
+
+-- of a longer text no more was put
+pub rest_longer : (front behind text : List ℕ) (old mid : Outgoing) (new : Option (List ℕ))
+    → front ++ behind ≡ text → Passes front old mid → AppendsPart mid.waits mid.holds new
+    → PassesPart text old new
+rest_longer front behind text old mid new whole passes part =
+    rw (← whole, ← append_assoc old.waits front behind)
+    (part_of_longer (old.waits ++ front) behind old.holds new
+    (rest_part front old mid new passes part))
+
+-- a first part of a text is one of a longer text
+pub passes_longer : (a b text : List ℕ) (old : Outgoing) (new : Option (List ℕ))
+    → a ++ b ≡ text → PassesPart a old new → PassesPart text old new
+passes_longer a b text old new whole part =
+    rw (← whole, ← append_assoc old.waits a b)
+    (part_of_longer (old.waits ++ a) b old.holds new part)
+
+-- a text behind one that was passed on, where it was passed on too
+pub then_ok : {T E : Type 0} (a b : List ℕ) (old mid new : Outgoing) (r : Result T E)
+    → Passes a old mid → OnOk r (Passes b mid new) → OnOk r (Passes (a ++ b) old new)
+then_ok a b old mid new (Ok done) first second = passes_more a b old mid new first second
+then_ok a b old mid new (Err e) first second = tt
+
+-- and where the sink failed
+pub then_part : {T E : Type 0} (a b : List ℕ) (old mid : Outgoing) (new : Option (List ℕ))
+    (r : Result T E) → Passes a old mid → OnErr r (AppendsPart mid.waits mid.holds new)
+    → OnErr r (PassesPart (a ++ b) old new)
+then_part a b old mid new (Ok done) first part = tt
+then_part a b old mid new (Err e) first part =
+    rest_longer a b (a ++ b) old mid new refl first part

@@ -3,6 +3,8 @@ use Rattle.std.specs.Prelude.{ℕ, List, Option}
 use Rattle.tex_world.specs.World.{Files}
 use Rattle.tex_world.specs.Tap.{TapState}
 use Rattle.tex_world.specs.Folder.{FolderState}
+use Rattle.tile_layout.specs.declared.cut.Cut.{Cut}
+use Rattle.image_cache.specs.Pass.{PassState}
 
 -- of a feed: how often it has failed, and what it has left, where it tells
 pub record FeedState : Type 0 where
@@ -53,10 +55,18 @@ pub record Progress : Type 0 where
   pub source : SourceState
   pub sink : SinkState
 
--- the files of the world, and the number that a name has among the files of the folder, if any
-pub record Catalog : Type 0 where
+-- What requests are answered over: the files of the world, the number that a name has among those of
+-- the folder, if any, how levels are cut, and how many workers there are.
+pub record Setup : Type 0 where
   pub files : Files
   pub number_of : List ℕ → Option ℕ
+  pub cut : Cut
+  pub workers : ℕ
+
+-- what a worker has seen of each file, and the source that its tap is
+pub record Sight : Type 0 where
+  pub seen : List ℕ
+  pub source : SourceState
 
 -- all three
 abbrev pub around_of : FolderState → FeedState → SinkState → Around
@@ -70,6 +80,11 @@ inputs_of folder feed = record { folder = folder; feed = feed }
 abbrev pub progress_of : SourceState → SinkState → Progress
 progress_of source sink = record { source = source; sink = sink }
 
--- the files as a folder numbers them
-abbrev pub catalog_of : Files → FolderState → Catalog
-catalog_of files folder = record { files = files; number_of = folder.number_of }
+-- the files as a folder numbers them, under a cut, for so many workers
+abbrev pub setup_of : Files → FolderState → Cut → ℕ → Setup
+setup_of files folder cut workers =
+    record { files = files; number_of = folder.number_of; cut = cut; workers = workers }
+
+-- the two of a worker, by its pass and its tap
+abbrev pub sight_of : PassState → TapState → Sight
+sight_of pass tap = record { seen = pass.view.seen; source = source_of_tap tap }

@@ -1,7 +1,7 @@
 -- Why does the top call end before it answers a list, and with which status and text?
 -- (docs/REQUESTS.md, "Statuses")
 use Rattle.std.specs.Prelude.{◌≡◌, ◌⊎◌, ℕ, IsTrue, codes, List, [], ◌∷◌, ◌++◌, map, Option, None}
-use Rattle.std.specs.Prelude.{IsSome, Result, Ok, Err, String, ⊤}
+use Rattle.std.specs.Prelude.{IsSome, IsSomeAnd, Result, Ok, Err, String, false, ⊤}
 use Rattle.std.specs.Option.{option_map}
 use Rattle.std.specs.String.{string_bytes}
 use Rattle.std.specs.Global.{Global, Vec}
@@ -11,7 +11,9 @@ use Rattle.tex_world.specs.Folder.{FolderState}
 use Rattle.command_line.specs.declared.invocation.WordsError.{WordsError}
 use Rattle.command_line.specs.declared.invocation.WordsError.TheVariants.{Bad}
 use Rattle.command_line.specs.declared.invocation.WordsError.TheVariants as words
-use Rattle.command_line.specs.Invocation.{invocation_of}
+use Rattle.command_line.specs.Invocation.{Asked, invocation_of}
+use Rattle.command_line.specs.declared.options.Options.{Options}
+use Rattle.tile_layout.specs.declared.cut.Cut.{Cut}
 use Rattle.request_lang.specs.declared.request.Request.{Request}
 use Rattle.render_run.specs.declared.prepare.Ending.{Ending}
 use Rattle.render_run.specs.declared.prepare.Ending.TheVariants.{BadWords, FolderFault}
@@ -23,9 +25,21 @@ use Rattle.request_lang.specs.Grammar.{Parsed, line_feed}
 use Rattle.request_lang.specs.Line.{bad_list_line}
 use Rattle.render_run.specs.ListRead.{FeedSays}
 
--- the path of the folder that the words of the command line name, where they are its words
-abbrev pub path_of : List (String Global) → Option (List ℕ)
-path_of words = option_map (λ asked. asked.0) (invocation_of (map string_bytes words))
+-- what the words of the command line ask for, where they are its words
+abbrev pub asked_by : List (String Global) → Option Asked
+asked_by words = invocation_of (map string_bytes words)
+
+-- the path of the folder
+abbrev pub path_in : Option Asked → Option (List ℕ)
+path_in asked = option_map (λ a. a.0) asked
+
+-- these options are asked for
+abbrev pub HasOptions : Option Asked → Options → Type 0
+HasOptions asked options = IsSomeAnd asked (λ a. a.1 ≡ options)
+
+-- the cut that is used: levels that a file does not store are not made yet
+abbrev pub cut_used : Cut → Cut
+cut_used cut = record { autotile = cut.autotile; automip = false }
 
 -- why the words name no folder
 abbrev pub WordsCause : Option (List ℕ) → WordsError → Type 0

@@ -1,10 +1,9 @@
 pub mod Question
 pub mod Status
 pub mod Around
-pub mod Look
-pub mod LookLaws
+pub mod Dealing
+pub mod Refusal
 pub mod Reply
-pub mod ReplyMade
 pub mod Fresh
 pub mod ListRead
 pub mod Ending

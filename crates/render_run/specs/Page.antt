@@ -1,10 +1,7 @@
 -- What is on its way to a sink, and what becomes of it?
-use Rattle.std.specs.Prelude.{◌≡◌, ◌⊎◌, ℕ, Bool, List, ◌++◌, Option}
+use Rattle.std.specs.Prelude.{◌≡◌, ℕ, ◌+◌, List, ◌++◌, Option}
 use Rattle.tex_world.specs.Stream.{Appends, AppendsPart}
-use Rattle.request_lang.specs.declared.answer.Answer.{Answer}
-use Rattle.request_lang.specs.declared.answer.Answer.TheVariants.{Synced, NoMemory}
-use Rattle.request_lang.specs.Basis.{is_refusal}
-use Rattle.request_lang.specs.Line.{line_of}
+use Rattle.request_lang.specs.Appending.{max_part_bytes, room_values}
 use Rattle.render_run.specs.Around.{SinkState}
 
 -- what waits on the page, and what the sink holds, where it tells
@@ -27,27 +24,16 @@ pub record Passes (text : List ℕ) (old new : Outgoing) : Type 0 where
 abbrev pub PassesPart : List ℕ → Outgoing → Option (List ℕ) → Type 0
 PassesPart text old new = AppendsPart (old.waits ++ text) old.holds new
 
--- ---- an answer
+-- ---- room
 
--- The line that stands for an answer where no memory is found for its own. The end of a round has
--- its own: telling it takes no memory.
-abbrev pub stand_in : Answer → Answer
-stand_in Synced = Synced
-stand_in _ = NoMemory
+-- a page of so many bytes is full
+abbrev pub page_bytes : ℕ
+page_bytes = 65536
 
--- the line is the answer's own, or the one that stands for it
-abbrev pub Says : Answer → Answer → Type 0
-Says answer line = (line ≡ answer) ⊎ (line ≡ stand_in answer)
+-- the bytes that a page has room for: a part of a line more
+abbrev pub room_bytes : ℕ
+room_bytes = page_bytes + max_part_bytes
 
--- A line that says the answer was passed on, and it is a refusal or not.
-pub record Writes (answer : Answer) (old new : Outgoing) (refused : Bool) : Type 0 where
-  pub line : Answer
-  pub says : Says answer line
-  pub refusal : refused ≡ is_refusal line
-  pub passes : Passes (line_of line) old new
-
--- A first part of what waits and of such a line was put before the sink failed.
-pub record WritesPart (answer : Answer) (old : Outgoing) (new : Option (List ℕ)) : Type 0 where
-  pub line : Answer
-  pub says : Says answer line
-  pub part : PassesPart (line_of line) old new
+-- how many values a part of a line has
+abbrev pub part_values : ℕ
+part_values = room_values

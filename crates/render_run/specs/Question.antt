@@ -2,13 +2,16 @@
 -- today")
 use Rattle.std.specs.Prelude.{ℕ, ◌*◌, nat_lt, nat_le, ◌&&◌, Bool, true, false, List, Option, Some}
 use Rattle.std.specs.Prelude.{None}
+use Rattle.std.specs.Option.{option_and_then}
 use Rattle.texel_filter.specs.declared.request.TexRequest.{TexRequest}
 use Rattle.texel_filter.specs.Image.{max_channels}
+use Rattle.texel_values.specs.Region.{max_texels}
 use Rattle.request_lang.specs.declared.request.Request.{Request}
 use Rattle.request_lang.specs.declared.request.Request.TheVariants.{Tex, Pixels, Info, Hold}
 use Rattle.request_lang.specs.declared.request.Request.TheVariants.{Invalidate, Renew, Sync}
 use Rattle.render_run.specs.declared.question.Question.{Question}
 use Rattle.render_run.specs.declared.question.Question.TheVariants.{Facts, Values, Look}
+use Rattle.render_run.specs.declared.question.Task.{Task}
 
 -- the lookup asks for a number of channels that it may ask for, as each in a list does
 abbrev pub has_channels : TexRequest → Bool
@@ -40,17 +43,18 @@ question_of (Info name) = Some Facts
 question_of (Tex request name) = Some (Look request)
 question_of _ = None
 
+-- what a worker is given of a request: its question, and the number of the file of its name
+abbrev pub task_of : (List ℕ → Option ℕ) → Request → Task
+task_of number_of r =
+    record { file = option_and_then number_of (name_in r); question = question_of r }
+
 -- a lookup asks for a number of channels that it may ask for
 abbrev pub may_be_asked : Question → Bool
 may_be_asked (Look request) = has_channels request
 may_be_asked Facts = true
 may_be_asked (Values region) = true
 
--- the most texels that a region may have
-abbrev pub max_texels : ℕ
-max_texels = 1048576
-
--- a region of more texels is asked for
+-- a region of more texels is asked for than a region may have
 abbrev pub is_too_large : Question → Bool
 is_too_large (Values region) = nat_lt max_texels (region.w * region.h)
 is_too_large Facts = false

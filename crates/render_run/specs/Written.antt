@@ -1,12 +1,20 @@
 -- What is written for an ending, and what is left around a call?
-use Rattle.std.specs.Prelude.{◌≡◌, ◌⊎◌, ℕ, ◌≤◌, List}
+use Rattle.std.specs.Prelude.{◌≡◌, ◌⊎◌, ℕ, ◌≤◌, Bool, List, length, if◌then◌else◌}
+use Rattle.std.specs.Prelude.{Result, Ok, Err}
 use Rattle.tex_world.specs.Counts.{Rises}
 use Rattle.tex_world.specs.Folder.{FolderState}
 use Rattle.tex_world.specs.Stream.{Appends, AppendsPart}
 use Rattle.render_run.specs.declared.prepare.Ending.{Ending}
 use Rattle.render_run.specs.declared.prepare.Ending.TheVariants as ending
 use Rattle.render_run.specs.Status as status
-use Rattle.render_run.specs.Around.{SinkState}
+use Rattle.request_lang.specs.declared.request.Request.{Request}
+use Rattle.render_run.specs.declared.answering.Unfinished.{Unfinished}
+use Rattle.render_run.specs.declared.answering.Unfinished.TheVariants.{NotWritten}
+use Rattle.render_run.specs.declared.answering.Unfinished.TheVariants as unfinished
+use Rattle.render_run.specs.Around.{SinkState, Setup, Sight, Progress}
+use Rattle.render_run.specs.Dealing.{AreWholeRounds, places_of}
+use Rattle.render_run.specs.Run.{Answers, lines_text, some_refused}
+use Rattle.render_run.specs.Answering.{SoFar}
 use Rattle.render_run.specs.Ending.{status_of, ending_text}
 
 -- ---- an ending
@@ -41,6 +49,58 @@ EndedAs (ending.NotAList bad) old new ends =
     StatusWritten (ending_text (ending.NotAList bad)) status.bad_list old new ends
     ⊎ LacksMemory old new ends
 EndedAs e old new ends = StatusWritten (ending_text e) (status_of e) old new ends
+
+-- ---- the lines of a list
+
+-- All of the list was answered and written, and some line is a refusal, or none.
+pub record Finishes (setup : Setup) (requests : List Request) (old new : Progress) (refused : Bool)
+    : Type 0 where
+  pub answers : Answers setup requests (length requests) old.source new.source
+  pub written : Appends (lines_text answers.lines) old.sink.holds new.sink.holds
+  pub refusal : refused ≡ some_refused answers.lines
+
+-- All of the list was answered and written. The status tells whether some line is a refusal.
+pub record AnswersAll (setup : Setup) (requests : List Request) (old new : Progress) (ends : ℕ)
+    : Type 0 where
+  pub answers : Answers setup requests (length requests) old.source new.source
+  pub written : Appends (lines_text answers.lines) old.sink.holds new.sink.holds
+  pub refusal : ends ≡ (if some_refused answers.lines then status.with_refusals
+      else status.all_answered)
+
+-- A first part of the lines for some first requests was written before the sink failed.
+pub record PartWritten (setup : Setup) (requests : List Request) (old new : Progress)
+    : Type 0 where
+  pub count : ℕ
+  pub answers : Answers setup requests count old.source new.source
+  pub part : AppendsPart (lines_text answers.lines) old.sink.holds new.sink.holds
+  pub cause : Rises old.sink.faults new.sink.faults
+
+-- The lines of some first rounds were written, whole.
+pub record RoundsWritten (setup : Setup) (requests : List Request) (old new : Progress)
+    : Type 0 where
+  pub count : ℕ
+  pub answers : Answers setup requests count old.source new.source
+  pub whole : AreWholeRounds (places_of setup.workers requests) count
+  pub written : Appends (lines_text answers.lines) old.sink.holds new.sink.holds
+
+-- what was written where a list is not answered to its end
+abbrev pub LeavesUnfinished : Setup → List Request → Progress → Progress → Unfinished → Type 0
+LeavesUnfinished setup requests old new NotWritten = PartWritten setup requests old new
+LeavesUnfinished setup requests old new unfinished.NoMemory =
+    RoundsWritten setup requests old new
+
+-- the same, where the lines of whole rounds still wait on the page
+abbrev pub EndsEarly : Setup → List Request → Sight → Progress → Progress → List ℕ → Unfinished
+    → Type 0
+EndsEarly setup requests sight old new page NotWritten = PartWritten setup requests old new
+EndsEarly setup requests sight old new page unfinished.NoMemory =
+    (done : ℕ) × (refused : Bool) × SoFar setup requests done sight old new page refused
+
+-- the status of a list that was answered, or was not to its end
+abbrev pub list_status : Result Bool Unfinished → ℕ
+list_status (Ok refused) = if refused then status.with_refusals else status.all_answered
+list_status (Err NotWritten) = status.not_written
+list_status (Err unfinished.NoMemory) = status.no_memory
 
 -- ---- after the answers
 

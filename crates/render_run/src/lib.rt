@@ -1,15 +1,16 @@
 //! The top call of the texture service: it reads a list of requests and answers them from the files
-//! of a folder.
+//! of a folder, through the cache.
 #![tactic(auto)]
 
 mod answering;
+mod dealing;
 mod list;
 mod page;
 mod prepare;
 mod question;
-mod reply;
-mod texels;
+mod round;
 mod top;
+mod worker;
 
 pub use request_lang::{Answer, Name, Request, Values};
 pub use top::{NO_MEMORY, NOT_WRITTEN, run};

@@ -1,24 +1,27 @@
 //! Lines on their way to the sink: they wait on a page, which is put once it is full.
 
-ghost use Rattle.std.specs.Prelude.{◌≡◌, ◌≤◌, [], IfOk, OnOk, OnErr};
+ghost use Rattle.std.specs.Prelude.{◌≡◌, ◌≤◌, [], ◌∷◌, length};
+ghost use Rattle.std.specs.Prelude.{IfOk, OnOk, OnErr};
 ghost use Rattle.tex_world.specs.Counts.{Rises};
 ghost use Rattle.tex_world.specs.Stream.{AppendsPart};
-ghost use Rattle.request_lang.specs.Basis.{is_refusal};
-ghost use Rattle.request_lang.specs.Line.{line_of};
+ghost use Rattle.request_lang.specs.Grammar.{line_feed};
+ghost use Rattle.request_lang.specs.Line.{fields, head_of, line_of};
 ghost use Rattle.render_run.specs.Around.{sink_state};
-ghost use Rattle.render_run.specs.Page.{outgoing_of, Passes, PassesPart, stand_in};
-ghost use Rattle.render_run.specs.Page.{Writes, WritesPart};
+ghost use Rattle.render_run.specs.Page.{outgoing_of, Passes, PassesPart, page_bytes, part_values};
 
-use request_lang::{Answer, ValueTexts, line_text};
+use request_lang::{Answer, MAX_PART_BYTES, PART_VALUES, ValueTexts, head_text, values_text};
 use std::alloc::{AllocError, Global};
 use std::marker::Model;
-use tex_world::{Failed, NoMemory, Sink};
+use tex_world::{Failed, Sink};
 
 /// A page of so many bytes is full.
 const PAGE_BYTES: usize = 65536;
 
+/// The bytes that a page has room for: a part of a line more than one that is not full.
+const ROOM_BYTES: usize = PAGE_BYTES + MAX_PART_BYTES;
+
 /// The lines that wait, and the texts that values are printed by. Contracts see the bytes of the
-/// lines.
+/// lines. There is always room for a part of a line, so that no line takes memory.
 #[derive(Drop)]
 pub(crate) struct Page {
     text: Vec<u8>,
@@ -26,38 +29,24 @@ pub(crate) struct Page {
 }
 
 impl Model for Page {
-    ghost use Rattle.std.specs.Prelude.{List, ℕ};
+    ghost use Rattle.std.specs.Prelude.{List, ℕ, ◌≤◌, vec_len, vec_capacity};
+    ghost use Rattle.render_run.specs.Page.{room_bytes};
 
     ghost Value = { List ℕ };
 
     ghost view = { λ page. page.text.items };
-}
 
-/// The line that stands for an answer where no memory is found for its own.
-#[tactic(auto, unfolding(request_lang::specs::Line::text_of))]
-fn stand_in_text(answer: &Answer) -> &'static [u8]
-    ensures { result.now ≡ line_of (stand_in answer.now) }
-{
-    match answer {
-        Answer::Synced => b"sync\n",
-        _ => b"no memory\n",
-    }
-}
-
-/// That line is a refusal.
-fn stand_in_refuses(answer: &Answer) -> bool
-    ensures { result ≡ is_refusal (stand_in answer.now) }
-{
-    !matches!(answer, Answer::Synced)
+    ghost invariant = { λ page. (vec_len page.text ≤ room_bytes)
+        × (room_bytes ≤ vec_capacity page.text) };
 }
 
 impl Page {
-    /// A page on which nothing waits. Memory is asked for so that most pages need no more.
+    /// A page on which nothing waits.
     pub(crate) fn new(alloc: Global) -> Result<Page, AllocError>
         ensures { IfOk result (λ page. page ≡ []) }
     {
         Ok(Page {
-            text: Vec::with_capacity(alloc, PAGE_BYTES)?,
+            text: Vec::with_capacity(alloc, ROOM_BYTES)?,
             texts: ValueTexts::new(alloc)?,
         })
     }
@@ -81,57 +70,114 @@ impl Page {
         }
     }
 
-    /// Puts a full page.
-    fn put_full<O: Sink>(&mut self, out: &mut O) -> Result<(), Failed>
+    /// Puts what waits where there might be no room for a part of a line.
+    fn make_room<O: Sink>(&mut self, out: &mut O) -> Result<(), Failed>
         ensures ok { OnOk result (Passes []
+            (outgoing_of self.old (sink_state O.faults O.holds out.old))
+            (outgoing_of self.new (sink_state O.faults O.holds out.new))) }
+        ensures room { OnOk result (length self.new ≤ page_bytes) }
+        ensures part { OnErr result (AppendsPart self.old (O.holds out.old) (O.holds out.new)) }
+        ensures faults { O.faults out.old ≤ O.faults out.new }
+        ensures cause { OnErr result (Rises (O.faults out.old) (O.faults out.new)) }
+    {
+        if self.text.len() <= PAGE_BYTES {
+            return Ok(());
+        }
+        self.put(out)
+    }
+
+    /// Passes the line of an answer on. It takes no memory.
+    pub(crate) fn pass<O: Sink>(&mut self, out: &mut O, answer: &Answer) -> Result<(), Failed>
+        ensures ok { OnOk result (Passes (line_of answer.now)
+            (outgoing_of self.old (sink_state O.faults O.holds out.old))
+            (outgoing_of self.new (sink_state O.faults O.holds out.new))) }
+        ensures part { OnErr result (PassesPart (line_of answer.now)
+            (outgoing_of self.old (sink_state O.faults O.holds out.old)) (O.holds out.new)) }
+        ensures faults { O.faults out.old ≤ O.faults out.new }
+        ensures cause { OnErr result (Rises (O.faults out.old) (O.faults out.new)) }
+    {
+        if let Err(failed) = self.pass_head(out, answer) {
+            return Err(failed);
+        }
+        if let Err(failed) = self.pass_values(out, answer.values()) {
+            return Err(failed);
+        }
+        self.pass_end(out)
+    }
+
+    /// Passes a line on up to its values.
+    fn pass_head<O: Sink>(&mut self, out: &mut O, answer: &Answer) -> Result<(), Failed>
+        ensures ok { OnOk result (Passes (head_of answer.now)
             (outgoing_of self.old (sink_state O.faults O.holds out.old))
             (outgoing_of self.new (sink_state O.faults O.holds out.new))) }
         ensures part { OnErr result (AppendsPart self.old (O.holds out.old) (O.holds out.new)) }
         ensures faults { O.faults out.old ≤ O.faults out.new }
         ensures cause { OnErr result (Rises (O.faults out.old) (O.faults out.new)) }
     {
-        if self.text.len() < PAGE_BYTES {
-            return Ok(());
-        }
-        self.put(out)
-    }
-
-    /// Puts all that waits, and the line that stands for an answer behind it.
-    fn put_stand_in<O: Sink>(&mut self, out: &mut O, answer: &Answer) -> Result<(), Failed>
-        ensures ok { OnOk result (Passes (line_of (stand_in answer.now))
-            (outgoing_of self.old (sink_state O.faults O.holds out.old))
-            (outgoing_of self.new (sink_state O.faults O.holds out.new))) }
-        ensures part { OnErr result (PassesPart (line_of (stand_in answer.now))
-            (outgoing_of self.old (sink_state O.faults O.holds out.old)) (O.holds out.new)) }
-        ensures faults { O.faults out.old ≤ O.faults out.new }
-        ensures cause { OnErr result (Rises (O.faults out.old) (O.faults out.new)) }
-    {
-        if let Err(failed) = self.put(out) {
+        if let Err(failed) = self.make_room(out) {
             return Err(failed);
         }
-        out.put(stand_in_text(answer))
+        if let Err(_refused) = head_text(answer, &mut self.text) {
+            unreachable!()
+        }
+        Ok(())
     }
 
-    /// Passes the line of an answer on, or the one that stands for it where no memory is found, and
-    /// says whether that is a refusal.
-    pub(crate) fn pass<O: Sink>(&mut self, out: &mut O, answer: &Answer) -> Result<bool, Failed>
-        ensures ok { IfOk result (Writes answer.now
+    /// Passes values on, each behind a space.
+    fn pass_values<O: Sink>(&mut self, out: &mut O, values: &[u16]) -> Result<(), Failed>
+        ensures ok { OnOk result (Passes (fields values.now)
             (outgoing_of self.old (sink_state O.faults O.holds out.old))
             (outgoing_of self.new (sink_state O.faults O.holds out.new))) }
-        ensures part { OnErr result (WritesPart answer.now
+        ensures part { OnErr result (PassesPart (fields values.now)
             (outgoing_of self.old (sink_state O.faults O.holds out.old)) (O.holds out.new)) }
         ensures faults { O.faults out.old ≤ O.faults out.new }
         ensures cause { OnErr result (Rises (O.faults out.old) (O.faults out.new)) }
     {
-        match line_text(&self.texts, answer, &mut self.text) {
-            Ok(()) => match self.put_full(out) {
-                Ok(()) => Ok(answer.is_refusal()),
-                Err(failed) => Err(failed),
-            },
-            Err(NoMemory) => match self.put_stand_in(out, answer) {
-                Ok(()) => Ok(stand_in_refuses(answer)),
-                Err(failed) => Err(failed),
-            },
+        let mut rest = values;
+        'parts: while !rest.is_empty() {
+            let (part, after) = rest.split_at(rest.len().min(PART_VALUES));
+            if let Err(failed) = self.pass_part(out, part) {
+                return Err(failed);
+            }
+            rest = after;
         }
+        Ok(())
+    }
+
+    /// Passes a few values on, each behind a space.
+    fn pass_part<O: Sink>(&mut self, out: &mut O, values: &[u16]) -> Result<(), Failed>
+        requires few { length values.now ≤ part_values }
+        ensures ok { OnOk result (Passes (fields values.now)
+            (outgoing_of self.old (sink_state O.faults O.holds out.old))
+            (outgoing_of self.new (sink_state O.faults O.holds out.new))) }
+        ensures part { OnErr result (AppendsPart self.old (O.holds out.old) (O.holds out.new)) }
+        ensures faults { O.faults out.old ≤ O.faults out.new }
+        ensures cause { OnErr result (Rises (O.faults out.old) (O.faults out.new)) }
+    {
+        if let Err(failed) = self.make_room(out) {
+            return Err(failed);
+        }
+        if let Err(_refused) = values_text(&self.texts, values, &mut self.text) {
+            unreachable!()
+        }
+        Ok(())
+    }
+
+    /// Ends a line.
+    fn pass_end<O: Sink>(&mut self, out: &mut O) -> Result<(), Failed>
+        ensures ok { OnOk result (Passes (line_feed ∷ [])
+            (outgoing_of self.old (sink_state O.faults O.holds out.old))
+            (outgoing_of self.new (sink_state O.faults O.holds out.new))) }
+        ensures part { OnErr result (AppendsPart self.old (O.holds out.old) (O.holds out.new)) }
+        ensures faults { O.faults out.old ≤ O.faults out.new }
+        ensures cause { OnErr result (Rises (O.faults out.old) (O.faults out.new)) }
+    {
+        if let Err(failed) = self.make_room(out) {
+            return Err(failed);
+        }
+        if let Err(_refused) = self.text.push(b'\n') {
+            unreachable!()
+        }
+        Ok(())
     }
 }

@@ -1,17 +1,19 @@
 //! The steps before the first answer: the words, the folder and the list.
 
 ghost use Rattle.std.specs.Prelude.{◌≡◌, IfOk, IfErr, OnOk, Ok};
-ghost use Rattle.std.specs.List.{list_all};
+ghost use Rattle.std.specs.List.{list_all, AllPass};
 ghost use Rattle.render_run.specs.Around.{feed_state, inputs_of};
 ghost use Rattle.render_run.specs.Question.{is_answered as form_is_answered};
 ghost use Rattle.render_run.specs.ListRead.{FeedSays, answered_list};
-ghost use Rattle.render_run.specs.Ending.{path_of, WordsCause, IsEntered, EnterEnds, ListEnds};
+ghost use Rattle.command_line.specs.Options.{IsInRange};
+ghost use Rattle.render_run.specs.Ending.{asked_by, path_in, HasOptions, WordsCause};
+ghost use Rattle.render_run.specs.Ending.{IsEntered, EnterEnds, ListEnds};
 ghost use Rattle.render_run.specs.Ending.{IsPrepared, IsEnded, IsAsSaid, HasNoMark, MarksAs};
 ghost use Rattle.render_run.specs.Written.{KeepsTaps};
 
 use crate::list::{ListError, read_list};
 use crate::question::is_answered;
-use command_line::{WordsError, invocation_of};
+use command_line::{Invocation, Options, WordsError, invocation_of};
 use request_lang::{BadList, ParseError, Request, parse};
 use std::alloc::Global;
 use tex_world::{EnterError, Feed, Folder};
@@ -39,34 +41,49 @@ pub(crate) enum Ending {
     NoMemory,
 }
 
-/// The path of the folder that the words name.
-fn folder_path<'a>(alloc: Global, words: &'a [String]) -> Result<&'a str, WordsError>
-    ensures ok { IfOk result (λ path. path_of words.entry.now ≡ Some path.now) }
-    ensures cause { IfErr result (WordsCause (path_of words.entry.now)) }
+/// What is answered: the requests of a list, under the options of the words.
+#[derive(Drop)]
+pub(crate) struct Prepared {
+    pub(crate) options: Options,
+    pub(crate) requests: Vec<Request>,
+}
+
+/// What the words ask for.
+fn invocation<'a>(alloc: Global, words: &'a [String]) -> Result<Invocation<'a>, WordsError>
+    ensures ok { IfOk result (λ i. path_in (asked_by words.entry.now) ≡ Some i.folder.now) }
+    ensures options { IfOk result (λ i. HasOptions (asked_by words.entry.now) i.options) }
+    ensures in_range { IfOk result (λ i. IsInRange i.options) }
+    ensures cause { IfErr result (WordsCause (path_in (asked_by words.entry.now))) }
 {
     match invocation_of(alloc, words) {
-        Ok(invocation) => Ok(invocation.folder),
+        Ok(invocation) => Ok(invocation),
         Err(error) => Err(error),
     }
 }
 
-/// Enters the folder of the words.
-fn enter_folder<F: Folder>(alloc: Global, words: &[String], folder: &mut F) -> Result<(), Ending>
-    ensures entered { IfOk result
-        (λ _. IsEntered (path_of words.now) (F.state folder.new)) }
-    ensures cause { IfErr result
-        (EnterEnds F.W.files (path_of words.now) (F.state folder.old) (F.state folder.new)) }
+/// Enters the folder of the words, and gives their options.
+fn enter_folder<F: Folder>(
+    alloc: Global,
+    words: &[String],
+    folder: &mut F,
+) -> Result<Options, Ending>
+    ensures entered { OnOk result
+        (IsEntered (path_in (asked_by words.now)) (F.state folder.new)) }
+    ensures options { IfOk result (HasOptions (asked_by words.now)) }
+    ensures in_range { IfOk result IsInRange }
+    ensures cause { IfErr result (EnterEnds F.W.files (path_in (asked_by words.now))
+        (F.state folder.old) (F.state folder.new)) }
     ensures no_mark { OnOk result (HasNoMark (F.state folder.new)) }
     ensures mark { IfErr result (MarksAs (F.state folder.old) (F.state folder.new)) }
     ensures taps { KeepsTaps (F.state folder.old) (F.state folder.new) }
 {
-    let path = match folder_path(alloc, words) {
-        Ok(path) => path,
+    let asked = match invocation(alloc, words) {
+        Ok(asked) => asked,
         Err(WordsError::Bad) => return Err(Ending::BadWords),
         Err(WordsError::NoMemory) => return Err(Ending::NoMemory),
     };
-    match folder.enter(alloc, path) {
-        Ok(()) => Ok(()),
+    match folder.enter(alloc, asked.folder) {
+        Ok(()) => Ok(asked.options),
         Err(EnterError::Failed) => Err(Ending::FolderFault),
         Err(EnterError::TooMany) => Err(Ending::TooManyFiles),
         Err(EnterError::NoMemory) => Err(Ending::NoMemory),
@@ -82,7 +99,8 @@ fn are_answered(requests: &[Request]) -> bool
 
 /// The requests, where each is of a form that is answered.
 fn answered_requests(requests: Vec<Request>) -> Result<Vec<Request>, Ending>
-    ensures { IsAsSaid (answered_list (Ok requests.items)) result }
+    ensures said { IsAsSaid (answered_list (Ok requests.items)) result }
+    ensures answered { IfOk result (λ answered. AllPass form_is_answered answered.items) }
 {
     if are_answered(&requests) {
         return Ok(requests);
@@ -95,6 +113,7 @@ fn answered_requests(requests: Vec<Request>) -> Result<Vec<Request>, Ending>
 
 /// The requests of the list that the feed has.
 fn read_requests<I: Feed>(alloc: Global, feed: &mut I) -> Result<Vec<Request>, Ending>
+    ensures answered { IfOk result (λ requests. AllPass form_is_answered requests.items) }
     ensures listed { IfOk result (λ requests. FeedSays (Ok requests.items)
         (feed_state I.faults I.left feed.old) (feed_state I.faults I.left feed.new)) }
     ensures cause { IfErr result (ListEnds
@@ -112,23 +131,30 @@ fn read_requests<I: Feed>(alloc: Global, feed: &mut I) -> Result<Vec<Request>, E
     }
 }
 
-/// The requests of the list, once the folder of the words is entered.
+/// The requests of the list, once the folder of the words is entered, and the options of the words.
 pub(crate) fn prepare<F: Folder, I: Feed>(
     alloc: Global,
     words: &[String],
     folder: &mut F,
     feed: &mut I,
-) -> Result<Vec<Request>, Ending>
-    ensures prepared { IfOk result (λ requests. IsPrepared (path_of words.now)
+) -> Result<Prepared, Ending>
+    ensures prepared { IfOk result (λ p. IsPrepared (path_in (asked_by words.now))
         (inputs_of (F.state folder.old) (feed_state I.faults I.left feed.old))
-        (inputs_of (F.state folder.new) (feed_state I.faults I.left feed.new)) requests.items) }
-    ensures ended { IfErr result (IsEnded F.W.files (path_of words.now)
+        (inputs_of (F.state folder.new) (feed_state I.faults I.left feed.new)) p.requests.items) }
+    ensures options { IfOk result (λ p. HasOptions (asked_by words.now) p.options) }
+    ensures in_range { IfOk result (λ p. IsInRange p.options) }
+    ensures answered { IfOk result (λ p. AllPass form_is_answered p.requests.items) }
+    ensures ended { IfErr result (IsEnded F.W.files (path_in (asked_by words.now))
         (inputs_of (F.state folder.old) (feed_state I.faults I.left feed.old))
         (inputs_of (F.state folder.new) (feed_state I.faults I.left feed.new))) }
     ensures taps { KeepsTaps (F.state folder.old) (F.state folder.new) }
 {
-    match enter_folder(alloc, words, folder) {
-        Ok(()) => read_requests(alloc, feed),
+    let options = match enter_folder(alloc, words, folder) {
+        Ok(options) => options,
+        Err(ending) => return Err(ending),
+    };
+    match read_requests(alloc, feed) {
+        Ok(requests) => Ok(Prepared { options, requests }),
         Err(ending) => Err(ending),
     }
 }

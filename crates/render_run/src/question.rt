@@ -5,11 +5,9 @@ ghost use Rattle.std.specs.Option.{option_map};
 ghost use Rattle.render_run.specs.Question as spec;
 
 use request_lang::{Name, Request};
+use tex_world::Folder;
 use texel_filter::TexRequest;
-use tile_load::Region;
-
-/// The most texels of a region.
-const MAX_TEXELS: u64 = 1048576;
+use texel_values::Region;
 
 /// The most channels of a lookup.
 const MAX_CHANNELS: u32 = 8;
@@ -25,9 +23,18 @@ pub(crate) enum Question {
     Look(TexRequest),
 }
 
+/// What a worker is given of a request.
+#[derive(Clone, Copy, Debug)]
+pub(crate) struct Task {
+    /// The number of the file that it names, if it names one that the folder has.
+    pub(crate) file: Option<u32>,
+    /// What it asks of that file. The end of a round asks nothing.
+    pub(crate) question: Option<Question>,
+}
+
 impl Question {
     /// What a request asks of the file of its name, if it asks anything of one.
-    pub(crate) fn of(request: &Request) -> Option<Question>
+    fn of(request: &Request) -> Option<Question>
         ensures { result ≡ spec.question_of request.now }
     {
         match request {
@@ -50,16 +57,32 @@ impl Question {
             _ => None,
         }
     }
+}
 
-    /// It asks for a region of too many texels.
-    pub(crate) fn is_too_large(&self) -> bool
-        ensures { result ≡ spec.is_too_large self.now }
+impl Task {
+    ghost use Rattle.std.specs.Prelude.{◌≡◌, IsSome, IsTrue};
+    ghost use Rattle.render_run.specs.Question as spec;
+    ghost use Rattle.render_run.specs.Answering.{MayBeGiven};
+
+    /// What a worker is given of a request: its question, and the number of the file of its name.
+    pub(crate) fn of<F: Folder>(folder: &F, request: &Request) -> Task
+        requires entered { IsSome (F.state folder.now).entered }
+        requires answered { IsTrue (spec.is_answered request.now) }
+        ensures value { result ≡ spec.task_of (F.state folder.now).number_of request.now }
+        ensures given { MayBeGiven F.W.files (F.state folder.now).size result }
     {
-        match self {
-            Question::Values(region) => u64::from(region.w) * u64::from(region.h) > MAX_TEXELS,
-            Question::Facts | Question::Look(_) => false,
+        Task {
+            file: file_named(folder, request),
+            question: Question::of(request),
         }
     }
+}
+
+/// The number of the file that a request names, if it names one that the folder has.
+fn file_named<F: Folder>(folder: &F, request: &Request) -> Option<u32>
+    ensures { result ≡ (spec.task_of (F.state folder.now).number_of request.now).file }
+{
+    folder.find(name_in(request)?.as_str())
 }
 
 /// The lookup asks for a number of channels that it may ask for, as each in a list does.
@@ -81,7 +104,7 @@ pub(crate) fn is_answered(request: &Request) -> bool
 }
 
 /// The name in a request, if it has one.
-pub(crate) fn name_in(request: &Request) -> Option<&Name>
+fn name_in(request: &Request) -> Option<&Name>
     ensures { option_map (λ name. name.now) result ≡ spec.name_in request.now }
 {
     match request {

@@ -1,22 +1,31 @@
 //! The top call.
 
-ghost use Rattle.std.specs.Prelude.{◌≡◌, ◌≤◌, IsSome, IsTrue};
-ghost use Rattle.std.specs.List.{list_all};
-ghost use Rattle.tex_world.specs.Counts.{Rises};
+ghost use Rattle.std.specs.Prelude.{◌≡◌, ◌⊎◌, ◌≤◌, IfOk, IsSome};
+ghost use Rattle.std.specs.List.{AllPass};
+ghost use Rattle.tex_world.specs.World.{max_files};
+ghost use Rattle.command_line.specs.Options.{IsInRange};
+ghost use Rattle.image_cache.specs.Pass.{IsPassOf};
 ghost use Rattle.render_run.specs.Status.{with_refusals, not_written, no_memory};
 ghost use Rattle.render_run.specs.Around.{feed_state, sink_state, around_of, progress_of};
-ghost use Rattle.render_run.specs.Around.{source_of_folder, catalog_of};
+ghost use Rattle.render_run.specs.Around.{source_of_folder, setup_of};
 ghost use Rattle.render_run.specs.Question.{is_answered};
-ghost use Rattle.render_run.specs.Ending.{path_of};
-ghost use Rattle.render_run.specs.Run.{Answers, AnswersPart, GivesTapsBack, MakesTaps, Runs};
+ghost use Rattle.render_run.specs.Ending.{asked_by, cut_used};
+ghost use Rattle.render_run.specs.Run.{GivesTapsBack, MakesTaps, Runs};
 ghost use Rattle.render_run.specs.Written.{StatusWritten, EndedAs, IsAnswerStatus, KeepsEntered};
+ghost use Rattle.render_run.specs.Written.{AnswersAll, PartWritten, RoundsWritten, list_status};
 
-use crate::answering::{Worker, answer_list};
+use crate::answering::{Unfinished, answer_list};
 use crate::page::Page;
-use crate::prepare::{Ending, prepare};
-use request_lang::{BadList, Request, bad_list_text};
+use crate::prepare::{Ending, Prepared, prepare};
+use crate::worker::Worker;
+use command_line::Options;
+use image_cache::{Cache, NewError, Options as CacheOptions, Pass};
+use request_lang::{BadList, bad_list_text};
 use std::alloc::Global;
-use tex_world::{Feed, Folder, Sink};
+use std::sync::Wait;
+use tex_world::{Feed, Folder, NoMemory, Sink, Tap};
+use tile_layout::Cut;
+use waiter::Forever;
 
 /// All of the list was answered, and no line is a refusal.
 const ALL_ANSWERED: u8 = 0;
@@ -36,7 +45,7 @@ const INPUT_FAULT: u8 = 4;
 /// The sink failed.
 pub const NOT_WRITTEN: u8 = 5;
 
-/// No memory was found, and nothing was written.
+/// No memory was found outside an answer, and no line of the round that was begun was written.
 pub const NO_MEMORY: u8 = 6;
 
 /// Writes a text and gives the status, or that of a sink that fails.
@@ -79,55 +88,104 @@ fn put_ending<O: Sink>(alloc: Global, out: &mut O, ending: Ending) -> u8
     }
 }
 
+/// A cache of the files of a folder, under the options that are asked for, and its first pass. Levels
+/// that a file does not store are not made yet.
+fn cache_of<T: Tap>(
+    alloc: Global,
+    options: &Options,
+    files: u32,
+) -> Result<(Cache<T>, Pass<T::W>), NoMemory>
+    requires options { IsInRange options.now }
+    requires files { files ≤ max_files }
+    ensures files { IfOk result (λ made. made.0.files.board.files ≡ files) }
+    ensures cut { IfOk result (λ made. made.0.gate.cut ≡ cut_used options.now.cut) }
+    ensures pass { IfOk result (λ made. IsPassOf made.0 made.1) }
+{
+    let options = CacheOptions {
+        budget: options.budget,
+        shards: options.shards,
+        passes: options.workers,
+        handles: options.handles,
+        cut: Cut {
+            autotile: options.cut.autotile,
+            automip: false,
+        },
+    };
+    match Cache::new(alloc, options, files) {
+        Ok(made) => Ok(made),
+        Err(NewError::NoMemory) => Err(NoMemory),
+        Err(NewError::BadOptions(_)) => unreachable!(),
+    }
+}
+
 /// Answers the requests through a tap of the folder's, which it gives back, and gives the status.
-fn answer_through_tap<F: Folder, O: Sink>(
+fn answer_through_tap<R: Wait, F: Folder, O: Sink>(
+    rt: &R,
     alloc: Global,
     folder: &mut F,
-    requests: &[Request],
+    asked: &Prepared,
     out: &mut O,
 ) -> u8
     requires entered { IsSome (F.state folder.old).entered }
-    requires answered { IsTrue (list_all is_answered requests.now) }
-    ensures answered { result ≤ with_refusals
-        → Answers (catalog_of F.W.files (F.state folder.new)) requests.now (progress_of
-        (source_of_folder (F.state folder.old)) (sink_state O.faults O.holds out.old)) (progress_of
+    requires options { IsInRange asked.now.options }
+    requires answered { AllPass is_answered asked.now.requests.items }
+    ensures answered { result ≤ with_refusals → AnswersAll (setup_of F.W.files
+        (F.state folder.new) (cut_used asked.now.options.cut) asked.now.options.workers)
+        asked.now.requests.items (progress_of (source_of_folder (F.state folder.old))
+        (sink_state O.faults O.holds out.old)) (progress_of
         (source_of_folder (F.state folder.new)) (sink_state O.faults O.holds out.new)) result }
     ensures made { result ≤ with_refusals
         → MakesTaps (F.state folder.old) (F.state folder.new) }
-    ensures part { result ≡ not_written
-        → AnswersPart (catalog_of F.W.files (F.state folder.new)) requests.now (progress_of
-        (source_of_folder (F.state folder.old)) (sink_state O.faults O.holds out.old)) (progress_of
+    ensures part { result ≡ not_written → PartWritten (setup_of F.W.files
+        (F.state folder.new) (cut_used asked.now.options.cut) asked.now.options.workers)
+        asked.now.requests.items (progress_of (source_of_folder (F.state folder.old))
+        (sink_state O.faults O.holds out.old)) (progress_of
         (source_of_folder (F.state folder.new)) (sink_state O.faults O.holds out.new)) }
-    ensures failed { result ≡ not_written → Rises (O.faults out.old) (O.faults out.new) }
-    ensures nothing { result ≡ no_memory → O.holds out.new ≡ O.holds out.old }
+    ensures short { result ≡ no_memory → (O.holds out.new ≡ O.holds out.old)
+        ⊎ RoundsWritten (setup_of F.W.files
+        (F.state folder.new) (cut_used asked.now.options.cut) asked.now.options.workers)
+        asked.now.requests.items (progress_of (source_of_folder (F.state folder.old))
+        (sink_state O.faults O.holds out.old)) (progress_of
+        (source_of_folder (F.state folder.new)) (sink_state O.faults O.holds out.new)) }
     ensures statuses { IsAnswerStatus result }
     ensures folder { KeepsEntered (F.state folder.old) (F.state folder.new) }
     ensures taps { GivesTapsBack (F.state folder.old) (F.state folder.new) }
 {
-    let mut page = match Page::new(alloc) {
-        Ok(page) => page,
-        Err(_) => return NO_MEMORY,
+    let Ok(mut page) = Page::new(alloc) else {
+        return NO_MEMORY;
     };
-    let seen = match vec![in alloc; 0u32; folder.count() as usize] {
-        Ok(seen) => seen,
-        Err(_) => return NO_MEMORY,
+    let Ok((cache, pass)) = cache_of(alloc, &asked.options, folder.count()) else {
+        return NO_MEMORY;
     };
-    let tap = match folder.tap(alloc) {
-        Ok(tap) => tap,
-        Err(_) => return NO_MEMORY,
+    let Ok(tap) = folder.tap(alloc) else {
+        return NO_MEMORY;
     };
-    let mut worker = Worker { alloc, tap, seen };
-    let answered = answer_list(folder, &mut worker, requests, &mut page, out);
-    let Worker {
-        alloc: _alloc,
-        tap,
-        seen: _seen,
-    } = worker;
+    let waiter = Forever::new(rt);
+    let mut worker = Worker { pass, tap };
+    let answered = answer_list(
+        alloc,
+        &cache,
+        &waiter,
+        folder,
+        &mut worker,
+        &asked.requests,
+        &mut page,
+        out,
+    );
+    let Worker { pass: _pass, tap } = worker;
     folder.back(tap);
+    status_of(answered)
+}
+
+/// The status of a list that was answered, or was not to its end.
+fn status_of(answered: Result<bool, Unfinished>) -> u8
+    ensures { result ≡ list_status answered }
+{
     match answered {
         Ok(true) => WITH_REFUSALS,
         Ok(false) => ALL_ANSWERED,
-        Err(_failed) => NOT_WRITTEN,
+        Err(Unfinished::NotWritten) => NOT_WRITTEN,
+        Err(Unfinished::NoMemory) => NO_MEMORY,
     }
 }
 
@@ -136,21 +194,22 @@ fn answer_through_tap<F: Folder, O: Sink>(
 /// refusal, 1 where some line is, 2 where the words are not those of the command, 3 where the list
 /// is none, 4 where the folder or the feed failed or the folder has too many files, 5 where the
 /// sink failed, and 6 where no memory was found.
-pub fn run<F: Folder, I: Feed, O: Sink>(
+pub fn run<R: Wait, F: Folder, I: Feed, O: Sink>(
+    rt: &R,
     alloc: Global,
     words: &[String],
     folder: &mut F,
     feed: &mut I,
     out: &mut O,
 ) -> u8
-    ensures runs { Runs F.W.files (path_of words.now)
+    ensures runs { Runs F.W.files (asked_by words.now)
         (around_of (F.state folder.old) (feed_state I.faults I.left feed.old)
         (sink_state O.faults O.holds out.old))
         (around_of (F.state folder.new) (feed_state I.faults I.left feed.new)
         (sink_state O.faults O.holds out.new)) result }
 {
     match prepare(alloc, words, folder, feed) {
-        Ok(requests) => answer_through_tap(alloc, folder, &requests, out),
+        Ok(asked) => answer_through_tap(rt, alloc, folder, &asked, out),
         Err(ending) => put_ending(alloc, out, ending),
     }
 }

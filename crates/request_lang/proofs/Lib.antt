@@ -5,5 +5,5 @@ mod FieldLemmas
 mod SignLemmas
 mod LineLemmas
 mod TextLemmas
-mod AppendLemmas
+pub mod AppendLemmas
 mod PaddedTextLemmas

@@ -1,5 +1,7 @@
 -- What does a function that appends text leave?
-use Rattle.std.specs.Prelude.{◌≡◌, ℕ, List, ◌++◌, length, take, Result, Ok, Err}
+use Rattle.std.specs.Prelude.{◌≡◌, ℕ, ◌+◌, ◌≤◌, List, ◌++◌, length, take, Result, Ok, Err, IsOk}
+use Rattle.std.specs.Prelude.{vec_len, vec_capacity}
+use Rattle.std.specs.Global.{Vec}
 
 -- the second list begins with the first
 unfoldable pub Begins : List ℕ → List ℕ → Type 0
@@ -13,3 +15,24 @@ Pushes text old new (Err _) = Begins old new
 -- how many 16-bit values are made into text before they are appended
 abbrev pub room_values : ℕ
 room_values = 256
+
+-- No more than so many bytes were appended, and where there was room for them memory was not wanting.
+abbrev pub Fits : {T E : Type 0} → ℕ → Vec ℕ → Vec ℕ → Result T E → Type 0
+Fits n old new result = (vec_capacity old ≤ vec_capacity new)
+    × (vec_len old + n ≤ vec_capacity old → IsOk result × (vec_len new ≤ vec_len old + n))
+
+-- the most bytes of a part of a line: of one without its values, or of so many values
+abbrev pub max_part_bytes : ℕ
+max_part_bytes = 8192
+
+-- the most bytes of a number and the byte in front of it
+abbrev pub max_number_bytes : ℕ
+max_number_bytes = 21
+
+-- the most bytes of what a shard has
+abbrev pub max_shard_bytes : ℕ
+max_shard_bytes = 84
+
+-- the most shards of a cache
+abbrev pub max_shards : ℕ
+max_shards = 64

@@ -69,30 +69,40 @@ shard_text shard =
 
 -- ---- a line
 
+-- the 16-bit values that end a line, if it has some
+abbrev pub values_in : Answer → List ℕ
+values_in (Tex generation values) = values
+values_in (Pixels generation channels values) = values
+values_in _ = []
+
+-- The line of an answer up to these values.
+unfoldable pub head_of : Answer → List ℕ
+head_of (Tex generation values) = codes "tex" ++ fields (generation ∷ [])
+head_of (Pixels generation channels values) =
+    codes "pixels" ++ fields (generation ∷ channels ∷ [])
+head_of (Info info) = codes "info" ++ fields (info_numbers info)
+head_of (Held generation rect) = codes "held" ++ fields (generation ∷ rect_numbers rect)
+head_of Dropped = codes "dropped"
+head_of (Invalidated generation) = codes "invalidated" ++ fields (generation ∷ [])
+head_of (Renewed generation) = codes "renewed" ++ fields (generation ∷ [])
+head_of InvalidatedAll = codes "invalidated all"
+head_of (Stat shards) = codes "stat" ++ flat_map shard_text shards
+head_of Synced = codes "sync"
+head_of NoSuchFile = codes "no such file"
+head_of (BadFile generation fault) = codes "bad file" ++ fields (generation ∷ fault_numbers fault)
+head_of (TileTooLarge generation) = codes "tile too large" ++ fields (generation ∷ [])
+head_of (NoLevel generation levels) = codes "no level" ++ fields (generation ∷ levels ∷ [])
+head_of (Outside generation) = codes "outside" ++ fields (generation ∷ [])
+head_of RegionTooLarge = codes "region too large"
+head_of HoldsFull = codes "holds full"
+head_of NothingHeld = codes "nothing held"
+head_of (Again from to) = codes "again" ++ fields (from ∷ to ∷ [])
+head_of ReadFault = codes "read fault"
+head_of NoMemory = codes "no memory"
+
 -- The line of an answer, without its line feed.
-unfoldable pub text_of : Answer → List ℕ
-text_of (Tex generation values) = codes "tex" ++ fields (generation ∷ values)
-text_of (Pixels generation channels values) =
-    codes "pixels" ++ fields (generation ∷ channels ∷ values)
-text_of (Info info) = codes "info" ++ fields (info_numbers info)
-text_of (Held generation rect) = codes "held" ++ fields (generation ∷ rect_numbers rect)
-text_of Dropped = codes "dropped"
-text_of (Invalidated generation) = codes "invalidated" ++ fields (generation ∷ [])
-text_of (Renewed generation) = codes "renewed" ++ fields (generation ∷ [])
-text_of InvalidatedAll = codes "invalidated all"
-text_of (Stat shards) = codes "stat" ++ flat_map shard_text shards
-text_of Synced = codes "sync"
-text_of NoSuchFile = codes "no such file"
-text_of (BadFile generation fault) = codes "bad file" ++ fields (generation ∷ fault_numbers fault)
-text_of (TileTooLarge generation) = codes "tile too large" ++ fields (generation ∷ [])
-text_of (NoLevel generation levels) = codes "no level" ++ fields (generation ∷ levels ∷ [])
-text_of (Outside generation) = codes "outside" ++ fields (generation ∷ [])
-text_of RegionTooLarge = codes "region too large"
-text_of HoldsFull = codes "holds full"
-text_of NothingHeld = codes "nothing held"
-text_of (Again from to) = codes "again" ++ fields (from ∷ to ∷ [])
-text_of ReadFault = codes "read fault"
-text_of NoMemory = codes "no memory"
+abbrev pub text_of : Answer → List ℕ
+text_of answer = head_of answer ++ fields (values_in answer)
 
 -- The line with its line feed.
 abbrev pub line_of : Answer → List ℕ

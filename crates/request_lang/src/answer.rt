@@ -1,6 +1,7 @@
 //! What a request is answered.
 
-ghost use Rattle.std.specs.Prelude.{◌≡◌, List, ℕ};
+ghost use Rattle.std.specs.Prelude.{◌≡◌, ◌≤◌, List, ℕ, length};
+ghost use Rattle.request_lang.specs.Appending.{max_shards};
 
 use std::marker::Model;
 use tiff_dirs::TiffFault;
@@ -42,16 +43,21 @@ pub struct Shards {
 
 impl Model for Shards {
     ghost use Rattle.std.specs.Prelude.{List};
+    ghost use Rattle.std.specs.Prelude.{◌≤◌, length};
     ghost use Rattle.tile_layout.specs.declared.shard_count.ShardCount.{ShardCount};
+    ghost use Rattle.request_lang.specs.Appending.{max_shards};
 
     ghost Value = { List ShardCount };
 
     ghost view = { λ shards. shards.counts.items };
+
+    ghost invariant = { λ shards. length shards.counts.items ≤ max_shards };
 }
 
 impl Shards {
-    /// Takes the counts over.
+    /// Takes the counts over, of 64 shards at most.
     pub fn new(counts: Vec<ShardCount>) -> Shards
+        requires { length counts.items ≤ max_shards }
         ensures { result ≡ counts.items }
     {
         Shards { counts }
@@ -59,7 +65,8 @@ impl Shards {
 
     /// The counts.
     pub fn as_slice(&self) -> &[ShardCount]
-        ensures { result.now ≡ self.now }
+        ensures value { result.now ≡ self.now }
+        ensures few { length result.now ≤ max_shards }
     {
         self.counts.as_slice()
     }
@@ -143,6 +150,17 @@ pub enum Answer {
 
 impl Answer {
     ghost use Rattle.request_lang.specs.Basis.{is_refusal};
+    ghost use Rattle.request_lang.specs.Line.{values_in};
+
+    /// The 16-bit values that end its line, if it has some.
+    pub fn values(&self) -> &[u16]
+        ensures { result.now ≡ values_in self.now }
+    {
+        match self {
+            Answer::Tex { values, .. } | Answer::Pixels { values, .. } => values.as_slice(),
+            _ => &[],
+        }
+    }
 
     /// It is a refusal.
     pub fn is_refusal(&self) -> bool

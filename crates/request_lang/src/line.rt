@@ -1,11 +1,12 @@
 //! The lines of the answers.
 
-ghost use Rattle.std.specs.Prelude.{◌≡◌, ◌≤◌, ◌++◌, ◌∷◌, [], codes, take, length};
+ghost use Rattle.std.specs.Prelude.{◌≡◌, ◌≤◌, ◌+◌, ◌*◌, ◌++◌, ◌∷◌, [], codes, take, length};
 ghost use Rattle.std.specs.Prelude.{OnOk, OnErr, IsOk};
 ghost use Rattle.std.specs.List.{flat_map};
 ghost use Rattle.request_lang.specs.Grammar.{line_feed};
 ghost use Rattle.request_lang.specs.Line as spec;
-ghost use Rattle.request_lang.specs.Appending.{Pushes};
+ghost use Rattle.request_lang.specs.Appending.{Pushes, Fits, max_number_bytes, max_shard_bytes};
+ghost use Rattle.request_lang.specs.Appending.{max_part_bytes};
 
 use crate::answer::Answer;
 use crate::cause::BadList;
@@ -20,32 +21,19 @@ use tile_layout::{Info, ShardCount};
 /// Appends a word and numbers, each behind a space.
 #[tactic(auto, using(crate::proofs::AppendLemmas::kept))]
 fn push_line(out: &mut Vec<u8>, word: &str, numbers: &[u64]) -> Result<(), AllocError>
-    ensures { Pushes (word.now ++ spec.fields numbers.now) out.old.items out.new.items result }
+    ensures text { Pushes (word.now ++ spec.fields numbers.now) out.old.items out.new.items result }
+    ensures fits { Fits (length word.now + max_number_bytes * length numbers.now)
+        out.old out.new result }
 {
     push_text(out, word.as_bytes())?;
     push_numbers(out, b' ', numbers)
 }
 
-/// Appends a word, numbers and values, each number and value behind a space.
-#[tactic(auto, using(crate::proofs::AppendLemmas::kept))]
-fn push_values_line(
-    texts: &ValueTexts,
-    out: &mut Vec<u8>,
-    word: &str,
-    numbers: &[u64],
-    values: &[u16],
-) -> Result<(), AllocError>
-    ensures { Pushes (word.now ++ spec.fields (numbers.now ++ values.now))
-        out.old.items out.new.items result }
-{
-    push_line(out, word, numbers)?;
-    push_values(texts, out, values)
-}
-
 /// Appends what a shard has.
 #[tactic(auto, using(crate::proofs::AppendLemmas::kept))]
 fn push_shard(out: &mut Vec<u8>, shard: &ShardCount) -> Result<(), AllocError>
-    ensures { Pushes (spec.shard_text shard.now) out.old.items out.new.items result }
+    ensures text { Pushes (spec.shard_text shard.now) out.old.items out.new.items result }
+    ensures fits { Fits max_shard_bytes out.old out.new result }
 {
     push_numbers(out, b' ', &[u64::from(shard.tiles)])?;
     push_numbers(
@@ -58,7 +46,8 @@ fn push_shard(out: &mut Vec<u8>, shard: &ShardCount) -> Result<(), AllocError>
 /// Appends what the shards have, in their order.
 #[tactic(auto, using(crate::proofs::AppendLemmas::kept))]
 fn push_shards(out: &mut Vec<u8>, shards: &[ShardCount]) -> Result<(), AllocError>
-    ensures { Pushes (flat_map spec.shard_text shards.now) out.old.items out.new.items result }
+    ensures text { Pushes (flat_map spec.shard_text shards.now) out.old.items out.new.items result }
+    ensures fits { Fits (max_shard_bytes * length shards.now) out.old out.new result }
 {
     for shard in shards {
         push_shard(out, shard)?;
@@ -69,8 +58,10 @@ fn push_shards(out: &mut Vec<u8>, shards: &[ShardCount]) -> Result<(), AllocErro
 /// Appends a word and what the shards have.
 #[tactic(auto, using(crate::proofs::AppendLemmas::kept))]
 fn push_shards_line(out: &mut Vec<u8>, word: &str, shards: &[ShardCount]) -> Result<(), AllocError>
-    ensures { Pushes (word.now ++ flat_map spec.shard_text shards.now)
+    ensures text { Pushes (word.now ++ flat_map spec.shard_text shards.now)
         out.old.items out.new.items result }
+    ensures fits { Fits (length word.now + max_shard_bytes * length shards.now)
+        out.old out.new result }
 {
     push_text(out, word.as_bytes())?;
     push_shards(out, shards)
@@ -79,8 +70,9 @@ fn push_shards_line(out: &mut Vec<u8>, word: &str, shards: &[ShardCount]) -> Res
 /// Appends what a file is.
 #[tactic(auto, using(crate::proofs::AppendLemmas::kept))]
 fn push_info(out: &mut Vec<u8>, info: &Info) -> Result<(), AllocError>
-    ensures { Pushes (codes "info" ++ spec.fields (spec.info_numbers info.now))
+    ensures text { Pushes (codes "info" ++ spec.fields (spec.info_numbers info.now))
         out.old.items out.new.items result }
+    ensures fits { Fits max_part_bytes out.old out.new result }
 {
     let numbers = [
         u64::from(info.generation),
@@ -97,9 +89,10 @@ fn push_info(out: &mut Vec<u8>, info: &Info) -> Result<(), AllocError>
 /// Appends what a fault is: its place in the order of faults, and its own numbers.
 #[tactic(auto, using(crate::proofs::AppendLemmas::kept))]
 fn push_fault(out: &mut Vec<u8>, generation: u32, fault: &TiffFault) -> Result<(), AllocError>
-    ensures { Pushes
+    ensures text { Pushes
         (codes "bad file" ++ spec.fields (generation ∷ spec.fault_numbers fault.now))
         out.old.items out.new.items result }
+    ensures fits { Fits max_part_bytes out.old out.new result }
 {
     let generation = u64::from(generation);
     let code = u64::from(fault.code());
@@ -121,26 +114,22 @@ fn push_fault(out: &mut Vec<u8>, generation: u32, fault: &TiffFault) -> Result<(
     }
 }
 
-/// Appends the line of an answer without its line feed.
-#[tactic(auto, unfolding(crate::specs::Line::text_of), using(crate::proofs::AppendLemmas::kept))]
-fn push_answer(texts: &ValueTexts, out: &mut Vec<u8>, answer: &Answer) -> Result<(), AllocError>
-    ensures { Pushes (spec.text_of answer.now) out.old.items out.new.items result }
+/// Appends the line of an answer up to its values.
+#[tactic(auto, unfolding(crate::specs::Line::head_of), using(crate::proofs::AppendLemmas::kept))]
+fn push_head(out: &mut Vec<u8>, answer: &Answer) -> Result<(), AllocError>
+    ensures text { Pushes (spec.head_of answer.now) out.old.items out.new.items result }
+    ensures fits { Fits max_part_bytes out.old out.new result }
 {
     match answer {
-        Answer::Tex { generation, values } => {
-            let numbers = [u64::from(*generation)];
-            push_values_line(texts, out, "tex", &numbers, values.as_slice())
-        }
+        Answer::Tex { generation, .. } => push_line(out, "tex", &[u64::from(*generation)]),
         Answer::Pixels {
             generation,
             channels,
-            values,
-        } => push_values_line(
-            texts,
+            ..
+        } => push_line(
             out,
             "pixels",
             &[u64::from(*generation), u64::from(*channels)],
-            values.as_slice(),
         ),
         Answer::Info(info) => push_info(out, info),
         Answer::Held { generation, rect } => push_line(
@@ -186,6 +175,15 @@ fn push_answer(texts: &ValueTexts, out: &mut Vec<u8>, answer: &Answer) -> Result
     }
 }
 
+/// Appends the line of an answer without its line feed.
+#[tactic(auto, using(crate::proofs::AppendLemmas::kept))]
+fn push_answer(texts: &ValueTexts, out: &mut Vec<u8>, answer: &Answer) -> Result<(), AllocError>
+    ensures { Pushes (spec.text_of answer.now) out.old.items out.new.items result }
+{
+    push_head(out, answer)?;
+    push_values(texts, out, answer.values())
+}
+
 /// Ends a line: its text was appended behind the first `before` bytes, or not all of it was, and
 /// then it is taken away.
 fn end_line(
@@ -202,6 +200,23 @@ fn end_line(
     }
     out.truncate(before);
     Err(NoMemory)
+}
+
+/// Appends the line of an answer up to its 16-bit values, if it ends with some, and without its line
+/// feed. Where there is room for `MAX_PART_BYTES` bytes it takes no memory.
+pub fn head_text(answer: &Answer, out: &mut Vec<u8>) -> Result<(), NoMemory>
+    ensures ok { OnOk result (out.new.items ≡ out.old.items ++ spec.head_of answer.now) }
+    ensures err { OnErr result (out.new.items ≡ out.old.items) }
+    ensures fits { Fits max_part_bytes out.old out.new result }
+{
+    let before = out.as_slice().len();
+    match push_head(out, answer) {
+        Ok(()) => Ok(()),
+        Err(_) => {
+            out.truncate(before);
+            Err(NoMemory)
+        }
+    }
 }
 
 /// Appends the line of an answer, with its line feed.

@@ -1,8 +1,8 @@
 //! Numbers as they are printed.
 
-ghost use Rattle.std.specs.Prelude.{◌≡◌, ◌≤◌, drop};
+ghost use Rattle.std.specs.Prelude.{◌≡◌, ◌≤◌, ◌*◌, drop, length};
 ghost use Rattle.request_lang.specs.Line.{number_behind, numbers_behind};
-ghost use Rattle.request_lang.specs.Appending.{Pushes};
+ghost use Rattle.request_lang.specs.Appending.{Pushes, Fits, max_number_bytes};
 
 use std::alloc::AllocError;
 
@@ -11,7 +11,8 @@ const ROOM_BYTES: usize = 21;
 
 /// Appends a text.
 pub(crate) fn push_text(out: &mut Vec<u8>, text: &[u8]) -> Result<(), AllocError>
-    ensures { Pushes text.now out.old.items out.new.items result }
+    ensures text { Pushes text.now out.old.items out.new.items result }
+    ensures fits { Fits (length text.now) out.old out.new result }
 {
     out.extend_from_slice(text)
 }
@@ -35,7 +36,8 @@ fn put_number(room: &mut [u8; ROOM_BYTES], byte: u8, number: u64) -> usize
 
 /// Appends a number in decimal behind a byte.
 fn push_number(out: &mut Vec<u8>, byte: u8, number: u64) -> Result<(), AllocError>
-    ensures { Pushes (number_behind byte number) out.old.items out.new.items result }
+    ensures text { Pushes (number_behind byte number) out.old.items out.new.items result }
+    ensures fits { Fits max_number_bytes out.old out.new result }
 {
     let mut room = [0u8; ROOM_BYTES];
     let at = put_number(&mut room, byte, number);
@@ -45,7 +47,8 @@ fn push_number(out: &mut Vec<u8>, byte: u8, number: u64) -> Result<(), AllocErro
 /// Appends numbers, each behind the byte.
 #[tactic(auto, using(crate::proofs::AppendLemmas::kept))]
 pub(crate) fn push_numbers(out: &mut Vec<u8>, byte: u8, numbers: &[u64]) -> Result<(), AllocError>
-    ensures { Pushes (numbers_behind byte numbers.now) out.old.items out.new.items result }
+    ensures text { Pushes (numbers_behind byte numbers.now) out.old.items out.new.items result }
+    ensures fits { Fits (max_number_bytes * length numbers.now) out.old out.new result }
 {
     for number in numbers {
         push_number(out, byte, *number)?;

@@ -1,22 +1,26 @@
 //! 16-bit values as they are printed, many at a time.
 
-ghost use Rattle.std.specs.Prelude.{◌≡◌, ◌+◌, ◌*◌, ◌≤◌, ◌++◌, length, take, drop};
+ghost use Rattle.std.specs.Prelude.{◌≡◌, ◌+◌, ◌*◌, ◌≤◌, ◌++◌, length, take, drop, OnOk};
 ghost use Rattle.request_lang.specs.Line.{fields};
 ghost use Rattle.request_lang.specs.PaddedText.{padded_bytes, max_value_bytes};
-ghost use Rattle.request_lang.specs.Appending.{Pushes, room_values};
+ghost use Rattle.request_lang.specs.Appending.{Pushes, Fits, room_values, max_part_bytes};
 
 use crate::number::push_text;
 use crate::value_texts::{COUNT_AT, PADDED_BYTES, ValueTexts};
 use std::alloc::AllocError;
+use tex_world::NoMemory;
 
 /// The most bytes of a value and its space.
 const MAX_VALUE_BYTES: usize = 6;
 
 /// How many values are made into text before they are appended.
-const ROOM_VALUES: usize = 256;
+pub const PART_VALUES: usize = 256;
+
+/// The most bytes of a part of a line: of one without its values, or of so many values.
+pub const MAX_PART_BYTES: usize = 8192;
 
 /// The bytes that they take at most, and those that the last padded text has beyond its text.
-const ROOM_BYTES: usize = MAX_VALUE_BYTES * ROOM_VALUES + PADDED_BYTES;
+const ROOM_BYTES: usize = MAX_VALUE_BYTES * PART_VALUES + PADDED_BYTES;
 
 /// How many values are few: those of a lookup.
 const FEW_VALUES: usize = 8;
@@ -38,6 +42,7 @@ fn put_values(texts: &ValueTexts, room: &mut [u8], values: &[u16]) -> usize
     requires { max_value_bytes * length values.now + padded_bytes ≤ length room.old }
     ensures written { take result room.new ≡ fields values.now }
     ensures within { result ≤ length room.new }
+    ensures few { result ≤ max_value_bytes * length values.now }
 {
     let mut at = 0;
     for value in values {
@@ -57,7 +62,8 @@ fn push_part(
     values: &[u16],
 ) -> Result<(), AllocError>
     requires { max_value_bytes * length values.now + padded_bytes ≤ length room.old }
-    ensures { Pushes (fields values.now) out.old.items out.new.items result }
+    ensures text { Pushes (fields values.now) out.old.items out.new.items result }
+    ensures fits { Fits (max_value_bytes * length values.now) out.old out.new result }
 {
     let end = put_values(texts, room, values);
     push_text(out, &room[..end])
@@ -76,11 +82,25 @@ fn push_parts(
 {
     let mut rest = values;
     'parts: while !rest.is_empty() {
-        let (part, after) = rest.split_at(rest.len().min(ROOM_VALUES));
+        let (part, after) = rest.split_at(rest.len().min(PART_VALUES));
         push_part(texts, out, room, part)?;
         rest = after;
     }
     Ok(())
+}
+
+/// Appends some values of an answer, each behind a space. Where there is room for `MAX_PART_BYTES`
+/// bytes it takes no memory.
+#[tactic(auto, using(crate::proofs::AppendLemmas::kept))]
+pub fn values_text(texts: &ValueTexts, values: &[u16], out: &mut Vec<u8>) -> Result<(), NoMemory>
+    requires { length values.now ≤ room_values }
+    ensures ok { OnOk result (out.new.items ≡ out.old.items ++ fields values.now) }
+    ensures fits { Fits max_part_bytes out.old out.new result }
+{
+    match push_part(texts, out, &mut [0u8; ROOM_BYTES], values) {
+        Ok(()) => Ok(()),
+        Err(_) => Err(NoMemory),
+    }
 }
 
 /// Appends values, each behind a space. Memory is asked for once, before the first.

@@ -1,41 +1,69 @@
-//! Lists over the files of a real folder.
+//! Lists over the files of a real folder, which change while they are answered.
 
 use host_folder::{RealFeed, RealFolder, RealSink};
 use render_run::run;
+use std::alloc::{AllocError, Global};
 use std::fs::{File, Files};
 use std::io::Write;
+use std::sync::Wait;
 use std::test::Fail;
 use std::{fs, io};
 
-// 3 by 1 texels of one channel in one strip: 10, 21 and 30.
-static THREE: [u8; 125] = [
+// The header and the directory of 3 by 70 texels of one channel in one strip, at byte 122. They lie
+// in two cells, of which the second has 6 rows.
+static TALL: [u8; 122] = [
     0x49, 0x49, 0x2a, 0x00, 0x08, 0x00, 0x00, 0x00, 0x09, 0x00, //
     0x00, 0x01, 0x03, 0x00, 0x01, 0x00, 0x00, 0x00, 0x03, 0x00, 0x00, 0x00, //
-    0x01, 0x01, 0x03, 0x00, 0x01, 0x00, 0x00, 0x00, 0x01, 0x00, 0x00, 0x00, //
+    0x01, 0x01, 0x03, 0x00, 0x01, 0x00, 0x00, 0x00, 0x46, 0x00, 0x00, 0x00, //
     0x02, 0x01, 0x03, 0x00, 0x01, 0x00, 0x00, 0x00, 0x08, 0x00, 0x00, 0x00, //
     0x03, 0x01, 0x03, 0x00, 0x01, 0x00, 0x00, 0x00, 0x01, 0x00, 0x00, 0x00, //
     0x06, 0x01, 0x03, 0x00, 0x01, 0x00, 0x00, 0x00, 0x01, 0x00, 0x00, 0x00, //
     0x11, 0x01, 0x03, 0x00, 0x01, 0x00, 0x00, 0x00, 0x7a, 0x00, 0x00, 0x00, //
     0x15, 0x01, 0x03, 0x00, 0x01, 0x00, 0x00, 0x00, 0x01, 0x00, 0x00, 0x00, //
-    0x16, 0x01, 0x03, 0x00, 0x01, 0x00, 0x00, 0x00, 0x01, 0x00, 0x00, 0x00, //
-    0x17, 0x01, 0x03, 0x00, 0x01, 0x00, 0x00, 0x00, 0x03, 0x00, 0x00, 0x00, //
+    0x16, 0x01, 0x03, 0x00, 0x01, 0x00, 0x00, 0x00, 0x46, 0x00, 0x00, 0x00, //
+    0x17, 0x01, 0x03, 0x00, 0x01, 0x00, 0x00, 0x00, 0xd2, 0x00, 0x00, 0x00, //
     0x00, 0x00, 0x00, 0x00, //
-    0x0a, 0x15, 0x1e,
 ];
 
-// A writer that puts other bytes into a file before the first bytes that it takes.
+/// How many samples there are.
+const SAMPLES: u8 = 210;
+
+/// The file. Its k-th sample, row by row, is k and `shift` more; behind them stand `more` bytes.
+fn tall(alloc: Global, shift: u8, more: usize) -> Result<Vec<u8>, AllocError> {
+    let mut file = TALL.to_vec(alloc)?;
+    for k in 0..SAMPLES {
+        file.push(k.wrapping_add(shift))?;
+    }
+    for _ in 0..more {
+        file.push(0)?;
+    }
+    Ok(file)
+}
+
+/// What becomes of the file.
+#[derive(Drop)]
+enum Change {
+    /// Other bytes stand in it.
+    Painted(Vec<u8>),
+    /// It is removed.
+    Removed,
+}
+
+// A writer that changes a file before the first bytes that it takes.
 #[derive(Drop)]
 struct Painter<R> {
     rt: R,
     path: &'static str,
-    picture: Option<Vec<u8>>,
+    change: Option<Change>,
     taken: Vec<u8>,
 }
 
 impl<R: Files<File = File>> Write for Painter<R> {
     fn write(&mut self, buf: &[u8]) -> io::Result<usize> {
-        if let Some(picture) = self.picture.take() {
-            fs::write(&self.rt, self.path, &picture)?;
+        match self.change.take() {
+            Some(Change::Painted(picture)) => fs::write(&self.rt, self.path, &picture)?,
+            Some(Change::Removed) => fs::remove_file(&self.rt, self.path)?,
+            None => {}
         }
         self.taken.extend_from_slice(buf)?;
         Ok(buf.len())
@@ -46,39 +74,80 @@ impl<R: Files<File = File>> Write for Painter<R> {
     }
 }
 
-// The first line is longer than what the sink holds back, so the file changes before the next one.
-#[test]
-fn lines_name_the_generation_that_they_were_read_from(rt: HostRuntime) -> Result<(), Fail> {
+/// The first line of each list: of a region of the first cell alone, so wide that the line is longer
+/// than what waits before it is put. So the file changes before the second round.
+const WIDE: &str = "pixels 0 0 0 1024 64 tall.tif\nsync\n";
+
+/// Its text, and that of the end of the round.
+fn wide_text(alloc: Global) -> Result<String, AllocError> {
+    let beside = " 0".repeat(alloc, 1021)?;
+    let mut text = String::from_str(alloc, "pixels 1 1")?;
+    for row in 0..64u32 {
+        let first = row * 771;
+        let part = format!(in alloc; " {first} {} {}{beside}", first + 257, first + 514)?;
+        text.push_str(&part)?;
+    }
+    text.push_str("\nsync\n")?;
+    Ok(text)
+}
+
+/// What is written for a list, whose file changes so before its second round.
+fn written(
+    rt: &HostRuntime,
+    waits: &impl Wait,
+    change: Change,
+    more: &str,
+) -> Result<(Vec<u8>, u8), Fail> {
     let alloc = rt.alloc();
-    fs::create_dir(&rt, "painted")?;
-    fs::write(&rt, "painted/three.tif", &THREE)?;
-    let mut picture = THREE.to_vec(alloc)?;
-    picture[122] = 7;
-    picture.push(0)?;
+    fs::create_dir(rt, "painted")?;
+    fs::write(rt, "painted/tall.tif", &tall(alloc, 0, 0)?)?;
     let mut painter = Painter {
-        rt: &rt,
-        path: "painted/three.tif",
-        picture: Some(picture),
+        rt,
+        path: "painted/tall.tif",
+        change: Some(change),
         taken: Vec::new(alloc),
     };
-    let list =
-        "pixels 0 0 0 256 256 three.tif\npixels 0 0 0 1 1 two.tif\npixels 0 0 0 4 1 three.tif\n";
+    let list = format!(in alloc; "{WIDE}{more}")?;
     let mut words = Vec::new(alloc);
     words.push(String::from_str(alloc, "painted")?)?;
 
-    let mut folder = RealFolder::new(&rt);
+    let mut folder = RealFolder::new(rt);
     let mut feed = RealFeed::new(list.as_bytes());
     let mut sink = RealSink::new(alloc, &mut painter)?;
-    let status = run(alloc, &words, &mut folder, &mut feed, &mut sink);
-    assert!(rt; sink.flush() == Ok(()));
-    drop(sink);
-    assert!(rt; status == 1);
-
-    let mut written = String::from_str(alloc, "pixels 1 1 2570 5397 7710")?;
-    for _ in 3..65536 {
-        written.push_str(" 0")?;
+    let status = run(waits, alloc, &words, &mut folder, &mut feed, &mut sink);
+    if sink.flush() != Ok(()) {
+        return Err("not written".into());
     }
-    written.push_str("\nno such file\npixels 2 1 1799 5397 7710 0\n")?;
-    assert!(rt; painter.taken.as_slice() == written.as_bytes());
+    drop(sink);
+    Ok((painter.taken, status))
+}
+
+// What is in the cache is answered in its generation; what has to be read is met in the next one.
+#[test]
+fn lines_name_the_generation_that_they_were_read_from(rt: HostRuntime) -> Result<(), Fail> {
+    let alloc = rt.alloc();
+    let list = "pixels 0 1 0 2 1 tall.tif\npixels 0 0 64 1 1 two.tif\npixels 0 0 64 2 1 tall.tif\n\
+         pixels 0 0 64 2 1 tall.tif\npixels 0 1 0 2 1 tall.tif\n";
+    let (taken, status) = written(&rt, &rt, Change::Painted(tall(alloc, 40, 1)?), list)?;
+    assert!(rt; status == 1);
+    let mut text = wide_text(alloc)?;
+    // the samples 1 and 2; 192 + 40 and 193 + 40; 41 and 42
+    text.push_str(
+        "pixels 1 1 257 514\nno such file\nagain 1 2\n\
+         pixels 2 1 59624 59881\npixels 2 1 10537 10794\n",
+    )?;
+    assert!(rt; taken.as_slice() == text.as_bytes());
+    Ok(())
+}
+
+#[test]
+fn what_is_read_of_a_removed_file_is_a_fault(rt: HostRuntime) -> Result<(), Fail> {
+    let alloc = rt.alloc();
+    let list = "pixels 0 1 0 2 1 tall.tif\npixels 0 0 64 2 1 tall.tif\ninfo tall.tif\n";
+    let (taken, status) = written(&rt, &rt, Change::Removed, list)?;
+    assert!(rt; status == 1);
+    let mut text = wide_text(alloc)?;
+    text.push_str("pixels 1 1 257 514\nread fault\ninfo 1 3 70 1 8 1 1\n")?;
+    assert!(rt; taken.as_slice() == text.as_bytes());
     Ok(())
 }

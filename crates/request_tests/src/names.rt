@@ -11,7 +11,7 @@ const WRITTEN: &str = "pixels 1 1 1799\npixels 1 1 2056\npixels 1 1 2313\nno suc
 
 #[test]
 fn finds_odd_names(rt: HostRuntime) -> Result<(), Fail> {
-    let ran = run_list(rt.alloc(), LIST, Failing::Nothing)?;
+    let ran = run_list(&rt, rt.alloc(), LIST, Failing::Nothing)?;
     ran.is_calmly(&rt, WRITTEN, 1, "odd names");
     Ok(())
 }

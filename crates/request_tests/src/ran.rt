@@ -5,6 +5,7 @@ use render_run::run;
 use std::alloc::{AllocError, Global};
 use std::process::Abort;
 use std::str::from_utf8;
+use std::sync::Wait;
 use tex_world::{FailByte, FailCall, FileTable, MemFeed, MemFolder, MemSink, Plan, Rise};
 
 /// What fails in a run.
@@ -110,6 +111,7 @@ fn failing_put(failing: Failing) -> Option<u64> {
 
 /// Runs a list under these words over the files of a table.
 fn run_words<T: FileTable>(
+    waits: &impl Wait,
     alloc: Global,
     words: &[&str],
     list: Vec<u8>,
@@ -119,7 +121,7 @@ fn run_words<T: FileTable>(
     let mut folder: MemFolder<T> = MemFolder::new(plan_of(alloc, failing)?);
     let mut feed = MemFeed::new(list, failing_read(failing));
     let mut written = MemSink::new(alloc, failing_put(failing));
-    let status = run(alloc, &words, &mut folder, &mut feed, &mut written);
+    let status = run(waits, alloc, &words, &mut folder, &mut feed, &mut written);
     Ok(Ran {
         written,
         status,
@@ -131,11 +133,27 @@ fn run_words<T: FileTable>(
 }
 
 /// Runs a list under these words over the small files, and nothing fails.
-pub(crate) fn run_bytes(alloc: Global, words: &[&str], list: &[u8]) -> Result<Ran, AllocError> {
-    run_words::<SmallFiles>(alloc, words, list.to_vec(alloc)?, Failing::Nothing)
+pub(crate) fn run_bytes(
+    waits: &impl Wait,
+    alloc: Global,
+    words: &[&str],
+    list: &[u8],
+) -> Result<Ran, AllocError> {
+    run_words::<SmallFiles>(waits, alloc, words, list.to_vec(alloc)?, Failing::Nothing)
 }
 
 /// Runs a list under the word `.` over the small files.
-pub(crate) fn run_list(alloc: Global, list: &str, failing: Failing) -> Result<Ran, AllocError> {
-    run_words::<SmallFiles>(alloc, &["."], list.as_bytes().to_vec(alloc)?, failing)
+pub(crate) fn run_list(
+    waits: &impl Wait,
+    alloc: Global,
+    list: &str,
+    failing: Failing,
+) -> Result<Ran, AllocError> {
+    run_words::<SmallFiles>(
+        waits,
+        alloc,
+        &["."],
+        list.as_bytes().to_vec(alloc)?,
+        failing,
+    )
 }

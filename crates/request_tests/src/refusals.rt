@@ -3,6 +3,7 @@
 use crate::ran::run_bytes;
 use std::alloc::Global;
 use std::process::Abort;
+use std::sync::Wait;
 use std::test::Fail;
 
 // The most bytes of a list.
@@ -25,7 +26,7 @@ static BAD_WORDS: &[&[&str]] = &[
 #[test]
 fn refuses_words(rt: HostRuntime) -> Result<(), Fail> {
     for words in BAD_WORDS {
-        let ran = run_bytes(rt.alloc(), words, b"sync\n")?;
+        let ran = run_bytes(&rt, rt.alloc(), words, b"sync\n")?;
         ran.is_calmly(&rt, "bad words\n", 2, "the words");
         assert!(rt; ran.made == 0, "no tap is made");
     }
@@ -43,7 +44,7 @@ static WORDS: &[&[&str]] = &[
 #[test]
 fn takes_words(rt: HostRuntime) -> Result<(), Fail> {
     for words in WORDS {
-        let ran = run_bytes(rt.alloc(), words, b"info A.tif\n")?;
+        let ran = run_bytes(&rt, rt.alloc(), words, b"info A.tif\n")?;
         ran.is_calmly(&rt, "info 1 4 4 1 8 1 1\n", 0, "the words");
     }
     Ok(())
@@ -68,14 +69,14 @@ static REFUSED: &[(&[u8], &str)] = &[
     (b"stat\nfoo\n", "2 1"),
 ];
 
-fn is_refused(
-    rt: &impl Abort,
+fn is_refused<R: Abort + Wait>(
+    rt: &R,
     alloc: Global,
     list: &[u8],
     bad: &str,
     message: &str,
 ) -> Result<(), Fail> {
-    let ran = run_bytes(alloc, &["."], list)?;
+    let ran = run_bytes(rt, alloc, &["."], list)?;
     let written = format!(in alloc; "bad list {bad}\n")?;
     ran.is_calmly(rt, &written, 3, message);
     assert!(rt; ran.made == 0, "taps in {message}");
@@ -92,15 +93,15 @@ fn refuses_lists(rt: HostRuntime) -> Result<(), Fail> {
 }
 
 // A list of so many bytes is one line, which begins with `#` and says nothing.
-fn answers_long(
-    rt: &impl Abort,
+fn answers_long<R: Abort + Wait>(
+    rt: &R,
     alloc: Global,
     length: usize,
     written: &str,
     status: u8,
 ) -> Result<(), Fail> {
     let list = vec![in alloc; b'#'; length]?;
-    let ran = run_bytes(alloc, &["."], &list)?;
+    let ran = run_bytes(rt, alloc, &["."], &list)?;
     ran.is_calmly(rt, written, status, "a long list");
     Ok(())
 }

@@ -6,14 +6,16 @@ use host_folder::{RealFeed, RealFolder, RealSink};
 use render_run::{NO_MEMORY, NOT_WRITTEN, run};
 use std::io::ErrorKind;
 use std::process::ExitCode;
+use std::sync::Wait;
 use std::{env, io};
 
 fn main(rt: HostRuntime) -> ExitCode {
-    ExitCode::from(status(&rt))
+    ExitCode::from(status(&rt, &rt))
 }
 
-/// Answers the list on standard input, and gives the status that the program ends with.
-fn status(rt: &HostRuntime) -> u8 {
+/// Answers the list on standard input, and gives the status that the program ends with. What waits
+/// does so by `waits`, which is the runtime.
+fn status(rt: &HostRuntime, waits: &impl Wait) -> u8 {
     let words = match words(rt) {
         Ok(words) => words,
         Err(_) => return NO_MEMORY,
@@ -25,6 +27,7 @@ fn status(rt: &HostRuntime) -> u8 {
     let mut folder = RealFolder::new(rt);
     let mut feed = RealFeed::new(rt.stdin());
     let status = run(
+        waits,
         rt.alloc(),
         words.as_slice(),
         &mut folder,

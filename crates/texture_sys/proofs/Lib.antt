@@ -3,7 +3,7 @@ mod Lent
 mod Stays
 mod Chains
 mod KeptChains
-mod LookLemmas
+pub mod LookLemmas
 mod Asked
 mod TextureLemmas
 mod KeptRecord

@@ -7,11 +7,11 @@ end_line-requires c =
     omega (
       arith,
       pushes_few _ c.args.out.now.items c.push_line-pushed.new.out.items
-          c.push_line-pushed.result c.push_line-pushed.ensures,
+          c.push_line-pushed.result c.push_line-pushed.ensures.text,
       ap length c.as_slice-before.ensures.value,
     )
 
 pub returns-clause-err : goal.returns-clause-err
 returns-clause-err c =
     cut_back _ _ _ _ _ _ _ (ap length c.as_slice-before.ensures.value)
-    c.push_line-pushed.ensures c.end_line.ensures.err
+    c.push_line-pushed.ensures.text c.end_line.ensures.err

@@ -3,8 +3,8 @@ use Rattle.request_lang.specs.Line.{fields}
 use Rattle.request_lang.proofs.AppendLemmas.{pushes_then}
 use Rattle.request_lang.proofs.line.push_line.Goals as goal
 
-pub returns : goal.returns
-returns c =
+pub returns-clause-text : goal.returns-clause-text
+returns-clause-text c =
     pushes_then _ _ _ _ _ _ _
     (ap (λ (xs : List ℕ). xs ++ fields c.args.numbers.now) c.as_bytes.ensures.value)
-    c.in_ok-push_text.ensures c.push_numbers.ensures
+    c.in_ok-push_text.ensures.text c.push_numbers.ensures.text

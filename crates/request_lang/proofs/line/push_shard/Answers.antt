@@ -3,10 +3,10 @@ use Rattle.request_lang.specs.Line.{fields, numbers_behind, comma}
 use Rattle.request_lang.proofs.AppendLemmas.{pushes_then}
 use Rattle.request_lang.proofs.line.push_shard.Goals as goal
 
-pub returns : goal.returns
-returns c =
+pub returns-clause-text : goal.returns-clause-text
+returns-clause-text c =
     let shard = c.args.shard.now in
     pushes_then (fields (c.from.result ∷ []))
     (numbers_behind comma (c.from-2.result ∷ shard.loose ∷ shard.share ∷ [])) _ _ _ _ _
     (rw (c.from.ensures, c.from-2.ensures) refl)
-    c.in_ok-push_numbers.ensures c.push_numbers-2.ensures
+    c.in_ok-push_numbers.ensures.text c.push_numbers-2.ensures.text

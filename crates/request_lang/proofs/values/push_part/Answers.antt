@@ -2,8 +2,8 @@ use Rattle.std.proofs.Common.{ℕ, List, subst}
 use Rattle.request_lang.specs.Appending.{Pushes}
 use Rattle.request_lang.proofs.values.push_part.Goals as goal
 
-pub returns : goal.returns
-returns c =
+pub returns-clause-text : goal.returns-clause-text
+returns-clause-text c =
     subst (λ (text : List ℕ). Pushes text c.args.out.now.items c.push_text.new.out.items
     c.push_text.result)
-    c.put_values-end.ensures.written c.push_text.ensures
+    c.put_values-end.ensures.written c.push_text.ensures.text

@@ -1,0 +1,259 @@
+-- What was answered through a tap, said of the folder that the tap came back to.
+use Rattle.std.proofs.Common.{◌≡◌, ℕ, ◌+◌, ◌<◌, ◌≤◌, ◌⊎◌, inl, inr, Bool, List, Option, length, map}
+use Rattle.std.proofs.Common.{true, false, Result, Ok, Err, IfOk}
+use Rattle.std.proofs.Common.{take, refl, ap, subst, ◌∙◌, arith}
+use Rattle.std.specs.Prelude.{min, if◌then◌else◌, IfErr}
+use Rattle.tex_world.specs.Counts.{RisesByAtLeast, last_count}
+use Rattle.tex_world.specs.World.{Files}
+use Rattle.tex_world.specs.Tap.{TapState, IsNew}
+use Rattle.tex_world.specs.Folder.{FolderState, AfterBack}
+use Rattle.tile_layout.specs.declared.cut.Cut.{Cut}
+use Rattle.command_line.specs.declared.options.Options.{Options}
+use Rattle.command_line.specs.Invocation.{Asked}
+use Rattle.request_lang.specs.declared.request.Request.{Request}
+use Rattle.render_run.specs.Status as status
+use Rattle.render_run.specs.Around.{SinkState, Setup, FeedState}
+use Rattle.render_run.specs.Around.{source_of_tap, source_of_folder, setup_of, progress_of}
+use Rattle.render_run.specs.Around.{around_of, inputs_of}
+use Rattle.render_run.specs.Ending.{HasOptions, IsPrepared, cut_used, path_in}
+use Rattle.render_run.specs.Dealing.{AreWholeRounds, places_of}
+use Rattle.render_run.specs.Reply.{Line, MeetsAll}
+use Rattle.render_run.specs.Run.{Answers, Runs, MakesTaps, GivesTapsBack, AnswersList}
+use Rattle.render_run.specs.Run.{WritesNothing, ListRounds}
+use Rattle.render_run.specs.Written.{Finishes, AnswersAll, PartWritten, RoundsWritten}
+use Rattle.render_run.specs.Written.{IsAnswerStatus, KeepsEntered, KeepsTaps, LeavesUnfinished}
+use Rattle.render_run.specs.Written.{list_status}
+use Rattle.render_run.specs.declared.answering.Unfinished.{Unfinished}
+use Rattle.render_run.specs.declared.answering.Unfinished.TheVariants.{NotWritten}
+use Rattle.render_run.specs.declared.answering.Unfinished.TheVariants as unfinished
+
+-- a count that has risen since rises at least as much from a lower one on
+rises_since : (n a b c : ℕ) → a ≤ b → RisesByAtLeast n b c → RisesByAtLeast n a c
+rises_since n a b c low rises = record {
+  later = omega (arith, rises.later);
+  by_n = λ below. let here = rises.by_n below in omega (arith, here);
+}
+
+-- a tap's count, taken over by its folder
+rises_over : (n t0 t1 f0 f1 : ℕ) → t0 ≡ 0 → f0 ≤ f1 → min (f0 + t1) last_count ≤ f1
+    → RisesByAtLeast n t0 t1 → RisesByAtLeast n f0 f1
+rises_over n t0 t1 f0 f1 new later over rises = record {
+  later = later;
+  by_n = λ below.
+      let short : t1 < last_count = omega (arith, over) in
+      let risen = rises.by_n short in omega (arith, risen, over);
+}
+
+-- ---- a tap that came back
+
+module _ (files : Files) (cut used : Cut) (workers : ℕ) (requests : List Request)
+    (t0 t1 : TapState) (f0 f1 f2 : FolderState) (new : IsNew t0) (tapped : f0.faults ≤ f1.faults)
+    (still : f1.moves ≡ f0.moves) (back : AfterBack t1 f1 f2) (same : cut ≡ used)
+    (one : workers ≡ 1) where
+  -- what it is answered over
+  setups : setup_of files f1 cut 1 ≡ setup_of files f2 used workers
+  setups = rw (same, one, ← back.files.number_of) refl
+
+  -- the answers
+  abbrev over : (count : ℕ)
+      → Answers (setup_of files f1 cut 1) requests count (source_of_tap t0) (source_of_tap t1)
+      → Answers (setup_of files f2 used workers) requests count (source_of_folder f0)
+      (source_of_folder f2)
+  over count answers = record {
+    lines = answers.lines;
+    met = subst (λ (s : Setup). MeetsAll s (take count requests) answers.lines) setups answers.met;
+    places = subst (λ (s : Setup). map (λ (l : Line). l.place) answers.lines
+        ≡ take count (places_of s.workers requests)) setups answers.places;
+    fresh = answers.fresh;
+    faults = rises_over _ t0.faults t1.faults f0.faults f2.faults new.faults
+        (omega (arith, tapped, back.faults_later))
+        (omega (arith, tapped, back.faults)) answers.faults;
+    moves = rises_over _ t0.moves t1.moves f0.moves f2.moves new.moves
+        (omega (arith, still, back.moves_later))
+        (omega (arith, still, back.moves)) answers.moves;
+  }
+
+  module _ (s0 s1 : SinkState) where
+    -- all of a list
+    pub finishes_over : (refused : Bool) (ends : ℕ)
+        → Finishes (setup_of files f1 cut 1) requests (progress_of (source_of_tap t0) s0)
+        (progress_of (source_of_tap t1) s1) refused
+        → ends ≡ (if refused then status.with_refusals else status.all_answered)
+        → AnswersAll (setup_of files f2 used workers) requests
+        (progress_of (source_of_folder f0) s0) (progress_of (source_of_folder f2) s1) ends
+    finishes_over refused ends finishes is = record {
+      answers = over (length requests) finishes.answers;
+      written = finishes.written;
+      refusal = is ∙ ap (λ (b : Bool). if b then status.with_refusals else status.all_answered)
+          finishes.refusal;
+    }
+
+    -- a first part
+    pub part_over : PartWritten (setup_of files f1 cut 1) requests
+        (progress_of (source_of_tap t0) s0) (progress_of (source_of_tap t1) s1)
+        → PartWritten (setup_of files f2 used workers) requests
+        (progress_of (source_of_folder f0) s0) (progress_of (source_of_folder f2) s1)
+    part_over part = record {
+      count = part.count;
+      answers = over part.count part.answers;
+      part = part.part;
+      cause = part.cause;
+    }
+
+    -- whole rounds
+    pub rounds_over : RoundsWritten (setup_of files f1 cut 1) requests
+        (progress_of (source_of_tap t0) s0) (progress_of (source_of_tap t1) s1)
+        → RoundsWritten (setup_of files f2 used workers) requests
+        (progress_of (source_of_folder f0) s0) (progress_of (source_of_folder f2) s1)
+    rounds_over rounds = record {
+      count = rounds.count;
+      answers = over rounds.count rounds.answers;
+      whole = subst (λ (s : Setup). AreWholeRounds (places_of s.workers requests) rounds.count)
+          setups rounds.whole;
+      written = rounds.written;
+    }
+
+    -- ---- by the answer of the list
+
+    -- all of it
+    pub all_through : (r : Result Bool Unfinished) (ends : ℕ)
+        → IfOk r (Finishes (setup_of files f1 cut 1) requests (progress_of (source_of_tap t0) s0)
+        (progress_of (source_of_tap t1) s1)) → ends ≡ list_status r
+        → ends ≤ status.with_refusals
+        → AnswersAll (setup_of files f2 used workers) requests
+        (progress_of (source_of_folder f0) s0) (progress_of (source_of_folder f2) s1) ends
+    all_through (Ok refused) ends ok is few = finishes_over refused ends ok is
+    all_through (Err NotWritten) ends ok is few = absurd (omega arith)
+    all_through (Err unfinished.NoMemory) ends ok is few = absurd (omega arith)
+
+    -- it was answered
+    few_ends : (refused : Bool) (ends n : ℕ)
+        → ends ≡ (if refused then status.with_refusals else status.all_answered) → 1 < n
+        → ends ≡ n → ⊥
+    few_ends true ends n is low at = omega arith
+    few_ends false ends n is low at = omega arith
+
+    -- a first part
+    pub part_through : (r : Result Bool Unfinished) (ends : ℕ)
+        → IfErr r (LeavesUnfinished (setup_of files f1 cut 1) requests
+        (progress_of (source_of_tap t0) s0) (progress_of (source_of_tap t1) s1))
+        → ends ≡ list_status r → ends ≡ status.not_written
+        → PartWritten (setup_of files f2 used workers) requests
+        (progress_of (source_of_folder f0) s0) (progress_of (source_of_folder f2) s1)
+    part_through (Ok refused) ends err is at =
+        absurd (few_ends refused ends status.not_written is (omega arith) at)
+    part_through (Err NotWritten) ends err is at = part_over err
+    part_through (Err unfinished.NoMemory) ends err is at = absurd (omega arith)
+
+    -- whole rounds
+    pub rounds_through : (r : Result Bool Unfinished) (ends : ℕ)
+        → IfErr r (LeavesUnfinished (setup_of files f1 cut 1) requests
+        (progress_of (source_of_tap t0) s0) (progress_of (source_of_tap t1) s1))
+        → ends ≡ list_status r → ends ≡ status.no_memory
+        → RoundsWritten (setup_of files f2 used workers) requests
+        (progress_of (source_of_folder f0) s0) (progress_of (source_of_folder f2) s1)
+    rounds_through (Ok refused) ends err is at =
+        absurd (few_ends refused ends status.no_memory is (omega arith) at)
+    rounds_through (Err NotWritten) ends err is at = absurd (omega arith)
+    rounds_through (Err unfinished.NoMemory) ends err is at = rounds_over err
+
+-- ---- the top call
+
+module _ (files : Files) (asked : Option Asked) (options : Options) (f0 f1 f2 : FolderState)
+    (i0 i1 : FeedState) (s0 s1 : SinkState) (requests : List Request)
+    (has : HasOptions asked options)
+    (prepared : IsPrepared (path_in asked) (inputs_of f0 i0) (inputs_of f1 i1) requests)
+    (kept : KeepsTaps f0 f1) (entered : KeepsEntered f1 f2) where
+  -- it was prepared over the whole call
+  still_prepared : IsPrepared (path_in asked) (inputs_of f0 i0) (inputs_of f2 i1) requests
+  still_prepared = record {
+    folder = record {
+      has_path = prepared.folder.has_path;
+      of_path = entered.entered ∙ prepared.folder.of_path;
+    };
+    mark = λ over. prepared.mark (rw (← entered.mark) over);
+    listed = prepared.listed;
+  }
+
+  -- what it answered over the whole call
+  abbrev listed : (count : ℕ)
+      → Answers (setup_of files f2 (cut_used options.cut) options.workers) requests count
+      (source_of_folder f1) (source_of_folder f2)
+      → AnswersList files asked (around_of f0 i0 s0) (around_of f2 i1 s1)
+  listed count answers = record {
+    options = options;
+    asked_for = has;
+    requests = requests;
+    prepared = still_prepared;
+    count = count;
+    answers = record {
+      lines = answers.lines;
+      met = answers.met;
+      places = answers.places;
+      fresh = answers.fresh;
+      faults = rises_since _ f0.faults f1.faults f2.faults kept.faults answers.faults;
+      moves = rises_since _ f0.moves f1.moves f2.moves (omega (arith, kept.moves)) answers.moves;
+    };
+  }
+
+  -- all of it, by each status
+  pub answered_runs : (ends : ℕ)
+      → (ends ≤ status.with_refusals
+      → AnswersAll (setup_of files f2 (cut_used options.cut) options.workers) requests
+      (progress_of (source_of_folder f1) s0) (progress_of (source_of_folder f2) s1) ends)
+      → (ends ≤ status.with_refusals → MakesTaps f1 f2)
+      → (ends ≡ status.not_written
+      → PartWritten (setup_of files f2 (cut_used options.cut) options.workers) requests
+      (progress_of (source_of_folder f1) s0) (progress_of (source_of_folder f2) s1))
+      → (ends ≡ status.no_memory → (s1.holds ≡ s0.holds)
+      ⊎ RoundsWritten (setup_of files f2 (cut_used options.cut) options.workers) requests
+      (progress_of (source_of_folder f1) s0) (progress_of (source_of_folder f2) s1))
+      → IsAnswerStatus ends → GivesTapsBack f1 f2
+      → Runs files asked (around_of f0 i0 s0) (around_of f2 i1 s1) ends
+  answered_runs ends all made part short statuses taps = record {
+    answered = λ few. let done = all few in record {
+      list = listed (length requests) done.answers;
+      all = refl;
+      written = done.written;
+      refusal = done.refusal;
+      made = rw (← kept.made) (made few);
+    };
+    stopped = λ low high. absurd (no_stop statuses low high);
+    cut = λ is. let written = part is in record {
+      failed = written.cause;
+      part = inr (record { list = listed written.count written.answers; part = written.part });
+    };
+    short = λ is. by_short (short is);
+    statuses = few statuses;
+    taps = record {
+      made = omega (arith, taps.made, kept.made);
+      returned = omega (arith, taps.returned, kept.returned);
+      alike = λ below under. let alike = taps.alike below under in
+          omega (arith, alike, kept.made, kept.returned);
+    };
+  }
+    where
+      no_stop : IsAnswerStatus ends → status.bad_words ≤ ends → ends ≤ status.input_fault → ⊥
+      no_stop (inl few) low high = omega arith
+      no_stop (inr (inl is)) low high = omega arith
+      no_stop (inr (inr is)) low high = omega arith
+
+      few : IsAnswerStatus ends → ends ≤ status.no_memory
+      few (inl less) = omega arith
+      few (inr (inl is)) = omega arith
+      few (inr (inr is)) = omega arith
+
+      by_short : (s1.holds ≡ s0.holds)
+          ⊎ RoundsWritten (setup_of files f2 (cut_used options.cut) options.workers) requests
+          (progress_of (source_of_folder f1) s0) (progress_of (source_of_folder f2) s1)
+          → WritesNothing (around_of f0 i0 s0) (around_of f2 i1 s1)
+          ⊎ ListRounds files asked (around_of f0 i0 s0) (around_of f2 i1 s1)
+      by_short (inl same) = inl (record {
+        sink = same;
+        mark = λ over. absurd (prepared.mark (rw (← entered.mark) over));
+      })
+      by_short (inr rounds) = inr (record {
+        list = listed rounds.count rounds.answers;
+        whole = rounds.whole;
+        written = rounds.written;
+      })

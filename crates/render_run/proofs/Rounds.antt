@@ -1,0 +1,343 @@
+-- One round more is answered and written.
+use Rattle.std.proofs.Common.{◌≡◌, ℕ, ◌+◌, ◌%◌, ◌<◌, ◌≤◌, Bool, true, false, ◌||◌, List, [], ◌∷◌, ◌++◌}
+use Rattle.std.proofs.Common.{ltb, length, map, take, drop, Some, refl, sym, ap, subst, ◌∙◌, append_assoc}
+use Rattle.std.proofs.Common.{arith}
+use Rattle.std.specs.List.{All, flat_map, list_any}
+use Rattle.std.proofs.Math.Seq.{take-add, take-append_seam, drop-append_seam}
+use Rattle.std.proofs.lemmas.List.{append-nil, map-append, length-map, length-append, length-take}
+use Rattle.std.proofs.lemmas.List.{length-drop, drop-drop}
+use Rattle.std.proofs.lemmas.Bool.{ltb-true, ltb-false}
+use Rattle.std.proofs.lemmas.List.Concat.{flat_map-append}
+use Rattle.std.proofs.lemmas.List.Elements.{All-append, All-map}
+use Rattle.std.proofs.lemmas.List.FromFn.{length-map-range_with_len}
+use Rattle.std.proofs.lemmas.List.Folds.{list_any-append, flat_map-map}
+use Rattle.request_lang.specs.declared.request.Request.{Request}
+use Rattle.request_lang.specs.declared.answer.Answer.{Answer}
+use Rattle.request_lang.specs.Basis.{is_refusal}
+use Rattle.request_lang.specs.Line.{line_of}
+use Rattle.tex_world.specs.Counts.{Rises, last_count}
+use Rattle.tex_world.specs.Stream.{Appends, AppendsPart}
+use Rattle.render_run.specs.Around.{SourceState, SinkState, Sight, Progress, Setup, progress_of}
+use Rattle.render_run.specs.Question.{task_of}
+use Rattle.render_run.specs.Dealing.{Place, place, fresh_round, places_from, places_of}
+use Rattle.render_run.specs.Dealing.{round_places, IsRound, AreWholeRounds}
+use Rattle.render_run.specs.Reply.{Line}
+use Rattle.render_run.specs.Run.{Answers, lines_text, some_refused}
+use Rattle.render_run.specs.Page.{Passes, PassesPart, outgoing_of}
+use Rattle.render_run.specs.Written.{Finishes, PartWritten, RoundsWritten}
+use Rattle.render_run.specs.Answering.{AnswersEach, AreLinesSoFar, SoFar, answers_text}
+use Rattle.render_run.proofs.DealingLemmas.{later_rounds}
+use Rattle.render_run.proofs.Passing.{passes_more, rest_part}
+use Rattle.render_run.proofs.OneMore.{placed, round_more, placed_places, placed_answers}
+use Rattle.render_run.proofs.OneMore.{placed_rounds}
+
+-- a count that has risen since has risen from a lower one on
+pub rises_from : (a b c : ℕ) → a ≤ b → Rises b c → Rises a c
+rises_from a b c low rises = record {
+  later = omega (arith, low, rises.later);
+  rose = λ below. by_test (ltb b last_count) refl below;
+}
+  where
+    by_test : (t : Bool) → ltb b last_count ≡ t → a < last_count → a < c
+    by_test true is below =
+        let here : b < last_count = ltb-true b last_count is in
+        let risen = rises.rose here in omega (arith, low, risen)
+    by_test false is below =
+        let here : last_count ≤ b = ltb-false b last_count is in
+        omega (arith, rises.later, here, below)
+
+-- before the first round
+pub none_yet : (setup : Setup) (requests : List Request) (sight : Sight) (old : Progress)
+    → sight.source ≡ old.source → SoFar setup requests 0 sight old old [] false
+none_yet setup requests sight old from = record {
+  lines = [];
+  round = 0;
+  so_far = record {
+    met = tt;
+    fresh = λ i j d lt below. absurd (omega arith);
+    faults = record {
+      later = omega (arith, ap (λ (s : SourceState). s.faults) from);
+      by_n = λ below. omega (arith, ap (λ (s : SourceState). s.faults) from);
+    };
+    moves = record {
+      later = omega (arith, ap (λ (s : SourceState). s.moves) from);
+      by_n = λ below. omega (arith, ap (λ (s : SourceState). s.moves) from);
+    };
+    seen = λ k d lt. absurd (omega arith);
+  };
+  places = refl;
+  rounds = λ k d lt. absurd (omega arith);
+  count = refl;
+  written = record {
+    put = [];
+    all = refl;
+    appended = λ bytes is. is ∙ ap Some (sym (append-nil bytes));
+  };
+  refusal = refl;
+}
+
+-- the text of answers with one more
+pub text_more : (front : List Answer) (a : Answer)
+    → answers_text (front ++ a ∷ []) ≡ answers_text front ++ line_of a
+text_more front a =
+    flat_map-append line_of front (a ∷ [])
+    ∙ ap (λ (t : List ℕ). answers_text front ++ t) (append-nil (line_of a))
+
+-- a test, or none
+or_false : (b : Bool) → (b || false) ≡ b
+or_false true = refl
+or_false false = refl
+
+-- some answer is a refusal, or the one more is
+pub any_more : (front : List Answer) (a : Answer)
+    → list_any is_refusal (front ++ a ∷ []) ≡ (list_any is_refusal front || is_refusal a)
+any_more front a =
+    list_any-append is_refusal front (a ∷ [])
+    ∙ ap (λ (b : Bool). list_any is_refusal front || b) (or_false (is_refusal a))
+
+-- a test of what a function gives
+any_map : {X Y : Type 0} (p : Y → Bool) (f : X → Y) (xs : List X)
+    → list_any (λ x. p (f x)) xs ≡ list_any p (map f xs)
+any_map p f [] = refl
+any_map p f (x ∷ xs) = ap (λ (b : Bool). p (f x) || b) (any_map p f xs)
+
+module _ (setup : Setup) (round : ℕ) (rs : List Request) (answers : List Answer)
+    (before after : Sight)
+    (each : AnswersEach setup.files setup.cut (map (task_of setup.number_of) rs) answers before
+    after) where
+  -- the text of the lines of a round
+  more_text : lines_text (placed setup round 0 rs answers) ≡ answers_text answers
+  more_text =
+      sym (flat_map-map line_of (λ (l : Line). l.answer) (placed setup round 0 rs answers))
+      ∙ ap (flat_map line_of) (placed_answers setup round 0 rs answers before after each)
+
+  -- whether one of them is a refusal
+  more_refused : some_refused (placed setup round 0 rs answers) ≡ list_any is_refusal answers
+  more_refused =
+      any_map is_refusal (λ (l : Line). l.answer) (placed setup round 0 rs answers)
+      ∙ ap (list_any is_refusal) (placed_answers setup round 0 rs answers before after each)
+
+  -- how many there are
+  more_count : length (placed setup round 0 rs answers) ≡ length rs
+  more_count =
+      sym (length-map (placed setup round 0 rs answers) (λ (l : Line). l.place))
+      ∙ ap length (placed_places setup round 0 rs answers before after each)
+      ∙ length-map-range_with_len (λ k. place round (k % setup.workers)) 0 (length rs)
+
+module _ (setup : Setup) (requests : List Request) (done count : ℕ) (before after : Sight)
+    (old mid new : Progress) (p1 p2 : List ℕ) (refused said both : Bool) (answers : List Answer)
+  where
+    -- one round more
+    pub rounds_more : SoFar setup requests done before old mid p1 refused
+        → IsRound (drop done requests) count → done + count ≤ length requests
+        → AnswersEach setup.files setup.cut
+        (map (task_of setup.number_of) (take count (drop done requests))) answers before after
+        → Passes (answers_text answers) (outgoing_of p1 mid.sink) (outgoing_of p2 new.sink)
+        → said ≡ list_any is_refusal answers → both ≡ (refused || said)
+        → SoFar setup requests (done + count) after old new p2 both
+    rounds_more so_far is_round within each passes told either =
+        let rs = take count (drop done requests) in
+        let lines = so_far.lines in
+        let round = so_far.round in
+        let more = placed setup round 0 rs answers in
+        let w = setup.workers in
+        let next = fresh_round (round + 1) in
+        let long : length rs ≡ count =
+        omega (arith, length-take count (drop done requests), length-drop done requests, within) in
+        let total : length lines ≡ done = so_far.count in
+        record {
+          lines = lines ++ more;
+          round = round + 1;
+          so_far =
+              rw (take-add done count requests)
+              (round_more setup round old.source (take done requests) lines 0 rs answers before
+              after so_far.so_far each);
+          places =
+              so_far.places
+              ∙ ap (λ (ps : List Place). map (λ (l : Line). l.place) lines ++ ps)
+              (is_round w round
+              ∙ ap (λ (ps : List Place). ps ++ places_from w next (drop count (drop done requests)))
+              (ap (λ (n : ℕ). round_places w round n) (sym long)
+              ∙ sym (placed_places setup round 0 rs answers before after each))
+              ∙ ap (λ (left : List Request).
+              map (λ (l : Line). l.place) more ++ places_from w next left)
+              (drop-drop count done requests))
+              ∙ sym (append_assoc (map (λ (l : Line). l.place) lines)
+              (map (λ (l : Line). l.place) more)
+              (places_from w next (drop (done + count) requests)))
+              ∙ ap (λ (ps : List Place). ps ++ places_from w next (drop (done + count) requests))
+              (sym (map-append (λ (l : Line). l.place) lines more));
+          rounds =
+              All-append (λ (l : Line). l.place.round < round + 1) lines more
+              (λ k d lt. let below = so_far.rounds k d lt in omega (arith, below))
+              (placed_rounds setup round 0 rs answers);
+          count =
+              omega (
+                arith,
+                length-append lines more,
+                total,
+                more_count setup round rs answers before after each,
+                long,
+              );
+          written =
+              rw (
+                flat_map-append (λ (l : Line). line_of l.answer) lines more,
+                more_text setup round rs answers before after each,
+              )
+              (passes_more (lines_text lines) (answers_text answers) (outgoing_of [] old.sink)
+              (outgoing_of p1 mid.sink) (outgoing_of p2 new.sink) so_far.written passes);
+          refusal =
+              either ∙ rw (so_far.refusal, told)
+              (sym (list_any-append (λ (l : Line). is_refusal l.answer) lines more
+              ∙ ap (λ (b : Bool). some_refused lines || b)
+              (more_refused setup round rs answers before after each)));
+        }
+
+-- ---- what stands then
+
+module _ (setup : Setup) (requests : List Request) (done : ℕ) (sight : Sight) (old new : Progress)
+    (page : List ℕ) (refused : Bool)
+    (so_far : SoFar setup requests done sight old new page refused) where
+  -- the places of the lines, and those of the rest
+  pub front_places : map (λ (l : Line). l.place) so_far.lines ≡ take done (places_of setup.workers requests)
+  front_places =
+      let here = map (λ (l : Line). l.place) so_far.lines in
+      let rest = places_from setup.workers (fresh_round so_far.round) (drop done requests) in
+      let long : length here ≡ done =
+      length-map so_far.lines (λ (l : Line). l.place) ∙ so_far.count in
+      sym (ap (take done) so_far.places
+      ∙ ap (λ (n : ℕ). take n (here ++ rest)) (sym long)
+      ∙ take-append_seam here rest)
+
+  pub rest_places : places_from setup.workers (fresh_round so_far.round) (drop done requests)
+      ≡ drop done (places_of setup.workers requests)
+  rest_places =
+      let here = map (λ (l : Line). l.place) so_far.lines in
+      let rest = places_from setup.workers (fresh_round so_far.round) (drop done requests) in
+      let long : length here ≡ done =
+      length-map so_far.lines (λ (l : Line). l.place) ∙ so_far.count in
+      sym (ap (drop done) so_far.places
+      ∙ ap (λ (n : ℕ). drop n (here ++ rest)) (sym long)
+      ∙ drop-append_seam here rest)
+
+  -- so many requests are answered
+  abbrev pub answered_so_far : Answers setup requests done old.source sight.source
+  answered_so_far = record {
+    lines = so_far.lines;
+    met = so_far.so_far.met;
+    places = front_places;
+    fresh = so_far.so_far.fresh;
+    faults = so_far.so_far.faults;
+    moves = so_far.so_far.moves;
+  }
+
+  -- these are whole rounds
+  pub whole_so_far : AreWholeRounds (places_of setup.workers requests) done
+  whole_so_far = record {
+    rounds = so_far.round;
+    before =
+        subst (λ (ps : List Place). All (λ p. p.round < so_far.round) ps) front_places
+        (All-map (λ (p : Place). p.round < so_far.round) (λ (l : Line). l.place) so_far.lines
+        so_far.rounds);
+    behind =
+        subst (λ (ps : List Place). All (λ p. so_far.round ≤ p.round) ps) rest_places
+        (later_rounds setup.workers so_far.round (fresh_round so_far.round)
+        (drop done requests) (omega arith));
+  }
+
+-- a text that was passed on from an empty page to an empty one was put
+pub all_put : (text : List ℕ) (old new : SinkState)
+    → Passes text (outgoing_of [] old) (outgoing_of [] new) → Appends text old.holds new.holds
+all_put text old new passes =
+    let all : passes.put ≡ text = sym (append-nil passes.put) ∙ passes.all in
+    subst (λ (put : List ℕ). Appends put old.holds new.holds) all passes.appended
+
+-- what waited was put behind it
+pub put_behind_all : (text : List ℕ) (s0 s1 s2 : SinkState) (p1 p2 : List ℕ)
+    → Passes text (outgoing_of [] s0) (outgoing_of p1 s1)
+    → Passes [] (outgoing_of p1 s1) (outgoing_of p2 s2) → p2 ≡ []
+    → Appends text s0.holds s2.holds
+put_behind_all text s0 s1 s2 p1 p2 first second empty =
+    let both = passes_more text [] (outgoing_of [] s0) (outgoing_of p1 s1) (outgoing_of p2 s2)
+    first second in
+    all_put text s0 s2 (rw (empty, append-nil text) at both)
+
+-- lines of a round wait, as if they were passed on
+waiting : (text page : List ℕ) (sink : SinkState)
+    → Passes text (outgoing_of page sink) (outgoing_of (page ++ text) sink)
+waiting text page sink = record {
+  put = [];
+  all = refl;
+  appended = λ held is. is ∙ ap Some (sym (append-nil held));
+}
+
+module _ (setup : Setup) (requests : List Request) (done count : ℕ) (before after : Sight)
+    (old mid : Progress) (last : SinkState) (page : List ℕ) (refused : Bool)
+    (answers : List Answer) where
+  -- a first part of the lines of one round more
+  pub rounds_part : SoFar setup requests done before old mid page refused
+      → IsRound (drop done requests) count → done + count ≤ length requests
+      → AnswersEach setup.files setup.cut
+      (map (task_of setup.number_of) (take count (drop done requests))) answers before after
+      → PassesPart (answers_text answers) (outgoing_of page mid.sink) last.holds
+      → Rises old.sink.faults last.faults
+      → PartWritten setup requests old (progress_of after.source last)
+  rounds_part so_far is_round within each part cause =
+      let both = refused || list_any is_refusal answers in
+      let waits = page ++ answers_text answers in
+      let more = rounds_more setup requests done count before after old mid mid page waits refused
+      (list_any is_refusal answers) both answers so_far is_round within each
+      (waiting (answers_text answers) page mid.sink) refl refl in
+      record {
+        count = done + count;
+        answers = answered_so_far setup requests (done + count) after old mid waits both more;
+        part = rest_part (lines_text more.lines) (outgoing_of [] old.sink)
+            (outgoing_of waits mid.sink) last.holds more.written part;
+        cause = cause;
+      }
+
+module _ (setup : Setup) (requests : List Request) (done : ℕ) (sight : Sight) (old mid : Progress)
+    (last : SinkState) (page : List ℕ) (refused : Bool)
+    (so_far : SoFar setup requests done sight old mid page refused) where
+  -- what waited was put
+  pub rounds_written : (p2 : List ℕ)
+      → Passes [] (outgoing_of page mid.sink) (outgoing_of p2 last) → p2 ≡ []
+      → Appends (lines_text so_far.lines) old.sink.holds last.holds
+  rounds_written p2 passes empty =
+      put_behind_all (lines_text so_far.lines) old.sink mid.sink last page p2 so_far.written passes
+      empty
+
+  -- the lines of whole rounds
+  pub rounds_put : (p2 : List ℕ) → Passes [] (outgoing_of page mid.sink) (outgoing_of p2 last)
+      → p2 ≡ [] → RoundsWritten setup requests old (progress_of sight.source last)
+  rounds_put p2 passes empty = record {
+    count = done;
+    answers = answered_so_far setup requests done sight old mid page refused so_far;
+    whole = whole_so_far setup requests done sight old mid page refused so_far;
+    written = rounds_written p2 passes empty;
+  }
+
+  -- a first part of them
+  pub rounds_cut : AppendsPart page mid.sink.holds last.holds → Rises old.sink.faults last.faults
+      → PartWritten setup requests old (progress_of sight.source last)
+  rounds_cut part cause = record {
+    count = done;
+    answers = answered_so_far setup requests done sight old mid page refused so_far;
+    part = rest_part (lines_text so_far.lines) (outgoing_of [] old.sink)
+        (outgoing_of page mid.sink) last.holds so_far.written part;
+    cause = cause;
+  }
+
+-- all of a list
+pub rounds_finish : (setup : Setup) (requests : List Request) (sight : Sight) (old mid : Progress)
+    (last : SinkState) (page : List ℕ) (refused : Bool) (p2 : List ℕ)
+    → SoFar setup requests (length requests) sight old mid page refused
+    → Passes [] (outgoing_of page mid.sink) (outgoing_of p2 last) → p2 ≡ []
+    → Finishes setup requests old (progress_of sight.source last) refused
+rounds_finish setup requests sight old mid last page refused p2 so_far passes empty = record {
+  answers = answered_so_far setup requests (length requests) sight old mid page refused so_far;
+  written =
+      rounds_written setup requests (length requests) sight old mid last page refused so_far p2
+      passes empty;
+  refusal = so_far.refusal;
+}

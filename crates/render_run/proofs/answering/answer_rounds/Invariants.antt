@@ -1,0 +1,22 @@
+use Rattle.std.proofs.Common.{◌≤◌, ◌-◌, length}
+use Rattle.image_cache.specs.Pass.{IsPassOf}
+use Rattle.render_run.specs.Around.{source_of_tap, sink_state, progress_of, setup_of, sight_of}
+use Rattle.render_run.specs.Answering.{SoFar}
+use Rattle.render_run.proofs.answering.answer_rounds.Given as goal
+
+-- some first rounds are answered
+abbrev pub invariant-rounds : goal.invariant-rounds
+invariant-rounds g l = record {
+  so_far : SoFar (setup_of g.F.W.World.files (g.F.Folder.state l.folder) l.cache.gate.cut 1)
+      l.requests l.done (sight_of l.worker.pass (g.F.Tap.Tap.state l.worker.tap))
+      (progress_of (source_of_tap (g.F.Tap.Tap.state l.initial.worker.tap))
+      (sink_state g.O.Sink.faults g.O.Sink.holds l.initial.out))
+      (progress_of (source_of_tap (g.F.Tap.Tap.state l.worker.tap))
+      (sink_state g.O.Sink.faults g.O.Sink.holds l.out)) l.page l.refused;
+  within : l.done ≤ length l.requests;
+  pass : IsPassOf l.cache l.worker.pass;
+  faults : g.O.Sink.faults l.initial.out ≤ g.O.Sink.faults l.out;
+}
+
+abbrev pub decreases-rounds : goal.decreases-rounds
+decreases-rounds g l = length l.requests - l.done

@@ -1,0 +1,37 @@
+use Rattle.std.proofs.Common.{◌≡◌, ◌+◌, ◌++◌, ◌∷◌, [], List, map, take, sym, ap, subst, ◌∙◌}
+use Rattle.std.specs.List.{All}
+use Rattle.std.proofs.lemmas.List.{take_more, map-append}
+use Rattle.std.proofs.lemmas.List.Elements.{All-push}
+use Rattle.request_lang.specs.declared.request.Request.{Request}
+use Rattle.render_run.specs.declared.question.Task.{Task}
+use Rattle.render_run.specs.Question.{task_of}
+use Rattle.render_run.specs.Answering.{MayBeGiven}
+use Rattle.render_run.proofs.round.Round.begin.Goals as goal
+
+pub loop-request-preserved : goal.loop-request-preserved
+loop-request-preserved g c =
+    let rs = c.args.requests.now in
+    let i = c.loop-request.request-index in
+    let front = take i rs in
+    let r = c.request-item.result in
+    let given = MayBeGiven g.F.W.World.files (g.F.Folder.state c.args.folder.now).size in
+    let f : Request → Task = task_of (g.F.Folder.state c.args.folder.now).number_of in
+    let next : take (i + 1) rs ≡ front ++ r ∷ [] =
+    take_more rs i r c.loop-request-test.true
+    ∙ ap (λ (x : Request). front ++ x ∷ []) (sym c.request-item.is) in
+    let items : c.push.new.self.items ≡ c.loop-request.self.tasks.items ++ c.of.result ∷ [] =
+    c.in_ok-push.ensures.items in
+    record {
+      tasks =
+          items
+          ∙ ap (λ (ts : List Task). ts ++ c.of.result ∷ []) c.loop-request.invariant.tasks
+          ∙ ap (λ (t : Task). map f front ++ t ∷ []) c.of.ensures.value
+          ∙ sym (map-append f front (r ∷ []))
+          ∙ sym (ap (map f) next);
+      given =
+          subst (λ (ts : List Task). All given ts) (sym items)
+          (All-push given c.loop-request.self.tasks.items c.of.result
+          c.loop-request.invariant.given c.of.ensures.given);
+      empty = c.loop-request.invariant.empty;
+      room = c.loop-request.invariant.room;
+    }

@@ -1,0 +1,18 @@
+-- Which line says that the cache refused a call?
+use Rattle.image_cache.specs.declared.error.CacheError.{CacheError}
+use Rattle.image_cache.specs.declared.error.CacheError.TheVariants as refused
+use Rattle.request_lang.specs.declared.answer.Answer.{Answer}
+use Rattle.request_lang.specs.declared.answer.Answer.TheVariants as line
+
+-- The line of a refusal. What waits for ever never gives up, so `Busy` has none of its own.
+abbrev pub refusal_of : {B : Type 0} → CacheError B → Answer
+refusal_of (refused.BadFile generation fault) = line.BadFile generation fault
+refusal_of (refused.TileTooLarge generation) = line.TileTooLarge generation
+refusal_of (refused.NoLevel generation levels) = line.NoLevel generation levels
+refusal_of (refused.Outside generation) = line.Outside generation
+refusal_of refused.RegionTooLarge = line.RegionTooLarge
+refusal_of refused.HoldsFull = line.HoldsFull
+refusal_of (refused.Again from to) = line.Again from to
+refusal_of refused.ReadFault = line.ReadFault
+refusal_of refused.NoMemory = line.NoMemory
+refusal_of (refused.Busy b) = line.NoMemory

@@ -1,0 +1,65 @@
+//! How a list is cut into rounds.
+
+ghost use Rattle.std.specs.Prelude.{◌≡◌, ◌<◌, ◌≤◌, ◌+◌, IsTrue, length, nat_lt};
+ghost use Rattle.render_run.specs.Dealing as spec;
+
+use request_lang::Request;
+use texel_values::Region;
+
+/// The most texels that the regions of a round have together.
+const MAX_ROUND_TEXELS: u64 = 4194304;
+
+/// How many of these requests, the first of which begins a round, that round has.
+pub(crate) fn round_len(requests: &[Request]) -> usize
+    ensures round { spec.IsRound requests.now result }
+    ensures within { result ≤ length requests.now }
+    ensures some { 0 < length requests.now → 0 < result }
+{
+    let mut texels = 0;
+    let mut count = 0;
+    'dealt: while count < requests.len() {
+        let request = &requests[count];
+        let more = texels_asked(request);
+        if texels + more > MAX_ROUND_TEXELS {
+            return count;
+        }
+        count += 1;
+        texels += more;
+        if is_sync(request) {
+            return count;
+        }
+    }
+    count
+}
+
+/// The request ends its round.
+fn is_sync(request: &Request) -> bool
+    ensures { result ≡ spec.is_sync request.now }
+{
+    matches!(request, Request::Sync)
+}
+
+/// The texels of the region that a request asks for, and 0 where they are more than a region may
+/// have.
+fn texels_asked(request: &Request) -> u64
+    ensures value { result ≡ spec.texels_asked request.now }
+    ensures few { result ≤ spec.max_texels_asked }
+{
+    match request {
+        Request::Pixels { w, h, .. } => {
+            let region = Region {
+                level: 0,
+                x: 0,
+                y: 0,
+                w: *w,
+                h: *h,
+            };
+            if region.is_too_large() {
+                0
+            } else {
+                u64::from(*w) * u64::from(*h)
+            }
+        }
+        _ => 0,
+    }
+}

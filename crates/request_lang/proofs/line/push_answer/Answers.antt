@@ -1,0 +1,10 @@
+use Rattle.std.proofs.Common.{ℕ, List, ◌++◌, ap}
+use Rattle.request_lang.specs.Line.{fields, head_of}
+use Rattle.request_lang.proofs.AppendLemmas.{pushes_then}
+use Rattle.request_lang.proofs.line.push_answer.Goals as goal
+
+pub returns : goal.returns
+returns c =
+    pushes_then _ _ _ _ _ _ _
+    (ap (λ (vs : List ℕ). head_of c.args.answer.now ++ fields vs) c.values.ensures)
+    c.in_ok-push_head.ensures.text c.push_values.ensures
