@@ -1,4 +1,5 @@
 pub mod Values
+pub mod Square
 pub mod Overlap
 pub mod Region
 pub mod Window

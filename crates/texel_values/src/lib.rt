@@ -1,5 +1,5 @@
-//! The 16-bit values of texels, by the tiles of their cells: those of one texel, and those of a region
-//! of a level, tile by tile.
+//! The 16-bit values of texels, by the tiles of their cells: those of one texel, those of four at
+//! once, and those of a region of a level, tile by tile.
 #![tactic(auto)]
 
 mod area;
@@ -7,6 +7,7 @@ mod cells;
 mod overlap;
 mod painting;
 mod region;
+mod square;
 mod texel_at;
 mod values;
 mod window;
@@ -15,6 +16,7 @@ pub use area::Area;
 pub use overlap::Overlap;
 pub use painting::paint;
 pub use region::Region;
+pub use square::write_square;
 pub use texel_at::TexelAt;
 pub use values::write_values;
 pub use window::Window;
