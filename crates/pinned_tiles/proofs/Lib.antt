@@ -1,1 +1,3 @@
 mod PinnedLemmas
+pub mod TurnLemmas
+mod VisitLemmas

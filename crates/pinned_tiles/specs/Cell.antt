@@ -1,5 +1,5 @@
 -- When is a tile that of a cell, and when has a microcache that cell?
-use Rattle.std.specs.Prelude.{◌==◌, ◌&&◌, Bool, false, List}
+use Rattle.std.specs.Prelude.{◌≡◌, ◌==◌, ◌&&◌, ℕ, Bool, false, List, IsTrue, IsSomeAnd, slice_get}
 use Rattle.std.specs.List.{find}
 use Rattle.std.specs.Option.{option_map_or}
 use Rattle.tile_layout.specs.declared.rect.Rect.{Rect}
@@ -20,3 +20,12 @@ is_tile_of cell tile = is_rect tile.rect cell.rect && (tile.channels == cell.cha
 abbrev pub has_cell : CellAt → List CachedTile → Bool
 has_cell cell tiles =
     option_map_or (is_tile_of cell) (find (has_key key_in cell.key) tiles) false
+
+-- the tile that stands first has the key
+abbrev pub HasFirst : ℕ → List CachedTile → Type 0
+HasFirst key tiles = IsSomeAnd (slice_get tiles 0) (λ tile. tile.key ≡ key)
+
+-- the tile that stands first is that of the cell, of its key
+abbrev pub StandsFirst : CellAt → List CachedTile → Type 0
+StandsFirst cell tiles = IsSomeAnd (slice_get tiles 0) (λ tile.
+    (tile.key ≡ cell.key) × IsTrue (is_tile_of cell tile))

@@ -8,6 +8,7 @@ use Rattle.tile_layout.specs.declared.cut.Cut.{Cut}
 use Rattle.tile_store.specs.Tile.{CachedTile}
 use Rattle.tile_store.specs.Lawful.{FitsCut}
 use Rattle.shard_gate.specs.Gate.{GateState, PinSeatState, PinState}
+use Rattle.micro.specs.Items.{HasKey, key_first}
 use Rattle.micro.specs.Recent.{AreRecent}
 use Rattle.micro.specs.Runs.{IsAsked}
 
@@ -137,6 +138,12 @@ IsAskedFor key old new = (hit : Bool) × IsAsked key_in old key hit new
 abbrev pub AsksFor : ℕ → List CachedTile → List CachedTile → Type 0
 AsksFor key old new = (asked : List ℕ) → AreRecent key_in asked old
     → AreRecent key_in (asked ++ key ∷ []) new
+
+-- The tile of the key stands first: where the key is asked for again, all stays as it is.
+pub record StaysAskedFor (key : ℕ) (tiles : List CachedTile) : Type 0 where
+  pub there : HasKey key_in key tiles
+  pub moved : tiles ≡ key_first key_in key tiles
+  pub again : AsksFor key tiles tiles
 
 -- ---- all of its tiles
 

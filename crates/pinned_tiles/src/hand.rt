@@ -2,6 +2,7 @@
 ghost use Rattle.std.specs.Prelude.{◌≡◌, ◌⊎◌, ◌++◌, IsTrue, IsFalse, IsSomeAnd};
 ghost use Rattle.std.specs.Prelude.{None, OnOk, OnErr, IfOk};
 ghost use Rattle.shard_gate.specs.Gate.{HasCellRect, IsTileOf};
+ghost use Rattle.shard_gate.specs.Since.{PurgesNone, Misses};
 ghost use Rattle.pinned_tiles.specs.Pinned.{ArePinned, PinsAt, KeepsTiles, LeavesPart};
 
 use crate::pinned::Pinned;
@@ -19,6 +20,7 @@ impl<W: World> Pinned<W> {
         ensures err { OnErr result (self.new.hand ≡ self.old.hand) }
         ensures part { LeavesPart self.old self.new }
         ensures same { KeepsTiles self.old self.new }
+        ensures visits { PurgesNone gate.now self.old.seat self.new.seat }
         ensures are { ArePinned W.files self.new }
     {
         let Some(pin) = self.hand.take() else {
@@ -38,6 +40,7 @@ impl<W: World> Pinned<W> {
         requires gate { PinsAt gate.now self.old }
         ensures hand { (self.new.hand ≡ None) ⊎ V.Busy }
         ensures same { KeepsTiles self.old self.new }
+        ensures visits { PurgesNone gate.now self.old.seat self.new.seat }
         ensures are { ArePinned W.files self.new }
     {
         let _given_back = self.release_hand(gate, waiter);
@@ -57,6 +60,9 @@ impl<W: World> Pinned<W> {
         ensures none { IfOk result (λ found. IsFalse found → self.new.hand ≡ None) }
         ensures err { OnErr result (self.new.hand ≡ None) }
         ensures same { KeepsTiles self.old self.new }
+        ensures visits { PurgesNone gate.now self.old.seat self.new.seat }
+        ensures missed { IfOk result (λ found. IsFalse found →
+            Misses gate.now key self.old.seat self.new.seat) }
         ensures are { ArePinned W.files self.new }
     {
         match gate.pin(waiter, &mut self.seat, key) {
@@ -84,6 +90,7 @@ impl<W: World> Pinned<W> {
             (IsSomeAnd self.new.hand (IsTileOf W.files self.new.cut tile.key)) }
         ensures err { OnErr result (self.new.hand ≡ None) }
         ensures same { KeepsTiles self.old self.new }
+        ensures visits { PurgesNone gate.now self.old.seat self.new.seat }
         ensures are { ArePinned W.files self.new }
     {
         match gate.pin_new(waiter, &mut self.seat, tile) {
@@ -110,6 +117,9 @@ impl<W: World> Pinned<W> {
         ensures none { IfOk result (λ found. IsFalse found → self.new.hand ≡ None) }
         ensures err { OnErr result ((self.new.hand ≡ None) ⊎ V.Busy) }
         ensures same { KeepsTiles self.old self.new }
+        ensures visits { PurgesNone gate.now self.old.seat self.new.seat }
+        ensures missed { IfOk result (λ found. IsFalse found →
+            Misses gate.now key self.old.seat self.new.seat) }
         ensures are { ArePinned W.files self.new }
     {
         if let Err(busy) = self.release_hand(gate, waiter) {

@@ -3,6 +3,7 @@ ghost use Rattle.std.specs.Prelude.{◌≡◌, ◌⊎◌, ◌+◌, ◌<◌, ◌+
 ghost use Rattle.std.specs.Prelude.{IsTrue, IsFalse, IsSome, IfSome, OnOk, OnErr};
 ghost use Rattle.std.specs.List.{remove};
 ghost use Rattle.std.specs.Option.{option_copied};
+ghost use Rattle.shard_gate.specs.Since.{PurgesNone};
 ghost use Rattle.pinned_tiles.specs.Pinned.{max_holds, ArePinned, PinsAt, SameSeat};
 ghost use Rattle.pinned_tiles.specs.Pinned.{KeepsRecent, KeepsTiles, LeavesPart, tiles_in};
 
@@ -36,6 +37,7 @@ impl<W: World> Pinned<W> {
         requires room { length self.old.holds < max_holds }
         ensures held { IfSome self.old.hand (λ t. self.new.holds ≡ self.old.holds ++ t ∷ []) }
         ensures hand { self.new.hand ≡ None }
+        ensures seat { self.new.seat ≡ self.old.seat }
         ensures same { KeepsRecent self.old self.new }
         ensures are { ArePinned W.files self.new }
     {
@@ -61,6 +63,7 @@ impl<W: World> Pinned<W> {
         ensures err { OnErr result (self.new.holds ≡ self.old.holds) }
         ensures hand { OnOk result ((self.new.hand ≡ None) ⊎ V.Busy) }
         ensures same { KeepsRecent self.old self.new }
+        ensures visits { PurgesNone gate.now self.old.seat self.new.seat }
         ensures are { ArePinned W.files self.new }
     {
         if let Err(busy) = self.release_hand(gate, waiter) {
@@ -76,6 +79,7 @@ impl<W: World> Pinned<W> {
         requires place { place < length self.old.holds }
         requires hand { self.old.hand ≡ None }
         ensures holds { self.new.holds ≡ remove self.old.holds place }
+        ensures seat { self.new.seat ≡ self.old.seat }
         ensures same { KeepsRecent self.old self.new }
     {
         self.hand = Some(self.holds.remove(place));
@@ -116,6 +120,7 @@ impl<W: World> Pinned<W> {
         ensures some { IsTrue result → length self.old.holds ≡ length self.new.holds + 1 }
         ensures none { IsFalse result → (self.new.holds ≡ []) × (self.new.hand ≡ None) }
         ensures tiles { tiles_in self.new ≡ tiles_in self.old }
+        ensures seat { self.new.seat ≡ self.old.seat }
         ensures same { KeepsRecent self.old self.new }
         ensures are { ArePinned W.files self.new }
     {

@@ -4,9 +4,11 @@ ghost use Rattle.std.specs.Prelude.{IsTrue, IsFalse, IsSome, IsSomeAnd, IfSome, 
 ghost use Rattle.micro.specs.Items.{HasKey};
 ghost use Rattle.micro.specs.Runs.{IsAsked};
 ghost use Rattle.tile_store.specs.Lawful.{FitsCut};
+ghost use Rattle.shard_gate.specs.Since.{PurgesNone};
 ghost use Rattle.pinned_tiles.specs.Pinned.{key_in, ArePinned, PinsAt, KeepsHolds, AsksFor};
 ghost use Rattle.pinned_tiles.specs.Pinned.{LeavesPart, tiles_in};
-ghost use Rattle.pinned_tiles.specs.Cell.{is_tile_of, has_cell};
+ghost use Rattle.pinned_tiles.specs.Pinned.{StaysAskedFor};
+ghost use Rattle.pinned_tiles.specs.Cell.{is_tile_of, has_cell, HasFirst, StandsFirst};
 
 use crate::cell::{CellAt, is_tile_of};
 use crate::lately::Lately;
@@ -24,7 +26,9 @@ impl<W: World> Pinned<W> {
         ensures none { IsFalse result →
             (¬ HasKey key_in key self.old.recent) × (self.new.recent ≡ self.old.recent) }
         ensures latest { IsTrue result → AsksFor key self.old.recent self.new.recent }
+        ensures first { IsTrue result → HasFirst key self.new.recent }
         ensures hand { self.new.hand ≡ self.old.hand }
+        ensures seat { self.new.seat ≡ self.old.seat }
         ensures same { KeepsHolds self.old self.new }
         ensures are { ArePinned W.files self.new }
     {
@@ -45,6 +49,52 @@ impl<W: World> Pinned<W> {
         }
     }
 
+    /// Whether the microcache has a tile that is that of the cell. It then stands first, and else
+    /// all is as before.
+    pub fn turn_to(&mut self, cell: &CellAt) -> bool
+        ensures has { result ≡ has_cell cell.now self.old.recent }
+        ensures asked { IsTrue result →
+            IsAsked key_in self.old.recent cell.now.key true self.new.recent }
+        ensures latest { IsTrue result → AsksFor cell.now.key self.old.recent self.new.recent }
+        ensures first { IsTrue result → StandsFirst cell.now self.new.recent }
+        ensures again { IsTrue result → StaysAskedFor cell.now.key self.new.recent }
+        ensures none { IsFalse result → self.new ≡ self.old }
+        // What the call leaves.
+        ensures kept { (self.new.seat ≡ self.old.seat) × (self.new.hand ≡ self.old.hand) }
+        ensures same { KeepsHolds self.old self.new }
+        ensures are { ArePinned W.files self.new }
+    {
+        // no two of its tiles have one key
+        let _has = self.recent.has(cell.key);
+        if self.tile_of(cell).is_none() {
+            return false;
+        }
+        self.find(cell.key);
+        true
+    }
+
+    /// The tile of a cell, which stands first in the microcache.
+    pub fn latest(&self, cell: &CellAt) -> &Tile<W>
+        requires { StandsFirst cell.now self.now.recent }
+        ensures keyed { result.now.key ≡ cell.now.key }
+        ensures of_cell { IsTrue (is_tile_of cell.now result.now) }
+    {
+        match self.recent.first() {
+            Some(lately) => lately.tile(),
+            None => unreachable!(),
+        }
+    }
+
+    /// Whether the tile that stands first in the microcache is that of the cell.
+    pub fn is_latest(&self, cell: &CellAt) -> bool
+        ensures { IsTrue result ↔ StandsFirst cell.now self.now.recent }
+    {
+        match self.recent.first() {
+            Some(lately) => lately.tile().key() == cell.key && is_tile_of(lately.tile(), cell),
+            None => false,
+        }
+    }
+
     /// Whether the microcache has a tile that is that of the cell.
     pub fn has(&self, cell: &CellAt) -> bool
         ensures { result ≡ has_cell cell.now self.now.recent }
@@ -60,8 +110,10 @@ impl<W: World> Pinned<W> {
         requires absent { ¬ HasKey key_in key self.old.recent }
         ensures asked { IsAsked key_in self.old.recent key false self.new.recent }
         ensures latest { AsksFor key self.old.recent self.new.recent }
+        ensures first { HasFirst key self.new.recent }
         ensures hand { (self.new.hand ≡ None) ⊎ V.Busy }
         ensures same { KeepsHolds self.old self.new }
+        ensures visits { PurgesNone gate.now self.old.seat self.new.seat }
         ensures are { ArePinned W.files self.new }
     {
         self.move_in(key);
@@ -75,6 +127,7 @@ impl<W: World> Pinned<W> {
         requires absent { ¬ HasKey key_in key self.old.recent }
         ensures asked { IsAsked key_in self.old.recent key false self.new.recent }
         ensures latest { AsksFor key self.old.recent self.new.recent }
+        ensures first { HasFirst key self.new.recent }
         ensures seat { self.new.seat ≡ self.old.seat }
         ensures same { KeepsHolds self.old self.new }
     {
@@ -112,6 +165,7 @@ impl<W: World> Pinned<W> {
         ensures some { IsTrue result → length self.old.recent ≡ length self.new.recent + 1 }
         ensures none { IsFalse result → (self.new.recent ≡ []) × (self.new.hand ≡ None) }
         ensures tiles { tiles_in self.new ≡ tiles_in self.old }
+        ensures seat { self.new.seat ≡ self.old.seat }
         ensures same { KeepsHolds self.old self.new }
         ensures are { ArePinned W.files self.new }
     {

@@ -5,6 +5,9 @@ use Rattle.shard_gate.specs.Gate.{PinState, OnePinMore, IsTileOf}
 use Rattle.pinned_tiles.specs.Pinned.{PinnedState}
 use Rattle.pinned_tiles.specs.Pinned.{tile_of_pin}
 use Rattle.pinned_tiles.proofs.PinnedLemmas.{room_for_pin, tile_pinned}
+use Rattle.shard_gate.specs.Given.{Finds}
+use Rattle.shard_gate.specs.Calls.{tile_of, VisitsAt}
+use Rattle.shard_gate.proofs.SinceLemmas.{purges_none_pin, misses_pin}
 use Rattle.pinned_tiles.proofs.pinned.Pinned.pin.Goals as goal
 
 pub pin-requires-clause-room : goal.pin-requires-clause-room
@@ -33,3 +36,25 @@ invariant_of-self g c = (
 
 pub returns-in-Ok-Some-clause-are : goal.returns-in-Ok-Some-clause-are
 returns-in-Ok-Some-clause-are g c = (invariant_of-self g c).0
+
+pub returns-in-Ok-Some-clause-visits : goal.returns-in-Ok-Some-clause-visits
+returns-in-Ok-Some-clause-visits g c = rw (← c.self.view_is)
+    (purges_none_pin c.args.gate.now c.args.key c.self.inside.seat c.pin.new.p c.pin.result
+    c.pin.ensures.visits c.pin.ensures.refused)
+
+pub returns-in-Ok-None-clause-visits : goal.returns-in-Ok-None-clause-visits
+returns-in-Ok-None-clause-visits g c = rw (← c.self.view_is)
+    (purges_none_pin c.args.gate.now c.args.key c.self.inside.seat c.pin.new.p c.pin.result
+    c.pin.ensures.visits c.pin.ensures.refused)
+
+pub returns-in-Err-clause-visits : goal.returns-in-Err-clause-visits
+returns-in-Err-clause-visits g c = rw (← c.self.view_is)
+    (purges_none_pin c.args.gate.now c.args.key c.self.inside.seat c.pin.new.p c.pin.result
+    c.pin.ensures.visits c.pin.ensures.refused)
+
+pub returns-in-Ok-None-clause-missed : goal.returns-in-Ok-None-clause-missed
+returns-in-Ok-None-clause-missed g c = λ none. rw (← c.self.view_is)
+    (misses_pin c.args.gate.now c.args.key c.self.inside.seat c.pin.new.p
+    (subst (λ (o : Option PinState). VisitsAt c.args.gate.now c.args.key
+    (Finds c.args.key (option_map tile_of o)) c.self.inside.seat c.pin.new.p)
+    c.in-Ok-None.field-0-is c.in-Ok-None.ensures.visits))

@@ -4,6 +4,7 @@ use Rattle.std.specs.Option.{option_map}
 use Rattle.pinned_tiles.specs.Pinned.{PinnedState}
 use Rattle.pinned_tiles.specs.Pinned.{tile_of_pin}
 use Rattle.pinned_tiles.proofs.PinnedLemmas.{room_for_pin, tile_pinned}
+use Rattle.shard_gate.proofs.SinceLemmas.{purges_none_pin_new}
 use Rattle.pinned_tiles.proofs.pinned.Pinned.pin_new.Goals as goal
 
 pub pin_new-requires-clause-room : goal.pin_new-requires-clause-room
@@ -27,3 +28,18 @@ invariant_of-self g c = (
 
 pub returns-in-Ok-clause-are : goal.returns-in-Ok-clause-are
 returns-in-Ok-clause-are g c = (invariant_of-self g c).0
+
+pub returns-in-Ok-clause-visits : goal.returns-in-Ok-clause-visits
+returns-in-Ok-clause-visits g c = rw (← c.self.view_is)
+    (purges_none_pin_new c.args.gate.now c.args.tile c.self.inside.seat c.pin_new.new.p
+    c.pin_new.result c.pin_new.ensures.visits c.pin_new.ensures.refused)
+
+pub returns-in-Err-NoMemory-clause-visits : goal.returns-in-Err-NoMemory-clause-visits
+returns-in-Err-NoMemory-clause-visits g c = rw (← c.self.view_is)
+    (purges_none_pin_new c.args.gate.now c.args.tile c.self.inside.seat c.pin_new.new.p
+    c.pin_new.result c.pin_new.ensures.visits c.pin_new.ensures.refused)
+
+pub returns-clause-visits : goal.returns-clause-visits
+returns-clause-visits g c = rw (← c.self.view_is)
+    (purges_none_pin_new c.args.gate.now c.args.tile c.self.inside.seat c.pin_new.new.p
+    c.pin_new.result c.pin_new.ensures.visits c.pin_new.ensures.refused)

@@ -6,6 +6,7 @@ use Rattle.tile_store.specs.Tile.{CachedTile}
 use Rattle.shard_gate.specs.Gate.{PinState}
 use Rattle.pinned_tiles.specs.Pinned.{ArePinned, pinned_state, tile_of_pin, tiles_in}
 use Rattle.pinned_tiles.proofs.PinnedLemmas.{made_is, given_back, same_pins, without_hand}
+use Rattle.shard_gate.proofs.SinceLemmas.{purges_none_unpin}
 use Rattle.pinned_tiles.proofs.pinned.Pinned.release_hand.Goals as goal
 
 pub unpin-requires-clause-made : goal.unpin-requires-clause-made
@@ -68,3 +69,8 @@ returns-in-Err-clause-part g c =
           ∙ (ap At (sym (sym c.take.ensures.value
           ∙ (c.in-Some.is ∙ ap Some (sym c.in-Err.ensures.back)))) ∙ ap tiles_in c.self.view_is),
     )
+
+pub returns-in-Ok-clause-visits : goal.returns-in-Ok-clause-visits
+returns-in-Ok-clause-visits g c = rw (← c.self.view_is)
+    (purges_none_unpin c.args.gate.now c.in-Some.pin.tile.key c.self.inside.seat c.unpin.new.p
+    c.unpin.result c.unpin.ensures.visits c.unpin.ensures.err)

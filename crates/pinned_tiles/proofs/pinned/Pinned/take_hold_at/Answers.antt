@@ -3,10 +3,8 @@ use Rattle.std.proofs.Common.{◌≡◌, ℕ, ◌≤◌, ◌<◌, sym, ap, subst
 use Rattle.std.proofs.Common.{length, get_or}
 use Rattle.std.specs.List.{remove}
 use Rattle.std.specs.Option.{option_map}
-use Rattle.std.proofs.lemmas.List.{length-map}
 use Rattle.std.proofs.Math.ListN.{get_or-map}
 use Rattle.tile_store.specs.Tile.{CachedTile}
-use Rattle.shard_gate.specs.Gate.{PinState}
 use Rattle.pinned_tiles.specs.Pinned.{PinnedState, ArePinned, pinned_tiles, tile_of_pin, max_holds}
 use Rattle.pinned_tiles.proofs.PinnedLemmas.{hold_taken_at, map-remove}
 use Rattle.pinned_tiles.proofs.pinned.Pinned.take_hold_at.Goals as goal
