@@ -2,3 +2,5 @@ mod CellLemmas
 pub mod TexelLemmas
 mod NeedLemmas
 mod FillLemmas
+pub mod SquareLemmas
+mod VisitLemmas

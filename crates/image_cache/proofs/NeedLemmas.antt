@@ -111,7 +111,7 @@ under_bytes files state cell bytes (Ok kept) is honest held under =
     (record { file = refl; generation = refl }) bytes held).kept under
 under_bytes files state cell bytes (Err fault) is honest held under = absurd under
 
-told_is_tile : (files : Files) (state : RecordState) (cell : CellAt) (tile : CachedTile)
+pub told_is_tile : (files : Files) (state : RecordState) (cell : CellAt) (tile : CachedTile)
     → IsTrue files.tells → IsRecord files state → IsCellOf state cell → tile.key ≡ cell.key
     → FitsCut files state.cut tile → is_tile_of cell tile ≡ true
 told_is_tile files state cell tile tells honest of same fits =

@@ -13,6 +13,8 @@ use Rattle.tile_layout.specs.declared.cut.Cut.{Cut}
 use Rattle.tile_layout.specs.Cell.{CellsFit}
 use Rattle.tile_store.specs.Tile.{CachedTile}
 use Rattle.tile_store.specs.Lawful.{FitsCut}
+use Rattle.shard_gate.specs.Gate.{GateState}
+use Rattle.shard_gate.specs.Since.{Misses}
 use Rattle.texel_values.specs.declared.texel_at.TexelAt.{TexelAt}
 use Rattle.image_cache.specs.Pass.{PassState, SamePlace, SameCounts, SameView, counted}
 use Rattle.image_cache.specs.Pass.{counted_together}
@@ -52,9 +54,10 @@ pub record AfterNeed (file : ℕ) (old new : PassState) : Type 0 where
   pub latest : new.latest ≡ old.latest
 
 -- What a need that the microcache meets leaves: only the order of its tiles may be another, and the
--- counts.
+-- counts. It made no visit.
 pub record KeepsAllButRecent (old new : PassState) : Type 0 where
   pub place : SamePlace old new
+  pub seat : new.pinned.seat ≡ old.pinned.seat
   pub view : new.view ≡ old.view
   pub few : length new.pinned.recent ≤ 2
   pub holds : new.pinned.holds ≡ old.pinned.holds
@@ -81,6 +84,16 @@ pub record NoneFalls (old new : TapState) : Type 0 where
   pub moves : old.moves ≤ new.moves
   pub asks : new.asks ≡ old.asks
   pub newest : new.newest ≡ old.newest
+
+-- The tap had no call.
+abbrev pub HasNoCall : TapState → TapState → Type 0
+HasNoCall old new = new ≡ old
+
+-- A visit was made since to the shard of the cell that holds a texel of a record, and took entries
+-- that lack the cell's key.
+abbrev pub MissesCellAt : GateState → RecordState → TexelAt → PassState → PassState → Type 0
+MissesCellAt gate state at old new = IfOk state.layout (λ kept. Misses gate
+    (cell_of state.generation state.file state.cut kept at).key old.pinned.seat new.pinned.seat)
 
 -- ---- several needs
 

@@ -6,5 +6,6 @@ pub mod Pass
 pub mod Texel
 pub mod Facts
 pub mod Call
+pub mod Square
 pub mod Cause
 pub mod Region

@@ -161,9 +161,10 @@ pub record KeepsAllButCounts (old new : PassState) : Type 0 where
   pub pinned : new.pinned ≡ old.pinned
   pub latest : new.latest ≡ old.latest
 
--- All of it but its view and its record is as it was.
+-- All of it but its view and its record is as it was. It made no visit.
 pub record KeepsAllButRecord (old new : PassState) : Type 0 where
   pub place : SamePlace old new
+  pub seat : new.pinned.seat ≡ old.pinned.seat
   pub tiles : SameTiles old new
   pub counts : SameCounts old new
 

@@ -8,15 +8,15 @@ ghost use Rattle.gen_board.specs.View.{ViewState};
 ghost use Rattle.file_table.specs.Record.{RecordState};
 ghost use Rattle.file_table.specs.Calls.{sighted};
 ghost use Rattle.shard_gate.specs.Gate.{IsTileOf};
-ghost use Rattle.micro.specs.Items.{HasKey};
+ghost use Rattle.shard_gate.specs.Since.{PurgesNone, Misses};
 ghost use Rattle.image_cache.specs.Pass.{IsPassOf, SameCounts};
-ghost use Rattle.pinned_tiles.specs.Pinned.{key_in, AsksFor, IsAskedFor};
-ghost use Rattle.pinned_tiles.specs.Cell.{has_cell, is_tile_of};
+ghost use Rattle.pinned_tiles.specs.Pinned.{AsksFor, IsAskedFor};
+ghost use Rattle.pinned_tiles.specs.Cell.{is_tile_of, HasFirst, StandsFirst};
 ghost use Rattle.image_cache.specs.Texel.{IsRecordOf, IsTexelIn, IsCellOf, IsCellAt};
 ghost use Rattle.image_cache.specs.Texel.{has_cell_at};
 ghost use Rattle.texel_values.specs.Values.{AreValuesAt};
 ghost use Rattle.image_cache.specs.Call.{CountsNeed, AsksForCellAt, TurnsToCellAt, MovesCellAt};
-ghost use Rattle.image_cache.specs.Call.{AfterNeed};
+ghost use Rattle.image_cache.specs.Call.{AfterNeed, HasNoCall, MissesCellAt};
 ghost use Rattle.image_cache.specs.Call.{LeavesNoHand, KeepsAllButRecent, NoneFalls, AnswersWarm};
 ghost use Rattle.image_cache.specs.Cause.{FetchCause};
 
@@ -64,6 +64,11 @@ impl<T: Tap> Cache<T> {
             pass.old.pinned.recent pass.new.pinned.recent) }
         ensures hand { LeavesNoHand V.Busy pass.old pass.new }
         ensures same { AfterNeed known.now.file pass.old pass.new }
+        // Each visit that it makes is one of a pin, a new one, one given back or a count. Where the
+        // world tells, the tap has a call only where one of them missed the cell.
+        ensures visits { PurgesNone self.now.gate pass.old.pinned.seat pass.new.pinned.seat }
+        ensures missed { IsTrue T.W.files.tells → HasNoCall (T.state tap.old) (T.state tap.new)
+            ⊎ MissesCellAt self.now.gate known.now at pass.old pass.new }
         // A cell that the microcache has takes no call of the tap and no memory.
         ensures warm { IsTrue (has_cell_at known.now at pass.old.pinned.recent) → AnswersWarm
             (sighted pass.old.view (T.state tap.old)) (sighted pass.new.view (T.state tap.new))
@@ -71,11 +76,12 @@ impl<T: Tap> Cache<T> {
         ensures moved { IsTrue (has_cell_at known.now at pass.old.pinned.recent) → MovesCellAt
             known.now at pass.old.pinned.recent pass.new.pinned.recent }
     {
-        if self.fetch_local(pass, known, at, out) {
+        let cell = self.cell(known, at);
+        if self.fetch_kept(pass, known, &cell, at, out) {
             return Ok(());
         }
         pass.count_need(false);
-        self.fetch_cold(waiter, pass, tap, known, at, out)
+        self.fetch_cold(waiter, pass, tap, known, &cell, at, out)
     }
 
     /// Whether the microcache has the cell that holds a texel. It changes nothing.
@@ -117,11 +123,42 @@ impl<T: Tap> Cache<T> {
         ensures same { IsFalse result → (pass.new ≡ pass.old) × (out.new ≡ out.old) }
     {
         let cell = self.cell(known, at);
-        if !self.writes(pass, known, &cell, at, out) {
+        self.fetch_kept(pass, known, &cell, at, out)
+    }
+
+    /// The same, of the cell that holds the texel.
+    fn fetch_kept(
+        &self,
+        pass: &mut Pass<T::W>,
+        known: &Record<T::W>,
+        cell: &CellAt,
+        at: TexelAt,
+        out: &mut [u16],
+    ) -> bool
+        requires pass { IsPassOf self.now pass.old }
+        requires known { IsRecordOf T.W.files self.now known.now }
+        requires cell { IsCellAt known.now at cell.now }
+        ensures has { result ≡ has_cell_at known.now at pass.old.pinned.recent }
+        ensures value { IsTrue result →
+            ForSome (T.W.files.held known.now.file known.now.generation) (λ bytes.
+            AreValuesAt bytes at out.new) }
+        // What the call leaves of the pass, where it has the cell.
+        ensures need { IsTrue result → CountsNeed true pass.old pass.new }
+        ensures asked { IsTrue result → AsksForCellAt known.now at
+            pass.old.pinned.recent pass.new.pinned.recent }
+        ensures turned { IsTrue result → TurnsToCellAt known.now at
+            pass.old.pinned.recent pass.new.pinned.recent }
+        ensures moved { IsTrue result → MovesCellAt known.now at
+            pass.old.pinned.recent pass.new.pinned.recent }
+        ensures kept { IsTrue result → KeepsAllButRecent pass.old pass.new }
+        // And where not.
+        ensures same { IsFalse result → (pass.new ≡ pass.old) × (out.new ≡ out.old) }
+    {
+        if !pass.pinned.turn_to(cell) {
             return false;
         }
-        pass.pinned.find(cell.key);
         pass.count_need(true);
+        self.write_latest(pass, known, cell, at, out);
         true
     }
 
@@ -136,31 +173,21 @@ impl<T: Tap> Cache<T> {
         cell_at(known, at)
     }
 
-    /// Writes the values of a texel, where the microcache has its cell.
-    fn writes(
+    /// Writes the values of a texel by the tile of its cell, which stands first in the microcache.
+    fn write_latest(
         &self,
         pass: &Pass<T::W>,
         known: &Record<T::W>,
         cell: &CellAt,
         at: TexelAt,
         out: &mut [u16],
-    ) -> bool
-        requires known { IsRecordOf T.W.files self.now known.now }
+    )
+        requires first { StandsFirst cell.now pass.now.pinned.recent }
         requires cell { IsCellAt known.now at cell.now }
-        ensures has { result ≡ has_cell cell.now pass.now.pinned.recent }
-        ensures key { IsTrue result → HasKey key_in cell.now.key pass.now.pinned.recent }
-        ensures value { IsTrue result →
-            ForSome (T.W.files.held known.now.file known.now.generation) (λ bytes.
+        ensures { ForSome (T.W.files.held known.now.file known.now.generation) (λ bytes.
             AreValuesAt bytes at out.new) }
-        ensures same { IsFalse result → out.new ≡ out.old }
     {
-        match pass.pinned.tile_of(cell) {
-            Some(tile) => {
-                write_values(tile, depth_of(known), at, out);
-                true
-            }
-            None => false,
-        }
+        write_values(pass.pinned.latest(cell), depth_of(known), at, out);
     }
 
     /// Writes the values of a texel whose cell the microcache has not.
@@ -170,12 +197,13 @@ impl<T: Tap> Cache<T> {
         pass: &mut Pass<T::W>,
         tap: &mut T,
         known: &Record<T::W>,
+        cell: &CellAt,
         at: TexelAt,
         out: &mut [u16],
     ) -> Result<(), CacheError<V::Busy>>
         requires pass { IsPassOf self.now pass.old }
         requires known { IsRecordOf T.W.files self.now known.now }
-        requires inside { IsTexelIn known.now at }
+        requires cell { IsCellAt known.now at cell.now }
         ensures value { ForSome (T.W.files.held known.now.file known.now.generation) (λ bytes.
             OnOk result (AreValuesAt bytes at out.new)) }
         ensures cause { IfErr result (FetchCause T.W.files known.now pass.new.view
@@ -190,15 +218,17 @@ impl<T: Tap> Cache<T> {
             pass.old.pinned.recent pass.new.pinned.recent) }
         ensures hand { LeavesNoHand V.Busy pass.old pass.new }
         ensures same { AfterNeed known.now.file pass.old pass.new }
+        ensures visits { PurgesNone self.now.gate pass.old.pinned.seat pass.new.pinned.seat }
+        ensures missed { IsTrue T.W.files.tells → HasNoCall (T.state tap.old) (T.state tap.new)
+            ⊎ MissesCellAt self.now.gate known.now at pass.old pass.new }
     {
-        let cell = self.cell(known, at);
-        match self.need_tile(waiter, pass, tap, known, &cell)? {
+        match self.need_tile(waiter, pass, tap, known, cell)? {
             Some(apart) => {
                 write_values(&apart, depth_of(known), at, out);
                 Ok(())
             }
             None => {
-                self.writes(pass, known, &cell, at, out);
+                self.write_latest(pass, known, cell, at, out);
                 Ok(())
             }
         }
@@ -222,7 +252,7 @@ impl<T: Tap> Cache<T> {
         ensures apart { IfOk result (λ apart. IfSome apart (λ tile. (tile.key ≡ cell.now.key)
             × IsTrue (is_tile_of cell.now tile))) }
         ensures first { IfOk result (λ apart. IsNone apart →
-            IsTrue (has_cell cell.now pass.new.pinned.recent)) }
+            StandsFirst cell.now pass.new.pinned.recent) }
         ensures cause { IfErr result (FetchCause T.W.files known.now pass.new.view
             (T.state tap.old) (T.state tap.new)) }
         ensures tap { NoneFalls (T.state tap.old) (T.state tap.new) }
@@ -234,9 +264,15 @@ impl<T: Tap> Cache<T> {
             pass.old.pinned.recent pass.new.pinned.recent) }
         ensures hand { LeavesNoHand V.Busy pass.old pass.new }
         ensures same { AfterNeed known.now.file pass.old pass.new }
+        ensures visits { PurgesNone self.now.gate pass.old.pinned.seat pass.new.pinned.seat }
+        ensures missed { IsTrue T.W.files.tells → HasNoCall (T.state tap.old) (T.state tap.new)
+            ⊎ Misses self.now.gate cell.now.key pass.old.pinned.seat pass.new.pinned.seat }
     {
+        // the record's layout is that of its bytes, and a tile of the key that of its cell
+        let _known = known.generation();
         self.bring(waiter, pass, tap, known, cell)?;
-        if pass.pinned.tile_of(cell).is_some() {
+        pass.pinned.know();
+        if pass.pinned.is_latest(cell) {
             return Ok(None);
         }
         match self.load_apart(waiter, pass, tap, known, cell) {
@@ -291,8 +327,12 @@ impl<T: Tap> Cache<T> {
             pass.old.pinned.recent pass.new.pinned.recent) }
         ensures turned { OnOk result (IsAskedFor cell.now.key
             pass.old.pinned.recent pass.new.pinned.recent) }
+        ensures first { OnOk result (HasFirst cell.now.key pass.new.pinned.recent) }
         ensures hand { LeavesNoHand V.Busy pass.old pass.new }
         ensures same { AfterNeed known.now.file pass.old pass.new }
+        ensures visits { PurgesNone self.now.gate pass.old.pinned.seat pass.new.pinned.seat }
+        ensures missed { HasNoCall (T.state tap.old) (T.state tap.new)
+            ⊎ Misses self.now.gate cell.now.key pass.old.pinned.seat pass.new.pinned.seat }
     {
         if pass.pinned.find(cell.key) {
             return Ok(());
@@ -324,6 +364,9 @@ impl<T: Tap> Cache<T> {
         ensures recent { pass.new.pinned.recent ≡ pass.old.pinned.recent }
         ensures empty { OnErr result ((pass.new.pinned.hand ≡ None) ⊎ V.Busy) }
         ensures same { AfterNeed known.now.file pass.old pass.new }
+        ensures visits { PurgesNone self.now.gate pass.old.pinned.seat pass.new.pinned.seat }
+        ensures missed { HasNoCall (T.state tap.old) (T.state tap.new)
+            ⊎ Misses self.now.gate cell.now.key pass.old.pinned.seat pass.new.pinned.seat }
     {
         match pass.pinned.pin_next(&self.gate, waiter, cell.key) {
             Ok(true) => return Ok(()),

@@ -3,6 +3,7 @@ ghost use Rattle.std.specs.Prelude.{◌≡◌, ◌⊎◌, ◌<◌, ◌≤◌, le
 ghost use Rattle.std.specs.Prelude.{None};
 ghost use Rattle.std.specs.List.{remove};
 ghost use Rattle.tex_world.specs.World.{IsFile};
+ghost use Rattle.shard_gate.specs.Since.{PurgesNone};
 ghost use Rattle.image_cache.specs.Pass.{IsPassOf};
 ghost use Rattle.image_cache.specs.Texel.{IsGivenBy};
 ghost use Rattle.image_cache.specs.Call.{AfterCall, AfterStep, KeepsGiven, KeepsOne, KeepsRecent};
@@ -45,6 +46,7 @@ impl<T: Tap> Cache<T> {
         ensures latest { KeepsOne T.W.files file self.now.gate.cut pass.old pass.new }
         ensures same { AfterCall file pass.old pass.new × KeepsRecent pass.old pass.new }
         ensures hand { LeavesNoHand V.Busy pass.old pass.new }
+        ensures visits { PurgesNone self.now.gate pass.old.pinned.seat pass.new.pinned.seat }
         ensures tap { NoneFalls (T.state tap.old) (T.state tap.new) }
     {
         if pass.pinned.held_count() == MAX_HOLDS {
@@ -77,6 +79,7 @@ impl<T: Tap> Cache<T> {
         ensures same { AfterStep known.now.file pass.old pass.new }
         ensures recent { KeepsRecent pass.old pass.new }
         ensures hand { LeavesNoHand V.Busy pass.old pass.new }
+        ensures visits { PurgesNone self.now.gate pass.old.pinned.seat pass.new.pinned.seat }
         ensures tap { NoneFalls (T.state tap.old) (T.state tap.new) }
     {
         inside(known, at)?;
@@ -101,6 +104,7 @@ impl<T: Tap> Cache<T> {
         ensures err { OnErr result (pass.new.pinned.holds ≡ pass.old.pinned.holds) }
         ensures same { KeepsAllButHolds pass.old pass.new }
         ensures hand { LeavesNoHand V.Busy pass.old pass.new }
+        ensures visits { PurgesNone self.now.gate pass.old.pinned.seat pass.new.pinned.seat }
     {
         if place >= pass.pinned.held_count() {
             return Err(NotReleased::NothingHeld);

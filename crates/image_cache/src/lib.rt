@@ -13,6 +13,7 @@ mod opening;
 mod options;
 mod pass;
 mod pixels;
+mod squares;
 mod texel;
 
 pub use cache::Cache;

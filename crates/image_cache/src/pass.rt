@@ -2,6 +2,7 @@ ghost use Rattle.std.specs.Prelude.{◌≡◌, ◌<◌, ◌≤◌, length, None,
 ghost use Rattle.std.specs.Option.{option_copied};
 ghost use Rattle.pinned_tiles.specs.Pinned.{ArePinned};
 ghost use Rattle.image_cache.specs.Pass.{pass_state, max_count, KeepsAllButCounts};
+ghost use Rattle.image_cache.specs.Pass.{counted_together};
 ghost use Rattle.image_cache.specs.Call.{CountsNeed};
 
 use file_table::Record;
@@ -99,5 +100,15 @@ impl<W: World> Pass<W> {
         if hit {
             self.hits = self.hits.saturating_add(1);
         }
+    }
+
+    /// Counts four needs, all of which the microcache had.
+    pub(crate) fn count_four(&mut self)
+        ensures needs { self.new.needs ≡ counted_together self.old.needs 4 }
+        ensures hits { self.new.hits ≡ counted_together self.old.hits 4 }
+        ensures kept { KeepsAllButCounts self.old self.new }
+    {
+        self.needs = self.needs.saturating_add(4);
+        self.hits = self.hits.saturating_add(4);
     }
 }

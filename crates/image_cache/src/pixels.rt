@@ -10,7 +10,8 @@ ghost use Rattle.texel_values.specs.Area.{IsPainted, IsZeroBeside, area_cell, ar
 ghost use Rattle.tile_layout.specs.Grid.{shown_grid};
 ghost use Rattle.tile_layout.specs.Key.{key_of, level_of};
 ghost use Rattle.tile_layout.specs.Cell.{cell_rect};
-ghost use Rattle.pinned_tiles.specs.Cell.{has_cell, is_tile_of};
+ghost use Rattle.shard_gate.specs.Since.{PurgesNone};
+ghost use Rattle.pinned_tiles.specs.Cell.{is_tile_of, StandsFirst};
 ghost use Rattle.image_cache.specs.Pass.{IsPassOf};
 ghost use Rattle.image_cache.specs.Texel.{IsRecordOf, IsGivenBy, IsCellOf};
 ghost use Rattle.image_cache.specs.Call.{AfterCall, AfterNeed, CountsOn, KeepsGiven, KeepsOne};
@@ -77,6 +78,7 @@ impl<T: Tap> Cache<T> {
         ensures same { AfterCall file pass.old pass.new
             × (pass.new.pinned.holds ≡ pass.old.pinned.holds) }
         ensures hand { LeavesNoHand V.Busy pass.old pass.new }
+        ensures visits { PurgesNone self.now.gate pass.old.pinned.seat pass.new.pinned.seat }
         ensures tap { NoneFalls (T.state tap.old) (T.state tap.new) }
     {
         if region.is_too_large() {
@@ -114,6 +116,7 @@ impl<T: Tap> Cache<T> {
         ensures same { AfterNeed known.now.file pass.old pass.new }
         ensures counts { CountsOn pass.old pass.new }
         ensures hand { LeavesNoHand V.Busy pass.old pass.new }
+        ensures visits { PurgesNone self.now.gate pass.old.pinned.seat pass.new.pinned.seat }
         ensures tap { NoneFalls (T.state tap.old) (T.state tap.new) }
     {
         pass.know();
@@ -161,6 +164,7 @@ impl<T: Tap> Cache<T> {
         ensures same { AfterNeed known.now.file pass.old pass.new }
         ensures counts { CountsOn pass.old pass.new }
         ensures hand { LeavesNoHand V.Busy pass.old pass.new }
+        ensures visits { PurgesNone self.now.gate pass.old.pinned.seat pass.new.pinned.seat }
         ensures tap { NoneFalls (T.state tap.old) (T.state tap.new) }
     {
         pass.know();
@@ -199,6 +203,7 @@ impl<T: Tap> Cache<T> {
         ensures same { AfterNeed known.now.file pass.old pass.new }
         ensures counts { CountsOn pass.old pass.new }
         ensures hand { LeavesNoHand V.Busy pass.old pass.new }
+        ensures visits { PurgesNone self.now.gate pass.old.pinned.seat pass.new.pinned.seat }
         ensures tap { NoneFalls (T.state tap.old) (T.state tap.new) }
     {
         pass.know();
@@ -243,6 +248,7 @@ impl<T: Tap> Cache<T> {
         ensures same { AfterNeed known.now.file pass.old pass.new }
         ensures counts { CountsOn pass.old pass.new }
         ensures hand { LeavesNoHand V.Busy pass.old pass.new }
+        ensures visits { PurgesNone self.now.gate pass.old.pinned.seat pass.new.pinned.seat }
         ensures tap { NoneFalls (T.state tap.old) (T.state tap.new) }
     {
         let cell = self.cell_of(known, area, k);
@@ -273,7 +279,7 @@ impl<T: Tap> Cache<T> {
         ensures apart { IfOk result (λ apart. IfSome apart (λ tile. (tile.key ≡ cell.now.key)
             × IsTrue (is_tile_of cell.now tile))) }
         ensures first { IfOk result (λ apart. IsNone apart →
-            IsTrue (has_cell cell.now pass.new.pinned.recent)) }
+            StandsFirst cell.now pass.new.pinned.recent) }
         ensures needs { OnOk result (Needs T.W.files (cell.now.key ∷ []) pass.old pass.new) }
         ensures cause { IfErr result (FetchCause T.W.files known.now pass.new.view
             (T.state tap.old) (T.state tap.new)) }
@@ -281,6 +287,7 @@ impl<T: Tap> Cache<T> {
         ensures same { AfterNeed known.now.file pass.old pass.new }
         ensures counts { CountsOn pass.old pass.new }
         ensures hand { LeavesNoHand V.Busy pass.old pass.new }
+        ensures visits { PurgesNone self.now.gate pass.old.pinned.seat pass.new.pinned.seat }
         ensures tap { NoneFalls (T.state tap.old) (T.state tap.new) }
     {
         // the record's layout is that of its bytes, and a tile of the key that of its cell
@@ -310,7 +317,8 @@ impl<T: Tap> Cache<T> {
         cell_met(known, area, k)
     }
 
-    /// Writes the values of the texels that a region has in a cell of the microcache.
+    /// Writes the values of the texels that a region has in a cell, whose tile stands first in the
+    /// microcache.
     fn paint_local(
         &self,
         pass: &Pass<T::W>,
@@ -319,7 +327,7 @@ impl<T: Tap> Cache<T> {
         area: &Area,
         values: &mut [u16],
     )
-        requires has { IsTrue (has_cell cell.now pass.now.pinned.recent) }
+        requires first { StandsFirst cell.now pass.now.pinned.recent }
         requires cell { IsCellOf known.now cell.now }
         requires right { cell.now.rect.x + cell.now.rect.w ≤ area.now.grid.across.size }
         requires bottom { cell.now.rect.y + cell.now.rect.h ≤ area.now.grid.down.size }
@@ -332,10 +340,7 @@ impl<T: Tap> Cache<T> {
             (λ bytes. HasValuesOn bytes (level_of cell.now.key) cell.now.rect area.now.window
             area.now.height values.new) }
     {
-        let Some(tile) = pass.pinned.tile_of(cell) else {
-            unreachable!()
-        };
-        paint_part(tile, known, cell, area, values);
+        paint_part(pass.pinned.latest(cell), known, cell, area, values);
     }
 }
 

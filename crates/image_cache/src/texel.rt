@@ -1,16 +1,19 @@
 //! A texel, and the cell that holds it.
-ghost use Rattle.std.specs.Prelude.{◌≡◌, ◌<◌, IfOk};
+ghost use Rattle.std.specs.Prelude.{◌≡◌, ◌↔◌, ◌<◌, IfOk, IfSome, IsSome, IsTrue};
 ghost use Rattle.tex_world.specs.World.{max_files};
 ghost use Rattle.tiff_dirs.specs.Facts.{IsChannelCount};
-ghost use Rattle.tile_layout.specs.Cell.{channels_in, bit_depth_in};
+ghost use Rattle.tile_layout.specs.Cell.{channels_in, bit_depth_in, HoldsTexel};
 ghost use Rattle.file_table.specs.Record.{IsRecord};
+ghost use Rattle.texel_values.specs.Square.{HoldsSquare};
 ghost use Rattle.image_cache.specs.Texel.{IsTexelIn, IsCellAt};
+ghost use Rattle.image_cache.specs.Square.{left_top, IsSquareIn, LieInOneOf};
 
 use file_table::Record;
 use pinned_tiles::CellAt;
 use tex_world::World;
+use texel_filter::Square;
 use texel_values::TexelAt;
-use tile_layout::TileKey;
+use tile_layout::{Rect, TileKey};
 
 /// The cell that holds a texel of a record.
 pub(crate) fn cell_at<W: World>(known: &Record<W>, at: TexelAt) -> CellAt
@@ -25,6 +28,36 @@ pub(crate) fn cell_at<W: World>(known: &Record<W>, at: TexelAt) -> CellAt
         rect: grid.cell_rect(index),
         channels: channels_of(known),
     }
+}
+
+/// The cell that holds all four texels of a square of a record, if there is one.
+pub(crate) fn cell_of_square<W: World>(known: &Record<W>, square: &Square) -> Option<CellAt>
+    requires inside { IsSquareIn known.now square.now }
+    requires file { known.now.file < max_files }
+    ensures cell { IfSome result (IsCellAt known.now (left_top square.now)) }
+    ensures holds { IfSome result (λ cell. HoldsSquare cell.rect square.now) }
+    ensures one { IsSome result ↔ LieInOneOf known.now square.now }
+{
+    // each of its cells has sides
+    let _grid = known.grid(square.level);
+    let first = TexelAt {
+        level: square.level,
+        x: square.left,
+        y: square.top,
+    };
+    let cell = cell_at(known, first);
+    if holds(&cell.rect, square.right, square.bottom) {
+        Some(cell)
+    } else {
+        None
+    }
+}
+
+/// A texel is in a rectangle.
+fn holds(rect: &Rect, x: u32, y: u32) -> bool
+    ensures { IsTrue result ↔ HoldsTexel rect.now x y }
+{
+    rect.x <= x && x - rect.x < rect.w && rect.y <= y && y - rect.y < rect.h
 }
 
 /// The samples of a texel of a record that shows no fault.

@@ -9,11 +9,13 @@ use Rattle.texel_values.specs.Area.{area_cell}
 use Rattle.texel_values.specs.Window.{HasValuesOn}
 use Rattle.texel_values.proofs.AreaLemmas.{painted_all}
 use Rattle.texel_values.proofs.PlaceLemmas.{less_or_not}
+use Rattle.shard_gate.proofs.SinceLemmas.{purges_none_chain}
 use Rattle.image_cache.specs.Call.{Needs}
 use Rattle.image_cache.specs.Region.{area_keys}
 use Rattle.image_cache.proofs.FillLemmas.{after_none, after_chain, hand_chain, none_fell}
 use Rattle.image_cache.proofs.FillLemmas.{none_falls_chain, needs_more, no_needs, keys_more}
 use Rattle.image_cache.proofs.FillLemmas.{painted_stays, beside_stays, same_cache}
+use Rattle.image_cache.proofs.VisitLemmas.{visits_same}
 use Rattle.image_cache.proofs.cache.Cache.fill.Goals as goal
 
 pub cells-init : goal.cells-init
@@ -28,6 +30,7 @@ cells-init g c =
       same = after_none c.args.known.now.file pass c.know.ensures.few;
       counts = record { needs = omega arith; hits = omega arith };
       hand = inr (inl refl);
+      visits = visits_same c.args.self.now.gate pass.pinned.seat pass.pinned.seat refl;
       tap = none_fell (g.T.Tap.state c.args.tap.now);
     }
 
@@ -69,6 +72,8 @@ cells-preserved g c =
         hits = omega (arith, inv.counts.hits, c.fill_cell.ensures.counts.hits);
       };
       hand = hand_chain g.row.V-Busy.Denot first before after inv.hand c.fill_cell.ensures.hand;
+      visits = purges_none_chain c.args.self.now.gate first.pinned.seat before.pinned.seat
+          after.pinned.seat inv.visits c.fill_cell.ensures.visits;
       tap = none_falls_chain (g.T.Tap.state c.args.tap.now) (g.T.Tap.state c.cells.tap)
           (g.T.Tap.state c.fill_cell.new.tap) inv.tap c.fill_cell.ensures.tap;
     }
@@ -77,6 +82,11 @@ pub returns-in-Err-clause-same : goal.returns-in-Err-clause-same
 returns-in-Err-clause-same g c =
     after_chain c.args.known.now.file c.args.pass.now c.cells.pass c.fill_cell.new.pass
     c.cells.invariant.same c.fill_cell.ensures.same
+
+pub returns-in-Err-clause-visits : goal.returns-in-Err-clause-visits
+returns-in-Err-clause-visits g c =
+    purges_none_chain c.args.self.now.gate c.args.pass.now.pinned.seat c.cells.pass.pinned.seat
+    c.fill_cell.new.pass.pinned.seat c.cells.invariant.visits c.fill_cell.ensures.visits
 
 pub returns-clause-value : goal.returns-clause-value
 returns-clause-value g c bytes held =

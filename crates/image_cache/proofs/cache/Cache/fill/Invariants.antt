@@ -5,6 +5,7 @@ use Rattle.tile_layout.specs.Grid.{shown_grid}
 use Rattle.tile_layout.specs.Cell.{cell_rect}
 use Rattle.texel_values.specs.Area.{IsZeroBeside, area_cell}
 use Rattle.texel_values.specs.Window.{HasValuesOn}
+use Rattle.shard_gate.specs.Since.{PurgesNone}
 use Rattle.image_cache.specs.Pass.{IsPassOf}
 use Rattle.image_cache.specs.Call.{Needs, AfterNeed, CountsOn, LeavesNoHand, NoneFalls}
 use Rattle.image_cache.specs.Region.{area_keys}
@@ -22,5 +23,6 @@ invariant-cells g l = record {
   same : AfterNeed l.known.file l.fn.pass l.pass;
   counts : CountsOn l.fn.pass l.pass;
   hand : LeavesNoHand g.row.V-Busy.Denot l.fn.pass l.pass;
+  visits : PurgesNone l.self.gate l.fn.pass.pinned.seat l.pass.pinned.seat;
   tap : NoneFalls (g.T.Tap.state l.fn.tap) (g.T.Tap.state l.tap);
 }

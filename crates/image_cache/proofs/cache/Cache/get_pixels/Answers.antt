@@ -6,6 +6,7 @@ use Rattle.image_cache.specs.declared.pixels.Pixels.{Pixels}
 use Rattle.image_cache.specs.Call.{KeepsGiven}
 use Rattle.image_cache.specs.Region.{ReadsRegion}
 use Rattle.image_cache.proofs.FillLemmas.{if_ok, keeps_given, reads_between}
+use Rattle.image_cache.proofs.VisitLemmas.{visits_same, visits_from, visits_to}
 use Rattle.image_cache.proofs.cache.Cache.get_pixels.Goals as goal
 
 pub returns-clause-ok : goal.returns-clause-ok
@@ -34,3 +35,18 @@ returns-clause-ok g c =
     (reads_between files region p.channels old mid after new r c.open.ensures.same.tiles.recent
     c.open.ensures.same.counts c.keep.ensures.same.tiles.recent c.keep.ensures.same.counts read.1))
     c.pixels_of-answer.ensures.ok
+
+pub returns-in_err-known-clause-visits : goal.returns-in_err-known-clause-visits
+returns-in_err-known-clause-visits g c =
+    visits_same c.args.self.now.gate c.args.pass.now.pinned.seat c.open.new.pass.pinned.seat
+    c.open.ensures.same.seat
+
+pub returns-clause-visits : goal.returns-clause-visits
+returns-clause-visits g c =
+    let gate = c.args.self.now.gate in
+    let opened = c.open.new.pass.pinned.seat in
+    let after = c.pixels_of-answer.new.pass.pinned.seat in
+    visits_from gate c.args.pass.now.pinned.seat opened c.keep.new.pass.pinned.seat
+    c.open.ensures.same.seat
+    (visits_to gate opened after c.keep.new.pass.pinned.seat c.pixels_of-answer.ensures.visits
+    c.keep.ensures.same.seat)

@@ -8,6 +8,7 @@ use Rattle.pinned_tiles.specs.Cell.{has_cell}
 use Rattle.image_cache.specs.Pass.{PassState}
 use Rattle.image_cache.specs.Call.{Needs}
 use Rattle.image_cache.proofs.NeedLemmas.{on_ok, needs_one}
+use Rattle.image_cache.proofs.VisitLemmas.{visits_from}
 use Rattle.image_cache.proofs.cache.Cache.need_counted.Goals as goal
 
 pub returns-clause-needs : goal.returns-clause-needs
@@ -30,3 +31,9 @@ returns-clause-needs g c =
     (c.has-hit.ensures ∙ ap (λ (p : PassState). has_cell cell p.pinned.recent) c.pass.view_is)
     c.count_need.ensures.low c.count_need.ensures.counts c.need_tile.ensures.counts asked)
     c.need_tile.ensures.turned
+
+pub returns-clause-visits : goal.returns-clause-visits
+returns-clause-visits g c =
+    visits_from c.args.self.now.gate c.args.pass.now.pinned.seat c.count_need.new.self.pinned.seat
+    c.need_tile.new.pass.pinned.seat
+    (ap (λ (p : PinnedState). p.seat) c.count_need.ensures.kept.pinned) c.need_tile.ensures.visits

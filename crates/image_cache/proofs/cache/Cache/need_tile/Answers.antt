@@ -1,0 +1,39 @@
+-- Where the world tells, the tile that stands first is that of the cell.
+use Rattle.std.proofs.Common.{◌≡◌, ◌∙◌, sym, ap, subst}
+use Rattle.std.specs.List.{All}
+use Rattle.tile_layout.specs.declared.cut.Cut.{Cut}
+use Rattle.tile_store.specs.Lawful.{FitsCut}
+use Rattle.pinned_tiles.specs.Cell.{HasFirst}
+use Rattle.image_cache.specs.Pass.{PassState}
+use Rattle.image_cache.proofs.VisitLemmas.{told_stands}
+use Rattle.image_cache.proofs.cache.Cache.need_tile.Goals as goal
+
+pub returns-in-Ok-clause-missed : goal.returns-in-Ok-clause-missed
+returns-in-Ok-clause-missed g c tells =
+    let files = g.T.W.World.files in
+    let cell = c.args.cell.now in
+    let first = subst (λ (s : PassState). HasFirst cell.key s.pinned.recent) (sym c.pass.view_is)
+    c.in_ok-bring.ensures.first in
+    let cut : c.pass.inside.pinned.cut ≡ c.args.known.now.cut =
+    ap (λ (s : PassState). s.pinned.cut) c.pass.view_is
+    ∙ (c.bring.ensures.same.place.cut ∙ (c.requires.pass.cut ∙ sym c.requires.known.cut)) in
+    let fits = subst (λ (k : Cut). All (FitsCut files k) c.pass.inside.pinned.recent) cut
+    c.know.ensures.recent_cells in
+    let stands = told_stands files c.args.known.now cell c.pass.inside.pinned.recent tells
+    c.generation-known.ensures.told c.requires.cell first fits in
+    absurd (cc (c.is_latest.ensures.1 stands, c.if-is_latest.false))
+
+pub returns-in-Err-clause-missed : goal.returns-in-Err-clause-missed
+returns-in-Err-clause-missed g c tells =
+    let files = g.T.W.World.files in
+    let cell = c.args.cell.now in
+    let first = subst (λ (s : PassState). HasFirst cell.key s.pinned.recent) (sym c.pass.view_is)
+    c.in_ok-bring.ensures.first in
+    let cut : c.pass.inside.pinned.cut ≡ c.args.known.now.cut =
+    ap (λ (s : PassState). s.pinned.cut) c.pass.view_is
+    ∙ (c.bring.ensures.same.place.cut ∙ (c.requires.pass.cut ∙ sym c.requires.known.cut)) in
+    let fits = subst (λ (k : Cut). All (FitsCut files k) c.pass.inside.pinned.recent) cut
+    c.know.ensures.recent_cells in
+    let stands = told_stands files c.args.known.now cell c.pass.inside.pinned.recent tells
+    c.generation-known.ensures.told c.requires.cell first fits in
+    absurd (cc (c.is_latest.ensures.1 stands, c.if-is_latest.false))

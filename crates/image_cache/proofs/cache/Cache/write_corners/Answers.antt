@@ -1,0 +1,10 @@
+-- The values are those of the tile of the square's cell.
+use Rattle.image_cache.proofs.SquareLemmas.{corners_told}
+use Rattle.image_cache.proofs.cache.Cache.write_corners.Goals as goal
+
+pub returns : goal.returns
+returns g c bytes held =
+    corners_told g.T.W.World.files g.T.W.World.lawful c.args.known.now c.args.square.now
+    c.args.cell.now c.latest.result.now c.depth_of.result c.args.channels c.write_square.new.out bytes
+    c.depth_of.ensures.told c.requires.cell c.latest.ensures.keyed c.depth_of.ensures.value
+    c.write_square.ensures held

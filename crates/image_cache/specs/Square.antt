@@ -1,0 +1,69 @@
+-- When has a microcache all four texels of a square, and what do they leave, one after another?
+use Rattle.std.specs.Prelude.{◌≡◌, true, IsTrue, IsOkAnd, List}
+use Rattle.texel_filter.specs.declared.square.Square.{Square}
+use Rattle.tile_layout.specs.declared.cut.Cut.{Cut}
+use Rattle.tile_layout.specs.Kept.{Kept}
+use Rattle.tile_store.specs.Tile.{CachedTile}
+use Rattle.file_table.specs.Record.{RecordState}
+use Rattle.texel_values.specs.declared.texel_at.TexelAt.{TexelAt}
+use Rattle.image_cache.specs.Pass.{PassState}
+use Rattle.image_cache.specs.Texel.{index_at, has_cell_at, IsTexelIn}
+use Rattle.image_cache.specs.Call.{CountsNeed, AsksForCellAt, TurnsToCellAt, MovesCellAt}
+use Rattle.image_cache.specs.Call.{KeepsAllButRecent}
+
+-- ---- the four texels
+
+abbrev pub left_top : Square → TexelAt
+left_top square = record { level = square.level; x = square.left; y = square.top }
+
+abbrev pub right_top : Square → TexelAt
+right_top square = record { level = square.level; x = square.right; y = square.top }
+
+abbrev pub left_bottom : Square → TexelAt
+left_bottom square = record { level = square.level; x = square.left; y = square.bottom }
+
+abbrev pub right_bottom : Square → TexelAt
+right_bottom square = record { level = square.level; x = square.right; y = square.bottom }
+
+-- they lie in a level of the record
+pub record IsSquareIn (state : RecordState) (square : Square) : Type 0 where
+  pub first : IsTexelIn state (left_top square)
+  pub last : IsTexelIn state (right_bottom square)
+
+-- one cell holds all four
+pub record LieInOne (kept : Kept) (cut : Cut) (square : Square) : Type 0 where
+  pub right_top_in : index_at kept cut (right_top square) ≡ index_at kept cut (left_top square)
+  pub left_bottom_in : index_at kept cut (left_bottom square) ≡ index_at kept cut (left_top square)
+  pub right_bottom_in
+      : index_at kept cut (right_bottom square) ≡ index_at kept cut (left_top square)
+
+-- one cell of the record holds them
+abbrev pub LieInOneOf : RecordState → Square → Type 0
+LieInOneOf state square = IsOkAnd state.layout (λ kept. LieInOne kept state.cut square)
+
+-- so it is, and the microcache has that cell
+abbrev pub HasSquareAt : RecordState → Square → List CachedTile → Type 0
+HasSquareAt state square tiles =
+    LieInOneOf state square × IsTrue (has_cell_at state (left_top square) tiles)
+
+-- ---- what they leave
+
+-- The microcache had the cell of a texel, which was read there: what `fetch_local` leaves then.
+pub record MeetsAt (state : RecordState) (at : TexelAt) (old new : PassState) : Type 0 where
+  pub had : has_cell_at state at old.pinned.recent ≡ true
+  pub need : CountsNeed true old new
+  pub asked : AsksForCellAt state at old.pinned.recent new.pinned.recent
+  pub turned : TurnsToCellAt state at old.pinned.recent new.pinned.recent
+  pub moved : MovesCellAt state at old.pinned.recent new.pinned.recent
+  pub kept : KeepsAllButRecent old new
+
+-- All four were read so, one after another, the upper row first.
+pub record MeetsSquare (state : RecordState) (square : Square) (old new : PassState)
+    : Type 0 where
+  pub first : PassState
+  pub second : PassState
+  pub third : PassState
+  pub to_first : MeetsAt state (left_top square) old first
+  pub to_second : MeetsAt state (right_top square) first second
+  pub to_third : MeetsAt state (left_bottom square) second third
+  pub to_last : MeetsAt state (right_bottom square) third new
