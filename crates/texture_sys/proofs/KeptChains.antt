@@ -15,6 +15,7 @@ use Rattle.texture_sys.proofs.Chains.{still_there, each_needs}
 recent_none : (p q : PassState) → length p.pinned.recent ≤ 2 → q ≡ p → KeepsAllButRecent p q
 recent_none p q few is = subst (λ (x : PassState). KeepsAllButRecent p x) (sym is) (record {
   place = record { board = refl; gate = refl; cut = refl; permits = refl };
+  seat = refl;
   view = refl;
   few = few;
   holds = refl;
@@ -31,6 +32,7 @@ recent_chain a b c p q = record {
     cut = q.place.cut ∙ p.place.cut;
     permits = q.place.permits ∙ p.place.permits;
   };
+  seat = q.seat ∙ p.seat;
   view = q.view ∙ p.view;
   few = q.few;
   holds = q.holds ∙ p.holds;

@@ -8,3 +8,5 @@ mod Asked
 mod TextureLemmas
 mod KeptRecord
 mod Warm
+mod Visits
+mod Squares

@@ -1,5 +1,6 @@
 //! The texels of a record, as a lookup fetches them through the cache.
 ghost use Rattle.std.specs.Prelude.{◌≡◌};
+ghost use Rattle.shard_gate.specs.Since.{PurgesNone};
 ghost use Rattle.image_cache.specs.Pass.{IsPassOf};
 ghost use Rattle.texture_sys.specs.Fetches.{IsUnder, Fetches, Refuses, pass_tap, values_known};
 ghost use Rattle.texture_sys.specs.Look.{sizes_known};
@@ -36,14 +37,18 @@ impl<'c, 'v, 'p, 't, 'k, V: Waiter, T: Tap> Fetch for CachedTexels<'c, 'v, 'p, '
         × (new.tap.ghost_name ≡ old.tap.ghost_name)
         × (new.known.now ≡ old.known.now)
         × Fetches old.known.now (pass_tap old.pass.now (T.state old.tap.now)) texel
-        (pass_tap new.pass.now (T.state new.tap.now)) };
+        (pass_tap new.pass.now (T.state new.tap.now))
+        × (new.cache.now ≡ old.cache.now)
+        × PurgesNone old.cache.now.gate old.pass.now.pinned.seat new.pass.now.pinned.seat };
 
     ghost refuses = { λ old texel e new.
         (new.pass.ghost_name ≡ old.pass.ghost_name)
         × (new.tap.ghost_name ≡ old.tap.ghost_name)
         × (new.known.now ≡ old.known.now)
         × Refuses T.W.files old.known.now (pass_tap old.pass.now (T.state old.tap.now)) texel e
-        (pass_tap new.pass.now (T.state new.tap.now)) };
+        (pass_tap new.pass.now (T.state new.tap.now))
+        × (new.cache.now ≡ old.cache.now)
+        × PurgesNone old.cache.now.gate old.pass.now.pinned.seat new.pass.now.pinned.seat };
 
     fn levels(&self) -> u32 {
         self.known.levels()
@@ -71,6 +76,13 @@ impl<'c, 'v, 'p, 't, 'k, V: Waiter, T: Tap> Fetch for CachedTexels<'c, 'v, 'p, '
         channels: usize,
         out: &mut Corners,
     ) -> Result<(), CacheError<V::Busy>> {
+        // all four from one cell of the microcache, or each from where it is
+        if self
+            .cache
+            .fetch_square_local(self.pass, self.known.read(), square, channels, out)
+        {
+            return Ok(());
+        }
         let Square {
             level,
             left,

@@ -69,6 +69,13 @@ impl<'c, 'p, 'k, T: Tap> Fetch for KeptTexels<'c, 'p, 'k, T> {
         channels: usize,
         out: &mut Corners,
     ) -> Result<(), Lacking> {
+        // all four from one cell, or each from its own
+        if self
+            .cache
+            .fetch_square_local(self.pass, self.known.read(), square, channels, out)
+        {
+            return Ok(());
+        }
         let Square {
             level,
             left,

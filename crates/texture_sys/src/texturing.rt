@@ -8,6 +8,7 @@ ghost use Rattle.file_table.specs.Calls.{sighted, GivesRecord};
 ghost use Rattle.texel_filter.specs.Image.{IsChannelCount, AreValues, image_of};
 ghost use Rattle.texel_filter.specs.Filter.{lookup_value};
 ghost use Rattle.texel_filter.specs.Calls.{LeftBy};
+ghost use Rattle.shard_gate.specs.Since.{PurgesNone};
 ghost use Rattle.image_cache.specs.Pass.{IsPassOf};
 ghost use Rattle.image_cache.specs.Call.{AfterNeed, NoneFalls};
 ghost use Rattle.image_cache.specs.Cause.{OpenCause, FetchCause};
@@ -53,6 +54,8 @@ pub fn texture<V: Waiter, T: Tap>(
     ensures same { AfterLookup file pass.old pass.new }
     ensures kept { KeepsRecord T.W.files file cache.now.gate.cut r.now pass.old pass.new result }
     ensures tap { NoneFalls (T.state tap.old) (T.state tap.new) }
+    // Each visit that it makes is one of a pin, a new one, one given back or a count.
+    ensures visits { PurgesNone cache.now.gate pass.old.pinned.seat pass.new.pinned.seat }
     // Where all cells that it needs are in the microcache, there is no call of the tap.
     ensures warm { IfSome pass.old.latest (λ known. IsWarm file r.now pass.old known
         → AnswersWarm file known.generation (sighted pass.old.view (T.state tap.old))
@@ -84,6 +87,7 @@ fn record_of<V: Waiter, T: Tap>(
     // What the call leaves.
     ensures err { OnErr result (pass.new.latest ≡ pass.old.latest) }
     ensures same { AfterOpening file pass.old pass.new }
+    ensures seat { pass.new.pinned.seat ≡ pass.old.pinned.seat }
     ensures tap { NoneFalls (T.state tap.old) (T.state tap.new) }
     ensures ready { IfSome pass.old.latest (λ known. IsReady file pass.old known
         → (IsOkAnd result (λ k. k.value ≡ known) × (T.state tap.new ≡ T.state tap.old))
@@ -127,6 +131,7 @@ fn look_at<V: Waiter, T: Tap>(
     ensures asks { OnOk result (AsksForCells read.value (visits_on read.value r.now)
         pass.old pass.new) }
     ensures tap { NoneFalls (T.state tap.old) (T.state tap.new) }
+    ensures visits { PurgesNone cache.now.gate pass.old.pinned.seat pass.new.pinned.seat }
     ensures warm { IsOkAnd read.value.layout (λ kept. CellsFit kept read.value.cut)
         → HasCells read.value pass.old.pinned.recent (visits_on read.value r.now)
         → (result ≡ Ok read.value.generation) × (T.state tap.new ≡ T.state tap.old) }
@@ -189,6 +194,7 @@ fn look_up<V: Waiter, T: Tap>(
     ensures asks { OnOk result (AsksForCells known.now (visits_on known.now r.now)
         pass.old pass.new) }
     ensures tap { NoneFalls (T.state tap.old) (T.state tap.new) }
+    ensures visits { PurgesNone cache.now.gate pass.old.pinned.seat pass.new.pinned.seat }
     ensures warm { HasCells known.now pass.old.pinned.recent (visits_on known.now r.now)
         → (result ≡ Ok tt) × (T.state tap.new ≡ T.state tap.old) }
 {
@@ -218,6 +224,7 @@ fn fetch_all<V: Waiter, T: Tap>(
         (pass_tap pass.old (T.state tap.old)) (visits_on known.now r.now)
         (pass_tap pass.new (T.state tap.new)) result }
     ensures err { OnErr result (out.new ≡ out.old) }
+    ensures visits { PurgesNone cache.now.gate pass.old.pinned.seat pass.new.pinned.seat }
 {
     let mut texels = CachedTexels {
         cache,

@@ -1,7 +1,9 @@
 -- The fetch gives back what it was lent.
-use Rattle.std.proofs.Common.{◌≡◌, rules}
+use Rattle.std.proofs.Common.{◌≡◌, ap, rules}
+use Rattle.image_cache.specs.Pass.{CacheState}
 use Rattle.texture_sys.specs.Fetches.{Fetches, Refuses, pass_tap}
 use Rattle.texture_sys.proofs.Lent.{left_same, left_as}
+use Rattle.texture_sys.proofs.Visits.{left_visits}
 use Rattle.texture_sys.proofs.texturing.fetch_all.Goals as goal
 
 pub returns-clause-left : goal.returns-clause-left
@@ -16,3 +18,14 @@ returns-clause-left g c =
     (left_as c.lookup.new.f _ _ c.lookup.result _ _ c.lookup.ensures.left (λ f. f.known.now)
     (λ f. pass_tap f.pass.now (g.T.Tap.state f.tap.now)) Fetches (Refuses g.T.W.World.files)
     (λ a b t p. (p.2, p.3)) (λ a b t e p. (p.2, p.3)))
+
+pub returns-clause-visits : goal.returns-clause-visits
+returns-clause-visits g c =
+    let pass = left_same c.lookup.new.f _ _ c.lookup.result _ _ c.lookup.ensures.left
+    (λ f. f.pass.ghost_name) (λ a b t p. p.0) (λ a b t e p. p.0) in
+    let pass_back : c.lookup.new.f.pass.now ≡ c.pass-1.given.0 = search (rules, pass) in
+    rw (← pass_back)
+    (left_visits c.lookup.new.f _ _ c.lookup.result _ _ c.lookup.ensures.left
+    (λ f. f.cache.now.gate) (λ f. f.pass.now.pinned.seat)
+    (λ a b t p. (ap (λ (k : CacheState). k.gate) p.4, p.5))
+    (λ a b t e p. (ap (λ (k : CacheState). k.gate) p.4, p.5)))

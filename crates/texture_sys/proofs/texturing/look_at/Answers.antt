@@ -3,6 +3,7 @@ use Rattle.std.proofs.Common.{subst}
 use Rattle.file_table.specs.Record.{RecordState}
 use Rattle.texture_sys.specs.Needs.{visits_on, AsksForCells}
 use Rattle.texture_sys.proofs.Asked.{asks_to}
+use Rattle.texture_sys.proofs.Visits.{visits_none, visits_before}
 use Rattle.texture_sys.proofs.texturing.look_at.Goals as goal
 
 pub returns-in-Ok-clause-asks : goal.returns-in-Ok-clause-asks
@@ -11,3 +12,14 @@ returns-in-Ok-clause-asks g c =
     c.look_up-looked.new.pass c.keep-2.new.pass c.keep-2.ensures.same
     (subst (λ (k : RecordState). AsksForCells k (visits_on k c.args.r.now) c.args.pass.now
     c.look_up-looked.new.pass) c.of-known.ensures c.in-Ok.ensures.asks)
+
+pub returns-in-Ok-clause-visits : goal.returns-in-Ok-clause-visits
+returns-in-Ok-clause-visits g c =
+    visits_before c.args.cache.now.gate c.args.pass.now.pinned.seat
+    c.look_up-looked.new.pass.pinned.seat c.keep-2.new.pass.pinned.seat
+    c.look_up-looked.ensures.visits c.keep-2.ensures.same.seat
+
+pub returns-in-Err-clause-visits : goal.returns-in-Err-clause-visits
+returns-in-Err-clause-visits g c =
+    visits_none c.args.cache.now.gate c.args.pass.now.pinned.seat c.keep.new.pass.pinned.seat
+    c.keep.ensures.same.seat

@@ -4,6 +4,7 @@ use Rattle.texture_sys.proofs.TextureLemmas.{texture_value, texture_cause}
 use Rattle.texture_sys.proofs.KeptRecord.{texture_kept, opening_cause, opening_kept}
 use Rattle.texture_sys.proofs.Warm.{texture_warm}
 use Rattle.texture_sys.proofs.LookLemmas.{by_error}
+use Rattle.texture_sys.proofs.Visits.{visits_none, visits_after}
 use Rattle.texture_sys.proofs.texturing.texture.Goals as goal
 
 pub returns-clause-value : goal.returns-clause-value
@@ -52,3 +53,13 @@ returns-in-Err-clause-cause g c =
     (sighted c.args.pass.now.view (g.T.Tap.state c.args.tap.now))
     (sighted c.record_of.new.pass.view (g.T.Tap.state c.record_of.new.tap)) c.in-Err.e
     c.in-Err.ensures.cause
+
+pub returns-clause-visits : goal.returns-clause-visits
+returns-clause-visits g c =
+    visits_after c.args.cache.now.gate c.args.pass.now.pinned.seat c.record_of.new.pass.pinned.seat
+    c.look_at.new.pass.pinned.seat c.in-Ok.ensures.seat c.look_at.ensures.visits
+
+pub returns-in-Err-clause-visits : goal.returns-in-Err-clause-visits
+returns-in-Err-clause-visits g c =
+    visits_none c.args.cache.now.gate c.args.pass.now.pinned.seat c.record_of.new.pass.pinned.seat
+    c.in-Err.ensures.seat

@@ -1,34 +1,138 @@
--- Four calls of `texel`, one after another.
-use Rattle.std.proofs.Common.{ap, arith, ◌∙◌, inl, inr, refl}
+-- Four texels at once, or four calls of `texel`, one after another.
+use Rattle.std.proofs.Common.{◌≡◌, ap, arith, ◌∙◌, inl, inr, refl, subst}
+use Rattle.std.specs.Option.{ForSome}
 use Rattle.std.proofs.lemmas.Result.{err_from_is_err_and}
+use Rattle.file_table.specs.Record.{RecordState}
+use Rattle.tile_layout.specs.Value.{channel_value_of}
+use Rattle.texel_filter.specs.Image.{Values, texel_of}
+use Rattle.texel_filter.specs.Square.{AreCorners}
 use Rattle.texel_filter.proofs.CallLemmas.{first_of_part, on_ok}
+use Rattle.image_cache.specs.Pass.{PassState}
+use Rattle.image_cache.specs.Square.{MeetsSquare}
 use Rattle.texture_sys.specs.Fetches.{values_known}
-use Rattle.texture_sys.proofs.LookLemmas.{by_result}
+use Rattle.texture_sys.proofs.LookLemmas.{at_mapped, by_result}
+use Rattle.texture_sys.proofs.Squares.{fetches_met, same_cache, none_met, fetches_from}
+use Rattle.texture_sys.proofs.Squares.{refuses_from, visits_from}
 use Rattle.texture_sys.proofs.cached.CachedTexelsFetch.square.Goals as goal
+
+pub returns-then-fetch_square_local-clause-left : goal.returns-then-fetch_square_local-clause-left
+returns-then-fetch_square_local-clause-left g c =
+    let s = c.args.self.now in
+    let k = s.known.now in
+    let tap = g.T.Tap.state s.tap.now in
+    let gate = s.cache.now.gate in
+    let q = c.args.square.now in
+    let old : PassState = s.pass.now in
+    let new : PassState = c.fetch_square_local.new.pass in
+    let met : MeetsSquare k q old new = subst (λ (r : RecordState). MeetsSquare r q old new)
+    c.read.ensures.value (c.fetch_square_local.ensures.met c.if-fetch_square_local.true) in
+    let of_first = same_cache s.cache.now old met.first met.to_first.kept s.of_cache in
+    let of_second = same_cache s.cache.now met.first met.second met.to_second.kept of_first in
+    let of_third = same_cache s.cache.now met.second met.third met.to_third.kept of_second in (
+      record s { pass = record s.pass { now = met.first }; of_cache = of_first },
+      (refl, refl, refl, fetches_met k (texel_of q.level q.left q.top) tap old met.first met.to_first, refl, none_met gate old met.first met.to_first.kept),
+      (
+        record s { pass = record s.pass { now = met.second }; of_cache = of_second },
+        (refl, refl, refl, fetches_met k (texel_of q.level q.right q.top) tap met.first met.second met.to_second, refl, none_met gate met.first met.second met.to_second.kept),
+        (
+          record s { pass = record s.pass { now = met.third }; of_cache = of_third },
+          (refl, refl, refl, fetches_met k (texel_of q.level q.left q.bottom) tap met.second met.third met.to_third, refl, none_met gate met.second met.third met.to_third.kept),
+          (
+            record s {
+              pass = record s.pass { now = new };
+              of_cache = c.self-1.given.0;
+              under = c.self-1.given.1.0;
+            },
+            (refl, refl, refl, fetches_met k (texel_of q.level q.right q.bottom) tap met.third new met.to_last, refl, none_met gate met.third new met.to_last.kept),
+            refl,
+          ),
+        ),
+      ),
+    )
+
+pub returns-then-fetch_square_local-clause-told : goal.returns-then-fetch_square_local-clause-told
+returns-then-fetch_square_local-clause-told g c values is =
+    let known = c.args.self.now.known.now in
+    let q = c.args.square.now in
+    at_mapped channel_value_of (g.T.W.World.files.held known.file known.generation) values
+    (λ (v : Values). AreCorners v q c.args.channels c.fetch_square_local.new.out) is
+    (subst (λ (r : RecordState). ForSome (g.T.W.World.files.held r.file r.generation)
+    (λ bytes. AreCorners (channel_value_of bytes) q c.args.channels c.fetch_square_local.new.out))
+    c.read.ensures.value (c.fetch_square_local.ensures.value c.if-fetch_square_local.true))
+
+pub returns-in_err-texel-clause-left : goal.returns-in_err-texel-clause-left
+returns-in_err-texel-clause-left g c =
+    let old : PassState = c.args.self.now.pass.now in
+    let mid : PassState = c.fetch_square_local.new.pass in
+    let same : mid ≡ old = (c.fetch_square_local.ensures.same c.if-fetch_square_local.false).0 in
+    let p = err_from_is_err_and c.from_residual.result c.from_residual.ensures.1 in
+    rw (p.1, p.2) (inl (
+      c.in_err-texel.ensures.err.0,
+      c.in_err-texel.ensures.err.1,
+      c.in_err-texel.ensures.err.2,
+      refuses_from old mid same g.T.W.World.files c.args.self.now.known.now _ (g.T.Tap.state c.args.self.now.tap.now) _ _ c.in_err-texel.ensures.err.3,
+      c.in_err-texel.ensures.err.4,
+      visits_from old mid same c.args.self.now.cache.now.gate c.texel.new.self.pass.now c.in_err-texel.ensures.err.5,
+    ))
 
 pub returns-in_err-texel-2-clause-left : goal.returns-in_err-texel-2-clause-left
 returns-in_err-texel-2-clause-left g c =
+    let old : PassState = c.args.self.now.pass.now in
+    let mid : PassState = c.fetch_square_local.new.pass in
+    let same : mid ≡ old = (c.fetch_square_local.ensures.same c.if-fetch_square_local.false).0 in
     let p = err_from_is_err_and c.from_residual-in_err-texel-2.result
     c.from_residual-in_err-texel-2.ensures.1 in
     rw (p.1, p.2)
-    (inr (c.texel.new.self, c.in_ok-texel.ensures.ok, inl c.in_err-texel-2.ensures.err))
+    (inr (
+      c.texel.new.self,
+      (
+        c.in_ok-texel.ensures.ok.0,
+        c.in_ok-texel.ensures.ok.1,
+        c.in_ok-texel.ensures.ok.2,
+        fetches_from old mid same c.args.self.now.known.now _ (g.T.Tap.state c.args.self.now.tap.now) _ c.in_ok-texel.ensures.ok.3,
+        c.in_ok-texel.ensures.ok.4,
+        visits_from old mid same c.args.self.now.cache.now.gate c.texel.new.self.pass.now c.in_ok-texel.ensures.ok.5,
+      ),
+      inl c.in_err-texel-2.ensures.err,
+    ))
 
 pub returns-in_err-texel-3-clause-left : goal.returns-in_err-texel-3-clause-left
 returns-in_err-texel-3-clause-left g c =
+    let old : PassState = c.args.self.now.pass.now in
+    let mid : PassState = c.fetch_square_local.new.pass in
+    let same : mid ≡ old = (c.fetch_square_local.ensures.same c.if-fetch_square_local.false).0 in
     let p = err_from_is_err_and c.from_residual-in_err-texel-3.result
     c.from_residual-in_err-texel-3.ensures.1 in
     rw (p.1, p.2)
     (inr (
       c.texel.new.self,
-      c.in_ok-texel.ensures.ok,
+      (
+        c.in_ok-texel.ensures.ok.0,
+        c.in_ok-texel.ensures.ok.1,
+        c.in_ok-texel.ensures.ok.2,
+        fetches_from old mid same c.args.self.now.known.now _ (g.T.Tap.state c.args.self.now.tap.now) _ c.in_ok-texel.ensures.ok.3,
+        c.in_ok-texel.ensures.ok.4,
+        visits_from old mid same c.args.self.now.cache.now.gate c.texel.new.self.pass.now c.in_ok-texel.ensures.ok.5,
+      ),
       inr (c.texel-2.new.self, c.in_ok-texel-2.ensures.ok, inl c.in_err-texel-3.ensures.err),
     ))
 
 pub returns-clause-left : goal.returns-clause-left
-returns-clause-left g c = by_result c.texel-4.result
+returns-clause-left g c =
+    let old : PassState = c.args.self.now.pass.now in
+    let mid : PassState = c.fetch_square_local.new.pass in
+    let same : mid ≡ old = (c.fetch_square_local.ensures.same c.if-fetch_square_local.false).0 in
+    by_result c.texel-4.result
     (λ done is. rw is (
       c.texel.new.self,
-      c.in_ok-texel.ensures.ok,
+      (
+        c.in_ok-texel.ensures.ok.0,
+        c.in_ok-texel.ensures.ok.1,
+        c.in_ok-texel.ensures.ok.2,
+        fetches_from old mid same c.args.self.now.known.now _ (g.T.Tap.state c.args.self.now.tap.now) _ c.in_ok-texel.ensures.ok.3,
+        c.in_ok-texel.ensures.ok.4,
+        visits_from old mid same c.args.self.now.cache.now.gate c.texel.new.self.pass.now c.in_ok-texel.ensures.ok.5,
+      ),
       (
         c.texel-2.new.self,
         c.in_ok-texel-2.ensures.ok,
@@ -41,7 +145,14 @@ returns-clause-left g c = by_result c.texel-4.result
     ))
     (λ e is. rw is (inr (
       c.texel.new.self,
-      c.in_ok-texel.ensures.ok,
+      (
+        c.in_ok-texel.ensures.ok.0,
+        c.in_ok-texel.ensures.ok.1,
+        c.in_ok-texel.ensures.ok.2,
+        fetches_from old mid same c.args.self.now.known.now _ (g.T.Tap.state c.args.self.now.tap.now) _ c.in_ok-texel.ensures.ok.3,
+        c.in_ok-texel.ensures.ok.4,
+        visits_from old mid same c.args.self.now.cache.now.gate c.texel.new.self.pass.now c.in_ok-texel.ensures.ok.5,
+      ),
       inr (
         c.texel-2.new.self,
         c.in_ok-texel-2.ensures.ok,
