@@ -1,5 +1,5 @@
 //! Texels of one file, and the needs and hits of its caller.
-ghost use Rattle.std.specs.Prelude.{ℕ, ◌≡◌, false};
+ghost use Rattle.std.specs.Prelude.{◌≡◌, false};
 ghost use Rattle.tex_world.specs.World.{IsFile};
 
 use crate::caller::Caller;
@@ -91,15 +91,15 @@ fn met_by<T: Tap + Drop>(
     options: Options,
     rows: &[Row],
 ) -> Result<usize, Fail>
-    requires told { (file : ℕ) → IsFile T.W.files file }
+    requires told { IsFile T.W.files 0 }
     requires stored { options.cut.automip ≡ false }
 {
     let (cache, pass) = cache_of(alloc, options, 1)?;
     let waiter = Tries::new(1);
     let mut caller = Caller { pass, tap };
     match Opened::of(&waiter, &cache, &mut caller, 0) {
-        Some(opened) => Ok(rows_met(&waiter, &opened, &mut caller, rows)),
-        None => Err("not opened".into()),
+        Ok(opened) => Ok(rows_met(&waiter, &opened, &mut caller, rows)),
+        Err(_refused) => Err("not opened".into()),
     }
 }
 
@@ -117,15 +117,16 @@ static OF_FIRST_AGAIN: &[Row] = &[(Fetch, (3, 4), Sample(163), (3, 1))];
 static OF_SECOND_AGAIN: &[Row] = &[(Fetch, (3, 4), Sample(12), (4, 2))];
 
 fn met_in_two<T: Tap + Drop>(alloc: Global, tap: T) -> Result<[usize; 4], Fail>
-    requires { (file : ℕ) → IsFile T.W.files file }
+    requires first { IsFile T.W.files 0 }
+    requires second { IsFile T.W.files 1 }
 {
     let (cache, pass) = cache_of(alloc, ROOMY, 2)?;
     let waiter = Tries::new(1);
     let mut caller = Caller { pass, tap };
-    let Some(first) = Opened::of(&waiter, &cache, &mut caller, 0) else {
+    let Ok(first) = Opened::of(&waiter, &cache, &mut caller, 0) else {
         return Err("not opened".into());
     };
-    let Some(second) = Opened::of(&waiter, &cache, &mut caller, 1) else {
+    let Ok(second) = Opened::of(&waiter, &cache, &mut caller, 1) else {
         return Err("not opened".into());
     };
     let met = rows_met(&waiter, &first, &mut caller, OF_FIRST);

@@ -1,20 +1,41 @@
-//! Tests of the cache over a real folder: values and counts of fetches, what the microcache has,
-//! options, a pass that is split, and what refusals are called.
+//! Tests of the cache and of lookups through it. Over a real folder: values and counts of fetches.
+//! Over files in memory: regions, holds, records and lookups, the refusals of each call, passes
+//! that are split and joined, and two threads. Options, and what refusals are called.
 #![tactic(auto)]
 
 #[cfg(test)]
+mod asks;
+#[cfg(test)]
 mod caller;
+#[cfg(test)]
+mod calls;
 #[cfg(test)]
 mod fetches;
 #[cfg(test)]
 mod folder;
 #[cfg(test)]
+mod lookups;
+#[cfg(test)]
 mod opened;
 #[cfg(test)]
 mod pictures;
 #[cfg(test)]
+mod planned;
+#[cfg(test)]
+mod records;
+#[cfg(test)]
 mod refusals;
+#[cfg(test)]
+mod refused;
 #[cfg(test)]
 mod rows;
 #[cfg(test)]
+mod small_files;
+#[cfg(test)]
+mod steps;
+#[cfg(test)]
+mod unread;
+#[cfg(test)]
 mod white;
+#[cfg(test)]
+mod worker;

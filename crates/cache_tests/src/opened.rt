@@ -1,5 +1,5 @@
 //! A file of a cache that was opened, and the calls on it as the tests make them.
-ghost use Rattle.std.specs.Prelude.{ℕ, ◌≡◌, ◌<◌, IfSome, IsSome, IsOkAnd};
+ghost use Rattle.std.specs.Prelude.{◌≡◌, ◌<◌, IfOk, IfSome, IsSome, IsOkAnd};
 ghost use Rattle.tex_world.specs.World.{IsFile};
 ghost use Rattle.image_cache.specs.Pass.{IsPassOf};
 ghost use Rattle.tile_layout.specs.Cell.{CellsFit};
@@ -67,20 +67,46 @@ impl<'a, T: Tap> Opened<'a, T> {
         cache: &'a Cache<T>,
         caller: &mut Caller<T>,
         file: u32,
-    ) -> Option<Opened<'a, T>>
+    ) -> Result<Opened<'a, T>, Refused>
         requires pass { IsPassOf cache.now caller.old.pass }
         requires file { file < cache.now.files.board.files }
-        requires told { (file : ℕ) → IsFile T.W.files file }
-        ensures cache { IfSome result (λ opened. opened.cache.now ≡ cache.now) }
+        requires told { IsFile T.W.files file }
+        ensures cache { IfOk result (λ opened. opened.cache.now ≡ cache.now) }
+        ensures told { IfOk result (λ opened. IsFile T.W.files opened.known.value.file) }
         ensures pass { IsPassOf cache.now caller.new.pass }
     {
-        let Ok(known) = cache.open(waiter, &mut caller.pass, &mut caller.tap, file) else {
-            return None;
-        };
-        if !known.fits() {
-            return None;
+        match cache.open(waiter, &mut caller.pass, &mut caller.tap, file) {
+            Ok(known) if known.fits() => Ok(Opened { cache, known }),
+            Ok(_unfit) => Err(Refused::Other),
+            Err(e) => Err(refusal_of(e)),
         }
-        Some(Opened { cache, known })
+    }
+
+    /// Keeps the record. It answers its generation, or 0 where the pass has not seen it.
+    pub(crate) fn keep(&self, caller: &mut Caller<T>) -> u32
+        requires { IsPassOf self.now.cache.now caller.old.pass }
+        ensures { IsPassOf self.now.cache.now caller.new.pass }
+    {
+        let Ok(known) = self.known.clone() else {
+            return 0;
+        };
+        let generation = known.generation();
+        if generation > caller.pass.seen(known.file()) {
+            return 0;
+        }
+        self.cache.keep(&mut caller.pass, known);
+        generation
+    }
+
+    /// The generation of the record that is found of the file, or 0.
+    pub(crate) fn local(&self, caller: &mut Caller<T>) -> u32
+        requires { IsPassOf self.now.cache.now caller.old.pass }
+        ensures { IsPassOf self.now.cache.now caller.new.pass }
+    {
+        match self.cache.local(&mut caller.pass, self.known.file()) {
+            Some(known) => known.generation(),
+            None => 0,
+        }
     }
 
     /// Writes the values of a texel of level 0.
@@ -92,7 +118,7 @@ impl<'a, T: Tap> Opened<'a, T> {
         out: &mut [u16],
     ) -> Result<(), Refused>
         requires pass { IsPassOf self.now.cache.now caller.old.pass }
-        requires told { (file : ℕ) → IsFile T.W.files file }
+        requires told { IsFile T.W.files self.now.known.value.file }
         ensures { IsPassOf self.now.cache.now caller.new.pass }
     {
         let Some(at) = texel(&self.known, place) else {
@@ -113,7 +139,7 @@ impl<'a, T: Tap> Opened<'a, T> {
         out: &mut [u16],
     ) -> bool
         requires pass { IsPassOf self.now.cache.now caller.old.pass }
-        requires told { (file : ℕ) → IsFile T.W.files file }
+        requires told { IsFile T.W.files self.now.known.value.file }
         ensures { IsPassOf self.now.cache.now caller.new.pass }
     {
         match texel(&self.known, place) {
@@ -127,7 +153,7 @@ impl<'a, T: Tap> Opened<'a, T> {
     /// Whether the microcache has the cell of a texel of level 0.
     pub(crate) fn has_local(&self, caller: &Caller<T>, place: (u32, u32)) -> bool
         requires pass { IsPassOf self.now.cache.now caller.now.pass }
-        requires told { (file : ℕ) → IsFile T.W.files file }
+        requires told { IsFile T.W.files self.now.known.value.file }
     {
         match texel(&self.known, place) {
             Some(at) => self.cache.has_local(&caller.pass, &self.known, at),

@@ -1,13 +1,10 @@
-//! Options out of range, a pass that cannot be split, and what refusals are called.
-ghost use Rattle.std.specs.Prelude.{◌≡◌};
-
-use crate::folder::{CUT, cache_of};
-use host_folder::RealTap;
+//! Options out of range, and what refusals are called.
+use crate::small_files::SmallFiles;
 use image_cache::{Cache, CacheError, NewError, Options, SplitError};
 use std::alloc::Global;
 use std::fmt::Display;
 use std::test::Fail;
-use tex_world::Tap;
+use tex_world::{MemTap, Tap};
 use tile_layout::Cut;
 use waiter::GaveUp;
 
@@ -57,37 +54,9 @@ fn refused<T: Tap>(alloc: Global, budget: u64, numbers: [u32; 4]) -> u32 {
 #[test]
 fn options_out_of_range(rt: HostRuntime) -> Result<(), Fail> {
     for (row, (budget, numbers, number)) in ROWS.iter().enumerate() {
-        let given = refused::<RealTap<HostRuntime>>(rt.alloc(), *budget, *numbers);
+        let given = refused::<MemTap<SmallFiles>>(rt.alloc(), *budget, *numbers);
         assert_eq!(rt; given, *number, "row {row}");
     }
-    Ok(())
-}
-
-// Whether a pass of two permits is split, and why it is not once more.
-fn splits<T: Tap>(alloc: Global) -> Result<(bool, Option<SplitError>), Fail> {
-    let options = Options {
-        budget: 0,
-        shards: 1,
-        passes: 2,
-        handles: 1,
-        cut: CUT,
-    };
-    let (cache, mut pass) = cache_of::<T>(alloc, options, 1)?;
-    let first = match cache.split(&mut pass) {
-        Ok(_second) => true,
-        Err(_refused) => false,
-    };
-    match cache.split(&mut pass) {
-        Ok(_second) => Ok((first, None)),
-        Err(refused) => Ok((first, Some(refused))),
-    }
-}
-
-#[test]
-fn a_pass_of_one_permit_is_not_split(rt: HostRuntime) -> Result<(), Fail> {
-    let (first, refused) = splits::<RealTap<HostRuntime>>(rt.alloc())?;
-    assert!(rt; first, "of two permits");
-    assert!(rt; refused == Some(SplitError::NoPermit), "of one permit");
     Ok(())
 }
 

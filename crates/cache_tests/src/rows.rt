@@ -1,5 +1,4 @@
 //! Calls on a file of one channel, with what each answers.
-ghost use Rattle.std.specs.Prelude.{ℕ};
 ghost use Rattle.tex_world.specs.World.{IsFile};
 ghost use Rattle.image_cache.specs.Pass.{IsPassOf};
 
@@ -13,14 +12,20 @@ pub(crate) enum Ask {
     Fetch,
     FetchLocal,
     HasLocal,
+    /// The record is kept.
+    Keep,
+    /// The record that is kept is handed out.
+    Local,
 }
 
-use Ask::{Fetch, FetchLocal, HasLocal};
+use Ask::{Fetch, FetchLocal, HasLocal, Keep, Local};
 
 #[derive(Clone, Copy, PartialEq, Eq)]
 pub(crate) enum Answer {
     /// The value of an 8-bit sample.
     Sample(u16),
+    /// The generation of a record.
+    Record(u32),
     Yes,
     No,
     Again(u32, u32),
@@ -28,9 +33,9 @@ pub(crate) enum Answer {
     Other,
 }
 
-use Answer::{Again, Fault, No, Other, Sample, Yes};
+use Answer::{Again, Fault, No, Other, Record, Sample, Yes};
 
-/// A call, the texel that it asks for, its answer, and then the needs and the hits.
+/// A call, the texel that it asks for, if any, its answer, and then the needs and the hits.
 pub(crate) type Row = (Ask, (u32, u32), Answer, (u64, u64));
 
 // The value is that of a sample.
@@ -49,7 +54,7 @@ fn fetched<V: Waiter, T: Tap>(
     place: (u32, u32),
 ) -> Answer
     requires pass { IsPassOf opened.now.cache.now caller.old.pass }
-    requires told { (file : ℕ) → IsFile T.W.files file }
+    requires told { IsFile T.W.files opened.now.known.value.file }
     ensures { IsPassOf opened.now.cache.now caller.new.pass }
 {
     let mut out = [1u16];
@@ -67,7 +72,7 @@ fn fetched_local<T: Tap>(
     place: (u32, u32),
 ) -> Answer
     requires pass { IsPassOf opened.now.cache.now caller.old.pass }
-    requires told { (file : ℕ) → IsFile T.W.files file }
+    requires told { IsFile T.W.files opened.now.known.value.file }
     ensures { IsPassOf opened.now.cache.now caller.new.pass }
 {
     let mut out = [1u16];
@@ -88,7 +93,7 @@ fn answer_to<V: Waiter, T: Tap>(
     place: (u32, u32),
 ) -> Answer
     requires pass { IsPassOf opened.now.cache.now caller.old.pass }
-    requires told { (file : ℕ) → IsFile T.W.files file }
+    requires told { IsFile T.W.files opened.now.known.value.file }
     ensures { IsPassOf opened.now.cache.now caller.new.pass }
 {
     match ask {
@@ -101,6 +106,17 @@ fn answer_to<V: Waiter, T: Tap>(
                 No
             }
         }
+        Keep => of_record(opened.keep(caller)),
+        Local => of_record(opened.local(caller)),
+    }
+}
+
+// The answer of a record of this generation, or of none.
+fn of_record(generation: u32) -> Answer {
+    if generation == 0 {
+        No
+    } else {
+        Record(generation)
     }
 }
 
@@ -112,7 +128,7 @@ pub(crate) fn rows_met<V: Waiter, T: Tap>(
     rows: &[Row],
 ) -> usize
     requires pass { IsPassOf opened.now.cache.now caller.old.pass }
-    requires told { (file : ℕ) → IsFile T.W.files file }
+    requires told { IsFile T.W.files opened.now.known.value.file }
     ensures { IsPassOf opened.now.cache.now caller.new.pass }
 {
     for (met, (ask, place, wanted, (needs, hits))) in rows.iter().enumerate() {

@@ -1,5 +1,4 @@
 //! Two channels of 16 bits, of which the first is white at 0.
-ghost use Rattle.std.specs.Prelude.{ℕ};
 ghost use Rattle.tex_world.specs.World.{IsFile};
 
 use crate::caller::Caller;
@@ -32,12 +31,12 @@ static ROWS: &[Row] = &[
 
 // How many rows a new cache meets, up to the first that it does not.
 fn met_by<T: Tap + Drop>(alloc: Global, tap: T) -> Result<usize, Fail>
-    requires { (file : ℕ) → IsFile T.W.files file }
+    requires { IsFile T.W.files 0 }
 {
     let (cache, pass) = cache_of(alloc, ROOMY, 1)?;
     let waiter = Tries::new(1);
     let mut caller = Caller { pass, tap };
-    let Some(opened) = Opened::of(&waiter, &cache, &mut caller, 0) else {
+    let Ok(opened) = Opened::of(&waiter, &cache, &mut caller, 0) else {
         return Err("not opened".into());
     };
     for (met, (place, places, wanted)) in ROWS.iter().enumerate() {

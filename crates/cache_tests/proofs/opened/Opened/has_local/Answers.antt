@@ -7,5 +7,5 @@ pub has_local-requires-clause-known : goal.has_local-requires-clause-known
 has_local-requires-clause-known g c =
     is_record g.T.W.World.files c.args.self.now.cache.now c.args.self.now.known.value
     c.deref.result.now c.deref-in-Some.result.now c.args.self.now.number
-    (c.requires.told c.args.self.now.known.value.file) c.args.self.now.cut c.deref.ensures
+    c.requires.told c.args.self.now.cut c.deref.ensures
     (c.in-Some.ensures.fits refl) c.deref-in-Some.ensures

@@ -1,0 +1,131 @@
+//! Callers over the files in memory, by taps whose calls fail and whose files change as planned.
+ghost use Rattle.std.specs.Prelude.{ℕ, ◌≡◌, ◌<◌, false};
+ghost use Rattle.tex_world.specs.World.{IsFile};
+
+use crate::folder::cache_of;
+use crate::small_files::{A, B, SmallFiles};
+use crate::steps::{Shows, Step};
+use crate::worker::Worker;
+use image_cache::Options;
+use std::alloc::Global;
+use std::test::Fail;
+use tex_world::{FailByte, FailCall, Folder, MemFolder, MemTap, Newest, Plan, Rise, Tap};
+use tile_layout::Cut;
+use waiter::Tries;
+
+/// The tap of which nothing is planned.
+pub(crate) const PLAIN: usize = 0;
+
+/// The newest generation of `A` is 2.
+pub(crate) const NEWER: usize = 1;
+
+/// Its first call fails.
+pub(crate) const FAILING: usize = 2;
+
+/// Its first read of the samples of `A` fails.
+pub(crate) const FAULTY: usize = 3;
+
+/// Its first read of the directory of `A` meets generation 2.
+pub(crate) const CHANGED: usize = 4;
+
+/// Its first read of the samples of `A` meets generation 2.
+pub(crate) const CHANGING: usize = 5;
+
+/// Its first read of the second tile of `B` meets generation 2.
+pub(crate) const RISING: usize = 6;
+
+/// Its first read of the second tile of `B` fails.
+pub(crate) const BROKEN: usize = 7;
+
+// The byte at which the samples of `A` begin, and the second tile of `B`.
+const SAMPLES: u64 = 122;
+
+const SECOND_TILE: u64 = 12472;
+
+// A byte of the number of entries of `A`.
+const ENTRIES: u64 = 9;
+
+/// One shard, in which all tiles find room.
+pub(crate) const ONE_SHARD: Options = Options {
+    budget: 268435456,
+    shards: 1,
+    passes: 2,
+    handles: 4,
+    cut: Cut {
+        autotile: 64,
+        automip: false,
+    },
+};
+
+fn rise(tap: u32, file: u32, at: u64) -> Rise {
+    Rise {
+        tap,
+        file,
+        at,
+        to: 2,
+    }
+}
+
+fn folder_of(alloc: Global) -> Result<MemFolder<SmallFiles>, Fail> {
+    let mut plan = Plan::new(alloc);
+    plan.newest.push(Newest {
+        tap: 1,
+        file: A,
+        generation: 2,
+    })?;
+    plan.fail_calls.push(FailCall { tap: 2, call: 1 })?;
+    plan.fail_bytes.push(FailByte {
+        tap: 3,
+        file: A,
+        at: SAMPLES,
+    })?;
+    plan.rises.push(rise(4, A, ENTRIES))?;
+    plan.rises.push(rise(5, A, SAMPLES))?;
+    plan.rises.push(rise(6, B, SECOND_TILE))?;
+    plan.fail_bytes.push(FailByte {
+        tap: 7,
+        file: B,
+        at: SECOND_TILE,
+    })?;
+    Ok(MemFolder::new(plan))
+}
+
+/// The eight taps.
+pub(crate) fn taps_of(alloc: Global) -> Result<Vec<MemTap<SmallFiles>>, Fail> {
+    let mut folder = folder_of(alloc)?;
+    let mut taps = Vec::new(alloc);
+    for _ in 0..8 {
+        taps.push(folder.tap(alloc)?)?;
+    }
+    Ok(taps)
+}
+
+// How many steps the first caller of a new cache of five files meets, up to the first that it does
+// not. One try is enough for one caller.
+fn met_by<T: Tap + Drop + Shows>(
+    alloc: Global,
+    options: Options,
+    taps: Vec<T>,
+    steps: &[Step],
+) -> Result<usize, Fail>
+    requires told { (file : ℕ) → file < 5 → IsFile T.W.files file }
+    requires stored { options.cut.automip ≡ false }
+{
+    let (cache, pass) = cache_of(alloc, options, 5)?;
+    let mut worker = Worker {
+        cache: &cache,
+        shards: options.shards,
+        pass,
+        taps,
+        out: Vec::new(alloc),
+    };
+    Ok(worker.steps_met(&Tries::new(1), steps))
+}
+
+/// How many steps the first caller of a new cache over the files in memory meets, up to the first
+/// that it does not.
+pub(crate) fn steps_met(alloc: Global, options: Options, steps: &[Step]) -> Result<usize, Fail>
+    requires { options.cut.automip ≡ false }
+{
+    met_by(alloc, options, taps_of(alloc)?, steps)
+}

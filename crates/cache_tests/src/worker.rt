@@ -1,0 +1,255 @@
+//! One caller of a cache, and the calls as the tests make them.
+ghost use Rattle.std.specs.Prelude.{◌≡◌, ℕ, ◌<◌, length};
+ghost use Rattle.tex_world.specs.World.{IsFile};
+ghost use Rattle.image_cache.specs.Pass.{IsPassOf};
+
+use crate::asks::{Answer, Ask, Look, refusal};
+use image_cache::{Cache, NotReleased, Pass, Region, TexelAt};
+use tex_world::Tap;
+use texel_filter::{MAX_CHANNELS, TexRequest};
+use texture_sys::{texture, texture_local};
+use waiter::Waiter;
+
+/// A pass of a cache of five files and so many shards, the taps that it may use, and the values that
+/// its latest call left.
+#[derive(Drop)]
+pub(crate) struct Worker<'a, T: Tap> {
+    pub(crate) cache: &'a Cache<T>,
+    pub(crate) shards: u32,
+    pub(crate) pass: Pass<T::W>,
+    pub(crate) taps: Vec<T>,
+    pub(crate) out: Vec<u16>,
+    ghost of_cache: { IsPassOf cache.now pass },
+    ghost count: { cache.now.files.board.files ≡ 5 },
+    ghost parts: { length cache.now.gate.id ≡ shards },
+}
+
+const FILES: u32 = 5;
+
+// What is there before a call that writes values.
+const BEFORE: u16 = 7;
+
+// The lookup of both wraps alike.
+fn request(look: Look) -> TexRequest
+    ensures { result.nch ≡ look.3 }
+{
+    let ((s, t, lod), wrap, filter, nch) = look;
+    TexRequest {
+        s,
+        t,
+        lod,
+        swrap: wrap,
+        twrap: wrap,
+        filter,
+        nch,
+    }
+}
+
+impl<T: Tap> Worker<'_, T> {
+    /// Makes a call by a tap.
+    pub(crate) fn answer<V: Waiter>(&mut self, waiter: &V, tap: usize, ask: Ask) -> Answer
+        requires { (file : ℕ) → file < 5 → IsFile T.W.files file }
+        ensures { self.new.cache.now ≡ self.old.cache.now }
+    {
+        self.out.clear();
+        match ask {
+            Ask::Info(file) if file < FILES => self.info(waiter, tap, file),
+            Ask::Hold(file, place) if file < FILES => self.hold(waiter, tap, file, place),
+            Ask::Release(place) => self.release(waiter, place),
+            Ask::Held(place) => self.held(place),
+            Ask::Pixels(file, place, sides) if file < FILES => {
+                self.pixels(waiter, tap, file, place, sides)
+            }
+            Ask::Texture(file, look) if file < FILES => self.look(waiter, tap, file, look),
+            Ask::TextureLocal(file, look) if file < FILES => self.look_local(file, look),
+            Ask::Count(shard) if shard < self.shards => self.count(waiter, shard),
+            _ => Answer::Other,
+        }
+    }
+
+    fn info<V: Waiter>(&mut self, waiter: &V, tap: usize, file: u32) -> Answer
+        requires file { file < 5 }
+        requires told { (file : ℕ) → file < 5 → IsFile T.W.files file }
+        ensures { self.new.cache.now ≡ self.old.cache.now }
+    {
+        let Some(tap) = self.taps.get_mut(tap) else {
+            return Answer::Other;
+        };
+        match self.cache.info(waiter, &mut self.pass, tap, file) {
+            Ok(info) => Answer::Facts([
+                info.generation,
+                info.width,
+                info.height,
+                info.channels,
+                info.depth,
+                info.stored,
+                info.levels,
+            ]),
+            Err(e) => refusal(e),
+        }
+    }
+
+    fn hold<V: Waiter>(
+        &mut self,
+        waiter: &V,
+        tap: usize,
+        file: u32,
+        place: (u32, u32, u32),
+    ) -> Answer
+        requires file { file < 5 }
+        requires told { (file : ℕ) → file < 5 → IsFile T.W.files file }
+        ensures { self.new.cache.now ≡ self.old.cache.now }
+    {
+        let (level, x, y) = place;
+        let Some(tap) = self.taps.get_mut(tap) else {
+            return Answer::Other;
+        };
+        let at = TexelAt { level, x, y };
+        match self.cache.get_tile(waiter, &mut self.pass, tap, file, at) {
+            Ok(generation) => Answer::Of(generation),
+            Err(e) => refusal(e),
+        }
+    }
+
+    fn release<V: Waiter>(&mut self, waiter: &V, place: usize) -> Answer
+        ensures { self.new.cache.now ≡ self.old.cache.now }
+    {
+        match self.cache.release_tile(waiter, &mut self.pass, place) {
+            Ok(()) => Answer::Released,
+            Err(NotReleased::NothingHeld) => Answer::Nothing,
+            Err(_busy) => Answer::Other,
+        }
+    }
+
+    fn held(&self, place: usize) -> Answer {
+        match self.pass.held(place) {
+            Some(tile) => {
+                let rect = tile.rect();
+                Answer::Rectangle([rect.x, rect.y, rect.w, rect.h])
+            }
+            None => Answer::Nothing,
+        }
+    }
+
+    fn pixels<V: Waiter>(
+        &mut self,
+        waiter: &V,
+        tap: usize,
+        file: u32,
+        place: (u32, i32, i32),
+        sides: (u32, u32),
+    ) -> Answer
+        requires file { file < 5 }
+        requires told { (file : ℕ) → file < 5 → IsFile T.W.files file }
+        ensures { self.new.cache.now ≡ self.old.cache.now }
+    {
+        let (level, x, y) = place;
+        let (w, h) = sides;
+        let region = Region { level, x, y, w, h };
+        if let Err(_full) = self.out.push(BEFORE) {
+            return Answer::Other;
+        }
+        let Some(tap) = self.taps.get_mut(tap) else {
+            return Answer::Other;
+        };
+        match self
+            .cache
+            .get_pixels(waiter, &mut self.pass, tap, file, &region, &mut self.out)
+        {
+            Ok(pixels) => Answer::Texels(pixels.generation, pixels.channels),
+            Err(e) => refusal(e),
+        }
+    }
+
+    fn look<V: Waiter>(&mut self, waiter: &V, tap: usize, file: u32, look: Look) -> Answer
+        requires file { file < 5 }
+        requires told { (file : ℕ) → file < 5 → IsFile T.W.files file }
+        ensures { self.new.cache.now ≡ self.old.cache.now }
+    {
+        let r = request(look);
+        if r.nch < 1 || r.nch > 8 {
+            return Answer::Other;
+        }
+        let Some(tap) = self.taps.get_mut(tap) else {
+            return Answer::Other;
+        };
+        let mut out = [BEFORE; MAX_CHANNELS];
+        let values = &mut out[..r.nch as usize];
+        let answer = match texture(self.cache, waiter, &mut self.pass, tap, file, &r, values) {
+            Ok(generation) => Answer::Of(generation),
+            Err(e) => refusal(e),
+        };
+        self.left(answer, &out[..r.nch as usize])
+    }
+
+    fn look_local(&mut self, file: u32, look: Look) -> Answer
+        requires file { file < 5 }
+        requires told { (file : ℕ) → file < 5 → IsFile T.W.files file }
+        ensures { self.new.cache.now ≡ self.old.cache.now }
+    {
+        let r = request(look);
+        if r.nch < 1 || r.nch > 8 {
+            return Answer::Other;
+        }
+        let mut out = [BEFORE; MAX_CHANNELS];
+        let values = &mut out[..r.nch as usize];
+        let answer = match texture_local(self.cache, &mut self.pass, file, &r, values) {
+            Some(generation) => Answer::Of(generation),
+            None => Answer::Nothing,
+        };
+        self.left(answer, &out[..r.nch as usize])
+    }
+
+    // The answer of a call that left these values.
+    fn left(&mut self, answer: Answer, values: &[u16]) -> Answer
+        ensures { self.new.cache.now ≡ self.old.cache.now }
+    {
+        match self.out.extend_from_slice(values) {
+            Ok(()) => answer,
+            Err(_full) => Answer::Other,
+        }
+    }
+
+    fn count<V: Waiter>(&mut self, waiter: &V, shard: u32) -> Answer
+        requires { shard < self.old.shards }
+        ensures { self.new.cache.now ≡ self.old.cache.now }
+    {
+        match self.cache.count(waiter, &mut self.pass, shard) {
+            Ok(count) => Answer::Shard([
+                count.tiles as u64,
+                count.pins as u64,
+                count.loose,
+                count.share,
+            ]),
+            Err(_busy) => Answer::Other,
+        }
+    }
+
+    /// The generation that its pass has seen of a file, 0 where the cache has no such file.
+    pub(crate) fn seen(&self, file: u32) -> u32 {
+        if file < FILES {
+            self.pass.seen(file)
+        } else {
+            0
+        }
+    }
+
+    /// How many tiles its pass holds, up to 5.
+    pub(crate) fn holds(&self) -> u64 {
+        for place in 0..5u64 {
+            if self.pass.held(place as usize).is_none() {
+                return place;
+            }
+        }
+        5
+    }
+}
+
+impl<T: Tap + Drop> Worker<'_, T> {
+    /// Its pass.
+    pub(crate) fn into_pass(self) -> Pass<T::W>
+        ensures { IsPassOf self.entry.cache.now result }
+    {
+        self.pass
+    }
+}
