@@ -67,7 +67,7 @@ tile_like cell tile is =
       channels = eqb-true tile.channels cell.channels all.1;
     }
 
-rect_of_parts : (a b : Rect) → a.x ≡ b.x → a.y ≡ b.y → a.w ≡ b.w → a.h ≡ b.h → a ≡ b
+pub rect_of_parts : (a b : Rect) → a.x ≡ b.x → a.y ≡ b.y → a.w ≡ b.w → a.h ≡ b.h → a ≡ b
 rect_of_parts a b x y w h =
     let from : Rect = record { x = b.x; y = a.y; w = a.w; h = a.h } in
     let with_x : a ≡ from = ap (λ (n : ℕ). record { x = n; y = a.y; w = a.w; h = a.h }) x in

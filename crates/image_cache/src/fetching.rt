@@ -64,8 +64,8 @@ impl<T: Tap> Cache<T> {
             pass.old.pinned.recent pass.new.pinned.recent) }
         ensures hand { LeavesNoHand V.Busy pass.old pass.new }
         ensures same { AfterNeed known.now.file pass.old pass.new }
-        // Each visit that it makes is one of a pin, a new one, one given back or a count. Where the
-        // world tells, the tap has a call only where one of them missed the cell.
+        // Each visit that it makes is that of a `pin`, a `pin_new`, an `unpin` or a `count`. Where
+        // the world tells, the tap has a call only where one of them missed the cell.
         ensures visits { PurgesNone self.now.gate pass.old.pinned.seat pass.new.pinned.seat }
         ensures missed { IsTrue T.W.files.tells → HasNoCall (T.state tap.old) (T.state tap.new)
             ⊎ MissesCellAt self.now.gate known.now at pass.old pass.new }

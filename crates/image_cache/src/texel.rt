@@ -3,6 +3,8 @@ ghost use Rattle.std.specs.Prelude.{◌≡◌, ◌↔◌, ◌<◌, IfOk, IfSome,
 ghost use Rattle.tex_world.specs.World.{max_files};
 ghost use Rattle.tiff_dirs.specs.Facts.{IsChannelCount};
 ghost use Rattle.tile_layout.specs.Cell.{channels_in, bit_depth_in, HoldsTexel};
+ghost use Rattle.tile_layout.specs.Cell.{cell_index, cell_rect};
+ghost use Rattle.tile_layout.specs.Grid.{shown_grid};
 ghost use Rattle.file_table.specs.Record.{IsRecord};
 ghost use Rattle.texel_values.specs.Square.{HoldsSquare};
 ghost use Rattle.image_cache.specs.Texel.{IsTexelIn, IsCellAt};
@@ -13,7 +15,7 @@ use pinned_tiles::CellAt;
 use tex_world::World;
 use texel_filter::Square;
 use texel_values::TexelAt;
-use tile_layout::{Rect, TileKey};
+use tile_layout::{Grid, Rect, TileKey};
 
 /// The cell that holds a texel of a record.
 pub(crate) fn cell_at<W: World>(known: &Record<W>, at: TexelAt) -> CellAt
@@ -25,8 +27,26 @@ pub(crate) fn cell_at<W: World>(known: &Record<W>, at: TexelAt) -> CellAt
     let index = grid.cell_at(at.x, at.y);
     CellAt {
         key: TileKey::new(known.generation(), known.file(), at.level, index),
-        rect: grid.cell_rect(index),
+        rect: rect_at(&grid, at.x, at.y),
         channels: channels_of(known),
+    }
+}
+
+/// The rectangle of the cell that holds a texel. It does not ask for the cell's number.
+fn rect_at(grid: &Grid, x: u32, y: u32) -> Rect
+    requires across { x < grid.now.across.size }
+    requires down { y < grid.now.down.size }
+    ensures { result
+        ≡ cell_rect (shown_grid grid.now) (cell_index (shown_grid grid.now) x y) }
+{
+    let (across, down) = (grid.across, grid.down);
+    let left = x / across.cell * across.cell;
+    let top = y / down.cell * down.cell;
+    Rect {
+        x: left,
+        y: top,
+        w: across.cell.min(across.size - left),
+        h: down.cell.min(down.size - top),
     }
 }
 

@@ -109,3 +109,25 @@ pub stands_has : (cell : CellAt) (tiles : List CachedTile) → StandsFirst cell 
     → has_cell cell tiles ≡ true
 stands_has cell [] first = absurd first
 stands_has cell (t ∷ tiles) first = rw (eq-eqb t.key cell.key first.0) first.1
+
+-- and the tile stays there, where its key is asked for again
+stays_two : (cell : CellAt) (a b : CachedTile) (in_b : Bool) → nat_eq a.key cell.key ≡ true
+    → nat_eq b.key cell.key ≡ in_b → AreItems key_in (a ∷ b ∷ [])
+    → StaysAskedFor cell.key (a ∷ b ∷ [])
+stays_two cell a b true is_a is_b are = absurd (false≢true (sym (two_apart key_in a b are)
+    ∙ nat_eq_equiv.congr a.key cell.key b.key is_a
+    ∙ nat_eq_equiv.symm cell.key b.key ∙ is_b))
+stays_two cell a b false is_a is_b are =
+    stays cell.key (a ∷ b ∷ []) are (first_there cell.key a (b ∷ []) is_a)
+    (rw (is_a, is_b) refl)
+
+pub stands_stays : (cell : CellAt) (tiles : List CachedTile) → AreItems key_in tiles
+    → StandsFirst cell tiles → StaysAskedFor cell.key tiles
+stands_stays cell [] are first = absurd first
+stands_stays cell (a ∷ []) are first =
+    let is : nat_eq a.key cell.key ≡ true = eq-eqb a.key cell.key first.0 in
+    stays cell.key (a ∷ []) are (first_there cell.key a [] is) (rw is refl)
+stands_stays cell (a ∷ b ∷ []) are first =
+    stays_two cell a b (nat_eq b.key cell.key) (eq-eqb a.key cell.key first.0) refl are
+stands_stays cell (a ∷ b ∷ c ∷ rest) are first =
+    let few = are.few in absurd (omega arith)

@@ -51,6 +51,7 @@ impl<W: World> Pinned<W> {
 
     /// Whether the microcache has a tile that is that of the cell. It then stands first, and else
     /// all is as before.
+    #[inline(always)]
     pub fn turn_to(&mut self, cell: &CellAt) -> bool
         ensures has { result ≡ has_cell cell.now self.old.recent }
         ensures asked { IsTrue result →
@@ -66,6 +67,10 @@ impl<W: World> Pinned<W> {
     {
         // no two of its tiles have one key
         let _has = self.recent.has(cell.key);
+        // mostly it stands first already
+        if self.is_latest(cell) {
+            return true;
+        }
         if self.tile_of(cell).is_none() {
             return false;
         }

@@ -16,8 +16,8 @@ pub record HoldsSquare (rect : Rect) (square : Square) : Type 0 where
   pub left_top : HoldsTexel rect square.left square.top
   pub right_bottom : HoldsTexel rect square.right square.bottom
 
--- Where the world tells, the corners have the values of the square in its file, if the level and the
--- depth are those of the file.
+-- Where the world tells, the corners have the values of the square in its file, if the level and
+-- the depth are those of the file.
 abbrev pub AreToldCorners : Files → CachedTile → ℕ → Square → ℕ → Corners → Type 0
 AreToldCorners files tile depth square channels corners = ToldBy files tile.key (λ bytes.
     level_of tile.key ≡ square.level → depth ≡ bit_depth_of bytes

@@ -4,8 +4,7 @@ ghost use Rattle.tile_layout.specs.Cell.{HoldsTexel};
 ghost use Rattle.texel_filter.specs.Image.{IsChannelCount};
 ghost use Rattle.texel_values.specs.Square.{HoldsSquare, AreToldCorners};
 
-use crate::texel_at::TexelAt;
-use crate::values::write_values;
+use crate::values::channel_value;
 use tex_world::World;
 use texel_filter::{Corners, Square};
 use tile_store::Tile;
@@ -23,35 +22,16 @@ pub fn write_square<W: World>(
     requires channels { IsChannelCount channels }
     ensures { AreToldCorners W.files tile.now depth square.now channels out.new }
 {
-    let Square {
-        level,
-        left,
-        right,
-        top,
-        bottom,
-    } = *square;
-    let at = TexelAt {
-        level,
-        x: left,
-        y: top,
-    };
-    write_values(tile, depth, at, &mut out.left_top[..channels]);
-    let at = TexelAt {
-        level,
-        x: right,
-        y: top,
-    };
-    write_values(tile, depth, at, &mut out.right_top[..channels]);
-    let at = TexelAt {
-        level,
-        x: left,
-        y: bottom,
-    };
-    write_values(tile, depth, at, &mut out.left_bottom[..channels]);
-    let at = TexelAt {
-        level,
-        x: right,
-        y: bottom,
-    };
-    write_values(tile, depth, at, &mut out.right_bottom[..channels]);
+    // its key tells that it has the samples of its file
+    let _key = tile.key();
+    let left_top = tile.row(square.left, square.top, 1);
+    let right_top = tile.row(square.right, square.top, 1);
+    let left_bottom = tile.row(square.left, square.bottom, 1);
+    let right_bottom = tile.row(square.right, square.bottom, 1);
+    'channels: for c in 0..channels {
+        out.left_top[c] = channel_value(left_top, depth, c);
+        out.right_top[c] = channel_value(right_top, depth, c);
+        out.left_bottom[c] = channel_value(left_bottom, depth, c);
+        out.right_bottom[c] = channel_value(right_bottom, depth, c);
+    }
 }

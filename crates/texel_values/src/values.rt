@@ -28,7 +28,7 @@ pub(crate) fn value_of(depth: u32, sample: u16) -> u16
 }
 
 /// The value of a channel of these samples of a texel, 0 for one that they lack.
-fn channel_value(samples: &[u16], depth: u32, c: usize) -> u16
+pub(crate) fn channel_value(samples: &[u16], depth: u32, c: usize) -> u16
     ensures { result ≡ sample_value samples.now depth c }
 {
     if c < samples.len() {

@@ -54,7 +54,7 @@ pub fn texture<V: Waiter, T: Tap>(
     ensures same { AfterLookup file pass.old pass.new }
     ensures kept { KeepsRecord T.W.files file cache.now.gate.cut r.now pass.old pass.new result }
     ensures tap { NoneFalls (T.state tap.old) (T.state tap.new) }
-    // Each visit that it makes is one of a pin, a new one, one given back or a count.
+    // Each visit that it makes is that of a `pin`, a `pin_new`, an `unpin` or a `count`.
     ensures visits { PurgesNone cache.now.gate pass.old.pinned.seat pass.new.pinned.seat }
     // Where all cells that it needs are in the microcache, there is no call of the tap.
     ensures warm { IfSome pass.old.latest (λ known. IsWarm file r.now pass.old known

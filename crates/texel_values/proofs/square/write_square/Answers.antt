@@ -1,20 +1,34 @@
--- The four texels, each in the front of its corner.
+-- The four texels, each in its corner.
 use Rattle.std.proofs.Common.{arith}
 use Rattle.tile_layout.specs.Key.{generation_of, file_of}
-use Rattle.texel_filter.proofs.CallLemmas.{first_of_part}
-use Rattle.texel_values.proofs.SquareLemmas.{some_four}
+use Rattle.texel_values.proofs.SquareLemmas.{some_four, told_first}
 use Rattle.texel_values.proofs.square.write_square.Goals as goal
 
 pub returns : goal.returns
 returns g c tells =
-    let key = c.args.tile.now.key in
+    let files = g.W.World.files in
+    let tile = c.args.tile.now in
+    let depth = c.args.depth in
+    let q = c.args.square.now in
     let n = c.args.channels in
-    some_four (g.W.World.files.held (file_of key) (generation_of key)) _ _ _ _ _
-    (λ bytes one two three four level depth. record {
-      left_top = first_of_part _ c.write_values.new.out _ n (omega arith) (one level depth);
-      right_top = first_of_part _ c.write_values-2.new.out _ n (omega arith) (two level depth);
-      left_bottom = first_of_part _ c.write_values-3.new.out _ n (omega arith) (three level depth);
-      right_bottom = first_of_part _ c.write_values-4.new.out _ n (omega arith) (four level depth);
+    let told = c.key-key.ensures.told in
+    let inv = c.channels.invariant in
+    some_four (files.held (file_of tile.key) (generation_of tile.key)) _ _ _ _ _
+    (λ bytes one two three four level same. record {
+      left_top = one level same;
+      right_top = two level same;
+      left_bottom = three level same;
+      right_bottom = four level same;
     })
-    (c.write_values.ensures.told tells) (c.write_values-2.ensures.told tells)
-    (c.write_values-3.ensures.told tells) (c.write_values-4.ensures.told tells)
+    (told_first files tile depth (record { level = q.level; x = q.left; y = q.top }) c.row-left_top.result.now n
+    c.channels.out.left_top told c.row-left_top.ensures.value c.row-left_top.ensures.told
+    (λ k low. inv.left_top k (omega (arith, low, c.channels-test.false))) tells)
+    (told_first files tile depth (record { level = q.level; x = q.right; y = q.top }) c.row-right_top.result.now n
+    c.channels.out.right_top told c.row-right_top.ensures.value c.row-right_top.ensures.told
+    (λ k low. inv.right_top k (omega (arith, low, c.channels-test.false))) tells)
+    (told_first files tile depth (record { level = q.level; x = q.left; y = q.bottom }) c.row-left_bottom.result.now n
+    c.channels.out.left_bottom told c.row-left_bottom.ensures.value c.row-left_bottom.ensures.told
+    (λ k low. inv.left_bottom k (omega (arith, low, c.channels-test.false))) tells)
+    (told_first files tile depth (record { level = q.level; x = q.right; y = q.bottom }) c.row-right_bottom.result.now n
+    c.channels.out.right_bottom told c.row-right_bottom.ensures.value c.row-right_bottom.ensures.told
+    (λ k low. inv.right_bottom k (omega (arith, low, c.channels-test.false))) tells)
