@@ -28,15 +28,13 @@ mod level_rows;
 #[cfg(test)]
 mod mem_reader;
 #[cfg(test)]
-mod plain_regions;
+mod plain_rects;
 #[cfg(test)]
 mod plain_shard;
 #[cfg(test)]
 mod reads;
 #[cfg(test)]
 mod rects;
-#[cfg(test)]
-mod regions;
 #[cfg(test)]
 mod shard_calls;
 #[cfg(test)]

@@ -6,10 +6,10 @@ use crate::mem_reader::{Failed, MemReader};
 use std::alloc::Global;
 use std::test::Fail;
 use tile_layout::Layout;
-use tile_load::{RegionError, read_rect};
+use tile_load::{RectError, read_rect};
 
 /// The samples of a rectangle, or why they were not read.
-type Samples = Result<Vec<u16>, RegionError<Failed>>;
+type Samples = Result<Vec<u16>, RectError<Failed>>;
 
 /// The samples of a rectangle, where the level is stored and the rectangle lies on it.
 fn samples_of(
@@ -169,6 +169,10 @@ static READS: &[ReadsRow] = &[
     ),
     // six rows of three strips
     ("strips side by side", STRIPS, (0, 0, 4, 6), 1, 24),
+    ("from the middle of a strip on", STRIPS, (0, 3, 4, 2), 1, 8),
+    // The first strip with its rows, then the others: twice the 4 bytes that were read ahead and
+    // the distance to the last row are the three rows to come.
+    ("three columns of them", STRIPS, (0, 0, 3, 6), 2, 7 + 15),
     // The first strip with its rows, then the second and what lies close behind it, as many bytes
     // as twice what was read ahead before and the distance to the last row, or the rows to come:
     // that ends in the last row, which is a read.
@@ -293,9 +297,7 @@ fn counts_the_reads_of_rectangles(rt: HostRuntime) -> Result<(), Fail> {
 fn fails_at(alloc: Global, bytes: &[u8], layout: &Layout, place: Place, failing: u64) -> bool {
     let mut reader = MemReader::new(bytes, failing);
     match samples_of(alloc, &mut reader, layout, 0, place) {
-        Some(Err(RegionError::Reader(Failed(read)))) => {
-            read == failing && reader.reads == failing
-        }
+        Some(Err(RectError::Reader(Failed(read)))) => { read == failing && reader.reads == failing }
         _ => false,
     }
 }

@@ -1,14 +1,14 @@
 -- A refusal after answered reads leaves the reader so as seen from the first of them.
 use Rattle.std.proofs.Common.{Err}
-use Rattle.tile_load.specs.declared.region.RegionError.{RegionError}
-use Rattle.tile_load.specs.declared.region.RegionError.TheVariants.{Reader, NoMemory}
-use Rattle.tile_load.specs.RegionRead.{LeavesRegion}
+use Rattle.tile_load.specs.declared.rect_error.RectError.{RectError}
+use Rattle.tile_load.specs.declared.rect_error.RectError.TheVariants.{Reader, NoMemory}
+use Rattle.tile_load.specs.RectRead.{LeavesReader}
 
 module _ {R E : Type 0} (keeps : R → R → Type 0) (refuses : R → E → R → Type 0)
     (chains : (a b c : R) → keeps a b → keeps b c → keeps a c) where
   -- what a refusal leaves after one read leaves it after both
-  pub leaves_after : (T U : Type 0) (a b c : R) (e : RegionError E) → keeps a b
-      → LeavesRegion {T = T} keeps refuses b c (Err e)
-      → LeavesRegion {T = U} keeps refuses a c (Err e)
+  pub leaves_after : (T U : Type 0) (a b c : R) (e : RectError E) → keeps a b
+      → LeavesReader {T = T} keeps refuses b c (Err e)
+      → LeavesReader {T = U} keeps refuses a c (Err e)
   leaves_after T U a b c (Reader e) kept left = (left.0, chains a b left.0 kept left.1, left.2)
   leaves_after T U a b c NoMemory kept left = chains a b c kept left

@@ -4,9 +4,7 @@ pub mod Appended
 pub mod Windows
 pub mod PieceValues
 pub mod SampleValues
-pub mod RowValues
 pub mod RectValues
-pub mod Regions
 pub mod KnownLayouts
 pub mod RunValues
 pub mod WholeRows

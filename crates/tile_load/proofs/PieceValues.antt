@@ -16,9 +16,8 @@ use Rattle.tile_layout.specs.declared.texel_format.TexelFormat.{TexelFormat}
 use Rattle.tile_layout.specs.FormatOf.{IsFormatOf}
 use Rattle.tile_layout.specs.Pieces.{LiesSideBySide, row_texels}
 use Rattle.unpack.specs.Sample.{depth_of, is_white, sample_of, stored_sample}
-use Rattle.tile_load.specs.declared.unpacking.Unpacking.{Unpacking}
-use Rattle.tile_load.specs.SampleValue.{is_wide, value_as, unpacked_value}
-use Rattle.tile_load.specs.LevelRow.{values_at}
+use Rattle.tile_load.specs.Unpacked.{is_wide, unpacked}
+use Rattle.tile_load.specs.Samples.{samples_at}
 use Rattle.tile_load.proofs.SampleValues.{depth_by}
 use Rattle.tile_load.proofs.Ranges.{flat_alike, map_alike, flat_rows}
 
@@ -36,15 +35,12 @@ flat_of_map f g [] = refl
 flat_of_map f g (x ∷ xs) = ap (λ r. f (g x) ++ r) (flat_of_map f g xs)
 
 -- `count` texels whose samples stand side by side from `at` on, and the bytes there
-module _ (big : Bool) (bytes : List ℕ) (level : Level) (unpacking : Unpacking)
-    (is : IsFormatOf big level.shape unpacking.format) (count at : ℕ) (x_of y_of : ℕ → ℕ)
+module _ (big : Bool) (bytes : List ℕ) (level : Level) (format : TexelFormat)
+    (is : IsFormatOf big level.shape format) (count at : ℕ) (x_of y_of : ℕ → ℕ)
     (places : (j c : ℕ) → j < count → sample_place level (x_of j) (y_of j) c
     ≡ at + j * texel_bytes level.shape + c * sample_bytes level.shape.depth) (span : List ℕ)
     (part : IsPartAt bytes at span)
     (long : length span ≡ sample_bytes level.shape.depth * (count * level.shape.channels)) where
-  abbrev format : TexelFormat
-  format = unpacking.format
-
   depth_is : depth_of (is_wide format.depth) ≡ level.shape.depth
   depth_is = sym (depth_by format.depth format.in_range.bits) ∙ is.depth
 
@@ -80,28 +76,24 @@ module _ (big : Bool) (bytes : List ℕ) (level : Level) (unpacking : Unpacking)
 
   -- the number of each sample is that of its texel
   pub value_is : (j c : ℕ) → j < count → c < level.shape.channels
-      → value_as unpacking.scaled level.shape.depth (sample_in big bytes level (x_of j) (y_of j) c)
-      ≡ unpacked_value unpacking span (j * level.shape.channels + c)
-  value_is j c j-below c-below =
-      sym (ap (λ (d : ℕ). value_as unpacking.scaled d
-      (sample_of (is_wide format.depth) format.big format.invert span
-      (j * level.shape.channels + c))) is.depth
-      ∙ ap (value_as unpacking.scaled level.shape.depth) (sample_is j c j-below c-below))
+      → sample_in big bytes level (x_of j) (y_of j) c
+      ≡ unpacked format span (j * level.shape.channels + c)
+  value_is j c j-below c-below = sym (sample_is j c j-below c-below)
 
-module _ (big : Bool) (bytes : List ℕ) (level : Level) (unpacking : Unpacking)
-    (is : IsFormatOf big level.shape unpacking.format) (right : ℕ) (piece : Piece)
+module _ (big : Bool) (bytes : List ℕ) (level : Level) (format : TexelFormat)
+    (is : IsFormatOf big level.shape format) (right : ℕ) (piece : Piece)
     (lies : LiesSideBySide level right piece) (span : List ℕ)
     (part : IsPartAt bytes piece.at span)
     (long : length span ≡ sample_bytes level.shape.depth * (piece.n * level.shape.channels)) where
   -- the numbers of the span are those of the piece's texels
-  pub piece_values : map (unpacked_value unpacking span)
+  pub piece_values : map (unpacked format span)
       (range_with_len 0 (piece.n * level.shape.channels))
-      ≡ flat_map (values_at big bytes level unpacking.scaled)
+      ≡ flat_map (samples_at big bytes level)
       (row_texels piece.x piece.y piece.n)
   piece_values =
-      let value = unpacked_value unpacking span in
-      let values = values_at big bytes level unpacking.scaled in
-      let value_of_texel = value_is big bytes level unpacking is piece.n piece.at
+      let value = unpacked format span in
+      let values = samples_at big bytes level in
+      let value_of_texel = value_is big bytes level format is piece.n piece.at
       (λ j. piece.x + j) (λ j. piece.y) (λ j c lt. lies.samples j c lt) span part long in
       let rows = flat_rows value level.shape.channels 0 piece.n in
       let zero-is : 0 * level.shape.channels ≡ 0 = omega arith in
@@ -110,8 +102,7 @@ module _ (big : Bool) (bytes : List ℕ) (level : Level) (unpacking : Unpacking)
       (λ j. map (λ c. value (j * level.shape.channels + c)) (range_with_len 0 level.shape.channels))
       0 0 piece.n
       (λ j j-below. map_alike
-      (λ c. value_as unpacking.scaled level.shape.depth
-      (sample_in big bytes level (piece.x + (0 + j)) piece.y c))
+      (λ c. sample_in big bytes level (piece.x + (0 + j)) piece.y c)
       (λ c. value ((0 + j) * level.shape.channels + c)) 0 0 level.shape.channels
       (λ c c-below. value_of_texel (0 + j) (0 + c) (rw zero-add j-below) (rw zero-add c-below)))
       ∙ rows

@@ -1,10 +1,9 @@
 -- Lists over ranges of numbers, piece by piece.
 use Rattle.std.proofs.Common.{◌≡◌, ℕ, zero, suc, ◌+◌, ◌*◌, ◌<◌, List, ◌∷◌, ◌++◌}
-use Rattle.std.proofs.Common.{map, replicate, refl, sym, ap, ◌∙◌, add-zero}
+use Rattle.std.proofs.Common.{map, refl, sym, ap, ◌∙◌, add-zero}
 use Rattle.std.proofs.Common.{zero-add, arith}
 use Rattle.std.specs.List.{range_with_len, flat_map}
-use Rattle.std.proofs.lemmas.List.{replicate-append-replicate, map-append}
-use Rattle.std.proofs.lemmas.List.Concat.{flat_map-append}
+use Rattle.std.proofs.lemmas.List.{map-append}
 
 -- a range in two parts
 pub range_parts : (a m n : ℕ)
@@ -43,26 +42,6 @@ map_alike f g a b (suc n) same =
     next : (c i : ℕ) → c + 1 + i ≡ c + (i + 1)
     next c i = omega arith
 
--- zeros
-abbrev pub no_value : ℕ → ℕ
-no_value k = 0
-
--- m zeros, whatever the index
-abbrev pub no_values : ℕ → ℕ → List ℕ
-no_values m k = replicate m 0
-
--- a zero for each index
-pub map_zeros : (a n : ℕ) → map no_value (range_with_len a n) ≡ replicate n 0
-map_zeros a zero = refl
-map_zeros a (suc n) = ap (λ (r : List ℕ). 0 ∷ r) (map_zeros (a + 1) n)
-
--- m zeros for each index
-pub flat_zeros : (m a n : ℕ) → flat_map (no_values m) (range_with_len a n) ≡ replicate (n * m) 0
-flat_zeros m a zero = let none : 0 ≡ 0 * m = omega arith in ap (λ (k : ℕ). replicate k 0) none
-flat_zeros m a (suc n) =
-    let sum : suc n * m ≡ m + n * m = omega arith in
-    rw (flat_zeros m (a + 1) n, sum) (replicate-append-replicate m (n * m) 0)
-
 -- rows of n values stand one after the other
 pub flat_rows : {X : Type 0} (f : ℕ → X) (n a m : ℕ)
     → flat_map (λ i. map (λ c. f (i * n + c)) (range_with_len 0 n)) (range_with_len a m)
@@ -79,19 +58,3 @@ flat_rows f n a (suc m) =
     rw (first, rest, next, total)
     (sym (ap (map f) (range_parts (a * n) n (m * n))
     ∙ map-append f (range_with_len (a * n) n) (range_with_len (a * n + n) (m * n))))
-
--- a range in three parts
-pub three_parts : (f : ℕ → List ℕ) (m n k : ℕ)
-    → flat_map f (range_with_len 0 (m + n + k))
-    ≡ flat_map f (range_with_len 0 m) ++ flat_map f (range_with_len m n)
-    ++ flat_map f (range_with_len (m + n) k)
-three_parts f m n k =
-    ap (flat_map f) (range_parts 0 (m + n) k)
-    ∙ flat_map-append f (range_with_len 0 (m + n)) (range_with_len (0 + (m + n)) k)
-    ∙ ap (λ (r : List ℕ). flat_map f r ++ flat_map f (range_with_len (0 + (m + n)) k))
-    (range_parts 0 m n)
-    ∙ rw (
-      flat_map-append f (range_with_len 0 m) (range_with_len (0 + m) n),
-      zero-add m,
-      zero-add (m + n),
-    ) refl

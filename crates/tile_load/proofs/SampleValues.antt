@@ -1,4 +1,4 @@
--- Samples that were unpacked, and their values.
+-- Samples that were unpacked.
 use Rattle.std.proofs.Common.{◌≡◌, ℕ, ◌<◌, ◌≤◌, Bool, true, false, eqb, refl, List, ◌++◌, map}
 use Rattle.std.proofs.Common.{zero-add, arith}
 use Rattle.std.specs.List.{range_with_len}
@@ -12,7 +12,7 @@ use Rattle.tile_layout.specs.FormatOf.{IsFormatOf}
 use Rattle.tile_layout.specs.Texel.{FitDepth}
 use Rattle.tile_layout.specs.declared.texel_format.TexelFormat.{TexelFormat}
 use Rattle.unpack.specs.Sample.{depth_of}
-use Rattle.tile_load.specs.SampleValue.{is_wide}
+use Rattle.tile_load.specs.Unpacked.{is_wide}
 
 -- a depth is that of wide samples, or that of the others
 by_bits : (depth : ℕ) (narrow wide : Bool) → eqb depth 8 ≡ narrow → eqb depth 16 ≡ wide

@@ -13,10 +13,9 @@ use Rattle.tile_layout.specs.Pieces.{rect_texels}
 use Rattle.tile_layout.specs.Texel.{AreTexelsOn}
 use Rattle.tile_layout.specs.WholeRows.{StandsWhole}
 use Rattle.tile_load.specs.declared.run.Run.{Run}
-use Rattle.tile_load.specs.declared.unpacking.Unpacking.{Unpacking}
-use Rattle.tile_load.specs.LevelRow.{values_at}
+use Rattle.tile_layout.specs.declared.texel_format.TexelFormat.{TexelFormat}
+use Rattle.tile_load.specs.Samples.{samples_at}
 use Rattle.tile_load.specs.Run.{AppendsValues, StandSideBySide}
-use Rattle.tile_load.specs.SampleValue.{value_as}
 use Rattle.tile_load.proofs.RectValues.{are_texels}
 
 -- the column and the row of texel j of a rectangle
@@ -75,15 +74,13 @@ texels_listed texel n rect numbers are =
     ∙ ap (slice_index all) at)
 
 -- the values of texels that stand side by side, row behind row, are those of the rectangle
-pub rect_appended : (bytes : List ℕ) (level : Level) (unpacking : Unpacking) (rect : Rect)
+pub rect_appended : (bytes : List ℕ) (level : Level) (format : TexelFormat) (rect : Rect)
     (old new : List ℕ)
-    → AppendsValues bytes level unpacking (rect.w * rect.h) (column_of rect) (row_of rect) old new
-    → new ≡ old ++ flat_map (values_at unpacking.format.big bytes level unpacking.scaled)
+    → AppendsValues bytes level format (rect.w * rect.h) (column_of rect) (row_of rect) old new
+    → new ≡ old ++ flat_map (samples_at format.big bytes level)
     (rect_texels rect)
-rect_appended bytes level unpacking rect old new more =
-    let texel : ℕ → ℕ → ℕ → ℕ = λ x y c.
-    value_as unpacking.scaled level.shape.depth
-    (sample_in unpacking.format.big bytes level x y c) in
+rect_appended bytes level format rect old new more =
+    let texel : ℕ → ℕ → ℕ → ℕ = λ x y c. sample_in format.big bytes level x y c in
     let are : AreTexelsOn texel level.shape.channels rect more.added = record {
       count = more.count;
       each = λ i j c across down some.

@@ -18,13 +18,6 @@ use Rattle.tile_load.proofs.Ranges.{flat_alike, map_alike, flat_rows}
 pub are_zeros : (n : ℕ) → AreZeros (replicate n 0)
 are_zeros n k below = get_or-replicate n k 0 0 (rw length-replicate at below)
 
--- so many zeros behind others
-pub zeros_long : (n : ℕ) (old new : List ℕ) → new ≡ old ++ replicate n 0
-    → length new ≡ length old + n
-zeros_long n old new more =
-    ap length more ∙ length-append old (replicate n 0)
-    ∙ ap (λ k. length old + k) (length-replicate n 0)
-
 zeros_before : (n : ℕ) (numbers : List ℕ) → n ≤ length numbers → AreZeros numbers
     → AreZeros (take n numbers)
 zeros_before n numbers few zeros k below =

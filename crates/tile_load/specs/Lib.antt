@@ -1,10 +1,8 @@
-pub mod Region
-pub mod Overlap
-pub mod SampleValue
+pub mod Unpacked
 pub mod Window
 pub mod Run
-pub mod LevelRow
-pub mod RegionRead
+pub mod Samples
+pub mod RectRead
 pub mod Beyond
 pub mod Zeros
 pub mod Load

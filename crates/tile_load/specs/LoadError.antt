@@ -6,13 +6,13 @@ use Rattle.tex_world.specs.Tap.{Named, TapState}
 use Rattle.tex_world.specs.declared.fault.ReadError.{ReadError}
 use Rattle.tex_world.specs.declared.fault.ReadError.TheVariants as read
 use Rattle.tap_reader.specs.TapReader.{Lent, OnlyReads}
-use Rattle.tile_load.specs.declared.region.RegionError.{RegionError}
-use Rattle.tile_load.specs.declared.region.RegionError.TheVariants as region
+use Rattle.tile_load.specs.declared.rect_error.RectError.{RectError}
+use Rattle.tile_load.specs.declared.rect_error.RectError.TheVariants as region
 use Rattle.tile_load.specs.declared.load_error.LoadError.{LoadError}
 use Rattle.tile_load.specs.declared.load_error.LoadError.TheVariants as load
 
 -- the refusal of the read, or that no memory was found
-abbrev pub load_error_of : RegionError ReadError → LoadError
+abbrev pub load_error_of : RectError ReadError → LoadError
 load_error_of (region.Reader read.Failed) = load.ReadFault
 load_error_of (region.Reader (read.Gone to)) = load.Gone to
 load_error_of region.NoMemory = load.NoMemory

@@ -5,8 +5,8 @@ use Rattle.tiff_dirs.specs.Block.{Level, sample_bytes, texel_bytes}
 use Rattle.tiff_dirs.specs.Reader.{IsPartAt}
 use Rattle.tiff_dirs.specs.Texel.{sample_in, sample_place}
 use Rattle.tile_load.specs.declared.run.Run.{Run}
-use Rattle.tile_load.specs.declared.unpacking.Unpacking.{Unpacking}
-use Rattle.tile_load.specs.SampleValue.{value_as, unpacked_value}
+use Rattle.tile_layout.specs.declared.texel_format.TexelFormat.{TexelFormat}
+use Rattle.tile_load.specs.Unpacked.{unpacked}
 
 -- texel j of the run is the one in column x_of j and row y_of j: its samples stand there
 abbrev pub StandSideBySide : Level → Run → (ℕ → ℕ) → (ℕ → ℕ) → Type 0
@@ -15,26 +15,25 @@ StandSideBySide level run x_of y_of =
     ≡ run.at + j * texel_bytes level.shape + c * sample_bytes level.shape.depth
 
 -- these are the numbers of the first n of these texels, channels side by side
-abbrev pub AreValuesOf : List ℕ → Level → Unpacking → ℕ → (ℕ → ℕ) → (ℕ → ℕ) → List ℕ → Type 0
-AreValuesOf bytes level unpacking n x_of y_of values =
+abbrev pub AreValuesOf : List ℕ → Level → TexelFormat → ℕ → (ℕ → ℕ) → (ℕ → ℕ) → List ℕ → Type 0
+AreValuesOf bytes level format n x_of y_of values =
     (j c : ℕ) → j < n → c < level.shape.channels
     → slice_index values (j * level.shape.channels + c)
-    ≡ value_as unpacking.scaled level.shape.depth
-    (sample_in unpacking.format.big bytes level (x_of j) (y_of j) c)
+    ≡ sample_in format.big bytes level (x_of j) (y_of j) c
 
 -- behind the values that were there stand those of the bytes of a run
-pub record AppendsRun (bytes : List ℕ) (unpacking : Unpacking) (run : Run) (old new : List ℕ)
+pub record AppendsRun (bytes : List ℕ) (format : TexelFormat) (run : Run) (old new : List ℕ)
     : Type 0 where
   pub span : List ℕ
   pub part : IsPartAt bytes run.at span
-  pub long : length span ≡ run.texels * unpacking.format.texel_bytes
-  pub values : new ≡ old ++ map (unpacked_value unpacking span)
-      (range_with_len 0 (run.texels * unpacking.format.channels))
+  pub long : length span ≡ run.texels * format.texel_bytes
+  pub values : new ≡ old ++ map (unpacked format span)
+      (range_with_len 0 (run.texels * format.channels))
 
 -- behind the values that were there stand those of n texels
-pub record AppendsValues (bytes : List ℕ) (level : Level) (unpacking : Unpacking) (n : ℕ)
+pub record AppendsValues (bytes : List ℕ) (level : Level) (format : TexelFormat) (n : ℕ)
     (x_of y_of : ℕ → ℕ) (old new : List ℕ) : Type 0 where
   pub added : List ℕ
   pub behind : new ≡ old ++ added
   pub count : length added ≡ n * level.shape.channels
-  pub values : AreValuesOf bytes level unpacking n x_of y_of added
+  pub values : AreValuesOf bytes level format n x_of y_of added

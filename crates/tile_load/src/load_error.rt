@@ -1,7 +1,7 @@
 ghost use Rattle.std.specs.Prelude.{◌≡◌};
 ghost use Rattle.tile_load.specs.LoadError.{load_error_of};
 
-use crate::region::RegionError;
+use crate::rect_error::RectError;
 use tex_world::ReadError;
 
 /// Why a cell was not loaded.
@@ -16,12 +16,12 @@ pub enum LoadError {
 }
 
 /// Why a cell was not loaded whose texels were not read.
-pub(crate) fn load_error(error: RegionError<ReadError>) -> LoadError
+pub(crate) fn load_error(error: RectError<ReadError>) -> LoadError
     ensures { result ≡ load_error_of error }
 {
     match error {
-        RegionError::Reader(ReadError::Failed) => LoadError::ReadFault,
-        RegionError::Reader(ReadError::Gone(to)) => LoadError::Gone(to),
-        RegionError::NoMemory => LoadError::NoMemory,
+        RectError::Reader(ReadError::Failed) => LoadError::ReadFault,
+        RectError::Reader(ReadError::Gone(to)) => LoadError::Gone(to),
+        RectError::NoMemory => LoadError::NoMemory,
     }
 }

@@ -9,20 +9,19 @@ ghost use Rattle.tile_layout.specs.Kept.{level_in};
 ghost use Rattle.tile_layout.specs.Pieces.{LiesSideBySide, row_texels, rect_texels};
 ghost use Rattle.tile_layout.specs.FormatOf.{IsFormatOf};
 ghost use Rattle.tile_layout.specs.Blocks.{HoldsBlocks};
-ghost use Rattle.tile_load.specs.LevelRow.{values_at};
-ghost use Rattle.tile_load.specs.SampleValue.{KeepsDepth};
+ghost use Rattle.tile_load.specs.Samples.{samples_at};
+ghost use Rattle.tile_load.specs.Unpacked.{KeepsDepth};
 ghost use Rattle.tile_load.specs.Window.{AreWindows};
-ghost use Rattle.tile_load.specs.RegionRead.{LeavesRegion};
+ghost use Rattle.tile_load.specs.RectRead.{LeavesReader};
 ghost use Rattle.tile_load.specs.Beyond.{IsFilled, IsAllBeyond};
 ghost use Rattle.tile_load.specs.Zeros.{AddsTexel, AddsTexels, AddsZeros, LiesBeyond};
 
 use crate::place::Place;
-use crate::region::RegionError;
+use crate::rect_error::RectError;
 use crate::rows::Rows;
 use crate::run::{Run, read_run};
-use crate::sample_values::push_samples;
+use crate::samples::push_samples;
 use crate::span::Span;
-use crate::unpacking::Unpacking;
 use crate::window::{Window, ready};
 use std::alloc::{AllocError, Global};
 use tiff_dirs::ByteReader;
@@ -103,37 +102,37 @@ impl Reading {
     fn read_span<B: ByteReader>(
         &mut self,
         reader: &mut B,
-        unpacking: &Unpacking,
+        format: &TexelFormat,
         piece: &Piece,
         k: usize,
-    ) -> Result<(), RegionError<B::Error>>
+    ) -> Result<(), RectError<B::Error>>
         requires there { k < length self.old.windows.items }
-        requires below { piece.now.at + piece.now.n * unpacking.now.format.texel_bytes
+        requires below { piece.now.at + piece.now.n * format.now.texel_bytes
             ≤ B.size reader.old }
         ensures next { OnOk result (length self.new.windows.items
             ≡ length self.old.windows.items) }
         ensures count { OnOk result (AddsTexel ⊥
-            (piece.now.n * unpacking.now.format.channels)
+            (piece.now.n * format.now.channels)
             self.old.values.items self.new.values.items) }
-        ensures low { OnOk result (KeepsDepth unpacking.now
+        ensures low { OnOk result (KeepsDepth format.now
             self.old.values.items self.new.values.items) }
         ensures told { ForSome (B.bytes reader.old) (λ bytes. (level : Level) → (right : ℕ)
             → AreWindows bytes self.old.windows.items
-            → IsFormatOf unpacking.now.format.big level.shape unpacking.now.format
+            → IsFormatOf format.now.big level.shape format.now
             → LiesSideBySide level right piece.now
             → OnOk result (AreWindows bytes self.new.windows.items
             × (self.new.values.items ≡ self.old.values.items
-            ++ flat_map (values_at unpacking.now.format.big bytes level unpacking.now.scaled)
+            ++ flat_map (samples_at format.now.big bytes level)
             (row_texels piece.now.x piece.now.y piece.now.n)))) }
-        ensures reader { LeavesRegion B.keeps B.refuses reader.old reader.new result }
+        ensures reader { LeavesReader B.keeps B.refuses reader.old reader.new result }
     {
         let most = MAX_AHEAD / self.windows.len() as u64;
         let behind = self.rows.behind(piece.y);
         let window = &mut self.windows[k];
-        let span = span_of(piece, &unpacking.format);
+        let span = span_of(piece, format);
         window.fill(reader, &span, &behind, most)?;
-        let count = piece.n as usize * unpacking.format.channels;
-        push_samples(&mut self.values, unpacking, window.piece(&span), count)?;
+        let count = piece.n as usize * format.channels;
+        push_samples(&mut self.values, format, window.piece(&span), count)?;
         Ok(())
     }
 
@@ -142,37 +141,37 @@ impl Reading {
     fn read_piece<B: ByteReader>(
         &mut self,
         reader: &mut B,
-        unpacking: &Unpacking,
+        format: &TexelFormat,
         piece: &Piece,
         k: usize,
-    ) -> Result<(), RegionError<B::Error>>
+    ) -> Result<(), RectError<B::Error>>
         requires { k ≤ length self.old.windows.items }
         ensures next { OnOk result (k < length self.new.windows.items) }
         ensures count { OnOk result (AddsTexel
-            (B.size reader.old < piece.now.at + piece.now.n * unpacking.now.format.texel_bytes)
-            (piece.now.n * unpacking.now.format.channels)
+            (B.size reader.old < piece.now.at + piece.now.n * format.now.texel_bytes)
+            (piece.now.n * format.now.channels)
             self.old.values.items self.new.values.items) }
         ensures unread { B.size reader.old
-            < piece.now.at + piece.now.n * unpacking.now.format.texel_bytes
+            < piece.now.at + piece.now.n * format.now.texel_bytes
             → reader.new ≡ reader.old }
-        ensures low { OnOk result (KeepsDepth unpacking.now
+        ensures low { OnOk result (KeepsDepth format.now
             self.old.values.items self.new.values.items) }
         ensures told { ForSome (B.bytes reader.old) (λ bytes. (level : Level) → (right : ℕ)
             → AreWindows bytes self.old.windows.items
-            → IsFormatOf unpacking.now.format.big level.shape unpacking.now.format
+            → IsFormatOf format.now.big level.shape format.now
             → LiesSideBySide level right piece.now → HoldsBlocks bytes level
             → OnOk result (AreWindows bytes self.new.windows.items
             × (self.new.values.items ≡ self.old.values.items
-            ++ flat_map (values_at unpacking.now.format.big bytes level unpacking.now.scaled)
+            ++ flat_map (samples_at format.now.big bytes level)
             (row_texels piece.now.x piece.now.y piece.now.n)))) }
-        ensures reader { LeavesRegion B.keeps B.refuses reader.old reader.new result }
+        ensures reader { LeavesReader B.keeps B.refuses reader.old reader.new result }
     {
         ready(&mut self.windows, k)?;
-        let span = span_of(piece, &unpacking.format);
+        let span = span_of(piece, format);
         if span.lies_below(reader.len()) {
-            return self.read_span(reader, unpacking, piece, k);
+            return self.read_span(reader, format, piece, k);
         }
-        self.push_zeros(u64::from(piece.n) * unpacking.format.channels as u64)?;
+        self.push_zeros(u64::from(piece.n) * format.channels as u64)?;
         Ok(())
     }
 
@@ -181,37 +180,36 @@ impl Reading {
     pub(crate) fn read_pieces<B: ByteReader>(
         &mut self,
         reader: &mut B,
-        unpacking: &Unpacking,
+        format: &TexelFormat,
         pieces: &mut Pieces<'_>,
-    ) -> Result<(), RegionError<B::Error>>
+    ) -> Result<(), RectError<B::Error>>
         ensures count { OnOk result (length self.new.values.items ≡ length self.old.values.items
-            + length pieces.old.texels * unpacking.now.format.channels) }
-        ensures zeros { IsFormatOf unpacking.now.format.big pieces.old.level.shape
-            unpacking.now.format → OnOk result (AddsTexels
+            + length pieces.old.texels * format.now.channels) }
+        ensures zeros { IsFormatOf format.now.big pieces.old.level.shape
+            format.now → OnOk result (AddsTexels
             (LiesBeyond pieces.old.level pieces.old.right (B.size reader.old))
-            unpacking.now.format.channels pieces.old.texels
+            format.now.channels pieces.old.texels
             self.old.values.items self.new.values.items) }
-        ensures unread { IsFormatOf unpacking.now.format.big pieces.old.level.shape
-            unpacking.now.format
+        ensures unread { IsFormatOf format.now.big pieces.old.level.shape
+            format.now
             → All (LiesBeyond pieces.old.level pieces.old.right (B.size reader.old))
             pieces.old.texels → reader.new ≡ reader.old }
-        ensures low { OnOk result (KeepsDepth unpacking.now
+        ensures low { OnOk result (KeepsDepth format.now
             self.old.values.items self.new.values.items) }
         ensures told { ForSome (B.bytes reader.old) (λ bytes.
             AreWindows bytes self.old.windows.items
-            → IsFormatOf unpacking.now.format.big pieces.old.level.shape unpacking.now.format
+            → IsFormatOf format.now.big pieces.old.level.shape format.now
             → HoldsBlocks bytes pieces.old.level
             → OnOk result (AreWindows bytes self.new.windows.items
             × (self.new.values.items ≡ self.old.values.items
-            ++ flat_map (values_at unpacking.now.format.big bytes pieces.old.level
-            unpacking.now.scaled) pieces.old.texels))) }
-        ensures reader { LeavesRegion B.keeps B.refuses reader.old reader.new result }
+            ++ flat_map (samples_at format.now.big bytes pieces.old.level) pieces.old.texels))) }
+        ensures reader { LeavesReader B.keeps B.refuses reader.old reader.new result }
     {
         let mut k = 0usize;
         let mut row = 0;
         'pieces: while let Some(piece) = pieces.next() {
             let own = window_of(&mut row, piece.y, k);
-            self.read_piece(reader, unpacking, &piece, own)?;
+            self.read_piece(reader, format, &piece, own)?;
             k = own + 1;
         }
         Ok(())
@@ -222,37 +220,37 @@ impl Reading {
     pub(crate) fn read_place<B: ByteReader>(
         &mut self,
         reader: &mut B,
-        unpacking: &Unpacking,
+        format: &TexelFormat,
         place: &Place<'_>,
-    ) -> Result<(), RegionError<B::Error>>
+    ) -> Result<(), RectError<B::Error>>
         requires { IsFormatOf place.now.layout.now.big
-            (level_in place.now.layout.now place.now.level).shape unpacking.now.format }
+            (level_in place.now.layout.now place.now.level).shape format.now }
         ensures count { OnOk result (length self.new.values.items
             ≡ length self.old.values.items
-            + place.now.rect.w * place.now.rect.h * unpacking.now.format.channels) }
+            + place.now.rect.w * place.now.rect.h * format.now.channels) }
         ensures zeros { OnOk result (AddsZeros
             (level_in place.now.layout.now place.now.level) (B.size reader.old) place.now.rect
             self.old.values.items self.new.values.items) }
         ensures unread { IsFilled place.now.rect → IsAllBeyond
             (level_in place.now.layout.now place.now.level) (B.size reader.old) place.now.rect
             → reader.new ≡ reader.old }
-        ensures low { OnOk result (KeepsDepth unpacking.now
+        ensures low { OnOk result (KeepsDepth format.now
             self.old.values.items self.new.values.items) }
         ensures told { ForSome (B.bytes reader.old) (λ bytes.
             AreWindows bytes self.old.windows.items
             → HoldsBlocks bytes (level_in place.now.layout.now place.now.level)
             → OnOk result (AreWindows bytes self.new.windows.items
             × (self.new.values.items ≡ self.old.values.items
-            ++ flat_map (values_at place.now.layout.now.big bytes
-            (level_in place.now.layout.now place.now.level) unpacking.now.scaled)
+            ++ flat_map (samples_at place.now.layout.now.big bytes
+            (level_in place.now.layout.now place.now.level))
             (rect_texels place.now.rect)))) }
-        ensures reader { LeavesRegion B.keeps B.refuses reader.old reader.new result }
+        ensures reader { LeavesReader B.keeps B.refuses reader.old reader.new result }
     {
-        match Run::of(place, &unpacking.format, reader.len()) {
-            Some(run) => read_run(reader, unpacking, &run, &mut self.values),
+        match Run::of(place, format, reader.len()) {
+            Some(run) => read_run(reader, format, &run, &mut self.values),
             None => {
                 let mut pieces = place.layout.pieces(place.level, place.rect);
-                self.read_pieces(reader, unpacking, &mut pieces)
+                self.read_pieces(reader, format, &mut pieces)
             }
         }
     }

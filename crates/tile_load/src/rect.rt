@@ -8,14 +8,13 @@ ghost use Rattle.tile_layout.specs.Cell.{bit_depth_in};
 ghost use Rattle.tile_layout.specs.Kept.{stored_count, level_in};
 ghost use Rattle.tile_layout.specs.Pieces.{LiesOnLevel};
 ghost use Rattle.tile_layout.specs.Texel.{AreTexelsOn, FitDepth};
-ghost use Rattle.tile_load.specs.RegionRead.{LeavesRegion};
+ghost use Rattle.tile_load.specs.RectRead.{LeavesReader};
 ghost use Rattle.tile_load.specs.Beyond.{CountAsZero, IsFilled, IsAllBeyond};
 
 use crate::place::Place;
 use crate::reading::Reading;
-use crate::region::RegionError;
+use crate::rect_error::RectError;
 use crate::rows::Rows;
-use crate::unpacking::Unpacking;
 use std::alloc::Global;
 use tiff_dirs::ByteReader;
 use tile_layout::{Layout, Rect};
@@ -31,7 +30,7 @@ pub fn read_rect<B: ByteReader>(
     layout: &Layout,
     level: u32,
     rect: Rect,
-) -> Result<Vec<u16>, RegionError<B::Error>>
+) -> Result<Vec<u16>, RectError<B::Error>>
     requires stored { level < stored_count layout.now }
     requires inside { LiesOnLevel layout.now level rect }
     ensures count { IfOk result (λ samples. length samples.items
@@ -47,21 +46,17 @@ pub fn read_rect<B: ByteReader>(
         → IfOk result (λ samples. AreTexelsOn
         (sample_in layout.now.big bytes (level_in layout.now level))
         (level_in layout.now level).shape.channels rect samples.items)) }
-    ensures reader { LeavesRegion B.keeps B.refuses reader.old reader.new result }
+    ensures reader { LeavesReader B.keeps B.refuses reader.old reader.new result }
 {
     let format = layout.format(level);
     let rows = Rows::of(layout, level, &format, rect.y.saturating_add(rect.h));
-    let unpacking = Unpacking {
-        format,
-        scaled: false,
-    };
     let place = Place {
         layout,
         level,
         rect,
     };
     let mut reading = Reading::new(alloc, rows);
-    reading.reserve(rect, unpacking.format.channels)?;
-    reading.read_place(reader, &unpacking, &place)?;
+    reading.reserve(rect, format.channels)?;
+    reading.read_place(reader, &format, &place)?;
     Ok(reading.values)
 }

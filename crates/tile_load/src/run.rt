@@ -7,18 +7,17 @@ ghost use Rattle.tiff_dirs.specs.Block.{Level};
 ghost use Rattle.tile_layout.specs.FormatOf.{IsFormatOf};
 ghost use Rattle.tile_layout.specs.Kept.{level_in};
 ghost use Rattle.tile_layout.specs.WholeRows.{StandsWhole};
-ghost use Rattle.tile_load.specs.RegionRead.{LeavesRegion};
+ghost use Rattle.tile_load.specs.RectRead.{LeavesReader};
 ghost use Rattle.tile_load.specs.Run.{AppendsRun, AppendsValues, StandSideBySide};
-ghost use Rattle.tile_load.specs.SampleValue.{KeepsDepth};
+ghost use Rattle.tile_load.specs.Unpacked.{KeepsDepth};
 ghost use Rattle.tile_load.specs.Window.{IsWindow};
 
 use crate::place::Place;
 use crate::reading::MAX_AHEAD;
-use crate::region::RegionError;
+use crate::rect_error::RectError;
 use crate::rows::RowsBehind;
-use crate::sample_values::push_samples;
+use crate::samples::push_samples;
 use crate::span::Span;
-use crate::unpacking::Unpacking;
 use crate::window::Window;
 use std::alloc::AllocError;
 use tiff_dirs::ByteReader;
@@ -79,30 +78,29 @@ fn texels_at_once(format: &TexelFormat) -> usize
 /// Appends the numbers of the texels of a part of a run, read through a window.
 fn read_part<B: ByteReader>(
     reader: &mut B,
-    unpacking: &Unpacking,
+    format: &TexelFormat,
     part: &Run,
     window: &mut Window,
     values: &mut Vec<u16>,
-) -> Result<(), RegionError<B::Error>>
-    requires fits { part.now.at + part.now.texels * unpacking.now.format.texel_bytes < 2 ^ 64 }
-    requires below { part.now.at + part.now.texels * unpacking.now.format.texel_bytes
+) -> Result<(), RectError<B::Error>>
+    requires fits { part.now.at + part.now.texels * format.now.texel_bytes < 2 ^ 64 }
+    requires below { part.now.at + part.now.texels * format.now.texel_bytes
         ≤ B.size reader.old }
     ensures count { OnOk result (length values.new.items
-        ≡ length values.old.items + part.now.texels * unpacking.now.format.channels) }
-    ensures low { OnOk result (KeepsDepth unpacking.now values.old.items values.new.items) }
+        ≡ length values.old.items + part.now.texels * format.now.channels) }
+    ensures low { OnOk result (KeepsDepth format.now values.old.items values.new.items) }
     ensures told { ForSome (B.bytes reader.old) (λ bytes.
         IsWindow bytes window.old → OnOk result (IsWindow bytes window.new
-        × AppendsRun bytes unpacking.now part.now values.old.items values.new.items)) }
-    ensures reader { LeavesRegion B.keeps B.refuses reader.old reader.new result }
+        × AppendsRun bytes format.now part.now values.old.items values.new.items)) }
+    ensures reader { LeavesReader B.keeps B.refuses reader.old reader.new result }
 {
-    let format = &unpacking.format;
     let span = Span {
         at: part.at,
         size: part.texels * format.texel_bytes,
     };
     window.fill(reader, &span, &NO_ROWS, 0)?;
     let count = part.texels * format.channels;
-    push_samples(values, unpacking, window.piece(&span), count)?;
+    push_samples(values, format, window.piece(&span), count)?;
     Ok(())
 }
 
@@ -120,27 +118,27 @@ fn reserve(values: &mut Vec<u16>, format: &TexelFormat, run: &Run) -> Result<(),
 /// Besides them it takes 256 KiB at most.
 pub(crate) fn read_run<B: ByteReader>(
     reader: &mut B,
-    unpacking: &Unpacking,
+    format: &TexelFormat,
     run: &Run,
     values: &mut Vec<u16>,
-) -> Result<(), RegionError<B::Error>>
-    requires fits { run.now.at + run.now.texels * unpacking.now.format.texel_bytes < 2 ^ 64 }
-    requires below { run.now.at + run.now.texels * unpacking.now.format.texel_bytes
+) -> Result<(), RectError<B::Error>>
+    requires fits { run.now.at + run.now.texels * format.now.texel_bytes < 2 ^ 64 }
+    requires below { run.now.at + run.now.texels * format.now.texel_bytes
         ≤ B.size reader.old }
     ensures count { OnOk result (length values.new.items
-        ≡ length values.old.items + run.now.texels * unpacking.now.format.channels) }
-    ensures low { OnOk result (KeepsDepth unpacking.now values.old.items values.new.items) }
+        ≡ length values.old.items + run.now.texels * format.now.channels) }
+    ensures low { OnOk result (KeepsDepth format.now values.old.items values.new.items) }
     ensures told { ForSome (B.bytes reader.old) (λ bytes.
         (level : Level) → (x_of y_of : ℕ → ℕ)
-        → IsFormatOf unpacking.now.format.big level.shape unpacking.now.format
+        → IsFormatOf format.now.big level.shape format.now
         → StandSideBySide level run.now x_of y_of
-        → OnOk result (AppendsValues bytes level unpacking.now run.now.texels x_of y_of
+        → OnOk result (AppendsValues bytes level format.now run.now.texels x_of y_of
         values.old.items values.new.items)) }
-    ensures reader { LeavesRegion B.keeps B.refuses reader.old reader.new result }
+    ensures reader { LeavesReader B.keeps B.refuses reader.old reader.new result }
 {
-    let size = unpacking.format.texel_bytes;
-    let most = texels_at_once(&unpacking.format);
-    reserve(values, &unpacking.format, run)?;
+    let size = format.texel_bytes;
+    let most = texels_at_once(format);
+    reserve(values, format, run)?;
     let mut window = Window::new(*values.allocator());
     let mut done = 0usize;
     'parts: while done < run.texels {
@@ -148,7 +146,7 @@ pub(crate) fn read_run<B: ByteReader>(
             at: run.at + (done * size) as u64,
             texels: most.min(run.texels - done),
         };
-        read_part(reader, unpacking, &part, &mut window, values)?;
+        read_part(reader, format, &part, &mut window, values)?;
         done += part.texels;
     }
     Ok(())

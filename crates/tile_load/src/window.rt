@@ -3,10 +3,10 @@
 ghost use Rattle.std.specs.Prelude.{◌≡◌, ◌+◌, ◌<◌, ◌≤◌, ℕ, List, length, OnOk, IsTrue};
 ghost use Rattle.std.specs.Option.{ForSome};
 ghost use Rattle.tiff_dirs.specs.Reader.{IsPartAt};
-ghost use Rattle.tile_load.specs.RegionRead.{LeavesRegion};
+ghost use Rattle.tile_load.specs.RectRead.{LeavesReader};
 ghost use Rattle.tile_load.specs.Window.{IsWindow, AreWindows, HoldsSpan};
 
-use crate::region::RegionError;
+use crate::rect_error::RectError;
 use crate::rows::RowsBehind;
 use crate::span::Span;
 use std::alloc::{AllocError, Global};
@@ -84,12 +84,12 @@ impl Window {
         span: &Span,
         behind: &RowsBehind,
         most: u64,
-    ) -> Result<(), RegionError<B::Error>>
+    ) -> Result<(), RectError<B::Error>>
         requires { span.now.at + span.now.size ≤ B.size reader.old }
         ensures holds { OnOk result (HoldsSpan self.new span.now) }
         ensures told { ForSome (B.bytes reader.old) (λ bytes.
             IsWindow bytes self.old → OnOk result (IsWindow bytes self.new)) }
-        ensures reader { LeavesRegion B.keeps B.refuses reader.old reader.new result }
+        ensures reader { LeavesReader B.keeps B.refuses reader.old reader.new result }
     {
         let stride = span.at.saturating_sub(self.last);
         self.last = span.at;
@@ -103,7 +103,7 @@ impl Window {
         self.bytes.resize(long, 0)?;
         match reader.read(span.at, &mut self.bytes) {
             Ok(()) => Ok(()),
-            Err(e) => Err(RegionError::Reader(e)),
+            Err(e) => Err(RectError::Reader(e)),
         }
     }
 }

@@ -1,4 +1,4 @@
-use Rattle.std.proofs.Common.{◌≡◌, ◌*◌, ◌≤◌, length, ap, ◌∙◌, arith, refl}
+use Rattle.std.proofs.Common.{◌≡◌, ◌*◌, ◌≤◌, length, ap, ◌∙◌, arith}
 use Rattle.std.proofs.lemmas.List.Elements.{All-nil}
 use Rattle.tiff_dirs.specs.Texel.{sample_in, greatest_sample}
 use Rattle.tile_layout.specs.Kept.{level_in}
@@ -36,4 +36,4 @@ returns-clause-low g c =
     let none : FitDepth depth c.reserve.new.self.values.items =
     rw (c.reserve.ensures.values, c.new-reading.ensures.values)
     (All-nil (λ sample. sample ≤ greatest_sample depth)) in
-    rw c.format-format.ensures.depth at (c.in_ok-read_place.ensures.low refl none)
+    rw c.format-format.ensures.depth at (c.in_ok-read_place.ensures.low none)

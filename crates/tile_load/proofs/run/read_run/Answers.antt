@@ -12,7 +12,7 @@ read_part-requires-clause-fits g c =
       arith,
       c.requires.fits,
       bytes_within (c.parts.done + c.min.result) c.args.run.now.texels
-          c.args.unpacking.now.format.texel_bytes
+          c.args.format.now.texel_bytes
           (omega (arith, c.min.ensures, c.parts.invariant.within)),
     )
 
@@ -23,7 +23,7 @@ read_part-requires-clause-below g c =
       c.requires.below,
       g.met.B.ByteReader.lawful.same_size _ _ c.parts.invariant.keeps,
       bytes_within (c.parts.done + c.min.result) c.args.run.now.texels
-          c.args.unpacking.now.format.texel_bytes
+          c.args.format.now.texel_bytes
           (omega (arith, c.min.ensures, c.parts.invariant.within)),
     )
 
@@ -41,11 +41,11 @@ parts-init g c = record {
   keeps = g.met.B.ByteReader.lawful.itself c.args.reader.now;
   within = omega arith;
   count = omega arith;
-  low = λ unscaled fit. fit;
+  low = λ fit. fit;
   told = λ bytes told. (
     c.new-window.ensures bytes,
     λ level x_of y_of is stand.
-        appends_none bytes level c.args.unpacking.now x_of y_of c.reserve.new.values.items,
+        appends_none bytes level c.args.format.now x_of y_of c.reserve.new.values.items,
   );
 }
 
@@ -53,7 +53,7 @@ pub parts-preserved : goal.parts-preserved
 parts-preserved g c =
     let before = c.parts.invariant in
     let run = c.args.run.now in
-    let format = c.args.unpacking.now.format in
+    let format = c.args.format.now in
     let n = c.min.result in
     let within : c.parts.done + n ≤ run.texels = omega (arith, c.min.ensures, before.within) in
     let part : Run = record {
@@ -64,7 +64,7 @@ parts-preserved g c =
       keeps = g.met.B.ByteReader.lawful.chains _ _ _ before.keeps c.in_ok-read_part.ensures.reader;
       within = within;
       count = omega (arith, before.count, c.in_ok-read_part.ensures.count);
-      low = λ unscaled fit. c.in_ok-read_part.ensures.low unscaled (before.low unscaled fit);
+      low = λ fit. c.in_ok-read_part.ensures.low (before.low fit);
       told = λ bytes told.
           let so_far = before.told bytes told in
           let still = g.met.B.ByteReader.lawful.same_bytes _ _ before.keeps ∙ told in
@@ -73,7 +73,7 @@ parts-preserved g c =
             λ level x_of y_of is stand.
                 let unit : format.texel_bytes ≡ texel_bytes level.shape =
                 rw (← is.channels, ← is.depth) format.in_range.bytes in
-                appends_more bytes level c.args.unpacking.now part x_of y_of c.parts.done
+                appends_more bytes level c.args.format.now part x_of y_of c.parts.done
                 c.reserve.new.values.items c.parts.values.items c.read_part.new.values.items is unit
                 (part_stands level run part x_of y_of c.parts.done stand within
                 (ap (λ (u : ℕ). run.at + c.parts.done * u) unit))

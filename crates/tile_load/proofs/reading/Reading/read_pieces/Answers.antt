@@ -6,12 +6,12 @@ use Rattle.std.proofs.lemmas.Result.{err_from_is_err_and}
 use Rattle.tiff_dirs.specs.Block.{Level, texel_bytes}
 use Rattle.tile_layout.specs.FormatOf.{IsFormatOf}
 use Rattle.tile_layout.specs.Pieces.{row_texels}
-use Rattle.tile_load.specs.declared.unpacking.Unpacking.{Unpacking}
+use Rattle.tile_layout.specs.declared.texel_format.TexelFormat.{TexelFormat}
 use Rattle.tile_load.specs.Zeros.{AddsTexels, LiesBeyond}
 use Rattle.tile_load.proofs.ZeroTexels.{adds_then, adds_long}
 use Rattle.tile_load.proofs.PieceEnds.{piece_adds, taken_far}
 use Rattle.tile_layout.proofs.WalkLemmas.{length_taken}
-use Rattle.tile_load.specs.LevelRow.{values_at}
+use Rattle.tile_load.specs.Samples.{samples_at}
 use Rattle.tile_load.proofs.Leaves.{leaves_after}
 use Rattle.tile_load.proofs.reading.Reading.read_pieces.Goals as goal
 
@@ -28,10 +28,10 @@ values_taken values old mid new all left row rest parts so_far more =
     ∙ ap (λ (t : List (ℕ × ℕ)). mid ++ flat_map values t) (sym parts) ∙ so_far
 
 -- the bytes of a texel
-unit_of : (unpacking : Unpacking) (level : Level)
-    → IsFormatOf unpacking.format.big level.shape unpacking.format
-    → unpacking.format.texel_bytes ≡ texel_bytes level.shape
-unit_of unpacking level is = rw (← is.channels, ← is.depth) unpacking.format.in_range.bytes
+unit_of : (format : TexelFormat) (level : Level)
+    → IsFormatOf format.big level.shape format
+    → format.texel_bytes ≡ texel_bytes level.shape
+unit_of format level is = rw (← is.channels, ← is.depth) format.in_range.bytes
 
 pub pieces-init : goal.pieces-init
 pieces-init g c = record {
@@ -42,7 +42,7 @@ pieces-init g c = record {
   zeros = λ format last more. more;
   unread = λ format far. (far, refl);
   count = refl;
-  low = λ unscaled fit. fit;
+  low = λ fit. fit;
   told = λ bytes told windows format holds. (windows, refl);
 }
 
@@ -58,7 +58,7 @@ pieces-preserved g c =
       zeros = λ format last more.
           let level = c.args.pieces.now.level in
           let right = c.args.pieces.now.right in
-          let n = c.args.unpacking.now.format.channels in
+          let n = c.args.format.now.channels in
           let far = LiesBeyond level right (g.B.ByteReader.size c.args.reader.now) in
           let row = row_texels c.in-Some.piece.x c.in-Some.piece.y c.in-Some.piece.n in
           let rest = c.next.new.self.texels in
@@ -70,7 +70,7 @@ pieces-preserved g c =
           (rw (before.level, before.right) at takes.lies) n old c.read_piece.new.self.values.items
           (rw (
             g.met.B.ByteReader.lawful.same_size _ _ before.keeps,
-            unit_of c.args.unpacking.now level format,
+            unit_of c.args.format.now level format,
           ) at c.in_ok-read_piece.ensures.count)) more));
       unread = λ format far.
           let level = c.args.pieces.now.level in
@@ -80,7 +80,7 @@ pieces-preserved g c =
           c.args.pieces.now.right len before.level before.right takes so_far.0 in
           let there = rw (
             ← g.met.B.ByteReader.lawful.same_size _ _ before.keeps,
-            ← unit_of c.args.unpacking.now level format,
+            ← unit_of c.args.format.now level format,
           ) at both.0 in (
             both.1,
             c.in_ok-read_piece.ensures.unread there ∙ so_far.1,
@@ -88,13 +88,13 @@ pieces-preserved g c =
       count = omega (
         arith,
         before.count,
-        adds_long (c.in-Some.piece.n * c.args.unpacking.now.format.channels)
+        adds_long (c.in-Some.piece.n * c.args.format.now.channels)
             c.pieces.self.values.items c.read_piece.new.self.values.items
             c.in_ok-read_piece.ensures.count,
-        ap (λ n. n * c.args.unpacking.now.format.channels)
+        ap (λ n. n * c.args.format.now.channels)
             (length_taken c.pieces.pieces c.in-Some.piece c.next.new.self takes),
       );
-      low = λ unscaled fit. c.in_ok-read_piece.ensures.low unscaled (before.low unscaled fit);
+      low = λ fit. c.in_ok-read_piece.ensures.low (before.low fit);
       told = λ bytes told windows format holds.
           let so_far = before.told bytes told windows format holds in
           let still = g.met.B.ByteReader.lawful.same_bytes _ _ before.keeps ∙ told in
@@ -102,7 +102,7 @@ pieces-preserved g c =
           let lies = rw before.level at takes.lies in
           let read = c.in_ok-read_piece.ensures.told bytes still level c.pieces.pieces.right
           so_far.0 format lies holds in
-          let values = values_at c.args.unpacking.now.format.big bytes level c.args.unpacking.now.scaled in (
+          let values = samples_at c.args.format.now.big bytes level in (
             read.0,
             values_taken values c.args.self.now.values.items c.pieces.self.values.items
                 c.read_piece.new.self.values.items c.args.pieces.now.texels
@@ -115,8 +115,7 @@ pieces-preserved g c =
 pub returns-clause-told : goal.returns-clause-told
 returns-clause-told g c = λ bytes told windows format holds.
     let so_far = c.pieces.invariant.told bytes told windows format holds in
-    let values = values_at c.args.unpacking.now.format.big bytes c.args.pieces.now.level
-    c.args.unpacking.now.scaled in (
+    let values = samples_at c.args.format.now.big bytes c.args.pieces.now.level in (
       so_far.0,
       sym (append-nil c.pieces.self.values.items)
           ∙ ap (λ (t : List (ℕ × ℕ)). c.pieces.self.values.items ++ flat_map values t)
@@ -140,7 +139,7 @@ returns-clause-zeros g c = λ format.
     (g.B.ByteReader.size c.args.reader.now) in
     c.pieces.invariant.zeros format old
     (subst
-    (λ (ts : List (ℕ × ℕ)). AddsTexels far c.args.unpacking.now.format.channels ts old old)
+    (λ (ts : List (ℕ × ℕ)). AddsTexels far c.args.format.now.channels ts old old)
     (sym c.in_default.ensures.steps.0) refl)
 
 pub returns-in_err-read_piece-clause-unread : goal.returns-in_err-read_piece-clause-unread
@@ -153,6 +152,6 @@ returns-in_err-read_piece-clause-unread g c = λ format far.
     c.in-Some.ensures.steps so_far.0 in
     let there = rw (
       ← g.met.B.ByteReader.lawful.same_size _ _ before.keeps,
-      ← unit_of c.args.unpacking.now level format,
+      ← unit_of c.args.format.now level format,
     ) at both.0 in
     c.in_err-read_piece.ensures.unread there ∙ so_far.1

@@ -3,9 +3,9 @@ use Rattle.std.specs.Option.{ForSome}
 use Rattle.std.specs.List.{flat_map, All}
 use Rattle.tile_layout.specs.FormatOf.{IsFormatOf}
 use Rattle.tile_layout.specs.Blocks.{HoldsBlocks}
-use Rattle.tile_load.specs.LevelRow.{values_at}
+use Rattle.tile_load.specs.Samples.{samples_at}
 use Rattle.tile_load.specs.Zeros.{AddsTexels, LiesBeyond}
-use Rattle.tile_load.specs.SampleValue.{KeepsDepth}
+use Rattle.tile_load.specs.Unpacked.{KeepsDepth}
 use Rattle.tile_load.specs.Window.{AreWindows}
 use Rattle.tile_load.proofs.reading.Reading.read_pieces.Given as goal
 
@@ -16,32 +16,32 @@ invariant-pieces g l = record {
   some : l.k ≤ length l.self.windows.items;
   level : l.pieces.level ≡ l.initial.pieces.level;
   right : l.pieces.right ≡ l.initial.pieces.right;
-  zeros : IsFormatOf l.unpacking.format.big l.initial.pieces.level.shape l.unpacking.format
+  zeros : IsFormatOf l.format.big l.initial.pieces.level.shape l.format
       → (last : List ℕ)
       → AddsTexels (LiesBeyond l.initial.pieces.level l.initial.pieces.right
-      (g.B.ByteReader.size l.initial.reader)) l.unpacking.format.channels
+      (g.B.ByteReader.size l.initial.reader)) l.format.channels
       l.pieces.texels l.self.values.items last
       → AddsTexels (LiesBeyond l.initial.pieces.level l.initial.pieces.right
-      (g.B.ByteReader.size l.initial.reader)) l.unpacking.format.channels
+      (g.B.ByteReader.size l.initial.reader)) l.format.channels
       l.initial.pieces.texels l.initial.self.values.items last;
-  unread : IsFormatOf l.unpacking.format.big l.initial.pieces.level.shape l.unpacking.format
+  unread : IsFormatOf l.format.big l.initial.pieces.level.shape l.format
       → All (LiesBeyond l.initial.pieces.level l.initial.pieces.right
       (g.B.ByteReader.size l.initial.reader)) l.initial.pieces.texels
       → All (LiesBeyond l.initial.pieces.level l.initial.pieces.right
       (g.B.ByteReader.size l.initial.reader)) l.pieces.texels
       × (l.reader ≡ l.initial.reader);
-  count : length l.self.values.items + length l.pieces.texels * l.unpacking.format.channels
+  count : length l.self.values.items + length l.pieces.texels * l.format.channels
       ≡ length l.initial.self.values.items
-      + length l.initial.pieces.texels * l.unpacking.format.channels;
-  low : KeepsDepth l.unpacking l.initial.self.values.items l.self.values.items;
+      + length l.initial.pieces.texels * l.format.channels;
+  low : KeepsDepth l.format l.initial.self.values.items l.self.values.items;
   told : ForSome (g.B.ByteReader.bytes l.initial.reader) (λ bytes.
       AreWindows bytes l.initial.self.windows.items
-      → IsFormatOf l.unpacking.format.big l.initial.pieces.level.shape l.unpacking.format
+      → IsFormatOf l.format.big l.initial.pieces.level.shape l.format
       → HoldsBlocks bytes l.initial.pieces.level
       → AreWindows bytes l.self.windows.items × (l.self.values.items
-      ++ flat_map (values_at l.unpacking.format.big bytes l.initial.pieces.level l.unpacking.scaled) l.pieces.texels
+      ++ flat_map (samples_at l.format.big bytes l.initial.pieces.level) l.pieces.texels
       ≡ l.initial.self.values.items
-      ++ flat_map (values_at l.unpacking.format.big bytes l.initial.pieces.level l.unpacking.scaled) l.initial.pieces.texels));
+      ++ flat_map (samples_at l.format.big bytes l.initial.pieces.level) l.initial.pieces.texels));
 }
 
 abbrev pub decreases-pieces : goal.decreases-pieces

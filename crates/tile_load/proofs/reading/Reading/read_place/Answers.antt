@@ -15,7 +15,7 @@ pub returns-in-Some-clause-count : goal.returns-in-Some-clause-count
 returns-in-Some-clause-count g c =
     let read : OnOk c.read_run.result (length c.read_run.new.values.items
     ≡ length c.args.self.now.values.items
-    + c.in-Some.run'.texels * c.args.unpacking.now.format.channels) =
+    + c.in-Some.run'.texels * c.args.format.now.channels) =
     c.read_run.ensures.count in
     rw c.in-Some.ensures.texels at read
 
@@ -23,16 +23,16 @@ pub returns-in-Some-clause-told : goal.returns-in-Some-clause-told
 returns-in-Some-clause-told g c = λ bytes told windows holds.
     let place = c.args.place.now in
     let level = level_in place.layout.now place.level in
-    let unpacking = c.args.unpacking.now in
+    let format = c.args.format.now in
     let rect = place.rect in
     let run = c.in-Some.run' in
     let whole = c.in-Some.ensures.whole in
     let count : run.texels ≡ rect.w * rect.h = c.in-Some.ensures.texels in
-    let own = own_order place.layout.now.big level.shape unpacking.format c.requires in
+    let own = own_order place.layout.now.big level.shape format c.requires in
     on_ok c.read_run.result
     (λ more. (
       windows,
-      rw c.requires.order at (rect_appended bytes level unpacking rect
+      rw c.requires.order at (rect_appended bytes level format rect
           c.args.self.now.values.items c.read_run.new.values.items (rw count at more)),
     ))
     (c.read_run.ensures.told bytes told level (column_of rect) (row_of rect) own
@@ -45,7 +45,7 @@ returns-in-None-clause-count g c =
     ap (λ (w : Walk). length w.texels) c.pieces-pieces.ensures.value ∙ length-rect_texels rect in
     let read : OnOk c.read_pieces.result (length c.read_pieces.new.self.values.items
     ≡ length c.args.self.now.values.items
-    + length c.pieces-pieces.result.texels * c.args.unpacking.now.format.channels) =
+    + length c.pieces-pieces.result.texels * c.args.format.now.channels) =
     c.read_pieces.ensures.count in
     rw texels at read
 
@@ -53,7 +53,7 @@ pub returns-in-None-clause-told : goal.returns-in-None-clause-told
 returns-in-None-clause-told g c = λ bytes told windows holds.
     let place = c.args.place.now in
     let level = level_in place.layout.now place.level in
-    let format = own_order place.layout.now.big level.shape c.args.unpacking.now.format c.requires in
+    let format = own_order place.layout.now.big level.shape c.args.format.now c.requires in
     let walk = c.pieces-pieces.ensures.value in
     let level_is = ap (λ (w : Walk). w.level) walk in
     let read = c.read_pieces.ensures.told bytes told windows (rw level_is format)
@@ -67,7 +67,7 @@ returns-in-Some-clause-zeros g c =
     let level = level_in place.layout.now place.level in
     let len = g.B.ByteReader.size c.args.reader.now in
     let run = c.in-Some.run' in
-    let low = below_of_run c.args.unpacking.now.format place.layout.now.big level place.rect run len
+    let low = below_of_run c.args.format.now place.layout.now.big level place.rect run len
     c.requires c.in-Some.ensures.whole c.in-Some.ensures.texels
     (rw c.len.ensures at c.in-Some.ensures.below) in
     let none : AddsZeros level len place.rect c.args.self.now.values.items c.read_run.new.values.items =
@@ -80,7 +80,7 @@ returns-in-Some-clause-unread g c = λ filled far.
     let level = level_in place.layout.now place.level in
     let len = g.B.ByteReader.size c.args.reader.now in
     let run = c.in-Some.run' in
-    let low = below_of_run c.args.unpacking.now.format place.layout.now.big level place.rect run len
+    let low = below_of_run c.args.format.now place.layout.now.big level place.rect run len
     c.requires c.in-Some.ensures.whole c.in-Some.ensures.texels
     (rw c.len.ensures at c.in-Some.ensures.below) in
     absurd (omega (arith, low 0 0 filled.wide filled.high, far 0 0 filled.wide filled.high))
@@ -89,14 +89,14 @@ pub returns-in-None-clause-zeros : goal.returns-in-None-clause-zeros
 returns-in-None-clause-zeros g c =
     let place = c.args.place.now in
     let level = level_in place.layout.now place.level in
-    let format = own_order place.layout.now.big level.shape c.args.unpacking.now.format c.requires in
+    let format = own_order place.layout.now.big level.shape c.args.format.now c.requires in
     let walk = c.pieces-pieces.ensures.value in
     let level_is = ap (λ (w : Walk). w.level) walk in
     let read = c.read_pieces.ensures.zeros (rw level_is format) in
     let adds = rw walk at read in
     on_ok c.read_pieces.result
     (λ more. rect_adds level (g.B.ByteReader.size c.args.reader.now) place.rect
-    c.args.unpacking.now.format.channels c.args.self.now.values.items
+    c.args.format.now.channels c.args.self.now.values.items
     c.read_pieces.new.self.values.items c.requires.channels more) adds
 
 pub returns-in-None-clause-unread : goal.returns-in-None-clause-unread
@@ -104,7 +104,7 @@ returns-in-None-clause-unread g c = λ filled beyond.
     let place = c.args.place.now in
     let level = level_in place.layout.now place.level in
     let len = g.B.ByteReader.size c.args.reader.now in
-    let format = own_order place.layout.now.big level.shape c.args.unpacking.now.format c.requires in
+    let format = own_order place.layout.now.big level.shape c.args.format.now c.requires in
     let walk = c.pieces-pieces.ensures.value in
     let level_is = ap (λ (w : Walk). w.level) walk in
     c.read_pieces.ensures.unread (rw level_is format)

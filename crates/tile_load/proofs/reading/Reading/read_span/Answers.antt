@@ -2,7 +2,7 @@ use Rattle.std.proofs.Common.{◌≡◌, ℕ, ◌*◌, List, ◌++◌, length, m
 use Rattle.std.specs.List.{range_with_len}
 use Rattle.std.proofs.lemmas.List.FromFn.{length-map-range_with_len}
 use Rattle.tiff_dirs.specs.Block.{sample_bytes, texel_bytes}
-use Rattle.tile_load.specs.SampleValue.{unpacked_value}
+use Rattle.tile_load.specs.Unpacked.{unpacked}
 use Rattle.tile_load.proofs.PieceValues.{piece_values}
 use Rattle.tile_load.proofs.Windows.{window_at, window_set}
 use Rattle.tile_load.proofs.reading.Reading.read_span.Goals as goal
@@ -14,7 +14,7 @@ samples_of n unit channels size is = rw is (omega arith)
 
 pub returns-clause-told : goal.returns-clause-told
 returns-clause-told g c = λ bytes told level right windows is lies.
-    let format = c.args.unpacking.now.format in
+    let format = c.args.format.now in
     let piece = c.args.piece.now in
     let span = c.piece.result.now in
     let list = c.args.self.now.windows.items in
@@ -27,19 +27,19 @@ returns-clause-told g c = λ bytes told level right windows is lies.
     c.piece.ensures.long ∙ c.span_of-span.ensures.size
     ∙ samples_of piece.n format.texel_bytes level.shape.channels (sample_bytes level.shape.depth)
     unit in
-    let values : ℕ → ℕ = unpacked_value c.args.unpacking.now span in (
+    let values : ℕ → ℕ = unpacked c.args.format.now span in (
       window_set bytes list c.args.k c.fill.new.self windows new,
       c.in_ok-push_samples.ensures.values
           ∙ ap (λ (v : List ℕ). c.args.self.now.values.items ++ v)
           (ap (λ (n : ℕ). map values (range_with_len 0 (piece.n * n))) is.channels
-          ∙ piece_values format.big bytes level c.args.unpacking.now is right piece lies span
+          ∙ piece_values format.big bytes level c.args.format.now is right piece lies span
           (rw c.span_of-span.ensures.at at (c.piece.ensures.told bytes new)) long),
     )
 
 pub returns-clause-count : goal.returns-clause-count
 returns-clause-count g c =
-    let count = c.args.piece.now.n * c.args.unpacking.now.format.channels in
-    let value : ℕ → ℕ = unpacked_value c.args.unpacking.now c.piece.result.now in
+    let count = c.args.piece.now.n * c.args.format.now.channels in
+    let value : ℕ → ℕ = unpacked c.args.format.now c.piece.result.now in
     record {
       added = map value (range_with_len 0 count);
       behind = c.in_ok-push_samples.ensures.values;

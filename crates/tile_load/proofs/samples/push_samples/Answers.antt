@@ -4,16 +4,16 @@ use Rattle.std.specs.List.{range_with_len}
 use Rattle.std.proofs.Math.Seq.{take-append_seam}
 use Rattle.std.proofs.lemmas.List.Elements.{All-same}
 use Rattle.tiff_dirs.specs.Texel.{greatest_sample}
-use Rattle.tile_load.specs.SampleValue.{unpacked_value}
+use Rattle.tile_load.specs.Unpacked.{unpacked}
 use Rattle.tile_load.proofs.Appended.{is_appended}
 use Rattle.tile_load.proofs.SampleValues.{fit_appended}
-use Rattle.tile_load.proofs.sample_values.push_samples.Goals as goal
+use Rattle.tile_load.proofs.samples.push_samples.Goals as goal
 
 pub returns-clause-values : goal.returns-clause-values
 returns-clause-values c =
-    let value : ℕ → ℕ = unpacked_value c.args.unpacking.now c.args.bytes.now in
-    let old = c.args.values.now.items in
-    let new = c.unpack_behind.new.values in
+    let value : ℕ → ℕ = unpacked c.args.format.now c.args.bytes.now in
+    let old = c.args.samples.now.items in
+    let new = c.unpack_behind.new.samples in
     let rest = drop (length new) c.resize.new.self.items in
     let all : c.resize.new.self.len ≡ length new = omega arith in
     let long : length new ≡ length old + c.args.count =
@@ -28,15 +28,15 @@ returns-clause-values c =
     ∙ c.unpack_behind.ensures.values k (omega arith))
 
 pub returns-clause-low : goal.returns-clause-low
-returns-clause-low c = λ unscaled fit.
-    let unpacking = c.args.unpacking.now in
-    let value : ℕ → ℕ = unpacked_value unpacking c.args.bytes.now in
-    let old = c.args.values.now.items in
-    let new = c.unpack_behind.new.values in
+returns-clause-low c = λ fit.
+    let format = c.args.format.now in
+    let value : ℕ → ℕ = unpacked format c.args.bytes.now in
+    let old = c.args.samples.now.items in
+    let new = c.unpack_behind.new.samples in
     let long : length new ≡ length old + c.args.count =
     omega (arith, c.in_ok-resize.ensures.len, c.len-old.ensures) in
-    All-same (λ sample. sample ≤ greatest_sample unpacking.format.depth) _
+    All-same (λ sample. sample ≤ greatest_sample format.depth) _
     (old ++ map value (range_with_len 0 c.args.count)) (returns-clause-values c)
-    (fit_appended unpacking.format.depth old value c.args.count fit (λ k lt.
+    (fit_appended format.depth old value c.args.count fit (λ k lt.
     let below : c.len-old.result + k < length new = omega (arith, c.len-old.ensures, long) in
-    rw (← c.unpack_behind.ensures.values k below) (c.unpack_behind.ensures.low unscaled k below)))
+    rw (← c.unpack_behind.ensures.values k below) (c.unpack_behind.ensures.low k below)))
