@@ -62,3 +62,15 @@ pub(crate) fn cache_of<T: Tap>(
         Err(_refused) => Err("no cache".into()),
     }
 }
+
+/// A second pass of a cache.
+pub(crate) fn second_of<T: Tap>(cache: &Cache<T>, pass: &mut Pass<T::W>) -> Result<Pass<T::W>, Fail>
+    requires { IsPassOf cache.now pass.old }
+    ensures pass { IsPassOf cache.now pass.new }
+    ensures second { IfOk result (IsPassOf cache.now) }
+{
+    match cache.split(pass) {
+        Ok(second) => Ok(second),
+        Err(_refused) => Err("not split".into()),
+    }
+}

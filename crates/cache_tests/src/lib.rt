@@ -1,6 +1,6 @@
 //! Tests of the cache and of lookups through it. Over a real folder: values and counts of fetches.
-//! Over files in memory: regions, holds, records and lookups, the refusals of each call, passes
-//! that are split and joined, and two threads. Options, and what refusals are called.
+//! Over files in memory: regions, holds, records and lookups, the refusals of each call, a pass
+//! that ends in another, and two threads. Options, and what refusals are called.
 #![tactic(auto)]
 
 #[cfg(test)]
@@ -18,6 +18,8 @@ mod lookups;
 #[cfg(test)]
 mod opened;
 #[cfg(test)]
+mod passes;
+#[cfg(test)]
 mod pictures;
 #[cfg(test)]
 mod planned;
@@ -33,6 +35,8 @@ mod rows;
 mod small_files;
 #[cfg(test)]
 mod steps;
+#[cfg(test)]
+mod threads;
 #[cfg(test)]
 mod unread;
 #[cfg(test)]

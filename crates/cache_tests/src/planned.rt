@@ -37,10 +37,12 @@ pub(crate) const RISING: usize = 6;
 /// Its first read of the second tile of `B` fails.
 pub(crate) const BROKEN: usize = 7;
 
-// The byte at which the samples of `A` begin, and the second tile of `B`.
+// The byte at which the samples of `A` begin, and two tiles of `B`.
 const SAMPLES: u64 = 122;
 
 const SECOND_TILE: u64 = 12472;
+
+const LAST_TILE: u64 = 37048;
 
 // A byte of the number of entries of `A`.
 const ENTRIES: u64 = 9;
@@ -51,6 +53,18 @@ pub(crate) const ONE_SHARD: Options = Options {
     shards: 1,
     passes: 2,
     handles: 4,
+    cut: Cut {
+        autotile: 64,
+        automip: false,
+    },
+};
+
+/// One shard, in which no tile stays without a pin, and one idle handle.
+pub(crate) const NO_BYTES: Options = Options {
+    budget: 0,
+    shards: 1,
+    passes: 2,
+    handles: 1,
     cut: Cut {
         autotile: 64,
         automip: false,
@@ -98,6 +112,21 @@ pub(crate) fn taps_of(alloc: Global) -> Result<Vec<MemTap<SmallFiles>>, Fail> {
         taps.push(folder.tap(alloc)?)?;
     }
     Ok(taps)
+}
+
+/// Two taps. Each meets generation 2 of `B` where it first reads its last tile, and the newest
+/// generation of `A` is 2 for the second.
+pub(crate) fn pair_of(alloc: Global) -> Result<(MemTap<SmallFiles>, MemTap<SmallFiles>), Fail> {
+    let mut plan = Plan::new(alloc);
+    plan.rises.push(rise(0, B, LAST_TILE))?;
+    plan.rises.push(rise(1, B, LAST_TILE))?;
+    plan.newest.push(Newest {
+        tap: 1,
+        file: A,
+        generation: 2,
+    })?;
+    let mut folder = MemFolder::<SmallFiles>::new(plan);
+    Ok((folder.tap(alloc)?, folder.tap(alloc)?))
 }
 
 // How many steps the first caller of a new cache of five files meets, up to the first that it does

@@ -10,8 +10,8 @@ use texel_filter::{MAX_CHANNELS, TexRequest};
 use texture_sys::{texture, texture_local};
 use waiter::Waiter;
 
-/// A pass of a cache of five files and so many shards, the taps that it may use, and the values that
-/// its latest call left.
+/// A pass of a cache of five files and so many shards, the taps that it may use, and the values
+/// that its latest call left.
 #[derive(Drop)]
 pub(crate) struct Worker<'a, T: Tap> {
     pub(crate) cache: &'a Cache<T>,
