@@ -14,3 +14,7 @@ abbrev pub file_names : List (List ℕ)
 file_names =
     codes "A.tif" ∷ codes "B.tif" ∷ codes "low.tif" ∷ codes "seam.tif"
     ∷ codes "two.tif" ∷ codes "1 2" ∷ with_return ∷ with_umlaut ∷ []
+
+-- the file of the lists on a large one
+abbrev pub huge_names : List (List ℕ)
+huge_names = codes "huge.tif" ∷ []

@@ -35,8 +35,12 @@ fn values(alloc: Global, items: &[u16]) -> Result<Values, AllocError> {
     Ok(Values::new(Vec::from_slice(alloc, items)?))
 }
 
-fn shards(alloc: Global, counts: &[ShardCount]) -> Result<Shards, AllocError> {
-    Ok(Shards::new(Vec::from_slice(alloc, counts)?))
+fn shards(alloc: Global, counts: &[ShardCount]) -> Result<Shards, Fail> {
+    let counts = Vec::from_slice(alloc, counts)?;
+    if counts.len() > 64 {
+        return Err("too many shards".into());
+    }
+    Ok(Shards::new(counts))
 }
 
 /// The generation and the values of a lookup, and its line.

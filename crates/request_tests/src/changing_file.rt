@@ -78,38 +78,45 @@ impl<R: Files<File = File>> Write for Painter<R> {
 /// than what waits before it is put. So the file changes before the second round.
 const WIDE: &str = "pixels 0 0 0 1024 64 tall.tif\nsync\n";
 
-/// Its text, and that of the end of the round.
-fn wide_text(alloc: Global) -> Result<String, AllocError> {
+/// The values of the first cell's rows, 1024 texels wide.
+fn push_rows(alloc: Global, text: &mut String) -> Result<(), AllocError> {
     let beside = " 0".repeat(alloc, 1021)?;
-    let mut text = String::from_str(alloc, "pixels 1 1")?;
     for row in 0..64u32 {
         let first = row * 771;
         let part = format!(in alloc; " {first} {} {}{beside}", first + 257, first + 514)?;
         text.push_str(&part)?;
     }
+    Ok(())
+}
+
+/// The text of that line, and of the end of the round.
+fn wide_text(alloc: Global) -> Result<String, AllocError> {
+    let mut text = String::from_str(alloc, "pixels 1 1")?;
+    push_rows(alloc, &mut text)?;
     text.push_str("\nsync\n")?;
     Ok(text)
 }
 
-/// What is written for a list, whose file changes so before its second round.
+/// What is written for a list, whose file, in a folder of its own, changes so before its second
+/// round.
 fn written(
     rt: &HostRuntime,
     waits: &impl Wait,
+    (folder, path): (&'static str, &'static str),
     change: Change,
-    more: &str,
+    list: &str,
 ) -> Result<(Vec<u8>, u8), Fail> {
     let alloc = rt.alloc();
-    fs::create_dir(rt, "painted")?;
-    fs::write(rt, "painted/tall.tif", &tall(alloc, 0, 0)?)?;
+    fs::create_dir(rt, folder)?;
+    fs::write(rt, path, &tall(alloc, 0, 0)?)?;
     let mut painter = Painter {
         rt,
-        path: "painted/tall.tif",
+        path,
         change: Some(change),
         taken: Vec::new(alloc),
     };
-    let list = format!(in alloc; "{WIDE}{more}")?;
     let mut words = Vec::new(alloc);
-    words.push(String::from_str(alloc, "painted")?)?;
+    words.push(String::from_str(alloc, folder)?)?;
 
     let mut folder = RealFolder::new(rt);
     let mut feed = RealFeed::new(list.as_bytes());
@@ -126,9 +133,17 @@ fn written(
 #[test]
 fn lines_name_the_generation_that_they_were_read_from(rt: HostRuntime) -> Result<(), Fail> {
     let alloc = rt.alloc();
-    let list = "pixels 0 1 0 2 1 tall.tif\npixels 0 0 64 1 1 two.tif\npixels 0 0 64 2 1 tall.tif\n\
-         pixels 0 0 64 2 1 tall.tif\npixels 0 1 0 2 1 tall.tif\n";
-    let (taken, status) = written(&rt, &rt, Change::Painted(tall(alloc, 40, 1)?), list)?;
+    let list = format!(in alloc;
+        "{WIDE}pixels 0 1 0 2 1 tall.tif\npixels 0 0 64 1 1 two.tif\npixels 0 0 64 2 1 tall.tif\n\
+         pixels 0 0 64 2 1 tall.tif\npixels 0 1 0 2 1 tall.tif\n"
+    )?;
+    let (taken, status) = written(
+        &rt,
+        &rt,
+        ("painted", "painted/tall.tif"),
+        Change::Painted(tall(alloc, 40, 1)?),
+        &list,
+    )?;
     assert!(rt; status == 1);
     let mut text = wide_text(alloc)?;
     // the samples 1 and 2; 192 + 40 and 193 + 40; 41 and 42
@@ -143,11 +158,49 @@ fn lines_name_the_generation_that_they_were_read_from(rt: HostRuntime) -> Result
 #[test]
 fn what_is_read_of_a_removed_file_is_a_fault(rt: HostRuntime) -> Result<(), Fail> {
     let alloc = rt.alloc();
-    let list = "pixels 0 1 0 2 1 tall.tif\npixels 0 0 64 2 1 tall.tif\ninfo tall.tif\n";
-    let (taken, status) = written(&rt, &rt, Change::Removed, list)?;
+    let list = format!(in alloc;
+        "{WIDE}pixels 0 1 0 2 1 tall.tif\npixels 0 0 64 2 1 tall.tif\ninfo tall.tif\n"
+    )?;
+    let (taken, status) = written(
+        &rt,
+        &rt,
+        ("removed", "removed/tall.tif"),
+        Change::Removed,
+        &list,
+    )?;
     assert!(rt; status == 1);
     let mut text = wide_text(alloc)?;
     text.push_str("pixels 1 1 257 514\nread fault\ninfo 1 3 70 1 8 1 1\n")?;
+    assert!(rt; taken.as_slice() == text.as_bytes());
+    Ok(())
+}
+
+/// A region of the largest size, beside the level.
+const BESIDE: &str = "pixels 0 2000 2000 1024 1024 tall.tif\n";
+
+// A round has four of the largest regions. The fourth lies on the first cell with its last rows; the
+// fifth lies on the second cell, and is answered when the file has changed.
+#[test]
+fn a_round_has_four_large_regions(rt: HostRuntime) -> Result<(), Fail> {
+    let alloc = rt.alloc();
+    let list = format!(in alloc;
+        "{BESIDE}{BESIDE}{BESIDE}pixels 0 0 -960 1024 1024 tall.tif\n\
+         pixels 0 0 64 1024 1024 tall.tif\n"
+    )?;
+    let (taken, status) = written(
+        &rt,
+        &rt,
+        ("large", "large/tall.tif"),
+        Change::Painted(tall(alloc, 40, 1)?),
+        &list,
+    )?;
+    assert!(rt; status == 1);
+    let zeros = " 0".repeat(alloc, 1024 * 1024)?;
+    let above = " 0".repeat(alloc, 1024 * 960)?;
+    let beside = format!(in alloc; "pixels 1 1{zeros}\n")?;
+    let mut text = format!(in alloc; "{beside}{beside}{beside}pixels 1 1{above}")?;
+    push_rows(alloc, &mut text)?;
+    text.push_str("\nagain 1 2\n")?;
     assert!(rt; taken.as_slice() == text.as_bytes());
     Ok(())
 }

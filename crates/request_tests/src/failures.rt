@@ -171,12 +171,18 @@ type Reads = (&'static str, &'static str, u64);
 /// How many calls, by what they are for: two open the file and read its header; two of each
 /// directory read its count, and its entries with the next offset; one is for each reading of
 /// values that stand apart; one opens the file for its cells; and the last ones read the cells that
-/// the region meets, rows of one strip or tile at once.
+/// the request needs, rows of one strip or tile at once.
 static READS: &[Reads] = &[
     (
         // All rows of the cell lie in one strip.
         "pixels 0 1 0 2 2 A.tif",
         "pixels 1 1 257 514 4369 4626",
+        2 + 2 + 1 + 1,
+    ),
+    (
+        // A lookup of four texels of that cell.
+        "tex 32768 32768 0 clamp clamp bilinear 1 A.tif",
+        "tex 1 6554",
         2 + 2 + 1 + 1,
     ),
     (

@@ -12,6 +12,8 @@ mod changing_file;
 #[cfg(test)]
 mod failures;
 #[cfg(test)]
+mod huge_file;
+#[cfg(test)]
 mod letters;
 #[cfg(test)]
 mod lines;

@@ -110,7 +110,7 @@ fn failing_put(failing: Failing) -> Option<u64> {
 }
 
 /// Runs a list under these words over the files of a table.
-fn run_words<T: FileTable>(
+pub(crate) fn run_words<T: FileTable>(
     waits: &impl Wait,
     alloc: Global,
     words: &[&str],

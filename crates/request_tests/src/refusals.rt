@@ -33,19 +33,35 @@ fn refuses_words(rt: HostRuntime) -> Result<(), Fail> {
     Ok(())
 }
 
-/// Options, which have no effect yet.
+/// Words of a run. However little memory and however few handles they ask for, the answers are the
+/// same.
 static WORDS: &[&[&str]] = &[
     &["-"],
     &["--shards=2", "--", "-x"],
     &["--workers", "1", ".", "--no-automip"],
     &["--budget=0", "--handles", "1024", "--autotile=4096", "."],
+    &["--budget=0", "--shards=1", "--handles=1", "."],
 ];
+
+/// A region on four tiles, a texel of each of two files, and the region's last texel.
+const READ: &[u8] = b"pixels 0 63 31 2 2 B.tif\n\
+    pixels 0 3 3 1 1 A.tif\n\
+    tex 65535 65535 0 clamp clamp closest 2 B.tif\n\
+    info A.tif\n\
+    pixels 0 64 32 1 1 B.tif\n";
+
+const READ_TEXT: &str =
+    "pixels 1 3 3163 23163 43163 3164 23164 43164 3263 23263 43263 3264 23264 43264\n\
+    pixels 1 1 13107\n\
+    tex 1 4779 24779\n\
+    info 1 4 4 1 8 1 1\n\
+    pixels 1 3 3264 23264 43264\n";
 
 #[test]
 fn takes_words(rt: HostRuntime) -> Result<(), Fail> {
     for words in WORDS {
-        let ran = run_bytes(&rt, rt.alloc(), words, b"info A.tif\n")?;
-        ran.is_calmly(&rt, "info 1 4 4 1 8 1 1\n", 0, "the words");
+        let ran = run_bytes(&rt, rt.alloc(), words, READ)?;
+        ran.is_calmly(&rt, READ_TEXT, 0, "the words");
     }
     Ok(())
 }
