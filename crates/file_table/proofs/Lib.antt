@@ -1,2 +1,2 @@
-mod GridLemmas
+mod KnownLevels
 mod IdleLemmas

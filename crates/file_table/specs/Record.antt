@@ -2,15 +2,18 @@
 use Rattle.std.specs.Prelude.{◌≡◌, ◌↔◌, ℕ, ◌<◌, ◌≤◌, Bool, IsTrue, List, length, slice_index_or}
 use Rattle.std.specs.Prelude.{Result, Ok, Err, IfOk, IsOkAnd}
 use Rattle.std.specs.Option.{ForSome, option_map_or}
-use Rattle.tex_world.specs.World.{Files, IsReal}
+use Rattle.tex_world.specs.World.{Files, IsReal, max_files}
+use Rattle.tiff_dirs.specs.Facts.{IsChannelCount}
 use Rattle.tiff_dirs.specs.Level.{first_fault, max_levels}
 use Rattle.tiff_dirs.specs.declared.fault.TiffFault.{TiffFault}
 use Rattle.tile_layout.specs.declared.cut.Cut.{Cut}
 use Rattle.tile_layout.specs.declared.grid.Grid.{Grid}
 use Rattle.tile_layout.specs.Kept.{Kept, kept_of}
 use Rattle.tile_layout.specs.Level.{level_count_in}
-use Rattle.tile_layout.specs.Cell.{cut_level_in, CellsFit}
+use Rattle.tile_layout.specs.Key.{index_of, HasParts}
+use Rattle.tile_layout.specs.Cell.{cut_level_in, channels_in, bit_depth_in, CellsFit}
 use Rattle.tile_layout.specs.Grid.{shown_grid}
+use Rattle.file_table.specs.declared.known_level.KnownLevel.{KnownLevel}
 
 -- The file and the generation that it is of, the cut that it is used under, and what is kept of
 -- those bytes, or their fault.
@@ -59,13 +62,31 @@ CutsLevel state l grid =
 abbrev pub TellsFit : RecordState → Bool → Type 0
 TellsFit state fits = IsTrue fits ↔ IsOkAnd state.layout (λ kept. CellsFit kept state.cut)
 
--- these are the levels of what is kept of a file, as a cut cuts them
-pub record AreGridsOf (kept : Kept) (cut : Cut) (grids : List Grid) : Type 0 where
-  pub count : length grids ≡ level_count_in kept cut.automip
-  pub each : (l : ℕ) (d : Grid) → l < length grids
-      → shown_grid (slice_index_or grids l d) ≡ cut_level_in kept cut l
+-- What is kept of a level is so: it is cut as the cut cuts it, its first cell has this key, and its
+-- texels have these samples. A key has room for the numbers of so many files as a folder can have.
+pub record IsLevelOf (file generation : ℕ) (cut : Cut) (kept : Kept) (l : ℕ) (level : KnownLevel)
+    : Type 0 where
+  pub grid : shown_grid level.grid ≡ cut_level_in kept cut l
+  pub first : index_of level.first ≡ 0
+  pub key : file < max_files → HasParts generation file l 0 level.first
+  pub channels : level.channels ≡ channels_in kept
+  pub samples : IsChannelCount level.channels
+  pub depth : level.depth ≡ bit_depth_in kept
+
+-- the same of a level of a record
+abbrev pub TellsLevel : RecordState → ℕ → KnownLevel → Type 0
+TellsLevel state l level =
+    IfOk state.layout (λ kept. IsLevelOf state.file state.generation state.cut kept l level)
+
+-- these are the levels that the file has under the cut
+pub record AreLevelsOf (file generation : ℕ) (cut : Cut) (kept : Kept) (levels : List KnownLevel)
+    : Type 0 where
+  pub count : length levels ≡ level_count_in kept cut.automip
+  pub each : (l : ℕ) (d : KnownLevel) → l < length levels
+      → IsLevelOf file generation cut kept l (slice_index_or levels l d)
 
 -- the levels of a file without fault, and never more than a file can have
-pub record HasGrids (state : RecordState) (grids : List Grid) : Type 0 where
-  pub few : length grids ≤ max_levels
-  pub levels : IfOk state.layout (λ kept. AreGridsOf kept state.cut grids)
+pub record HasLevels (state : RecordState) (levels : List KnownLevel) : Type 0 where
+  pub few : length levels ≤ max_levels
+  pub are : IfOk state.layout (λ kept.
+      AreLevelsOf state.file state.generation state.cut kept levels)

@@ -1,18 +1,23 @@
 ghost use Rattle.std.specs.Prelude.{◌≡◌, ℕ, ◌<◌, ◌≤◌, length, Ok, Err, MatchResult, IfOk};
 ghost use Rattle.std.specs.Option.{ForSome};
-ghost use Rattle.tex_world.specs.World.{IsReal};
+ghost use Rattle.tex_world.specs.World.{IsReal, last_generation, max_files};
 ghost use Rattle.tiff_dirs.specs.Level.{max_levels};
 ghost use Rattle.tile_layout.specs.Cut.{IsCut};
 ghost use Rattle.tile_layout.specs.Grid.{shown_grid};
 ghost use Rattle.tile_layout.specs.Halving.{HalvesWithinCells};
+ghost use Rattle.tile_layout.specs.Key.{index_of, HasParts};
 ghost use Rattle.file_table.specs.Record.{layout_of, HasCutLevel, CountsLevels, CutsLevel};
-ghost use Rattle.file_table.specs.Record.{TellsFit, AreGridsOf};
+ghost use Rattle.file_table.specs.Record.{TellsFit, TellsLevel, AreLevelsOf};
 
+use crate::known_level::KnownLevel;
 use std::alloc::{AllocError, Global};
 use std::marker::{Model, PhantomData};
 use tex_world::World;
 use tiff_dirs::TiffFault;
-use tile_layout::{Cut, Grid, Layout};
+use tile_layout::{Cut, Grid, Layout, TileKey};
+
+/// The number of the last file that a folder can have.
+const LAST_FILE: u32 = 4095;
 
 /// What is known of one generation of a file: the layout of its levels, or the fault that it shows,
 /// and what lookups ask for under a cut.
@@ -22,13 +27,13 @@ pub struct Record<W: World> {
     generation: u32,
     cut: Cut,
     fits: bool,
-    grids: Vec<Grid>,
+    levels: Vec<KnownLevel>,
     layout: Result<Layout, TiffFault>,
     world: PhantomData<W>,
 }
 
 impl<W: World> Model for Record<W> {
-    ghost use Rattle.file_table.specs.Record.{RecordState, record_state, IsRecord, HasGrids};
+    ghost use Rattle.file_table.specs.Record.{RecordState, record_state, IsRecord, HasLevels};
     ghost use Rattle.file_table.specs.Record.{TellsFit as Fits};
 
     ghost Value = { RecordState };
@@ -37,21 +42,47 @@ impl<W: World> Model for Record<W> {
 
     ghost invariant = { λ r.
         let state = record_state r.file r.generation r.cut r.layout in
-        IsRecord W.files state × HasGrids state r.grids.items × Fits state r.fits };
+        IsRecord W.files state × HasLevels state r.levels.items × Fits state r.fits };
 }
 
-/// How the levels of a file are cut.
-fn grids_of(alloc: Global, layout: &Layout, cut: Cut) -> Result<Vec<Grid>, AllocError>
-    requires { IsCut cut }
-    ensures value { IfOk result (λ grids. AreGridsOf layout.now cut grids.items) }
-    ensures few { IfOk result (λ grids. length grids.items ≤ max_levels) }
+/// The key of the first cell of a level. Keys have no room for a file of a larger number than a
+/// folder can have: it gets that of another.
+fn first_key(generation: u32, file: u32, level: u32) -> TileKey
+    requires low { 1 ≤ generation }
+    requires high { generation ≤ last_generation }
+    requires level { level < max_levels }
+    ensures first { index_of result ≡ 0 }
+    ensures parts { file < max_files → HasParts generation file level 0 result }
 {
-    let levels = layout.levels(cut);
-    let mut grids = Vec::with_capacity(alloc, levels as usize)?;
-    for level in 0..levels {
-        grids.push(layout.grid(level, cut))?;
+    TileKey::new(generation, file.min(LAST_FILE), level, 0)
+}
+
+/// What lookups ask for of each level of a file.
+fn levels_of(
+    alloc: Global,
+    file: u32,
+    generation: u32,
+    layout: &Layout,
+    cut: Cut,
+) -> Result<Vec<KnownLevel>, AllocError>
+    requires low { 1 ≤ generation }
+    requires high { generation ≤ last_generation }
+    requires cut { IsCut cut }
+    ensures value { IfOk result (λ levels.
+        AreLevelsOf file generation cut layout.now levels.items) }
+    ensures few { IfOk result (λ levels. length levels.items ≤ max_levels) }
+{
+    let count = layout.levels(cut);
+    let mut levels = Vec::with_capacity(alloc, count as usize)?;
+    for level in 0..count {
+        levels.push(KnownLevel {
+            grid: layout.grid(level, cut),
+            first: first_key(generation, file, level),
+            channels: layout.channels(),
+            depth: layout.depth(),
+        })?;
     }
-    Ok(grids)
+    Ok(levels)
 }
 
 impl<W: World> Record<W> {
@@ -73,8 +104,11 @@ impl<W: World> Record<W> {
         ensures generation { IfOk result (λ r. r.generation ≡ generation) }
         ensures cut { IfOk result (λ r. r.cut ≡ cut) }
     {
-        let (fits, grids) = match &layout {
-            Ok(layout) => (layout.fits(cut), grids_of(alloc, layout, cut)?),
+        let (fits, levels) = match &layout {
+            Ok(layout) => (
+                layout.fits(cut),
+                levels_of(alloc, file, generation, layout, cut)?,
+            ),
             Err(_) => (false, Vec::new(alloc)),
         };
         Ok(Record {
@@ -82,7 +116,7 @@ impl<W: World> Record<W> {
             generation,
             cut,
             fits,
-            grids,
+            levels,
             layout,
             world: PhantomData,
         })
@@ -124,7 +158,7 @@ impl<W: World> Record<W> {
     pub fn levels(&self) -> u32
         ensures { CountsLevels self.now result }
     {
-        self.grids.len() as u32
+        self.levels.len() as u32
     }
 
     /// How a level is cut into cells. The four texels from which one of the next level is made lie
@@ -135,7 +169,16 @@ impl<W: World> Record<W> {
         ensures halving { HalvesWithinCells (shown_grid result) }
         ensures few { level < max_levels }
     {
-        self.grids[level as usize]
+        self.levels[level as usize].grid
+    }
+
+    /// What lookups ask for of a level.
+    pub fn level(&self, level: u32) -> &KnownLevel
+        requires { HasCutLevel self.now level }
+        ensures value { TellsLevel self.now level result.now }
+        ensures few { level < max_levels }
+    {
+        &self.levels[level as usize]
     }
 
     /// Whether the file shows no fault and no cell of any level takes more than 33554432 bytes in

@@ -1,6 +1,6 @@
 -- The four numbers of a key, and the key of four numbers.
-use Rattle.std.proofs.Common.{◌≡◌, ℕ, ◌+◌, ◌*◌, ◌/◌, ◌%◌, ◌^◌, ◌≤◌, refl, sym, ap, ◌∙◌, arith}
-use Rattle.std.proofs.lemmas.Nat.{shr_high, mod_low, shr-shr, shr_split}
+use Rattle.std.proofs.Common.{◌≡◌, ℕ, ◌+◌, ◌*◌, ◌/◌, ◌%◌, ◌^◌, ◌<◌, ◌≤◌, refl, sym, ap, ◌∙◌, arith}
+use Rattle.std.proofs.lemmas.Nat.{shr_high, mod_low, shr-shr, shr_split, mod_below}
 use Rattle.tile_layout.specs.Key.{file_bits, level_bits, index_bits}
 use Rattle.tile_layout.specs.Key.{key_of, generation_of, file_of, level_of, index_of}
 use Rattle.tile_layout.specs.Key.{FitsKey, HasParts, IsKey}
@@ -80,3 +80,39 @@ key_of-parts key =
 pub key_from_parts : (g f l i key : ℕ) → HasParts g f l i key → key ≡ key_of g f l i
 key_from_parts g f l i key h =
     sym (key_of-parts key) ∙ (rw (h.generation_is, h.file_is, h.level_is, h.index_is) refl)
+
+-- ---- the cells of a level, by the key of its first one
+
+module _ (key i : ℕ) (is : IsKey key) (first : index_of key ≡ 0) (few : i < 2 ^ index_bits) where
+  in_level_fits : FitsKey (generation_of key) (file_of key) (level_of key) i
+  unfolding file_of level_of
+  in_level_fits = record {
+    generation_low = is.low;
+    generation_high = is.high;
+    file_high = mod_below (key / 2 ^ 32) (2 ^ 12) (omega arith);
+    level_high = mod_below (key / 2 ^ 27) (2 ^ 5) (omega arith);
+    index_high = few;
+  }
+
+  -- the key of its first cell, with the number of another added
+  in_level : key + i ≡ key_of (generation_of key) (file_of key) (level_of key) i
+  unfolding key_of
+  in_level =
+      let own : key_of (generation_of key) (file_of key) (level_of key) 0 ≡ key =
+      ap (key_of (generation_of key) (file_of key) (level_of key)) (sym first) ∙ key_of-parts key in
+      omega (arith, own)
+
+  pub in_level_low : key + i < 2 ^ 64
+  unfolding key_of
+  in_level_low =
+      let fits = in_level_fits in
+      let low : generation_of key < 2 ^ 20 = fits.generation_high in
+      let file : file_of key < 2 ^ 12 = fits.file_high in
+      let level : level_of key < 2 ^ 5 = fits.level_high in
+      omega (arith, in_level, low, file, level, few)
+
+  pub in_level_parts : HasParts (generation_of key) (file_of key) (level_of key) i (key + i)
+  in_level_parts = rw in_level (HasParts-key_of _ _ _ _ in_level_fits)
+
+  pub in_level_key : IsKey (key + i)
+  in_level_key = rw in_level (IsKey-key_of _ _ _ _ in_level_fits)

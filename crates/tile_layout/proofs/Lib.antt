@@ -11,5 +11,6 @@ pub mod HalvingCells
 pub mod GridLemmas
 pub mod FirstLargest
 pub mod KeyLemmas
+pub mod FactorLemmas
 pub mod WholeRowLemmas
 pub mod StoredTexels

@@ -34,6 +34,10 @@ unfoldable pub cell_index : CutLevel → ℕ → ℕ → ℕ
 cell_index level x y =
     y / level.cell_height * cells_across level + x / level.cell_width
 
+-- the number of the cell in a column and a row of cells
+abbrev pub number_of : CutLevel → ℕ → ℕ → ℕ
+number_of level column row = row * cells_across level + column
+
 -- n places from one on, clipped to a side
 abbrev pub clipped : ℕ → ℕ → ℕ → ℕ
 clipped side from n = min n (side - from)

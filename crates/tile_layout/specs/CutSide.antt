@@ -1,5 +1,5 @@
 -- What is known of a side that is cut into cells?
-use Rattle.std.specs.Prelude.{◌≡◌, ℕ, ◌%◌, ◌<◌, ◌≤◌}
+use Rattle.std.specs.Prelude.{◌≡◌, ℕ, ◌+◌, ◌/◌, ◌%◌, ◌^◌, ◌<◌, ◌≤◌}
 use Rattle.tiff_dirs.specs.Block.{pieces_over}
 use Rattle.tiff_dirs.specs.Fault.{max_side, tile_step}
 use Rattle.tiff_dirs.specs.Facts.{IsSide}
@@ -19,9 +19,16 @@ pub record IsCellSide (size cell : ℕ) : Type 0 where
   pub long : cell < tile_step → size ≤ cell
   pub even : cell < size → cell % 2 ≡ 0
 
--- the side is that of a level, and so many cells of that length cover it
-pub record IsCutSide (size cell cells : ℕ) : Type 0 where
+-- what a place is multiplied by in place of a division by a length: 1 / cell, rounded up, with 40
+-- bits behind the point
+abbrev pub factor_of : ℕ → ℕ
+factor_of cell = 2 ^ 40 / cell + 1
+
+-- the side is that of a level, so many cells of that length cover it, and its factor is that of the
+-- length
+pub record IsCutSide (size cell cells factor : ℕ) : Type 0 where
   pub side : IsSide size
   pub piece : IsCellSide size cell
   pub cover : cells ≡ pieces_over size cell
   pub few : cells ≤ max_cells_aside
+  pub divides : factor ≡ factor_of cell

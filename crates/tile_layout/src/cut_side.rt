@@ -1,7 +1,10 @@
-ghost use Rattle.std.specs.Prelude.{◌≡◌, ◌+◌, ◌*◌, ◌<◌, ◌≤◌};
+ghost use Rattle.std.specs.Prelude.{◌≡◌, ◌+◌, ◌*◌, ◌/◌, ◌<◌, ◌≤◌};
 ghost use Rattle.tiff_dirs.specs.Facts.{IsSide};
 ghost use Rattle.tile_layout.specs.Cell.{clipped};
 ghost use Rattle.tile_layout.specs.CutSide.{IsCellSide, IsCutSide};
+
+/// The bits behind the point of a factor.
+const FACTOR_BITS: u32 = 40;
 
 /// A side of a level, and the cells that it is cut into.
 #[derive(Clone, Copy, Debug, PartialEq, Eq)]
@@ -12,7 +15,9 @@ pub struct CutSide {
     pub cell: u32,
     /// How many cells cover the side.
     pub cells: u32,
-    ghost in_range: { IsCutSide size cell cells },
+    /// Times a place of the side it gives the place's cell, with 40 bits behind the point.
+    pub(crate) factor: u64,
+    ghost in_range: { IsCutSide size cell cells factor },
 }
 
 impl CutSide {
@@ -26,7 +31,17 @@ impl CutSide {
             size,
             cell,
             cells: (size + cell - 1) / cell,
+            factor: (1 << FACTOR_BITS) / u64::from(cell) + 1,
         }
+    }
+
+    /// The number of the cell that holds a place. It makes no division.
+    pub fn cell_of(&self, place: u32) -> u32
+        requires { place < self.now.size }
+        ensures value { result ≡ place / self.now.cell }
+        ensures in_range { result < self.now.cells }
+    {
+        ((u64::from(place) * self.factor) >> FACTOR_BITS) as u32
     }
 
     /// The first place of cell k, and how many it has.

@@ -1,7 +1,7 @@
 ghost use Rattle.std.specs.Prelude.{◌≡◌, ◌<◌, ◌≤◌, ◌↔◌, IsTrue};
 ghost use Rattle.tiff_dirs.specs.Facts.{IsChannelCount};
 ghost use Rattle.tile_layout.specs.Cell.{cell_count, cell_index, cell_rect, HoldsTexel};
-ghost use Rattle.tile_layout.specs.Cell.{CellsFitOn};
+ghost use Rattle.tile_layout.specs.Cell.{CellsFitOn, number_of};
 ghost use Rattle.tile_layout.specs.CutSide.{max_cells};
 ghost use Rattle.tile_layout.specs.Pieces.{LiesOn};
 
@@ -13,7 +13,7 @@ pub const MAX_CELL_BYTES: u64 = 33_554_432;
 
 /// A level and the cells that it is cut into, which are numbered row by row from 0.
 ///
-/// It is small and walks no chain of levels: what is asked for each texel is a field or a division,
+/// It is small and walks no chain of levels: what is asked for each texel is a field or a product,
 /// so it is worth keeping.
 #[derive(Clone, Copy, Debug, PartialEq, Eq)]
 pub struct Grid {
@@ -35,7 +35,32 @@ impl Grid {
         ensures few { result < max_cells }
         ensures holds { HoldsTexel (cell_rect (shown_grid self.now) result) x y }
     {
-        y / self.down.cell * self.across.cells + x / self.across.cell
+        self.index(self.across.cell_of(x), self.down.cell_of(y))
+    }
+
+    /// The number of the cell in a column and a row of cells.
+    pub fn index(&self, column: u32, row: u32) -> u32
+        requires column { column < self.now.across.cells }
+        requires row { row < self.now.down.cells }
+        ensures value { result ≡ number_of (shown_grid self.now) column row }
+        ensures in_range { result < cell_count (shown_grid self.now) }
+        ensures few { result < max_cells }
+    {
+        row * self.across.cells + column
+    }
+
+    /// Its texels.
+    pub fn rect(&self, column: u32, row: u32) -> Rect
+        requires column { column < self.now.across.cells }
+        requires row { row < self.now.down.cells }
+        ensures value { result
+            ≡ cell_rect (shown_grid self.now) (number_of (shown_grid self.now) column row) }
+        ensures inside { LiesOn self.now.across.size self.now.down.size result }
+        ensures some { (1 ≤ result.w) × (1 ≤ result.h) }
+    {
+        let (x, w) = self.across.part(column);
+        let (y, h) = self.down.part(row);
+        Rect { x, y, w, h }
     }
 
     /// No cell takes more than 33554432 bytes, with so many samples of a texel.
@@ -56,8 +81,6 @@ impl Grid {
         ensures inside { LiesOn self.now.across.size self.now.down.size result }
         ensures some { (1 ≤ result.w) × (1 ≤ result.h) }
     {
-        let (x, w) = self.across.part(index % self.across.cells);
-        let (y, h) = self.down.part(index / self.across.cells);
-        Rect { x, y, w, h }
+        self.rect(index % self.across.cells, index / self.across.cells)
     }
 }

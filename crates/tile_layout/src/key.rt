@@ -1,6 +1,6 @@
-ghost use Rattle.std.specs.Prelude.{◌≡◌, ℕ};
+ghost use Rattle.std.specs.Prelude.{◌≡◌, ℕ, ◌+◌, ◌^◌, ◌<◌};
 ghost use Rattle.tile_layout.specs.Key.{key_of, generation_of, file_of, level_of, index_of};
-ghost use Rattle.tile_layout.specs.Key.{FitsKey, HasParts, IsKey};
+ghost use Rattle.tile_layout.specs.Key.{FitsKey, HasParts, IsKey, index_bits};
 
 use std::marker::Model;
 
@@ -51,6 +51,20 @@ impl TileKey {
         let level_number = (file_number << LEVEL_BITS) + level as u64;
         TileKey {
             number: (level_number << INDEX_BITS) + index as u64,
+        }
+    }
+
+    /// The key of another cell of the level, by that of its first one.
+    pub fn with_index(&self, index: u32) -> TileKey
+        requires first { index_of self.now ≡ 0 }
+        requires index { index < 2 ^ index_bits }
+        ensures value { result ≡ self.now + index }
+        ensures parts { HasParts (generation_of self.now) (file_of self.now) (level_of self.now)
+            index result }
+        ensures valid { IsKey result }
+    {
+        TileKey {
+            number: self.number + u64::from(index),
         }
     }
 

@@ -4,4 +4,4 @@ use Rattle.tile_layout.proofs.GridLemmas.{grid_halves}
 use Rattle.file_table.proofs.record.Record.grid.Goals as goal
 
 pub returns-clause-halving : goal.returns-clause-halving
-returns-clause-halving g c = grid_halves c.index.result.now _ refl
+returns-clause-halving g c = grid_halves c.index.result.now.grid _ refl

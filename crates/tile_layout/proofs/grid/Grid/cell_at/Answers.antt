@@ -1,4 +1,4 @@
-use Rattle.std.proofs.Common.{refl, arith}
+use Rattle.std.proofs.Common.{refl, ◌∙◌, arith}
 use Rattle.tile_layout.specs.Cell.{cell_index}
 use Rattle.tile_layout.specs.Grid.{shown_grid}
 use Rattle.tile_layout.proofs.CellLemmas.{index_below, holds_texel}
@@ -7,7 +7,8 @@ use Rattle.tile_layout.proofs.grid.Grid.cell_at.Goals as goal
 
 pub returns-clause-value : goal.returns-clause-value
 unfolding cell_index
-returns-clause-value c = rw c.args.self.now.across.in_range.cover refl
+returns-clause-value c =
+    c.index.ensures.value ∙ rw (c.cell_of.ensures.value, c.cell_of-2.ensures.value) refl
 
 pub returns-clause-in_range : goal.returns-clause-in_range
 returns-clause-in_range c =
