@@ -8,9 +8,11 @@ mod order;
 mod purge;
 mod shard;
 mod tile;
+mod two_rows;
 
 // A clause can name a shard only if the types of its fields are exported.
 #[doc(hidden)]
 pub use entry::Entry;
 pub use shard::Shard;
 pub use tile::Tile;
+pub use two_rows::TwoRows;

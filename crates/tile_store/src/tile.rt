@@ -4,6 +4,7 @@ ghost use Rattle.tile_store.specs.Tile.{cached_tile, tile_bytes, IsTile, place_i
 ghost use Rattle.tile_store.specs.Tile.{HoldsRow, AreSamples};
 ghost use Rattle.tile_store.specs.Told.{IsTold, IsToldSample, AreToldSamples};
 
+use crate::two_rows::TwoRows;
 use std::marker::{Model, PhantomData};
 use tex_world::World;
 use tile_layout::{Rect, TileKey};
@@ -89,6 +90,7 @@ impl<W: World> Tile<W> {
     }
 
     /// The samples of n texels of a row of the level, side by side from (x, y) on.
+    #[inline(always)]
     pub fn row(&self, x: u32, y: u32, n: u32) -> &[u16]
         requires { HoldsRow self.now x y n }
         ensures value { AreSamples self.now x y n result.now }
@@ -98,7 +100,24 @@ impl<W: World> Tile<W> {
         &self.texels[from..from + n as usize * self.channels as usize]
     }
 
+    /// The samples of n texels of two rows of the level, side by side from one column on.
+    #[inline(always)]
+    pub fn two_rows(&self, x: u32, top: u32, bottom: u32, n: u32) -> TwoRows<'_>
+        requires top { HoldsRow self.now x top n }
+        requires bottom { HoldsRow self.now x bottom n }
+        ensures top { AreSamples self.now x top n result.top.now }
+        ensures bottom { AreSamples self.now x bottom n result.bottom.now }
+        ensures told { AreToldSamples W.files self.now x top n result.top.now
+            × AreToldSamples W.files self.now x bottom n result.bottom.now }
+    {
+        TwoRows {
+            top: self.row(x, top, n),
+            bottom: self.row(x, bottom, n),
+        }
+    }
+
     /// Where the samples of texel (x, y) begin.
+    #[inline(always)]
     fn place(&self, x: u32, y: u32) -> usize
         requires { HoldsRow self.now x y 0 }
         ensures value { result ≡ place_in self.now x y }
