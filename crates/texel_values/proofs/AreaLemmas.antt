@@ -48,6 +48,12 @@ below_by cell first inside size n false is some within low =
       piece_below size cell last some (omega (arith, there, within)),
     )
 
+some_inside : (cell first inside : ℕ) (none : Bool) → (inside == 0) ≡ none
+    → 0 < (if none then 0 else (first + inside - 1) / cell - first / cell + 1) → 1 ≤ inside
+some_inside cell first inside true is some = absurd (omega (arith, some))
+some_inside cell first inside false is some =
+    let there = eqb-false inside 0 is in omega (arith, there)
+
 pub below_met : (cell first inside size n : ℕ) → 1 ≤ cell → first + inside ≤ size
     → n < cells_met cell first inside → first / cell + n < pieces_over size cell
 below_met cell first inside size n some within low =
@@ -95,15 +101,39 @@ module _ (area : Area) where
   abbrev down : ℕ
   down = cells_met grid.down.cell rows.first rows.inside
 
+  pub row_low : (k : ℕ) → k < area_cells area
+      → rows.first / grid.down.cell + k / across < cells_down (shown_grid grid)
+  row_low k low =
+      below_met grid.down.cell rows.first rows.inside grid.down.size (k / across)
+      (has_cells grid).cell_height area.met.rows
+      (div_below k across down (some_of k down across low) low)
+
+  pub column_low : (k : ℕ) → k < area_cells area
+      → columns.first / grid.across.cell + k % across < cells_across (shown_grid grid)
+  column_low k low =
+      below_met grid.across.cell columns.first columns.inside grid.across.size (k % across)
+      (has_cells grid).cell_width area.met.columns (mod_below k across (some_of k down across low))
+
   pub cell_low : (k : ℕ) → k < area_cells area → area_cell area k < cell_count (shown_grid grid)
   cell_low k low =
-      let some = some_of k down across low in
       mul-add-lt (rows.first / grid.down.cell + k / across) (cells_across (shown_grid grid))
       (columns.first / grid.across.cell + k % across) (cells_down (shown_grid grid))
-      (below_met grid.down.cell rows.first rows.inside grid.down.size (k / across)
-      (has_cells grid).cell_height area.met.rows (div_below k across down some low))
-      (below_met grid.across.cell columns.first columns.inside grid.across.size (k % across)
-      (has_cells grid).cell_width area.met.columns (mod_below k across some))
+      (row_low k low) (column_low k low)
+
+  -- where it meets a cell its first place on each side is one of the level
+  pub column_first : (k : ℕ) → k < area_cells area → columns.first < grid.across.size
+  column_first k low =
+      let some = some_inside grid.across.cell columns.first columns.inside (columns.inside == 0) refl
+      (some_of k down across low) in
+      let within = area.met.columns in
+      omega (arith, some, within)
+
+  pub row_first : (k : ℕ) → k < area_cells area → rows.first < grid.down.size
+  row_first k low =
+      let some = some_inside grid.down.cell rows.first rows.inside (rows.inside == 0) refl
+      (omega (arith, div_below k across down (some_of k down across low) low)) in
+      let within = area.met.rows in
+      omega (arith, some, within)
 
   in_cell : (x y n : ℕ) → n ≡ y / grid.down.cell * cells_across (shown_grid grid)
       + x / grid.across.cell → x < grid.across.size → y < grid.down.size

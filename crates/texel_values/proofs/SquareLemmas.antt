@@ -1,17 +1,21 @@
 -- The values of the first channels of a texel, by the samples of its tile's row.
-use Rattle.std.proofs.Common.{◌≡◌, ℕ, ◌<◌, List, length, map, slice_index, Option, Some, None}
-use Rattle.std.proofs.Common.{sym, ◌∙◌, zero-add, arith}
+use Rattle.std.proofs.Common.{◌≡◌, ℕ, ◌+◌, ◌-◌, ◌*◌, ◌<◌, ◌≤◌, List, length, map, slice_index, get_or}
+use Rattle.std.proofs.Common.{◌≢◌, set, get_or-set_other, get_or-set_same, below_more}
+use Rattle.std.proofs.Common.{take, drop, length-take, length-drop, Option, Some, None}
+use Rattle.std.proofs.Common.{sym, ap, ◌∙◌, zero-add, arith}
 use Rattle.std.specs.Prelude.{IsSomeAnd}
 use Rattle.std.specs.List.{range_with_len}
-use Rattle.std.proofs.lemmas.List.{length-map}
+use Rattle.std.proofs.Math.Nat.{mul-le-mul_right}
+use Rattle.std.proofs.lemmas.List.{length-map, get_or-take, get_or-drop}
 use Rattle.std.proofs.lemmas.List.FromFn.{get_or-map-range_with_len, length-range_with_len}
 use Rattle.tex_world.specs.World.{Files}
 use Rattle.tile_layout.specs.Key.{generation_of, file_of, level_of}
-use Rattle.tile_layout.specs.Cell.{bit_depth_of}
+use Rattle.tile_layout.specs.Cell.{HoldsTexel, bit_depth_of}
 use Rattle.tile_layout.specs.Value.{channel_value_of}
 use Rattle.texel_filter.specs.Image.{AreFirst}
-use Rattle.tile_store.specs.Tile.{CachedTile, AreSamples}
-use Rattle.tile_store.specs.Told.{ToldBy, IsTold, AreToldSamples}
+use Rattle.tile_store.specs.Tile.{CachedTile, IsTile, HoldsRow, AreSamples, kept_sample}
+use Rattle.tile_store.specs.Told.{ToldBy, IsTold}
+use Rattle.tile_store.proofs.TileLemmas.{told_samples}
 use Rattle.texel_values.specs.declared.texel_at.TexelAt.{TexelAt}
 use Rattle.texel_values.specs.Values.{sample_value, AreValuesAt}
 use Rattle.texel_values.proofs.ValueLemmas.{told_values}
@@ -21,12 +25,54 @@ some_map : {A : Type 0} (o : Option A) (P Q : A → Type 0) → ((x : A) → P x
 some_map (Some x) P Q f p = f x p
 some_map None P Q f p = absurd p
 
+-- one more value stands at its place
+pub one_more_first : (n : ℕ) (f : ℕ → ℕ) (corner : List ℕ) (v : ℕ) → n < length corner
+    → AreFirst n f corner → v ≡ f n → AreFirst (n + 1) f (set corner n v)
+one_more_first n f corner v low are is =
+    below_more (λ k. get_or (set corner n v) k 0 ≡ f k) n
+    (λ k h. let ne : k ≢ n = omega arith in rw get_or-set_other (are k h))
+    (rw get_or-set_same is)
+
 -- four facts of one value, together
 pub some_four : {A : Type 0} (o : Option A) (P Q R S T : A → Type 0)
     → ((x : A) → P x → Q x → R x → S x → T x) → IsSomeAnd o P → IsSomeAnd o Q → IsSomeAnd o R
     → IsSomeAnd o S → IsSomeAnd o T
 some_four (Some x) P Q R S T f p q r s = f x p q r s
 some_four None P Q R S T f p q r s = absurd p
+
+-- ---- one texel of several in a row
+
+module _ (tile : CachedTile) (from y n x : ℕ) (samples : List ℕ) (left : from ≤ x)
+    (right : x < from + n) (are : AreSamples tile from y n samples) where
+  abbrev place : ℕ
+  place = (x - from) * tile.channels
+
+  pub texel_ends : place + tile.channels ≤ length samples
+  texel_ends =
+      let more : (x - from + 1) * tile.channels ≤ n * tile.channels =
+      mul-le-mul_right tile.channels (omega (arith, left, right)) in
+      omega (arith, more, are.count)
+
+  pub texel_samples : AreSamples tile x y 1 (take tile.channels (drop place samples))
+  texel_samples = record {
+    count = omega (
+      arith,
+      length-take tile.channels (drop place samples),
+      length-drop place samples,
+      texel_ends,
+    );
+    each = λ i c i_in c_in.
+        let on : from + (x - from) ≡ x + i = omega (arith, left, i_in) in
+        let at : place + (i * tile.channels + c) ≡ (x - from) * tile.channels + c =
+        let none : i ≡ 0 = omega (arith, i_in) in rw none (omega arith) in
+        let within : i * tile.channels + c < tile.channels =
+        let none : i ≡ 0 = omega (arith, i_in) in rw none (omega (arith, c_in)) in
+        get_or-take tile.channels (drop place samples) (i * tile.channels + c) 0 within
+        ∙ get_or-drop place samples (i * tile.channels + c) 0
+        ∙ ap (λ k. get_or samples k 0) at
+        ∙ are.each (x - from) c (omega (arith, left, right)) c_in
+        ∙ ap (λ k. kept_sample tile k y c) on;
+  }
 
 -- where the world tells, the first n channels are those of the texel in the tile's file
 abbrev pub ToldFirst : Files → CachedTile → ℕ → TexelAt → ℕ → List ℕ → Type 0
@@ -35,19 +81,28 @@ ToldFirst files tile depth at n corner = ToldBy files tile.key (λ bytes.
     → AreFirst n (channel_value_of bytes at.level at.x at.y) corner)
 
 pub told_first : (files : Files) (tile : CachedTile) (depth : ℕ) (at : TexelAt)
-    (samples : List ℕ) (n : ℕ) (corner : List ℕ) → IsTold files tile
-    → AreSamples tile at.x at.y 1 samples → AreToldSamples files tile at.x at.y 1 samples
+    (samples : List ℕ) (n : ℕ) (corner : List ℕ) → IsTile tile → IsTold files tile
+    → HoldsTexel tile.rect at.x at.y → AreSamples tile at.x at.y 1 samples
     → AreFirst n (sample_value samples depth) corner → ToldFirst files tile depth at n corner
-told_first files tile depth at samples n corner told are rows is tells =
+told_first files tile depth at samples n corner own told holds are is tells =
     some_map (files.held (file_of tile.key) (generation_of tile.key))
     (λ bytes. level_of tile.key ≡ at.level → depth ≡ bit_depth_of bytes → AreValuesAt bytes at out)
     (λ bytes. level_of tile.key ≡ at.level → depth ≡ bit_depth_of bytes
     → AreFirst n (channel_value_of bytes at.level at.x at.y) corner)
     (λ bytes values level same c low.
     is c low ∙ (sym (out_is c low) ∙ values level same c (omega (arith, low, long))))
-    (told_values files tile depth at samples out told are rows
+    (told_values files tile depth at samples out told are
+    (told_samples files tile own told at.x at.y 1 samples row are)
     (λ c low. out_is c (omega (arith, low, long))) tells)
   where
+    row : HoldsRow tile at.x at.y 1
+    row = record {
+      left = holds.left;
+      right = let right = holds.right in omega arith;
+      top = holds.top;
+      bottom = holds.bottom;
+    }
+
     out : List ℕ
     out = map (sample_value samples depth) (range_with_len 0 n)
 

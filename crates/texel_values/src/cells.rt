@@ -1,6 +1,6 @@
 //! The cells that a region meets.
 ghost use Rattle.std.specs.Prelude.{◌≡◌, ◌+◌, ◌*◌, ◌<◌, ◌≤◌};
-ghost use Rattle.tile_layout.specs.Cell.{cell_count};
+ghost use Rattle.tile_layout.specs.Cell.{cell_count, number_of};
 ghost use Rattle.tile_layout.specs.Grid.{shown_grid};
 ghost use Rattle.tiff_dirs.specs.Facts.{IsChannelCount};
 ghost use Rattle.texel_values.specs.Region.{max_texels};
@@ -21,7 +21,7 @@ fn met(side: &CutSide, over: &Overlap) -> u32
     if over.inside == 0 {
         return 0;
     }
-    (over.first + over.inside - 1) / side.cell - over.first / side.cell + 1
+    side.cell_of(over.first + over.inside - 1) - side.cell_of(over.first) + 1
 }
 
 impl Area {
@@ -67,9 +67,22 @@ impl Area {
         ensures value { result ≡ area_cell self.now k }
         ensures in_range { result < cell_count (shown_grid self.now.grid) }
     {
+        let (column, row) = self.place(k);
+        self.grid.index(column, row)
+    }
+
+    /// The column and the row of the k-th of them among the cells of its level.
+    pub fn place(&self, k: u64) -> (u32, u32)
+        requires { k < area_cells self.now }
+        ensures value { number_of (shown_grid self.now.grid) result.0 result.1
+            ≡ area_cell self.now k }
+        ensures column { result.0 < self.now.grid.across.cells }
+        ensures row { result.1 < self.now.grid.down.cells }
+    {
         let (across, grid) = (u64::from(self.across), &self.grid);
-        let row = self.window.rows.first / grid.down.cell + (k / across) as u32;
-        let column = self.window.columns.first / grid.across.cell + (k % across) as u32;
-        row * grid.across.cells + column
+        (
+            grid.across.cell_of(self.window.columns.first) + (k % across) as u32,
+            grid.down.cell_of(self.window.rows.first) + (k / across) as u32,
+        )
     }
 }

@@ -1,5 +1,5 @@
 //! The values of the four texels of a square.
-ghost use Rattle.std.specs.Prelude.{◌<◌, ◌≤◌};
+ghost use Rattle.std.specs.Prelude.{◌≡◌, ◌+◌, ◌<◌, ◌≤◌, length, take, drop};
 ghost use Rattle.tile_layout.specs.Cell.{HoldsTexel};
 ghost use Rattle.texel_filter.specs.Image.{IsChannelCount};
 ghost use Rattle.texel_values.specs.Square.{HoldsSquare, AreToldCorners};
@@ -24,14 +24,29 @@ pub fn write_square<W: World>(
 {
     // its key tells that it has the samples of its file
     let _key = tile.key();
-    let left_top = tile.row(square.left, square.top, 1);
-    let right_top = tile.row(square.right, square.top, 1);
-    let left_bottom = tile.row(square.left, square.bottom, 1);
-    let right_bottom = tile.row(square.right, square.bottom, 1);
+    let from = square.left.min(square.right);
+    let texels = square.left.max(square.right) - from + 1;
+    let rows = tile.two_rows(from, square.top, square.bottom, texels);
+    let wide = tile.channels() as usize;
+    let left = (square.left - from) as usize * wide;
+    let right = (square.right - from) as usize * wide;
+    let left_top = texel_in(rows.top, left, wide);
+    let right_top = texel_in(rows.top, right, wide);
+    let left_bottom = texel_in(rows.bottom, left, wide);
+    let right_bottom = texel_in(rows.bottom, right, wide);
     'channels: for c in 0..channels {
         out.left_top[c] = channel_value(left_top, depth, c);
         out.right_top[c] = channel_value(right_top, depth, c);
         out.left_bottom[c] = channel_value(left_bottom, depth, c);
         out.right_bottom[c] = channel_value(right_bottom, depth, c);
     }
+}
+
+/// The samples of a texel, from a place of a row on.
+#[inline(always)]
+fn texel_in(row: &[u16], at: usize, wide: usize) -> &[u16]
+    requires { at + wide ≤ length row.now }
+    ensures { result.now ≡ take wide (drop at row.now) }
+{
+    &row[at..at + wide]
 }

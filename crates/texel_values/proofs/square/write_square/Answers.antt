@@ -1,8 +1,30 @@
 -- The four texels, each in its corner.
-use Rattle.std.proofs.Common.{arith}
+use Rattle.std.proofs.Common.{ℕ, ◌+◌, ◌-◌, ◌<◌, ◌≤◌, arith}
+use Rattle.tile_layout.specs.declared.rect.Rect.{Rect}
 use Rattle.tile_layout.specs.Key.{generation_of, file_of}
-use Rattle.texel_values.proofs.SquareLemmas.{some_four, told_first}
+use Rattle.tile_layout.specs.Cell.{HoldsTexel}
+use Rattle.texel_values.proofs.SquareLemmas.{some_four, told_first, texel_samples, one_more_first}
 use Rattle.texel_values.proofs.square.write_square.Goals as goal
+
+pub channels-preserved : goal.channels-preserved
+channels-preserved g c =
+    let n = c.channels.c in
+    let inv = c.channels.invariant in
+    record {
+      left_top = one_more_first n _ _ _ (omega arith) inv.left_top c.channel_value.ensures;
+      right_top = one_more_first n _ _ _ (omega arith) inv.right_top
+          c.channel_value-in-channels.ensures;
+      left_bottom = one_more_first n _ _ _ (omega arith) inv.left_bottom
+          c.channel_value-in-channels-2.ensures;
+      right_bottom = one_more_first n _ _ _ (omega arith) inv.right_bottom
+          c.channel_value-in-channels-3.ensures;
+    }
+
+-- the columns of the one texel and the row of the other
+holds_of : (rect : Rect) (x y i j : ℕ) → HoldsTexel rect x y → HoldsTexel rect i j
+    → HoldsTexel rect x j
+holds_of rect x y i j column row =
+    record { left = column.left; right = column.right; top = row.top; bottom = row.bottom }
 
 pub returns : goal.returns
 returns g c tells =
@@ -11,8 +33,17 @@ returns g c tells =
     let depth = c.args.depth in
     let q = c.args.square.now in
     let n = c.args.channels in
+    let h = c.requires.inside in
+    let own = c.key-key.ensures.tile in
     let told = c.key-key.ensures.told in
     let inv = c.channels.invariant in
+    let wide = c.channels-wide.ensures.value in
+    let from = c.min-from.result in
+    let texels : ℕ = c.max.result - from + 1 in
+    let left_from : from ≤ q.left = omega (arith, c.min-from.ensures) in
+    let right_from : from ≤ q.right = omega (arith, c.min-from.ensures) in
+    let left_to : q.left < from + texels = omega (arith, c.min-from.ensures, c.max.ensures) in
+    let right_to : q.right < from + texels = omega (arith, c.min-from.ensures, c.max.ensures) in
     some_four (files.held (file_of tile.key) (generation_of tile.key)) _ _ _ _ _
     (λ bytes one two three four level same. record {
       left_top = one level same;
@@ -20,15 +51,27 @@ returns g c tells =
       left_bottom = three level same;
       right_bottom = four level same;
     })
-    (told_first files tile depth (record { level = q.level; x = q.left; y = q.top }) c.row-left_top.result.now n
-    c.channels.out.left_top told c.row-left_top.ensures.value c.row-left_top.ensures.told
+    (told_first files tile depth (record { level = q.level; x = q.left; y = q.top })
+    c.texel_in-left_top.result.now n c.channels.out.left_top own told h.left_top
+    (rw (c.texel_in-left_top.ensures, wide)
+    (texel_samples tile from q.top texels q.left c.two_rows-rows.result.top.now left_from left_to
+    c.two_rows-rows.ensures.top))
     (λ k low. inv.left_top k (omega (arith, low, c.channels-test.false))) tells)
-    (told_first files tile depth (record { level = q.level; x = q.right; y = q.top }) c.row-right_top.result.now n
-    c.channels.out.right_top told c.row-right_top.ensures.value c.row-right_top.ensures.told
+    (told_first files tile depth (record { level = q.level; x = q.right; y = q.top })
+    c.texel_in-right_top.result.now n c.channels.out.right_top own told (holds_of tile.rect q.right q.bottom q.left q.top h.right_bottom h.left_top)
+    (rw (c.texel_in-right_top.ensures, wide)
+    (texel_samples tile from q.top texels q.right c.two_rows-rows.result.top.now right_from right_to
+    c.two_rows-rows.ensures.top))
     (λ k low. inv.right_top k (omega (arith, low, c.channels-test.false))) tells)
-    (told_first files tile depth (record { level = q.level; x = q.left; y = q.bottom }) c.row-left_bottom.result.now n
-    c.channels.out.left_bottom told c.row-left_bottom.ensures.value c.row-left_bottom.ensures.told
+    (told_first files tile depth (record { level = q.level; x = q.left; y = q.bottom })
+    c.texel_in-left_bottom.result.now n c.channels.out.left_bottom own told (holds_of tile.rect q.left q.top q.right q.bottom h.left_top h.right_bottom)
+    (rw (c.texel_in-left_bottom.ensures, wide)
+    (texel_samples tile from q.bottom texels q.left c.two_rows-rows.result.bottom.now left_from left_to
+    c.two_rows-rows.ensures.bottom))
     (λ k low. inv.left_bottom k (omega (arith, low, c.channels-test.false))) tells)
-    (told_first files tile depth (record { level = q.level; x = q.right; y = q.bottom }) c.row-right_bottom.result.now n
-    c.channels.out.right_bottom told c.row-right_bottom.ensures.value c.row-right_bottom.ensures.told
+    (told_first files tile depth (record { level = q.level; x = q.right; y = q.bottom })
+    c.texel_in-right_bottom.result.now n c.channels.out.right_bottom own told h.right_bottom
+    (rw (c.texel_in-right_bottom.ensures, wide)
+    (texel_samples tile from q.bottom texels q.right c.two_rows-rows.result.bottom.now right_from right_to
+    c.two_rows-rows.ensures.bottom))
     (λ k low. inv.right_bottom k (omega (arith, low, c.channels-test.false))) tells)
