@@ -92,6 +92,13 @@ impl<P: Keyed> Micro<P> {
         self.first.as_ref()
     }
 
+    /// The item behind the latest.
+    pub fn second(&self) -> Option<&P>
+        ensures value { option_copied result ≡ slice_get self.now 1 }
+    {
+        self.second.as_ref()
+    }
+
     /// Puts an item first. Of two that were there the second comes back.
     pub fn place(&mut self, p: P) -> Option<P>
         requires { ¬ HasKey P.own_key (P.own_key p) self.old }

@@ -1,5 +1,7 @@
 -- A tile that was asked for stands first, and stays there where it is asked for again.
-use Rattle.std.proofs.Common.{◌≡◌, ℕ, Bool, true, false, not, nat_eq, List, [], ◌∷◌, ◌++◌, map}
+use Rattle.std.proofs.Common.{◌≡◌, ℕ, Bool, true, false, not, ◌&&◌, nat_eq, List, [], ◌∷◌, ◌++◌, map}
+use Rattle.std.proofs.Common.{Some, None, IsTrue, IsFalse}
+use Rattle.std.specs.Prelude.{slice_get}
 use Rattle.std.proofs.Common.{refl, sym, ap, subst, ◌∙◌, arith}
 use Rattle.std.specs.List.{list_any, filter}
 use Rattle.std.proofs.lemmas.Bool.{eqb-true, eq-eqb, false≢true}
@@ -12,7 +14,7 @@ use Rattle.micro.proofs.HitLemmas.{any_from_Contains}
 use Rattle.micro.proofs.ItemLemmas.{two_items, two_apart, recent_again, first_found}
 use Rattle.pinned_tiles.specs.declared.cell.CellAt.{CellAt}
 use Rattle.pinned_tiles.specs.Pinned.{key_in, StaysAskedFor}
-use Rattle.pinned_tiles.specs.Cell.{has_cell, HasFirst, StandsFirst}
+use Rattle.pinned_tiles.specs.Cell.{has_cell, is_tile_of, HasFirst, StandsFirst}
 
 first_there : (key : ℕ) (t : CachedTile) (rest : List CachedTile) → nat_eq t.key key ≡ true
     → HasKey key_in key (t ∷ rest)
@@ -131,3 +133,57 @@ stands_stays cell (a ∷ b ∷ []) are first =
     stays_two cell a b (nat_eq b.key cell.key) (eq-eqb a.key cell.key first.0) refl are
 stands_stays cell (a ∷ b ∷ c ∷ rest) are first =
     let few = are.few in absurd (omega arith)
+
+-- ---- the tile behind it
+
+off : (t : Bool) → (t ≡ true → ⊥) → t ≡ false
+off true not_so = absurd (not_so refl)
+off false not_so = refl
+
+-- of a tile that stands behind one that is not the cell's
+behind_by : (cell : CellAt) (a b : CachedTile) (in_a in_b : Bool) → nat_eq a.key cell.key ≡ in_a
+    → nat_eq b.key cell.key ≡ in_b → AreItems key_in (a ∷ b ∷ [])
+    → ¬ StandsFirst cell (a ∷ b ∷ [])
+    → has_cell cell (a ∷ b ∷ []) ≡ (in_b && is_tile_of cell b)
+behind_by cell a b true true is_a is_b are none = absurd (false≢true
+    (sym (two_apart key_in a b are)
+    ∙ nat_eq_equiv.congr a.key cell.key b.key is_a
+    ∙ nat_eq_equiv.symm cell.key b.key ∙ is_b))
+behind_by cell a b true false is_a is_b are none =
+    rw is_a (off (is_tile_of cell a) (λ of. none (eqb-true a.key cell.key is_a, of)))
+behind_by cell a b false true is_a is_b are none = rw (is_a, is_b) refl
+behind_by cell a b false false is_a is_b are none = rw (is_a, is_b) refl
+
+pub behind : (cell : CellAt) (tiles : List CachedTile) (b : CachedTile) → AreItems key_in tiles
+    → ¬ StandsFirst cell tiles → slice_get tiles 1 ≡ Some b
+    → has_cell cell tiles ≡ (nat_eq b.key cell.key && is_tile_of cell b)
+behind cell [] b are none at = absurd cc
+behind cell (a ∷ []) b are none at = absurd cc
+behind cell (a ∷ c ∷ []) b are none at =
+    subst (λ (t : CachedTile). has_cell cell (a ∷ c ∷ []) ≡ (nat_eq t.key cell.key && is_tile_of cell t))
+    (some_same c b at)
+    (behind_by cell a c (nat_eq a.key cell.key) (nat_eq c.key cell.key) refl refl are none)
+  where
+    some_same : (x y : CachedTile) → Some x ≡ Some y → x ≡ y
+    some_same x y same = cc
+behind cell (a ∷ c ∷ d ∷ rest) b are none at = let few = are.few in absurd (omega arith)
+
+none_by : (cell : CellAt) (a : CachedTile) (in_a : Bool) → nat_eq a.key cell.key ≡ in_a
+    → ¬ StandsFirst cell (a ∷ []) → has_cell cell (a ∷ []) ≡ false
+none_by cell a true is none =
+    rw is (off (is_tile_of cell a) (λ of. none (eqb-true a.key cell.key is, of)))
+none_by cell a false is none = rw is refl
+
+pub none_behind : (cell : CellAt) (tiles : List CachedTile) → ¬ StandsFirst cell tiles
+    → slice_get tiles 1 ≡ None → has_cell cell tiles ≡ false
+none_behind cell [] none at = refl
+none_behind cell (a ∷ []) none at = none_by cell a (nat_eq a.key cell.key) refl none
+none_behind cell (a ∷ c ∷ rest) none at = absurd cc
+
+pub there_behind : (key : ℕ) (tiles : List CachedTile) (b : CachedTile)
+    → slice_get tiles 1 ≡ Some b → b.key ≡ key → HasKey key_in key tiles
+there_behind key [] b at is = absurd cc
+there_behind key (a ∷ []) b at is = absurd cc
+there_behind key (a ∷ c ∷ rest) b at is =
+    let same : c ≡ b = cc in
+    (1, omega arith, ap key_in same ∙ is)

@@ -144,6 +144,8 @@ impl<W: World> Pinned<W> {
         requires other { other.seat.gate ≡ gate.now.id }
         requires none { other.seat.pins ≡ [] }
         ensures permits { self.new.seat.permits ≡ self.old.seat.permits + other.seat.permits }
+        ensures pins { self.new.seat.pins ≡ self.old.seat.pins }
+        ensures visits { self.new.seat.visits ≡ self.old.seat.visits }
         ensures same { KeepsAllButPermits self.old self.new }
         ensures are { ArePinned W.files self.new }
     {

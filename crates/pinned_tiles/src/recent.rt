@@ -71,7 +71,7 @@ impl<W: World> Pinned<W> {
         if self.is_latest(cell) {
             return true;
         }
-        if self.tile_of(cell).is_none() {
+        if !self.is_behind(cell) {
             return false;
         }
         self.find(cell.key);
@@ -95,6 +95,20 @@ impl<W: World> Pinned<W> {
         ensures { IsTrue result ↔ StandsFirst cell.now self.now.recent }
     {
         match self.recent.first() {
+            Some(lately) => lately.tile().key() == cell.key && is_tile_of(lately.tile(), cell),
+            None => false,
+        }
+    }
+
+    /// Whether the other tile of the microcache is that of the cell, where the first is not.
+    fn is_behind(&self, cell: &CellAt) -> bool
+        requires { ¬ StandsFirst cell.now self.now.recent }
+        ensures value { IsTrue result ↔ IsTrue (has_cell cell.now self.now.recent) }
+        ensures has { IsTrue result → HasKey key_in cell.now.key self.now.recent }
+    {
+        // no two of its tiles have one key
+        let _has = self.recent.has(cell.key);
+        match self.recent.second() {
             Some(lately) => lately.tile().key() == cell.key && is_tile_of(lately.tile(), cell),
             None => false,
         }
