@@ -73,11 +73,6 @@ pub record IsLevelOf (file generation : ℕ) (cut : Cut) (kept : Kept) (l : ℕ)
   pub samples : IsChannelCount level.channels
   pub depth : level.depth ≡ bit_depth_in kept
 
--- the same of a level of a record
-abbrev pub TellsLevel : RecordState → ℕ → KnownLevel → Type 0
-TellsLevel state l level =
-    IfOk state.layout (λ kept. IsLevelOf state.file state.generation state.cut kept l level)
-
 -- these are the levels that the file has under the cut
 pub record AreLevelsOf (file generation : ℕ) (cut : Cut) (kept : Kept) (levels : List KnownLevel)
     : Type 0 where

@@ -1,13 +1,15 @@
-ghost use Rattle.std.specs.Prelude.{◌≡◌, ℕ, ◌<◌, ◌≤◌, length, Ok, Err, MatchResult, IfOk};
+ghost use Rattle.std.specs.Prelude.{◌≡◌, ℕ, ◌^◌, ◌<◌, ◌≤◌, length, Ok, Err, MatchResult, IfOk};
 ghost use Rattle.std.specs.Option.{ForSome};
 ghost use Rattle.tex_world.specs.World.{IsReal, last_generation, max_files};
 ghost use Rattle.tiff_dirs.specs.Level.{max_levels};
 ghost use Rattle.tile_layout.specs.Cut.{IsCut};
 ghost use Rattle.tile_layout.specs.Grid.{shown_grid};
 ghost use Rattle.tile_layout.specs.Halving.{HalvesWithinCells};
-ghost use Rattle.tile_layout.specs.Key.{index_of, HasParts};
+ghost use Rattle.tile_layout.specs.Key.{index_bits, index_of, key_of, HasParts};
+ghost use Rattle.tile_layout.specs.Cell.{channels_in, bit_depth_in};
+ghost use Rattle.tiff_dirs.specs.Facts.{IsChannelCount};
 ghost use Rattle.file_table.specs.Record.{layout_of, HasCutLevel, CountsLevels, CutsLevel};
-ghost use Rattle.file_table.specs.Record.{TellsFit, TellsLevel, AreLevelsOf};
+ghost use Rattle.file_table.specs.Record.{TellsFit, AreLevelsOf};
 
 use crate::known_level::KnownLevel;
 use std::alloc::{AllocError, Global};
@@ -175,10 +177,27 @@ impl<W: World> Record<W> {
     /// What lookups ask for of a level.
     pub fn level(&self, level: u32) -> &KnownLevel
         requires { HasCutLevel self.now level }
-        ensures value { TellsLevel self.now level result.now }
+        ensures grid { CutsLevel self.now level result.now.grid }
+        ensures first { index_of result.now.first ≡ 0 }
+        ensures parts { self.now.file < max_files →
+            HasParts self.now.generation self.now.file level 0 result.now.first }
+        ensures channels { IfOk self.now.layout (λ kept. result.now.channels ≡ channels_in kept) }
+        ensures in_range { IsChannelCount result.now.channels }
+        ensures depth { IfOk self.now.layout (λ kept. result.now.depth ≡ bit_depth_in kept) }
         ensures few { level < max_levels }
     {
         &self.levels[level as usize]
+    }
+
+    /// The key of a cell of a level.
+    pub fn key(&self, level: u32, index: u32) -> TileKey
+        requires level { HasCutLevel self.now level }
+        requires file { self.now.file < max_files }
+        requires index { index < 2 ^ index_bits }
+        ensures value { result ≡ key_of self.now.generation self.now.file level index }
+        ensures parts { HasParts self.now.generation self.now.file level index result }
+    {
+        self.level(level).first.with_index(index)
     }
 
     /// Whether the file shows no fault and no cell of any level takes more than 33554432 bytes in
