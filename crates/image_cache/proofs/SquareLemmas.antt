@@ -2,8 +2,7 @@
 use Rattle.std.proofs.Common.{◌≡◌, ℕ, ◌+◌, ◌<◌, ◌≤◌, ◌/◌, ◌%◌, ◌*◌, ◌-◌, true, refl, sym, ap, subst}
 use Rattle.std.proofs.Common.{◌∙◌, arith, List, Result, Ok, Err, Option, Some, None, min, length}
 use Rattle.std.specs.Prelude.{IsOkAnd, IfOk, IsSomeAnd}
-use Rattle.std.proofs.lemmas.Nat.{div-mul-add, mod-mul-add, div-add-mod'}
-use Rattle.tile_layout.proofs.BlockLemmas.{piece_below}
+use Rattle.std.proofs.lemmas.Nat.{div-mul-add, div-add-mod'}
 use Rattle.tiff_dirs.specs.declared.fault.TiffFault.{TiffFault}
 use Rattle.tex_world.specs.World.{Files, IsWorld}
 use Rattle.texel_filter.specs.declared.square.Square.{Square}
@@ -36,7 +35,6 @@ use Rattle.image_cache.specs.Texel.{has_cell_at, IsTexelOf, IsTexelIn}
 use Rattle.image_cache.specs.Call.{CountsNeed, KeepsAllButRecent}
 use Rattle.image_cache.specs.Square.{left_top, right_top, left_bottom, right_bottom}
 use Rattle.image_cache.specs.Square.{LieInOne, LieInOneOf, MeetsAt, MeetsSquare}
-use Rattle.image_cache.proofs.NeedLemmas.{rect_of_parts}
 use Rattle.image_cache.proofs.TexelLemmas.{at_cell, asks_at, told_by_record}
 
 -- ---- their cell
@@ -225,26 +223,6 @@ module _ (level : CutLevel) where
       in_part level.height level.cell_height (i / across) y h holds.top holds.bottom in
       ap (λ (r : ℕ). r * across + x / level.cell_width) row
       ∙ (ap (λ (c : ℕ). i / across * across + c) column ∙ div-add-mod' i across)
-
--- the rectangle of the cell that holds a texel, by the parts of the sides that hold it
-module _ (grid : Grid) (x y : ℕ) (across : x < grid.across.size) (down : y < grid.down.size) where
-  pub rect_by_parts : (rect : Rect) → rect.x ≡ x / grid.across.cell * grid.across.cell
-      → rect.y ≡ y / grid.down.cell * grid.down.cell
-      → rect.w ≡ min grid.across.cell (grid.across.size - rect.x)
-      → rect.h ≡ min grid.down.cell (grid.down.size - rect.y)
-      → rect ≡ cell_rect (shown_grid grid) (cell_index (shown_grid grid) x y)
-  unfolding cell_rect cell_index
-  rect_by_parts rect left top wide high =
-      let level = shown_grid grid in
-      let below : x / grid.across.cell < cells_across level =
-      piece_below grid.across.size grid.across.cell x grid.across.in_range.piece.some across in
-      let column = mod-mul-add (y / grid.down.cell) (cells_across level) (x / grid.across.cell) below in
-      let row = div-mul-add (y / grid.down.cell) (cells_across level) (x / grid.across.cell) below in
-      let to_left = left ∙ sym (ap (λ (n : ℕ). n * grid.across.cell) column) in
-      let to_top = top ∙ sym (ap (λ (n : ℕ). n * grid.down.cell) row) in
-      rect_of_parts rect (cell_rect level (cell_index level x y)) to_left to_top
-      (wide ∙ ap (λ (n : ℕ). min grid.across.cell (grid.across.size - n)) to_left)
-      (high ∙ ap (λ (n : ℕ). min grid.down.cell (grid.down.size - n)) to_top)
 
 has_cells_in : (state : RecordState) (kept : Kept) (l : ℕ) (grid : Grid)
     → shown_grid grid ≡ cut_level_in kept state.cut l → HasCells (cut_level_in kept state.cut l)

@@ -12,9 +12,10 @@ use Rattle.tex_world.specs.World.{Files, IsWorld}
 use Rattle.tiff_dirs.specs.declared.fault.TiffFault.{TiffFault}
 use Rattle.tile_layout.specs.Key.{generation_of, file_of, level_of}
 use Rattle.tile_layout.specs.Kept.{Kept}
+use Rattle.tile_layout.specs.Level.{level_count_in}
 use Rattle.tile_layout.specs.Cell.{bit_depth_in, bit_depth_of}
 use Rattle.tile_store.specs.Tile.{CachedTile}
-use Rattle.file_table.specs.Record.{RecordState, IsRecord}
+use Rattle.file_table.specs.Record.{RecordState, IsRecord, HasCutLevel}
 use Rattle.tile_load.proofs.KnownLayouts.{layout_told}
 use Rattle.texel_values.specs.declared.texel_at.TexelAt.{TexelAt}
 use Rattle.pinned_tiles.specs.declared.cell.CellAt.{CellAt}
@@ -156,3 +157,19 @@ cause_since files r view old mid new (refused.NoLevel generation levels) later n
 cause_since files r view old mid new (refused.Outside generation) later none = none
 cause_since files r view old mid new refused.RegionTooLarge later none = none
 cause_since files r view old mid new refused.HoldsFull later none = none
+
+-- a record has the level of each of its cells
+pub level_of_cell : (state : RecordState) (cell : CellAt) → IsCellOf state cell
+    → HasCutLevel state (level_of cell.key)
+level_of_cell state cell of = by state.layout of.under
+  where
+    by : (layout : Result Kept TiffFault)
+        → IsOkAnd layout (λ kept. IsCellUnder kept state.cut cell)
+        → IsOkAnd layout (λ kept. level_of cell.key < level_count_in kept state.cut.automip)
+    by (Ok kept) under = under.level
+    by (Err fault) under = absurd under
+
+pub level_there : (state : RecordState) (at : TexelAt) (cell : CellAt) → IsCellAt state at cell
+    → HasCutLevel state at.level
+level_there state at cell is =
+    subst (λ (l : ℕ). HasCutLevel state l) is.level (level_of_cell state cell is.of)

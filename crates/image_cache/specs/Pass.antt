@@ -196,13 +196,15 @@ abbrev pub SeesBoth : PassState → PassState → PassState → Type 0
 SeesBoth other old new = (file : ℕ) → slice_index new.view.seen file
     ≡ max (slice_index old.view.seen file) (slice_index other.view.seen file)
 
--- It has the permits of both, has seen the greater of both and counted both. Its tiles and its
--- record are as they were.
+-- It has the permits of both, has seen the greater of both and counted both. Its tiles, their pins
+-- and its record are as they were, and its own seat made no visit.
 pub record AfterJoin (other old new : PassState) : Type 0 where
   pub board : new.view.board ≡ old.view.board
   pub gate : new.pinned.seat.gate ≡ old.pinned.seat.gate
   pub cut : new.pinned.cut ≡ old.pinned.cut
   pub permits : new.pinned.seat.permits ≡ old.pinned.seat.permits + other.pinned.seat.permits
+  pub pins : new.pinned.seat.pins ≡ old.pinned.seat.pins
+  pub visits : new.pinned.seat.visits ≡ old.pinned.seat.visits
   pub tiles : SameTiles old new
   pub latest : new.latest ≡ old.latest
   pub seen : SeesBoth other old new

@@ -60,10 +60,8 @@ impl<T: Tap> Cache<T> {
         if let Some(bad) = options.first_bad() {
             return Err(NewError::BadOptions(bad));
         }
-        match made(alloc, options, files) {
-            Ok(made) => Ok(made),
-            Err(NoMemory) => Err(NewError::NoMemory),
-        }
+        let made = made(alloc, options, files)?;
+        Ok(made)
     }
 
     /// How the levels of its files are cut.
@@ -104,10 +102,8 @@ impl<T: Tap> Cache<T> {
         if pass.pinned.permits() < 2 {
             return Err(SplitError::NoPermit);
         }
-        match self.second(pass) {
-            Ok(second) => Ok(second),
-            Err(NoMemory) => Err(SplitError::NoMemory),
-        }
+        let second = self.second(pass)?;
+        Ok(second)
     }
 
     /// The second pass has then seen of each file the greater of both. It does not wait.

@@ -1,7 +1,7 @@
 //! Why a call of the cache is refused.
 use crate::pass::Pass;
 use std::fmt::Debug;
-use tex_world::World;
+use tex_world::{NoMemory, World};
 use thiserror::Error;
 use tiff_dirs::TiffFault;
 
@@ -41,6 +41,17 @@ pub enum CacheError<B> {
     Busy(B),
 }
 
+impl<B> From<NoMemory> for CacheError<B> {
+    ghost use Rattle.std.specs.Prelude.{◌≡◌};
+    ghost use Rattle.image_cache.specs.declared.error.CacheError.TheVariants.{NoMemory};
+
+    ghost from_gives = { λ _ e. e ≡ NoMemory };
+
+    fn from(_e: NoMemory) -> CacheError<B> {
+        CacheError::NoMemory
+    }
+}
+
 /// Why a hold was not released.
 #[derive(Clone, Copy, Debug, PartialEq, Eq, Error)]
 #[error_bound(B: Debug)]
@@ -62,6 +73,17 @@ pub enum SplitError {
     /// No memory was found.
     #[error("NoMemory")]
     NoMemory,
+}
+
+impl From<NoMemory> for SplitError {
+    ghost use Rattle.std.specs.Prelude.{◌≡◌};
+    ghost use Rattle.image_cache.specs.declared.error.SplitError.TheVariants.{NoMemory};
+
+    ghost from_gives = { λ _ e. e ≡ NoMemory };
+
+    fn from(_e: NoMemory) -> SplitError {
+        SplitError::NoMemory
+    }
 }
 
 /// The waiter gave up before all tiles of the other pass were given back. It comes back with those

@@ -187,7 +187,8 @@ impl<T: Tap> Cache<T> {
         ensures { ForSome (T.W.files.held known.now.file known.now.generation) (λ bytes.
             AreValuesAt bytes at out.new) }
     {
-        write_values(pass.pinned.latest(cell), depth_of(known), at, out);
+        let depth = depth_of(known, at.level);
+        write_values(pass.pinned.latest(cell), depth, at, out);
     }
 
     /// Writes the values of a texel whose cell the microcache has not.
@@ -224,7 +225,7 @@ impl<T: Tap> Cache<T> {
     {
         match self.need_tile(waiter, pass, tap, known, cell)? {
             Some(apart) => {
-                write_values(&apart, depth_of(known), at, out);
+                write_values(&apart, depth_of(known, at.level), at, out);
                 Ok(())
             }
             None => {
@@ -275,10 +276,8 @@ impl<T: Tap> Cache<T> {
         if pass.pinned.is_latest(cell) {
             return Ok(None);
         }
-        match self.load_apart(waiter, pass, tap, known, cell) {
-            Ok(tile) => Ok(Some(tile)),
-            Err(e) => Err(e),
-        }
+        let apart = self.load_apart(waiter, pass, tap, known, cell)?;
+        Ok(Some(apart))
     }
 
     /// The tile of a cell, loaded for one need alone.

@@ -2,6 +2,7 @@
 ghost use Rattle.std.specs.Prelude.{◌≡◌};
 ghost use Rattle.image_cache.specs.Options.{first_bad};
 
+use tex_world::NoMemory;
 use thiserror::Error;
 use tile_layout::Cut;
 
@@ -30,6 +31,17 @@ pub enum NewError {
     /// No memory was found.
     #[error("NoMemory")]
     NoMemory,
+}
+
+impl From<NoMemory> for NewError {
+    ghost use Rattle.std.specs.Prelude.{◌≡◌};
+    ghost use Rattle.image_cache.specs.declared.options.NewError.TheVariants.{NoMemory};
+
+    ghost from_gives = { λ _ e. e ≡ NoMemory };
+
+    fn from(_e: NoMemory) -> NewError {
+        NewError::NoMemory
+    }
 }
 
 const MAX_BUDGET: u64 = 1 << 32;

@@ -30,7 +30,6 @@ use pinned_tiles::CellAt;
 use std::alloc::Global;
 use tex_world::{NoMemory, Tap, World};
 use texel_values::{Area, Region, paint};
-use tile_layout::TileKey;
 use tile_store::Tile;
 use waiter::Waiter;
 
@@ -123,13 +122,11 @@ impl<T: Tap> Cache<T> {
         let grid = level_in(known, region.level)?;
         let area = Area::new(grid, region, channels_of(known));
         let values = self.values_of(waiter, pass, tap, known, &area)?;
-        match append(out, &values) {
-            Ok(()) => Ok(Pixels {
-                generation: known.generation(),
-                channels: area.window.channels,
-            }),
-            Err(NoMemory) => Err(CacheError::NoMemory),
-        }
+        append(out, &values)?;
+        Ok(Pixels {
+            generation: known.generation(),
+            channels: area.window.channels,
+        })
     }
 
     /// The values of an area.
@@ -168,13 +165,9 @@ impl<T: Tap> Cache<T> {
         ensures tap { NoneFalls (T.state tap.old) (T.state tap.new) }
     {
         pass.know();
-        let Ok(mut values) = zeros(self.alloc, area) else {
-            return Err(CacheError::NoMemory);
-        };
-        match self.fill(waiter, pass, tap, known, area, values.as_mut_slice()) {
-            Ok(()) => Ok(values),
-            Err(e) => Err(e),
-        }
+        let mut values = zeros(self.alloc, area)?;
+        self.fill(waiter, pass, tap, known, area, values.as_mut_slice())?;
+        Ok(values)
     }
 
     /// Writes the values of all texels that a region has on its level.
@@ -208,10 +201,7 @@ impl<T: Tap> Cache<T> {
     {
         pass.know();
         'cells: for k in 0..area.cells() {
-            match self.fill_cell(waiter, pass, tap, known, area, k, values) {
-                Ok(()) => {}
-                Err(e) => return Err(e),
-            }
+            self.fill_cell(waiter, pass, tap, known, area, k, values)?;
         }
         Ok(())
     }
@@ -352,10 +342,8 @@ fn zeros(alloc: Global, area: &Area) -> Result<Vec<u16>, NoMemory>
         ≡ area.now.height * (area.now.window.width * area.now.window.channels)) }
     ensures zero { IfOk result (λ values. IsZeroBeside area.now values.items) }
 {
-    match filled(alloc, area.count()) {
-        Ok(values) => Ok(values),
-        Err(NoMemory) => Err(NoMemory),
-    }
+    let values = filled(alloc, area.count())?;
+    Ok(values)
 }
 
 /// So many values of 0.
@@ -394,12 +382,10 @@ fn cell_met<W: World>(known: &Record<W>, area: &Area, k: u64) -> CellAt
     ensures bottom { result.rect.y + result.rect.h ≤ area.now.grid.down.size }
     ensures channels { result.channels ≡ area.now.window.channels }
 {
-    // a file has few levels
-    let _grid = known.grid(area.level);
-    let index = area.cell(k);
+    let (column, row) = area.place(k);
     CellAt {
-        key: TileKey::new(known.generation(), known.file(), area.level, index),
-        rect: area.grid.cell_rect(index),
+        key: known.key(area.level, area.grid.index(column, row)),
+        rect: area.grid.rect(column, row),
         channels: area.window.channels,
     }
 }
@@ -426,5 +412,6 @@ fn paint_part<W: World>(
         (λ bytes. HasValuesOn bytes (level_of cell.now.key) cell.now.rect area.now.window
         area.now.height values.new) }
 {
-    paint(tile, depth_of(known), &area.window, area.height, values);
+    let depth = depth_of(known, cell.key.level());
+    paint(tile, depth, &area.window, area.height, values);
 }

@@ -78,7 +78,7 @@ impl<T: Tap> Cache<T> {
     {
         write_square(
             pass.pinned.latest(cell),
-            depth_of(known),
+            depth_of(known, square.level),
             square,
             channels,
             out,

@@ -3,9 +3,10 @@ ghost use Rattle.std.specs.Prelude.{◌≡◌, ◌↔◌, ◌<◌, IfOk, IfSome,
 ghost use Rattle.tex_world.specs.World.{max_files};
 ghost use Rattle.tiff_dirs.specs.Facts.{IsChannelCount};
 ghost use Rattle.tile_layout.specs.Cell.{channels_in, bit_depth_in, HoldsTexel};
-ghost use Rattle.tile_layout.specs.Cell.{cell_index, cell_rect};
+ghost use Rattle.tile_layout.specs.Cell.{cell_count, cell_index, cell_rect};
+ghost use Rattle.tile_layout.specs.CutSide.{max_cells};
 ghost use Rattle.tile_layout.specs.Grid.{shown_grid};
-ghost use Rattle.file_table.specs.Record.{IsRecord};
+ghost use Rattle.file_table.specs.Record.{IsRecord, HasCutLevel};
 ghost use Rattle.texel_values.specs.Square.{HoldsSquare};
 ghost use Rattle.image_cache.specs.Texel.{IsTexelIn, IsCellAt};
 ghost use Rattle.image_cache.specs.Square.{left_top, IsSquareIn, LieInOneOf};
@@ -15,7 +16,7 @@ use pinned_tiles::CellAt;
 use tex_world::World;
 use texel_filter::Square;
 use texel_values::TexelAt;
-use tile_layout::{Grid, Rect, TileKey};
+use tile_layout::{Grid, Rect};
 
 /// The cell that holds a texel of a record.
 pub(crate) fn cell_at<W: World>(known: &Record<W>, at: TexelAt) -> CellAt
@@ -23,31 +24,29 @@ pub(crate) fn cell_at<W: World>(known: &Record<W>, at: TexelAt) -> CellAt
     requires file { known.now.file < max_files }
     ensures { IsCellAt known.now at result }
 {
-    let grid = known.grid(at.level);
-    let index = grid.cell_at(at.x, at.y);
+    let level = known.level(at.level);
+    let (index, rect) = place_at(&level.grid, at.x, at.y);
     CellAt {
-        key: TileKey::new(known.generation(), known.file(), at.level, index),
-        rect: rect_at(&grid, at.x, at.y),
-        channels: channels_of(known),
+        key: known.key(at.level, index),
+        rect,
+        channels: level.channels,
     }
 }
 
-/// The rectangle of the cell that holds a texel. It does not ask for the cell's number.
-fn rect_at(grid: &Grid, x: u32, y: u32) -> Rect
+/// The number and the rectangle of the cell that holds a texel.
+#[inline(always)]
+fn place_at(grid: &Grid, x: u32, y: u32) -> (u32, Rect)
     requires across { x < grid.now.across.size }
     requires down { y < grid.now.down.size }
-    ensures { result
+    ensures index { result.0 ≡ cell_index (shown_grid grid.now) x y }
+    ensures in_range { result.0 < cell_count (shown_grid grid.now) }
+    ensures few { result.0 < max_cells }
+    ensures rect { result.1
         ≡ cell_rect (shown_grid grid.now) (cell_index (shown_grid grid.now) x y) }
+    ensures holds { HoldsTexel result.1 x y }
 {
-    let (across, down) = (grid.across, grid.down);
-    let left = x / across.cell * across.cell;
-    let top = y / down.cell * down.cell;
-    Rect {
-        x: left,
-        y: top,
-        w: across.cell.min(across.size - left),
-        h: down.cell.min(down.size - top),
-    }
+    let (column, row) = (grid.across.cell_of(x), grid.down.cell_of(y));
+    (grid.index(column, row), grid.rect(column, row))
 }
 
 /// The cell that holds all four texels of a square of a record, if there is one.
@@ -59,7 +58,7 @@ pub(crate) fn cell_of_square<W: World>(known: &Record<W>, square: &Square) -> Op
     ensures one { IsSome result ↔ LieInOneOf known.now square.now }
 {
     // each of its cells has sides
-    let _grid = known.grid(square.level);
+    let _level = known.level(square.level);
     let first = TexelAt {
         level: square.level,
         x: square.left,
@@ -91,15 +90,13 @@ pub(crate) fn channels_of<W: World>(known: &Record<W>) -> u32
     }
 }
 
-/// The bits of a sample of a record that shows no fault.
-pub(crate) fn depth_of<W: World>(known: &Record<W>) -> u32
+/// The bits of a sample of a record that has the level.
+pub(crate) fn depth_of<W: World>(known: &Record<W>, level: u32) -> u32
+    requires { HasCutLevel known.now level }
     ensures value { IfOk known.now.layout (λ kept. result ≡ bit_depth_in kept) }
     ensures told { IsRecord W.files known.now }
 {
     // it tells that the layout is that of its bytes
     let _generation = known.generation();
-    match known.layout() {
-        Ok(layout) => layout.depth(),
-        Err(_) => 0,
-    }
+    known.level(level).depth
 }

@@ -2,6 +2,6 @@
 use Rattle.image_cache.proofs.FillLemmas.{zeros_beside}
 use Rattle.image_cache.proofs.pixels.zeros.Goals as goal
 
-pub returns-in-Ok-clause-zero : goal.returns-in-Ok-clause-zero
-returns-in-Ok-clause-zero c =
-    zeros_beside c.args.area.now c.in-Ok.values.items c.count.result c.in-Ok.ensures c.count.ensures
+pub returns-clause-zero : goal.returns-clause-zero
+returns-clause-zero c =
+    zeros_beside c.args.area.now c.in_ok-values.values.items c.count.result c.in_ok-values.ensures c.count.ensures

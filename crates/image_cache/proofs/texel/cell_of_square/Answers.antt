@@ -12,7 +12,7 @@ returns-then-holds-clause-holds g c = record {
 pub returns-then-holds-clause-one : goal.returns-then-holds-clause-one
 returns-then-holds-clause-one g c = (
   λ _. one_from_held c.args.known.now c.args.square.now c.cell_at-cell.result
-      c.grid-grid.result c.grid-grid.ensures.value c.cell_at-cell.ensures.is
+      c.level-level.result.now.grid c.level-level.ensures.grid c.cell_at-cell.ensures.is
       c.cell_at-cell.ensures.holds (c.holds.ensures.0 c.if-holds.true),
   λ _. refl,
 )
@@ -22,7 +22,7 @@ returns-else-holds-clause-one g c = (
   λ is. absurd cc,
   λ one.
       let held = c.holds.ensures.1 (held_from_one c.args.known.now c.args.square.now
-      c.cell_at-cell.result c.grid-grid.result c.grid-grid.ensures.value
+      c.cell_at-cell.result c.level-level.result.now.grid c.level-level.ensures.grid
       c.cell_at-cell.ensures.is c.requires.inside.last one) in
       absurd (cc (held, c.if-holds.false)),
 )

@@ -1,9 +1,24 @@
--- The parts of both sides that hold the texel are those of its cell.
-use Rattle.std.proofs.Common.{refl}
-use Rattle.image_cache.proofs.SquareLemmas.{rect_by_parts}
-use Rattle.image_cache.proofs.texel.rect_at.Goals as goal
+-- The cell in the column and the row of the texel is the one that holds it.
+use Rattle.std.proofs.Common.{refl, ◌∙◌}
+use Rattle.tile_layout.specs.Cell.{cell_index}
+use Rattle.tile_layout.specs.Grid.{shown_grid}
+use Rattle.tile_layout.proofs.CellLemmas.{index_below, holds_texel}
+use Rattle.tile_layout.proofs.GridLemmas.{has_cells}
+use Rattle.image_cache.proofs.texel.place_at.Goals as goal
 
-pub returns : goal.returns
-returns c =
-    rect_by_parts c.args.grid.now c.args.x c.args.y c.requires.across c.requires.down _ refl refl
-    c.min.ensures c.min-2.ensures
+pub returns-clause-index : goal.returns-clause-index
+unfolding cell_index
+returns-clause-index c =
+    c.index.ensures.value ∙ rw (c.cell_of-column.ensures.value, c.cell_of-row.ensures.value) refl
+
+pub returns-clause-rect : goal.returns-clause-rect
+unfolding cell_index
+returns-clause-rect c =
+    c.rect.ensures.value ∙ rw (c.cell_of-column.ensures.value, c.cell_of-row.ensures.value) refl
+
+pub returns-clause-holds : goal.returns-clause-holds
+returns-clause-holds c =
+    let grid = c.args.grid.now in
+    rw (returns-clause-rect c)
+    (holds_texel (shown_grid grid) (has_cells grid) c.args.x c.args.y c.requires.across
+    c.requires.down)

@@ -3,7 +3,7 @@ use Rattle.std.proofs.Common.{◌≡◌, ℕ, Option, IfSome, IsTrue, subst}
 use Rattle.tile_store.specs.Tile.{CachedTile}
 use Rattle.pinned_tiles.specs.Cell.{is_tile_of}
 use Rattle.pinned_tiles.specs.Pinned.{IsAskedFor}
-use Rattle.image_cache.proofs.TexelLemmas.{values_told, at_cell}
+use Rattle.image_cache.proofs.TexelLemmas.{values_told, at_cell, level_there}
 use Rattle.image_cache.proofs.VisitLemmas.{missed_at}
 use Rattle.image_cache.proofs.cache.Cache.fetch_cold.Goals as goal
 
@@ -39,3 +39,7 @@ returns-in-None-clause-missed g c tells =
     missed_at c.args.self.now.gate c.args.known.now c.args.at c.args.cell.now c.args.pass.now
     c.need_tile.new.pass (g.T.Tap.state c.args.tap.now) (g.T.Tap.state c.need_tile.new.tap)
     c.requires.cell.is (c.need_tile.ensures.missed tells)
+
+pub depth_of-requires : goal.depth_of-requires
+depth_of-requires g c =
+    level_there c.args.known.now c.args.at c.args.cell.now c.requires.cell

@@ -54,17 +54,17 @@ cells-preserved g c =
       value = λ bytes held m low.
           elim (less_or_not m k) [
             | inl earlier ↦ painted_stays bytes area.level area.window area.height (rect m) (rect k)
-                old new (inv.value bytes held m earlier) (c.in-Ok.ensures.value bytes held)
+                old new (inv.value bytes held m earlier) (c.in_ok-fill_cell.ensures.value bytes held)
                 c.fill_cell.ensures.others
             | inr not_earlier ↦
                 let same : k ≡ m = omega (arith, low, not_earlier) in
                 subst (λ (n : ℕ). HasValuesOn bytes area.level (rect n) area.window area.height new)
-                same (c.in-Ok.ensures.value bytes held)
+                same (c.in_ok-fill_cell.ensures.value bytes held)
           ];
       needs = subst (λ (keys : List ℕ). Needs files keys first after) (sym (keys_more known area k))
           (needs_more files (area_keys known area k)
           (key_of known.generation known.file area.level (area_cell area k)) first before after
-          inv.needs c.in-Ok.ensures.needs);
+          inv.needs c.in_ok-fill_cell.ensures.needs);
       pass = same_cache c.args.self.now before after c.fill_cell.ensures.same.place inv.pass;
       same = after_chain known.file first before after inv.same c.fill_cell.ensures.same;
       counts = record {
@@ -78,13 +78,13 @@ cells-preserved g c =
           (g.T.Tap.state c.fill_cell.new.tap) inv.tap c.fill_cell.ensures.tap;
     }
 
-pub returns-in-Err-clause-same : goal.returns-in-Err-clause-same
-returns-in-Err-clause-same g c =
+pub returns-in_err-fill_cell-clause-same : goal.returns-in_err-fill_cell-clause-same
+returns-in_err-fill_cell-clause-same g c =
     after_chain c.args.known.now.file c.args.pass.now c.cells.pass c.fill_cell.new.pass
     c.cells.invariant.same c.fill_cell.ensures.same
 
-pub returns-in-Err-clause-visits : goal.returns-in-Err-clause-visits
-returns-in-Err-clause-visits g c =
+pub returns-in_err-fill_cell-clause-visits : goal.returns-in_err-fill_cell-clause-visits
+returns-in_err-fill_cell-clause-visits g c =
     purges_none_chain c.args.self.now.gate c.args.pass.now.pinned.seat c.cells.pass.pinned.seat
     c.fill_cell.new.pass.pinned.seat c.cells.invariant.visits c.fill_cell.ensures.visits
 

@@ -8,8 +8,8 @@ use Rattle.image_cache.specs.Pass.{PassState}
 use Rattle.image_cache.proofs.VisitLemmas.{told_stands}
 use Rattle.image_cache.proofs.cache.Cache.need_tile.Goals as goal
 
-pub returns-in-Ok-clause-missed : goal.returns-in-Ok-clause-missed
-returns-in-Ok-clause-missed g c tells =
+pub returns-clause-missed : goal.returns-clause-missed
+returns-clause-missed g c tells =
     let files = g.T.W.World.files in
     let cell = c.args.cell.now in
     let first = subst (λ (s : PassState). HasFirst cell.key s.pinned.recent) (sym c.pass.view_is)
@@ -23,8 +23,8 @@ returns-in-Ok-clause-missed g c tells =
     c.generation-known.ensures.told c.requires.cell first fits in
     absurd (cc (c.is_latest.ensures.1 stands, c.if-is_latest.false))
 
-pub returns-in-Err-clause-missed : goal.returns-in-Err-clause-missed
-returns-in-Err-clause-missed g c tells =
+pub returns-in_err-apart-clause-missed : goal.returns-in_err-apart-clause-missed
+returns-in_err-apart-clause-missed g c tells =
     let files = g.T.W.World.files in
     let cell = c.args.cell.now in
     let first = subst (λ (s : PassState). HasFirst cell.key s.pinned.recent) (sym c.pass.view_is)

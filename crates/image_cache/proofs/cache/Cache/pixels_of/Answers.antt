@@ -6,8 +6,8 @@ pub returns-in_err-grid-clause-same : goal.returns-in_err-grid-clause-same
 returns-in_err-grid-clause-same g c =
     after_none c.args.known.now.file c.args.pass.now c.know.ensures.few
 
-pub returns-in-Ok-clause-ok : goal.returns-in-Ok-clause-ok
-returns-in-Ok-clause-ok g c = (
+pub returns-clause-ok : goal.returns-clause-ok
+returns-clause-ok g c = (
   c.generation.ensures.value,
   reads_region g.T.W.World.files c.args.known.now c.args.region.now
       c.new-area.result c.in_ok-grid.grid c.channels_of.result c.args.pass.now c.values_of.new.pass
@@ -15,11 +15,11 @@ returns-in-Ok-clause-ok g c = (
       c.in_ok-values.ensures.needs,
 )
 
-pub returns-in-Ok-clause-value : goal.returns-in-Ok-clause-value
-returns-in-Ok-clause-value g c bytes held =
+pub returns-clause-value : goal.returns-clause-value
+returns-clause-value g c bytes held =
     let values = c.in_ok-values.values.items in (
       values,
-      c.in-Ok.ensures.ok,
+      c.in_ok-append.ensures.ok,
       values_of_region g.T.W.World.files c.args.known.now c.args.region.now
           c.new-area.result c.in_ok-grid.grid c.channels_of.result bytes values
           c.generation.ensures.told held c.in_ok-grid.ensures.ok c.in_ok-grid.ensures.grid

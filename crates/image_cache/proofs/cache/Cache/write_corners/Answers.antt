@@ -1,5 +1,7 @@
 -- The values are those of the tile of the square's cell.
+use Rattle.image_cache.specs.Square.{left_top}
 use Rattle.image_cache.proofs.SquareLemmas.{corners_told}
+use Rattle.image_cache.proofs.TexelLemmas.{level_there}
 use Rattle.image_cache.proofs.cache.Cache.write_corners.Goals as goal
 
 pub returns : goal.returns
@@ -8,3 +10,7 @@ returns g c bytes held =
     c.args.cell.now c.latest.result.now c.depth_of.result c.args.channels c.write_square.new.out bytes
     c.depth_of.ensures.told c.requires.cell c.latest.ensures.keyed c.depth_of.ensures.value
     c.write_square.ensures held
+
+pub depth_of-requires : goal.depth_of-requires
+depth_of-requires g c =
+    level_there c.args.known.now (left_top c.args.square.now) c.args.cell.now c.requires.cell
