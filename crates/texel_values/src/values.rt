@@ -38,26 +38,13 @@ pub(crate) fn channel_value(samples: &[u16], depth: u32, c: usize) -> u16
     }
 }
 
-/// The value of a channel that these samples of a texel have.
-pub(crate) fn own_value(samples: &[u16], depth: u32, c: usize) -> u16
-    requires { c < length samples.now }
-    ensures { result ≡ sample_value samples.now depth c }
-{
-    value_of(depth, samples[c])
-}
-
 /// Writes the values of the first channels of these samples of a texel.
 fn write_channels(samples: &[u16], depth: u32, out: &mut [u16])
     ensures values { (c : ℕ) → c < length out.new
         → slice_index out.new c ≡ sample_value samples.now depth c }
     ensures long { length out.new ≡ length out.old }
 {
-    // those that it has are not tested one by one
-    let own = out.len().min(samples.len());
-    'own: for c in 0..own {
-        out[c] = own_value(samples, depth, c);
-    }
-    'others: for c in own..out.len() {
+    for c in 0..out.len() {
         out[c] = channel_value(samples, depth, c);
     }
 }

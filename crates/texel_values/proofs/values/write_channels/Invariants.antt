@@ -3,14 +3,8 @@ use Rattle.std.proofs.Common.{◌≡◌, ℕ, ◌<◌, length, slice_index}
 use Rattle.texel_values.specs.Values.{sample_value}
 use Rattle.texel_values.proofs.values.write_channels.Given as goal
 
-abbrev pub invariant-own : goal.invariant-own
-invariant-own l = record {
-  long : length l.out ≡ length l.fn.out;
-  so_far : (k : ℕ) → k < l.c → slice_index l.out k ≡ sample_value l.fn.samples l.fn.depth k;
-}
-
-abbrev pub invariant-others : goal.invariant-others
-invariant-others l = record {
+abbrev pub invariant-loop-c : goal.invariant-loop-c
+invariant-loop-c l = record {
   long : length l.out ≡ length l.fn.out;
   so_far : (k : ℕ) → k < l.c → slice_index l.out k ≡ sample_value l.fn.samples l.fn.depth k;
 }
