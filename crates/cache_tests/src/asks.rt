@@ -21,6 +21,9 @@ pub(crate) enum Ask {
     TextureLocal(u32, Look),
     /// What a shard has.
     Count(u32),
+    /// A file that is made invalid, with force or without.
+    Invalidate(u32, bool),
+    InvalidateAll,
 }
 
 /// What a call answers.
@@ -37,6 +40,8 @@ pub(crate) enum Answer {
     /// The tiles and the pins of a shard, the bytes of its unpinned tiles, and the most of those.
     Shard([u64; 4]),
     Released,
+    /// All files that are known were asked for.
+    Known,
     /// No generation, or no tile at that place.
     Nothing,
     /// Generation and number of the fault.

@@ -62,6 +62,10 @@ impl<T: Tap> Worker<'_, T> {
             }
             Ask::Texture(file, look) if file < FILES => self.look(waiter, tap, file, look),
             Ask::TextureLocal(file, look) if file < FILES => self.look_local(file, look),
+            Ask::Invalidate(file, force) if file < FILES => {
+                self.invalidate(waiter, tap, file, force)
+            }
+            Ask::InvalidateAll => self.invalidate_all(waiter, tap),
             Ask::Count(shard) if shard < self.shards => self.count(waiter, shard),
             _ => Answer::Other,
         }
@@ -207,6 +211,36 @@ impl<T: Tap> Worker<'_, T> {
         match self.out.extend_from_slice(values) {
             Ok(()) => answer,
             Err(_full) => Answer::Other,
+        }
+    }
+
+    fn invalidate<V: Waiter>(&mut self, waiter: &V, tap: usize, file: u32, force: bool) -> Answer
+        requires file { file < 5 }
+        requires told { (file : ℕ) → file < 5 → IsFile T.W.files file }
+        ensures { self.new.cache.now ≡ self.old.cache.now }
+    {
+        let Some(tap) = self.taps.get_mut(tap) else {
+            return Answer::Other;
+        };
+        match self
+            .cache
+            .invalidate(waiter, &mut self.pass, tap, file, force)
+        {
+            Ok(generation) => Answer::Of(generation),
+            Err(e) => refusal(e),
+        }
+    }
+
+    fn invalidate_all<V: Waiter>(&mut self, waiter: &V, tap: usize) -> Answer
+        requires { (file : ℕ) → file < 5 → IsFile T.W.files file }
+        ensures { self.new.cache.now ≡ self.old.cache.now }
+    {
+        let Some(tap) = self.taps.get_mut(tap) else {
+            return Answer::Other;
+        };
+        match self.cache.invalidate_all(waiter, &mut self.pass, tap) {
+            Ok(()) => Answer::Known,
+            Err(e) => refusal(e),
         }
     }
 

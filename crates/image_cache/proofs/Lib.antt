@@ -4,3 +4,5 @@ mod NeedLemmas
 mod FillLemmas
 pub mod SquareLemmas
 mod VisitLemmas
+mod AskLemmas
+mod HoldLemmas

@@ -111,20 +111,39 @@ under_bytes files state cell bytes (Ok kept) is honest held under =
     (record { file = refl; generation = refl }) bytes held).kept under
 under_bytes files state cell bytes (Err fault) is honest held under = absurd under
 
-pub told_is_tile : (files : Files) (state : RecordState) (cell : CellAt) (tile : CachedTile)
+-- what a told tile of the key has in common with the cell
+record IsAsCell (cell : CellAt) (tile : CachedTile) : Type 0 where
+  rect : tile.rect ≡ cell.rect
+  channels : tile.channels ≡ cell.channels
+
+told_as_cell : (files : Files) (state : RecordState) (cell : CellAt) (tile : CachedTile)
     → IsTrue files.tells → IsRecord files state → IsCellOf state cell → tile.key ≡ cell.key
-    → FitsCut files state.cut tile → is_tile_of cell tile ≡ true
-told_is_tile files state cell tile tells honest of same fits =
+    → FitsCut files state.cut tile → IsAsCell cell tile
+told_as_cell files state cell tile tells honest of same fits =
     let held = held_parts files state cell tile.key
     (λ bytes. IsCellTileOf state.cut bytes tile) same of (fits tells) in
     let bytes = held.0 in
     let under = under_bytes files state cell bytes state.layout refl honest held.1 of.under in
-    let rect : tile.rect ≡ cell.rect = held.2.cell.rect
-    ∙ (ap (λ (k : ℕ). cell_rect (cut_level_in (kept_of bytes) state.cut (level_of k)) (index_of k))
-    same ∙ sym under.rect) in
-    let channels : tile.channels ≡ cell.channels = held.2.of_bytes.channels ∙ sym under.channels in
+    record {
+      rect = held.2.cell.rect
+          ∙ (ap (λ (k : ℕ). cell_rect (cut_level_in (kept_of bytes) state.cut (level_of k))
+          (index_of k)) same ∙ sym under.rect);
+      channels = held.2.of_bytes.channels ∙ sym under.channels;
+    }
+
+pub told_rect : (files : Files) (state : RecordState) (cell : CellAt) (tile : CachedTile)
+    → IsTrue files.tells → IsRecord files state → IsCellOf state cell → tile.key ≡ cell.key
+    → FitsCut files state.cut tile → tile.rect ≡ cell.rect
+told_rect files state cell tile tells honest of same fits =
+    (told_as_cell files state cell tile tells honest of same fits).rect
+
+pub told_is_tile : (files : Files) (state : RecordState) (cell : CellAt) (tile : CachedTile)
+    → IsTrue files.tells → IsRecord files state → IsCellOf state cell → tile.key ≡ cell.key
+    → FitsCut files state.cut tile → is_tile_of cell tile ≡ true
+told_is_tile files state cell tile tells honest of same fits =
+    let alike = told_as_cell files state cell tile tells honest of same fits in
     both_true (is_rect tile.rect cell.rect) (tile.channels == cell.channels)
-    (rect_same tile.rect cell.rect rect) (eq-eqb tile.channels cell.channels channels)
+    (rect_same tile.rect cell.rect alike.rect) (eq-eqb tile.channels cell.channels alike.channels)
 
 key_decides_at : (cell : CellAt) (t : CachedTile) (tiles : List CachedTile) (is : Bool)
     → nat_eq t.key cell.key ≡ is → (t.key ≡ cell.key → is_tile_of cell t ≡ true)

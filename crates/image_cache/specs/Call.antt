@@ -146,7 +146,8 @@ KeepsOne files file cut old new = (new.latest ≡ old.latest)
 
 -- ---- holds
 
--- The cell that holds a texel of a record is held, behind the others.
+-- The cell that holds a texel of a record is held, behind the others. Where the world tells, the tile
+-- has the rectangle of that cell.
 pub record HoldsCell (files : Files) (at : TexelAt) (old new : PassState) (r : RecordState)
     : Type 0 where
   pub tile : CachedTile
@@ -154,6 +155,8 @@ pub record HoldsCell (files : Files) (at : TexelAt) (old new : PassState) (r : R
   pub fits : FitsCut files r.cut tile
   pub cell : IsOkAnd r.layout (λ kept. CellsFit kept r.cut × IsTexelOf kept r.cut at
       × (tile.key ≡ (cell_of r.generation r.file r.cut kept at).key))
+  pub rect : IsTrue files.tells → IsOkAnd r.layout (λ kept.
+      tile.rect ≡ (cell_of r.generation r.file r.cut kept at).rect)
 
 -- All of it but its holds and its hand is as it was.
 pub record KeepsAllButHolds (old new : PassState) : Type 0 where

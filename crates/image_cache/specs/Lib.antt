@@ -7,5 +7,6 @@ pub mod Texel
 pub mod Facts
 pub mod Call
 pub mod Square
+pub mod Invalid
 pub mod Cause
 pub mod Region

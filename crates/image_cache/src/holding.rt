@@ -83,6 +83,8 @@ impl<T: Tap> Cache<T> {
         ensures tap { NoneFalls (T.state tap.old) (T.state tap.new) }
     {
         inside(known, at)?;
+        // the record's layout is that of its bytes
+        let _known = known.generation();
         let cell = self.cell(known, at);
         self.take_in_hand(waiter, pass, tap, known, &cell)?;
         pass.pinned.hold();

@@ -8,6 +8,7 @@ mod error;
 mod facts;
 mod fetching;
 mod holding;
+mod invalidating;
 mod loading;
 mod opening;
 mod options;

@@ -79,6 +79,13 @@ impl<W: World> Pass<W> {
         self.pinned.held(place)
     }
 
+    /// How many tiles it holds.
+    pub fn held_count(&self) -> usize
+        ensures { result ≡ length self.now.pinned.holds }
+    {
+        self.pinned.held_count()
+    }
+
     /// What holds of it. It does nothing.
     pub(crate) fn know(&self)
         ensures few { length self.now.pinned.recent ≤ 2 }

@@ -2,7 +2,7 @@
 ghost use Rattle.std.specs.Prelude.{◌≡◌, ◌+◌, ◌-◌, ◌<◌, ◌≤◌, [], length, vec_capacity, None};
 ghost use Rattle.std.specs.Prelude.{OnOk, OnErr, IfOk};
 ghost use Rattle.tile_store.specs.Tag.{tag_of};
-ghost use Rattle.shard_gate.specs.Given.{AtShard, Counts};
+ghost use Rattle.shard_gate.specs.Given.{AtShard, AtFirst, Counts, Purges};
 ghost use Rattle.pinned_tiles.specs.Pinned.{max_holds, ArePinned, PinsAt, KeepsTiles};
 ghost use Rattle.pinned_tiles.specs.Pinned.{IsNewPart, IsSecondPart, KeepsAllButPermits};
 
@@ -120,6 +120,24 @@ impl<W: World> Pinned<W> {
         ensures are { ArePinned W.files self.new }
     {
         gate.count(waiter, &mut self.seat, shard)
+    }
+
+    /// The unpinned tiles of a file leave whose generation is below the bound, in each shard in turn.
+    pub fn purge<V: Waiter>(
+        &mut self,
+        gate: &Gate<W>,
+        waiter: &V,
+        file: u32,
+        below: u32,
+    ) -> Result<(), V::Busy>
+        requires gate { PinsAt gate.now self.old }
+        ensures visits { OnOk result (AtFirst (length gate.now.id) (Purges file below)
+            self.old.seat.visits self.new.seat.visits) }
+        ensures hand { self.new.hand ≡ self.old.hand }
+        ensures same { KeepsTiles self.old self.new }
+        ensures are { ArePinned W.files self.new }
+    {
+        gate.purge(waiter, &mut self.seat, file, below)
     }
 
     /// What a second pass has pinned: nothing. It has one permit of the seat.

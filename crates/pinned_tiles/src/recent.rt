@@ -165,6 +165,7 @@ impl<W: World> Pinned<W> {
         ensures recent { OnOk result (self.new.recent ≡ []) }
         ensures part { LeavesPart self.old self.new }
         ensures same { KeepsHolds self.old self.new }
+        ensures visits { PurgesNone gate.now self.old.seat self.new.seat }
         ensures are { ArePinned W.files self.new }
     {
         if let Err(busy) = self.release_hand(gate, waiter) {

@@ -1,0 +1,198 @@
+//! Files that are made invalid.
+ghost use Rattle.std.specs.Prelude.{◌≡◌, ◌<◌, ℕ, [], IfOk, IfErr, OnOk, length, slice_index};
+ghost use Rattle.tex_world.specs.World.{IsFile};
+ghost use Rattle.tex_world.specs.Tap.{IsLeast};
+ghost use Rattle.gen_board.specs.View.{IsLater};
+ghost use Rattle.file_table.specs.Calls.{KeepsView};
+ghost use Rattle.shard_gate.specs.Given.{AtFirst, Purges};
+ghost use Rattle.shard_gate.specs.Since.{PurgesNone};
+ghost use Rattle.pinned_tiles.specs.Pinned.{KeepsTiles};
+ghost use Rattle.image_cache.specs.Pass.{IsPassOf, SameCounts};
+ghost use Rattle.image_cache.specs.Invalid.{invalid, IsEmptied, MakesInvalid, MakesAllInvalid};
+ghost use Rattle.image_cache.specs.Invalid.{InvalidCause, Renews, KeepsButSight, MayAsk};
+ghost use Rattle.image_cache.specs.Invalid.{AsksIfKnown};
+ghost use Rattle.image_cache.specs.Invalid as spec;
+
+use crate::cache::Cache;
+use crate::error::CacheError;
+use crate::pass::Pass;
+use tex_world::{LAST_GENERATION, Tap};
+use waiter::Waiter;
+
+/// A file that is made invalid, with force or without.
+#[derive(Clone, Copy, Debug)]
+struct Invalid {
+    file: u32,
+    force: bool,
+}
+
+impl<T: Tap> Cache<T> {
+    /// Asks the tap for the newest generation of a file, which is answered and made known. The
+    /// pass's microcache and its record are given up first, whatever is answered.
+    ///
+    /// Where the answer is newer than what was known, the file's record, its idle handle and its
+    /// unpinned tiles of older generations are given up too. With `force` they are in any case, and
+    /// so are its unpinned tiles of every generation. A pinned tile stays until its last pin goes,
+    /// and the microcaches of other passes stay. It takes no memory.
+    pub fn invalidate<V: Waiter>(
+        &self,
+        waiter: &V,
+        pass: &mut Pass<T::W>,
+        tap: &mut T,
+        file: u32,
+        force: bool,
+    ) -> Result<u32, CacheError<V::Busy>>
+        requires pass { IsPassOf self.now pass.old }
+        requires file { file < self.now.files.board.files }
+        requires told { IsFile T.W.files file }
+        ensures ok { IfOk result (MakesInvalid T.W.files self.now.gate (invalid file force)
+            pass.old pass.new (T.state tap.old) (T.state tap.new)) }
+        ensures cause { IfErr result (InvalidCause (T.state tap.old) (T.state tap.new)) }
+        // What the call leaves, whatever it answers.
+        ensures emptied { IsEmptied V.Busy pass.old pass.new }
+        ensures view { KeepsView file pass.old.view pass.new.view }
+        ensures tap { MayAsk (T.state tap.old) (T.state tap.new) }
+    {
+        if let Err(busy) = self.empty(waiter, pass) {
+            return Err(CacheError::Busy(busy));
+        }
+        let looked = self.files.board().look(&mut pass.view, file);
+        self.renew(waiter, pass, tap, Invalid { file, force }, looked)
+    }
+
+    /// `invalidate` without force for each file that is known, in the order of their numbers. Where
+    /// the tap fails it ends there.
+    pub fn invalidate_all<V: Waiter>(
+        &self,
+        waiter: &V,
+        pass: &mut Pass<T::W>,
+        tap: &mut T,
+    ) -> Result<(), CacheError<V::Busy>>
+        requires pass { IsPassOf self.now pass.old }
+        requires told { (file : ℕ) → file < self.now.files.board.files → IsFile T.W.files file }
+        ensures ok { OnOk result (MakesAllInvalid self.now.files.board.files
+            pass.old.view pass.new.view (T.state tap.old) (T.state tap.new)) }
+        ensures cause { IfErr result (InvalidCause (T.state tap.old) (T.state tap.new)) }
+        // What the call leaves, whatever it answers.
+        ensures emptied { IsEmptied V.Busy pass.old pass.new }
+        ensures later { IsLater pass.old.view.seen pass.new.view.seen }
+        ensures tap { MayAsk (T.state tap.old) (T.state tap.new) }
+    {
+        if let Err(busy) = self.empty(waiter, pass) {
+            return Err(CacheError::Busy(busy));
+        }
+        for file in 0..self.files.board().files() {
+            if let Err(e) = self.renew_known(waiter, pass, tap, file) {
+                return Err(e);
+            }
+        }
+        Ok(())
+    }
+
+    /// Looks at a file, and asks for its newest generation if it is known.
+    fn renew_known<V: Waiter>(
+        &self,
+        waiter: &V,
+        pass: &mut Pass<T::W>,
+        tap: &mut T,
+        file: u32,
+    ) -> Result<(), CacheError<V::Busy>>
+        requires pass { IsPassOf self.now pass.old }
+        requires file { file < self.now.files.board.files }
+        requires told { IsFile T.W.files file }
+        ensures ok { OnOk result (AsksIfKnown file pass.old.view pass.new.view
+            (T.state tap.old) (T.state tap.new)) }
+        ensures cause { IfErr result (InvalidCause (T.state tap.old) (T.state tap.new)) }
+        ensures same { KeepsButSight file pass.old pass.new }
+        ensures tap { MayAsk (T.state tap.old) (T.state tap.new) }
+    {
+        let looked = self.files.board().look(&mut pass.view, file);
+        if looked == 0 {
+            return Ok(());
+        }
+        let asked = Invalid { file, force: false };
+        match self.renew(waiter, pass, tap, asked, looked) {
+            Ok(_newest) => Ok(()),
+            Err(e) => Err(e),
+        }
+    }
+
+    /// The newest generation of a file, of which this one was just looked at. It is made known, and
+    /// what is kept of the file is given up where it is stale.
+    fn renew<V: Waiter>(
+        &self,
+        waiter: &V,
+        pass: &mut Pass<T::W>,
+        tap: &mut T,
+        asked: Invalid,
+        looked: u32,
+    ) -> Result<u32, CacheError<V::Busy>>
+        requires pass { IsPassOf self.now pass.old }
+        requires file { asked.file < self.now.files.board.files }
+        requires told { IsFile T.W.files asked.file }
+        requires least { IsLeast T.W.files asked.file looked }
+        requires seen { slice_index pass.old.view.seen asked.file ≡ looked }
+        ensures ok { IfOk result (Renews T.W.files self.now.gate (invalid asked.file asked.force)
+            looked pass.old pass.new (T.state tap.old) (T.state tap.new)) }
+        ensures cause { IfErr result (InvalidCause (T.state tap.old) (T.state tap.new)) }
+        ensures same { KeepsButSight asked.file pass.old pass.new }
+        ensures tap { MayAsk (T.state tap.old) (T.state tap.new) }
+    {
+        let Ok(newest) = tap.newest(asked.file, looked) else {
+            return Err(CacheError::ReadFault);
+        };
+        if looked < newest {
+            self.files.board().raise(&mut pass.view, asked.file, newest);
+        }
+        if asked.force || looked < newest {
+            let below = stale_below(asked.force, newest);
+            if let Err(busy) = self.give_up(waiter, pass, asked.file, below) {
+                return Err(CacheError::Busy(busy));
+            }
+        }
+        Ok(newest)
+    }
+
+    /// The pass's microcache and its record are given up.
+    fn empty<V: Waiter>(&self, waiter: &V, pass: &mut Pass<T::W>) -> Result<(), V::Busy>
+        requires pass { IsPassOf self.now pass.old }
+        ensures recent { OnOk result (pass.new.pinned.recent ≡ []) }
+        ensures emptied { IsEmptied V.Busy pass.old pass.new }
+        ensures view { pass.new.view ≡ pass.old.view }
+        ensures visits { PurgesNone self.now.gate pass.old.pinned.seat pass.new.pinned.seat }
+    {
+        pass.latest = None;
+        pass.pinned.release_recent(&self.gate, waiter)
+    }
+
+    /// What is kept of a file is given up: its record, its idle handle, and its unpinned tiles of
+    /// generations below the bound.
+    fn give_up<V: Waiter>(
+        &self,
+        waiter: &V,
+        pass: &mut Pass<T::W>,
+        file: u32,
+        below: u32,
+    ) -> Result<(), V::Busy>
+        requires pass { IsPassOf self.now pass.old }
+        requires file { file < self.now.files.board.files }
+        ensures visits { OnOk result (AtFirst (length self.now.gate.id) (Purges file below)
+            pass.old.pinned.seat.visits pass.new.pinned.seat.visits) }
+        ensures tiles { KeepsTiles pass.old.pinned pass.new.pinned }
+        ensures hand { pass.new.pinned.hand ≡ pass.old.pinned.hand }
+        ensures latest { pass.new.latest ≡ pass.old.latest }
+        ensures counts { SameCounts pass.old pass.new }
+        ensures view { pass.new.view ≡ pass.old.view }
+    {
+        self.files.drop_idle(waiter, file)?;
+        pass.pinned.purge(&self.gate, waiter, file, below)
+    }
+}
+
+/// The bound below which tiles are stale: with force those of every generation are, and else those
+/// that are older than the newest.
+fn stale_below(force: bool, newest: u32) -> u32
+    ensures { result ≡ spec.stale_below force newest }
+{
+    if force { LAST_GENERATION + 1 } else { newest }
+}
