@@ -41,7 +41,7 @@ options_of rows = do
 
 -- each number is in its range
 pub record IsInRange (o : Options) : Type 0 where
-  pub workers : (1 ≤ o.workers) × (o.workers ≤ 1)
+  pub workers : (1 ≤ o.workers) × (o.workers ≤ 16)
   pub budget : o.budget ≤ range.budget.most
   pub shards : (1 ≤ o.shards) × (o.shards ≤ 64)
   pub handles : (1 ≤ o.handles) × (o.handles ≤ 1024)

@@ -27,7 +27,7 @@ number_or_default range (Some text) = value_in_range range text
 
 -- --workers
 abbrev pub workers : NumberRange
-workers = range 1 1 1 1
+workers = range 1 16 1 4
 
 -- --budget
 abbrev pub budget : NumberRange

@@ -22,9 +22,9 @@ pub struct NumberRange {
 /// How many workers answer requests.
 pub(crate) const WORKERS: NumberRange = NumberRange {
     least: 1,
-    most: 1,
+    most: 16,
     step: 1,
-    default: 1,
+    default: 4,
 };
 
 /// How many bytes the cached texels take.

@@ -1,6 +1,6 @@
 //! A list of requests: its lines, and what they say.
 
-ghost use Rattle.std.specs.Prelude.{◌≡◌, ◌+◌, ◌<◌, ◌≤◌, length, IfOk, [], ◌∷◌, true, IsTrue};
+ghost use Rattle.std.specs.Prelude.{◌≡◌, ◌+◌, ◌<◌, ◌≤◌, length, IfOk, OnOk, [], ◌∷◌, true, IsTrue};
 ghost use Rattle.std.specs.Str.{IsAscii};
 ghost use Rattle.std.specs.Option.{IfNone, IfSome};
 ghost use Rattle.request_lang.specs.RequestForm as form;
@@ -97,7 +97,8 @@ fn next_request(
     is_ascii: bool,
 ) -> Result<Request, Refusal>
     requires { is_ascii ≡ true → IsAscii line.now }
-    ensures { Gives result (spec.behind count (form.request_of line.now)) }
+    ensures value { Gives result (spec.behind count (form.request_of line.now)) }
+    ensures room { OnOk result (count < spec.max_requests) }
 {
     let request = request_of(alloc, line, is_ascii)?;
     if count >= MAX_REQUESTS {
@@ -123,6 +124,7 @@ fn at_line(number: u32, refusal: Refusal) -> ParseError
 #[tactic(auto, unfolding(crate::specs::Grammar::list_of), using(crate::proofs::LineLemmas::read_so_far))]
 pub fn parse(alloc: Global, bytes: &[u8]) -> Result<Vec<Request>, ParseError>
     ensures exact { Parses bytes.now result }
+    ensures few { IfOk result (λ requests. length requests.items ≤ spec.max_requests) }
 {
     if bytes.len() > MAX_LIST_BYTES {
         return Err(at_line(WHOLE_LIST, Refusal::Bad(Cause::TooLong)));
