@@ -1,14 +1,12 @@
--- What are the counts of a tap of a real folder, and what does it keep of each file?
-use Rattle.std.specs.Prelude.{◌≡◌, ℕ, ◌<◌, List, slice_index, slice_set, Some, ⊤}
+-- What are the counts of a tap of a real folder, and what does a refused read name?
+use Rattle.std.specs.Prelude.{◌≡◌, ◌<◌, ⊤}
 use Rattle.tex_world.specs.Counts.{Rises}
 use Rattle.tex_world.specs.World.{IsReal}
 use Rattle.tex_world.specs.Tap.{TapState, Named}
 use Rattle.tex_world.specs.declared.fault.ReadError.{ReadError}
 use Rattle.tex_world.specs.declared.fault.ReadError.TheVariants.{Failed, Gone}
 use Rattle.host_folder.specs.RealWorld.{untold_files}
-use Rattle.host_folder.specs.Stamp.{settled_word, word_generation}
 use Rattle.host_folder.specs.declared.tap.RealTap.{RealTap}
-use Rattle.host_folder.specs.declared.stamp.Look.{Look}
 
 -- the counts that its fields keep, and its latest answer of a newest generation
 abbrev pub tap_state : {R : Type 0} → RealTap R → TapState
@@ -30,18 +28,6 @@ pub record AddsFault (old new : TapState) : Type 0 where
 pub record AddsMove (old new : TapState) : Type 0 where
   pub moves : Rises old.moves new.moves
   pub others : new ≡ record old { moves = new.moves }
-
--- the word of each file
-abbrev pub tap_words : {R : Type 0} → RealTap R → List ℕ
-tap_words tap = tap.words.items
-
--- A file that looked so has this generation: its word was settled by the stamp, and the words of
--- the others stay.
-pub record Settles (file : ℕ) (old new : List ℕ) (generation : ℕ) (look : Look) : Type 0 where
-  pub word : ℕ
-  pub settled : settled_word (slice_index old file) look.stamp ≡ Some word
-  pub generation_of_it : generation ≡ word_generation word
-  pub words : new ≡ slice_set old file word
 
 -- a refused read names a real generation above the handle's, or none
 abbrev pub NamesNewer : Named → ReadError → Type 0

@@ -1,5 +1,5 @@
 -- Which generation has a file whose stamp is looked at?
-use Rattle.std.specs.Prelude.{◌≡◌, ℕ, ◌+◌, ◌*◌, ◌/◌, ◌%◌, ◌^◌, ◌==◌, nat_lt, ◌&&◌}
+use Rattle.std.specs.Prelude.{◌≡◌, ℕ, ◌+◌, ◌*◌, ◌/◌, ◌%◌, ◌^◌, ◌==◌, nat_lt, ◌&&◌, Bool}
 use Rattle.std.specs.Prelude.{Option, Some, None, if◌then◌else◌}
 use Rattle.tex_world.specs.World.{last_generation}
 
@@ -32,10 +32,18 @@ word_generation word = word / stamps
 abbrev pub word_stamp : ℕ → ℕ
 word_stamp word = word % stamps
 
+-- the word keeps a generation, which is of this stamp
+abbrev pub is_of_stamp : ℕ → ℕ → Bool
+is_of_stamp word stamp = nat_lt 0 (word_generation word) && (word_stamp word == stamp)
+
+-- The generation that a word tells of a file with this stamp, if it tells one.
+abbrev pub generation_by : ℕ → ℕ → Option ℕ
+generation_by word stamp = if is_of_stamp word stamp then Some (word_generation word) else None
+
 -- The word after a look: as it was where its generation is of this stamp, else of the next
 -- generation, and none after the last one.
 abbrev pub settled_word : ℕ → ℕ → Option ℕ
 settled_word word stamp =
-    if nat_lt 0 (word_generation word) && (word_stamp word == stamp) then Some word
+    if is_of_stamp word stamp then Some word
     else (if word_generation word == last_generation then None
     else Some ((word_generation word + 1) * stamps + stamp))

@@ -53,14 +53,14 @@ impl<R: Files<File = File> + AllocGlobal + Clone + Drop> RealFolder<R> {
     }
 
     /// A tap over the files that are listed.
-    fn new_tap(&self, alloc: Global) -> Result<RealTap<R>, AllocError>
+    fn new_tap(&self) -> Result<RealTap<R>, AllocError>
         ensures { IfOk result (λ t. IsNew (tap_state t)) }
     {
         let listing = match &self.listing {
             Some(listing) => Some(listing.clone()?),
             None => None,
         };
-        RealTap::new(alloc, self.rt.clone()?, listing)
+        Ok(RealTap::new(self.rt.clone()?, listing))
     }
 }
 
@@ -106,8 +106,8 @@ impl<R: Files<File = File> + AllocGlobal + Clone + Drop> Folder for RealFolder<R
         }
     }
 
-    fn tap(&mut self, alloc: Global) -> Result<RealTap<R>, NoMemory> {
-        match self.new_tap(alloc) {
+    fn tap(&mut self, _alloc: Global) -> Result<RealTap<R>, NoMemory> {
+        match self.new_tap() {
             Ok(tap) => {
                 self.made = self.made.saturating_add(1);
                 Ok(tap)

@@ -11,6 +11,7 @@ use crate::listed::Listed;
 use std::alloc::{AllocError, Global};
 use std::fs::{DirEntry, Files, ReadDir};
 use std::io::{Error, ErrorKind};
+use std::sync::atomic::AtomicU64;
 use std::{fs, io};
 use tex_world::EnterError;
 
@@ -18,11 +19,13 @@ use tex_world::EnterError;
 const MAX_FILES: usize = 4096;
 
 /// The plain files that a folder had when it was listed, in the order of their names. No name is
-/// there twice.
+/// there twice. Each has a word, which all taps share: the latest generation that one of them settled,
+/// and the stamp of that generation.
 #[derive(Drop)]
 pub struct Listing {
     path: String,
     files: Vec<Listed>,
+    words: Vec<AtomicU64>,
     ghost few: { length files.items ≤ max_files },
     ghost in_order: { AreInOrder files.items } by { Prim.hlevel props },
 }
@@ -39,8 +42,9 @@ impl Listing {
         let entries = fs::read_dir(rt, path).map_err(cause_of)?;
         let mut files = sorted(plain_files(rt, alloc, entries)?)?;
         drop_doubles(&mut files);
+        let words = unseen_words(alloc, files.len()).map_err(no_memory)?;
         let path = String::from_str(alloc, path).map_err(no_memory)?;
-        Ok(Listing { path, files })
+        Ok(Listing { path, files, words })
     }
 
     /// The number of its files.
@@ -72,6 +76,20 @@ impl Listing {
     {
         Some(self.files.get(file as usize)?.path.as_str())
     }
+
+    /// The word of a file.
+    pub fn word(&self, file: u32) -> Option<&AtomicU64> {
+        self.words.get(file as usize)
+    }
+}
+
+/// So many words of files that were not seen yet.
+fn unseen_words(alloc: Global, count: usize) -> Result<Vec<AtomicU64>, AllocError> {
+    let mut words = Vec::with_capacity(alloc, count)?;
+    for _ in 0..count {
+        words.push(AtomicU64::new(0))?;
+    }
+    Ok(words)
 }
 
 /// The plain files among the entries, in the order in which they come.

@@ -3,7 +3,8 @@
 ghost use Rattle.std.specs.Prelude.{◌≡◌, ◌↔◌, ◌+◌, ◌*◌, ◌%◌, ◌^◌, ◌<◌, ◌≤◌, IsSome, IfSome};
 ghost use Rattle.std.specs.Fs.{metadata_len, file_type, IsFile};
 ghost use Rattle.host_folder.specs.Stamp.{stamps, nanos_end, HasStamp, stamp_of_file};
-ghost use Rattle.host_folder.specs.Stamp.{word_generation, settled_word};
+ghost use Rattle.host_folder.specs.Stamp.{word_generation, settled_word, generation_by};
+ghost use Rattle.tex_world.specs.World.{last_generation};
 
 use std::fs::Metadata;
 use std::time::UNIX_EPOCH;
@@ -73,12 +74,26 @@ pub fn settled(word: u64, stamp: u64) -> Option<u64>
     requires { stamp < stamps }
     ensures value { result ≡ settled_word word stamp }
 {
-    let generation = generation_in(word);
-    if generation != 0 && word % STAMPS == stamp {
+    if generation_of(word, stamp).is_some() {
         return Some(word);
     }
+    let generation = generation_in(word);
     if generation == LAST_GENERATION {
         return None;
     }
     Some((u64::from(generation) + 1) * STAMPS + stamp)
+}
+
+/// The generation that a word keeps, where it is of this stamp. It is that of a file which looks so,
+/// also where another tap has put this word in the place of the one that was looked at.
+pub fn generation_of(word: u64, stamp: u64) -> Option<u32>
+    ensures value { result ≡ generation_by word stamp }
+    ensures real { IfSome result (λ g. (1 ≤ g) × (g ≤ last_generation)) }
+{
+    let generation = generation_in(word);
+    if generation != 0 && word % STAMPS == stamp {
+        Some(generation)
+    } else {
+        None
+    }
 }

@@ -1,32 +1,30 @@
 //! A source of the bytes of a real folder's files.
-ghost use Rattle.std.specs.Prelude.{◌≡◌, ◌≤◌, length, IfOk, IfErr, IfSome};
-ghost use Rattle.std.specs.List.{All};
+ghost use Rattle.std.specs.Prelude.{◌≡◌, ◌<◌, ◌≤◌, IfErr, IfSome};
 ghost use Rattle.tex_world.specs.World.{last_generation};
 ghost use Rattle.tex_world.specs.Tap.{IsNew};
-ghost use Rattle.host_folder.specs.RealFolder.{listed_files};
 ghost use Rattle.host_folder.specs.RealHandle.{handle_named};
-ghost use Rattle.host_folder.specs.RealTap.{tap_state, tap_words, AddsFault, AddsMove};
-ghost use Rattle.host_folder.specs.RealTap.{Settles, NamesNewer};
+ghost use Rattle.host_folder.specs.RealTap.{tap_state, AddsFault, AddsMove, NamesNewer};
+ghost use Rattle.host_folder.specs.Stamp.{stamps};
 
 use crate::handle::RealHandle;
 use crate::listing::Listing;
-use crate::stamp::{Look, generation_in, look_of, settled};
+use crate::stamp::{Look, generation_of, look_of, settled};
 use crate::world::RealWorld;
-use std::alloc::{AllocError, Global};
+use std::alloc::Global;
 use std::fs;
 use std::fs::{File, Files};
 use std::os::unix::fs::FileExt;
 use std::sync::Arc;
+use std::sync::atomic::{AtomicU64, Ordering};
 use tex_world::{Failed, OpenError, ReadError, Tap, TapHandle};
 
-/// A source of the files of a folder as they were when it was listed. It keeps for each file the
-/// word of its stamp: the generation that the file was last seen in, and the stamp of that
-/// generation.
+/// A source of the files of a folder as they were when it was listed. The word of each file, the
+/// generation that it was last seen in with the stamp of that generation, is one for all taps. No call
+/// waits for another tap.
 #[derive(Drop)]
 pub struct RealTap<R> {
     rt: R,
     listing: Option<Arc<Listing>>,
-    words: Vec<u64>,
     faults: u64,
     calls: u64,
     opens: u64,
@@ -43,34 +41,20 @@ struct Settled {
 }
 
 impl<R> RealTap<R> {
-    /// A tap that has had no call. No file was seen so far.
-    pub(crate) fn new(
-        alloc: Global,
-        rt: R,
-        listing: Option<Arc<Listing>>,
-    ) -> Result<Self, AllocError>
-    where
-        R: Drop,
-        ensures new { IfOk result (λ t. IsNew (tap_state t)) }
-        ensures unseen { IfOk result (λ t. All (λ word. word ≡ 0) (tap_words t)) }
-        ensures words { IfOk result (λ t. length (tap_words t) ≡ listed_files listing) }
+    /// A tap that has had no call.
+    pub(crate) fn new(rt: R, listing: Option<Arc<Listing>>) -> Self
+        ensures { IsNew (tap_state result) }
     {
-        let count = match &listing {
-            Some(listing) => listing.len(),
-            None => 0,
-        };
-        let words = vec![in alloc; 0u64; count]?;
-        Ok(RealTap {
+        RealTap {
             rt,
             listing,
-            words,
             faults: 0,
             calls: 0,
             opens: 0,
             asks: 0,
             moves: 0,
             newest: (0, 0),
-        })
+        }
     }
 
     /// How many of its calls failed.
@@ -119,22 +103,27 @@ impl<R: Files<File = File>> RealTap<R> {
         }
     }
 
+    /// The word of a file, if it is one of the folder's.
+    fn word(&self, file: u32) -> Option<&AtomicU64> {
+        match &self.listing {
+            Some(listing) => listing.word(file),
+            None => None,
+        }
+    }
+
     /// Looks at a file and settles its generation: that of its word where the stamp is as it was,
-    /// else the next one, which the word then keeps. None where there is no plain file, and where
-    /// the generation would be below `least` or past the last one.
-    fn settle(&mut self, file: u32, least: u32) -> Option<Settled>
-        ensures state { tap_state self.new ≡ tap_state self.old }
-        ensures settled { IfSome result (λ s.
-            Settles file (tap_words self.old) (tap_words self.new) s.generation s.look) }
+    /// else the next one, which the word then keeps. None where there is no plain file, where another
+    /// tap has settled the file by another stamp meanwhile, and where the generation would be below
+    /// `least` or past the last one.
+    fn settle(&self, file: u32, least: u32) -> Option<Settled>
         ensures low { IfSome result (λ s. 1 ≤ s.generation) }
         ensures high { IfSome result (λ s. s.generation ≤ last_generation) }
         ensures least { IfSome result (λ s. least ≤ s.generation) }
     {
-        let word = *self.words.get(file as usize)?;
+        let word = self.word(file)?;
+        let loaded = word.load(Ordering::SeqCst);
         let look = self.look(file)?;
-        let word = settled(word, look.stamp)?;
-        self.words[file as usize] = word;
-        let generation = generation_in(word);
+        let generation = settle_word(word, loaded, look.stamp)?;
         if generation < least {
             return None;
         }
@@ -143,10 +132,7 @@ impl<R: Files<File = File>> RealTap<R> {
 
     /// Settles the generation of a file and opens it. None where another file was put in its place
     /// meanwhile.
-    fn opened(&mut self, file: u32, least: u32) -> Option<RealHandle>
-        ensures state { tap_state self.new ≡ tap_state self.old }
-        ensures settled { IfSome result (λ h.
-            Settles file (tap_words self.old) (tap_words self.new) h.generation h.look) }
+    fn opened(&self, file: u32, least: u32) -> Option<RealHandle>
         ensures file { IfSome result (λ h. (handle_named h).file ≡ file) }
         ensures least { IfSome result (λ h. least ≤ (handle_named h).generation) }
     {
@@ -161,9 +147,8 @@ impl<R: Files<File = File>> RealTap<R> {
 
     /// Fills the buffer from the open file, where the stamp is that of the handle before the read
     /// and after it.
-    fn fill(&mut self, h: &RealHandle, at: u64, buf: &mut [u8]) -> Result<(), ReadError>
-        ensures state { tap_state self.new ≡ tap_state self.old }
-        ensures newer { IfErr result (NamesNewer (handle_named h.now)) }
+    fn fill(&self, h: &RealHandle, at: u64, buf: &mut [u8]) -> Result<(), ReadError>
+        ensures { IfErr result (NamesNewer (handle_named h.now)) }
     {
         self.stay(h)?;
         let read = h.source().read_exact_at(buf, at);
@@ -176,9 +161,8 @@ impl<R: Files<File = File>> RealTap<R> {
 
     /// Nothing where the file at the handle's path still has the stamp of its generation. Else the
     /// generation that the file has now, if that is a newer one.
-    fn stay(&mut self, h: &RealHandle) -> Result<(), ReadError>
-        ensures state { tap_state self.new ≡ tap_state self.old }
-        ensures newer { IfErr result (NamesNewer (handle_named h.now)) }
+    fn stay(&self, h: &RealHandle) -> Result<(), ReadError>
+        ensures { IfErr result (NamesNewer (handle_named h.now)) }
     {
         match self.look(h.file()) {
             Some(look) if look.stamp == h.stamp() => return Ok(()),
@@ -190,6 +174,23 @@ impl<R: Files<File = File>> RealTap<R> {
             }
             _ => Err(ReadError::Failed),
         }
+    }
+}
+
+/// The generation of a file with this stamp, by its word: that of the word as it was loaded where the
+/// stamp is as it was, else the next one, which the word is to keep. Where another tap was first, that
+/// of the word which it left, if it is of the same stamp.
+fn settle_word(word: &AtomicU64, loaded: u64, stamp: u64) -> Option<u32>
+    requires { stamp < stamps }
+    ensures { IfSome result (λ g. (1 ≤ g) × (g ≤ last_generation)) }
+{
+    let wanted = settled(loaded, stamp)?;
+    if wanted == loaded {
+        return generation_of(loaded, stamp);
+    }
+    match word.compare_exchange(loaded, wanted, Ordering::SeqCst, Ordering::SeqCst) {
+        Ok(_) => generation_of(wanted, stamp),
+        Err(found) => generation_of(found, stamp),
     }
 }
 

@@ -1,6 +1,7 @@
 //! Tests of what threads share: a lock and the board of generations; tiles in their shards, step by
 //! step and by four threads; the table of files, its records and idle handles, over files in memory
-//! and over a real folder whose files change between two calls; and tiles loaded over records.
+//! and over a real folder whose files change between two calls; two taps of one real folder; and
+//! tiles loaded over records.
 #![tactic(auto)]
 
 #[cfg(test)]
@@ -19,6 +20,8 @@ mod locks;
 mod pictures;
 #[cfg(test)]
 mod real_folder;
+#[cfg(test)]
+mod real_taps;
 #[cfg(test)]
 mod record_rows;
 #[cfg(test)]

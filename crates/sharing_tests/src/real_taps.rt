@@ -1,0 +1,192 @@
+//! Two taps of one real folder, which share what was seen of its files.
+ghost use Rattle.std.specs.Prelude.{ℕ, ◌<◌};
+ghost use Rattle.tex_world.specs.World.{IsFile};
+
+use host_folder::RealFolder;
+use std::alloc::Global;
+use std::test::Fail;
+use std::thread::Threads;
+use std::{fs, thread};
+use tex_world::{Folder, Tap};
+
+/// What becomes of the file before a tap is asked.
+#[derive(Clone, Copy)]
+enum Change {
+    Stays,
+    Written(&'static str),
+    /// Another file is put in its place.
+    Replaced(&'static str),
+    Removed,
+}
+
+// What becomes of the file, the tap that is then asked for its newest generation, and what it
+// answers, 0 where it fails.
+static ROWS: &[(Change, usize, u32)] = &[
+    (Change::Stays, 0, 1),
+    (Change::Stays, 1, 1),
+    // the second tap sees the change, and the first one does not count it again
+    (Change::Written("second"), 1, 2),
+    (Change::Stays, 0, 2),
+    (Change::Stays, 1, 2),
+    (Change::Replaced("the third"), 0, 3),
+    (Change::Stays, 1, 3),
+    (Change::Written("of four"), 0, 4),
+    (Change::Written("the fourth"), 1, 5),
+    (Change::Stays, 0, 5),
+    (Change::Removed, 0, 0),
+    (Change::Stays, 1, 0),
+    (Change::Written("the fifth one"), 1, 6),
+    (Change::Stays, 0, 6),
+];
+
+fn make(rt: &HostRuntime, change: Change) -> Result<(), Fail> {
+    match change {
+        Change::Stays => {}
+        Change::Written(text) => fs::write(rt, "twice/a.tif", text)?,
+        Change::Replaced(text) => {
+            fs::write(rt, "twice/new", text)?;
+            fs::rename(rt, "twice/new", "twice/a.tif")?;
+        }
+        Change::Removed => fs::remove_file(rt, "twice/a.tif")?,
+    }
+    Ok(())
+}
+
+// The newest generation of a file, 0 where the tap fails.
+fn newest<T: Tap>(tap: &mut T, file: u32) -> u32
+    requires { IsFile T.W.files file }
+{
+    match tap.newest(file, 0) {
+        Ok(generation) => generation,
+        Err(_failed) => 0,
+    }
+}
+
+// The first row that is answered otherwise, with its answer.
+fn wrong_row<T: Tap>(rt: &HostRuntime, mut taps: (T, T)) -> Result<Option<(usize, u32)>, Fail>
+where
+    T: Drop,
+    requires { IsFile T.W.files 0 }
+{
+    for (row, (change, tap, wanted)) in ROWS.iter().enumerate() {
+        make(rt, *change)?;
+        let answer = if *tap == 0 {
+            newest(&mut taps.0, 0)
+        } else {
+            newest(&mut taps.1, 0)
+        };
+        if answer != *wanted {
+            return Ok(Some((row, answer)));
+        }
+    }
+    Ok(None)
+}
+
+// Two taps of the folder at this path.
+fn taps_of<F: Folder + Drop>(
+    mut folder: F,
+    alloc: Global,
+    path: &str,
+) -> Result<(F::Tap, F::Tap), Fail>
+where
+    F::Tap: Drop,
+{
+    match folder.enter(alloc, path) {
+        Ok(()) => {
+            let first = folder.tap(alloc)?;
+            let second = folder.tap(alloc)?;
+            Ok((first, second))
+        }
+        Err(_refused) => Err("not entered".into()),
+    }
+}
+
+#[test]
+fn taps_of_a_folder_see_one_generation(rt: HostRuntime) -> Result<(), Fail> {
+    fs::create_dir(&rt, "twice")?;
+    fs::write(&rt, "twice/a.tif", "first")?;
+    let taps = taps_of(RealFolder::new(&rt), rt.alloc(), "twice")?;
+    let wrong = wrong_row(&rt, taps)?;
+    assert!(rt; wrong.is_none(), "{wrong:?}");
+    Ok(())
+}
+
+/// So many files two threads ask for at once, each in the same order.
+const FILES: u32 = 300;
+
+// So many files are written anew, with so many bytes.
+fn write_all(rt: &HostRuntime, files: u32, bytes: usize) -> Result<(), Fail> {
+    let alloc = rt.alloc();
+    let text = "a".repeat(alloc, bytes)?;
+    for n in 0..files {
+        let path = format!(in alloc; "raced/{n}")?;
+        fs::write(rt, path.as_str(), text.as_str())?;
+    }
+    Ok(())
+}
+
+// How many of the first so many files have this generation.
+fn count_of<T: Tap>(tap: &mut T, files: u32, generation: u32) -> u32
+    requires { (file : ℕ) → file < files → IsFile T.W.files file }
+{
+    let mut count = 0u32;
+    for file in 0..files {
+        if newest(tap, file) == generation {
+            count = count.saturating_add(1);
+        }
+    }
+    count
+}
+
+// The same by each of two taps in a thread of its own.
+fn counts_of<T: Tap + Send>(
+    threads: &impl Threads,
+    taps: &mut (T, T),
+    files: u32,
+    generation: u32,
+) -> (u32, u32)
+where
+    T::Handle: Send,
+    T::W: Send,
+    requires { (file : ℕ) → file < files → IsFile T.W.files file }
+{
+    let (first, second) = taps;
+    thread::join(
+        threads,
+        move || count_of(first, files, generation),
+        move || count_of(second, files, generation),
+    )
+}
+
+// The counts, for each generation that the files then have.
+fn raced<T: Tap + Send + Drop>(
+    rt: &HostRuntime,
+    threads: &impl Threads,
+    mut taps: (T, T),
+    files: u32,
+) -> Result<Option<(usize, (u32, u32))>, Fail>
+where
+    T::Handle: Send,
+    T::W: Send,
+    requires { (file : ℕ) → file < files → IsFile T.W.files file }
+{
+    for generation in 1..5u32 {
+        write_all(rt, files, generation as usize)?;
+        let counts = counts_of(threads, &mut taps, files, generation);
+        if counts != (files, files) {
+            return Ok(Some((generation as usize, counts)));
+        }
+    }
+    Ok(None)
+}
+
+// Each file has the next generation for both taps, whichever of them was first to see it.
+#[test]
+fn an_exchange_that_is_lost_gives_the_same_generation(rt: HostRuntime) -> Result<(), Fail> {
+    fs::create_dir(&rt, "raced")?;
+    write_all(&rt, FILES, 9)?;
+    let taps = taps_of(RealFolder::new(&rt), rt.alloc(), "raced")?;
+    let wrong = raced(&rt, &rt, taps, FILES)?;
+    assert!(rt; wrong.is_none(), "{wrong:?}");
+    Ok(())
+}
