@@ -1,8 +1,9 @@
 -- The counts of faults and moves against the lines that tell of them.
-use Rattle.std.proofs.Common.{ℕ, ◌+◌, ◌<◌, ◌≤◌, Bool, cond, arith}
+use Rattle.std.proofs.Common.{ℕ, ◌+◌, ◌<◌, ◌≤◌, arith}
 use Rattle.tex_world.specs.Counts.{Rises, RisesByAtLeast, last_count}
 use Rattle.render_run.specs.Around.{SourceState}
 use Rattle.request_lang.specs.Basis.{Basis, OnFault, OnNewer, is_fault, is_move}
+use Rattle.render_run.specs.Held.{one_if}
 use Rattle.render_run.specs.Answering.{GoesOn, HasCause}
 
 -- one more, where the count rose
@@ -20,10 +21,6 @@ rises_same n a b c so_far later = record {
   later = omega (arith, so_far.later);
   by_n = λ below. let here : b < last_count = omega arith in omega (arith, so_far.by_n here);
 }
-
--- one if the test passes
-abbrev pub one_if : Bool → ℕ
-one_if b = cond b 1 0
 
 module _ (n : ℕ) (old mid new : SourceState) (on : GoesOn mid new) where
   -- a line more, and the faults that it tells of

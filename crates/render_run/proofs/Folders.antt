@@ -1,19 +1,19 @@
 -- What was answered through a tap, said of the folder that the tap came back to.
 use Rattle.std.proofs.Common.{◌≡◌, ℕ, ◌+◌, ◌<◌, ◌≤◌, ◌⊎◌, inl, inr, Bool, List, Option, length, map}
-use Rattle.std.proofs.Common.{true, false, Result, Ok, Err, IfOk}
+use Rattle.std.proofs.Common.{true, false, Result, Ok, Err, IfOk, OnOk}
 use Rattle.std.proofs.Common.{take, refl, ap, subst, ◌∙◌, arith}
 use Rattle.std.specs.Prelude.{min, if◌then◌else◌, IfErr}
 use Rattle.tex_world.specs.Counts.{RisesByAtLeast, last_count}
 use Rattle.tex_world.specs.World.{Files}
-use Rattle.tex_world.specs.Tap.{TapState, IsNew}
-use Rattle.tex_world.specs.Folder.{FolderState, AfterBack}
+use Rattle.tex_world.specs.Folder.{FolderState}
 use Rattle.tile_layout.specs.declared.cut.Cut.{Cut}
 use Rattle.command_line.specs.declared.options.Options.{Options}
 use Rattle.command_line.specs.Invocation.{Asked}
 use Rattle.request_lang.specs.declared.request.Request.{Request}
 use Rattle.render_run.specs.Status as status
-use Rattle.render_run.specs.Around.{SinkState, Setup, FeedState}
-use Rattle.render_run.specs.Around.{source_of_tap, source_of_folder, setup_of, progress_of}
+use Rattle.render_run.specs.Around.{SinkState, SourceState, Setup, FeedState, Progress}
+use Rattle.render_run.specs.Around.{source_of_folder, setup_of, progress_of}
+use Rattle.render_run.specs.Crew.{MakesMore, TakesBack}
 use Rattle.render_run.specs.Around.{around_of, inputs_of}
 use Rattle.render_run.specs.Ending.{HasOptions, IsPrepared, cut_used, path_in}
 use Rattle.render_run.specs.Dealing.{AreWholeRounds, places_of}
@@ -22,7 +22,7 @@ use Rattle.render_run.specs.Run.{Answers, Runs, MakesTaps, GivesTapsBack, Answer
 use Rattle.render_run.specs.Run.{WritesNothing, ListRounds}
 use Rattle.render_run.specs.Written.{Finishes, AnswersAll, PartWritten, RoundsWritten}
 use Rattle.render_run.specs.Written.{IsAnswerStatus, KeepsEntered, KeepsTaps, LeavesUnfinished}
-use Rattle.render_run.specs.Written.{list_status}
+use Rattle.render_run.specs.Written.{list_status, LeavesEarly}
 use Rattle.render_run.specs.declared.answering.Unfinished.{Unfinished}
 use Rattle.render_run.specs.declared.answering.Unfinished.TheVariants.{NotWritten}
 use Rattle.render_run.specs.declared.answering.Unfinished.TheVariants as unfinished
@@ -34,7 +34,12 @@ rises_since n a b c low rises = record {
   by_n = λ below. let here = rises.by_n below in omega (arith, here);
 }
 
--- a tap's count, taken over by its folder
+-- no fault and no move yet
+pub record IsNone (source : SourceState) : Type 0 where
+  pub faults : source.faults ≡ 0
+  pub moves : source.moves ≡ 0
+
+-- a count of taps, taken over by their folder
 rises_over : (n t0 t1 f0 f1 : ℕ) → t0 ≡ 0 → f0 ≤ f1 → min (f0 + t1) last_count ≤ f1
     → RisesByAtLeast n t0 t1 → RisesByAtLeast n f0 f1
 rises_over n t0 t1 f0 f1 new later over rises = record {
@@ -44,40 +49,40 @@ rises_over n t0 t1 f0 f1 new later over rises = record {
       let risen = rises.by_n short in omega (arith, risen, over);
 }
 
--- ---- a tap that came back
+-- ---- taps that came back
 
-module _ (files : Files) (cut used : Cut) (workers : ℕ) (requests : List Request)
-    (t0 t1 : TapState) (f0 f1 f2 : FolderState) (new : IsNew t0) (tapped : f0.faults ≤ f1.faults)
-    (still : f1.moves ≡ f0.moves) (back : AfterBack t1 f1 f2) (same : cut ≡ used)
-    (one : workers ≡ 1) where
+module _ (files : Files) (cut used : Cut) (m n workers : ℕ) (requests : List Request)
+    (c0 c1 : SourceState) (f0 f1 f2 : FolderState) (none : IsNone c0) (makes : MakesMore m f0 f1)
+    (back : TakesBack m c1 f1 f2) (same : cut ≡ used) (count : n ≡ workers) where
   -- what it is answered over
-  setups : setup_of files f1 cut 1 ≡ setup_of files f2 used workers
-  setups = rw (same, one, ← back.files.number_of) refl
+  setups : setup_of files f1 cut n ≡ setup_of files f2 used workers
+  setups = rw (same, count, ← back.files.number_of) refl
 
   -- the answers
   abbrev over : (count : ℕ)
-      → Answers (setup_of files f1 cut 1) requests count (source_of_tap t0) (source_of_tap t1)
+      → Answers (setup_of files f1 cut n) requests count c0 c1
       → Answers (setup_of files f2 used workers) requests count (source_of_folder f0)
       (source_of_folder f2)
   over count answers = record {
     lines = answers.lines;
     met = subst (λ (s : Setup). MeetsAll s (take count requests) answers.lines) setups answers.met;
+    counted = answers.counted;
     places = subst (λ (s : Setup). map (λ (l : Line). l.place) answers.lines
         ≡ take count (places_of s.workers requests)) setups answers.places;
     fresh = answers.fresh;
-    faults = rises_over _ t0.faults t1.faults f0.faults f2.faults new.faults
-        (omega (arith, tapped, back.faults_later))
-        (omega (arith, tapped, back.faults)) answers.faults;
-    moves = rises_over _ t0.moves t1.moves f0.moves f2.moves new.moves
-        (omega (arith, still, back.moves_later))
-        (omega (arith, still, back.moves)) answers.moves;
+    faults = rises_over _ c0.faults c1.faults f0.faults f2.faults none.faults
+        (omega (arith, makes.faults, back.faults_later))
+        (omega (arith, makes.faults, back.faults)) answers.faults;
+    moves = rises_over _ c0.moves c1.moves f0.moves f2.moves none.moves
+        (omega (arith, makes.moves, back.moves_later))
+        (omega (arith, makes.moves, back.moves)) answers.moves;
   }
 
   module _ (s0 s1 : SinkState) where
     -- all of a list
     pub finishes_over : (refused : Bool) (ends : ℕ)
-        → Finishes (setup_of files f1 cut 1) requests (progress_of (source_of_tap t0) s0)
-        (progress_of (source_of_tap t1) s1) refused
+        → Finishes (setup_of files f1 cut n) requests (progress_of c0 s0)
+        (progress_of c1 s1) refused
         → ends ≡ (if refused then status.with_refusals else status.all_answered)
         → AnswersAll (setup_of files f2 used workers) requests
         (progress_of (source_of_folder f0) s0) (progress_of (source_of_folder f2) s1) ends
@@ -89,8 +94,8 @@ module _ (files : Files) (cut used : Cut) (workers : ℕ) (requests : List Reque
     }
 
     -- a first part
-    pub part_over : PartWritten (setup_of files f1 cut 1) requests
-        (progress_of (source_of_tap t0) s0) (progress_of (source_of_tap t1) s1)
+    pub part_over : PartWritten (setup_of files f1 cut n) requests
+        (progress_of c0 s0) (progress_of c1 s1)
         → PartWritten (setup_of files f2 used workers) requests
         (progress_of (source_of_folder f0) s0) (progress_of (source_of_folder f2) s1)
     part_over part = record {
@@ -101,8 +106,8 @@ module _ (files : Files) (cut used : Cut) (workers : ℕ) (requests : List Reque
     }
 
     -- whole rounds
-    pub rounds_over : RoundsWritten (setup_of files f1 cut 1) requests
-        (progress_of (source_of_tap t0) s0) (progress_of (source_of_tap t1) s1)
+    pub rounds_over : RoundsWritten (setup_of files f1 cut n) requests
+        (progress_of c0 s0) (progress_of c1 s1)
         → RoundsWritten (setup_of files f2 used workers) requests
         (progress_of (source_of_folder f0) s0) (progress_of (source_of_folder f2) s1)
     rounds_over rounds = record {
@@ -117,8 +122,8 @@ module _ (files : Files) (cut used : Cut) (workers : ℕ) (requests : List Reque
 
     -- all of it
     pub all_through : (r : Result Bool Unfinished) (ends : ℕ)
-        → IfOk r (Finishes (setup_of files f1 cut 1) requests (progress_of (source_of_tap t0) s0)
-        (progress_of (source_of_tap t1) s1)) → ends ≡ list_status r
+        → IfOk r (Finishes (setup_of files f1 cut n) requests (progress_of c0 s0)
+        (progress_of c1 s1)) → ends ≡ list_status r
         → ends ≤ status.with_refusals
         → AnswersAll (setup_of files f2 used workers) requests
         (progress_of (source_of_folder f0) s0) (progress_of (source_of_folder f2) s1) ends
@@ -135,8 +140,8 @@ module _ (files : Files) (cut used : Cut) (workers : ℕ) (requests : List Reque
 
     -- a first part
     pub part_through : (r : Result Bool Unfinished) (ends : ℕ)
-        → IfErr r (LeavesUnfinished (setup_of files f1 cut 1) requests
-        (progress_of (source_of_tap t0) s0) (progress_of (source_of_tap t1) s1))
+        → IfErr r (LeavesEarly (setup_of files f1 cut n) requests
+        (progress_of c0 s0) (progress_of c1 s1))
         → ends ≡ list_status r → ends ≡ status.not_written
         → PartWritten (setup_of files f2 used workers) requests
         (progress_of (source_of_folder f0) s0) (progress_of (source_of_folder f2) s1)
@@ -145,17 +150,74 @@ module _ (files : Files) (cut used : Cut) (workers : ℕ) (requests : List Reque
     part_through (Err NotWritten) ends err is at = part_over err
     part_through (Err unfinished.NoMemory) ends err is at = absurd (omega arith)
 
-    -- whole rounds
+    -- whole rounds, or nothing
+    by_rounds : (s1.holds ≡ s0.holds) ⊎ RoundsWritten (setup_of files f1 cut n) requests
+        (progress_of c0 s0) (progress_of c1 s1)
+        → (s1.holds ≡ s0.holds) ⊎ RoundsWritten (setup_of files f2 used workers) requests
+        (progress_of (source_of_folder f0) s0) (progress_of (source_of_folder f2) s1)
+    by_rounds (inl same) = inl same
+    by_rounds (inr rounds) = inr (rounds_over rounds)
+
     pub rounds_through : (r : Result Bool Unfinished) (ends : ℕ)
-        → IfErr r (LeavesUnfinished (setup_of files f1 cut 1) requests
-        (progress_of (source_of_tap t0) s0) (progress_of (source_of_tap t1) s1))
+        → IfErr r (LeavesEarly (setup_of files f1 cut n) requests
+        (progress_of c0 s0) (progress_of c1 s1))
         → ends ≡ list_status r → ends ≡ status.no_memory
-        → RoundsWritten (setup_of files f2 used workers) requests
+        → (s1.holds ≡ s0.holds) ⊎ RoundsWritten (setup_of files f2 used workers) requests
         (progress_of (source_of_folder f0) s0) (progress_of (source_of_folder f2) s1)
     rounds_through (Ok refused) ends err is at =
         absurd (few_ends refused ends status.no_memory is (omega arith) at)
     rounds_through (Err NotWritten) ends err is at = absurd (omega arith)
-    rounds_through (Err unfinished.NoMemory) ends err is at = rounds_over err
+    rounds_through (Err unfinished.NoMemory) ends err is at = by_rounds err
+
+  -- as many taps were made as there are workers, where all was answered
+  pub taps_made : (r : Result Bool Unfinished) (ends : ℕ) → OnOk r (m ≡ workers)
+      → ends ≡ list_status r → ends ≤ status.with_refusals → MakesTaps workers f0 f2
+  taps_made (Ok refused) ends all is few = record {
+    later = omega (arith, makes.made.later, back.made);
+    by_n = λ below. let rose = makes.made.by_n (omega (arith, back.made)) in
+        omega (arith, rose, back.made, all);
+  }
+  taps_made (Err NotWritten) ends all is few = absurd (omega arith)
+  taps_made (Err unfinished.NoMemory) ends all is few = absurd (omega arith)
+
+  -- as many came back as were made
+  pub taps_back : GivesTapsBack f0 f2
+  taps_back = record {
+    made = omega (arith, makes.made.later, back.made);
+    returned = omega (arith, back.returned.later, makes.returned);
+    alike = λ below under.
+        let rose = makes.made.by_n (omega (arith, back.made)) in
+        let fell = back.returned.by_n under in
+        omega (arith, rose, fell, back.made, makes.returned);
+  }
+
+-- ---- what a crew leaves, said of so many workers that had done nothing
+
+module _ (files : Files) (f : FolderState) (cut : Cut) (n workers : ℕ) (requests : List Request)
+    (crew none : SourceState) (s0 : SinkState) (new : Progress) (count : n ≡ workers)
+    (is : crew ≡ none) where
+  pub crew_finishes : (r : Result Bool Unfinished)
+      → IfOk r (Finishes (setup_of files f cut n) requests (progress_of crew s0) new)
+      → IfOk r (Finishes (setup_of files f cut workers) requests (progress_of none s0) new)
+  crew_finishes r ok =
+      subst (λ (k : ℕ). IfOk r (Finishes (setup_of files f cut k) requests (progress_of none s0)
+      new)) count
+      (subst (λ (c : SourceState). IfOk r (Finishes (setup_of files f cut n) requests
+      (progress_of c s0) new)) is ok)
+
+  pub crew_leaves : (r : Result Bool Unfinished)
+      → IfErr r (LeavesUnfinished (setup_of files f cut n) requests (progress_of crew s0) new)
+      → IfErr r (LeavesEarly (setup_of files f cut workers) requests (progress_of none s0) new)
+  crew_leaves (Ok refused) err = tt
+  crew_leaves (Err NotWritten) err =
+      subst (λ (k : ℕ). PartWritten (setup_of files f cut k) requests (progress_of none s0) new)
+      count (subst (λ (c : SourceState). PartWritten (setup_of files f cut n) requests
+      (progress_of c s0) new) is err)
+  crew_leaves (Err unfinished.NoMemory) err =
+      inr (subst (λ (k : ℕ). RoundsWritten (setup_of files f cut k) requests
+      (progress_of none s0) new) count
+      (subst (λ (c : SourceState). RoundsWritten (setup_of files f cut n) requests
+      (progress_of c s0) new) is err))
 
 -- ---- the top call
 
@@ -189,6 +251,7 @@ module _ (files : Files) (asked : Option Asked) (options : Options) (f0 f1 f2 : 
     answers = record {
       lines = answers.lines;
       met = answers.met;
+      counted = answers.counted;
       places = answers.places;
       fresh = answers.fresh;
       faults = rises_since _ f0.faults f1.faults f2.faults kept.faults answers.faults;
@@ -201,7 +264,7 @@ module _ (files : Files) (asked : Option Asked) (options : Options) (f0 f1 f2 : 
       → (ends ≤ status.with_refusals
       → AnswersAll (setup_of files f2 (cut_used options.cut) options.workers) requests
       (progress_of (source_of_folder f1) s0) (progress_of (source_of_folder f2) s1) ends)
-      → (ends ≤ status.with_refusals → MakesTaps f1 f2)
+      → (ends ≤ status.with_refusals → MakesTaps options.workers f1 f2)
       → (ends ≡ status.not_written
       → PartWritten (setup_of files f2 (cut_used options.cut) options.workers) requests
       (progress_of (source_of_folder f1) s0) (progress_of (source_of_folder f2) s1))

@@ -1,8 +1,14 @@
+mod Manned
 mod Passing
 mod Taken
 mod Counting
 mod DealingLemmas
+mod GivenLemmas
 mod RegionLemmas
+mod TileLemmas
+mod Shares
+mod Sums
+mod CrewLemmas
 mod OneMore
 mod Rounds
 mod Folders

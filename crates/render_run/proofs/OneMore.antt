@@ -1,8 +1,9 @@
 -- One line more, and the lines of one round more.
-use Rattle.std.proofs.Common.{◌≡◌, ℕ, ◌+◌, ◌%◌, ◌<◌, List, [], ◌∷◌, ◌++◌}
-use Rattle.std.proofs.Common.{map, length, slice_index, Option, Some, refl, sym, ap, subst, ◌∙◌}
+use Rattle.std.proofs.Common.{◌≡◌, ◌≢◌, inl, inr, ℕ, ◌+◌, ◌%◌, ◌<◌, ◌≤◌, List, [], ◌∷◌, ◌++◌, eqb}
+use Rattle.std.proofs.Common.{Bool, set, ◌&&◌}
+use Rattle.std.proofs.Common.{map, length, get_or, slice_index, refl, sym, ap, subst, ◌∙◌}
 use Rattle.std.proofs.Common.{append_assoc, arith}
-use Rattle.std.specs.List.{All, range_with_len}
+use Rattle.std.specs.List.{All, count_by, range_with_len}
 use Rattle.std.proofs.lemmas.List.{append-nil}
 use Rattle.std.proofs.lemmas.List.Sums.{sum_by_push}
 use Rattle.std.proofs.lemmas.List.Elements.{All-push, All-nil, All-cons}
@@ -13,13 +14,24 @@ use Rattle.request_lang.specs.Basis.{basis_of, is_fault, is_move}
 use Rattle.tex_world.specs.World.{Files}
 use Rattle.tile_layout.specs.declared.cut.Cut.{Cut}
 use Rattle.render_run.specs.declared.question.Task.{Task}
-use Rattle.render_run.specs.Around.{SourceState, Sight, Setup}
-use Rattle.render_run.specs.Question.{task_of}
+use Rattle.render_run.specs.Around.{SourceState, Sight, Setup, sight_at, source_of_crew}
+use Rattle.render_run.specs.Question.{task_of, file_in}
 use Rattle.render_run.specs.Dealing.{Place, place}
 use Rattle.render_run.specs.Reply.{Line, Meets, MeetsAll}
-use Rattle.render_run.specs.Fresh.{IsFresher}
-use Rattle.render_run.specs.Answering.{AnswersTask, AnswersEach, IsSeenOf, AreLinesSoFar}
-use Rattle.render_run.proofs.Counting.{one_if, faults_more, moves_more}
+use Rattle.render_run.specs.Fresh.{IsFresher, IsBefore}
+use Rattle.tex_world.specs.Counts.{RisesByAtLeast}
+use Rattle.render_run.specs.Run.{read_faults, agains}
+use Rattle.render_run.specs.Held.{one_if, is_hold, is_drop, holds_by, drops_by, IsCounted, AreCounted}
+use Rattle.render_run.specs.Crew.{AreCarried, SeeNoLess}
+use Rattle.render_run.specs.Answering.{AnswersTask, AnswersEach, AnswersInTurn, IsSeenOf, IsKnownTo}
+use Rattle.render_run.specs.Answering.{AreLinesSoFar}
+use Rattle.render_run.proofs.Sums.{at_same, at_other, crew_on, crew_cause}
+use Rattle.std.proofs.Math.Nat.{mod-lt}
+use Rattle.std.proofs.lemmas.Bool.{eq-eqb, ne_eqb}
+use Rattle.std.proofs.lemmas.List.{length-set}
+use mathlib.Core.Logic.{dite}
+use native.Mathlib.Decide.{ℕ_discrete}
+use Rattle.render_run.proofs.Counting.{faults_more, moves_more}
 
 -- a line more meets a request more
 pub meets_push : (setup : Setup) (rs : List Request) (lines : List Line) (r : Request)
@@ -31,109 +43,288 @@ meets_push setup (s ∷ rs) [] r line met meets = absurd met
 meets_push setup (s ∷ rs) (l ∷ lines) r line met meets =
     (met.0, meets_push setup rs lines r line met.1 meets)
 
-module _ (setup : Setup) (old : SourceState) where
-  -- what the lines tell, with one more
-  lines_more : (front : List Request) (lines : List Line) (r : Request) (line : Line)
-      (before after : Sight)
-      → AreLinesSoFar setup front old before lines
-      → line.file ≡ (task_of setup.number_of r).file
-      → AnswersTask setup.files setup.cut (task_of setup.number_of r) before after line.answer
-      → AreLinesSoFar setup (front ++ r ∷ []) old after (lines ++ line ∷ [])
-  lines_more front lines r line before after told found one = record {
-    met = meets_push setup front lines r line told.met (record {
-      file = found;
-      answer = rw found one.meets;
-    });
-    fresh = all_pairs_push IsFresher lines line told.fresh
-        (λ k d lt placed n first second g late h early.
-        let known = told.seen k d lt n first g late in
-        let newer = (one.after.fresh n (sym found ∙ second)).early h early in
-        omega (arith, known, newer));
-    faults =
-        rw (sum_by_push (λ (l : Line). one_if (is_fault (basis_of l.answer))) lines line)
-        (faults_more _ old before.source after.source one.after.counts (basis_of line.answer)
-        one.after.cause told.faults);
-    moves =
-        rw (sum_by_push (λ (l : Line). one_if (is_move (basis_of l.answer))) lines line)
-        (moves_more _ old before.source after.source one.after.counts (basis_of line.answer)
-        one.after.cause told.moves);
-    seen = All-push (IsSeenOf after.seen) lines line
-        (λ k d lt n is g late. let known = told.seen k d lt n is g late in
-        omega (arith, known, one.after.later n))
-        (λ n is. (one.after.fresh n (sym found ∙ is)).late);
-  }
+-- ---- what workers hold
+
+-- one line more is counted
+counted_push : (before lines : List Line) (line : Line) → AreCounted before lines
+    → IsCounted (before ++ lines) line → AreCounted before (lines ++ line ∷ [])
+counted_push before [] line counted here = (rw append-nil at here, tt)
+counted_push before (l ∷ lines) line counted here = (
+  counted.0,
+  counted_push (before ++ l ∷ []) lines line counted.1
+      (subst (λ (ls : List Line). IsCounted ls line) (sym (append_assoc before (l ∷ []) lines)) here),
+)
+
+-- what a worker holds by its lines, with one more of its own
+module _ (w : ℕ) (lines : List Line) (line : Line) where
+  own_more : (p : Answer → Bool) → line.place.worker ≡ w
+      → count_by (λ (l : Line). eqb l.place.worker w && p l.answer) (lines ++ line ∷ [])
+      ≡ count_by (λ (l : Line). eqb l.place.worker w && p l.answer) lines + one_if (p line.answer)
+  own_more p own =
+      sum_by_push (λ (l : Line). one_if (eqb l.place.worker w && p l.answer)) lines line
+      ∙ ap (λ (b : Bool). count_by (λ (l : Line). eqb l.place.worker w && p l.answer) lines
+      + one_if (b && p line.answer)) (eq-eqb line.place.worker w own)
+
+  -- and with one of another
+  other_more : (p : Answer → Bool) → line.place.worker ≢ w
+      → count_by (λ (l : Line). eqb l.place.worker w && p l.answer) (lines ++ line ∷ [])
+      ≡ count_by (λ (l : Line). eqb l.place.worker w && p l.answer) lines
+  other_more p other =
+      sum_by_push (λ (l : Line). one_if (eqb l.place.worker w && p l.answer)) lines line
+      ∙ ap (λ (b : Bool). count_by (λ (l : Line). eqb l.place.worker w && p l.answer) lines
+      + one_if (b && p line.answer)) (ne_eqb line.place.worker w other)
+      ∙ omega arith
+
+  holds_more : (before after : Sight) → line.place.worker ≡ w
+      → after.holds + one_if (is_drop line.answer) ≡ before.holds + one_if (is_hold line.answer)
+      → before.holds + drops_by w lines ≡ holds_by w lines
+      → after.holds + drops_by w (lines ++ line ∷ []) ≡ holds_by w (lines ++ line ∷ [])
+  holds_more before after own one so_far =
+      omega (arith, own_more is_drop own, own_more is_hold own, one, so_far)
+
+  holds_other : (sight : Sight) → line.place.worker ≢ w
+      → sight.holds + drops_by w lines ≡ holds_by w lines
+      → sight.holds + drops_by w (lines ++ line ∷ []) ≡ holds_by w (lines ++ line ∷ [])
+  holds_other sight other so_far =
+      omega (arith, other_more is_drop other, other_more is_hold other, so_far)
+
+-- ---- one line more
+
+module _ (setup : Setup) (old : SourceState) (round : ℕ) where
+  -- what the lines tell, with one more, of worker w
+  module _ (front : List Request) (lines : List Line) (r : Request) (w : ℕ) (answer : Answer)
+      (crew : List Sight) (after : Sight)
+      (told : AreLinesSoFar setup front old round crew lines) (low : w < setup.workers)
+      (one : AnswersTask setup.files setup.cut (task_of setup.number_of r) (sight_at crew w) after
+      answer) where
+    abbrev line : Line
+    line = record {
+      place = place round w;
+      file = file_in (task_of setup.number_of r);
+      held = (sight_at crew w).holds;
+      answer = answer;
+    }
+
+    here : w < length crew
+    here = omega (arith, told.workers, low)
+
+    -- whom a line before it is known to
+    known_before : (l : Line) → IsBefore l.place line.place → IsKnownTo round w l
+    known_before l (inl earlier) = inl earlier
+    known_before l (inr same) = inr same.1
+
+    -- what is seen then
+    seen_later : (v : ℕ) (l : Line) → IsSeenOf (sight_at crew v).seen l
+        → IsSeenOf (sight_at (set crew w after) v).seen l
+    seen_later v l seen = dite (ℕ_discrete v w)
+        (λ (e : v ≡ w). λ n is g late.
+        let known : g ≤ slice_index (sight_at crew w).seen n =
+        subst (λ (u : ℕ). g ≤ slice_index (sight_at crew u).seen n) e (seen n is g late) in
+        rw (e, at_same crew w after here) (omega (arith, known, one.after.later n)))
+        (λ (ne : v ≢ w). rw (at_other crew w v after ne) seen)
+
+    seen_own : (v : ℕ) → IsKnownTo round v line → IsSeenOf (sight_at (set crew w after) v).seen line
+    seen_own v (inl earlier) = absurd (omega arith)
+    seen_own v (inr own) =
+        rw (← own, at_same crew w after here) (λ n is. (one.after.fresh n is).late)
+
+    holds_then : (v : ℕ) → v < setup.workers
+        → (sight_at (set crew w after) v).holds + drops_by v (lines ++ line ∷ [])
+        ≡ holds_by v (lines ++ line ∷ [])
+    holds_then v few = dite (ℕ_discrete v w)
+        (λ (e : v ≡ w). rw (e, at_same crew w after here)
+        (holds_more w lines line (sight_at crew w) after refl one.after.holds (told.holds w low)))
+        (λ (ne : v ≢ w). rw (at_other crew w v after ne)
+        (holds_other v lines line (sight_at crew v) (λ e. ne (sym e)) (told.holds v few)))
+
+    pub lines_more : AreLinesSoFar setup (front ++ r ∷ []) old round (set crew w after)
+        (lines ++ line ∷ [])
+    lines_more = record {
+      met = meets_push setup front lines r line told.met (record {
+        file = refl;
+        answer = one.meets;
+      });
+      fresh = all_pairs_push IsFresher lines line told.fresh
+          (λ k d lt placed n first second g late h early.
+          let known = told.seen k d lt w low (known_before (get_or lines k d) placed) n first g late in
+          let newer = (one.after.fresh n second).early h early in
+          omega (arith, known, newer));
+      counted = counted_push [] lines line told.counted (told.holds w low);
+      faults =
+          rw (sum_by_push (λ (l : Line). one_if (is_fault (basis_of l.answer))) lines line)
+          (faults_more _ old (source_of_crew crew) (source_of_crew (set crew w after))
+          (crew_on crew w after here one.after.counts) (basis_of answer)
+          (crew_cause crew w after here (basis_of answer) one.after.cause) told.faults);
+      moves =
+          rw (sum_by_push (λ (l : Line). one_if (is_move (basis_of l.answer))) lines line)
+          (moves_more _ old (source_of_crew crew) (source_of_crew (set crew w after))
+          (crew_on crew w after here one.after.counts) (basis_of answer)
+          (crew_cause crew w after here (basis_of answer) one.after.cause) told.moves);
+      workers = length-set crew w after ∙ told.workers;
+      holds = holds_then;
+      of_crew = All-push (λ (l : Line). l.place.worker < setup.workers) lines line told.of_crew low;
+      seen = All-push (λ (l : Line). (v : ℕ) → v < setup.workers → IsKnownTo round v l
+          → IsSeenOf (sight_at (set crew w after) v).seen l) lines line
+          (λ k d lt v few known. seen_later v (get_or lines k d) (told.seen k d lt v few known))
+          (λ v few known. seen_own v known);
+    }
 
 -- ---- the lines of a round
 
 module _ (setup : Setup) (round : ℕ) where
+  -- the answers of the requests of a round from the i-th on
+  abbrev pub Turns : ℕ → List Request → List Answer → List Sight → List Sight → Type 0
+  Turns i rs answers before after = AnswersInTurn setup.files setup.cut setup.workers i
+      (map (task_of setup.number_of) rs) answers before after
+
   -- the lines of answers of a round, the first of which is its i-th
-  unfoldable pub placed : ℕ → List Request → List Answer → List Line
-  placed i [] answers = []
-  placed i (r ∷ rs) [] = []
-  placed i (r ∷ rs) (a ∷ answers) = record {
+  unfoldable pub placed : (i : ℕ) (rs : List Request) (answers : List Answer)
+      (before after : List Sight) → Turns i rs answers before after → List Line
+  placed i [] [] before after turns = []
+  placed i [] (a ∷ answers) before after turns = absurd turns
+  placed i (r ∷ rs) [] before after turns = absurd turns
+  placed i (r ∷ rs) (a ∷ answers) before after turns = record {
     place = place round (i % setup.workers);
-    file = (task_of setup.number_of r).file;
+    file = file_in (task_of setup.number_of r);
+    held = (sight_at before (i % setup.workers)).holds;
     answer = a;
-  } ∷ placed (i + 1) rs answers
+  } ∷ placed (i + 1) rs answers (set before (i % setup.workers) turns.0) after turns.2
 
   -- what the lines tell, with those of a round more
   pub round_more : (old : SourceState) (front : List Request) (lines : List Line) (i : ℕ)
-      (rs : List Request) (answers : List Answer) (before after : Sight)
-      → AreLinesSoFar setup front old before lines
-      → AnswersEach setup.files setup.cut (map (task_of setup.number_of) rs) answers before after
-      → AreLinesSoFar setup (front ++ rs) old after (lines ++ placed i rs answers)
+      (rs : List Request) (answers : List Answer) (before after : List Sight)
+      → 0 < setup.workers → AreLinesSoFar setup front old round before lines
+      → (turns : Turns i rs answers before after)
+      → AreLinesSoFar setup (front ++ rs) old round after
+      (lines ++ placed i rs answers before after turns)
   unfolding placed
-  round_more old front lines i [] [] before after told each =
-      rw (append-nil front, append-nil lines, each) told
-  round_more old front lines i [] (a ∷ answers) before after told each = absurd each
-  round_more old front lines i (r ∷ rs) [] before after told each = absurd each
-  round_more old front lines i (r ∷ rs) (a ∷ answers) before after told each =
-      let line : Line = record {
-        place = place round (i % setup.workers);
-        file = (task_of setup.number_of r).file;
+  round_more old front lines i [] [] before after some told turns =
+      rw (append-nil front, append-nil lines, turns) told
+  round_more old front lines i [] (a ∷ answers) before after some told turns = absurd turns
+  round_more old front lines i (r ∷ rs) [] before after some told turns = absurd turns
+  round_more old front lines i (r ∷ rs) (a ∷ answers) before after some told turns =
+      let w = i % setup.workers in
+      let low : w < setup.workers = mod-lt i some in
+      let one : Line = record {
+        place = place round w;
+        file = file_in (task_of setup.number_of r);
+        held = (sight_at before w).holds;
         answer = a;
       } in
-      let rest = round_more old (front ++ r ∷ []) (lines ++ line ∷ []) (i + 1) rs answers each.0
-      after (lines_more setup old front lines r line before each.0 told refl each.1) each.2 in
-      subst (λ (requests : List Request). AreLinesSoFar setup requests old after
-      (lines ++ (line ∷ placed (i + 1) rs answers))) (append_assoc front (r ∷ []) rs)
-      (subst (λ (all : List Line). AreLinesSoFar setup ((front ++ r ∷ []) ++ rs) old after all)
-      (append_assoc lines (line ∷ []) (placed (i + 1) rs answers)) rest)
+      let later = placed (i + 1) rs answers (set before w turns.0) after turns.2 in
+      let rest = round_more old (front ++ r ∷ []) (lines ++ one ∷ []) (i + 1) rs answers
+      (set before w turns.0) after some
+      (lines_more setup old round front lines r w a before turns.0 told low turns.1) turns.2 in
+      subst (λ (requests : List Request). AreLinesSoFar setup requests old round after
+      (lines ++ (one ∷ later))) (append_assoc front (r ∷ []) rs)
+      (subst (λ (all : List Line).
+      AreLinesSoFar setup ((front ++ r ∷ []) ++ rs) old round after all)
+      (append_assoc lines (one ∷ []) later) rest)
 
   -- where they lie
-  pub placed_places : (i : ℕ) (rs : List Request) (answers : List Answer) (before after : Sight)
-      → AnswersEach setup.files setup.cut (map (task_of setup.number_of) rs) answers before after
-      → map (λ (l : Line). l.place) (placed i rs answers)
+  pub placed_places : (i : ℕ) (rs : List Request) (answers : List Answer)
+      (before after : List Sight) (turns : Turns i rs answers before after)
+      → map (λ (l : Line). l.place) (placed i rs answers before after turns)
       ≡ map (λ k. place round (k % setup.workers)) (range_with_len i (length rs))
   unfolding placed
-  placed_places i [] [] before after each = refl
-  placed_places i [] (a ∷ answers) before after each = absurd each
-  placed_places i (r ∷ rs) [] before after each = absurd each
-  placed_places i (r ∷ rs) (a ∷ answers) before after each =
+  placed_places i [] [] before after turns = refl
+  placed_places i [] (a ∷ answers) before after turns = absurd turns
+  placed_places i (r ∷ rs) [] before after turns = absurd turns
+  placed_places i (r ∷ rs) (a ∷ answers) before after turns =
       ap (λ (rest : List Place). place round (i % setup.workers) ∷ rest)
-      (placed_places (i + 1) rs answers each.0 after each.2)
+      (placed_places (i + 1) rs answers (set before (i % setup.workers) turns.0) after turns.2)
 
   -- their answers
-  pub placed_answers : (i : ℕ) (rs : List Request) (answers : List Answer) (before after : Sight)
-      → AnswersEach setup.files setup.cut (map (task_of setup.number_of) rs) answers before after
-      → map (λ (l : Line). l.answer) (placed i rs answers) ≡ answers
+  pub placed_answers : (i : ℕ) (rs : List Request) (answers : List Answer)
+      (before after : List Sight) (turns : Turns i rs answers before after)
+      → map (λ (l : Line). l.answer) (placed i rs answers before after turns) ≡ answers
   unfolding placed
-  placed_answers i [] [] before after each = refl
-  placed_answers i [] (a ∷ answers) before after each = absurd each
-  placed_answers i (r ∷ rs) [] before after each = absurd each
-  placed_answers i (r ∷ rs) (a ∷ answers) before after each =
+  placed_answers i [] [] before after turns = refl
+  placed_answers i [] (a ∷ answers) before after turns = absurd turns
+  placed_answers i (r ∷ rs) [] before after turns = absurd turns
+  placed_answers i (r ∷ rs) (a ∷ answers) before after turns =
       ap (λ (rest : List Answer). a ∷ rest)
-      (placed_answers (i + 1) rs answers each.0 after each.2)
+      (placed_answers (i + 1) rs answers (set before (i % setup.workers) turns.0) after turns.2)
 
   -- they are in the round
   pub placed_rounds : (i : ℕ) (rs : List Request) (answers : List Answer)
-      → All (λ l. l.place.round < round + 1) (placed i rs answers)
+      (before after : List Sight) (turns : Turns i rs answers before after)
+      → All (λ l. l.place.round < round + 1) (placed i rs answers before after turns)
   unfolding placed
-  placed_rounds i [] answers = All-nil (λ (l : Line). l.place.round < round + 1)
-  placed_rounds i (r ∷ rs) [] = All-nil (λ (l : Line). l.place.round < round + 1)
-  placed_rounds i (r ∷ rs) (a ∷ answers) =
+  placed_rounds i [] [] before after turns = All-nil (λ (l : Line). l.place.round < round + 1)
+  placed_rounds i [] (a ∷ answers) before after turns = absurd turns
+  placed_rounds i (r ∷ rs) [] before after turns = absurd turns
+  placed_rounds i (r ∷ rs) (a ∷ answers) before after turns =
       All-cons (λ (l : Line). l.place.round < round + 1) _ _ (omega arith)
-      (placed_rounds (i + 1) rs answers)
+      (placed_rounds (i + 1) rs answers (set before (i % setup.workers) turns.0) after turns.2)
+
+-- ---- between rounds
+
+module _ (setup : Setup) (front : List Request) (old : SourceState) (lines : List Line)
+    (before after : List Sight) where
+  -- the rounds so far are known to all, once what each has seen was carried to every other
+  pub lines_carried : (round : ℕ) → AreLinesSoFar setup front old 0 before lines
+      → AreCarried before after → AreLinesSoFar setup front old round after lines
+  lines_carried round told carried = record {
+    met = told.met;
+    fresh = told.fresh;
+    counted = told.counted;
+    faults = subst (λ (s : SourceState). RisesByAtLeast (read_faults lines) old.faults s.faults)
+        (sym carried.kept.source) told.faults;
+    moves = subst (λ (s : SourceState). RisesByAtLeast (agains lines) old.moves s.moves)
+        (sym carried.kept.source) told.moves;
+    workers = carried.kept.count ∙ told.workers;
+    holds = λ w low. rw (carried.kept.holds w (omega (arith, told.workers))) (told.holds w low);
+    of_crew = told.of_crew;
+    seen = λ k d lt w low known n is g late.
+        let own = told.of_crew k d lt in
+        let saw = told.seen k d lt (get_or lines k d).place.worker own (inr refl) n is g late in
+        omega (
+          arith,
+          saw,
+          carried.carried (get_or lines k d).place.worker w (omega (arith, told.workers))
+              (omega (arith, told.workers)) n,
+        );
+  }
+
+  -- no worker sees less than before
+  pub lines_kept : AreLinesSoFar setup front old 0 before lines → SeeNoLess before after
+      → AreLinesSoFar setup front old 0 after lines
+  lines_kept told kept = record {
+    met = told.met;
+    fresh = told.fresh;
+    counted = told.counted;
+    faults = subst (λ (s : SourceState). RisesByAtLeast (read_faults lines) old.faults s.faults)
+        (sym kept.source) told.faults;
+    moves = subst (λ (s : SourceState). RisesByAtLeast (agains lines) old.moves s.moves)
+        (sym kept.source) told.moves;
+    workers = kept.count ∙ told.workers;
+    holds = λ w low. rw (kept.holds w (omega (arith, told.workers))) (told.holds w low);
+    of_crew = told.of_crew;
+    seen = λ k d lt w low known n is g late.
+        let saw = told.seen k d lt w low known n is g late in
+        omega (arith, saw, kept.seen w (omega (arith, told.workers)) n);
+  }
+
+-- each worker knows its own lines
+pub lines_own : (setup : Setup) (front : List Request) (old : SourceState) (round : ℕ)
+    (crew : List Sight) (lines : List Line) → AreLinesSoFar setup front old round crew lines
+    → AreLinesSoFar setup front old 0 crew lines
+lines_own setup front old round crew lines told = record {
+  met = told.met;
+  fresh = told.fresh;
+  counted = told.counted;
+  faults = told.faults;
+  moves = told.moves;
+  workers = told.workers;
+  holds = told.holds;
+  of_crew = told.of_crew;
+  seen = λ k d lt w low known. told.seen k d lt w low (own_only (get_or lines k d) w known);
+}
+  where
+    own_only : (l : Line) (w : ℕ) → IsKnownTo 0 w l → IsKnownTo round w l
+    own_only l w (inl earlier) = absurd (omega arith)
+    own_only l w (inr own) = inr own
 
 -- ---- one answer more of a round
 

@@ -18,6 +18,8 @@ use Rattle.request_lang.specs.Line.{line_of}
 use Rattle.tex_world.specs.Counts.{Rises, last_count}
 use Rattle.tex_world.specs.Stream.{Appends, AppendsPart}
 use Rattle.render_run.specs.Around.{SourceState, SinkState, Sight, Progress, Setup, progress_of}
+use Rattle.render_run.specs.Around.{source_of_crew}
+use Rattle.render_run.specs.Crew.{AreCarried, AreIdle, SeeNoLess}
 use Rattle.render_run.specs.Question.{task_of}
 use Rattle.render_run.specs.Dealing.{Place, place, fresh_round, places_from, places_of}
 use Rattle.render_run.specs.Dealing.{round_places, IsRound, AreWholeRounds}
@@ -25,11 +27,11 @@ use Rattle.render_run.specs.Reply.{Line}
 use Rattle.render_run.specs.Run.{Answers, lines_text, some_refused}
 use Rattle.render_run.specs.Page.{Passes, PassesPart, outgoing_of}
 use Rattle.render_run.specs.Written.{Finishes, PartWritten, RoundsWritten}
-use Rattle.render_run.specs.Answering.{AnswersEach, AreLinesSoFar, SoFar, answers_text}
+use Rattle.render_run.specs.Answering.{AnswersInTurn, SoFar, answers_text}
 use Rattle.render_run.proofs.DealingLemmas.{later_rounds}
 use Rattle.render_run.proofs.Passing.{passes_more, rest_part}
 use Rattle.render_run.proofs.OneMore.{placed, round_more, placed_places, placed_answers}
-use Rattle.render_run.proofs.OneMore.{placed_rounds}
+use Rattle.render_run.proofs.OneMore.{placed_rounds, Turns, lines_carried, lines_kept, lines_own}
 
 -- a count that has risen since has risen from a lower one on
 pub rises_from : (a b c : ℕ) → a ≤ b → Rises b c → Rises a c
@@ -47,14 +49,19 @@ rises_from a b c low rises = record {
         omega (arith, rises.later, here, below)
 
 -- before the first round
-pub none_yet : (setup : Setup) (requests : List Request) (sight : Sight) (old : Progress)
-    → sight.source ≡ old.source → SoFar setup requests 0 sight old old [] false
-none_yet setup requests sight old from = record {
+pub none_yet : (setup : Setup) (requests : List Request) (crew : List Sight) (old : Progress)
+    → length crew ≡ setup.workers → AreIdle crew → source_of_crew crew ≡ old.source
+    → SoFar setup requests 0 crew old old [] false
+none_yet setup requests crew old count idle from = record {
   lines = [];
   round = 0;
   so_far = record {
     met = tt;
     fresh = λ i j d lt below. absurd (omega arith);
+    counted = tt;
+    workers = count;
+    holds = λ w low. rw (idle w) refl;
+    of_crew = λ k d lt. absurd (omega arith);
     faults = record {
       later = omega (arith, ap (λ (s : SourceState). s.faults) from);
       by_n = λ below. omega (arith, ap (λ (s : SourceState). s.faults) from);
@@ -102,102 +109,102 @@ any_map p f [] = refl
 any_map p f (x ∷ xs) = ap (λ (b : Bool). p (f x) || b) (any_map p f xs)
 
 module _ (setup : Setup) (round : ℕ) (rs : List Request) (answers : List Answer)
-    (before after : Sight)
-    (each : AnswersEach setup.files setup.cut (map (task_of setup.number_of) rs) answers before
-    after) where
+    (before after : List Sight) (turns : Turns setup round 0 rs answers before after) where
   -- the text of the lines of a round
-  more_text : lines_text (placed setup round 0 rs answers) ≡ answers_text answers
+  more_text : lines_text (placed setup round 0 rs answers before after turns) ≡ answers_text answers
   more_text =
-      sym (flat_map-map line_of (λ (l : Line). l.answer) (placed setup round 0 rs answers))
-      ∙ ap (flat_map line_of) (placed_answers setup round 0 rs answers before after each)
+      sym (flat_map-map line_of (λ (l : Line). l.answer) (placed setup round 0 rs answers before after turns))
+      ∙ ap (flat_map line_of) (placed_answers setup round 0 rs answers before after turns)
 
   -- whether one of them is a refusal
-  more_refused : some_refused (placed setup round 0 rs answers) ≡ list_any is_refusal answers
+  more_refused : some_refused (placed setup round 0 rs answers before after turns) ≡ list_any is_refusal answers
   more_refused =
-      any_map is_refusal (λ (l : Line). l.answer) (placed setup round 0 rs answers)
-      ∙ ap (list_any is_refusal) (placed_answers setup round 0 rs answers before after each)
+      any_map is_refusal (λ (l : Line). l.answer) (placed setup round 0 rs answers before after turns)
+      ∙ ap (list_any is_refusal) (placed_answers setup round 0 rs answers before after turns)
 
   -- how many there are
-  more_count : length (placed setup round 0 rs answers) ≡ length rs
+  more_count : length (placed setup round 0 rs answers before after turns) ≡ length rs
   more_count =
-      sym (length-map (placed setup round 0 rs answers) (λ (l : Line). l.place))
-      ∙ ap length (placed_places setup round 0 rs answers before after each)
+      sym (length-map (placed setup round 0 rs answers before after turns) (λ (l : Line). l.place))
+      ∙ ap length (placed_places setup round 0 rs answers before after turns)
       ∙ length-map-range_with_len (λ k. place round (k % setup.workers)) 0 (length rs)
 
-module _ (setup : Setup) (requests : List Request) (done count : ℕ) (before after : Sight)
+module _ (setup : Setup) (requests : List Request) (done count : ℕ) (known before after : List Sight)
     (old mid new : Progress) (p1 p2 : List ℕ) (refused said both : Bool) (answers : List Answer)
-  where
-    -- one round more
-    pub rounds_more : SoFar setup requests done before old mid p1 refused
-        → IsRound (drop done requests) count → done + count ≤ length requests
-        → AnswersEach setup.files setup.cut
-        (map (task_of setup.number_of) (take count (drop done requests))) answers before after
-        → Passes (answers_text answers) (outgoing_of p1 mid.sink) (outgoing_of p2 new.sink)
-        → said ≡ list_any is_refusal answers → both ≡ (refused || said)
-        → SoFar setup requests (done + count) after old new p2 both
-    rounds_more so_far is_round within each passes told either =
-        let rs = take count (drop done requests) in
-        let lines = so_far.lines in
-        let round = so_far.round in
-        let more = placed setup round 0 rs answers in
-        let w = setup.workers in
-        let next = fresh_round (round + 1) in
-        let long : length rs ≡ count =
-        omega (arith, length-take count (drop done requests), length-drop done requests, within) in
-        let total : length lines ≡ done = so_far.count in
-        record {
-          lines = lines ++ more;
-          round = round + 1;
-          so_far =
-              rw (take-add done count requests)
-              (round_more setup round old.source (take done requests) lines 0 rs answers before
-              after so_far.so_far each);
-          places =
-              so_far.places
-              ∙ ap (λ (ps : List Place). map (λ (l : Line). l.place) lines ++ ps)
-              (is_round w round
-              ∙ ap (λ (ps : List Place). ps ++ places_from w next (drop count (drop done requests)))
-              (ap (λ (n : ℕ). round_places w round n) (sym long)
-              ∙ sym (placed_places setup round 0 rs answers before after each))
-              ∙ ap (λ (left : List Request).
-              map (λ (l : Line). l.place) more ++ places_from w next left)
-              (drop-drop count done requests))
-              ∙ sym (append_assoc (map (λ (l : Line). l.place) lines)
-              (map (λ (l : Line). l.place) more)
-              (places_from w next (drop (done + count) requests)))
-              ∙ ap (λ (ps : List Place). ps ++ places_from w next (drop (done + count) requests))
-              (sym (map-append (λ (l : Line). l.place) lines more));
-          rounds =
-              All-append (λ (l : Line). l.place.round < round + 1) lines more
-              (λ k d lt. let below = so_far.rounds k d lt in omega (arith, below))
-              (placed_rounds setup round 0 rs answers);
-          count =
-              omega (
-                arith,
-                length-append lines more,
-                total,
-                more_count setup round rs answers before after each,
-                long,
-              );
-          written =
-              rw (
-                flat_map-append (λ (l : Line). line_of l.answer) lines more,
-                more_text setup round rs answers before after each,
-              )
-              (passes_more (lines_text lines) (answers_text answers) (outgoing_of [] old.sink)
-              (outgoing_of p1 mid.sink) (outgoing_of p2 new.sink) so_far.written passes);
-          refusal =
-              either ∙ rw (so_far.refusal, told)
-              (sym (list_any-append (λ (l : Line). is_refusal l.answer) lines more
-              ∙ ap (λ (b : Bool). some_refused lines || b)
-              (more_refused setup round rs answers before after each)));
-        }
+    (some : 0 < setup.workers) (carried : AreCarried known before) where
+  -- one round more
+  pub rounds_more : SoFar setup requests done known old mid p1 refused
+      → IsRound (drop done requests) count → done + count ≤ length requests
+      → AnswersInTurn setup.files setup.cut setup.workers 0
+      (map (task_of setup.number_of) (take count (drop done requests))) answers before after
+      → Passes (answers_text answers) (outgoing_of p1 mid.sink) (outgoing_of p2 new.sink)
+      → said ≡ list_any is_refusal answers → both ≡ (refused || said)
+      → SoFar setup requests (done + count) after old new p2 both
+  rounds_more so_far is_round within turns passes told either =
+      let rs = take count (drop done requests) in
+      let lines = so_far.lines in
+      let round = so_far.round in
+      let more = placed setup round 0 rs answers before after turns in
+      let w = setup.workers in
+      let next = fresh_round (round + 1) in
+      let long : length rs ≡ count =
+      omega (arith, length-take count (drop done requests), length-drop done requests, within) in
+      let total : length lines ≡ done = so_far.count in
+      record {
+        lines = lines ++ more;
+        round = round + 1;
+        so_far =
+            rw (take-add done count requests)
+            (lines_own setup (take done requests ++ rs) old.source round after (lines ++ more)
+            (round_more setup round old.source (take done requests) lines 0 rs answers before
+            after some (lines_carried setup (take done requests) old.source lines known before
+            round so_far.so_far carried) turns));
+        places =
+            so_far.places
+            ∙ ap (λ (ps : List Place). map (λ (l : Line). l.place) lines ++ ps)
+            (is_round w round
+            ∙ ap (λ (ps : List Place). ps ++ places_from w next (drop count (drop done requests)))
+            (ap (λ (n : ℕ). round_places w round n) (sym long)
+            ∙ sym (placed_places setup round 0 rs answers before after turns))
+            ∙ ap (λ (left : List Request).
+            map (λ (l : Line). l.place) more ++ places_from w next left)
+            (drop-drop count done requests))
+            ∙ sym (append_assoc (map (λ (l : Line). l.place) lines)
+            (map (λ (l : Line). l.place) more)
+            (places_from w next (drop (done + count) requests)))
+            ∙ ap (λ (ps : List Place). ps ++ places_from w next (drop (done + count) requests))
+            (sym (map-append (λ (l : Line). l.place) lines more));
+        rounds =
+            All-append (λ (l : Line). l.place.round < round + 1) lines more
+            (λ k d lt. let below = so_far.rounds k d lt in omega (arith, below))
+            (placed_rounds setup round 0 rs answers before after turns);
+        count =
+            omega (
+              arith,
+              length-append lines more,
+              total,
+              more_count setup round rs answers before after turns,
+              long,
+            );
+        written =
+            rw (
+              flat_map-append (λ (l : Line). line_of l.answer) lines more,
+              more_text setup round rs answers before after turns,
+            )
+            (passes_more (lines_text lines) (answers_text answers) (outgoing_of [] old.sink)
+            (outgoing_of p1 mid.sink) (outgoing_of p2 new.sink) so_far.written passes);
+        refusal =
+            either ∙ rw (so_far.refusal, told)
+            (sym (list_any-append (λ (l : Line). is_refusal l.answer) lines more
+            ∙ ap (λ (b : Bool). some_refused lines || b)
+            (more_refused setup round rs answers before after turns)));
+      }
 
 -- ---- what stands then
 
-module _ (setup : Setup) (requests : List Request) (done : ℕ) (sight : Sight) (old new : Progress)
-    (page : List ℕ) (refused : Bool)
-    (so_far : SoFar setup requests done sight old new page refused) where
+module _ (setup : Setup) (requests : List Request) (done : ℕ) (crew : List Sight)
+    (old new : Progress) (page : List ℕ) (refused : Bool)
+    (so_far : SoFar setup requests done crew old new page refused) where
   -- the places of the lines, and those of the rest
   pub front_places : map (λ (l : Line). l.place) so_far.lines ≡ take done (places_of setup.workers requests)
   front_places =
@@ -221,10 +228,11 @@ module _ (setup : Setup) (requests : List Request) (done : ℕ) (sight : Sight) 
       ∙ drop-append_seam here rest)
 
   -- so many requests are answered
-  abbrev pub answered_so_far : Answers setup requests done old.source sight.source
+  abbrev pub answered_so_far : Answers setup requests done old.source (source_of_crew crew)
   answered_so_far = record {
     lines = so_far.lines;
     met = so_far.so_far.met;
+    counted = so_far.so_far.counted;
     places = front_places;
     fresh = so_far.so_far.fresh;
     faults = so_far.so_far.faults;
@@ -271,22 +279,22 @@ waiting text page sink = record {
   appended = λ held is. is ∙ ap Some (sym (append-nil held));
 }
 
-module _ (setup : Setup) (requests : List Request) (done count : ℕ) (before after : Sight)
+module _ (setup : Setup) (requests : List Request) (done count : ℕ) (known before after : List Sight)
     (old mid : Progress) (last : SinkState) (page : List ℕ) (refused : Bool)
-    (answers : List Answer) where
+    (answers : List Answer) (some : 0 < setup.workers) (carried : AreCarried known before) where
   -- a first part of the lines of one round more
-  pub rounds_part : SoFar setup requests done before old mid page refused
+  pub rounds_part : SoFar setup requests done known old mid page refused
       → IsRound (drop done requests) count → done + count ≤ length requests
-      → AnswersEach setup.files setup.cut
+      → AnswersInTurn setup.files setup.cut setup.workers 0
       (map (task_of setup.number_of) (take count (drop done requests))) answers before after
       → PassesPart (answers_text answers) (outgoing_of page mid.sink) last.holds
       → Rises old.sink.faults last.faults
-      → PartWritten setup requests old (progress_of after.source last)
-  rounds_part so_far is_round within each part cause =
+      → PartWritten setup requests old (progress_of (source_of_crew after) last)
+  rounds_part so_far is_round within turns part cause =
       let both = refused || list_any is_refusal answers in
       let waits = page ++ answers_text answers in
-      let more = rounds_more setup requests done count before after old mid mid page waits refused
-      (list_any is_refusal answers) both answers so_far is_round within each
+      let more = rounds_more setup requests done count known before after old mid mid page waits
+      refused (list_any is_refusal answers) both answers some carried so_far is_round within turns
       (waiting (answers_text answers) page mid.sink) refl refl in
       record {
         count = done + count;
@@ -296,9 +304,9 @@ module _ (setup : Setup) (requests : List Request) (done count : ℕ) (before af
         cause = cause;
       }
 
-module _ (setup : Setup) (requests : List Request) (done : ℕ) (sight : Sight) (old mid : Progress)
+module _ (setup : Setup) (requests : List Request) (done : ℕ) (crew : List Sight) (old mid : Progress)
     (last : SinkState) (page : List ℕ) (refused : Bool)
-    (so_far : SoFar setup requests done sight old mid page refused) where
+    (so_far : SoFar setup requests done crew old mid page refused) where
   -- what waited was put
   pub rounds_written : (p2 : List ℕ)
       → Passes [] (outgoing_of page mid.sink) (outgoing_of p2 last) → p2 ≡ []
@@ -309,35 +317,52 @@ module _ (setup : Setup) (requests : List Request) (done : ℕ) (sight : Sight) 
 
   -- the lines of whole rounds
   pub rounds_put : (p2 : List ℕ) → Passes [] (outgoing_of page mid.sink) (outgoing_of p2 last)
-      → p2 ≡ [] → RoundsWritten setup requests old (progress_of sight.source last)
+      → p2 ≡ [] → RoundsWritten setup requests old (progress_of (source_of_crew crew) last)
   rounds_put p2 passes empty = record {
     count = done;
-    answers = answered_so_far setup requests done sight old mid page refused so_far;
-    whole = whole_so_far setup requests done sight old mid page refused so_far;
+    answers = answered_so_far setup requests done crew old mid page refused so_far;
+    whole = whole_so_far setup requests done crew old mid page refused so_far;
     written = rounds_written p2 passes empty;
   }
 
   -- a first part of them
   pub rounds_cut : AppendsPart page mid.sink.holds last.holds → Rises old.sink.faults last.faults
-      → PartWritten setup requests old (progress_of sight.source last)
+      → PartWritten setup requests old (progress_of (source_of_crew crew) last)
   rounds_cut part cause = record {
     count = done;
-    answers = answered_so_far setup requests done sight old mid page refused so_far;
+    answers = answered_so_far setup requests done crew old mid page refused so_far;
     part = rest_part (lines_text so_far.lines) (outgoing_of [] old.sink)
         (outgoing_of page mid.sink) last.holds so_far.written part;
     cause = cause;
   }
 
 -- all of a list
-pub rounds_finish : (setup : Setup) (requests : List Request) (sight : Sight) (old mid : Progress)
+pub rounds_finish : (setup : Setup) (requests : List Request) (crew : List Sight) (old mid : Progress)
     (last : SinkState) (page : List ℕ) (refused : Bool) (p2 : List ℕ)
-    → SoFar setup requests (length requests) sight old mid page refused
+    → SoFar setup requests (length requests) crew old mid page refused
     → Passes [] (outgoing_of page mid.sink) (outgoing_of p2 last) → p2 ≡ []
-    → Finishes setup requests old (progress_of sight.source last) refused
-rounds_finish setup requests sight old mid last page refused p2 so_far passes empty = record {
-  answers = answered_so_far setup requests (length requests) sight old mid page refused so_far;
+    → Finishes setup requests old (progress_of (source_of_crew crew) last) refused
+rounds_finish setup requests crew old mid last page refused p2 so_far passes empty = record {
+  answers = answered_so_far setup requests (length requests) crew old mid page refused so_far;
   written =
-      rounds_written setup requests (length requests) sight old mid last page refused so_far p2
+      rounds_written setup requests (length requests) crew old mid last page refused so_far p2
       passes empty;
+  refusal = so_far.refusal;
+}
+
+-- where no round more was begun, though what was seen was carried
+pub rounds_kept : (setup : Setup) (requests : List Request) (done : ℕ) (known crew : List Sight)
+    (old new : Progress) (source : SourceState) (page : List ℕ) (refused : Bool)
+    → SoFar setup requests done known old new page refused → SeeNoLess known crew
+    → SoFar setup requests done crew old (progress_of source new.sink) page refused
+rounds_kept setup requests done known crew old new source page refused so_far kept = record {
+  lines = so_far.lines;
+  round = so_far.round;
+  so_far = lines_kept setup (take done requests) old.source so_far.lines known crew so_far.so_far
+      kept;
+  places = so_far.places;
+  rounds = so_far.rounds;
+  count = so_far.count;
+  written = so_far.written;
   refusal = so_far.refusal;
 }

@@ -1,5 +1,6 @@
--- What does a worker leave of what it has seen, and how far has answering a list come?
-use Rattle.std.specs.Prelude.{◌≡◌, ℕ, ◌+◌, ◌<◌, ◌≤◌, Bool, List, [], ◌∷◌, ◌++◌, length, slice_index}
+-- What does a worker leave of what it sees, and how far has answering a list come?
+use Rattle.std.specs.Prelude.{◌≡◌, ◌⊎◌, ℕ, zero, suc, ◌+◌, ◌-◌, ◌/◌, ◌%◌, ◌<◌, ◌≤◌, Bool, List, [], ◌∷◌, ◌++◌}
+use Rattle.std.specs.Prelude.{length, slice_index, slice_index_or, slice_set}
 use Rattle.std.specs.Prelude.{map, take, drop, Option, Some, IsTrue, ⊤}
 use Rattle.std.specs.Option.{ForSome}
 use Rattle.std.specs.List.{All, AllPairs, flat_map}
@@ -8,14 +9,16 @@ use Rattle.tex_world.specs.World.{Files, IsFile}
 use Rattle.tile_layout.specs.declared.cut.Cut.{Cut}
 use Rattle.request_lang.specs.declared.request.Request.{Request}
 use Rattle.request_lang.specs.declared.answer.Answer.{Answer}
+use Rattle.request_lang.specs.declared.answer.Answer.TheVariants.{Synced}
 use Rattle.request_lang.specs.Line.{line_of}
 use Rattle.request_lang.specs.Basis.{Basis, OnNewer, OnFault, basis_of, latest}
 use Rattle.render_run.specs.declared.question.Task.{Task}
-use Rattle.render_run.specs.Around.{SourceState, Sight, Progress, Setup}
-use Rattle.render_run.specs.Question.{may_be_asked}
+use Rattle.render_run.specs.Around.{SourceState, Sight, Progress, Setup, sight_at, source_of_crew}
+use Rattle.render_run.specs.Question.{may_be_given, file_in}
 use Rattle.render_run.specs.Dealing.{fresh_round, places_from, places_of}
 use Rattle.render_run.specs.Reply.{Line, MeetsTask, MeetsAll}
 use Rattle.render_run.specs.Fresh.{IsFresher, KeepsFresh}
+use Rattle.render_run.specs.Held.{one_if, is_hold, is_drop, holds_by, drops_by, AreCounted}
 use Rattle.render_run.specs.Run.{read_faults, agains, some_refused, lines_text}
 use Rattle.render_run.specs.Page.{Passes, outgoing_of}
 
@@ -32,29 +35,45 @@ HasCause old new OnFault = Rises old.faults new.faults
 HasCause old new (OnNewer from to) = Rises old.moves new.moves
 HasCause old new _ = ⊤
 
+-- of no file is less seen than before
+abbrev pub SeesNoLess : List ℕ → List ℕ → Type 0
+SeesNoLess old new = (n : ℕ) → slice_index old n ≤ slice_index new n
+
 -- An answer on a file, if there is one, is not older than what the worker had seen of that file, and
--- what it has then seen is not older than the answer. It has seen no file's number fall, and the
--- answer has its cause.
+-- what it has then seen is not older than the answer. It has seen no file's number fall, it holds a
+-- tile more or less as the answer says, and the answer has its cause.
 pub record AfterAnswer (file : Option ℕ) (old new : Sight) (line : Answer) : Type 0 where
-  pub later : (n : ℕ) → slice_index old.seen n ≤ slice_index new.seen n
+  pub later : SeesNoLess old.seen new.seen
   pub fresh : ForSome file (λ n.
       KeepsFresh (slice_index old.seen n) (slice_index new.seen n) line)
+  pub holds : new.holds + one_if (is_drop line) ≡ old.holds + one_if (is_hold line)
   pub cause : HasCause old.source new.source (basis_of line)
   pub counts : GoesOn old.source new.source
 
 -- The answer meets what a worker was given of a request.
 pub record AnswersTask (files : Files) (cut : Cut) (task : Task) (old new : Sight) (line : Answer)
     : Type 0 where
-  pub meets : MeetsTask files cut task.file task.question line
-  pub after : AfterAnswer task.file old new line
+  pub meets : MeetsTask files cut old.holds task line
+  pub after : AfterAnswer (file_in task) old new line
 
 -- ---- the requests of a round
 
 -- what a worker is given of a request may be asked, and its file is one of so many, and of the world's
 pub record MayBeGiven (files : Files) (count : ℕ) (task : Task) : Type 0 where
-  pub number : ForSome task.file (λ n. n < count)
-  pub file : ForSome task.file (IsFile files)
-  pub asked : ForSome task.question (λ q. IsTrue (may_be_asked q))
+  pub number : ForSome (file_in task) (λ n. n < count)
+  pub file : ForSome (file_in task) (IsFile files)
+  pub asked : IsTrue (may_be_given task)
+
+-- each of so many files is one of the world's
+abbrev pub AreFiles : Files → ℕ → Type 0
+AreFiles files count = (file : ℕ) → file < count → IsFile files file
+
+-- Of the requests of a round, the one at place d from here on, and every n-th after it: those that
+-- are dealt to one of n workers.
+abbrev pub share_of : {A : Type 0} → ℕ → ℕ → List A → List A
+share_of n d [] = []
+share_of n zero (x ∷ xs) = x ∷ share_of n (n - 1) xs
+share_of n (suc d) (x ∷ xs) = share_of n d xs
 
 -- a worker answered what it was given, one after another
 abbrev pub AnswersEach : Files → Cut → List Task → List Answer → Sight → Sight → Type 0
@@ -64,6 +83,28 @@ AnswersEach files cut (task ∷ tasks) [] old new = ⊥
 AnswersEach files cut (task ∷ tasks) (line ∷ lines) old new =
     (mid : Sight) × AnswersTask files cut task old mid line
     × AnswersEach files cut tasks lines mid new
+
+-- The requests of a round from the i-th on were answered by n workers, the i-th by worker i % n.
+abbrev pub AnswersInTurn : Files → Cut → ℕ → ℕ → List Task → List Answer → List Sight → List Sight
+    → Type 0
+AnswersInTurn files cut n i [] [] old new = new ≡ old
+AnswersInTurn files cut n i [] (line ∷ lines) old new = ⊥
+AnswersInTurn files cut n i (task ∷ tasks) [] old new = ⊥
+AnswersInTurn files cut n i (task ∷ tasks) (line ∷ lines) old new =
+    (mid : Sight) × AnswersTask files cut task (sight_at old (i % n)) mid line
+    × AnswersInTurn files cut n (i + 1) tasks lines (slice_set old (i % n) mid) new
+
+-- so many answers from the i-th on, of n workers in turn, each of which has its own in a list
+abbrev pub in_turn : ℕ → ℕ → ℕ → List (List Answer) → List Answer
+in_turn n i zero lists = []
+in_turn n i (suc count) lists =
+    slice_index_or (slice_index_or lists (i % n) []) (i / n) Synced
+    ∷ in_turn n (i + 1) count lists
+
+-- Each of so many answers is there.
+abbrev pub AreInTurn : ℕ → ℕ → List (List Answer) → Type 0
+AreInTurn n count lists =
+    (i : ℕ) → i < count → i / n < length (slice_index_or lists (i % n) [])
 
 -- the text of answers, each with its line feed
 abbrev pub answers_text : List Answer → List ℕ
@@ -76,22 +117,33 @@ abbrev pub IsSeenOf : List ℕ → Line → Type 0
 IsSeenOf seen line = (n : ℕ) → line.file ≡ Some n
     → ForSome (latest (basis_of line.answer)) (λ g. g ≤ slice_index seen n)
 
--- What the lines for some first requests tell, none of which is newer than what was then seen.
-pub record AreLinesSoFar (setup : Setup) (requests : List Request) (old : SourceState)
-    (sight : Sight) (lines : List Line) : Type 0 where
+-- a line of an earlier round than this one, or of this worker
+abbrev pub IsKnownTo : ℕ → ℕ → Line → Type 0
+IsKnownTo round w line = (line.place.round < round) ⊎ (line.place.worker ≡ w)
+
+-- What the lines for some first requests tell. None of those that a worker knows, of its own and of
+-- the rounds before this one, is newer than what it has then seen, and it holds what they leave.
+pub record AreLinesSoFar (setup : Setup) (requests : List Request) (old : SourceState) (round : ℕ)
+    (crew : List Sight) (lines : List Line) : Type 0 where
   pub met : MeetsAll setup requests lines
   pub fresh : AllPairs IsFresher lines
-  pub faults : RisesByAtLeast (read_faults lines) old.faults sight.source.faults
-  pub moves : RisesByAtLeast (agains lines) old.moves sight.source.moves
-  pub seen : All (IsSeenOf sight.seen) lines
+  pub counted : AreCounted [] lines
+  pub faults : RisesByAtLeast (read_faults lines) old.faults (source_of_crew crew).faults
+  pub moves : RisesByAtLeast (agains lines) old.moves (source_of_crew crew).moves
+  pub workers : length crew ≡ setup.workers
+  pub holds : (w : ℕ) → w < setup.workers
+      → (sight_at crew w).holds + drops_by w lines ≡ holds_by w lines
+  pub of_crew : All (λ line. line.place.worker < setup.workers) lines
+  pub seen : All (λ line. (w : ℕ) → w < setup.workers → IsKnownTo round w line
+      → IsSeenOf (sight_at crew w).seen line) lines
 
 -- Some first rounds of a list were answered, and their lines passed on to a page that was empty.
 -- Some is a refusal, or none.
-pub record SoFar (setup : Setup) (requests : List Request) (done : ℕ) (sight : Sight)
+pub record SoFar (setup : Setup) (requests : List Request) (done : ℕ) (crew : List Sight)
     (old new : Progress) (page : List ℕ) (refused : Bool) : Type 0 where
   pub lines : List Line
   pub round : ℕ
-  pub so_far : AreLinesSoFar setup (take done requests) old.source sight lines
+  pub so_far : AreLinesSoFar setup (take done requests) old.source 0 crew lines
   pub places : places_of setup.workers requests ≡ map (λ line. line.place) lines
       ++ places_from setup.workers (fresh_round round) (drop done requests)
   pub rounds : All (λ line. line.place.round < round) lines

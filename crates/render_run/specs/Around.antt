@@ -1,5 +1,6 @@
 -- What is known of the folder, the feed and the sink around a call, before it and after it?
-use Rattle.std.specs.Prelude.{ℕ, List, Option}
+use Rattle.std.specs.Prelude.{ℕ, List, [], Option, length, slice_index_or}
+use Rattle.std.specs.List.{sum_by}
 use Rattle.tex_world.specs.World.{Files}
 use Rattle.tex_world.specs.Tap.{TapState}
 use Rattle.tex_world.specs.Folder.{FolderState}
@@ -63,9 +64,10 @@ pub record Setup : Type 0 where
   pub cut : Cut
   pub workers : ℕ
 
--- what a worker has seen of each file, and the source that its tap is
+-- What a worker has seen of each file, how many tiles it holds, and the source that its tap is.
 pub record Sight : Type 0 where
   pub seen : List ℕ
+  pub holds : ℕ
   pub source : SourceState
 
 -- all three
@@ -85,6 +87,27 @@ abbrev pub setup_of : Files → FolderState → Cut → ℕ → Setup
 setup_of files folder cut workers =
     record { files = files; number_of = folder.number_of; cut = cut; workers = workers }
 
--- the two of a worker, by its pass and its tap
+-- what a worker sees by its pass and its tap
 abbrev pub sight_of : PassState → TapState → Sight
-sight_of pass tap = record { seen = pass.view.seen; source = source_of_tap tap }
+sight_of pass tap = record {
+  seen = pass.view.seen;
+  holds = length pass.pinned.holds;
+  source = source_of_tap tap;
+}
+
+-- ---- several workers
+
+-- a worker that has seen nothing
+abbrev pub no_sight : Sight
+no_sight = record { seen = []; holds = 0; source = record { faults = 0; moves = 0 } }
+
+-- of worker w
+abbrev pub sight_at : List Sight → ℕ → Sight
+sight_at crew w = slice_index_or crew w no_sight
+
+-- the source that the taps of all workers are together
+abbrev pub source_of_crew : List Sight → SourceState
+source_of_crew crew = record {
+  faults = sum_by (λ s. s.source.faults) crew;
+  moves = sum_by (λ s. s.source.moves) crew;
+}

@@ -5,9 +5,11 @@ pub mod Dealing
 pub mod Refusal
 pub mod Reply
 pub mod Fresh
+pub mod Held
 pub mod ListRead
 pub mod Ending
 pub mod Run
 pub mod Page
 pub mod Answering
+pub mod Crew
 pub mod Written

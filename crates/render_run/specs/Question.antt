@@ -1,17 +1,17 @@
--- What does a request ask of the file that it names? (docs/REQUESTS.md, "What the program answers
--- today")
-use Rattle.std.specs.Prelude.{ℕ, ◌*◌, nat_lt, nat_le, ◌&&◌, Bool, true, false, List, Option, Some}
+-- What does a request ask of its worker? (docs/REQUESTS.md, "What the program answers today")
+use Rattle.std.specs.Prelude.{ℕ, ◌*◌, ◌==◌, nat_lt, nat_le, ◌&&◌, Bool, true, false, List, Option}
 use Rattle.std.specs.Prelude.{None}
-use Rattle.std.specs.Option.{option_and_then}
 use Rattle.texel_filter.specs.declared.request.TexRequest.{TexRequest}
 use Rattle.texel_filter.specs.Image.{max_channels}
 use Rattle.texel_values.specs.Region.{max_texels}
+use Rattle.pinned_tiles.specs.Pinned.{max_holds}
 use Rattle.request_lang.specs.declared.request.Request.{Request}
-use Rattle.request_lang.specs.declared.request.Request.TheVariants.{Tex, Pixels, Info, Hold}
-use Rattle.request_lang.specs.declared.request.Request.TheVariants.{Invalidate, Renew, Sync}
+use Rattle.request_lang.specs.declared.request.Request.TheVariants as request
 use Rattle.render_run.specs.declared.question.Question.{Question}
-use Rattle.render_run.specs.declared.question.Question.TheVariants.{Facts, Values, Look}
+use Rattle.render_run.specs.declared.question.Question.TheVariants.{Facts, Values, Look, Hold}
+use Rattle.render_run.specs.declared.question.Question.TheVariants.{Renewal}
 use Rattle.render_run.specs.declared.question.Task.{Task}
+use Rattle.render_run.specs.declared.question.Task.TheVariants as task
 
 -- the lookup asks for a number of channels that it may ask for, as each in a list does
 abbrev pub has_channels : TexRequest → Bool
@@ -19,43 +19,60 @@ has_channels r = nat_le 1 r.nch && nat_le r.nch max_channels
 
 -- the request is of a form that is answered
 abbrev pub is_answered : Request → Bool
-is_answered (Tex request name) = has_channels request
-is_answered (Pixels level x y w h name) = true
-is_answered (Info name) = true
-is_answered Sync = true
-is_answered _ = false
+is_answered (request.Tex r name) = has_channels r
+is_answered request.Stat = false
+is_answered _ = true
 
--- the name in a request, if it has one
-abbrev pub name_in : Request → Option (List ℕ)
-name_in (Tex request name) = Some name
-name_in (Pixels level x y w h name) = Some name
-name_in (Info name) = Some name
-name_in (Hold level x y name) = Some name
-name_in (Invalidate name) = Some name
-name_in (Renew name) = Some name
-name_in _ = None
-
--- what a request asks of the file of its name, if it asks anything of one
-abbrev pub question_of : Request → Option Question
-question_of (Pixels level x y w h name) =
-    Some (Values (record { level = level; x = x; y = y; w = w; h = h }))
-question_of (Info name) = Some Facts
-question_of (Tex request name) = Some (Look request)
-question_of _ = None
-
--- what a worker is given of a request: its question, and the number of the file of its name
+-- what a worker is given of a request: what is asked of the file of its name, which has this number
+-- in the folder, if any, or what is asked of no file
 abbrev pub task_of : (List ℕ → Option ℕ) → Request → Task
-task_of number_of r =
-    record { file = option_and_then number_of (name_in r); question = question_of r }
+task_of number_of (request.Tex r name) = task.Ask (number_of name) (Look r)
+task_of number_of (request.Pixels level x y w h name) =
+    task.Ask (number_of name) (Values (record { level = level; x = x; y = y; w = w; h = h }))
+task_of number_of (request.Info name) = task.Ask (number_of name) Facts
+task_of number_of (request.Hold level x y name) =
+    task.Ask (number_of name) (Hold (record { level = level; x = x; y = y }))
+task_of number_of request.Drop = task.Release
+task_of number_of (request.Invalidate name) = task.Ask (number_of name) (Renewal false)
+task_of number_of (request.Renew name) = task.Ask (number_of name) (Renewal true)
+task_of number_of request.InvalidateAll = task.RenewAll
+task_of number_of request.Stat = task.Sync
+task_of number_of request.Sync = task.Sync
+
+-- the file that is asked, if one is
+abbrev pub file_in : Task → Option ℕ
+file_in (task.Ask file q) = file
+file_in task.Release = None
+file_in task.RenewAll = None
+file_in task.Sync = None
 
 -- a lookup asks for a number of channels that it may ask for
 abbrev pub may_be_asked : Question → Bool
-may_be_asked (Look request) = has_channels request
+may_be_asked (Look r) = has_channels r
 may_be_asked Facts = true
 may_be_asked (Values region) = true
+may_be_asked (Hold at) = true
+may_be_asked (Renewal force) = true
+
+-- so it does, where a file is asked
+abbrev pub may_be_given : Task → Bool
+may_be_given (task.Ask file q) = may_be_asked q
+may_be_given task.Release = true
+may_be_given task.RenewAll = true
+may_be_given task.Sync = true
 
 -- a region of more texels is asked for than a region may have
 abbrev pub is_too_large : Question → Bool
 is_too_large (Values region) = nat_lt max_texels (region.w * region.h)
 is_too_large Facts = false
-is_too_large (Look request) = false
+is_too_large (Look r) = false
+is_too_large (Hold at) = false
+is_too_large (Renewal force) = false
+
+-- a tile more is to be held than a worker may hold, which holds so many
+abbrev pub is_full : ℕ → Question → Bool
+is_full held (Hold at) = held == max_holds
+is_full held Facts = false
+is_full held (Values region) = false
+is_full held (Look r) = false
+is_full held (Renewal force) = false

@@ -1,34 +1,39 @@
 -- Which line may a request be answered with, over the files of a world under a cut?
-use Rattle.std.specs.Prelude.{◌≡◌, ◌⊎◌, ℕ, ◌*◌, ◌<◌, ◌≤◌, nat_lt, IsTrue, IsFalse, List, [], ◌∷◌}
-use Rattle.std.specs.Prelude.{length}
+use Rattle.std.specs.Prelude.{◌≡◌, ◌⊎◌, ℕ, ◌*◌, ◌<◌, ◌≤◌, ◌==◌, IsTrue, IsFalse, List, [], ◌∷◌}
+use Rattle.std.specs.Prelude.{length, Bool, true, false}
 use Rattle.std.specs.Prelude.{Option, Some, None, ⊤, if◌then◌else◌}
-use Rattle.std.specs.Option.{ForSome, option_map_or, option_and_then}
+use Rattle.std.specs.Option.{ForSome}
 use Rattle.tex_world.specs.World.{Files, IsReal}
 use Rattle.tiff_dirs.specs.Level.{first_fault}
 use Rattle.tile_layout.specs.declared.cut.Cut.{Cut}
 use Rattle.tile_layout.specs.Kept.{kept_of}
 use Rattle.tile_layout.specs.Level.{level_count_in}
-use Rattle.tile_layout.specs.Cell.{CellsFit, channels_of}
+use Rattle.tile_layout.specs.declared.rect.Rect.{Rect}
+use Rattle.tile_layout.specs.Cell.{CellsFit, channels_of, cut_level_of, cell_index, cell_rect}
+use Rattle.texel_values.specs.declared.texel_at.TexelAt.{TexelAt}
 use Rattle.texel_values.specs.declared.region.Region.{Region}
 use Rattle.texel_values.specs.Region.{AreRegionValues}
 use Rattle.image_cache.specs.Facts.{info_of}
-use Rattle.texel_filter.specs.declared.request.TexRequest.{TexRequest}
+use Rattle.image_cache.specs.Texel.{IsTexelOf}
 use Rattle.texture_sys.specs.Call.{IsLookOn}
 use Rattle.request_lang.specs.declared.request.Request.{Request}
-use Rattle.request_lang.specs.declared.request.Request.TheVariants as request
 use Rattle.request_lang.specs.declared.answer.Answer.{Answer}
 use Rattle.request_lang.specs.declared.answer.Answer.TheVariants.{Tex, Pixels, Info, Synced}
 use Rattle.request_lang.specs.declared.answer.Answer.TheVariants.{NoSuchFile, BadFile, NoLevel}
 use Rattle.request_lang.specs.declared.answer.Answer.TheVariants.{RegionTooLarge, TileTooLarge}
-use Rattle.request_lang.specs.declared.answer.Answer.TheVariants.{NoMemory}
+use Rattle.request_lang.specs.declared.answer.Answer.TheVariants.{Held, Dropped, Invalidated}
+use Rattle.request_lang.specs.declared.answer.Answer.TheVariants.{Renewed, InvalidatedAll, Outside}
+use Rattle.request_lang.specs.declared.answer.Answer.TheVariants.{HoldsFull, NothingHeld, ReadFault}
 use Rattle.request_lang.specs.Basis.{Basis, OnBytes, OnNewest, OnNewer, OnNames, OnWords, OnHolds}
 use Rattle.request_lang.specs.Basis.{OnShards, OnFault, OnMemory, basis_of}
 use Rattle.render_run.specs.declared.question.Question.{Question}
-use Rattle.render_run.specs.declared.question.Question.TheVariants.{Facts, Values, Look}
+use Rattle.render_run.specs.declared.question.Question.TheVariants.{Facts, Values, Look, Hold}
+use Rattle.render_run.specs.declared.question.Question.TheVariants.{Renewal}
 use Rattle.render_run.specs.declared.question.Task.{Task}
+use Rattle.render_run.specs.declared.question.Task.TheVariants.{Ask, Release, RenewAll, Sync}
 use Rattle.render_run.specs.Around.{Setup}
 use Rattle.render_run.specs.Dealing.{Place}
-use Rattle.render_run.specs.Question.{task_of, is_too_large}
+use Rattle.render_run.specs.Question.{task_of, file_in, is_too_large, is_full}
 
 -- ---- on the bytes of one generation
 
@@ -55,14 +60,27 @@ pub record IsRegionOn (cut : Cut) (bytes : List ℕ) (r : Region) (channels : �
   pub values_are : AreRegionValues bytes r values
 
 -- they have so many levels, of which the one asked for is none
-pub record LacksLevelOn (cut : Cut) (bytes : List ℕ) (r : Region) (levels : ℕ) : Type 0 where
+pub record LacksLevelOn (cut : Cut) (bytes : List ℕ) (level levels : ℕ) : Type 0 where
   pub served : AreServed cut bytes
   pub levels_are : levels ≡ levels_of cut bytes
-  pub lacks : levels ≤ r.level
+  pub lacks : levels ≤ level
+
+-- they have the level, but not the texel
+pub record LacksTexelOn (cut : Cut) (bytes : List ℕ) (at : TexelAt) : Type 0 where
+  pub served : AreServed cut bytes
+  pub level : at.level < levels_of cut bytes
+  pub lacks : ¬ IsTexelOf (kept_of bytes) cut at
+
+-- the cell that holds the texel has this rectangle
+pub record IsCellOn (cut : Cut) (bytes : List ℕ) (at : TexelAt) (rect : Rect) : Type 0 where
+  pub served : AreServed cut bytes
+  pub inside : IsTexelOf (kept_of bytes) cut at
+  pub rect_is : rect ≡ cell_rect (cut_level_of bytes cut at.level)
+      (cell_index (cut_level_of bytes cut at.level) at.x at.y)
 
 -- What a question is answered on the bytes of one generation, the first that applies: their first
 -- fault; what the file is; that a cell is too large; the values of a lookup; that the level is none
--- of the file's; the values of a region.
+-- of the file's; the values of a region; that the texel is not in the level; the cell of the texel.
 abbrev pub IsReplyOn : Cut → List ℕ → Question → Answer → Type 0
 IsReplyOn cut bytes q (BadFile generation fault) = first_fault bytes ≡ Some fault
 IsReplyOn cut bytes Facts (Info info) =
@@ -70,9 +88,15 @@ IsReplyOn cut bytes Facts (Info info) =
 IsReplyOn cut bytes (Look r) (TileTooLarge generation) = HasLargeCell cut bytes
 IsReplyOn cut bytes (Look r) (Tex generation values) = IsLookOn cut bytes r values
 IsReplyOn cut bytes (Values r) (TileTooLarge generation) = HasLargeCell cut bytes
-IsReplyOn cut bytes (Values r) (NoLevel generation levels) = LacksLevelOn cut bytes r levels
+IsReplyOn cut bytes (Values r) (NoLevel generation levels) =
+    LacksLevelOn cut bytes r.level levels
 IsReplyOn cut bytes (Values r) (Pixels generation channels values) =
     IsRegionOn cut bytes r channels values
+IsReplyOn cut bytes (Hold at) (TileTooLarge generation) = HasLargeCell cut bytes
+IsReplyOn cut bytes (Hold at) (NoLevel generation levels) =
+    LacksLevelOn cut bytes at.level levels
+IsReplyOn cut bytes (Hold at) (Outside generation) = LacksTexelOn cut bytes at
+IsReplyOn cut bytes (Hold at) (Held generation rect) = IsCellOn cut bytes at rect
 IsReplyOn cut bytes q _ = ⊥
 
 -- ---- the form of a line on one generation, whether or not its bytes are told
@@ -88,6 +112,10 @@ HasForm (Look r) (Tex generation values) = length values ≡ r.nch
 HasForm (Values r) (TileTooLarge generation) = ⊤
 HasForm (Values r) (NoLevel generation levels) = levels ≤ r.level
 HasForm (Values r) (Pixels generation channels values) = length values ≡ r.h * (r.w * channels)
+HasForm (Hold at) (TileTooLarge generation) = ⊤
+HasForm (Hold at) (NoLevel generation levels) = levels ≤ at.level
+HasForm (Hold at) (Outside generation) = ⊤
+HasForm (Hold at) (Held generation rect) = ⊤
 HasForm q _ = ⊥
 
 -- ---- on the files of a world
@@ -118,43 +146,58 @@ RestsOn files cut file q line OnWords = ⊥
 RestsOn files cut file q line OnHolds = ⊥
 RestsOn files cut file q line OnShards = ⊥
 
--- the line is this one, or want of memory stands for it
-abbrev pub IsOrLacks : Answer → Answer → Type 0
-IsOrLacks wanted line = (line ≡ wanted) ⊎ (line ≡ NoMemory)
+-- The line tells the newest generation of the file, which is a real one, in the word for a file that
+-- was made invalid with force, or without, or that the source failed.
+abbrev pub TellsNewest : Files → ℕ → Bool → Answer → Type 0
+TellsNewest files file force (Invalidated generation) =
+    (force ≡ false) × IsReal files file generation
+TellsNewest files file force (Renewed generation) = (force ≡ true) × IsReal files file generation
+TellsNewest files file force ReadFault = ⊤
+TellsNewest files file force _ = ⊥
 
--- The line meets a question to this file: `region too large` exactly where too many texels are
--- asked for, before anything of the file.
-pub record MeetsOn (files : Files) (cut : Cut) (file : ℕ) (q : Question) (line : Answer)
+-- the line is right on this file
+abbrev pub IsRightOn : Files → Cut → ℕ → Question → Answer → Type 0
+IsRightOn files cut file (Renewal force) line = TellsNewest files file force line
+IsRightOn files cut file q line = RestsOn files cut file q line (basis_of line)
+
+-- The line meets a question to this file of a worker that holds so many tiles: `region too large`
+-- exactly where too many texels are asked for, and `holds full` exactly where four tiles are held,
+-- before anything of the file.
+pub record MeetsOn (files : Files) (cut : Cut) (held file : ℕ) (q : Question) (line : Answer)
     : Type 0 where
-  pub too_large : IsTrue (is_too_large q) → IsOrLacks RegionTooLarge line
-  pub of_file : IsFalse (is_too_large q) → RestsOn files cut file q line (basis_of line)
-
--- The line meets a question to this file, or to one that the folder has not: `no such file` exactly
--- there, before all else.
-abbrev pub MeetsAsked : Files → Cut → Option ℕ → Question → Answer → Type 0
-MeetsAsked files cut None q line = IsOrLacks NoSuchFile line
-MeetsAsked files cut (Some n) q line = MeetsOn files cut n q line
+  pub too_large : IsTrue (is_too_large q) → line ≡ RegionTooLarge
+  pub full : IsTrue (is_full held q) → line ≡ HoldsFull
+  pub of_file : IsFalse (is_too_large q) → IsFalse (is_full held q)
+      → IsRightOn files cut file q line
 
 -- ---- a request and its line
 
--- The line meets what a worker is given of a request: its question, or that it ends a round, which is
--- told whatever the memory.
-abbrev pub MeetsTask : Files → Cut → Option ℕ → Option Question → Answer → Type 0
-MeetsTask files cut file None line = line ≡ Synced
-MeetsTask files cut file (Some q) line = MeetsAsked files cut file q line
+-- what a worker answers that lets go of its oldest hold
+abbrev pub released : ℕ → Answer
+released held = if held == 0 then NothingHeld else Dropped
 
--- a line, its place, and the file that the name of its request has in the folder, if any
+-- The line meets what a worker is given of a request, which holds so many tiles: `no such file`
+-- exactly where the folder has none of the name, before all else.
+abbrev pub MeetsTask : Files → Cut → ℕ → Task → Answer → Type 0
+MeetsTask files cut held Sync line = line ≡ Synced
+MeetsTask files cut held Release line = line ≡ released held
+MeetsTask files cut held RenewAll line = (line ≡ InvalidatedAll) ⊎ (line ≡ ReadFault)
+MeetsTask files cut held (Ask None q) line = line ≡ NoSuchFile
+MeetsTask files cut held (Ask (Some n) q) line = MeetsOn files cut held n q line
+
+-- A line, its place, the file that the name of its request has in the folder, if any, and how many
+-- tiles its worker held before.
 pub record Line : Type 0 where
   pub place : Place
   pub file : Option ℕ
+  pub held : ℕ
   pub answer : Answer
 
 -- The line meets the request, which is of a form that is answered, on the file that its name has in
 -- the folder.
 pub record Meets (setup : Setup) (r : Request) (line : Line) : Type 0 where
-  pub file : line.file ≡ (task_of setup.number_of r).file
-  pub answer : MeetsTask setup.files setup.cut line.file (task_of setup.number_of r).question
-      line.answer
+  pub file : line.file ≡ file_in (task_of setup.number_of r)
+  pub answer : MeetsTask setup.files setup.cut line.held (task_of setup.number_of r) line.answer
 
 -- each request has one line that meets it, in order
 abbrev pub MeetsAll : Setup → List Request → List Line → Type 0

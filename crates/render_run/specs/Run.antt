@@ -1,8 +1,8 @@
 -- What has the top call done when it ends with a status? (docs/REQUESTS.md, "Statuses")
-use Rattle.std.specs.Prelude.{◌≡◌, ◌⊎◌, ℕ, ◌+◌, ◌<◌, ◌≤◌, Bool, IsTrue, List, map, take, length}
+use Rattle.std.specs.Prelude.{◌≡◌, ◌⊎◌, ℕ, ◌+◌, ◌<◌, ◌≤◌, Bool, IsTrue, List, [], map, take, length}
 use Rattle.std.specs.Prelude.{Option, if◌then◌else◌}
 use Rattle.std.specs.List.{flat_map, list_any, count_by, AllPairs}
-use Rattle.tex_world.specs.Counts.{last_count, Rises, RisesByOne, RisesByAtLeast}
+use Rattle.tex_world.specs.Counts.{last_count, Rises, RisesByAtLeast}
 use Rattle.tex_world.specs.World.{Files}
 use Rattle.tex_world.specs.Folder.{FolderState}
 use Rattle.tex_world.specs.Stream.{Appends, AppendsPart}
@@ -18,6 +18,8 @@ use Rattle.request_lang.specs.Basis.{is_refusal, basis_of, is_fault, is_move}
 use Rattle.render_run.specs.Dealing.{AreWholeRounds, places_of}
 use Rattle.render_run.specs.Reply.{Line, MeetsAll}
 use Rattle.render_run.specs.Fresh.{IsFresher}
+use Rattle.render_run.specs.Held.{AreCounted}
+use Rattle.image_cache.specs.Invalid.{RisesBy}
 use Rattle.render_run.specs.Ending.{HasOptions, cut_used, path_in, IsPrepared, IsEnded, status_of}
 use Rattle.render_run.specs.Ending.{ending_text}
 
@@ -40,13 +42,15 @@ abbrev pub lines_text : List Line → List ℕ
 lines_text lines = flat_map (λ line. line_of line.answer) lines
 
 -- The first so many requests were answered, by one line each: it meets its request and has its place
--- in the dealing of the list, and none is older than those before it on its file. The `read fault`
--- lines are at most as many as the source's faults rose, the `again` lines as its moves did.
+-- in the dealing of the list, its worker held before it what its lines before leave, and none is
+-- older than those before it on its file. The `read fault` lines are at most as many as the source's
+-- faults rose, the `again` lines as its moves did.
 pub record Answers (setup : Setup) (requests : List Request) (count : ℕ) (old new : SourceState)
     : Type 0 where
   pub lines : List Line
   pub met : MeetsAll setup (take count requests) lines
   pub places : map (λ line. line.place) lines ≡ take count (places_of setup.workers requests)
+  pub counted : AreCounted [] lines
   pub fresh : AllPairs IsFresher lines
   pub faults : RisesByAtLeast (read_faults lines) old.faults new.faults
   pub moves : RisesByAtLeast (agains lines) old.moves new.moves
@@ -57,9 +61,9 @@ pub record Answers (setup : Setup) (requests : List Request) (count : ℕ) (old 
 abbrev pub inputs_in : Around → Inputs
 inputs_in around = inputs_of around.folder around.feed
 
--- as many taps were made as there are workers: one
-abbrev pub MakesTaps : FolderState → FolderState → Type 0
-MakesTaps old new = RisesByOne old.made new.made
+-- as many taps were made as there are workers
+abbrev pub MakesTaps : ℕ → FolderState → FolderState → Type 0
+MakesTaps workers old new = RisesBy workers old.made new.made
 
 -- The folder of the path was entered, the feed was read to its end, its bytes are a list, and so many
 -- requests of it were answered over the files of the folder, under the options that were asked for,
@@ -81,7 +85,7 @@ pub record IsAnswered (files : Files) (asked : Option Asked) (old new : Around) 
   pub written : Appends (lines_text list.answers.lines) old.sink.holds new.sink.holds
   pub refusal : ends ≡ (if some_refused list.answers.lines then status.with_refusals
       else status.all_answered)
-  pub made : MakesTaps old.folder new.folder
+  pub made : MakesTaps list.options.workers old.folder new.folder
 
 -- A first part of the lines for some first requests of a list was written.
 pub record ListPart (files : Files) (asked : Option Asked) (old new : Around) : Type 0 where

@@ -89,12 +89,18 @@ LeavesUnfinished setup requests old new NotWritten = PartWritten setup requests 
 LeavesUnfinished setup requests old new unfinished.NoMemory =
     RoundsWritten setup requests old new
 
+-- the same, or nothing was written where no memory was found for the workers
+abbrev pub LeavesEarly : Setup → List Request → Progress → Progress → Unfinished → Type 0
+LeavesEarly setup requests old new NotWritten = PartWritten setup requests old new
+LeavesEarly setup requests old new unfinished.NoMemory =
+    (new.sink.holds ≡ old.sink.holds) ⊎ RoundsWritten setup requests old new
+
 -- the same, where the lines of whole rounds still wait on the page
-abbrev pub EndsEarly : Setup → List Request → Sight → Progress → Progress → List ℕ → Unfinished
+abbrev pub EndsEarly : Setup → List Request → List Sight → Progress → Progress → List ℕ → Unfinished
     → Type 0
-EndsEarly setup requests sight old new page NotWritten = PartWritten setup requests old new
-EndsEarly setup requests sight old new page unfinished.NoMemory =
-    (done : ℕ) × (refused : Bool) × SoFar setup requests done sight old new page refused
+EndsEarly setup requests crew old new page NotWritten = PartWritten setup requests old new
+EndsEarly setup requests crew old new page unfinished.NoMemory =
+    (done : ℕ) × (refused : Bool) × SoFar setup requests done crew old new page refused
 
 -- the status of a list that was answered, or was not to its end
 abbrev pub list_status : Result Bool Unfinished → ℕ

@@ -3,7 +3,9 @@
 #![tactic(auto)]
 
 mod answering;
+mod crew;
 mod dealing;
+mod hook;
 mod list;
 mod page;
 mod prepare;
@@ -12,5 +14,6 @@ mod round;
 mod top;
 mod worker;
 
+pub use hook::{Hook, NoHook};
 pub use request_lang::{Answer, Name, Request, Values};
 pub use top::{NO_MEMORY, NOT_WRITTEN, run};

@@ -1,6 +1,7 @@
 //! The steps before the first answer: the words, the folder and the list.
 
-ghost use Rattle.std.specs.Prelude.{◌≡◌, IfOk, IfErr, OnOk, Ok};
+ghost use Rattle.std.specs.Prelude.{◌≡◌, ◌≤◌, length, IfOk, IfErr, OnOk, Ok};
+ghost use Rattle.request_lang.specs.Grammar.{max_requests};
 ghost use Rattle.std.specs.List.{list_all, AllPass};
 ghost use Rattle.render_run.specs.Around.{feed_state, inputs_of};
 ghost use Rattle.render_run.specs.Question.{is_answered as form_is_answered};
@@ -101,6 +102,7 @@ fn are_answered(requests: &[Request]) -> bool
 fn answered_requests(requests: Vec<Request>) -> Result<Vec<Request>, Ending>
     ensures said { IsAsSaid (answered_list (Ok requests.items)) result }
     ensures answered { IfOk result (λ answered. AllPass form_is_answered answered.items) }
+    ensures same { IfOk result (λ answered. answered.items ≡ requests.items) }
 {
     if are_answered(&requests) {
         return Ok(requests);
@@ -114,6 +116,7 @@ fn answered_requests(requests: Vec<Request>) -> Result<Vec<Request>, Ending>
 /// The requests of the list that the feed has.
 fn read_requests<I: Feed>(alloc: Global, feed: &mut I) -> Result<Vec<Request>, Ending>
     ensures answered { IfOk result (λ requests. AllPass form_is_answered requests.items) }
+    ensures few { IfOk result (λ requests. length requests.items ≤ max_requests) }
     ensures listed { IfOk result (λ requests. FeedSays (Ok requests.items)
         (feed_state I.faults I.left feed.old) (feed_state I.faults I.left feed.new)) }
     ensures cause { IfErr result (ListEnds
@@ -144,6 +147,7 @@ pub(crate) fn prepare<F: Folder, I: Feed>(
     ensures options { IfOk result (λ p. HasOptions (asked_by words.now) p.options) }
     ensures in_range { IfOk result (λ p. IsInRange p.options) }
     ensures answered { IfOk result (λ p. AllPass form_is_answered p.requests.items) }
+    ensures few { IfOk result (λ p. length p.requests.items ≤ max_requests) }
     ensures ended { IfErr result (IsEnded F.W.files (path_in (asked_by words.now))
         (inputs_of (F.state folder.old) (feed_state I.faults I.left feed.old))
         (inputs_of (F.state folder.new) (feed_state I.faults I.left feed.new))) }

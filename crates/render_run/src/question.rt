@@ -1,13 +1,13 @@
-//! What a request asks of the file that it names.
+//! What a request asks of its worker.
 
-ghost use Rattle.std.specs.Prelude.{◌≡◌};
-ghost use Rattle.std.specs.Option.{option_map};
+ghost use Rattle.std.specs.Prelude.{◌≡◌, IsSome, IsTrue};
 ghost use Rattle.render_run.specs.Question as spec;
+ghost use Rattle.render_run.specs.Answering.{MayBeGiven};
 
 use request_lang::{Name, Request};
 use tex_world::Folder;
 use texel_filter::TexRequest;
-use texel_values::Region;
+use texel_values::{Region, TexelAt};
 
 /// The most channels of a lookup.
 const MAX_CHANNELS: u32 = 8;
@@ -21,68 +21,68 @@ pub(crate) enum Question {
     Values(Region),
     /// The values of a lookup.
     Look(TexRequest),
+    /// The cell of a texel, to be held.
+    Hold(TexelAt),
+    /// Its newest generation, with force or without.
+    Renewal(bool),
 }
 
 /// What a worker is given of a request.
 #[derive(Clone, Copy, Debug)]
-pub(crate) struct Task {
-    /// The number of the file that it names, if it names one that the folder has.
-    pub(crate) file: Option<u32>,
-    /// What it asks of that file. The end of a round asks nothing.
-    pub(crate) question: Option<Question>,
-}
-
-impl Question {
-    /// What a request asks of the file of its name, if it asks anything of one.
-    fn of(request: &Request) -> Option<Question>
-        ensures { result ≡ spec.question_of request.now }
-    {
-        match request {
-            Request::Pixels {
-                level,
-                x,
-                y,
-                w,
-                h,
-                ..
-            } => Some(Question::Values(Region {
-                level: *level,
-                x: *x,
-                y: *y,
-                w: *w,
-                h: *h,
-            })),
-            Request::Info { .. } => Some(Question::Facts),
-            Request::Tex { request, .. } => Some(Question::Look(*request)),
-            _ => None,
-        }
-    }
+pub(crate) enum Task {
+    /// A question to the file of the name: its number, if the folder has it.
+    Ask(Option<u32>, Question),
+    /// The oldest hold is let go.
+    Release,
+    /// The newest generation of each file that is known.
+    RenewAll,
+    /// The round ends. Nothing is asked.
+    Sync,
 }
 
 impl Task {
-    ghost use Rattle.std.specs.Prelude.{◌≡◌, IsSome, IsTrue};
-    ghost use Rattle.render_run.specs.Question as spec;
-    ghost use Rattle.render_run.specs.Answering.{MayBeGiven};
-
-    /// What a worker is given of a request: its question, and the number of the file of its name.
+    /// What a worker is given of a request.
     pub(crate) fn of<F: Folder>(folder: &F, request: &Request) -> Task
         requires entered { IsSome (F.state folder.now).entered }
         requires answered { IsTrue (spec.is_answered request.now) }
         ensures value { result ≡ spec.task_of (F.state folder.now).number_of request.now }
         ensures given { MayBeGiven F.W.files (F.state folder.now).size result }
     {
-        Task {
-            file: file_named(folder, request),
-            question: Question::of(request),
+        match request {
+            Request::Tex { request, name } => ask(folder, name, Question::Look(*request)),
+            Request::Pixels {
+                level,
+                x,
+                y,
+                w,
+                h,
+                name,
+            } => {
+                let (level, x, y, w, h) = (*level, *x, *y, *w, *h);
+                ask(folder, name, Question::Values(Region { level, x, y, w, h }))
+            }
+            Request::Info { name } => ask(folder, name, Question::Facts),
+            Request::Hold { level, x, y, name } => {
+                let (level, x, y) = (*level, *x, *y);
+                ask(folder, name, Question::Hold(TexelAt { level, x, y }))
+            }
+            Request::Invalidate { name } => ask(folder, name, Question::Renewal(false)),
+            Request::Renew { name } => ask(folder, name, Question::Renewal(true)),
+            Request::Drop => Task::Release,
+            Request::InvalidateAll => Task::RenewAll,
+            Request::Stat | Request::Sync => Task::Sync,
         }
     }
 }
 
-/// The number of the file that a request names, if it names one that the folder has.
-fn file_named<F: Folder>(folder: &F, request: &Request) -> Option<u32>
-    ensures { result ≡ (spec.task_of (F.state folder.now).number_of request.now).file }
+/// A question to the file of a name.
+fn ask<F: Folder>(folder: &F, name: &Name, question: Question) -> Task
+    requires entered { IsSome (F.state folder.now).entered }
+    requires asked { IsTrue (spec.may_be_asked question) }
+    ensures value { result ≡ Task.Ask ((F.state folder.now).number_of name.now) question }
+    ensures given { MayBeGiven F.W.files (F.state folder.now).size result }
 {
-    folder.find(name_in(request)?.as_str())
+    Task::Ask(folder.find(name.as_str()), question)
 }
 
 /// The lookup asks for a number of channels that it may ask for, as each in a list does.
@@ -98,22 +98,7 @@ pub(crate) fn is_answered(request: &Request) -> bool
 {
     match request {
         Request::Tex { request, .. } => has_channels(request),
-        Request::Pixels { .. } | Request::Info { .. } | Request::Sync => true,
-        _ => false,
-    }
-}
-
-/// The name in a request, if it has one.
-fn name_in(request: &Request) -> Option<&Name>
-    ensures { option_map (λ name. name.now) result ≡ spec.name_in request.now }
-{
-    match request {
-        Request::Tex { name, .. }
-        | Request::Pixels { name, .. }
-        | Request::Info { name }
-        | Request::Hold { name, .. }
-        | Request::Invalidate { name }
-        | Request::Renew { name } => Some(name),
-        Request::Drop | Request::InvalidateAll | Request::Stat | Request::Sync => None,
+        Request::Stat => false,
+        _ => true,
     }
 }

@@ -1,31 +1,37 @@
 //! The top call.
 
-ghost use Rattle.std.specs.Prelude.{◌≡◌, ◌⊎◌, ◌≤◌, IfOk, IsSome};
+ghost use Rattle.std.specs.Prelude.{◌≡◌, ◌⊎◌, ◌≤◌, [], length, map, IfOk, IfErr, OnOk, IsSome};
+ghost use Rattle.request_lang.specs.Grammar.{max_requests};
 ghost use Rattle.std.specs.List.{AllPass};
 ghost use Rattle.tex_world.specs.World.{max_files};
 ghost use Rattle.command_line.specs.Options.{IsInRange};
-ghost use Rattle.image_cache.specs.Pass.{IsPassOf};
+ghost use Rattle.image_cache.specs.Pass.{IsFirstPass};
 ghost use Rattle.render_run.specs.Status.{with_refusals, not_written, no_memory};
 ghost use Rattle.render_run.specs.Around.{feed_state, sink_state, around_of, progress_of};
-ghost use Rattle.render_run.specs.Around.{source_of_folder, setup_of};
+ghost use Rattle.render_run.specs.Around.{source_of_folder, setup_of, sight_of, no_sight};
+ghost use Rattle.render_run.specs.Around.{source_of_crew};
+ghost use Rattle.render_run.specs.Crew.{MakesMore};
 ghost use Rattle.render_run.specs.Question.{is_answered};
 ghost use Rattle.render_run.specs.Ending.{asked_by, cut_used};
 ghost use Rattle.render_run.specs.Run.{GivesTapsBack, MakesTaps, Runs};
 ghost use Rattle.render_run.specs.Written.{StatusWritten, EndedAs, IsAnswerStatus, KeepsEntered};
 ghost use Rattle.render_run.specs.Written.{AnswersAll, PartWritten, RoundsWritten, list_status};
+ghost use Rattle.render_run.specs.Written.{Finishes, LeavesEarly};
 
 use crate::answering::{Unfinished, answer_list};
+use crate::crew::{give_back, man};
+use crate::hook::Hook;
 use crate::page::Page;
 use crate::prepare::{Ending, Prepared, prepare};
-use crate::worker::Worker;
+use crate::round::Post;
 use command_line::Options;
 use image_cache::{Cache, NewError, Options as CacheOptions, Pass};
 use request_lang::{BadList, bad_list_text};
 use std::alloc::Global;
 use std::sync::Wait;
+use std::thread::Threads;
 use tex_world::{Feed, Folder, NoMemory, Sink, Tap};
 use tile_layout::Cut;
-use waiter::Forever;
 
 /// All of the list was answered, and no line is a refusal.
 const ALL_ANSWERED: u8 = 0;
@@ -99,7 +105,7 @@ fn cache_of<T: Tap>(
     requires files { files ≤ max_files }
     ensures files { IfOk result (λ made. made.0.files.board.files ≡ files) }
     ensures cut { IfOk result (λ made. made.0.gate.cut ≡ cut_used options.now.cut) }
-    ensures pass { IfOk result (λ made. IsPassOf made.0 made.1) }
+    ensures pass { IfOk result (λ made. IsFirstPass made.0 made.1) }
 {
     let options = CacheOptions {
         budget: options.budget,
@@ -118,24 +124,30 @@ fn cache_of<T: Tap>(
     }
 }
 
-/// Answers the requests through a tap of the folder's, which it gives back, and gives the status.
-fn answer_through_tap<R: Wait, F: Folder, O: Sink>(
+/// Answers the requests through taps of the folder's, which it gives back, and gives the status.
+fn answer_through_taps<R: Threads + Wait + Sync, F: Folder, O: Sink, K: Hook + Sync>(
     rt: &R,
     alloc: Global,
     folder: &mut F,
     asked: &Prepared,
     out: &mut O,
+    hook: &K,
 ) -> u8
+where
+    F::Tap: Send + Drop,
+    <F::Tap as Tap>::Handle: Send + Sync,
+    F::W: Send + Sync,
     requires entered { IsSome (F.state folder.old).entered }
     requires options { IsInRange asked.now.options }
     requires answered { AllPass is_answered asked.now.requests.items }
+    requires few { length asked.now.requests.items ≤ max_requests }
     ensures answered { result ≤ with_refusals → AnswersAll (setup_of F.W.files
         (F.state folder.new) (cut_used asked.now.options.cut) asked.now.options.workers)
         asked.now.requests.items (progress_of (source_of_folder (F.state folder.old))
         (sink_state O.faults O.holds out.old)) (progress_of
         (source_of_folder (F.state folder.new)) (sink_state O.faults O.holds out.new)) result }
     ensures made { result ≤ with_refusals
-        → MakesTaps (F.state folder.old) (F.state folder.new) }
+        → MakesTaps asked.now.options.workers (F.state folder.old) (F.state folder.new) }
     ensures part { result ≡ not_written → PartWritten (setup_of F.W.files
         (F.state folder.new) (cut_used asked.now.options.cut) asked.now.options.workers)
         asked.now.requests.items (progress_of (source_of_folder (F.state folder.old))
@@ -157,24 +169,68 @@ fn answer_through_tap<R: Wait, F: Folder, O: Sink>(
     let Ok((cache, pass)) = cache_of(alloc, &asked.options, folder.count()) else {
         return NO_MEMORY;
     };
-    let Ok(tap) = folder.tap(alloc) else {
-        return NO_MEMORY;
-    };
-    let waiter = Forever::new(rt);
-    let mut worker = Worker { pass, tap };
-    let answered = answer_list(
-        alloc,
-        &cache,
-        &waiter,
-        folder,
-        &mut worker,
-        &asked.requests,
-        &mut page,
-        out,
+    let mut posts = Vec::new(alloc);
+    let answered = answer_by_crew(
+        rt, alloc, &cache, pass, folder, hook, &mut posts, asked, &mut page, out,
     );
-    let Worker { pass: _pass, tap } = worker;
-    folder.back(tap);
+    give_back(folder, posts);
     status_of(answered)
+}
+
+/// Makes the workers, and answers the requests by them. They are left with their taps, which have done
+/// nothing but this.
+fn answer_by_crew<R: Threads + Wait + Sync, F: Folder, O: Sink, K: Hook + Sync>(
+    rt: &R,
+    alloc: Global,
+    cache: &Cache<F::Tap>,
+    pass: Pass<F::W>,
+    folder: &mut F,
+    hook: &K,
+    posts: &mut Vec<Post<F::Tap>>,
+    asked: &Prepared,
+    page: &mut Page,
+    out: &mut O,
+) -> Result<bool, Unfinished>
+where
+    F::Tap: Send,
+    <F::Tap as Tap>::Handle: Send + Sync,
+    F::W: Send + Sync,
+    requires entered { IsSome (F.state folder.old).entered }
+    requires options { IsInRange asked.now.options }
+    requires answered { AllPass is_answered asked.now.requests.items }
+    requires few { length asked.now.requests.items ≤ max_requests }
+    requires pass { IsFirstPass cache.now pass }
+    requires files { cache.now.files.board.files ≡ (F.state folder.old).size }
+    requires crew { posts.old.items ≡ [] }
+    requires page { page.old ≡ [] }
+    ensures ok { IfOk result (Finishes (setup_of F.W.files (F.state folder.new)
+        cache.now.gate.cut asked.now.options.workers) asked.now.requests.items
+        (progress_of no_sight.source (sink_state O.faults O.holds out.old))
+        (progress_of (source_of_crew (map (λ p. sight_of p.worker.pass
+        (F.Tap.state p.worker.tap)) posts.new.items)) (sink_state O.faults O.holds out.new))) }
+    ensures err { IfErr result (LeavesEarly (setup_of F.W.files (F.state folder.new)
+        cache.now.gate.cut asked.now.options.workers) asked.now.requests.items
+        (progress_of no_sight.source (sink_state O.faults O.holds out.old))
+        (progress_of (source_of_crew (map (λ p. sight_of p.worker.pass
+        (F.Tap.state p.worker.tap)) posts.new.items)) (sink_state O.faults O.holds out.new))) }
+    ensures count { OnOk result (length posts.new.items ≡ asked.now.options.workers) }
+    ensures made { MakesMore (length posts.new.items) (F.state folder.old) (F.state folder.new) }
+{
+    let workers = asked.options.workers as usize;
+    if let Err(NoMemory) = man(alloc, cache, pass, folder, posts, workers) {
+        return Err(Unfinished::NoMemory);
+    }
+    answer_list(
+        rt,
+        alloc,
+        cache,
+        folder,
+        hook,
+        posts,
+        &asked.requests,
+        page,
+        out,
+    )
 }
 
 /// The status of a list that was answered, or was not to its end.
@@ -194,14 +250,22 @@ fn status_of(answered: Result<bool, Unfinished>) -> u8
 /// refusal, 1 where some line is, 2 where the words are not those of the command, 3 where the list
 /// is none, 4 where the folder or the feed failed or the folder has too many files, 5 where the
 /// sink failed, and 6 where no memory was found.
-pub fn run<R: Wait, F: Folder, I: Feed, O: Sink>(
+///
+/// Each worker answers its requests through a pass and a tap of its own, in a thread of its own where
+/// one can be made. The hook is called round each request.
+pub fn run<R: Threads + Wait + Sync, F: Folder, I: Feed, O: Sink, K: Hook + Sync>(
     rt: &R,
     alloc: Global,
     words: &[String],
     folder: &mut F,
     feed: &mut I,
     out: &mut O,
+    hook: &K,
 ) -> u8
+where
+    F::Tap: Send + Drop,
+    <F::Tap as Tap>::Handle: Send + Sync,
+    F::W: Send + Sync,
     ensures runs { Runs F.W.files (asked_by words.now)
         (around_of (F.state folder.old) (feed_state I.faults I.left feed.old)
         (sink_state O.faults O.holds out.old))
@@ -209,7 +273,7 @@ pub fn run<R: Wait, F: Folder, I: Feed, O: Sink>(
         (sink_state O.faults O.holds out.new)) result }
 {
     match prepare(alloc, words, folder, feed) {
-        Ok(asked) => answer_through_tap(rt, alloc, folder, &asked, out),
+        Ok(asked) => answer_through_taps(rt, alloc, folder, &asked, out, hook),
         Err(ending) => put_ending(alloc, out, ending),
     }
 }

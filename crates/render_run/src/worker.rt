@@ -1,28 +1,29 @@
 //! A worker, which answers what it is given through the cache.
 
-ghost use Rattle.std.specs.Prelude.{◌≡◌, ◌<◌, IsTrue};
-ghost use Rattle.std.specs.Option.{ForSome};
+ghost use Rattle.std.specs.Prelude.{◌≡◌, ◌⊎◌, ◌<◌, IsTrue, IfSome, length, slice_get};
 ghost use Rattle.tex_world.specs.World.{IsFile};
 ghost use Rattle.image_cache.specs.Pass.{IsPassOf};
 ghost use Rattle.render_run.specs.Around.{sight_of};
-ghost use Rattle.render_run.specs.Question.{has_channels, may_be_asked};
+ghost use Rattle.render_run.specs.Question.{has_channels, may_be_asked, file_in};
 ghost use Rattle.render_run.specs.Refusal.{refusal_of};
-ghost use Rattle.render_run.specs.Reply.{MeetsOn, MeetsTask};
-ghost use Rattle.render_run.specs.Answering.{AfterAnswer, MayBeGiven};
+ghost use Rattle.render_run.specs.Reply.{released, MeetsOn, MeetsTask};
+ghost use Rattle.render_run.specs.Answering.{AfterAnswer, AreFiles, MayBeGiven};
 
 use crate::question::{Question, Task};
-use image_cache::{Cache, CacheError, Pass};
+use image_cache::{Cache, CacheError, NotReleased, Pass};
 use request_lang::{Answer, Values};
 use std::alloc::Global;
 use std::convert::Infallible;
 use std::sync::Wait;
-use tex_world::Tap;
+use tex_world::{Tap, World};
 use texel_filter::TexRequest;
-use texel_values::Region;
+use texel_values::{Region, TexelAt};
 use texture_sys::texture;
+use tile_layout::Rect;
 use waiter::Forever;
 
 /// A worker: its pass, and the tap that it reads by.
+#[derive(Drop)]
 pub(crate) struct Worker<T: Tap> {
     pub(crate) pass: Pass<T::W>,
     pub(crate) tap: T,
@@ -38,19 +39,21 @@ pub(crate) fn answer_of<R: Wait, T: Tap>(
 ) -> Answer
     requires pass { IsPassOf cache.now worker.old.pass }
     requires given { MayBeGiven T.W.files cache.now.files.board.files task.now }
-    ensures meets { MeetsTask T.W.files cache.now.gate.cut task.now.file task.now.question result }
-    ensures after { AfterAnswer task.now.file
+    requires files { AreFiles T.W.files cache.now.files.board.files }
+    ensures meets { MeetsTask T.W.files cache.now.gate.cut (length worker.old.pass.pinned.holds)
+        task.now result }
+    ensures after { AfterAnswer (file_in task.now)
         (sight_of worker.old.pass (T.state worker.old.tap))
         (sight_of worker.new.pass (T.state worker.new.tap)) result }
     ensures pass { IsPassOf cache.now worker.new.pass }
 {
-    let Some(question) = &task.question else {
-        return Answer::Synced;
-    };
-    let Some(file) = task.file else {
-        return Answer::NoSuchFile;
-    };
-    answer_on(alloc, cache, waiter, worker, file, question)
+    match task {
+        Task::Ask(Some(file), question) => answer_on(alloc, cache, waiter, worker, *file, question),
+        Task::Ask(None, _) => Answer::NoSuchFile,
+        Task::Release => release(cache, waiter, worker),
+        Task::RenewAll => renewal_of_all(cache, waiter, worker),
+        Task::Sync => Answer::Synced,
+    }
 }
 
 /// The answer to a question to a file.
@@ -66,7 +69,8 @@ fn answer_on<R: Wait, T: Tap>(
     requires file { file < cache.now.files.board.files }
     requires told { IsFile T.W.files file }
     requires asked { IsTrue (may_be_asked question.now) }
-    ensures meets { MeetsOn T.W.files cache.now.gate.cut file question.now result }
+    ensures meets { MeetsOn T.W.files cache.now.gate.cut
+        (length worker.old.pass.pinned.holds) file question.now result }
     ensures after { AfterAnswer (Some file)
         (sight_of worker.old.pass (T.state worker.old.tap))
         (sight_of worker.new.pass (T.state worker.new.tap)) result }
@@ -76,6 +80,8 @@ fn answer_on<R: Wait, T: Tap>(
         Question::Facts => facts(cache, waiter, worker, file),
         Question::Values(region) => values(alloc, cache, waiter, worker, file, region),
         Question::Look(request) => look(alloc, cache, waiter, worker, file, request),
+        Question::Hold(at) => hold(cache, waiter, worker, file, *at),
+        Question::Renewal(force) => renewal(cache, waiter, worker, file, *force),
     }
 }
 
@@ -89,7 +95,8 @@ fn facts<R: Wait, T: Tap>(
     requires pass { IsPassOf cache.now worker.old.pass }
     requires file { file < cache.now.files.board.files }
     requires told { IsFile T.W.files file }
-    ensures meets { MeetsOn T.W.files cache.now.gate.cut file Question.Facts result }
+    ensures meets { MeetsOn T.W.files cache.now.gate.cut
+        (length worker.old.pass.pinned.holds) file Question.Facts result }
     ensures after { AfterAnswer (Some file)
         (sight_of worker.old.pass (T.state worker.old.tap))
         (sight_of worker.new.pass (T.state worker.new.tap)) result }
@@ -113,7 +120,8 @@ fn values<R: Wait, T: Tap>(
     requires pass { IsPassOf cache.now worker.old.pass }
     requires file { file < cache.now.files.board.files }
     requires told { IsFile T.W.files file }
-    ensures meets { MeetsOn T.W.files cache.now.gate.cut file (Question.Values region.now) result }
+    ensures meets { MeetsOn T.W.files cache.now.gate.cut
+        (length worker.old.pass.pinned.holds) file (Question.Values region.now) result }
     ensures after { AfterAnswer (Some file)
         (sight_of worker.old.pass (T.state worker.old.tap))
         (sight_of worker.new.pass (T.state worker.new.tap)) result }
@@ -150,7 +158,8 @@ fn look<R: Wait, T: Tap>(
     requires file { file < cache.now.files.board.files }
     requires told { IsFile T.W.files file }
     requires channels { IsTrue (has_channels request.now) }
-    ensures meets { MeetsOn T.W.files cache.now.gate.cut file (Question.Look request.now) result }
+    ensures meets { MeetsOn T.W.files cache.now.gate.cut
+        (length worker.old.pass.pinned.holds) file (Question.Look request.now) result }
     ensures after { AfterAnswer (Some file)
         (sight_of worker.old.pass (T.state worker.old.tap))
         (sight_of worker.new.pass (T.state worker.new.tap)) result }
@@ -172,6 +181,106 @@ fn look<R: Wait, T: Tap>(
             generation,
             values: Values::new(values),
         },
+        Err(e) => refusal(e),
+    }
+}
+
+/// The cell of a texel, which the worker then holds.
+fn hold<R: Wait, T: Tap>(
+    cache: &Cache<T>,
+    waiter: &Forever<R>,
+    worker: &mut Worker<T>,
+    file: u32,
+    at: TexelAt,
+) -> Answer
+    requires pass { IsPassOf cache.now worker.old.pass }
+    requires file { file < cache.now.files.board.files }
+    requires told { IsFile T.W.files file }
+    ensures meets { MeetsOn T.W.files cache.now.gate.cut
+        (length worker.old.pass.pinned.holds) file (Question.Hold at) result }
+    ensures after { AfterAnswer (Some file)
+        (sight_of worker.old.pass (T.state worker.old.tap))
+        (sight_of worker.new.pass (T.state worker.new.tap)) result }
+    ensures pass { IsPassOf cache.now worker.new.pass }
+{
+    let place = worker.pass.held_count();
+    match cache.get_tile(waiter, &mut worker.pass, &mut worker.tap, file, at) {
+        Ok(generation) => Answer::Held {
+            generation,
+            rect: held_rect(&worker.pass, place),
+        },
+        Err(e) => refusal(e),
+    }
+}
+
+/// The rectangle of the tile that a pass holds at a place.
+fn held_rect<W: World>(pass: &Pass<W>, place: usize) -> Rect
+    requires { place < length pass.now.pinned.holds }
+    ensures { IfSome (slice_get pass.now.pinned.holds place) (λ tile. result ≡ tile.rect) }
+{
+    match pass.held(place) {
+        Some(tile) => tile.rect(),
+        None => unreachable!(),
+    }
+}
+
+/// The worker lets go of its oldest hold.
+fn release<R: Wait, T: Tap>(cache: &Cache<T>, waiter: &Forever<R>, worker: &mut Worker<T>) -> Answer
+    requires pass { IsPassOf cache.now worker.old.pass }
+    ensures meets { result ≡ released (length worker.old.pass.pinned.holds) }
+    ensures after { AfterAnswer None
+        (sight_of worker.old.pass (T.state worker.old.tap))
+        (sight_of worker.new.pass (T.state worker.new.tap)) result }
+    ensures pass { IsPassOf cache.now worker.new.pass }
+{
+    match cache.release_tile(waiter, &mut worker.pass, 0) {
+        Ok(()) => Answer::Dropped,
+        Err(NotReleased::NothingHeld) => Answer::NothingHeld,
+        Err(NotReleased::Busy(never)) => match never {},
+    }
+}
+
+/// The newest generation of a file, which is made invalid, with force or without.
+fn renewal<R: Wait, T: Tap>(
+    cache: &Cache<T>,
+    waiter: &Forever<R>,
+    worker: &mut Worker<T>,
+    file: u32,
+    force: bool,
+) -> Answer
+    requires pass { IsPassOf cache.now worker.old.pass }
+    requires file { file < cache.now.files.board.files }
+    requires told { IsFile T.W.files file }
+    ensures meets { MeetsOn T.W.files cache.now.gate.cut
+        (length worker.old.pass.pinned.holds) file (Question.Renewal force) result }
+    ensures after { AfterAnswer (Some file)
+        (sight_of worker.old.pass (T.state worker.old.tap))
+        (sight_of worker.new.pass (T.state worker.new.tap)) result }
+    ensures pass { IsPassOf cache.now worker.new.pass }
+{
+    match cache.invalidate(waiter, &mut worker.pass, &mut worker.tap, file, force) {
+        Ok(generation) if force => Answer::Renewed { generation },
+        Ok(generation) => Answer::Invalidated { generation },
+        Err(e) => refusal(e),
+    }
+}
+
+/// Each file that is known is made invalid.
+fn renewal_of_all<R: Wait, T: Tap>(
+    cache: &Cache<T>,
+    waiter: &Forever<R>,
+    worker: &mut Worker<T>,
+) -> Answer
+    requires pass { IsPassOf cache.now worker.old.pass }
+    requires files { AreFiles T.W.files cache.now.files.board.files }
+    ensures meets { (result ≡ Answer.InvalidatedAll) ⊎ (result ≡ Answer.ReadFault) }
+    ensures after { AfterAnswer None
+        (sight_of worker.old.pass (T.state worker.old.tap))
+        (sight_of worker.new.pass (T.state worker.new.tap)) result }
+    ensures pass { IsPassOf cache.now worker.new.pass }
+{
+    match cache.invalidate_all(waiter, &mut worker.pass, &mut worker.tap) {
+        Ok(()) => Answer::InvalidatedAll,
         Err(e) => refusal(e),
     }
 }

@@ -18,3 +18,7 @@ file_names =
 -- the file of the lists on a large one
 abbrev pub huge_names : List (List ℕ)
 huge_names = codes "huge.tif" ∷ []
+
+-- the files of the lists on generations
+abbrev pub row_names : List (List ℕ)
+row_names = codes "A.tif" ∷ codes "three.tif" ∷ []

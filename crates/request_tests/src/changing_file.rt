@@ -1,12 +1,13 @@
 //! Lists over the files of a real folder, which change while they are answered.
 
 use host_folder::{RealFeed, RealFolder, RealSink};
-use render_run::run;
+use render_run::{NoHook, run};
 use std::alloc::{AllocError, Global};
 use std::fs::{File, Files};
 use std::io::Write;
 use std::sync::Wait;
 use std::test::Fail;
+use std::thread::Threads;
 use std::{fs, io};
 
 // The header and the directory of 3 by 70 texels of one channel in one strip, at byte 122. They lie
@@ -101,7 +102,7 @@ fn wide_text(alloc: Global) -> Result<String, AllocError> {
 /// round.
 fn written(
     rt: &HostRuntime,
-    waits: &impl Wait,
+    threads: &(impl Threads + Wait + Sync),
     (folder, path): (&'static str, &'static str),
     change: Change,
     list: &str,
@@ -117,11 +118,20 @@ fn written(
     };
     let mut words = Vec::new(alloc);
     words.push(String::from_str(alloc, folder)?)?;
+    words.push(String::from_str(alloc, "--workers=1")?)?;
 
     let mut folder = RealFolder::new(rt);
     let mut feed = RealFeed::new(list.as_bytes());
     let mut sink = RealSink::new(alloc, &mut painter)?;
-    let status = run(waits, alloc, &words, &mut folder, &mut feed, &mut sink);
+    let status = run(
+        threads,
+        alloc,
+        &words,
+        &mut folder,
+        &mut feed,
+        &mut sink,
+        &NoHook,
+    );
     if sink.flush() != Ok(()) {
         return Err("not written".into());
     }

@@ -5,6 +5,7 @@ use std::alloc::{AllocError, Global};
 use std::process::Abort;
 use std::sync::Wait;
 use std::test::Fail;
+use std::thread::Threads;
 
 // Two requests for the same region.
 const LIST: &str = "pixels 0 1 0 2 2 A.tif\npixels 0 1 0 2 2 A.tif\n";
@@ -20,7 +21,7 @@ type Met = (
     (u64, u64),
 );
 
-fn is_met<R: Abort + Wait>(rt: &R, alloc: Global, met: &Met) -> Result<(), Fail> {
+fn is_met<R: Abort + Threads + Wait + Sync>(rt: &R, alloc: Global, met: &Met) -> Result<(), Fail> {
     let (what, failing, list, written, status, (faults, moves)) = met;
     let ran = run_list(rt, alloc, list, *failing)?;
     ran.is(rt, written, *status, what);
@@ -216,7 +217,7 @@ static READS: &[Reads] = &[
     ),
 ];
 
-fn call_fails<R: Abort + Wait>(
+fn call_fails<R: Abort + Threads + Wait + Sync>(
     rt: &R,
     alloc: Global,
     list: &str,
@@ -232,7 +233,11 @@ fn call_fails<R: Abort + Wait>(
 
 // Of a request that is made twice: whichever call of the tap fails, the first is answered
 // `read fault`, and the second as ever. Where none fails, the second makes no call at all.
-fn each_call_fails<R: Abort + Wait>(rt: &R, alloc: Global, reads: &Reads) -> Result<(), Fail> {
+fn each_call_fails<R: Abort + Threads + Wait + Sync>(
+    rt: &R,
+    alloc: Global,
+    reads: &Reads,
+) -> Result<(), Fail> {
     let (request, line, calls) = reads;
     let list = two_lines(alloc, request, request)?;
     let first = two_lines(alloc, FAULT, line)?;

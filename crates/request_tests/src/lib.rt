@@ -46,8 +46,12 @@ mod small_files;
 #[cfg(test)]
 mod streams;
 #[cfg(test)]
+mod stress;
+#[cfg(test)]
 mod visits;
 #[cfg(test)]
 mod words;
+#[cfg(test)]
+mod workers;
 #[cfg(test)]
 mod wraps;

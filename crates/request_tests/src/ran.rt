@@ -1,12 +1,13 @@
 //! A run of the top call over files in memory.
 
 use crate::small_files::SmallFiles;
-use render_run::run;
+use render_run::{Hook, NoHook, run};
 use std::alloc::{AllocError, Global};
 use std::process::Abort;
 use std::str::from_utf8;
 use std::sync::Wait;
-use tex_world::{FailByte, FailCall, FileTable, MemFeed, MemFolder, MemSink, Plan, Rise};
+use std::thread::Threads;
+use tex_world::{FailByte, FailCall, FileTable, MemFeed, MemFolder, MemSink, Newest, Plan, Rise};
 
 /// What fails in a run.
 #[derive(Clone, Copy)]
@@ -25,6 +26,8 @@ pub(crate) enum Failing {
     Rise(u32, u64),
     /// The first read of this byte of the folder's first file.
     Byte(u64),
+    /// A tap's newest generation of a file is not the first.
+    Newer(Newest),
 }
 
 /// What a run left. The counts are the folder's.
@@ -42,6 +45,13 @@ impl Ran {
     fn wrote(&self, rt: &impl Abort, written: &str, message: &str) {
         let text = from_utf8(self.written.bytes()).unwrap_or("no text");
         assert!(rt; text == written, "in {message}: {text}");
+    }
+
+    /// It wrote one of these and ended with this status, and each tap that was made was given back.
+    pub(crate) fn is_one_of(&self, rt: &impl Abort, written: &[&str], status: u8, message: &str) {
+        let text = from_utf8(self.written.bytes()).unwrap_or("no text");
+        assert!(rt; written.contains(&text), "in {message}: {text}");
+        self.is(rt, text, status, message);
     }
 
     /// It wrote this and ended with this status, and each tap that was made was given back.
@@ -88,6 +98,7 @@ fn plan_of(alloc: Global, failing: Failing) -> Result<Plan, AllocError> {
             file: 0,
             at,
         })?,
+        Failing::Newer(newest) => plan.newest.push(newest)?,
         Failing::Nothing | Failing::Feed(_) | Failing::Sink(_) => {}
     }
     Ok(plan)
@@ -110,18 +121,38 @@ fn failing_put(failing: Failing) -> Option<u64> {
 }
 
 /// Runs a list under these words over the files of a table.
-pub(crate) fn run_words<T: FileTable>(
-    waits: &impl Wait,
+pub(crate) fn run_words<T: FileTable + Send + Sync>(
+    rt: &(impl Threads + Wait + Sync),
     alloc: Global,
     words: &[&str],
     list: Vec<u8>,
     failing: Failing,
 ) -> Result<Ran, AllocError> {
+    run_hooked::<T>(rt, alloc, words, list, failing, &NoHook)
+}
+
+/// The same, and the hook is called round each request.
+pub(crate) fn run_hooked<T: FileTable + Send + Sync>(
+    rt: &(impl Threads + Wait + Sync),
+    alloc: Global,
+    words: &[&str],
+    list: Vec<u8>,
+    failing: Failing,
+    hook: &(impl Hook + Sync),
+) -> Result<Ran, AllocError> {
     let words = owned(alloc, words)?;
     let mut folder: MemFolder<T> = MemFolder::new(plan_of(alloc, failing)?);
     let mut feed = MemFeed::new(list, failing_read(failing));
     let mut written = MemSink::new(alloc, failing_put(failing));
-    let status = run(waits, alloc, &words, &mut folder, &mut feed, &mut written);
+    let status = run(
+        rt,
+        alloc,
+        &words,
+        &mut folder,
+        &mut feed,
+        &mut written,
+        hook,
+    );
     Ok(Ran {
         written,
         status,
@@ -134,25 +165,25 @@ pub(crate) fn run_words<T: FileTable>(
 
 /// Runs a list under these words over the small files, and nothing fails.
 pub(crate) fn run_bytes(
-    waits: &impl Wait,
+    rt: &(impl Threads + Wait + Sync),
     alloc: Global,
     words: &[&str],
     list: &[u8],
 ) -> Result<Ran, AllocError> {
-    run_words::<SmallFiles>(waits, alloc, words, list.to_vec(alloc)?, Failing::Nothing)
+    run_words::<SmallFiles>(rt, alloc, words, list.to_vec(alloc)?, Failing::Nothing)
 }
 
-/// Runs a list under the word `.` over the small files.
+/// Runs a list over the small files, with one worker.
 pub(crate) fn run_list(
-    waits: &impl Wait,
+    rt: &(impl Threads + Wait + Sync),
     alloc: Global,
     list: &str,
     failing: Failing,
 ) -> Result<Ran, AllocError> {
     run_words::<SmallFiles>(
-        waits,
+        rt,
         alloc,
-        &["."],
+        &[".", "--workers", "1"],
         list.as_bytes().to_vec(alloc)?,
         failing,
     )

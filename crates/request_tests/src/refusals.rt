@@ -5,6 +5,7 @@ use std::alloc::Global;
 use std::process::Abort;
 use std::sync::Wait;
 use std::test::Fail;
+use std::thread::Threads;
 
 // The most bytes of a list.
 const MAX_LIST_BYTES: usize = 16777216;
@@ -16,7 +17,7 @@ static BAD_WORDS: &[&[&str]] = &[
     &[".", "."],
     &["-x"],
     &[".", "--workers", "0"],
-    &[".", "--workers", "2"],
+    &[".", "--workers", "17"],
     &[".", "--autotile", "20"],
     &["--shards", "1", "--shards", "1", "."],
     &["--help"],
@@ -39,6 +40,7 @@ static WORDS: &[&[&str]] = &[
     &["-"],
     &["--shards=2", "--", "-x"],
     &["--workers", "1", ".", "--no-automip"],
+    &["--workers=16", "."],
     &["--budget=0", "--handles", "1024", "--autotile=4096", "."],
     &["--budget=0", "--shards=1", "--handles=1", "."],
 ];
@@ -77,15 +79,11 @@ static REFUSED: &[(&[u8], &str)] = &[
     (b"tex 0 0 0 clamp clamp cubic 1 A.tif\n", "1 5"),
     (b"info \xff.tif\n", "1 7"),
     (b"# a line\n\nsync\ninfo A.tif\ninfo\nfoo\n", "5 2"),
-    (b"hold 0 0 0 A.tif\n", "0 1"),
-    (b"sync\ndrop\n", "0 1"),
-    (b"invalidate A.tif\nsync\n", "0 1"),
-    (b"renew A.tif\n", "0 1"),
-    (b"invalidate_all\n", "0 1"),
+    (b"sync\nstat\n", "0 1"),
     (b"stat\nfoo\n", "2 1"),
 ];
 
-fn is_refused<R: Abort + Wait>(
+fn is_refused<R: Abort + Threads + Wait + Sync>(
     rt: &R,
     alloc: Global,
     list: &[u8],
@@ -109,7 +107,7 @@ fn refuses_lists(rt: HostRuntime) -> Result<(), Fail> {
 }
 
 // A list of so many bytes is one line, which begins with `#` and says nothing.
-fn answers_long<R: Abort + Wait>(
+fn answers_long<R: Abort + Threads + Wait + Sync>(
     rt: &R,
     alloc: Global,
     length: usize,

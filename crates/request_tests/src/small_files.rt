@@ -12,7 +12,7 @@ ghost use Rattle.request_tests.specs.declared.small_files.TheConstants.{B_START,
 use tex_world::FileTable;
 
 // 4 by 4 texels of one channel in one strip: the one in column x of row y is 16 * y + x.
-static A: [u8; 138] = [
+pub(crate) static A: [u8; 138] = [
     0x49, 0x49, 0x2a, 0x00, 0x08, 0x00, 0x00, 0x00, 0x09, 0x00, //
     0x00, 0x01, 0x03, 0x00, 0x01, 0x00, 0x00, 0x00, 0x04, 0x00, 0x00, 0x00, //
     0x01, 0x01, 0x03, 0x00, 0x01, 0x00, 0x00, 0x00, 0x04, 0x00, 0x00, 0x00, //
@@ -28,7 +28,7 @@ static A: [u8; 138] = [
 ];
 
 // The samples of its second generation, each greater by 100.
-static LATER: [u8; 16] = [
+pub(crate) static LATER: [u8; 16] = [
     100, 101, 102, 103, 116, 117, 118, 119, 132, 133, 134, 135, 148, 149, 150, 151,
 ];
 

@@ -8,7 +8,7 @@ use tile_layout::Cut;
 
 /// The options of a command line that has none.
 const DEFAULTS: Options = Options {
-    workers: 1,
+    workers: 4,
     budget: 268435456,
     shards: 16,
     handles: 100,
@@ -73,7 +73,7 @@ static BAD: [&str; 49] = [
     "--shards=2.0|.",
     "--shards=00000000002|.",
     "--budget=00000000000|.",
-    "--workers|2|.",
+    "--workers|17|.",
     "--workers|0|.",
     "--shards|0|.",
     "--shards|65|.",
@@ -144,7 +144,7 @@ fn asks_for_nothing(rt: HostRuntime) -> Result<(), Fail> {
 }
 
 const TWO: Options = Options {
-    workers: 1,
+    workers: 4,
     budget: 268435456,
     shards: 2,
     handles: 100,
@@ -155,7 +155,7 @@ const TWO: Options = Options {
 };
 
 const MOST: Options = Options {
-    workers: 1,
+    workers: 16,
     budget: 4294967296,
     shards: 64,
     handles: 1024,
@@ -192,9 +192,9 @@ fn asks_for_options(rt: HostRuntime) -> Result<(), Fail> {
     asks_for(&rt, alloc, "--shards|2|.", ".", &TWO)?;
     asks_for(&rt, alloc, ".|--shards|2", ".", &TWO)?;
     asks_for(&rt, alloc, ".|--shards=0000000002", ".", &TWO)?;
-    let all = "--handles=1024|--budget|4294967296|.|--workers|1|--no-automip|--shards=64";
+    let all = "--handles=1024|--budget|4294967296|.|--workers|16|--no-automip|--shards=64";
     asks_for(&rt, alloc, all, ".", &MOST)?;
-    let few = "--no-automip|--autotile|0|--shards|1|--handles|1|--budget|0|x";
+    let few = "--no-automip|--workers=1|--autotile|0|--shards|1|--handles|1|--budget|0|x";
     asks_for(&rt, alloc, few, "x", &LEAST)?;
     asks_for(&rt, alloc, "--autotile=16|.", ".", &autotile(16))?;
     asks_for(&rt, alloc, "--autotile|4096|.", ".", &autotile(4096))

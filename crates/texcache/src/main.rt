@@ -3,10 +3,11 @@
 #![tactic(auto)]
 
 use host_folder::{RealFeed, RealFolder, RealSink};
-use render_run::{NO_MEMORY, NOT_WRITTEN, run};
+use render_run::{NO_MEMORY, NOT_WRITTEN, NoHook, run};
 use std::io::ErrorKind;
 use std::process::ExitCode;
 use std::sync::Wait;
+use std::thread::Threads;
 use std::{env, io};
 
 fn main(rt: HostRuntime) -> ExitCode {
@@ -15,7 +16,7 @@ fn main(rt: HostRuntime) -> ExitCode {
 
 /// Answers the list on standard input, and gives the status that the program ends with. What waits
 /// does so by `waits`, which is the runtime.
-fn status(rt: &HostRuntime, waits: &impl Wait) -> u8 {
+fn status(rt: &HostRuntime, threads: &(impl Threads + Wait + Sync)) -> u8 {
     let words = match words(rt) {
         Ok(words) => words,
         Err(_) => return NO_MEMORY,
@@ -27,12 +28,13 @@ fn status(rt: &HostRuntime, waits: &impl Wait) -> u8 {
     let mut folder = RealFolder::new(rt);
     let mut feed = RealFeed::new(rt.stdin());
     let status = run(
-        waits,
+        threads,
         rt.alloc(),
         words.as_slice(),
         &mut folder,
         &mut feed,
         &mut out,
+        &NoHook,
     );
     // What the sink still holds back can fail as a line can.
     match out.flush() {

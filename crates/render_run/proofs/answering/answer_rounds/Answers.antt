@@ -1,10 +1,12 @@
-use Rattle.std.proofs.Common.{◌≡◌, ◌||◌, ◌+◌, ◌-◌, ℕ, List, length, map, take, drop, refl, ap, ◌∙◌, arith}
-use Rattle.std.proofs.lemmas.List.{take_all, length-drop}
+use Rattle.std.proofs.Common.{◌≡◌, ◌||◌, ◌+◌, ◌-◌, ℕ, length, map, take, drop, refl, ap, ◌∙◌, arith}
+use Rattle.std.proofs.lemmas.List.{take_all, length-drop, length-take, length-map}
 use Rattle.request_lang.specs.declared.request.Request.{Request}
 use Rattle.render_run.specs.declared.question.Task.{Task}
-use Rattle.render_run.specs.Around.{source_of_tap, sink_state, progress_of, setup_of, sight_of}
+use Rattle.render_run.specs.Around.{source_of_crew, sink_state, progress_of, setup_of, sight_of}
 use Rattle.render_run.specs.Question.{task_of}
-use Rattle.render_run.proofs.Rounds.{none_yet, rounds_more, rounds_part, rises_from}
+use Rattle.render_run.specs.Answering.{AnswersInTurn, in_turn}
+use Rattle.render_run.proofs.Rounds.{none_yet, rounds_more, rounds_part, rounds_kept, rises_from}
+use Rattle.render_run.proofs.Shares.{turns_taken, turns_there}
 use Rattle.render_run.proofs.answering.answer_rounds.Goals as goal
 
 pub rounds-init : goal.rounds-init
@@ -12,24 +14,41 @@ rounds-init g c = record {
   so_far =
       rw c.requires.empty
       (none_yet (setup_of g.F.W.World.files (g.F.Folder.state c.args.folder.now)
-      c.args.cache.now.gate.cut 1) c.args.requests.now
-      (sight_of c.args.worker.now.pass (g.F.Tap.Tap.state c.args.worker.now.tap))
-      (progress_of (source_of_tap (g.F.Tap.Tap.state c.args.worker.now.tap))
-      (sink_state g.O.Sink.faults g.O.Sink.holds c.args.out.now)) refl);
+      c.args.cache.now.gate.cut (length c.args.posts.now)) c.args.requests.now
+      (map (λ p. sight_of p.worker.pass (g.F.Tap.Tap.state p.worker.tap)) c.args.posts.now)
+      (progress_of (source_of_crew (map (λ p. sight_of p.worker.pass
+      (g.F.Tap.Tap.state p.worker.tap)) c.args.posts.now))
+      (sink_state g.O.Sink.faults g.O.Sink.holds c.args.out.now))
+      (length-map c.args.posts.now _) c.requires.idle refl);
   within = omega arith;
   pass = c.requires.pass;
   faults = omega arith;
 }
 
-pub answer_round-requires-clause-given : goal.answer_round-requires-clause-given
-answer_round-requires-clause-given g c =
-    rw (c.deref.ensures.value, c.requires.files) c.in_default.ensures.given
+pub returns-in-Err-clause-err : goal.returns-in-Err-clause-err
+returns-in-Err-clause-err g c = (
+  c.rounds.done,
+  c.rounds.refused,
+  rounds_kept _ c.args.requests.now c.rounds.done _ _ _
+      (progress_of (source_of_crew (map (λ p. sight_of p.worker.pass
+      (g.F.Tap.Tap.state p.worker.tap)) c.rounds.posts))
+      (sink_state g.O.Sink.faults g.O.Sink.holds c.rounds.out)) _ c.rounds.page c.rounds.refused
+      c.rounds.invariant.so_far c.begin.ensures.kept,
+)
 
-pub rounds-preserved : goal.rounds-preserved
-rounds-preserved g c =
+pub answer_round-requires-clause-room : goal.answer_round-requires-clause-room
+answer_round-requires-clause-room g c κs within = λ k d lt.
+    let room = c.in_default.ensures.room k d lt in (
+      room.0,
+      rw (c.deref.ensures.value, c.in_default.ensures.tasks, length-map, c.begin.auto.posts) room.1,
+    )
+
+pub write_round-requires-clause-there : goal.write_round-requires-clause-there
+write_round-requires-clause-there g c =
     let rs = c.args.requests.now in
     let done = c.rounds.done in
     let count = c.round_len-count.result in
+    let n = length c.args.posts.now in
     let f : Request → Task = task_of (g.F.Folder.state c.args.folder.now).number_of in
     let rest : take (length rs - done) (drop done rs) ≡ drop done rs =
     take_all (length rs - done) (drop done rs) (omega (arith, length-drop done rs)) in
@@ -37,26 +56,76 @@ rounds-preserved g c =
     let tasks : c.deref.result.now ≡ map f (take count (drop done rs)) =
     c.deref.ensures.value ∙ c.in_default.ensures.tasks
     ∙ ap (λ (n : ℕ). map f (take n (drop done rs))) size in
+    let long : length c.deref.result.now ≡ count =
+    ap length tasks ∙ length-map (take count (drop done rs)) f
+    ∙ omega (
+      arith,
+      length-take count (drop done rs),
+      length-drop done rs,
+      c.round_len-count.ensures.within,
+    ) in
+    turns_there (λ p. sight_of p.worker.pass (g.F.Tap.Tap.state p.worker.tap))
+    (λ p. p.answers.items) g.F.W.World.files c.args.cache.now.gate.cut c.deref.result.now n count
+    c.begin.new.posts c.answer_round.new.posts
+    (omega (arith, c.begin.auto.posts, c.rounds.auto.posts))
+    (omega (arith, c.begin.auto.posts, c.rounds.auto.posts, c.answer_round.auto.posts))
+    c.requires.crew.0 long c.answer_round.ensures.shares
+
+pub rounds-preserved : goal.rounds-preserved
+rounds-preserved g c =
+    let rs = c.args.requests.now in
+    let done = c.rounds.done in
+    let count = c.round_len-count.result in
+    let n = length c.args.posts.now in
+    let f : Request → Task = task_of (g.F.Folder.state c.args.folder.now).number_of in
+    let rest : take (length rs - done) (drop done rs) ≡ drop done rs =
+    take_all (length rs - done) (drop done rs) (omega (arith, length-drop done rs)) in
+    let size : done + count - done ≡ count = omega arith in
+    let tasks : c.deref.result.now ≡ map f (take count (drop done rs)) =
+    c.deref.ensures.value ∙ c.in_default.ensures.tasks
+    ∙ ap (λ (n : ℕ). map f (take n (drop done rs))) size in
+    let long : length c.deref.result.now ≡ count =
+    ap length tasks ∙ length-map (take count (drop done rs)) f
+    ∙ omega (
+      arith,
+      length-take count (drop done rs),
+      length-drop done rs,
+      c.round_len-count.ensures.within,
+    ) in
+    let turns : AnswersInTurn g.F.W.World.files c.args.cache.now.gate.cut n 0 c.deref.result.now
+    (in_turn (length c.answer_round.new.posts) 0 count
+    (map (λ p. p.answers.items) c.answer_round.new.posts))
+    (map (λ p. sight_of p.worker.pass (g.F.Tap.Tap.state p.worker.tap)) c.begin.new.posts)
+    (map (λ p. sight_of p.worker.pass (g.F.Tap.Tap.state p.worker.tap))
+    c.answer_round.new.posts) =
+    turns_taken (λ p. sight_of p.worker.pass (g.F.Tap.Tap.state p.worker.tap))
+    (λ p. p.answers.items) g.F.W.World.files c.args.cache.now.gate.cut c.deref.result.now n count
+    c.begin.new.posts c.answer_round.new.posts
+    (omega (arith, c.begin.auto.posts, c.rounds.auto.posts))
+    (omega (arith, c.begin.auto.posts, c.rounds.auto.posts, c.answer_round.auto.posts))
+    c.requires.crew.0 long c.answer_round.ensures.shares in
     record {
       so_far =
           rounds_more (setup_of g.F.W.World.files (g.F.Folder.state c.args.folder.now)
-          c.args.cache.now.gate.cut 1) rs done count
-          (sight_of c.rounds.worker.pass (g.F.Tap.Tap.state c.rounds.worker.tap))
-          (sight_of c.answer_round.new.worker.pass
-          (g.F.Tap.Tap.state c.answer_round.new.worker.tap))
-          (progress_of (source_of_tap (g.F.Tap.Tap.state c.args.worker.now.tap))
+          c.args.cache.now.gate.cut n) rs done count _ _ _
+          (progress_of (source_of_crew (map (λ p. sight_of p.worker.pass
+          (g.F.Tap.Tap.state p.worker.tap)) c.args.posts.now))
           (sink_state g.O.Sink.faults g.O.Sink.holds c.args.out.now))
-          (progress_of (source_of_tap (g.F.Tap.Tap.state c.rounds.worker.tap))
+          (progress_of (source_of_crew (map (λ p. sight_of p.worker.pass
+          (g.F.Tap.Tap.state p.worker.tap)) c.rounds.posts))
           (sink_state g.O.Sink.faults g.O.Sink.holds c.rounds.out))
-          (progress_of (source_of_tap (g.F.Tap.Tap.state c.answer_round.new.worker.tap))
+          (progress_of (source_of_crew (map (λ p. sight_of p.worker.pass
+          (g.F.Tap.Tap.state p.worker.tap)) c.answer_round.new.posts))
           (sink_state g.O.Sink.faults g.O.Sink.holds c.write_round.new.out)) c.rounds.page
           c.write_round.new.page c.rounds.refused c.in-Ok.said
-          (c.rounds.refused || c.in-Ok.said) c.answer_round.new.answers.items
-          c.rounds.invariant.so_far (rw rest at c.round_len-count.ensures.round)
+          (c.rounds.refused || c.in-Ok.said)
+          (in_turn (length c.answer_round.new.posts) 0 count
+          (map (λ p. p.answers.items) c.answer_round.new.posts)) c.requires.crew.0
+          c.in_default.ensures.ok c.rounds.invariant.so_far
+          (rw rest at c.round_len-count.ensures.round)
           (omega (arith, c.round_len-count.ensures.within))
-          (rw tasks at c.answer_round.ensures.each)
-          (rw c.deref-in-rounds.ensures.value at c.in-Ok.ensures.ok)
-          (rw c.deref-in-rounds.ensures.value at c.in-Ok.ensures.refusal) refl;
+          (rw tasks at turns)
+          c.in-Ok.ensures.ok c.in-Ok.ensures.refusal refl;
       within = omega (arith, c.round_len-count.ensures.within);
       pass = c.answer_round.ensures.pass;
       faults = omega (arith, c.rounds.invariant.faults, c.write_round.ensures.faults);
@@ -67,6 +136,7 @@ returns-in-Err-write_round-clause-err g c =
     let rs = c.args.requests.now in
     let done = c.rounds.done in
     let count = c.round_len-count.result in
+    let n = length c.args.posts.now in
     let f : Request → Task = task_of (g.F.Folder.state c.args.folder.now).number_of in
     let rest : take (length rs - done) (drop done rs) ≡ drop done rs =
     take_all (length rs - done) (drop done rs) (omega (arith, length-drop done rs)) in
@@ -74,21 +144,42 @@ returns-in-Err-write_round-clause-err g c =
     let tasks : c.deref.result.now ≡ map f (take count (drop done rs)) =
     c.deref.ensures.value ∙ c.in_default.ensures.tasks
     ∙ ap (λ (n : ℕ). map f (take n (drop done rs))) size in
+    let long : length c.deref.result.now ≡ count =
+    ap length tasks ∙ length-map (take count (drop done rs)) f
+    ∙ omega (
+      arith,
+      length-take count (drop done rs),
+      length-drop done rs,
+      c.round_len-count.ensures.within,
+    ) in
+    let turns : AnswersInTurn g.F.W.World.files c.args.cache.now.gate.cut n 0 c.deref.result.now
+    (in_turn (length c.answer_round.new.posts) 0 count
+    (map (λ p. p.answers.items) c.answer_round.new.posts))
+    (map (λ p. sight_of p.worker.pass (g.F.Tap.Tap.state p.worker.tap)) c.begin.new.posts)
+    (map (λ p. sight_of p.worker.pass (g.F.Tap.Tap.state p.worker.tap))
+    c.answer_round.new.posts) =
+    turns_taken (λ p. sight_of p.worker.pass (g.F.Tap.Tap.state p.worker.tap))
+    (λ p. p.answers.items) g.F.W.World.files c.args.cache.now.gate.cut c.deref.result.now n count
+    c.begin.new.posts c.answer_round.new.posts
+    (omega (arith, c.begin.auto.posts, c.rounds.auto.posts))
+    (omega (arith, c.begin.auto.posts, c.rounds.auto.posts, c.answer_round.auto.posts))
+    c.requires.crew.0 long c.answer_round.ensures.shares in
     rounds_part (setup_of g.F.W.World.files (g.F.Folder.state c.args.folder.now)
-    c.args.cache.now.gate.cut 1) rs done count
-    (sight_of c.rounds.worker.pass (g.F.Tap.Tap.state c.rounds.worker.tap))
-    (sight_of c.answer_round.new.worker.pass
-    (g.F.Tap.Tap.state c.answer_round.new.worker.tap))
-    (progress_of (source_of_tap (g.F.Tap.Tap.state c.args.worker.now.tap))
+    c.args.cache.now.gate.cut n) rs done count _ _ _
+    (progress_of (source_of_crew (map (λ p. sight_of p.worker.pass
+    (g.F.Tap.Tap.state p.worker.tap)) c.args.posts.now))
     (sink_state g.O.Sink.faults g.O.Sink.holds c.args.out.now))
-    (progress_of (source_of_tap (g.F.Tap.Tap.state c.rounds.worker.tap))
+    (progress_of (source_of_crew (map (λ p. sight_of p.worker.pass
+    (g.F.Tap.Tap.state p.worker.tap)) c.rounds.posts))
     (sink_state g.O.Sink.faults g.O.Sink.holds c.rounds.out))
     (sink_state g.O.Sink.faults g.O.Sink.holds c.write_round.new.out) c.rounds.page
-    c.rounds.refused c.answer_round.new.answers.items c.rounds.invariant.so_far
-    (rw rest at c.round_len-count.ensures.round)
+    c.rounds.refused
+    (in_turn (length c.answer_round.new.posts) 0 count
+    (map (λ p. p.answers.items) c.answer_round.new.posts)) c.requires.crew.0
+    c.in_default.ensures.ok c.rounds.invariant.so_far (rw rest at c.round_len-count.ensures.round)
     (omega (arith, c.round_len-count.ensures.within))
-    (rw tasks at c.answer_round.ensures.each)
-    (rw c.deref-in-rounds.ensures.value at c.in-Err-write_round.ensures.part)
+    (rw tasks at turns)
+    c.in-Err-write_round.ensures.part
     (rises_from (g.O.Sink.faults c.args.out.now) (g.O.Sink.faults c.rounds.out)
     (g.O.Sink.faults c.write_round.new.out) c.rounds.invariant.faults
     c.in-Err-write_round.ensures.cause)

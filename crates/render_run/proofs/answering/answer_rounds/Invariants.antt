@@ -1,20 +1,24 @@
-use Rattle.std.proofs.Common.{◌≤◌, ◌-◌, length}
+use Rattle.std.proofs.Common.{◌≤◌, ◌-◌, length, map}
+use Rattle.std.specs.List.{All}
 use Rattle.image_cache.specs.Pass.{IsPassOf}
-use Rattle.render_run.specs.Around.{source_of_tap, sink_state, progress_of, setup_of, sight_of}
+use Rattle.render_run.specs.Around.{source_of_crew, sink_state, progress_of, setup_of, sight_of}
 use Rattle.render_run.specs.Answering.{SoFar}
 use Rattle.render_run.proofs.answering.answer_rounds.Given as goal
 
 -- some first rounds are answered
 abbrev pub invariant-rounds : goal.invariant-rounds
 invariant-rounds g l = record {
-  so_far : SoFar (setup_of g.F.W.World.files (g.F.Folder.state l.folder) l.cache.gate.cut 1)
-      l.requests l.done (sight_of l.worker.pass (g.F.Tap.Tap.state l.worker.tap))
-      (progress_of (source_of_tap (g.F.Tap.Tap.state l.initial.worker.tap))
+  so_far : SoFar (setup_of g.F.W.World.files (g.F.Folder.state l.folder) l.cache.gate.cut
+      (length l.initial.posts)) l.requests l.done
+      (map (λ p. sight_of p.worker.pass (g.F.Tap.Tap.state p.worker.tap)) l.posts)
+      (progress_of (source_of_crew (map (λ p. sight_of p.worker.pass
+      (g.F.Tap.Tap.state p.worker.tap)) l.initial.posts))
       (sink_state g.O.Sink.faults g.O.Sink.holds l.initial.out))
-      (progress_of (source_of_tap (g.F.Tap.Tap.state l.worker.tap))
+      (progress_of (source_of_crew (map (λ p. sight_of p.worker.pass
+      (g.F.Tap.Tap.state p.worker.tap)) l.posts))
       (sink_state g.O.Sink.faults g.O.Sink.holds l.out)) l.page l.refused;
   within : l.done ≤ length l.requests;
-  pass : IsPassOf l.cache l.worker.pass;
+  pass : All (λ p. IsPassOf l.cache p.worker.pass) l.posts;
   faults : g.O.Sink.faults l.initial.out ≤ g.O.Sink.faults l.out;
 }
 

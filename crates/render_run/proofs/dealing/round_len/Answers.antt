@@ -1,7 +1,6 @@
 use Rattle.std.proofs.Common.{◌≡◌, ◌+◌, ℕ, true, false, get_or, sym, ap, subst, ◌∙◌, arith}
-use Rattle.request_lang.specs.declared.request.Request.{Request}
 use Rattle.render_run.specs.Dealing.{texels_asked, is_sync}
-use Rattle.render_run.proofs.DealingLemmas.{DealtTo, none_dealt, one_dealt, round_by_sync}
+use Rattle.render_run.proofs.DealingLemmas.{DealtTo, one_dealt, round_by_sync}
 use Rattle.render_run.proofs.DealingLemmas.{round_by_next, round_by_end}
 use Rattle.render_run.proofs.dealing.round_len.Goals as goal
 

@@ -1,39 +1,20 @@
-use Rattle.std.proofs.Common.{◌≡◌, ◌+◌, ◌++◌, ◌∷◌, [], None, get_or, take, length, ap, arith}
-use Rattle.std.proofs.lemmas.List.{take_more, length-append}
-use Rattle.render_run.specs.declared.question.Task.{Task}
+use Rattle.std.proofs.Common.{◌<◌, ◌∙◌, length, sym}
+use Rattle.std.proofs.lemmas.List.{length-map}
 use Rattle.render_run.specs.Around.{sight_of}
-use Rattle.render_run.proofs.OneMore.{each_push}
+use Rattle.render_run.proofs.CrewLemmas.{one_of}
+use Rattle.render_run.proofs.Shares.{share_is}
 use Rattle.render_run.proofs.round.answer_round.Goals as goal
 
-pub loop-task-preserved : goal.loop-task-preserved
-loop-task-preserved g c =
-    let tasks = c.args.tasks.now in
-    let i = c.loop-task.task-index in
-    let none : Task = record { file = None; question = None } in
-    let answer = c.answer_of-answer.result in
-    let items : c.push.new.self.items ≡ c.loop-task.answers.items ++ answer ∷ [] =
-    c.in_default.ensures.items in
-    let next : take (i + 1) tasks ≡ take i tasks ++ get_or tasks i none ∷ [] =
-    take_more tasks i none c.loop-task-test.true in
-    record {
-      each =
-          rw (next, items)
-          (each_push g.T.W.World.files c.args.cache.now.gate.cut (take i tasks)
-          c.loop-task.answers.items
-          (sight_of c.args.worker.now.pass (g.T.Tap.state c.args.worker.now.tap))
-          (sight_of c.loop-task.worker.pass (g.T.Tap.state c.loop-task.worker.tap))
-          (sight_of c.answer_of-answer.new.worker.pass
-          (g.T.Tap.state c.answer_of-answer.new.worker.tap)) (get_or tasks i none) answer
-          c.loop-task.invariant.each (record {
-            meets = c.answer_of-answer.ensures.meets;
-            after = c.answer_of-answer.ensures.after;
-          }));
-      count = omega (
-        arith,
-        ap length items,
-        length-append c.loop-task.answers.items (answer ∷ []),
-        c.loop-task.invariant.count,
-      );
-      room = omega (arith, c.in_default.ensures.capacity, c.loop-task.invariant.room);
-      pass = c.answer_of-answer.ensures.pass;
-    }
+pub returns-clause-shares : goal.returns-clause-shares
+returns-clause-shares g c = record {
+  count =
+      length-map c.for_each_mut.new.s _ ∙ c.for_each_mut.auto.s ∙ sym (length-map c.args.posts.now _);
+  each = λ w low.
+      let few : w < length c.args.posts.now = rw length-map at low in
+      let d = one_of c.args.posts.now c.requires.some.0 in
+      let at = (c.for_each_mut.ensures w d few).1 in
+      share_is (λ p. sight_of p.worker.pass (g.T.Tap.state p.worker.tap)) (λ p. p.answers.items)
+      g.T.W.World.files c.args.cache.now.gate.cut c.args.tasks.now c.args.posts.now
+      c.for_each_mut.new.s c.for_each_mut.auto.s w at.argument.now at.after_call.now d few
+      at.argument_is at.left at.call.0;
+}

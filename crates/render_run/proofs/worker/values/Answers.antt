@@ -1,4 +1,4 @@
-use Rattle.std.proofs.Common.{◌≡◌, ◌*◌, ◌<◌, ◌≤◌, Ok, Err, inl, sym, ap, ◌∙◌, length, rules, arith}
+use Rattle.std.proofs.Common.{◌≡◌, ◌*◌, ◌<◌, ◌≤◌, ap, ◌∙◌, rules, arith}
 use Rattle.texel_values.specs.Region.{max_texels}
 use Rattle.image_cache.specs.declared.error.CacheError.TheVariants.{RegionTooLarge}
 use Rattle.image_cache.specs.Cause.{around}
@@ -11,7 +11,8 @@ returns-in-Ok-clause-meets g c = record {
   too_large = λ large.
       let many : max_texels < c.args.region.now.w * c.args.region.now.h = search rules in
       let none = c.in-Ok.ensures.too_large many in absurd (cc (none, c.in-Ok.is));
-  of_file = λ few.
+  full = λ full. absurd (cc full);
+  of_file = λ few one.
       rw c.new.ensures
       (region_reply g.T.W.World.files c.args.file c.args.cache.now.gate.cut
       c.args.worker.now.pass c.get_pixels.new.pass c.args.region.now c.in-Ok.pixels.generation
@@ -26,8 +27,9 @@ returns-in-Err-clause-meets g c = record {
       let many : max_texels < c.args.region.now.w * c.args.region.now.h = search rules in
       let none = c.in-Err.ensures.too_large many in
       let is : c.in-Err.e ≡ RegionTooLarge = cc (none, c.in-Err.is) in
-      inl (c.refusal.ensures ∙ ap refusal_of is);
-  of_file = λ few.
+      c.refusal.ensures ∙ ap refusal_of is;
+  full = λ full. absurd (cc full);
+  of_file = λ few one.
       let fits : c.args.region.now.w * c.args.region.now.h ≤ max_texels = search rules in
       rw c.refusal.ensures
       (region_rests (around g.T.W.World.files c.args.file c.args.cache.now.gate.cut

@@ -1,8 +1,8 @@
-use Rattle.std.proofs.Common.{ℕ, List, [], ◌∷◌, ◌++◌, refl, ap, subst, sym}
+use Rattle.std.proofs.Common.{[], ◌∷◌, ◌++◌, refl}
 use Rattle.request_lang.specs.Grammar.{line_feed}
 use Rattle.request_lang.specs.Line.{fields, head_of, values_in, line_of}
 use Rattle.render_run.specs.Around.{sink_state}
-use Rattle.render_run.specs.Page.{outgoing_of, Passes}
+use Rattle.render_run.specs.Page.{outgoing_of}
 use Rattle.render_run.proofs.Passing.{passes_more, passes_part, passes_longer, then_ok, then_part}
 use Rattle.render_run.proofs.page.Page.pass.Goals as goal
 

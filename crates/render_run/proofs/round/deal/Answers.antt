@@ -6,7 +6,7 @@ use Rattle.request_lang.specs.declared.request.Request.{Request}
 use Rattle.render_run.specs.declared.question.Task.{Task}
 use Rattle.render_run.specs.Question.{task_of}
 use Rattle.render_run.specs.Answering.{MayBeGiven}
-use Rattle.render_run.proofs.round.Round.begin.Goals as goal
+use Rattle.render_run.proofs.round.deal.Goals as goal
 
 pub loop-request-preserved : goal.loop-request-preserved
 loop-request-preserved g c =
@@ -19,7 +19,7 @@ loop-request-preserved g c =
     let next : take (i + 1) rs ≡ front ++ r ∷ [] =
     take_more rs i r c.loop-request-test.true
     ∙ ap (λ (x : Request). front ++ x ∷ []) (sym c.request-item.is) in
-    let items : c.push.new.self.items ≡ c.loop-request.self.tasks.items ++ c.of.result ∷ [] =
+    let items : c.push.new.self.items ≡ c.loop-request.tasks.items ++ c.of.result ∷ [] =
     c.in_ok-push.ensures.items in
     record {
       tasks =
@@ -30,8 +30,6 @@ loop-request-preserved g c =
           ∙ sym (ap (map f) next);
       given =
           subst (λ (ts : List Task). All given ts) (sym items)
-          (All-push given c.loop-request.self.tasks.items c.of.result
+          (All-push given c.loop-request.tasks.items c.of.result
           c.loop-request.invariant.given c.of.ensures.given);
-      empty = c.loop-request.invariant.empty;
-      room = c.loop-request.invariant.room;
     }

@@ -1,0 +1,55 @@
+use Rattle.std.proofs.Common.{◌∙◌, List, ℕ, refl, subst, arith}
+use Rattle.std.proofs.lemmas.List.{length-map}
+use Rattle.std.proofs.lemmas.List.Elements.{All-set}
+use Rattle.image_cache.specs.Pass.{IsPassOf}
+use Rattle.render_run.specs.Around.{Sight}
+use Rattle.render_run.specs.Answering.{SeesNoLess}
+use Rattle.render_run.proofs.CrewLemmas.{all_at, see_same, see_more_at, spread_more}
+use Rattle.render_run.proofs.crew.spread.Goals as goal
+
+pub loop-post-init : goal.loop-post-init
+loop-post-init g c = record {
+  seen = refl;
+  holds = refl;
+  pass = c.requires.first;
+  kept = see_same _;
+  passes = c.requires.others;
+  so_far = λ w low. absurd (omega arith);
+}
+
+pub loop-post-preserved : goal.loop-post-preserved
+loop-post-preserved g c = record {
+  seen = c.carry_to.ensures.seen ∙ c.loop-post.invariant.seen;
+  holds = c.carry_to.ensures.holds ∙ c.loop-post.invariant.holds;
+  pass = c.carry_to.ensures.pass;
+  kept = see_more_at _ _ c.loop-post.others c.loop-post.post-index _ c.post-item.result
+      (omega (arith, c.loop-post.auto.others, c.loop-post-test.true)) c.carry_to.ensures.kept
+      c.loop-post.invariant.kept;
+  passes = All-set (λ p. IsPassOf c.args.cache.now p.worker.pass) c.loop-post.others
+      c.loop-post.post-index c.carry_to.new.post c.carry_to.ensures.of
+      c.loop-post.invariant.passes;
+  so_far = spread_more _ c.args.first.now.view.seen c.loop-post.others c.loop-post.post-index _
+      (omega (arith, c.loop-post.auto.others, c.loop-post-test.true))
+      c.loop-post.invariant.so_far
+      (subst (λ (seen : List ℕ). SeesNoLess seen c.carry_to.new.post.worker.pass.view.seen)
+      c.loop-post.invariant.seen c.in_ok-carry_to.ensures.ok);
+}
+
+pub returns-in_err-carry_to-clause-kept : goal.returns-in_err-carry_to-clause-kept
+returns-in_err-carry_to-clause-kept g c =
+    see_more_at _ _ c.loop-post.others c.loop-post.post-index _ c.post-item.result
+    (omega (arith, c.loop-post.auto.others, c.loop-post-test.true)) c.carry_to.ensures.kept
+    c.loop-post.invariant.kept
+
+pub returns-in_err-carry_to-clause-passes : goal.returns-in_err-carry_to-clause-passes
+returns-in_err-carry_to-clause-passes g c =
+    All-set (λ p. IsPassOf c.args.cache.now p.worker.pass) c.loop-post.others
+    c.loop-post.post-index c.carry_to.new.post c.carry_to.ensures.of
+    c.loop-post.invariant.passes
+
+pub returns-clause-ok : goal.returns-clause-ok
+returns-clause-ok g c =
+    all_at (λ (t : Sight). SeesNoLess c.args.first.now.view.seen t.seen) _
+    (λ w low. c.loop-post.invariant.so_far w
+    (let few = rw length-map at low in
+    omega (arith, few, c.loop-post.auto.others, c.loop-post-test.false)))

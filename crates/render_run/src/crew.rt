@@ -1,0 +1,209 @@
+//! The workers of a run: each has a pass and a tap of its own. Between rounds what each has seen is
+//! carried to every other.
+
+ghost use Rattle.std.specs.Prelude.{◌≡◌, ◌+◌, ℕ, ◌<◌, ◌≤◌, [], length, map, min};
+ghost use Rattle.std.specs.Prelude.{IfOk, OnOk, OnErr};
+ghost use Rattle.tex_world.specs.Folder.{AfterBack};
+ghost use Rattle.std.specs.List.{All, sum_by};
+ghost use Rattle.tex_world.specs.Counts.{last_count};
+ghost use Rattle.tex_world.specs.Tap.{IsNew};
+ghost use Rattle.image_cache.specs.Pass.{IsPassOf, IsFresh};
+ghost use Rattle.image_cache.specs.Invalid.{RisesBy};
+ghost use Rattle.render_run.specs.Around.{sight_of, sight_at, source_of_crew};
+ghost use Rattle.render_run.specs.Answering.{SeesNoLess};
+ghost use Rattle.render_run.specs.Crew.{IsNewPost, SeeNoLess, SeesOn, SightsOn, AreCarried};
+ghost use Rattle.render_run.specs.Crew.{AddsPost, MakesMore, TakesBack};
+
+use crate::round::Post;
+use crate::worker::Worker;
+use image_cache::{Cache, Pass};
+use std::alloc::Global;
+use tex_world::{Folder, NoMemory, Tap};
+
+/// What each worker has seen is carried to every other.
+pub(crate) fn carry_all<T: Tap>(cache: &Cache<T>, posts: &mut [Post<T>]) -> Result<(), NoMemory>
+    requires pass { All (λ p. IsPassOf cache.now p.worker.pass) posts.old }
+    ensures ok { OnOk result (AreCarried
+        (map (λ p. sight_of p.worker.pass (T.state p.worker.tap)) posts.old)
+        (map (λ p. sight_of p.worker.pass (T.state p.worker.tap)) posts.new)) }
+    ensures kept { SeeNoLess
+        (map (λ p. sight_of p.worker.pass (T.state p.worker.tap)) posts.old)
+        (map (λ p. sight_of p.worker.pass (T.state p.worker.tap)) posts.new) }
+    ensures pass { All (λ p. IsPassOf cache.now p.worker.pass) posts.new }
+{
+    let Some((first, others)) = posts.split_first_mut() else {
+        return Ok(());
+    };
+    gather(cache, &mut first.worker.pass, others)?;
+    spread(cache, &mut first.worker.pass, others)
+}
+
+/// What other workers have seen is carried to a pass.
+fn gather<T: Tap>(
+    cache: &Cache<T>,
+    first: &mut Pass<T::W>,
+    others: &mut [Post<T>],
+) -> Result<(), NoMemory>
+    requires first { IsPassOf cache.now first.old }
+    requires others { All (λ p. IsPassOf cache.now p.worker.pass) others.old }
+    ensures ok { OnOk result (All (λ s. SeesNoLess s.seen first.new.view.seen)
+        (map (λ p. sight_of p.worker.pass (T.state p.worker.tap)) others.old)) }
+    ensures kept { SeesOn first.old first.new }
+    ensures pass { IsPassOf cache.now first.new }
+    ensures same { map (λ p. sight_of p.worker.pass (T.state p.worker.tap)) others.new
+        ≡ map (λ p. sight_of p.worker.pass (T.state p.worker.tap)) others.old }
+    ensures passes { All (λ p. IsPassOf cache.now p.worker.pass) others.new }
+{
+    for post in others.iter_mut() {
+        carry_from(cache, post, first)?;
+    }
+    Ok(())
+}
+
+/// What a worker has seen is carried to a pass.
+fn carry_from<T: Tap>(
+    cache: &Cache<T>,
+    post: &mut Post<T>,
+    to: &mut Pass<T::W>,
+) -> Result<(), NoMemory>
+    requires post { IsPassOf cache.now post.old.worker.pass }
+    requires to { IsPassOf cache.now to.old }
+    ensures ok { OnOk result (SeesNoLess post.old.worker.pass.view.seen to.new.view.seen) }
+    ensures kept { SeesOn to.old to.new }
+    ensures pass { IsPassOf cache.now to.new }
+    ensures same { sight_of post.new.worker.pass (T.state post.new.worker.tap)
+        ≡ sight_of post.old.worker.pass (T.state post.old.worker.tap) }
+    ensures of { IsPassOf cache.now post.new.worker.pass }
+{
+    cache.carry(&mut post.worker.pass, to)
+}
+
+/// What a pass has seen is carried to other workers.
+fn spread<T: Tap>(
+    cache: &Cache<T>,
+    first: &mut Pass<T::W>,
+    others: &mut [Post<T>],
+) -> Result<(), NoMemory>
+    requires first { IsPassOf cache.now first.old }
+    requires others { All (λ p. IsPassOf cache.now p.worker.pass) others.old }
+    ensures ok { OnOk result (All (λ s. SeesNoLess first.old.view.seen s.seen)
+        (map (λ p. sight_of p.worker.pass (T.state p.worker.tap)) others.new)) }
+    ensures seen { first.new.view.seen ≡ first.old.view.seen }
+    ensures holds { first.new.pinned.holds ≡ first.old.pinned.holds }
+    ensures pass { IsPassOf cache.now first.new }
+    ensures kept { SeeNoLess
+        (map (λ p. sight_of p.worker.pass (T.state p.worker.tap)) others.old)
+        (map (λ p. sight_of p.worker.pass (T.state p.worker.tap)) others.new) }
+    ensures passes { All (λ p. IsPassOf cache.now p.worker.pass) others.new }
+{
+    for post in others.iter_mut() {
+        carry_to(cache, first, post)?;
+    }
+    Ok(())
+}
+
+/// What a pass has seen is carried to a worker.
+fn carry_to<T: Tap>(
+    cache: &Cache<T>,
+    from: &mut Pass<T::W>,
+    post: &mut Post<T>,
+) -> Result<(), NoMemory>
+    requires from { IsPassOf cache.now from.old }
+    requires post { IsPassOf cache.now post.old.worker.pass }
+    ensures ok { OnOk result (SeesNoLess from.old.view.seen post.new.worker.pass.view.seen) }
+    ensures seen { from.new.view.seen ≡ from.old.view.seen }
+    ensures holds { from.new.pinned.holds ≡ from.old.pinned.holds }
+    ensures pass { IsPassOf cache.now from.new }
+    ensures kept { SightsOn (sight_of post.old.worker.pass (T.state post.old.worker.tap))
+        (sight_of post.new.worker.pass (T.state post.new.worker.tap)) }
+    ensures of { IsPassOf cache.now post.new.worker.pass }
+{
+    cache.carry(from, &mut post.worker.pass)
+}
+
+/// Makes so many workers: the first has this pass, the others have passes that are split off it, and
+/// each has a tap of its own. Where no memory is found some are made.
+pub(crate) fn man<F: Folder>(
+    alloc: Global,
+    cache: &Cache<F::Tap>,
+    pass: Pass<F::W>,
+    folder: &mut F,
+    posts: &mut Vec<Post<F::Tap>>,
+    workers: usize,
+) -> Result<(), NoMemory>
+    requires pass { IsPassOf cache.now pass }
+    requires fresh { IsFresh pass }
+    requires empty { posts.old.items ≡ [] }
+    requires some { 0 < workers }
+    ensures count { OnOk result (length posts.new.items ≡ workers) }
+    ensures new { All (λ p. IsNewPost cache.now p.worker.pass (F.Tap.state p.worker.tap))
+        posts.new.items }
+    ensures made { MakesMore (length posts.new.items) (F.state folder.old) (F.state folder.new) }
+{
+    add(alloc, folder, posts, pass)?;
+    'posts: while posts.len() < workers {
+        let pass = split_off(cache, &mut posts[0])?;
+        add(alloc, folder, posts, pass)?;
+    }
+    Ok(())
+}
+
+/// A pass that is split off that of a worker.
+fn split_off<T: Tap>(cache: &Cache<T>, post: &mut Post<T>) -> Result<Pass<T::W>, NoMemory>
+    requires { IsNewPost cache.now post.old.worker.pass (T.state post.old.worker.tap) }
+    ensures of { IfOk result (IsPassOf cache.now) }
+    ensures fresh { IfOk result IsFresh }
+    ensures new { IsNewPost cache.now post.new.worker.pass (T.state post.new.worker.tap) }
+{
+    match cache.split(&mut post.worker.pass) {
+        Ok(pass) => Ok(pass),
+        Err(_) => Err(NoMemory),
+    }
+}
+
+/// One worker more, which has this pass.
+fn add<F: Folder>(
+    alloc: Global,
+    folder: &mut F,
+    posts: &mut Vec<Post<F::Tap>>,
+    pass: Pass<F::W>,
+) -> Result<(), NoMemory>
+    ensures ok { OnOk result (AddsPost pass posts.old.items posts.new.items
+        (λ p. p.worker.pass) (λ p. IsNew (F.Tap.state p.worker.tap))) }
+    ensures err { OnErr result (posts.new.items ≡ posts.old.items) }
+    ensures made { OnOk result (MakesMore 1 (F.state folder.old) (F.state folder.new)) }
+    ensures none { OnErr result (MakesMore 0 (F.state folder.old) (F.state folder.new)) }
+{
+    let Ok(()) = posts.reserve(1) else {
+        return Err(NoMemory);
+    };
+    let tap = folder.tap(alloc)?;
+    let answers = Vec::new(alloc);
+    let worker = Worker { pass, tap };
+    if let Err(_refused) = posts.push(Post { worker, answers }) {
+        unreachable!()
+    }
+    Ok(())
+}
+
+/// The taps of all workers are given back.
+pub(crate) fn give_back<F: Folder>(folder: &mut F, mut posts: Vec<Post<F::Tap>>)
+where
+    F::Tap: Drop,
+    ensures { TakesBack (length posts.items)
+        (source_of_crew (map (λ p. sight_of p.worker.pass (F.Tap.state p.worker.tap)) posts.items))
+        (F.state folder.old) (F.state folder.new) }
+{
+    'posts: while let Some(post) = posts.pop() {
+        give_one(folder, post);
+    }
+}
+
+/// The tap of a worker is given back.
+fn give_one<F: Folder>(folder: &mut F, post: Post<F::Tap>)
+    ensures { AfterBack (F.Tap.state post.worker.tap) (F.state folder.old) (F.state folder.new) }
+{
+    let Post { worker, answers: _ } = post;
+    let Worker { pass: _, tap } = worker;
+    folder.back(tap);
+}
