@@ -7,7 +7,7 @@ use image_cache::{Cache, Options, Pass};
 use std::alloc::Global;
 use std::test::Fail;
 use tex_world::{Folder, Tap};
-use tile_layout::Cut;
+use tiff_format::Cut;
 
 /// Cells of 16 by 16, and no generated level.
 pub(crate) const CUT: Cut = Cut {

@@ -10,7 +10,7 @@ use image_cache::Options;
 use std::alloc::Global;
 use std::test::Fail;
 use tex_world::{FailByte, FailCall, Folder, MemFolder, MemTap, Newest, Plan, Rise, Tap};
-use tile_layout::Cut;
+use tiff_format::Cut;
 use waiter::Tries;
 
 /// The tap of which nothing is planned.

@@ -5,7 +5,7 @@ use std::alloc::Global;
 use std::fmt::Display;
 use std::test::Fail;
 use tex_world::{MemTap, Tap};
-use tile_layout::Cut;
+use tiff_format::Cut;
 use waiter::GaveUp;
 
 // Budget, shards, passes, handles and autotile, and the number of the first that is out of its

@@ -10,7 +10,7 @@ use image_cache::Options;
 use std::test::Fail;
 use texel_filter::Filter::Bilinear;
 use texel_filter::Wrap::Clamp;
-use tile_layout::Cut;
+use tiff_format::Cut;
 
 // The middle of `A`, whose four texels are 17, 18, 33 and 34, and 100 more in generation 2: their
 // means are 6553.5 and 32253.5.

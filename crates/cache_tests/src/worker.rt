@@ -6,8 +6,9 @@ ghost use Rattle.image_cache.specs.Pass.{IsPassOf};
 use crate::asks::{Answer, Ask, Look, refusal};
 use image_cache::{Cache, NotReleased, Pass, Region, TexelAt};
 use tex_world::Tap;
-use texel_filter::{MAX_CHANNELS, TexRequest};
+use texel_filter::TexRequest;
 use texture_sys::{texture, texture_local};
+use tiff_format::MAX_CHANNELS;
 use waiter::Waiter;
 
 /// A pass of a cache of five files and so many shards, the taps that it may use, and the values

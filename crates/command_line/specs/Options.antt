@@ -4,7 +4,7 @@ use Rattle.std.specs.Prelude.{false}
 use Rattle.std.specs.Option.{option_map_or}
 use Rattle.std.specs.Str.{bytes_eq}
 use Rattle.clap.specs.Words.{Row, Text, first_of}
-use Rattle.tile_layout.specs.Cut.{IsCut}
+use Rattle.tiff_format.specs.Cut.{IsCut}
 use Rattle.command_line.specs.declared.range.NumberRange.{NumberRange}
 use Rattle.command_line.specs.declared.options.Options.{Options}
 use Rattle.command_line.specs.Range as range

@@ -2,6 +2,7 @@
 use Rattle.std.specs.Prelude.{ℕ, ◌%◌, ◌==◌, ◌&&◌, ◌^◌, nat_le, List, Option, Some, None}
 use Rattle.std.specs.Prelude.{if◌then◌else◌, option_and_then}
 use Rattle.request_lang.specs.LineField.{digits_number}
+use Rattle.tiff_format.specs.Cut.{autotile_step, max_autotile}
 use Rattle.command_line.specs.declared.range.NumberRange.{NumberRange}
 
 -- from the least to the most in steps
@@ -43,4 +44,4 @@ handles = range 1 1024 1 100
 
 -- --autotile
 abbrev pub autotile : NumberRange
-autotile = range 0 4096 16 64
+autotile = range 0 max_autotile autotile_step 64

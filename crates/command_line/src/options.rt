@@ -6,7 +6,7 @@ ghost use Rattle.command_line.specs.Options as spec;
 
 use crate::range::{AUTOTILE, BUDGET, HANDLES, NumberRange, SHARDS, WORKERS, number_or_default};
 use clap::ArgMatches;
-use tile_layout::Cut;
+use tiff_format::Cut;
 
 /// The options of a run.
 #[derive(Clone, Copy, Debug, PartialEq, Eq)]

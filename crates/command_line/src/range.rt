@@ -5,6 +5,7 @@ ghost use Rattle.std.specs.Option.{IfSome, option_map};
 ghost use Rattle.command_line.specs.Range as spec;
 
 use request_lang::digits_number;
+use tiff_format::{AUTOTILE_STEP, MAX_AUTOTILE};
 
 /// The numbers that an option takes, and the one that it has where it is not given.
 #[derive(Clone, Copy, Debug, PartialEq, Eq)]
@@ -54,8 +55,8 @@ pub(crate) const HANDLES: NumberRange = NumberRange {
 /// The side of the cells of a level in strips, 0 for none.
 pub(crate) const AUTOTILE: NumberRange = NumberRange {
     least: 0,
-    most: 4096,
-    step: 16,
+    most: MAX_AUTOTILE as u64,
+    step: AUTOTILE_STEP as u64,
     default: 64,
 };
 

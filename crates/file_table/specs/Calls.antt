@@ -5,7 +5,7 @@ use Rattle.tex_world.specs.Counts.{Rises, RisesByOne}
 use Rattle.tex_world.specs.World.{Files, IsReal}
 use Rattle.tex_world.specs.Tap.{Named, TapState}
 use Rattle.gen_board.specs.View.{ViewState, IsLater}
-use Rattle.tile_layout.specs.declared.cut.Cut.{Cut}
+use Rattle.tiff_format.specs.declared.cut.Cut.{Cut}
 use Rattle.file_table.specs.Record.{RecordState, IsRecord}
 use Rattle.file_table.specs.declared.error.RecordError.{RecordError}
 use Rattle.file_table.specs.declared.error.RecordError.TheVariants as reading

@@ -1,7 +1,7 @@
 -- What is known of a table of files?
 use Rattle.std.specs.Prelude.{◌≡◌, ℕ, ◌<◌, List, length, slice_index}
 use Rattle.gen_board.specs.View.{BoardId}
-use Rattle.tile_layout.specs.declared.cut.Cut.{Cut}
+use Rattle.tiff_format.specs.declared.cut.Cut.{Cut}
 
 -- Which board it has, the most handles that lie idle in it, and the cut that its files are used
 -- under.

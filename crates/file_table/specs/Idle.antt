@@ -23,7 +23,7 @@ pub record IsLeft {H : Type 0} (file : ℕ) (old new : LruCache ℕ H) (taken : 
 
 -- The handle is the one of its file, before all others. What comes back is the handle that stood
 -- there, or the last one where there were as many as may be.
-pub record Settles {H : Type 0} (file : ℕ) (handle : H) (old new : LruCache ℕ H) (out : Option H)
+pub record TakesHandle {H : Type 0} (file : ℕ) (handle : H) (old new : LruCache ℕ H) (out : Option H)
     : Type 0 where
   pub entries : new.entries ≡ put_entries nat_eq old file handle
   pub back : out ≡ option_map (λ e. e.1) (displaced nat_eq old file handle)

@@ -1,7 +1,7 @@
 ghost use Rattle.std.specs.Prelude.{◌≡◌, ℕ, ◌<◌, ◌≤◌, IfOk, IfErr, IfSome, slice_index};
 ghost use Rattle.tex_world.specs.World.{IsFile, IsReal};
 ghost use Rattle.gen_board.specs.View.{IsNewView};
-ghost use Rattle.tile_layout.specs.Cut.{IsCut};
+ghost use Rattle.tiff_format.specs.Cut.{IsCut};
 ghost use Rattle.file_table.specs.Calls.{sighted, RaisesIfAtAll, LooksOnce, OpensOnce};
 ghost use Rattle.file_table.specs.Files.{HasLocks};
 ghost use Rattle.file_table.specs.Calls.{GivesRecord, IsAsSeen, OpensIfAtAll, RecordCause};
@@ -18,7 +18,7 @@ use std::marker::Model;
 use std::sync::Arc;
 use tag_lock::TagLock;
 use tex_world::{NoMemory, Tap, World};
-use tile_layout::Cut;
+use tiff_format::Cut;
 use waiter::Waiter;
 
 /// The lock of a file's record. Its tag is the number of the file.
@@ -40,7 +40,7 @@ pub struct Files<T: Tap> {
 }
 
 impl<T: Tap> Model for Files<T> {
-    ghost use Rattle.tile_layout.specs.Cut.{IsCut};
+    ghost use Rattle.tiff_format.specs.Cut.{IsCut};
     ghost use Rattle.file_table.specs.Files.{FilesState, HasLocks};
 
     ghost Value = { FilesState };

@@ -2,7 +2,7 @@ ghost use Rattle.std.specs.Prelude.{◌≡◌, ◌↔◌, ◌⊎◌, ◌<◌, �
 ghost use Rattle.std.specs.Prelude.{None, IsTrue, IfOk, IfSome, IsSome};
 ghost use Rattle.std.specs.List.{IsDistinct};
 ghost use Rattle.std.specs.Map.{keys_of, lookup};
-ghost use Rattle.file_table.specs.Idle.{AreOwn, HasNewer, IsLeft, Settles, Declines};
+ghost use Rattle.file_table.specs.Idle.{AreOwn, HasNewer, IsLeft, TakesHandle, Declines};
 
 use lru::LruCache;
 use std::alloc::{AllocFailed, Global};
@@ -96,12 +96,12 @@ impl<H: TapHandle + Drop> IdleHandles<H> {
             Declines handle self.old self.new result }
         ensures value { (HasNewer H.named self.old.entries
             (H.named handle).file (H.named handle).generation → ⊥) →
-            Settles (H.named handle).file handle self.old self.new result
+            TakesHandle (H.named handle).file handle self.old self.new result
             ⊎ Declines handle self.old self.new result }
         ensures there { IsSome (lookup (nat_eq (H.named handle).file) self.old.entries) →
             (HasNewer H.named self.old.entries
             (H.named handle).file (H.named handle).generation → ⊥) →
-            Settles (H.named handle).file handle self.old self.new result }
+            TakesHandle (H.named handle).file handle self.old self.new result }
     {
         let file = handle.file();
         if self.has_newer(file, handle.generation()) {

@@ -7,7 +7,7 @@ use std::mem;
 use std::sync::Arc;
 use tag_lock::TagRule;
 use tex_world::World;
-use tile_layout::Cut;
+use tiff_format::Cut;
 
 /// The newest record that is known of a file, if there is one.
 #[derive(Drop)]

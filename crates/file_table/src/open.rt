@@ -2,7 +2,7 @@
 ghost use Rattle.std.specs.Prelude.{◌≡◌, ◌≤◌, IfOk, IfErr};
 ghost use Rattle.tex_world.specs.World.{IsFile};
 ghost use Rattle.tex_world.specs.Tap.{IsLeast};
-ghost use Rattle.tile_layout.specs.Cut.{IsCut};
+ghost use Rattle.tiff_format.specs.Cut.{IsCut};
 ghost use Rattle.file_table.specs.Calls.{OpensOnce, OpenedCause, ReadsOnly};
 
 use crate::error::RecordError;
@@ -11,7 +11,8 @@ use std::alloc::Global;
 use tap_reader::TapReader;
 use tex_world::{OpenError, ReadError, Tap, TapHandle};
 use tiff_dirs::{DirsError, read_dirs};
-use tile_layout::{Cut, Layout};
+use tiff_format::Cut;
+use tile_layout::Layout;
 
 /// Opens a file at a generation that is at least `least`, and reads its record.
 pub(crate) fn open_record<T: Tap, B>(

@@ -1,13 +1,13 @@
 ghost use Rattle.std.specs.Prelude.{◌≡◌, ℕ, ◌^◌, ◌<◌, ◌≤◌, length, Ok, Err, MatchResult, IfOk};
 ghost use Rattle.std.specs.Option.{ForSome};
 ghost use Rattle.tex_world.specs.World.{IsReal, last_generation, max_files};
-ghost use Rattle.tiff_dirs.specs.Level.{max_levels};
-ghost use Rattle.tile_layout.specs.Cut.{IsCut};
+ghost use Rattle.tiff_format.specs.Level.{max_levels};
+ghost use Rattle.tiff_format.specs.Cut.{IsCut};
 ghost use Rattle.tile_layout.specs.Grid.{shown_grid};
 ghost use Rattle.tile_layout.specs.Halving.{HalvesWithinCells};
 ghost use Rattle.tile_layout.specs.Key.{index_bits, index_of, key_of, HasParts};
 ghost use Rattle.tile_layout.specs.Cell.{channels_in, bit_depth_in};
-ghost use Rattle.tiff_dirs.specs.Facts.{IsChannelCount};
+ghost use Rattle.tiff_format.specs.Facts.{IsChannelCount};
 ghost use Rattle.file_table.specs.Record.{layout_of, HasCutLevel, CountsLevels, CutsLevel};
 ghost use Rattle.file_table.specs.Record.{TellsFit, AreLevelsOf};
 
@@ -15,8 +15,8 @@ use crate::known_level::KnownLevel;
 use std::alloc::{AllocError, Global};
 use std::marker::{Model, PhantomData};
 use tex_world::World;
-use tiff_dirs::TiffFault;
-use tile_layout::{Cut, Grid, Layout, TileKey};
+use tiff_format::{Cut, TiffFault};
+use tile_layout::{Grid, Layout, TileKey};
 
 /// The number of the last file that a folder can have.
 const LAST_FILE: u32 = 4095;

@@ -7,8 +7,9 @@ use std::alloc::{AllocError, Global};
 use std::fmt::Write;
 use std::process::Abort;
 use std::test::Fail;
-use tiff_dirs::{Dir, DirsError, read_dirs};
-use tiff_plain::{PlainShape, first_fault, is_big, is_whole_chain, level_of, stored_levels};
+use tiff_dirs::{DirsError, read_dirs};
+use tiff_format::Dir;
+use tiff_plain::{PlainShape, directory_level, first_fault, is_big, is_whole_chain, stored_levels};
 
 /// What is known of a level without its offsets.
 pub(crate) fn shape_of(dir: &Dir) -> PlainShape {
@@ -95,7 +96,7 @@ fn plain(alloc: Global, bytes: &[u8]) -> Result<String, Fail> {
     let mut text = String::new(alloc);
     let mut before = mark(is_big(bytes));
     for number in 0..stored_levels(bytes) {
-        let level = level_of(alloc, bytes, number)?;
+        let level = directory_level(alloc, bytes, number)?;
         let offsets = widened(alloc, &level.offsets)?;
         push_level(&mut text, before, level.shape, &offsets)?;
         before = ";";

@@ -13,7 +13,8 @@ use tex_world::{
     FailByte, Folder, MemFolder, MemTap, Plan, Rise, TableWorld, Tap, TapHandle, World,
 };
 use tiff_dirs::read_dirs;
-use tile_layout::{Layout, Rect, TileKey};
+use tiff_format::Rect;
+use tile_layout::{Layout, TileKey};
 use tile_load::{LoadError, load_at};
 use tile_store::{Shard, Tile};
 

@@ -1,7 +1,7 @@
 //! The levels of a file, how their samples are stored, and where the texels of a rectangle lie.
 
 ghost use Rattle.std.specs.Prelude.{◌+◌, ◌<◌, ◌≤◌, ◌↔◌, IfSome, IsTrue};
-ghost use Rattle.tile_layout.specs.Cut.{IsCut};
+ghost use Rattle.tiff_format.specs.Cut.{IsCut};
 ghost use Rattle.tile_layout.specs.Kept.{stored_count};
 ghost use Rattle.tile_layout.specs.Pieces.{LiesOnLevel};
 
@@ -10,7 +10,8 @@ use crate::mem_reader::MemReader;
 use std::alloc::Global;
 use std::test::Fail;
 use tiff_dirs::read_dirs;
-use tile_layout::{Cut, Layout, Piece, Rect, TexelFormat};
+use tiff_format::{Cut, Rect};
+use tile_layout::{Layout, Piece, TexelFormat};
 
 /// 131072 by 1.
 const WIDEST: &str = "A to=131194 12=4 18=0,0,2,0 30=1 102=1";

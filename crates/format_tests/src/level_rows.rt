@@ -5,7 +5,8 @@ use crate::built_files::wall;
 use crate::mem_reader::MemReader;
 use std::process::Abort;
 use std::test::Fail;
-use tiff_dirs::{Dir, read_dirs};
+use tiff_dirs::read_dirs;
+use tiff_format::Dir;
 use tiff_plain::{PlainShape, first_fault, stored_levels};
 
 const ROWS: &str = "\

@@ -1,6 +1,7 @@
 //! Rectangles of levels, read at once, beside what the plain program finds texel by texel.
 ghost use Rattle.std.specs.Prelude.{◌≡◌, ◌<◌, None};
-ghost use Rattle.tiff_dirs.specs.Level.{first_fault as fault_of, stored_levels as levels_in};
+ghost use Rattle.tiff_format.specs.Fault.{first_fault as fault_of};
+ghost use Rattle.tiff_format.specs.Level.{stored_levels as levels_in};
 
 use crate::files::file_of;
 use crate::layouts::{Place, layout_in, rect_on};
@@ -9,7 +10,7 @@ use crate::rects::{GAP, STRIPS};
 use std::alloc::Global;
 use std::process::Abort;
 use std::test::Fail;
-use tiff_plain::{PlainShape, first_fault, level_of, sample_at, stored_levels};
+use tiff_plain::{PlainShape, directory_level, first_fault, sample_at, stored_levels};
 use tile_layout::Layout;
 use tile_load::read_rect;
 
@@ -88,7 +89,7 @@ fn agrees_on(
     requires good { fault_of bytes.now ≡ None }
     requires stored { level < levels_in bytes.now }
 {
-    let shape = level_of(alloc, bytes, level)?.shape;
+    let shape = directory_level(alloc, bytes, level)?.shape;
     let own = on_level(place, shape);
     let Some(rect) = rect_on(layout, level, own) else {
         return Ok(false);

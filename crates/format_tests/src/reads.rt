@@ -5,7 +5,8 @@ use crate::mem_reader::{Failed, MemReader};
 use crate::reads::Outcome::{Fault, Levels};
 use std::alloc::Global;
 use std::test::Fail;
-use tiff_dirs::{Dirs, DirsError, TiffFault, read_dirs};
+use tiff_dirs::{DirsError, read_dirs};
+use tiff_format::{Dirs, TiffFault};
 
 /// How many levels a file has, or its first fault.
 #[derive(Clone, Copy, PartialEq, Eq)]

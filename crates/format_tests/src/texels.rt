@@ -2,7 +2,7 @@
 
 use crate::files::file_of;
 use std::test::Fail;
-use tiff_dirs::Form;
+use tiff_format::Form;
 use tiff_plain::{directory_place, first_fault, sample_at, stored_levels, value_at};
 
 /// A file, level, column, row and channel, and the sample and the value that stand there.

@@ -2,7 +2,8 @@
 use crate::untold::Untold;
 use std::alloc::{AllocError, Global};
 use std::test::Fail;
-use tile_layout::{Rect, TileKey};
+use tiff_format::Rect;
+use tile_layout::TileKey;
 use tile_store::Tile;
 
 // The texel is in the tile, and a sample of it is this.

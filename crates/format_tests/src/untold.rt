@@ -4,7 +4,8 @@ ghost use Rattle.format_tests.specs.Untold.{untold, untold_is_world};
 
 use std::alloc::{AllocError, Global};
 use tex_world::World;
-use tile_layout::{Rect, TileKey};
+use tiff_format::Rect;
+use tile_layout::TileKey;
 use tile_store::{Shard, Tile};
 
 pub type OneShard = Shard<Untold>;

@@ -3,7 +3,7 @@ use Rattle.std.proofs.Common.{◌≡◌, ℕ, ◌<◌, Bool, false, refl, sym, a
 use Rattle.std.proofs.Common.{Option, Some, None}
 use Rattle.std.specs.Prelude.{IsOkAnd, IsSomeAnd}
 use Rattle.tex_world.specs.Tap.{Named}
-use Rattle.tile_layout.specs.declared.cut.Cut.{Cut}
+use Rattle.tiff_format.specs.declared.cut.Cut.{Cut}
 use Rattle.tile_layout.specs.Key.{level_of, index_of}
 use Rattle.tile_layout.specs.Kept.{Kept, stored_count}
 use Rattle.tile_layout.specs.Level.{level_count_in}

@@ -9,7 +9,7 @@ use Rattle.std.proofs.Common.{take, drop}
 use Rattle.std.proofs.lemmas.List.FromFn.{map-range_with_len_more}
 use Rattle.tex_world.specs.World.{Files}
 use Rattle.tex_world.specs.Tap.{TapState}
-use Rattle.tile_layout.specs.declared.rect.Rect.{Rect}
+use Rattle.tiff_format.specs.declared.rect.Rect.{Rect}
 use Rattle.tile_layout.specs.Cell.{HoldsTexel}
 use Rattle.tile_store.specs.Tile.{CachedTile}
 use Rattle.gen_board.specs.View.{ViewState}
@@ -30,8 +30,8 @@ use Rattle.image_cache.specs.Pass.{counted_together, max_count, SameCounts}
 use Rattle.image_cache.specs.Call.{Needs, AfterNeed, LeavesNoHand, NoneFalls}
 use Rattle.image_cache.specs.Call.{KeepsGiven}
 use Rattle.image_cache.specs.Region.{area_keys, ReadsRegion}
-use Rattle.tiff_dirs.specs.declared.fault.TiffFault.{TiffFault}
-use Rattle.tile_layout.specs.declared.cut.Cut.{Cut}
+use Rattle.tiff_format.specs.declared.fault.TiffFault.{TiffFault}
+use Rattle.tiff_format.specs.declared.cut.Cut.{Cut}
 use Rattle.tile_layout.specs.declared.grid.Grid.{Grid}
 use Rattle.tile_layout.specs.Grid.{shown_grid}
 use Rattle.tile_layout.specs.Kept.{Kept, kept_of}

@@ -2,8 +2,8 @@
 use Rattle.std.proofs.Common.{◌≡◌, ◌++◌, ◌∷◌, [], ◌<◌, List, Result, Ok, Err, Option, Some, None, sym, ap, ◌∙◌}
 use Rattle.std.specs.Prelude.{IsTrue, IsOkAnd, IsSomeAnd, IfSome}
 use Rattle.tex_world.specs.World.{Files}
-use Rattle.tiff_dirs.specs.declared.fault.TiffFault.{TiffFault}
-use Rattle.tile_layout.specs.declared.cut.Cut.{Cut}
+use Rattle.tiff_format.specs.declared.fault.TiffFault.{TiffFault}
+use Rattle.tiff_format.specs.declared.cut.Cut.{Cut}
 use Rattle.tile_layout.specs.Kept.{Kept}
 use Rattle.tile_layout.specs.Cell.{CellsFit}
 use Rattle.tile_store.specs.Tile.{CachedTile}

@@ -8,14 +8,14 @@ use Rattle.std.proofs.lemmas.Bool.{eqb-true, eq-eqb, and_parts}
 use Rattle.std.proofs.lemmas.Cmp.{nat_eq_equiv}
 use Rattle.std.proofs.lemmas.List.Elements.{All-nil, All-cons, All-head, All-tail}
 use Rattle.tex_world.specs.World.{Files}
-use Rattle.tiff_dirs.specs.declared.fault.TiffFault.{TiffFault}
-use Rattle.tile_layout.specs.declared.rect.Rect.{Rect}
+use Rattle.tiff_format.specs.declared.fault.TiffFault.{TiffFault}
+use Rattle.tiff_format.specs.declared.rect.Rect.{Rect}
 use Rattle.tile_layout.specs.Key.{generation_of, file_of, level_of, index_of}
 use Rattle.tile_layout.specs.Kept.{Kept, kept_of}
 use Rattle.tile_layout.specs.Cell.{cell_rect, cut_level_in}
 use Rattle.tile_store.specs.Tile.{CachedTile}
 use Rattle.tile_store.specs.Lawful.{FitsCut}
-use Rattle.tile_store.specs.Lawful.{IsCellOf as IsCellTileOf}
+use Rattle.tile_store.specs.Lawful.{IsTileUnder as IsCellTileOf}
 use Rattle.file_table.specs.Record.{RecordState, IsRecord}
 use Rattle.tile_load.proofs.KnownLayouts.{layout_told}
 use Rattle.micro.specs.Runs.{IsAsked}

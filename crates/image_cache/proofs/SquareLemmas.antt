@@ -3,13 +3,13 @@ use Rattle.std.proofs.Common.{◌≡◌, ℕ, ◌+◌, ◌<◌, ◌≤◌, ◌/�
 use Rattle.std.proofs.Common.{◌∙◌, arith, List, Result, Ok, Err, Option, Some, None, min, length}
 use Rattle.std.specs.Prelude.{IsOkAnd, IfOk, IsSomeAnd}
 use Rattle.std.proofs.lemmas.Nat.{div-mul-add, div-add-mod'}
-use Rattle.tiff_dirs.specs.declared.fault.TiffFault.{TiffFault}
+use Rattle.tiff_format.specs.declared.fault.TiffFault.{TiffFault}
 use Rattle.tex_world.specs.World.{Files, IsWorld}
 use Rattle.texel_filter.specs.declared.square.Square.{Square}
 use Rattle.texel_filter.specs.declared.square.Corners.{Corners}
 use Rattle.texel_filter.specs.Square.{AreCorners}
-use Rattle.tile_layout.specs.declared.cut.Cut.{Cut}
-use Rattle.tile_layout.specs.declared.rect.Rect.{Rect}
+use Rattle.tiff_format.specs.declared.cut.Cut.{Cut}
+use Rattle.tiff_format.specs.declared.rect.Rect.{Rect}
 use Rattle.tile_layout.specs.Kept.{Kept}
 use Rattle.tile_layout.specs.Key.{key_of, generation_of, file_of, level_of}
 use Rattle.tile_layout.specs.Value.{channel_value_of}
@@ -30,7 +30,7 @@ use Rattle.pinned_tiles.specs.Cell.{has_cell, StandsFirst}
 use Rattle.micro.specs.Items.{key_first}
 use Rattle.pinned_tiles.proofs.TurnLemmas.{stands_has}
 use Rattle.image_cache.specs.Pass.{PassState, counted, counted_together}
-use Rattle.image_cache.specs.Texel.{index_at, cell_of, IsCellIn, IsCellAt, has_cell_by}
+use Rattle.image_cache.specs.Texel.{cell_number_at, cell_of, IsCellIn, IsCellAt, has_cell_by}
 use Rattle.image_cache.specs.Texel.{has_cell_at, IsTexelOf, IsTexelIn}
 use Rattle.image_cache.specs.Call.{CountsNeed, KeepsAllButRecent}
 use Rattle.image_cache.specs.Square.{left_top, right_top, left_bottom, right_bottom}
@@ -41,8 +41,8 @@ use Rattle.image_cache.proofs.TexelLemmas.{at_cell, asks_at, told_by_record}
 
 -- the cell of a texel is that of another of its level in the same cell
 cell_alike : (generation file : ℕ) (cut : Cut) (kept : Kept) (level x y v u : ℕ)
-    → index_at kept cut (record { level = level; x = v; y = u })
-    ≡ index_at kept cut (record { level = level; x = x; y = y })
+    → cell_number_at kept cut (record { level = level; x = v; y = u })
+    ≡ cell_number_at kept cut (record { level = level; x = x; y = y })
     → cell_of generation file cut kept (record { level = level; x = x; y = y })
     ≡ cell_of generation file cut kept (record { level = level; x = v; y = u })
 cell_alike generation file cut kept level x y v u same = ap
@@ -243,7 +243,7 @@ module _ (state : RecordState) (square : Square) (cell : CellAt) (grid : Grid)
           → IsOkAnd layout (λ kept. LieInOne kept state.cut square)
       by (Ok kept) cut here =
           let level = cut_level_in kept state.cut square.level in
-          let i = index_at kept state.cut (left_top square) in
+          let i = cell_number_at kept state.cut (left_top square) in
           let has = has_cells_in state kept square.level grid cut in
           let rect : cell.rect ≡ cell_rect level i = ap (λ (c : CellAt). c.rect) here in
           let one : HoldsTexel (cell_rect level i) square.left square.top =

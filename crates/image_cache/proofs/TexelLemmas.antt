@@ -9,7 +9,7 @@ use Rattle.image_cache.specs.declared.error.CacheError.{CacheError}
 use Rattle.image_cache.specs.declared.error.CacheError.TheVariants as refused
 use Rattle.std.specs.Prelude.{IsOkAnd, IfOk, IsSomeAnd, IsTrue}
 use Rattle.tex_world.specs.World.{Files, IsWorld}
-use Rattle.tiff_dirs.specs.declared.fault.TiffFault.{TiffFault}
+use Rattle.tiff_format.specs.declared.fault.TiffFault.{TiffFault}
 use Rattle.tile_layout.specs.Key.{generation_of, file_of, level_of}
 use Rattle.tile_layout.specs.Kept.{Kept}
 use Rattle.tile_layout.specs.Level.{level_count_in}

@@ -9,7 +9,7 @@ use Rattle.file_table.specs.Record.{RecordState}
 use Rattle.file_table.specs.Calls.{KeepsView, Sighted, GivesRecord}
 use Rattle.micro.specs.Items.{key_first}
 use Rattle.micro.specs.Runs.{AreAsked}
-use Rattle.tile_layout.specs.declared.cut.Cut.{Cut}
+use Rattle.tiff_format.specs.declared.cut.Cut.{Cut}
 use Rattle.tile_layout.specs.Cell.{CellsFit}
 use Rattle.tile_store.specs.Tile.{CachedTile}
 use Rattle.tile_store.specs.Lawful.{FitsCut}

@@ -5,8 +5,8 @@ use Rattle.tex_world.specs.Counts.{Rises}
 use Rattle.tex_world.specs.World.{Files, IsReal}
 use Rattle.tex_world.specs.Tap.{TapState}
 use Rattle.gen_board.specs.View.{ViewState}
-use Rattle.tiff_dirs.specs.declared.fault.TiffFault.{TiffFault}
-use Rattle.tile_layout.specs.declared.cut.Cut.{Cut}
+use Rattle.tiff_format.specs.declared.fault.TiffFault.{TiffFault}
+use Rattle.tiff_format.specs.declared.cut.Cut.{Cut}
 use Rattle.tile_layout.specs.Level.{level_count_in}
 use Rattle.tile_layout.specs.Cell.{CellsFit}
 use Rattle.file_table.specs.Record.{RecordState}
@@ -50,14 +50,14 @@ FetchCause files r new tap_old tap_new _ = ⊥
 
 -- Why a file is not opened. A newer generation was met than one that is at least what the pass had
 -- seen.
-abbrev pub OpenCause : {B : Type 0} → Files → ℕ → Sighted → Sighted → CacheError B → Type 0
-OpenCause files file old new (refused.Again from to) =
+abbrev pub OpeningCause : {B : Type 0} → Files → ℕ → Sighted → Sighted → CacheError B → Type 0
+OpeningCause files file old new (refused.Again from to) =
     MeetsNewer files file (slice_index old.view.seen file) from to old.tap new.tap
     × (to ≤ slice_index new.view.seen file)
-OpenCause files file old new refused.ReadFault = Rises old.tap.faults new.tap.faults
-OpenCause files file old new refused.NoMemory = OpensOnce old.tap new.tap
-OpenCause files file old new (refused.Busy b) = new.tap ≡ old.tap
-OpenCause files file old new _ = ⊥
+OpeningCause files file old new refused.ReadFault = Rises old.tap.faults new.tap.faults
+OpeningCause files file old new refused.NoMemory = OpensOnce old.tap new.tap
+OpeningCause files file old new (refused.Busy b) = new.tap ≡ old.tap
+OpeningCause files file old new _ = ⊥
 
 -- ---- of a call on a file
 

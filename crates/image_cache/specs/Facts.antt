@@ -1,7 +1,7 @@
 -- What is a file?
 use Rattle.std.specs.Prelude.{ℕ}
-use Rattle.tile_layout.specs.declared.cut.Cut.{Cut}
-use Rattle.tile_layout.specs.declared.info.Info.{Info}
+use Rattle.tiff_format.specs.declared.cut.Cut.{Cut}
+use Rattle.tiff_format.specs.declared.info.Info.{Info}
 use Rattle.tile_layout.specs.Kept.{Kept, stored_count}
 use Rattle.tile_layout.specs.Level.{width_in, height_in, level_count_in}
 use Rattle.tile_layout.specs.Cell.{channels_in, bit_depth_in}

@@ -1,7 +1,7 @@
 -- Which options may a cache be made with?
 use Rattle.std.specs.Prelude.{◌≡◌, ℕ, ◌%◌, ◌==◌, ◌&&◌, nat_le, Bool, Option, Some, None}
 use Rattle.std.specs.Prelude.{if◌then◌else◌}
-use Rattle.tile_layout.specs.Cut.{autotile_step, max_autotile}
+use Rattle.tiff_format.specs.Cut.{autotile_step, max_autotile}
 use Rattle.shard_gate.specs.Gate.{max_budget, max_shards, max_passes}
 use Rattle.image_cache.specs.declared.options.Options.{Options}
 use Rattle.image_cache.specs.declared.options.NewError.{NewError}

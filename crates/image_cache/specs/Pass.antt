@@ -5,7 +5,7 @@ use Rattle.std.specs.Option.{option_map}
 use Rattle.std.specs.declared.sync.Arc.{Arc}
 use Rattle.std.specs.Arc.{arc_value}
 use Rattle.tex_world.specs.World.{Files, max_files}
-use Rattle.tile_layout.specs.Cut.{IsCut}
+use Rattle.tiff_format.specs.Cut.{IsCut}
 use Rattle.gen_board.specs.View.{ViewState}
 use Rattle.file_table.specs.Files.{FilesState}
 use Rattle.file_table.specs.Record.{RecordState}

@@ -1,13 +1,13 @@
 -- When has a microcache all four texels of a square, and what do they leave, one after another?
 use Rattle.std.specs.Prelude.{◌≡◌, true, IsTrue, IsOkAnd, List}
 use Rattle.texel_filter.specs.declared.square.Square.{Square}
-use Rattle.tile_layout.specs.declared.cut.Cut.{Cut}
+use Rattle.tiff_format.specs.declared.cut.Cut.{Cut}
 use Rattle.tile_layout.specs.Kept.{Kept}
 use Rattle.tile_store.specs.Tile.{CachedTile}
 use Rattle.file_table.specs.Record.{RecordState}
 use Rattle.texel_values.specs.declared.texel_at.TexelAt.{TexelAt}
 use Rattle.image_cache.specs.Pass.{PassState}
-use Rattle.image_cache.specs.Texel.{index_at, has_cell_at, IsTexelIn}
+use Rattle.image_cache.specs.Texel.{cell_number_at, has_cell_at, IsTexelIn}
 use Rattle.image_cache.specs.Call.{CountsNeed, AsksForCellAt, TurnsToCellAt, MovesCellAt}
 use Rattle.image_cache.specs.Call.{KeepsAllButRecent}
 
@@ -32,10 +32,10 @@ pub record IsSquareIn (state : RecordState) (square : Square) : Type 0 where
 
 -- one cell holds all four
 pub record LieInOne (kept : Kept) (cut : Cut) (square : Square) : Type 0 where
-  pub right_top_in : index_at kept cut (right_top square) ≡ index_at kept cut (left_top square)
-  pub left_bottom_in : index_at kept cut (left_bottom square) ≡ index_at kept cut (left_top square)
+  pub right_top_in : cell_number_at kept cut (right_top square) ≡ cell_number_at kept cut (left_top square)
+  pub left_bottom_in : cell_number_at kept cut (left_bottom square) ≡ cell_number_at kept cut (left_top square)
   pub right_bottom_in
-      : index_at kept cut (right_bottom square) ≡ index_at kept cut (left_top square)
+      : cell_number_at kept cut (right_bottom square) ≡ cell_number_at kept cut (left_top square)
 
 -- one cell of the record holds them
 abbrev pub LieInOneOf : RecordState → Square → Type 0

@@ -2,8 +2,8 @@
 use Rattle.std.specs.Prelude.{◌≡◌, ℕ, ◌<◌, Bool, false, List}
 use Rattle.std.specs.Prelude.{Result, Ok, Err, IsOkAnd}
 use Rattle.tex_world.specs.World.{Files, IsFile}
-use Rattle.tiff_dirs.specs.declared.fault.TiffFault.{TiffFault}
-use Rattle.tile_layout.specs.declared.cut.Cut.{Cut}
+use Rattle.tiff_format.specs.declared.fault.TiffFault.{TiffFault}
+use Rattle.tiff_format.specs.declared.cut.Cut.{Cut}
 use Rattle.tile_layout.specs.Key.{key_of, generation_of, file_of, level_of, index_of}
 use Rattle.tile_layout.specs.Kept.{Kept}
 use Rattle.tile_layout.specs.Level.{width_in, height_in, level_count_in}
@@ -43,14 +43,14 @@ IsTexelIn state at = IsOkAnd state.layout (λ kept. IsTexelOf kept state.cut at)
 -- ---- cells
 
 -- the number of the cell that holds a texel
-abbrev pub index_at : Kept → Cut → TexelAt → ℕ
-index_at kept cut at = cell_index (cut_level_in kept cut at.level) at.x at.y
+abbrev pub cell_number_at : Kept → Cut → TexelAt → ℕ
+cell_number_at kept cut at = cell_index (cut_level_in kept cut at.level) at.x at.y
 
 -- the cell that holds a texel of a generation of a file
 abbrev pub cell_of : ℕ → ℕ → Cut → Kept → TexelAt → CellAt
 cell_of generation file cut kept at = record {
-  key = key_of generation file at.level (index_at kept cut at);
-  rect = cell_rect (cut_level_in kept cut at.level) (index_at kept cut at);
+  key = key_of generation file at.level (cell_number_at kept cut at);
+  rect = cell_rect (cut_level_in kept cut at.level) (cell_number_at kept cut at);
   channels = channels_in kept;
 }
 

@@ -19,7 +19,7 @@ use shard_gate::Gate;
 use std::alloc::Global;
 use std::marker::Model;
 use tex_world::{NoMemory, Tap};
-use tile_layout::{Cut, ShardCount};
+use tiff_format::{Cut, ShardCount};
 use waiter::Waiter;
 
 /// The texels of the files of a folder, for many passes at once. In a clause it is its files and

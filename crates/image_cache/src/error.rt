@@ -3,7 +3,7 @@ use crate::pass::Pass;
 use std::fmt::Debug;
 use tex_world::{NoMemory, World};
 use thiserror::Error;
-use tiff_dirs::TiffFault;
+use tiff_format::TiffFault;
 
 /// Why a call of the cache is not answered.
 #[derive(Clone, Copy, Debug, PartialEq, Eq, Error)]

@@ -12,7 +12,7 @@ use crate::error::CacheError;
 use crate::pass::Pass;
 use file_table::Record;
 use tex_world::{Tap, World};
-use tile_layout::Info;
+use tiff_format::Info;
 use waiter::Waiter;
 
 impl<T: Tap> Cache<T> {

@@ -6,7 +6,7 @@ ghost use Rattle.gen_board.specs.View.{AfterStep};
 ghost use Rattle.file_table.specs.Calls.{sighted, GivesRecord, LooksOnce, OpensIfAtAll};
 ghost use Rattle.image_cache.specs.Pass.{IsPassOf, IsKeptBy, KeepsAllButRecord};
 ghost use Rattle.image_cache.specs.Call.{Serves};
-ghost use Rattle.image_cache.specs.Cause.{OpenCause};
+ghost use Rattle.image_cache.specs.Cause.{OpeningCause};
 
 use crate::cache::Cache;
 use crate::error::CacheError;
@@ -31,7 +31,7 @@ impl<T: Tap> Cache<T> {
         requires told { IsFile T.W.files file }
         ensures ok { IfOk result (λ r. GivesRecord T.W.files file self.now.gate.cut
             pass.old.view pass.new.view r.value) }
-        ensures cause { IfErr result (OpenCause T.W.files file
+        ensures cause { IfErr result (OpeningCause T.W.files file
             (sighted pass.old.view (T.state tap.old)) (sighted pass.new.view (T.state tap.new))) }
         // What the call leaves.
         ensures taken { OnOk result (pass.new.latest ≡ None) }

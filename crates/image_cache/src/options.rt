@@ -4,7 +4,7 @@ ghost use Rattle.image_cache.specs.Options.{first_bad};
 
 use tex_world::NoMemory;
 use thiserror::Error;
-use tile_layout::Cut;
+use tiff_format::{AUTOTILE_STEP, Cut, MAX_AUTOTILE};
 
 /// What a cache is made with.
 #[derive(Clone, Copy, Debug, PartialEq, Eq)]
@@ -51,10 +51,6 @@ const MAX_SHARDS: u32 = 64;
 const MAX_PASSES: u32 = 16;
 
 const MAX_HANDLES: u32 = 1024;
-
-const AUTOTILE_STEP: u32 = 16;
-
-const MAX_AUTOTILE: u32 = 4096;
 
 impl Options {
     /// The first option that is out of its range.

@@ -3,7 +3,7 @@ ghost use Rattle.std.specs.Prelude.{◌≡◌, ℕ, ◌+◌, ◌*◌, ◌<◌, �
 ghost use Rattle.std.specs.Prelude.{Err, IfOk, IfErr, IfSome, IsNone, IsTrue, OnOk, OnErr};
 ghost use Rattle.std.specs.Option.{ForSome};
 ghost use Rattle.tex_world.specs.World.{IsFile, max_files};
-ghost use Rattle.tiff_dirs.specs.Facts.{IsChannelCount};
+ghost use Rattle.tiff_format.specs.Facts.{IsChannelCount};
 ghost use Rattle.texel_values.specs.Region.{max_texels, AreRegionValues, Appends};
 ghost use Rattle.texel_values.specs.Window.{HasValues, HasValuesOn, KeepsOthersOn};
 ghost use Rattle.texel_values.specs.Area.{IsPainted, IsZeroBeside, area_cell, area_cells};

@@ -1,7 +1,7 @@
 //! A texel, and the cell that holds it.
 ghost use Rattle.std.specs.Prelude.{◌≡◌, ◌↔◌, ◌<◌, IfOk, IfSome, IsSome, IsTrue};
 ghost use Rattle.tex_world.specs.World.{max_files};
-ghost use Rattle.tiff_dirs.specs.Facts.{IsChannelCount};
+ghost use Rattle.tiff_format.specs.Facts.{IsChannelCount};
 ghost use Rattle.tile_layout.specs.Cell.{channels_in, bit_depth_in, HoldsTexel};
 ghost use Rattle.tile_layout.specs.Cell.{cell_count, cell_index, cell_rect};
 ghost use Rattle.tile_layout.specs.CutSide.{max_cells};
@@ -16,7 +16,8 @@ use pinned_tiles::CellAt;
 use tex_world::World;
 use texel_filter::Square;
 use texel_values::TexelAt;
-use tile_layout::{Grid, Rect};
+use tiff_format::Rect;
+use tile_layout::Grid;
 
 /// The cell that holds a texel of a record.
 pub(crate) fn cell_at<W: World>(known: &Record<W>, at: TexelAt) -> CellAt

@@ -19,7 +19,7 @@ use Rattle.std.proofs.lemmas.List.Elements.{All-nil, All-cons, All-head, All-tai
 use Rattle.std.proofs.lemmas.List.Elements.{All-append, All-filter, Contains-append_right}
 use Rattle.std.proofs.lemmas.List.Filters.{sum_by-filter_both}
 use Rattle.tex_world.specs.World.{Files}
-use Rattle.tile_layout.specs.declared.cut.Cut.{Cut}
+use Rattle.tiff_format.specs.declared.cut.Cut.{Cut}
 use Rattle.tile_store.specs.Tile.{CachedTile}
 use Rattle.tile_store.specs.Lawful.{FitsCut}
 use Rattle.shard_gate.specs.Gate.{PinSeatState, PinState, OnePinMore, OnePinLess, SamePins, IsTileOf}

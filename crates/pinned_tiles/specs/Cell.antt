@@ -2,7 +2,7 @@
 use Rattle.std.specs.Prelude.{◌≡◌, ◌==◌, ◌&&◌, ℕ, Bool, false, List, IsTrue, IsSomeAnd, slice_get}
 use Rattle.std.specs.List.{find}
 use Rattle.std.specs.Option.{option_map_or}
-use Rattle.tile_layout.specs.declared.rect.Rect.{Rect}
+use Rattle.tiff_format.specs.declared.rect.Rect.{Rect}
 use Rattle.tile_store.specs.Tile.{CachedTile}
 use Rattle.micro.specs.Items.{has_key}
 use Rattle.pinned_tiles.specs.declared.cell.CellAt.{CellAt}

@@ -4,7 +4,7 @@ use Rattle.std.specs.Prelude.{Option, Some, None, IfSome}
 use Rattle.std.specs.List.{All, sum_by}
 use Rattle.std.specs.Option.{option_map, option_to_list}
 use Rattle.tex_world.specs.World.{Files}
-use Rattle.tile_layout.specs.declared.cut.Cut.{Cut}
+use Rattle.tiff_format.specs.declared.cut.Cut.{Cut}
 use Rattle.tile_store.specs.Tile.{CachedTile}
 use Rattle.tile_store.specs.Lawful.{FitsCut}
 use Rattle.shard_gate.specs.Gate.{GateState, PinSeatState, PinState}

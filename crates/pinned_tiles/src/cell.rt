@@ -3,7 +3,8 @@ ghost use Rattle.std.specs.Prelude.{◌≡◌};
 ghost use Rattle.pinned_tiles.specs.Cell.{is_tile_of};
 
 use tex_world::World;
-use tile_layout::{Rect, TileKey};
+use tiff_format::Rect;
+use tile_layout::TileKey;
 use tile_store::Tile;
 
 /// A cell of a file: its key, its rectangle of the level, and the samples of a texel.

@@ -12,7 +12,7 @@ use shard_gate::{Gate, Pin, PinSeat};
 use std::alloc::Global;
 use std::marker::Model;
 use tex_world::{NoMemory, World};
-use tile_layout::{Cut, ShardCount};
+use tiff_format::{Cut, ShardCount};
 use waiter::Waiter;
 
 /// The tiles that a pass may hold.

@@ -6,7 +6,7 @@ use Rattle.std.specs.Prelude.{min, if◌then◌else◌, IfErr}
 use Rattle.tex_world.specs.Counts.{RisesByAtLeast, last_count}
 use Rattle.tex_world.specs.World.{Files}
 use Rattle.tex_world.specs.Folder.{FolderState}
-use Rattle.tile_layout.specs.declared.cut.Cut.{Cut}
+use Rattle.tiff_format.specs.declared.cut.Cut.{Cut}
 use Rattle.command_line.specs.declared.options.Options.{Options}
 use Rattle.command_line.specs.Invocation.{Asked}
 use Rattle.request_lang.specs.declared.request.Request.{Request}

@@ -5,10 +5,10 @@ use Rattle.std.specs.Prelude.{IsOkAnd, IsSomeAnd, IfSome, slice_get}
 use Rattle.std.proofs.lemmas.List.{length_push, get_or_push}
 use Rattle.std.proofs.lemmas.Option.{slice_get-get_or}
 use Rattle.tex_world.specs.World.{Files, IsWorld}
-use Rattle.tiff_dirs.specs.declared.fault.TiffFault.{TiffFault}
+use Rattle.tiff_format.specs.declared.fault.TiffFault.{TiffFault}
 use Rattle.tile_store.specs.Tile.{CachedTile}
-use Rattle.tile_layout.specs.declared.cut.Cut.{Cut}
-use Rattle.tile_layout.specs.declared.rect.Rect.{Rect}
+use Rattle.tiff_format.specs.declared.cut.Cut.{Cut}
+use Rattle.tiff_format.specs.declared.rect.Rect.{Rect}
 use Rattle.tile_layout.specs.Kept.{Kept}
 use Rattle.tile_layout.specs.Level.{level_count_in}
 use Rattle.tile_layout.specs.Cell.{CellsFit}

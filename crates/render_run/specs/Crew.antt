@@ -6,7 +6,7 @@ use Rattle.tex_world.specs.Tap.{TapState, IsNew}
 use Rattle.tex_world.specs.Folder.{FolderState, KeepsFiles}
 use Rattle.image_cache.specs.Pass.{CacheState, PassState, IsPassOf, IsFresh}
 use Rattle.image_cache.specs.Invalid.{RisesBy}
-use Rattle.tile_layout.specs.declared.cut.Cut.{Cut}
+use Rattle.tiff_format.specs.declared.cut.Cut.{Cut}
 use Rattle.request_lang.specs.declared.answer.Answer.{Answer}
 use Rattle.render_run.specs.declared.question.Task.{Task}
 use Rattle.render_run.specs.Around.{SourceState, Sight, sight_at, source_of_crew}

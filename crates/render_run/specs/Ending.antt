@@ -13,7 +13,7 @@ use Rattle.command_line.specs.declared.invocation.WordsError.TheVariants.{Bad}
 use Rattle.command_line.specs.declared.invocation.WordsError.TheVariants as words
 use Rattle.command_line.specs.Invocation.{Asked, invocation_of}
 use Rattle.command_line.specs.declared.options.Options.{Options}
-use Rattle.tile_layout.specs.declared.cut.Cut.{Cut}
+use Rattle.tiff_format.specs.declared.cut.Cut.{Cut}
 use Rattle.request_lang.specs.declared.request.Request.{Request}
 use Rattle.render_run.specs.declared.prepare.Ending.{Ending}
 use Rattle.render_run.specs.declared.prepare.Ending.TheVariants.{BadWords, FolderFault}

@@ -2,7 +2,7 @@
 use Rattle.std.specs.Prelude.{ℕ, ◌*◌, ◌==◌, nat_lt, nat_le, ◌&&◌, Bool, true, false, List, Option}
 use Rattle.std.specs.Prelude.{None}
 use Rattle.texel_filter.specs.declared.request.TexRequest.{TexRequest}
-use Rattle.texel_filter.specs.Image.{max_channels}
+use Rattle.tiff_format.specs.Limits.{max_channels}
 use Rattle.texel_values.specs.Region.{max_texels}
 use Rattle.pinned_tiles.specs.Pinned.{max_holds}
 use Rattle.request_lang.specs.declared.request.Request.{Request}

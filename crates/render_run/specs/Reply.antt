@@ -4,11 +4,11 @@ use Rattle.std.specs.Prelude.{length, Bool, true, false}
 use Rattle.std.specs.Prelude.{Option, Some, None, ⊤, if◌then◌else◌}
 use Rattle.std.specs.Option.{ForSome}
 use Rattle.tex_world.specs.World.{Files, IsReal}
-use Rattle.tiff_dirs.specs.Level.{first_fault}
-use Rattle.tile_layout.specs.declared.cut.Cut.{Cut}
+use Rattle.tiff_format.specs.Fault.{first_fault}
+use Rattle.tiff_format.specs.declared.cut.Cut.{Cut}
 use Rattle.tile_layout.specs.Kept.{kept_of}
 use Rattle.tile_layout.specs.Level.{level_count_in}
-use Rattle.tile_layout.specs.declared.rect.Rect.{Rect}
+use Rattle.tiff_format.specs.declared.rect.Rect.{Rect}
 use Rattle.tile_layout.specs.Cell.{CellsFit, channels_of, cut_level_of, cell_index, cell_rect}
 use Rattle.texel_values.specs.declared.texel_at.TexelAt.{TexelAt}
 use Rattle.texel_values.specs.declared.region.Region.{Region}

@@ -8,9 +8,7 @@ use request_lang::{Name, Request};
 use tex_world::Folder;
 use texel_filter::TexRequest;
 use texel_values::{Region, TexelAt};
-
-/// The most channels of a lookup.
-const MAX_CHANNELS: u32 = 8;
+use tiff_format::MAX_CHANNELS;
 
 /// What is asked of a file.
 #[derive(Clone, Copy, Debug)]
@@ -89,7 +87,7 @@ fn ask<F: Folder>(folder: &F, name: &Name, question: Question) -> Task
 fn has_channels(request: &TexRequest) -> bool
     ensures { result ≡ spec.has_channels request.now }
 {
-    request.nch >= 1 && request.nch <= MAX_CHANNELS
+    request.nch >= 1 && request.nch <= MAX_CHANNELS as u32
 }
 
 /// The request is of a form that is answered.

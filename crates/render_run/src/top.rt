@@ -31,7 +31,7 @@ use std::alloc::Global;
 use std::sync::Wait;
 use std::thread::Threads;
 use tex_world::{Feed, Folder, NoMemory, Sink, Tap};
-use tile_layout::Cut;
+use tiff_format::Cut;
 
 /// All of the list was answered, and no line is a refusal.
 const ALL_ANSWERED: u8 = 0;

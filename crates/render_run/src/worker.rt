@@ -19,7 +19,7 @@ use tex_world::{Tap, World};
 use texel_filter::TexRequest;
 use texel_values::{Region, TexelAt};
 use texture_sys::texture;
-use tile_layout::Rect;
+use tiff_format::Rect;
 use waiter::Forever;
 
 /// A worker: its pass, and the tap that it reads by.

@@ -2,13 +2,13 @@
 use Rattle.std.specs.Prelude.{ℕ, codes, List, [], ◌∷◌, ◌++◌}
 use Rattle.std.specs.List.{flat_map}
 use Rattle.std.specs.Fmt.{decimal}
-use Rattle.tiff_dirs.specs.Code.{code_of}
-use Rattle.tiff_dirs.specs.declared.fault.TiffFault.{TiffFault}
-use Rattle.tiff_dirs.specs.declared.fault.TiffFault.TheVariants.{FieldMissing, FieldShape}
-use Rattle.tiff_dirs.specs.declared.fault.TiffFault.TheVariants.{Unsupported, DataOutside}
-use Rattle.tile_layout.specs.declared.info.Info as layout
-use Rattle.tile_layout.specs.declared.rect.Rect.{Rect}
-use Rattle.tile_layout.specs.declared.shard_count.ShardCount.{ShardCount}
+use Rattle.tiff_format.specs.Fault.{code_of}
+use Rattle.tiff_format.specs.declared.fault.TiffFault.{TiffFault}
+use Rattle.tiff_format.specs.declared.fault.TiffFault.TheVariants.{FieldMissing, FieldShape}
+use Rattle.tiff_format.specs.declared.fault.TiffFault.TheVariants.{Unsupported, DataOutside}
+use Rattle.tiff_format.specs.declared.info.Info as layout
+use Rattle.tiff_format.specs.declared.rect.Rect.{Rect}
+use Rattle.tiff_format.specs.declared.shard_count.ShardCount.{ShardCount}
 use Rattle.request_lang.specs.declared.cause.BadList.{BadList}
 use Rattle.request_lang.specs.LineField.{space}
 use Rattle.request_lang.specs.Grammar.{line_feed}

@@ -8,7 +8,7 @@ use Rattle.std.specs.Option.{unwrap_or, option_map, ok_or}
 use Rattle.std.specs.Char.{is_ascii_digit}
 use Rattle.std.specs.List.{list_all}
 use Rattle.std.specs.Str.{bytes_eq}
-use Rattle.texel_filter.specs.Image.{max_channels}
+use Rattle.tiff_format.specs.Limits.{max_channels}
 use Rattle.texel_filter.specs.declared.mode.Wrap.{Wrap}
 use Rattle.texel_filter.specs.declared.mode.Wrap.TheVariants.{Black, Clamp, Periodic, Mirror}
 use Rattle.texel_filter.specs.declared.request.Filter.{Filter}

@@ -4,8 +4,7 @@ ghost use Rattle.std.specs.Prelude.{◌≡◌, ◌≤◌, List, ℕ, length};
 ghost use Rattle.request_lang.specs.Appending.{max_shards};
 
 use std::marker::Model;
-use tiff_dirs::TiffFault;
-use tile_layout::{Info, Rect, ShardCount};
+use tiff_format::{Info, Rect, ShardCount, TiffFault};
 
 /// 16-bit values. Contracts see them as a list.
 #[derive(Drop)]
@@ -44,7 +43,7 @@ pub struct Shards {
 impl Model for Shards {
     ghost use Rattle.std.specs.Prelude.{List};
     ghost use Rattle.std.specs.Prelude.{◌≤◌, length};
-    ghost use Rattle.tile_layout.specs.declared.shard_count.ShardCount.{ShardCount};
+    ghost use Rattle.tiff_format.specs.declared.shard_count.ShardCount.{ShardCount};
     ghost use Rattle.request_lang.specs.Appending.{max_shards};
 
     ghost Value = { List ShardCount };

@@ -15,8 +15,7 @@ use crate::value_texts::ValueTexts;
 use crate::values::push_values;
 use std::alloc::AllocError;
 use tex_world::NoMemory;
-use tiff_dirs::TiffFault;
-use tile_layout::{Info, ShardCount};
+use tiff_format::{Info, ShardCount, TiffFault};
 
 /// Appends a word and numbers, each behind a space.
 #[tactic(auto, using(crate::proofs::AppendLemmas::kept))]

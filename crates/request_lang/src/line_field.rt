@@ -11,7 +11,8 @@ use crate::cause::{Cause, Refusal};
 use crate::digits::{leading_digits, within};
 use crate::request::Name;
 use std::alloc::Global;
-use texel_filter::{Filter, MAX_CHANNELS, Wrap};
+use texel_filter::{Filter, Wrap};
+use tiff_format::MAX_CHANNELS;
 
 /// The largest number that may have no `-`.
 const MAX_UNSIGNED: u32 = u32::MAX;

@@ -4,8 +4,7 @@ use request_lang::{Answer, Shards, ValueTexts, Values, line_text};
 use std::alloc::{AllocError, Global};
 use std::process::Abort;
 use std::test::Fail;
-use tiff_dirs::TiffFault;
-use tile_layout::{Info, Rect, ShardCount};
+use tiff_format::{Info, Rect, ShardCount, TiffFault};
 
 // The line is appended behind what stands there.
 fn prints(

@@ -8,7 +8,8 @@ use std::alloc::Global;
 use std::process::Abort;
 use texel_filter::Filter::{Bilinear, Closest, Trilinear};
 use texel_filter::Wrap::{Black, Clamp, Mirror, Periodic};
-use texel_filter::{Filter, MAX_CHANNELS, TexRequest, Wrap, lookup};
+use texel_filter::{Filter, TexRequest, Wrap, lookup};
+use tiff_format::MAX_CHANNELS;
 
 /// Coordinates and LOD, wraps and filter of a lookup, and the values of the first channels; those
 /// behind them are 0.

@@ -5,7 +5,8 @@ ghost use Rattle.texel_filter.specs.Image.{IsChannelCount, IsSide};
 
 use crate::picture::{Asked, Picture, Refused, Shows};
 use std::alloc::Global;
-use texel_filter::{Filter, MAX_CHANNELS, TexRequest, Wrap, lookup};
+use texel_filter::{Filter, TexRequest, Wrap, lookup};
+use tiff_format::MAX_CHANNELS;
 
 const WRAPS: [Wrap; 4] = [Wrap::Black, Wrap::Clamp, Wrap::Periodic, Wrap::Mirror];
 

@@ -4,7 +4,7 @@ use command_line::{Options, WordsError, invocation_of};
 use std::alloc::{AllocError, Global};
 use std::process::Abort;
 use std::test::Fail;
-use tile_layout::Cut;
+use tiff_format::Cut;
 
 /// The options of a command line that has none.
 const DEFAULTS: Options = Options {

@@ -2,7 +2,7 @@
 use Rattle.std.proofs.Common.{◌≡◌, ℕ, ◌*◌, ◌≤◌, List, [], length, map, subst, refl, sym, arith}
 use Rattle.std.specs.List.{All}
 use Rattle.std.proofs.lemmas.List.{length-map}
-use Rattle.tile_layout.specs.declared.cut.Cut.{Cut}
+use Rattle.tiff_format.specs.declared.cut.Cut.{Cut}
 use Rattle.shard_gate.specs.Seated.{ShardId, SeatAt, IsMadeBy, first_seat}
 use Rattle.shard_gate.specs.Gate.{AreLimits, IsFirstSeat, max_pins}
 use Rattle.shard_gate.specs.Kept.{IsPinSeat, gate_state, seat_state}

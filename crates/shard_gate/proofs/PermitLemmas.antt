@@ -4,7 +4,7 @@ use Rattle.std.proofs.Common.{map, length, get_or, refl, ap, sym, subst, ◌∙�
 use Rattle.std.specs.List.{All}
 use Rattle.std.proofs.lemmas.List.{length-map, get_or-map}
 use Rattle.std.proofs.lemmas.List.Elements.{All-map}
-use Rattle.tile_layout.specs.declared.cut.Cut.{Cut}
+use Rattle.tiff_format.specs.declared.cut.Cut.{Cut}
 use Rattle.shard_gate.specs.Seated.{ShardId, SeatAt, shard_of_seat, kept_seat, new_seat}
 use Rattle.shard_gate.specs.Seated.{both_seats, joined_seats}
 use Rattle.shard_gate.specs.Gate.{PinSeatState, IsSecondSeat, AfterSplit, AfterJoin, max_pins}

@@ -5,7 +5,7 @@ use Rattle.std.specs.Prelude.{IfOk, IfErr}
 use Rattle.std.specs.List.{All}
 use Rattle.std.proofs.lemmas.List.Elements.{All-nil, All-cons, All-append}
 use Rattle.tex_world.specs.World.{Files}
-use Rattle.tile_layout.specs.declared.shard_count.ShardCount.{ShardCount}
+use Rattle.tiff_format.specs.declared.shard_count.ShardCount.{ShardCount}
 use Rattle.tile_store.specs.Tile.{CachedTile}
 use Rattle.tile_store.specs.Entry.{EntryState, entry_at}
 use Rattle.tile_store.specs.Changes.{pinned_first, inserted}

@@ -2,9 +2,9 @@
 use Rattle.std.proofs.Common.{◌≡◌, ℕ, ◌+◌, ◌*◌, ◌/◌, ◌%◌, ◌≤◌, Bool, true, false, arith}
 use Rattle.std.specs.Prelude.{◌==◌, if◌then◌else◌}
 use Rattle.std.proofs.lemmas.Bool.Decides.{nat_tests}
-use Rattle.tile_layout.specs.declared.cut.Cut.{Cut}
-use Rattle.tile_layout.specs.Cut.{IsCut}
-use Rattle.tile_store.specs.Tag.{tag_of, share_of, cut_of}
+use Rattle.tiff_format.specs.declared.cut.Cut.{Cut}
+use Rattle.tiff_format.specs.Cut.{IsCut}
+use Rattle.tile_store.specs.Tag.{tag_of, share_in_tag, cut_of}
 
 -- 1 for a cut with generated levels, else 0
 abbrev bit_of : Bool → ℕ
@@ -14,8 +14,8 @@ few : (b : Bool) → bit_of b ≤ 1
 few true = omega arith
 few false = omega arith
 
-pub share_of-tag_of : (share : ℕ) (cut : Cut) → IsCut cut → share_of (tag_of share cut) ≡ share
-unfolding share_of tag_of
+pub share_of-tag_of : (share : ℕ) (cut : Cut) → IsCut cut → share_in_tag (tag_of share cut) ≡ share
+unfolding share_in_tag tag_of
 share_of-tag_of share cut valid = omega (arith, few cut.automip, valid.high)
 
 side : (share a m : ℕ) → a % 16 ≡ 0 → a ≤ 4096 → m ≤ 1

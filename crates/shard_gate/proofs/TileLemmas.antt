@@ -6,7 +6,7 @@ use Rattle.std.specs.Option.{option_map_or}
 use Rattle.std.proofs.lemmas.Map.Entries.{All-lookup}
 use Rattle.std.specs.Prelude.{nat_eq}
 use Rattle.tex_world.specs.World.{Files}
-use Rattle.tile_layout.specs.declared.cut.Cut.{Cut}
+use Rattle.tiff_format.specs.declared.cut.Cut.{Cut}
 use Rattle.tile_store.specs.Tile.{CachedTile}
 use Rattle.tile_store.specs.Entry.{EntryState, Entries, entry_at}
 use Rattle.tile_store.specs.Changes.{kept_tile}

@@ -3,10 +3,10 @@ use Rattle.std.proofs.Common.{◌≡◌, ◌≢◌, ℕ, zero, suc, ◌<◌, Lis
 use Rattle.std.proofs.Common.{get_or, refl, ap, sym, subst, ◌∙◌, Result, Ok, Err, OnOk, OnErr, arith}
 use Rattle.std.specs.Prelude.{IfOk, IfErr}
 use Rattle.std.proofs.lemmas.List.{length-map}
-use Rattle.tile_layout.specs.declared.cut.Cut.{Cut}
+use Rattle.tiff_format.specs.declared.cut.Cut.{Cut}
 use Rattle.std.proofs.lemmas.List.Elements.{All-cons}
 use Rattle.tile_store.specs.Entry.{Entries}
-use Rattle.tile_store.specs.Tag.{tag_of, share_of, cut_of}
+use Rattle.tile_store.specs.Tag.{tag_of, share_in_tag, cut_of}
 use Rattle.shard_gate.specs.Seated.{ShardId, SeatAt, shard_of_seat}
 use Rattle.shard_gate.specs.Visit.{Visit, visit, visits_at}
 use Rattle.shard_gate.specs.Given.{AtShard, IsFull, IsWait, Waits}
@@ -129,8 +129,8 @@ module _ (tables : List ShardId) (share : ℕ) (cut : Cut) (passes : ℕ) (gate 
   pub tag_here : x.tag ≡ tag_of gate.share gate.cut
   tag_here = made ∙ ap (λ (a : GateState). tag_of a.share a.cut) is
 
-  pub share_here : share_of x.tag ≡ share
-  share_here = ap share_of made ∙ share_of-tag_of share cut kept.cut_is
+  pub share_here : share_in_tag x.tag ≡ share
+  share_here = ap share_in_tag made ∙ share_of-tag_of share cut kept.cut_is
 
   pub cut_here : cut_of x.tag ≡ gate.cut
   cut_here = ap cut_of made

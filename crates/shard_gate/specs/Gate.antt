@@ -4,9 +4,9 @@ use Rattle.std.specs.Prelude.{length, IsPermutation, Result, Option, IfOk, IfSom
 use Rattle.std.specs.Prelude.{IfNone}
 use Rattle.std.specs.List.{All}
 use Rattle.tex_world.specs.World.{Files}
-use Rattle.tile_layout.specs.declared.cut.Cut.{Cut}
-use Rattle.tile_layout.specs.declared.shard_count.ShardCount.{ShardCount}
-use Rattle.tile_layout.specs.Cut.{IsCut}
+use Rattle.tiff_format.specs.declared.cut.Cut.{Cut}
+use Rattle.tiff_format.specs.declared.shard_count.ShardCount.{ShardCount}
+use Rattle.tiff_format.specs.Cut.{IsCut}
 use Rattle.tile_layout.specs.Key.{generation_of, file_of, level_of, index_of}
 use Rattle.tile_store.specs.Tile.{CachedTile}
 use Rattle.tile_store.specs.Told.{ToldBy}

@@ -5,7 +5,7 @@ use Rattle.std.specs.Prelude.{◌∷◌, ◌++◌, Option, Some, if◌then◌els
 use Rattle.std.specs.List.{All}
 use Rattle.std.specs.Option.{option_map_or}
 use Rattle.tex_world.specs.World.{Files}
-use Rattle.tile_layout.specs.declared.shard_count.ShardCount.{ShardCount}
+use Rattle.tiff_format.specs.declared.shard_count.ShardCount.{ShardCount}
 use Rattle.tile_store.specs.Tile.{CachedTile}
 use Rattle.tile_store.specs.Entry.{Entries, entry_at, tile_at, pin_sum, loose_bytes}
 use Rattle.tile_store.specs.Changes.{pinned_first, inserted, kept_tile, kept_within, unpinned_once}

@@ -1,8 +1,8 @@
 -- What does a gate keep of itself, and a seat?
 use Rattle.std.specs.Prelude.{◌≡◌, ℕ, ◌*◌, ◌<◌, ◌≤◌, List, map, length}
 use Rattle.std.specs.List.{All}
-use Rattle.tile_layout.specs.declared.cut.Cut.{Cut}
-use Rattle.tile_layout.specs.Cut.{IsCut}
+use Rattle.tiff_format.specs.declared.cut.Cut.{Cut}
+use Rattle.tiff_format.specs.Cut.{IsCut}
 use Rattle.tile_store.specs.Tag.{tag_of}
 use Rattle.shard_gate.specs.Visit.{Visit}
 use Rattle.shard_gate.specs.Seated.{ShardId, SeatAt, shard_of_seat, IsMadeBy}

@@ -23,7 +23,8 @@ use std::alloc::Global;
 use std::marker::Model;
 use std::sync::Arc;
 use tex_world::{NoMemory, World};
-use tile_layout::{Cut, ShardCount, TileKey};
+use tiff_format::{Cut, ShardCount};
+use tile_layout::TileKey;
 use tile_store::Tile;
 use waiter::Waiter;
 

@@ -1,6 +1,6 @@
 //! The shards of a new gate.
 ghost use Rattle.std.specs.Prelude.{◌≡◌, ◌≤◌, length, map, IfOk};
-ghost use Rattle.tile_layout.specs.Cut.{IsCut};
+ghost use Rattle.tiff_format.specs.Cut.{IsCut};
 ghost use Rattle.tile_store.specs.Tag.{tag_of};
 ghost use Rattle.shard_gate.specs.Seated.{AreMadeBy, first_seat};
 ghost use Rattle.shard_gate.specs.Gate.{max_budget};
@@ -11,11 +11,8 @@ use crate::turn_table::TurnTable;
 use crossbeam_utils::CachePadded;
 use std::alloc::{AllocError, Global};
 use tex_world::World;
-use tile_layout::Cut;
+use tiff_format::{AUTOTILE_STEP, Cut};
 use tile_store::Shard;
-
-/// The sides of cells of strips are multiples of this.
-const AUTOTILE_STEP: u32 = 16;
 
 /// The tags of one share.
 const SHARE_STEP: u64 = 1024;

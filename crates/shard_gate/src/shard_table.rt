@@ -1,7 +1,7 @@
 //! Visits to one shard: the seat takes the turn, works on the tiles, and gives the turn back.
 ghost use Rattle.std.specs.Prelude.{◌≡◌, ◌≤◌, OnErr, IfOk, IfErr, OnOk, option_map};
 ghost use Rattle.std.specs.Arc.{arc_value};
-ghost use Rattle.tile_store.specs.Tag.{share_of, cut_of};
+ghost use Rattle.tile_store.specs.Tag.{share_in_tag, cut_of};
 ghost use Rattle.tile_store.specs.Lawful.{FitsCut};
 ghost use Rattle.shard_gate.specs.Given.{Finds, Inserts, Releases, Purges, Counts};
 ghost use Rattle.shard_gate.specs.Work.{IsSeatOf, FoundUnder, KeptUnder, GivesBackIfFull};
@@ -18,7 +18,8 @@ use crossbeam_utils::CachePadded;
 use std::marker::PhantomData;
 use std::sync::Arc;
 use tex_world::World;
-use tile_layout::{ShardCount, TileKey};
+use tiff_format::ShardCount;
+use tile_layout::TileKey;
 use tile_store::{Shard, Tile};
 use waiter::Waiter;
 
@@ -170,7 +171,7 @@ impl<W: World> ShardTable<W> {
         share: u64,
     ) -> Result<(), T::Busy>
         requires shard { seat.old.shard ≡ self.now }
-        requires share { share_of self.now.tag ≡ share }
+        requires share { share_in_tag self.now.tag ≡ share }
         ensures seat { IsSeatOf seat.old seat.new }
         ensures ok { OnOk result (Releases share key seat.old.visits seat.new.visits) }
         ensures err { OnErr result (seat.new ≡ seat.old) }
@@ -214,7 +215,7 @@ impl<W: World> ShardTable<W> {
         share: u64,
     ) -> Result<ShardCount, T::Busy>
         requires shard { seat.old.shard ≡ self.now }
-        requires share { share_of self.now.tag ≡ share }
+        requires share { share_in_tag self.now.tag ≡ share }
         ensures share { IfOk result (λ count. count.share ≡ share) }
         ensures within { IfOk result (λ count. count.loose ≤ count.share) }
         ensures seat { IsSeatOf seat.old seat.new }

@@ -4,7 +4,7 @@ ghost use Rattle.std.specs.Prelude.{◌≡◌, ◌+◌, option_map, IfOk, IfErr,
 ghost use Rattle.std.specs.Arc.{arc_value};
 ghost use Rattle.tile_store.specs.Entry.{tile_at, HasPin};
 ghost use Rattle.tile_store.specs.Changes.{pinned_first, inserted, kept_tile};
-ghost use Rattle.tile_store.specs.Tag.{share_of};
+ghost use Rattle.tile_store.specs.Tag.{share_in_tag};
 ghost use Rattle.tile_store.specs.Lawful.{FitsTag, KeepsLawful, KeepsLawfulFor};
 ghost use Rattle.shard_gate.specs.Given.{released, room_of, IsCountOf};
 ghost use Rattle.shard_gate.specs.Work.{FoundAmong, KeptAmong};
@@ -13,7 +13,8 @@ ghost use Rattle.shard_gate.specs.Work.{MissedCause, TurnedDownCause, GivesBackI
 use crate::error::{NotFound, NotInserted};
 use std::sync::Arc;
 use tex_world::World;
-use tile_layout::{ShardCount, TileKey};
+use tiff_format::ShardCount;
+use tile_layout::TileKey;
 use tile_store::{Shard, Tile};
 
 /// Pins the tile of a key, if it is there.
@@ -67,7 +68,7 @@ pub(crate) fn insert_in<W: World>(
 /// Takes a pin from the tile of a key. Where it has none, nothing changes.
 pub(crate) fn release_in<W: World>(shard: &mut Shard<W>, key: TileKey, share: u64)
     ensures entries { shard.new ≡ released share key shard.old }
-    ensures lawful { KeepsLawfulFor W.files (λ tag. share_of tag ≡ share) shard.old shard.new }
+    ensures lawful { KeepsLawfulFor W.files (λ tag. share_in_tag tag ≡ share) shard.old shard.new }
 {
     if shard.is_pinned(key) {
         shard.release(key, share);

@@ -7,7 +7,7 @@ use Rattle.std.proofs.lemmas.List.Sorted.{Contains-permutation, length_permutati
 use Rattle.std.proofs.lemmas.List.Elements.{Contains-get_or}
 use Rattle.shard_gate.specs.Seated.{ShardId}
 use Rattle.tex_world.specs.World.{Files}
-use Rattle.tile_layout.specs.declared.cut.Cut.{Cut}
+use Rattle.tiff_format.specs.declared.cut.Cut.{Cut}
 use Rattle.shard_gate.specs.Gate.{PinSeatState, PinState, IsTileOf, max_pins}
 use Rattle.shard_gate.specs.Gate.{OnePinMore, OnePinLess}
 use Rattle.sharing_tests.specs.Held.{HoldsAt}

@@ -7,7 +7,7 @@ use gen_board::View;
 use std::alloc::Global;
 use std::test::Fail;
 use tex_world::{FailCall, Folder, MemFolder, MemTap, Newest, Plan, Rise, Tap};
-use tile_layout::Cut;
+use tiff_format::Cut;
 
 /// A table of all four files, its first view, and some taps.
 #[derive(Drop)]

@@ -5,7 +5,8 @@ ghost use Rattle.sharing_tests.specs.Held.{IsIdleAt, HoldsAt};
 
 use crate::untold::Untold;
 use shard_gate::{Gate, NotPinned, Pin, PinError, PinSeat};
-use tile_layout::{Cut, TileKey};
+use tiff_format::Cut;
+use tile_layout::TileKey;
 use tile_store::Tile;
 use waiter::Waiter;
 

@@ -14,7 +14,7 @@ use std::alloc::Global;
 use std::fs;
 use std::test::Fail;
 use tex_world::{Folder, Tap};
-use tile_layout::Cut;
+use tiff_format::Cut;
 use waiter::Tries;
 
 const CUT: Cut = Cut {

@@ -9,7 +9,8 @@ use tex_world::{
     FailByte, FileTable, Folder, MemFolder, MemTap, Newest, Plan, Rise, TableWorld, Tap, TapHandle,
     World,
 };
-use tile_layout::{Cut, TileKey};
+use tiff_format::Cut;
+use tile_layout::TileKey;
 use tile_load::{LoadError, load};
 use tile_store::Tile;
 use waiter::Tries;

@@ -4,7 +4,8 @@ ghost use Rattle.sharing_tests.specs.Untold.{untold, untold_is_world};
 use crate::gate_calls::Stop;
 use std::alloc::Global;
 use tex_world::World;
-use tile_layout::{Rect, TileKey};
+use tiff_format::Rect;
+use tile_layout::TileKey;
 use tile_store::Tile;
 
 #[derive(Drop)]

@@ -1,12 +1,6 @@
 -- What is an image with levels, and which texels does it have?
 use Rattle.std.specs.Prelude.{◌≡◌, ℕ, ◌<◌, ◌≤◌, List, length, slice_index}
-
--- the most texels of a side, and the most channels
-abbrev pub max_side : ℕ
-max_side = 131072
-
-abbrev pub max_channels : ℕ
-max_channels = 8
+use Rattle.tiff_format.specs.Limits.{max_side, max_channels}
 
 -- the number of levels of an image, and the width and height of each
 pub record Sizes : Type 0 where

@@ -7,9 +7,6 @@ ghost use Rattle.texel_filter.specs.Calls.{LeftBy, IsFetch};
 
 use crate::square::{Corners, Square};
 
-/// The most channels of a lookup.
-pub const MAX_CHANNELS: usize = 8;
-
 /// The texels of an image with levels.
 pub trait Fetch {
     /// Why a texel is refused. There is no other refusal.

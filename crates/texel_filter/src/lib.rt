@@ -14,7 +14,7 @@ mod weighted;
 mod weights;
 mod writing;
 
-pub use fetch::{Fetch, MAX_CHANNELS};
+pub use fetch::Fetch;
 pub use filters::{bilinear, closest, lookup, trilinear};
 pub use index::wrap;
 pub use mode::Wrap;

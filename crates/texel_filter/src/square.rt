@@ -1,4 +1,4 @@
-use crate::fetch::MAX_CHANNELS;
+use tiff_format::MAX_CHANNELS;
 
 /// Four texels of a level, in two columns and two rows, which need not lie side by side.
 #[derive(Clone, Copy, Debug)]

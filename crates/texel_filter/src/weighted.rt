@@ -1,6 +1,7 @@
 ghost use Rattle.std.specs.Prelude.{◌≡◌, ℕ, ◌+◌, ◌/◌, ◌^◌, ◌<◌, ◌≤◌, length, OnOk, IfOk};
 ghost use Rattle.std.specs.Option.{ForSome};
-ghost use Rattle.texel_filter.specs.Image.{IsChannelCount, AreValues, max_channels, image_of};
+ghost use Rattle.texel_filter.specs.Image.{IsChannelCount, AreValues, image_of};
+ghost use Rattle.tiff_format.specs.Limits.{max_channels};
 ghost use Rattle.texel_filter.specs.Coordinate.{unit};
 ghost use Rattle.texel_filter.specs.Filter.{blended};
 ghost use Rattle.texel_filter.specs.Visits.{square_visits};

@@ -13,9 +13,10 @@ ghost use Rattle.texel_filter.specs.Coordinate.{unit};
 ghost use Rattle.texel_filter.specs.LevelPair.{between_value, between_visits};
 
 use crate::coordinate::LevelPair;
-use crate::fetch::{Fetch, MAX_CHANNELS};
+use crate::fetch::Fetch;
 use crate::request::TexRequest;
 use crate::weighted::Weighted;
+use tiff_format::MAX_CHANNELS;
 
 /// The texel in a column and a row.
 #[inline(always)]

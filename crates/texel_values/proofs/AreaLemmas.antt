@@ -6,8 +6,8 @@ use Rattle.std.specs.Prelude.{if◌then◌else◌, ℤ, pos, ◌+ℤ◌}
 use Rattle.std.proofs.Math.Nat.{div-mul-le_self}
 use Rattle.std.proofs.lemmas.Bool.{eqb-true, eqb-false}
 use Rattle.std.proofs.lemmas.Nat.{mul-add-lt, div-mul-add, mod-mul-add, mod_below, div_below, le-div}
-use Rattle.tiff_dirs.specs.Block.{pieces_over}
-use Rattle.tile_layout.specs.declared.cut.Cut.{Cut}
+use Rattle.tiff_format.specs.Block.{pieces_over}
+use Rattle.tiff_format.specs.declared.cut.Cut.{Cut}
 use Rattle.tile_layout.specs.declared.grid.Grid.{Grid}
 use Rattle.tile_layout.specs.Grid.{shown_grid}
 use Rattle.tile_layout.specs.Cell.{cells_across, cells_down, cell_count, cell_index, cell_rect}

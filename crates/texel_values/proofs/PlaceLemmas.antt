@@ -4,7 +4,7 @@ use Rattle.std.proofs.Common.{Bool, true, false, nat_lt, refl}
 use Rattle.std.proofs.Math.Nat.{mul-le-mul_left}
 use Rattle.std.proofs.lemmas.Bool.{ltb-true, ltb-false}
 use Rattle.std.proofs.lemmas.Nat.{mul-add-lt}
-use Rattle.tile_layout.specs.declared.rect.Rect.{Rect}
+use Rattle.tiff_format.specs.declared.rect.Rect.{Rect}
 use Rattle.texel_values.specs.declared.window.Window.{Window}
 use Rattle.texel_values.specs.Window.{IsIn, row_of}
 

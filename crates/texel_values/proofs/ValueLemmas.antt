@@ -6,7 +6,7 @@ use Rattle.std.proofs.lemmas.Bool.{ltb-true, ltb-false, eqb-true}
 use Rattle.std.proofs.lemmas.List.Elements.{All-get_or}
 use Rattle.std.proofs.lemmas.Nat.{mul-add-lt}
 use Rattle.tex_world.specs.World.{Files}
-use Rattle.tiff_dirs.specs.Texel.{value_of, greatest_sample}
+use Rattle.tiff_format.specs.Texel.{value_of, greatest_sample}
 use Rattle.tile_layout.specs.Key.{generation_of, file_of, level_of}
 use Rattle.tile_layout.specs.Cell.{channels_of, bit_depth_of}
 use Rattle.tile_layout.specs.Texel.{texel_at}

@@ -4,7 +4,7 @@ use Rattle.tex_world.specs.World.{Files}
 use Rattle.texel_filter.specs.declared.square.Square.{Square}
 use Rattle.texel_filter.specs.declared.square.Corners.{Corners}
 use Rattle.texel_filter.specs.Square.{AreCorners}
-use Rattle.tile_layout.specs.declared.rect.Rect.{Rect}
+use Rattle.tiff_format.specs.declared.rect.Rect.{Rect}
 use Rattle.tile_layout.specs.Key.{level_of}
 use Rattle.tile_layout.specs.Cell.{HoldsTexel, bit_depth_of}
 use Rattle.tile_layout.specs.Value.{channel_value_of}

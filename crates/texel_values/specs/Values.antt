@@ -2,7 +2,7 @@
 use Rattle.std.specs.Prelude.{◌≡◌, ℕ, ◌<◌, ◌%◌, ◌==◌, List, length, slice_index, nat_lt}
 use Rattle.std.specs.Prelude.{if◌then◌else◌}
 use Rattle.tex_world.specs.World.{Files}
-use Rattle.tiff_dirs.specs.Texel.{value_of}
+use Rattle.tiff_format.specs.Texel.{value_of}
 use Rattle.tile_layout.specs.Key.{level_of}
 use Rattle.tile_layout.specs.Cell.{bit_depth_of}
 use Rattle.tile_layout.specs.Value.{channel_value_of}
@@ -20,14 +20,14 @@ sample_value samples depth c =
     if nat_lt c (length samples) then kept_value depth (slice_index samples c) else 0
 
 -- the value of a channel of a texel of a tile, 0 for one that it lacks
-abbrev pub value_in : CachedTile → ℕ → TexelAt → ℕ → ℕ
-value_in tile depth at c =
+abbrev pub tile_value : CachedTile → ℕ → TexelAt → ℕ → ℕ
+tile_value tile depth at c =
     if nat_lt c tile.channels then kept_value depth (kept_sample tile at.x at.y c) else 0
 
 -- these are the values of the first channels of a texel of a tile
 abbrev pub AreValuesIn : CachedTile → ℕ → TexelAt → List ℕ → Type 0
 AreValuesIn tile depth at out =
-    (c : ℕ) → c < length out → slice_index out c ≡ value_in tile depth at c
+    (c : ℕ) → c < length out → slice_index out c ≡ tile_value tile depth at c
 
 -- these are the values of the first channels of a texel of a file
 abbrev pub AreValuesAt : List ℕ → TexelAt → List ℕ → Type 0

@@ -1,7 +1,7 @@
 -- Where does a region lie to its level, and where do the texels of the level stand among its values?
 use Rattle.std.specs.Prelude.{◌≡◌, ℕ, ◌+◌, ◌-◌, ◌*◌, ◌<◌, ◌≤◌, List, length}
 use Rattle.tex_world.specs.World.{Files}
-use Rattle.tile_layout.specs.declared.rect.Rect.{Rect}
+use Rattle.tiff_format.specs.declared.rect.Rect.{Rect}
 use Rattle.tile_layout.specs.Key.{level_of}
 use Rattle.tile_layout.specs.Cell.{HoldsTexel, bit_depth_of}
 use Rattle.tile_layout.specs.Value.{channel_value_of}

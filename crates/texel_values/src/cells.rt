@@ -2,7 +2,7 @@
 ghost use Rattle.std.specs.Prelude.{◌≡◌, ◌+◌, ◌*◌, ◌<◌, ◌≤◌};
 ghost use Rattle.tile_layout.specs.Cell.{cell_count, number_of};
 ghost use Rattle.tile_layout.specs.Grid.{shown_grid};
-ghost use Rattle.tiff_dirs.specs.Facts.{IsChannelCount};
+ghost use Rattle.tiff_format.specs.Facts.{IsChannelCount};
 ghost use Rattle.texel_values.specs.Region.{max_texels};
 ghost use Rattle.texel_values.specs.Met.{cells_met};
 ghost use Rattle.texel_values.specs.Area.{IsAreaOf, area_cell, area_cells};

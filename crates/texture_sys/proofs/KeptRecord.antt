@@ -4,14 +4,14 @@ use Rattle.std.proofs.Common.{Option, Some, Result, Ok, Err}
 use Rattle.std.specs.Prelude.{IsSomeAnd, IfOk, IfErr, OnOk}
 use Rattle.tex_world.specs.World.{Files}
 use Rattle.tex_world.specs.Tap.{TapState}
-use Rattle.tile_layout.specs.declared.cut.Cut.{Cut}
+use Rattle.tiff_format.specs.declared.cut.Cut.{Cut}
 use Rattle.file_table.specs.Record.{RecordState}
 use Rattle.file_table.specs.Calls.{Sighted, GivesRecord, KeepsView}
 use Rattle.texel_filter.specs.declared.request.TexRequest.{TexRequest}
 use Rattle.image_cache.specs.declared.error.CacheError.{CacheError}
 use Rattle.image_cache.specs.declared.error.CacheError.TheVariants as refused
 use Rattle.image_cache.specs.Pass.{PassState, KeepsAllButRecord}
-use Rattle.image_cache.specs.Cause.{OpenCause}
+use Rattle.image_cache.specs.Cause.{OpeningCause}
 use Rattle.texture_sys.specs.Needs.{visits_on, AsksForCells}
 use Rattle.texture_sys.specs.Call.{TextureCause}
 use Rattle.texture_sys.specs.Call.{IsLookedUp, IsRefused, IsUnfit, KeepsAfter, KeepsRecord}
@@ -71,7 +71,7 @@ module _ (files : Files) (file : ℕ) (cut : Cut) (old mid new : PassState) (k :
 -- ---- a file that was not opened
 
 module _ {B : Type 0} (files : Files) (file : ℕ) (cut : Cut) where
-  pub opening_cause : (old new : Sighted) (e : CacheError B) → OpenCause files file old new e
+  pub opening_cause : (old new : Sighted) (e : CacheError B) → OpeningCause files file old new e
       → TextureCause files file cut old new e
   opening_cause old new (refused.Again from to) met = met
   opening_cause old new refused.ReadFault rises = rises
@@ -85,7 +85,7 @@ module _ {B : Type 0} (files : Files) (file : ℕ) (cut : Cut) where
   opening_cause old new refused.HoldsFull none = none
 
   pub opening_kept : (old new : Sighted) (p q : PassState) (e : CacheError B)
-      → OpenCause files file old new e → q.latest ≡ p.latest → KeepsAfter files file cut p q e
+      → OpeningCause files file old new e → q.latest ≡ p.latest → KeepsAfter files file cut p q e
   opening_kept old new p q (refused.Again from to) met same = inl same
   opening_kept old new p q refused.ReadFault rises same = inl same
   opening_kept old new p q refused.NoMemory free same = inl same

@@ -8,8 +8,8 @@ use Rattle.std.proofs.lemmas.Grind.{same_number_lists}
 use Rattle.std.proofs.lemmas.List.{length-map}
 use Rattle.std.proofs.lemmas.List.FromFn.{get_or-map-range_with_len, length-range_with_len}
 use Rattle.tex_world.specs.World.{Files}
-use Rattle.tiff_dirs.specs.declared.fault.TiffFault.{TiffFault}
-use Rattle.tiff_dirs.specs.Level.{first_fault}
+use Rattle.tiff_format.specs.declared.fault.TiffFault.{TiffFault}
+use Rattle.tiff_format.specs.Fault.{first_fault}
 use Rattle.tile_layout.specs.Kept.{Kept, kept_of}
 use Rattle.tile_layout.specs.Cell.{CellsFit}
 use Rattle.tile_layout.specs.Value.{channel_value_of}

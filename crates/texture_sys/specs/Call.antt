@@ -5,8 +5,8 @@ use Rattle.std.specs.Option.{ForSome}
 use Rattle.tex_world.specs.Counts.{Rises}
 use Rattle.tex_world.specs.World.{Files, IsReal}
 use Rattle.gen_board.specs.View.{ViewState}
-use Rattle.tiff_dirs.specs.Level.{first_fault}
-use Rattle.tile_layout.specs.declared.cut.Cut.{Cut}
+use Rattle.tiff_format.specs.Fault.{first_fault}
+use Rattle.tiff_format.specs.declared.cut.Cut.{Cut}
 use Rattle.tile_layout.specs.Kept.{kept_of}
 use Rattle.tile_layout.specs.Cell.{CellsFit}
 use Rattle.file_table.specs.Record.{RecordState}

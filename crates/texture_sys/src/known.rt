@@ -7,7 +7,7 @@ use file_table::Record;
 use std::marker::Model;
 use std::sync::Arc;
 use tex_world::World;
-use tile_layout::Cut;
+use tiff_format::Cut;
 
 /// A record that shows no fault and fits its cut, and its number of levels. In a clause it is the
 /// record.

@@ -20,7 +20,8 @@ use crate::kept::{KeptCells, KeptTexels, Lacking};
 use crate::known::Known;
 use image_cache::{Cache, Pass};
 use tex_world::Tap;
-use texel_filter::{MAX_CHANNELS, TexRequest, lookup};
+use texel_filter::{TexRequest, lookup};
+use tiff_format::MAX_CHANNELS;
 
 /// Writes the values of a lookup, where the record that the pass keeps is of the newest known
 /// generation of the file and the microcache has all cells that it needs, and answers that

@@ -11,7 +11,7 @@ ghost use Rattle.texel_filter.specs.Calls.{LeftBy};
 ghost use Rattle.shard_gate.specs.Since.{PurgesNone};
 ghost use Rattle.image_cache.specs.Pass.{IsPassOf};
 ghost use Rattle.image_cache.specs.Call.{AfterNeed, NoneFalls};
-ghost use Rattle.image_cache.specs.Cause.{OpenCause, FetchCause};
+ghost use Rattle.image_cache.specs.Cause.{OpeningCause, FetchCause};
 ghost use Rattle.texture_sys.specs.Look.{sizes_known};
 ghost use Rattle.texture_sys.specs.Needs.{visits_on, HasCells, AsksForCells};
 ghost use Rattle.texture_sys.specs.Fetches.{IsUnder, Fetches, Refuses, pass_tap, values_known};
@@ -82,7 +82,7 @@ fn record_of<V: Waiter, T: Tap>(
     requires told { IsFile T.W.files file }
     ensures ok { IfOk result (λ k. GivesRecord T.W.files file cache.now.gate.cut
         pass.old.view pass.new.view k.value) }
-    ensures cause { IfErr result (OpenCause T.W.files file
+    ensures cause { IfErr result (OpeningCause T.W.files file
         (sighted pass.old.view (T.state tap.old)) (sighted pass.new.view (T.state tap.new))) }
     // What the call leaves.
     ensures err { OnErr result (pass.new.latest ≡ pass.old.latest) }

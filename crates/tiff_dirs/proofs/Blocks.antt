@@ -3,12 +3,12 @@ use Rattle.std.proofs.Common.{◌≡◌, ℕ, ◌<◌, ◌≤◌, Bool, true, fa
 use Rattle.std.proofs.Common.{None, refl, ap, ◌∙◌}
 use Rattle.std.proofs.lemmas.Bool.{lt-ltb, le-ltb}
 use Rattle.std.specs.Prelude.{take}
-use Rattle.tiff_dirs.specs.declared.form.Form.{Form}
-use Rattle.tiff_dirs.specs.declared.fault.TiffFault.TheVariants.{OffsetCount}
-use Rattle.tiff_dirs.specs.Field.{field_values, default_of}
-use Rattle.tiff_dirs.specs.Block.{LevelShape, is_tiled, tile_of, offsets_tag, shape_at, blocks_of}
-use Rattle.tiff_dirs.specs.Block.{level_with, level_at}
-use Rattle.tiff_dirs.specs.Fault.{count_fault}
+use Rattle.tiff_format.specs.declared.form.Form.{Form}
+use Rattle.tiff_format.specs.declared.fault.TiffFault.TheVariants.{OffsetCount}
+use Rattle.tiff_format.specs.Field.{field_values, default_of}
+use Rattle.tiff_format.specs.Block.{LevelShape, is_tiled, tile_of, offsets_tag, shape_at, blocks_of}
+use Rattle.tiff_format.specs.Block.{level_with, level_at}
+use Rattle.tiff_format.specs.DirectoryFault.{count_fault}
 use Rattle.tiff_dirs.specs.Numbers.{tag_of_offsets}
 
 module _ (form : Form) (bytes : List ℕ) (at : ℕ) where

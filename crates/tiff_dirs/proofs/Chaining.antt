@@ -6,12 +6,12 @@ use Rattle.std.proofs.Math.ListN.{get_or-append}
 use Rattle.std.proofs.lemmas.Bool.{and_parts, eqb-true, cases_lt, eq-eqb}
 use Rattle.std.proofs.lemmas.List.{get_or-append_right, length-append, get_or-map, length-map}
 use Rattle.std.proofs.lemmas.List.{map-append}
-use Rattle.tiff_dirs.specs.declared.dir.Dir.{Dir}
-use Rattle.tiff_dirs.specs.Shown.{shown, shown_shape}
-use Rattle.tiff_dirs.specs.Block.{LevelShape, Level}
-use Rattle.tiff_dirs.specs.Fault.{max_side}
-use Rattle.tiff_dirs.specs.Level.{halved, max_levels, has_half_size, has_samples_of}
-use Rattle.tiff_dirs.specs.Facts.{IsChain}
+use Rattle.tiff_format.specs.declared.dir.Dir.{Dir}
+use Rattle.tiff_format.specs.Shown.{shown, shown_shape}
+use Rattle.tiff_format.specs.Block.{LevelShape, Level}
+use Rattle.tiff_format.specs.Limits.{max_side}
+use Rattle.tiff_format.specs.Level.{halved, max_levels, has_half_size, has_samples_of}
+use Rattle.tiff_format.specs.Facts.{IsChain}
 use Rattle.tiff_dirs.specs.NextLevel.{is_half_of}
 
 same_samples : (shape : LevelShape) → has_samples_of shape shape ≡ true

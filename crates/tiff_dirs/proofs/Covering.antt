@@ -1,15 +1,15 @@
 -- The first entries of the tags, one entry after the other.
-use Rattle.tiff_dirs.specs.declared.form.Form.{Form}
+use Rattle.tiff_format.specs.declared.form.Form.{Form}
 use Rattle.std.proofs.Common.{◌≡◌, ℕ, zero, suc, ◌+◌, ◌*◌, ◌<◌, Bool, true, false, cond, eqb, List}
 use Rattle.std.proofs.Common.{get_or, Option, Some, None, ◌≤◌, ◌≢◌, length, set, get_or-set_other}
 use Rattle.std.proofs.Common.{get_or-set_same, length-set, below_more, add-one, eq-eqb, ne_eqb}
 use Rattle.std.proofs.Common.{refl, ap, ◌∙◌, arith}
 use Rattle.std.specs.Option.{option_or}
 use Rattle.tiff_dirs.specs.declared.entry.Entry.{Entry}
-use Rattle.tiff_dirs.specs.Bytes.{number_at}
-use Rattle.tiff_dirs.specs.Form.{count_bytes, entry_bytes, tag_bytes}
-use Rattle.tiff_dirs.specs.Directory.{entry_count}
-use Rattle.tiff_dirs.specs.Field.{first_entry, field_place}
+use Rattle.tiff_format.specs.Bytes.{number_at}
+use Rattle.tiff_format.specs.Form.{count_bytes, entry_bytes, tag_bytes}
+use Rattle.tiff_format.specs.Directory.{entry_count}
+use Rattle.tiff_format.specs.Field.{first_entry, field_place}
 use Rattle.tiff_dirs.specs.Entries.{IsEntry, IsKept, Covers, HasEntries, tags, tag_count, noted}
 
 or_of_cond : (b : Bool) (x : ℕ) (a c : Option ℕ)

@@ -4,10 +4,10 @@ use Rattle.std.proofs.Common.{length, get_or, Option, Some, None, refl, sym, ari
 use Rattle.std.proofs.Common.{inl, inr, ◌^◌}
 use Rattle.std.proofs.Math.Nat.{mul-le-mul, mul-le-mul_left, mul-div-le}
 use Rattle.std.proofs.lemmas.Bool.{cases_lt, and_parts, leb-true}
-use Rattle.tiff_dirs.specs.declared.form.Form.{Form}
-use Rattle.tiff_dirs.specs.Block.{LevelShape, Level, blocks_of, block_bytes, pieces_over}
-use Rattle.tiff_dirs.specs.Block.{blocks_by}
-use Rattle.tiff_dirs.specs.Facts.{IsSide, IsTileSide, HasTileSides, IsLevelShape, HasOffsets}
+use Rattle.tiff_format.specs.declared.form.Form.{Form}
+use Rattle.tiff_format.specs.Block.{LevelShape, Level, blocks_of, block_bytes, pieces_over}
+use Rattle.tiff_format.specs.Block.{blocks_by}
+use Rattle.tiff_format.specs.Facts.{IsSide, IsTileSide, HasTileSides, IsLevelShape, HasOffsets}
 use Rattle.tiff_dirs.specs.ReadLevel.{lies_within, first_outside}
 use Rattle.tiff_dirs.proofs.Finding.{none_of_range}
 

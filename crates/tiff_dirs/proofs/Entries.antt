@@ -1,11 +1,11 @@
 -- What is kept of an entry.
-use Rattle.tiff_dirs.specs.declared.form.Form.{Form}
+use Rattle.tiff_format.specs.declared.form.Form.{Form}
 use Rattle.std.proofs.Common.{◌≡◌, ℕ, ◌+◌, ◌*◌, ◌<◌, ◌≤◌, Bool, true, false, List}
 use Rattle.std.proofs.Common.{refl, ltb, leb, eqb, cond, lit≤}
 use Rattle.std.specs.Prelude.{◌&&◌}
 use Rattle.std.proofs.lemmas.Bool.{le-leb, lt-leb, leb-true, ltb-true, and_parts}
-use Rattle.tiff_dirs.specs.Form.{offset_bytes, offset_at, value_field_at}
-use Rattle.tiff_dirs.specs.Field.{count_of, type_size, value_size, values_place}
+use Rattle.tiff_format.specs.Form.{offset_bytes, offset_at, value_field_at}
+use Rattle.tiff_format.specs.Field.{count_of, type_size, value_size, values_place}
 use Rattle.tiff_dirs.specs.declared.entry.Entry.{Entry}
 use Rattle.tiff_dirs.specs.Entries.{is_read, is_shaped}
 

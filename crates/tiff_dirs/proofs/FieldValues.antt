@@ -1,5 +1,5 @@
 -- The values of a field, from what is kept of its entry.
-use Rattle.tiff_dirs.specs.declared.form.Form.{Form}
+use Rattle.tiff_format.specs.declared.form.Form.{Form}
 use Rattle.std.proofs.Common.{◌≡◌, ℕ}
 use Rattle.std.proofs.Common.{◌+◌, ◌*◌, ◌<◌, ◌≤◌, true, false, List, [], map}
 use Rattle.std.proofs.Common.{length, get_or, Option, Some, None, refl, sym, ap, ◌∙◌, arith}
@@ -8,12 +8,12 @@ use Rattle.std.specs.Option.{option_to_list, unwrap_or}
 use Rattle.std.specs.List.{range_with_len}
 use Rattle.std.proofs.lemmas.List.FromFn.{get_or-map-range_with_len, length-map-range_with_len}
 use Rattle.tiff_dirs.specs.declared.entry.Entry.{Entry}
-use Rattle.tiff_dirs.specs.Field.{count_of, type_size, values_place, entry_value, has_shape}
-use Rattle.tiff_dirs.specs.Field.{entry_values, field_place, field_values, default_of}
-use Rattle.tiff_dirs.specs.Fault.{is_misshapen}
-use Rattle.tiff_dirs.specs.Reader.{IsPartAt}
+use Rattle.tiff_format.specs.Field.{count_of, type_size, values_place, entry_value, has_shape}
+use Rattle.tiff_format.specs.Field.{entry_values, field_place, field_values, default_of}
+use Rattle.tiff_format.specs.DirectoryFault.{is_misshapen}
+use Rattle.tiff_format.specs.Bytes.{IsPartAt}
 use Rattle.tiff_dirs.specs.Entries.{IsEntry, IsKept, is_shaped, part_value}
-use Rattle.tiff_dirs.proofs.BytesOfParts.{number_of_part}
+use Rattle.tiff_format.proofs.BytesOfParts.{number_of_part}
 use Rattle.tiff_dirs.proofs.Entries.{shape_parts}
 
 -- ---- what is kept of an entry

@@ -1,15 +1,16 @@
 -- The first level of a file stands where the header says.
 use Rattle.std.proofs.Common.{◌≡◌, ℕ, List, [], ◌∷◌, refl, ap, ◌∙◌}
 use Rattle.std.specs.Option.{option_or}
-use Rattle.tiff_dirs.specs.declared.form.Form.{Form}
+use Rattle.tiff_format.specs.declared.form.Form.{Form}
 use Rattle.tiff_dirs.specs.declared.place.Place.{Place}
 use Rattle.tiff_dirs.specs.declared.read_level.ReadLevel.{ReadLevel}
-use Rattle.tiff_dirs.specs.Form.{form_of}
-use Rattle.tiff_dirs.specs.Directory.{directory_place}
-use Rattle.tiff_dirs.specs.Block.{level_at}
-use Rattle.tiff_dirs.specs.Fault.{first_of, directory_fault}
+use Rattle.tiff_format.specs.Form.{form_of}
+use Rattle.tiff_format.specs.Directory.{directory_place}
+use Rattle.tiff_format.specs.Block.{level_at}
+use Rattle.tiff_format.specs.DirectoryFault.{first_of, directory_fault}
 use Rattle.tiff_dirs.specs.Header.{IsHeader}
-use Rattle.tiff_dirs.specs.Level.{header_fault, level_place, level_of, data_faults, first_fault}
+use Rattle.tiff_format.specs.Fault.{header_fault, data_faults, first_fault}
+use Rattle.tiff_format.specs.Level.{level_place, directory_level}
 use Rattle.tiff_dirs.specs.Entries.{IsLinkAt}
 use Rattle.tiff_dirs.specs.ReadLevel.{IsLevelAt, seen_level}
 use Rattle.tiff_dirs.specs.Chain.{IsEnd}
@@ -26,8 +27,8 @@ module _ (bytes : List ℕ) (place : Place) (is : IsHeader bytes place) where
       ∙ ap (λ (p : ℕ). directory_fault (form_of bytes) bytes p) place_there
 
   pub first_there : (read : ReadLevel) → IsLevelAt place.form bytes place.at read
-      → seen_level read ≡ level_of bytes 0
-  unfolding level_of
+      → seen_level read ≡ directory_level bytes 0
+  unfolding directory_level
   first_there read at =
       at.level
       ∙ ap (λ (f : Form). level_at f bytes place.at) is.form

@@ -3,25 +3,25 @@ use Rattle.std.proofs.Common.{◌≡◌, ℕ, ◌+◌, ◌<◌, true, false, Lis
 use Rattle.std.proofs.Common.{get_or, Option, Some, None, refl, sym, ap, ◌∙◌, arith}
 use Rattle.std.specs.Option.{option_map_or}
 use Rattle.std.proofs.lemmas.List.{get_or-map, map-append}
-use Rattle.tiff_dirs.specs.declared.dir.Dir.{Dir}
+use Rattle.tiff_format.specs.declared.dir.Dir.{Dir}
 use Rattle.tiff_dirs.specs.declared.read_level.ReadLevel.{ReadLevel}
-use Rattle.tiff_dirs.specs.Form.{form_of}
-use Rattle.tiff_dirs.specs.Block.{Level, level_at}
-use Rattle.tiff_dirs.specs.Fault.{data_fault}
-use Rattle.tiff_dirs.specs.Level.{level_of, level_place, is_next_level, is_level, max_levels}
+use Rattle.tiff_format.specs.Form.{form_of}
+use Rattle.tiff_format.specs.Block.{Level, level_at}
+use Rattle.tiff_format.specs.DirectoryFault.{data_fault}
+use Rattle.tiff_format.specs.Level.{directory_level, level_place, is_next_level, is_level, max_levels}
 use Rattle.tiff_dirs.specs.ReadLevel.{seen_level}
 use Rattle.tiff_dirs.specs.NextLevel.{IsNext, is_followed}
 use Rattle.tiff_dirs.specs.Chain.{AreLevels, AreAll, IsEnd}
-use Rattle.tiff_dirs.specs.Shown.{shown}
+use Rattle.tiff_format.specs.Shown.{shown}
 use Rattle.tiff_dirs.proofs.Leading.{more_levels, level_of_all, followed_is, place_more}
 use Rattle.tiff_dirs.proofs.Leading.{all_stored, most_stored}
 use Rattle.tiff_dirs.proofs.Chaining.{IsSingle, single_last, any_default, last_number}
-use Rattle.tiff_dirs.specs.Facts.{IsChain}
+use Rattle.tiff_format.specs.Facts.{IsChain}
 use Rattle.tiff_dirs.proofs.NextLevel.{last_is_last}
 
 module _ (bytes : List ℕ) where
-  level_there : (k : ℕ) → level_of bytes k ≡ level_at (form_of bytes) bytes (level_place bytes k)
-  unfolding level_of
+  level_there : (k : ℕ) → directory_level bytes k ≡ level_at (form_of bytes) bytes (level_place bytes k)
+  unfolding directory_level
   level_there k = refl
 
   -- a directory that was read is its level
@@ -48,7 +48,7 @@ module _ (bytes : List ℕ) where
     pub next_end : IsEnd bytes (k + 1) next.next
     next_end = rw place_is follows.3.link
 
-    pub next_level_is : seen_level next ≡ level_of bytes (k + 1)
+    pub next_level_is : seen_level next ≡ directory_level bytes (k + 1)
     next_level_is = follows.3.level ∙ rw (sym place_is) (sym (level_there (k + 1)))
 
     pub next_is_level : (levels : List Level) → AreLevels bytes (k + 1) levels
@@ -62,7 +62,7 @@ module _ (bytes : List ℕ) where
     -- one more
     pub one_more : (dirs : List Dir) (dir : Dir) → AreLevels bytes (k + 1) (map shown dirs)
         → shown dir ≡ seen_level next
-        → data_fault (form_of bytes) bytes (k + 1) (level_of bytes (k + 1)) ≡ None
+        → data_fault (form_of bytes) bytes (k + 1) (directory_level bytes (k + 1)) ≡ None
         → AreLevels bytes (k + 1 + 1) (map shown (dirs ++ dir ∷ []))
     one_more dirs dir are same good =
         rw (map-append shown dirs (dir ∷ []))

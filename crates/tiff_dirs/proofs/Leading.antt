@@ -5,12 +5,12 @@ use Rattle.std.proofs.Common.{add-one, below_more, get_or, ◌≤◌}
 use Rattle.std.specs.Option.{option_and_then, unwrap_or}
 use Rattle.std.proofs.lemmas.Option.{none-some}
 use Rattle.std.proofs.lemmas.List.FromFn.{map-range_with_len_more, get_or-map-range_with_len}
-use Rattle.tiff_dirs.specs.Form.{form_of}
-use Rattle.tiff_dirs.specs.Directory.{lies_inside, next_directory, directory_place}
-use Rattle.tiff_dirs.specs.Block.{Level}
-use Rattle.tiff_dirs.specs.Level.{is_level, level_of, level_place, leading, stored_levels}
-use Rattle.tiff_dirs.specs.Level.{max_levels}
-use Rattle.tiff_dirs.specs.Fault.{data_fault}
+use Rattle.tiff_format.specs.Form.{form_of}
+use Rattle.tiff_format.specs.Directory.{lies_inside, next_directory, directory_place}
+use Rattle.tiff_format.specs.Block.{Level}
+use Rattle.tiff_format.specs.Level.{is_level, directory_level, level_place, leading, stored_levels}
+use Rattle.tiff_format.specs.Level.{max_levels}
+use Rattle.tiff_format.specs.DirectoryFault.{data_fault}
 use Rattle.tiff_dirs.specs.NextLevel.{is_followed}
 use Rattle.tiff_dirs.specs.Chain.{AreLevels, AreAll}
 
@@ -55,8 +55,8 @@ at_least test k (suc t) (suc m) le each =
 module _ (bytes : List ℕ) where
   -- ---- the levels so far
 
-  pub one_level : (levels : List Level) → levels ≡ level_of bytes 0 ∷ []
-      → data_fault (form_of bytes) bytes 0 (level_of bytes 0) ≡ None → AreLevels bytes 1 levels
+  pub one_level : (levels : List Level) → levels ≡ directory_level bytes 0 ∷ []
+      → data_fault (form_of bytes) bytes 0 (directory_level bytes 0) ≡ None → AreLevels bytes 1 levels
   unfolding is_level
   one_level levels is good = record {
     blocks = λ k lt. let zero-is : k ≡ 0 = omega arith in
@@ -67,22 +67,22 @@ module _ (bytes : List ℕ) where
   }
 
   pub more_levels : (n : ℕ) (levels : List Level) (level : Level) → AreLevels bytes n levels
-      → is_level bytes n ≡ true → data_fault (form_of bytes) bytes n (level_of bytes n) ≡ None
-      → level ≡ level_of bytes n
+      → is_level bytes n ≡ true → data_fault (form_of bytes) bytes n (directory_level bytes n) ≡ None
+      → level ≡ directory_level bytes n
       → AreLevels bytes (n + 1) (levels ++ level ∷ [])
   more_levels n levels level are is good same = record {
     blocks = below_more _ _ are.blocks good;
     each = below_more _ _ are.each is;
     same = rw (are.same, same)
-        (sym (map-range_with_len_more (level_of bytes) 0 n n (zero-add n)));
+        (sym (map-range_with_len_more (directory_level bytes) 0 n n (zero-add n)));
   }
 
   -- level k of them
   pub level_of_all : (n k : ℕ) (levels : List Level) (d : Level) → AreLevels bytes n levels → k < n
-      → get_or levels k d ≡ level_of bytes k
+      → get_or levels k d ≡ directory_level bytes k
   level_of_all n k levels d are lt =
       ap (λ (ls : List Level). get_or ls k d) are.same
-      ∙ get_or-map-range_with_len (level_of bytes) 0 n k k d lt (zero-add k)
+      ∙ get_or-map-range_with_len (directory_level bytes) 0 n k k d lt (zero-add k)
 
   pub followed_is : (k : ℕ) (b : Bool) → is_level bytes k ≡ true
       → is_followed (form_of bytes) bytes (level_place bytes 0) (level_place bytes k) ≡ b

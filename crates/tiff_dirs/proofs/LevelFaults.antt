@@ -4,13 +4,14 @@ use Rattle.std.proofs.Common.{Option, Some, None, refl, ap, sym, ◌∙◌, arit
 use Rattle.std.proofs.Common.{below_more}
 use Rattle.std.specs.List.{range_with_len}
 use Rattle.std.proofs.lemmas.List.FromFn.{length-map-range_with_len}
-use Rattle.tiff_dirs.specs.declared.form.Form.{Form}
+use Rattle.tiff_format.specs.declared.form.Form.{Form}
 use Rattle.tiff_dirs.specs.declared.read_level.ReadLevel.{ReadLevel}
-use Rattle.tiff_dirs.specs.declared.fault.TiffFault.{TiffFault}
-use Rattle.tiff_dirs.specs.Form.{form_of}
-use Rattle.tiff_dirs.specs.Block.{Level}
-use Rattle.tiff_dirs.specs.Fault.{first_of, data_fault}
-use Rattle.tiff_dirs.specs.Level.{is_level, level_of, stored_levels, data_faults, max_levels}
+use Rattle.tiff_format.specs.declared.fault.TiffFault.{TiffFault}
+use Rattle.tiff_format.specs.Form.{form_of}
+use Rattle.tiff_format.specs.Block.{Level}
+use Rattle.tiff_format.specs.DirectoryFault.{first_of, data_fault}
+use Rattle.tiff_format.specs.Level.{is_level, directory_level, stored_levels, max_levels}
+use Rattle.tiff_format.specs.Fault.{data_faults}
 use Rattle.tiff_dirs.specs.ReadLevel.{blocks_fault, seen_level}
 use Rattle.tiff_dirs.specs.Chain.{AreLevels, AreAll}
 use Rattle.tiff_dirs.proofs.Leading.{stored_so_far}
@@ -56,24 +57,24 @@ module _ (bytes : List ℕ) where
   -- the blocks of level n lie outside, and those of the levels before it inside
   pub faults_at : (n : ℕ) (levels : List Level) (f : TiffFault) → n < max_levels
       → AreLevels bytes n levels → is_level bytes n ≡ true
-      → data_fault (form_of bytes) bytes n (level_of bytes n) ≡ Some f
+      → data_fault (form_of bytes) bytes n (directory_level bytes n) ≡ Some f
       → data_faults bytes ≡ Some f
   unfolding data_faults
   faults_at n levels f lt are level there =
       let stored = stored_so_far bytes (n + 1) (omega arith) (below_more _ _ are.each level) in
-      first_of_row (λ k. data_fault (form_of bytes) bytes k (level_of bytes k)) 0
+      first_of_row (λ k. data_fault (form_of bytes) bytes k (directory_level bytes k)) 0
       (stored_levels bytes) n f (omega arith)
       (λ j below. rw zero-add (are.blocks j below)) (rw zero-add there)
 
   -- those of level 0
   pub faults_at_first : (f : TiffFault)
-      → data_fault (form_of bytes) bytes 0 (level_of bytes 0) ≡ Some f
+      → data_fault (form_of bytes) bytes 0 (directory_level bytes 0) ≡ Some f
       → data_faults bytes ≡ Some f
   unfolding is_level data_faults
   faults_at_first f there =
       let stored = stored_so_far bytes 1 (omega arith)
       (λ k lt. let zero-is : k ≡ 0 = omega arith in ap (is_level bytes) zero-is) in
-      first_of_row (λ k. data_fault (form_of bytes) bytes k (level_of bytes k)) 0
+      first_of_row (λ k. data_fault (form_of bytes) bytes k (directory_level bytes k)) 0
       (stored_levels bytes) 0 f (omega arith)
       (λ j below. absurd (omega arith)) there
 
@@ -83,21 +84,21 @@ module _ (bytes : List ℕ) where
   unfolding data_faults
   no_faults n levels are all =
       let count : stored_levels bytes ≡ n =
-      sym (length-map-range_with_len (level_of bytes) 0 (stored_levels bytes))
+      sym (length-map-range_with_len (directory_level bytes) 0 (stored_levels bytes))
       ∙ ap (λ (ls : List Level). length ls) (sym all.0 ∙ are.same)
-      ∙ length-map-range_with_len (level_of bytes) 0 n in
-      none_of_row (λ k. data_fault (form_of bytes) bytes k (level_of bytes k)) 0
+      ∙ length-map-range_with_len (directory_level bytes) 0 n in
+      none_of_row (λ k. data_fault (form_of bytes) bytes k (directory_level bytes k)) 0
       (stored_levels bytes)
       (λ j below. rw zero-add (are.blocks j (omega (arith, count))))
 
   -- the fault that a test of what was read of level n shows
   pub tested_is : (n file : ℕ) (read : ReadLevel) (o : Option TiffFault)
-      → read.next.form ≡ form_of bytes → seen_level read ≡ level_of bytes n
+      → read.next.form ≡ form_of bytes → seen_level read ≡ directory_level bytes n
       → length bytes ≡ file → blocks_fault read.next.form file n (seen_level read) ≡ o
-      → data_fault (form_of bytes) bytes n (level_of bytes n) ≡ o
+      → data_fault (form_of bytes) bytes n (directory_level bytes n) ≡ o
   tested_is n file read o same level long shown =
-      blocks_are (form_of bytes) bytes n (level_of bytes n)
-      ∙ ap (λ (f : Form). blocks_fault f (length bytes) n (level_of bytes n)) (sym same)
-      ∙ ap (λ (len : ℕ). blocks_fault read.next.form len n (level_of bytes n)) long
+      blocks_are (form_of bytes) bytes n (directory_level bytes n)
+      ∙ ap (λ (f : Form). blocks_fault f (length bytes) n (directory_level bytes n)) (sym same)
+      ∙ ap (λ (len : ℕ). blocks_fault read.next.form len n (directory_level bytes n)) long
       ∙ ap (λ (l : Level). blocks_fault read.next.form file n l) (sym level)
       ∙ shown

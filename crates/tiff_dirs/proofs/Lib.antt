@@ -1,4 +1,3 @@
-pub mod BytesOfParts
 pub mod Entries
 pub mod Covering
 pub mod Parts

@@ -3,18 +3,19 @@ use Rattle.std.proofs.Common.{◌≡◌, ℕ, Bool, true, false, not, eqb, List,
 use Rattle.std.proofs.Common.{Option, Some, None, take, refl, ap, ◌∙◌, sym, ◌⊎◌, inl, inr}
 use Rattle.std.specs.Prelude.{◌||◌}
 use Rattle.std.specs.Option.{option_or, option_map}
-use Rattle.tiff_dirs.specs.declared.form.Form.{Form}
-use Rattle.tiff_dirs.specs.declared.fault.TiffFault.{TiffFault}
-use Rattle.tiff_dirs.specs.declared.fault.TiffFault.TheVariants.{Unsupported}
+use Rattle.tiff_format.specs.declared.form.Form.{Form}
+use Rattle.tiff_format.specs.declared.fault.TiffFault.{TiffFault}
+use Rattle.tiff_format.specs.declared.fault.TiffFault.TheVariants.{Unsupported}
 use Rattle.tiff_dirs.specs.declared.numbers.Numbers.{Numbers}
 use Rattle.tiff_dirs.specs.declared.sample_fields.SampleField.{SampleField}
-use Rattle.tiff_dirs.specs.Tag.{bits_per_sample_tag}
-use Rattle.tiff_dirs.specs.Field.{field_values}
-use Rattle.tiff_dirs.specs.Block.{LevelShape, is_tiled, shape_at}
-use Rattle.tiff_dirs.specs.Fault.{first_of, directory_fault, outside_fault, missing_fault}
-use Rattle.tiff_dirs.specs.Fault.{shape_fault, unsupported_fault, zero_fault, large_fault}
-use Rattle.tiff_dirs.specs.Fault.{tile_fault, count_fault, bits_fault, compression_fault}
-use Rattle.tiff_dirs.specs.Fault.{photometric_fault, planar_fault, format_fault}
+use Rattle.tiff_format.specs.Tag.{bits_per_sample_tag}
+use Rattle.tiff_format.specs.Field.{field_values}
+use Rattle.tiff_format.specs.Block.{LevelShape, is_tiled, shape_at}
+use Rattle.tiff_format.specs.DirectoryFault.{first_of, directory_fault, outside_fault}
+use Rattle.tiff_format.specs.DirectoryFault.{missing_fault, shape_fault, unsupported_fault}
+use Rattle.tiff_format.specs.DirectoryFault.{zero_fault, large_fault, tile_fault, count_fault}
+use Rattle.tiff_format.specs.DirectoryFault.{bits_fault, compression_fault, photometric_fault}
+use Rattle.tiff_format.specs.DirectoryFault.{planar_fault, format_fault}
 use Rattle.tiff_dirs.specs.Values.{first_other}
 use Rattle.tiff_dirs.specs.Numbers.{AreNumbersAt, value_fault, size_fault, entries_fault}
 use Rattle.tiff_dirs.specs.Numbers.{numbers_fault, fields_fault, numbers_shape}

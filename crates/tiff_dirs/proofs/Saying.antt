@@ -1,11 +1,11 @@
 -- What one call finds, from what another finds.
 use Rattle.std.proofs.Common.{ℕ, List, ◌≡◌, Result, Ok, Err, Option, Some, None, ◌∙◌}
-use Rattle.tiff_dirs.specs.declared.fault.TiffFault.{TiffFault}
-use Rattle.tiff_dirs.specs.declared.fault.DirsError.{DirsError}
-use Rattle.tiff_dirs.specs.declared.fault.DirsError.TheVariants.{Fault, Reader, NoMemory}
+use Rattle.tiff_format.specs.declared.fault.TiffFault.{TiffFault}
+use Rattle.tiff_dirs.specs.declared.error.DirsError.{DirsError}
+use Rattle.tiff_dirs.specs.declared.error.DirsError.TheVariants.{Fault, Reader, NoMemory}
 use Rattle.tiff_dirs.specs.Calls.{Finds}
 use Rattle.tiff_dirs.specs.Dirs.{Tells, Leaves}
-use Rattle.tiff_dirs.specs.Level.{first_fault}
+use Rattle.tiff_format.specs.Fault.{first_fault}
 
 -- the same fault, of what is seen otherwise
 pub finds_so : {E T : Type 0} (p q : Option TiffFault) (seen wanted : T → Type 0)

@@ -1,17 +1,17 @@
 -- What faults are shown.
-use Rattle.tiff_dirs.specs.declared.form.Form.{Form}
+use Rattle.tiff_format.specs.declared.form.Form.{Form}
 use Rattle.std.proofs.Common.{◌≡◌, ℕ, ◌<◌, ◌≤◌, Bool, true, false, not, List, length}
 use Rattle.std.proofs.Common.{get_or, Some, None, refl, arith}
 use Rattle.std.specs.Prelude.{◌||◌}
 use Rattle.std.specs.Bool.{then_some}
 use Rattle.std.proofs.lemmas.Bool.{le-ltb, lt-ltb, ne_eqb, eq-eqb, false_from_ne_true}
-use Rattle.tiff_dirs.specs.declared.fault.TiffFault.TheVariants.{Short, BadMark, BadVersion}
-use Rattle.tiff_dirs.specs.declared.fault.TiffFault.TheVariants.{DirOutside}
-use Rattle.tiff_dirs.specs.Bytes.{has_mark, is_big, is_little, version, tiff_version}
-use Rattle.tiff_dirs.specs.Directory.{lies_inside}
-use Rattle.tiff_dirs.specs.Fault.{outside_fault}
-use Rattle.tiff_dirs.specs.Level.{header_fault}
-use Rattle.tiff_dirs.specs.Reader.{IsPartAt}
+use Rattle.tiff_format.specs.declared.fault.TiffFault.TheVariants.{Short, BadMark, BadVersion}
+use Rattle.tiff_format.specs.declared.fault.TiffFault.TheVariants.{DirOutside}
+use Rattle.tiff_format.specs.Bytes.{has_mark, is_big, is_little, version, tiff_version}
+use Rattle.tiff_format.specs.Directory.{lies_inside}
+use Rattle.tiff_format.specs.DirectoryFault.{outside_fault}
+use Rattle.tiff_format.specs.Fault.{header_fault}
+use Rattle.tiff_format.specs.Bytes.{IsPartAt}
 use Rattle.tiff_dirs.proofs.Parts.{IsInside, inside_of_parts}
 
 -- ---- the header

@@ -1,10 +1,10 @@
 -- What does the result of a call say of the faults of a file?
 use Rattle.std.specs.Prelude.{◌≡◌, ℕ, List, Option, Some, None, Result, Ok, Err, ⊤}
-use Rattle.tiff_dirs.specs.declared.form.Form.{Form}
+use Rattle.tiff_format.specs.declared.form.Form.{Form}
 use Rattle.tiff_dirs.specs.declared.entry.Entry.{Entry}
-use Rattle.tiff_dirs.specs.declared.fault.TiffFault.{TiffFault}
-use Rattle.tiff_dirs.specs.declared.fault.DirsError.{DirsError}
-use Rattle.tiff_dirs.specs.declared.fault.DirsError.TheVariants.{Fault, Reader, NoMemory}
+use Rattle.tiff_format.specs.declared.fault.TiffFault.{TiffFault}
+use Rattle.tiff_dirs.specs.declared.error.DirsError.{DirsError}
+use Rattle.tiff_dirs.specs.declared.error.DirsError.TheVariants.{Fault, Reader, NoMemory}
 use Rattle.tiff_dirs.specs.Entries.{HasEntries}
 
 -- of a call that reads: an answer is so and comes where no fault is shown,

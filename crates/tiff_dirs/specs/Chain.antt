@@ -2,17 +2,17 @@
 use Rattle.std.specs.Prelude.{◌≡◌, ℕ, ◌<◌, true, List, map, None}
 use Rattle.std.specs.List.{range_with_len}
 use Rattle.tiff_dirs.specs.declared.place.Place.{Place}
-use Rattle.tiff_dirs.specs.Form.{form_of}
-use Rattle.tiff_dirs.specs.Block.{Level}
-use Rattle.tiff_dirs.specs.Fault.{data_fault}
-use Rattle.tiff_dirs.specs.Level.{is_level, level_of, level_place, levels_of, IsWholeChain}
+use Rattle.tiff_format.specs.Form.{form_of}
+use Rattle.tiff_format.specs.Block.{Level}
+use Rattle.tiff_format.specs.DirectoryFault.{data_fault}
+use Rattle.tiff_format.specs.Level.{is_level, directory_level, level_place, levels_of, IsWholeChain}
 use Rattle.tiff_dirs.specs.Entries.{IsLinkAt}
 
 -- the first n directories are levels, their blocks lie in the file, and these are they
 pub record AreLevels (bytes : List ℕ) (n : ℕ) (levels : List Level) : Type 0 where
   pub each : (k : ℕ) → k < n → is_level bytes k ≡ true
-  pub blocks : (k : ℕ) → k < n → data_fault (form_of bytes) bytes k (level_of bytes k) ≡ None
-  pub same : levels ≡ map (level_of bytes) (range_with_len 0 n)
+  pub blocks : (k : ℕ) → k < n → data_fault (form_of bytes) bytes k (directory_level bytes k) ≡ None
+  pub same : levels ≡ map (directory_level bytes) (range_with_len 0 n)
 
 -- the directory of level k says that the next one stands there
 abbrev pub IsEnd : List ℕ → ℕ → Place → Type 0

@@ -1,11 +1,12 @@
 -- What does reading the directories of a file say of its bytes, and how does it leave its reader?
 use Rattle.std.specs.Prelude.{◌≡◌, ℕ, List, map, Some, None, Result, Ok, Err, ⊤}
-use Rattle.tiff_dirs.specs.declared.dirs.Dirs.{Dirs}
-use Rattle.tiff_dirs.specs.declared.fault.DirsError.{DirsError}
-use Rattle.tiff_dirs.specs.declared.fault.DirsError.TheVariants.{Fault, Reader, NoMemory}
-use Rattle.tiff_dirs.specs.Bytes.{is_big}
-use Rattle.tiff_dirs.specs.Level.{first_fault, levels_of, IsWholeChain}
-use Rattle.tiff_dirs.specs.Shown.{shown}
+use Rattle.tiff_format.specs.declared.dirs.Dirs.{Dirs}
+use Rattle.tiff_dirs.specs.declared.error.DirsError.{DirsError}
+use Rattle.tiff_dirs.specs.declared.error.DirsError.TheVariants.{Fault, Reader, NoMemory}
+use Rattle.tiff_format.specs.Bytes.{is_big}
+use Rattle.tiff_format.specs.Fault.{first_fault}
+use Rattle.tiff_format.specs.Level.{levels_of, IsWholeChain}
+use Rattle.tiff_format.specs.Shown.{shown}
 
 -- Of bytes that are told: all levels of the file exactly where it shows no fault, else the first
 -- fault.

@@ -4,17 +4,17 @@ use Rattle.std.specs.Prelude.{Bool, List, length, slice_index_or, Option, Some, 
 use Rattle.std.specs.Prelude.{if◌then◌else◌}
 use Rattle.std.specs.Option.{option_or}
 use Rattle.std.specs.List.{list_any}
-use Rattle.tiff_dirs.specs.declared.form.Form.{Form}
+use Rattle.tiff_format.specs.declared.form.Form.{Form}
 use Rattle.tiff_dirs.specs.declared.place.Place.{Place}
 use Rattle.tiff_dirs.specs.declared.tag.TheConstants.{TAGS}
 use Rattle.tiff_dirs.specs.declared.entry.Entry.{Entry}
 use Rattle.tiff_dirs.specs.declared.directory.Directory.{Directory}
-use Rattle.tiff_dirs.specs.Bytes.{number_at}
-use Rattle.tiff_dirs.specs.Form.{entry_bytes, offset_at, value_field_at}
-use Rattle.tiff_dirs.specs.Directory.{lies_inside, next_place}
-use Rattle.tiff_dirs.specs.Field.{short_type, long_type, type_of, count_of, type_size}
-use Rattle.tiff_dirs.specs.Field.{values_place, first_entry, field_place}
-use Rattle.tiff_dirs.specs.Reader.{IsPartAt}
+use Rattle.tiff_format.specs.Bytes.{number_at}
+use Rattle.tiff_format.specs.Form.{entry_bytes, offset_at, value_field_at}
+use Rattle.tiff_format.specs.Directory.{lies_inside, next_place}
+use Rattle.tiff_format.specs.Field.{short_type, long_type, type_of, count_of, type_size}
+use Rattle.tiff_format.specs.Field.{values_place, first_entry, field_place}
+use Rattle.tiff_format.specs.Bytes.{IsPartAt}
 
 -- ---- an entry
 

@@ -1,15 +1,3 @@
-pub mod Bytes
-pub mod Form
-pub mod Tag
-pub mod Directory
-pub mod Field
-pub mod Block
-pub mod Fault
-pub mod Level
-pub mod Texel
-pub mod Code
-pub mod Facts
-pub mod Shown
 pub mod Reader
 pub mod Header
 pub mod Dirs

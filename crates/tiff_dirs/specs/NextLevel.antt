@@ -2,14 +2,14 @@
 use Rattle.std.specs.Prelude.{◌≡◌, ℕ, ◌&&◌, Bool, true, false, List, Option, Some, None, Result}
 use Rattle.std.specs.Prelude.{Ok, Err, ⊤}
 use Rattle.std.specs.Option.{option_map_or}
-use Rattle.tiff_dirs.specs.declared.form.Form.{Form}
+use Rattle.tiff_format.specs.declared.form.Form.{Form}
 use Rattle.tiff_dirs.specs.declared.read_level.ReadLevel.{ReadLevel}
-use Rattle.tiff_dirs.specs.declared.fault.DirsError.{DirsError}
-use Rattle.tiff_dirs.specs.declared.fault.DirsError.TheVariants.{Fault, Reader, NoMemory}
-use Rattle.tiff_dirs.specs.Directory.{next_directory}
-use Rattle.tiff_dirs.specs.Block.{LevelShape, shape_at}
-use Rattle.tiff_dirs.specs.Fault.{directory_fault}
-use Rattle.tiff_dirs.specs.Level.{has_half_size, has_samples_of, is_next_level}
+use Rattle.tiff_dirs.specs.declared.error.DirsError.{DirsError}
+use Rattle.tiff_dirs.specs.declared.error.DirsError.TheVariants.{Fault, Reader, NoMemory}
+use Rattle.tiff_format.specs.Directory.{next_directory}
+use Rattle.tiff_format.specs.Block.{LevelShape, shape_at}
+use Rattle.tiff_format.specs.DirectoryFault.{directory_fault}
+use Rattle.tiff_format.specs.Level.{has_half_size, has_samples_of, is_next_level}
 use Rattle.tiff_dirs.specs.ReadLevel.{IsLevelAt}
 
 -- half the size of the last level, with the samples of the first

@@ -3,20 +3,21 @@ use Rattle.std.specs.Prelude.{◌≡◌, ℕ, Bool, false, ◌==◌, ◌&&◌, �
 use Rattle.std.specs.Prelude.{map, Option, Some, None}
 use Rattle.std.specs.Option.{option_map_or}
 use Rattle.std.specs.Bool.{then_some}
-use Rattle.tiff_dirs.specs.declared.form.Form.{Form}
+use Rattle.tiff_format.specs.declared.form.Form.{Form}
 use Rattle.tiff_dirs.specs.declared.tag.TheConstants.{NUMBERS}
 use Rattle.tiff_dirs.specs.declared.numbers.Numbers.{Numbers}
-use Rattle.tiff_dirs.specs.declared.fault.TiffFault.{TiffFault}
-use Rattle.tiff_dirs.specs.declared.fault.TiffFault.TheVariants.{Unsupported, ZeroSize, TooLarge}
-use Rattle.tiff_dirs.specs.declared.fault.TiffFault.TheVariants.{TileShape}
-use Rattle.tiff_dirs.specs.Tag.{image_width_tag, image_length_tag, bits_per_sample_tag}
-use Rattle.tiff_dirs.specs.Tag.{compression_tag, photometric_tag, strip_offsets_tag}
-use Rattle.tiff_dirs.specs.Tag.{samples_per_pixel_tag, planar_configuration_tag, tile_offsets_tag}
-use Rattle.tiff_dirs.specs.Field.{field_value}
-use Rattle.tiff_dirs.specs.Block.{LevelShape, shape_of, tile_of, strip_rows}
-use Rattle.tiff_dirs.specs.Fault.{first_of, max_side, max_channels, is_tile_side}
-use Rattle.tiff_dirs.specs.Fault.{missing_fault, shape_fault, unsupported_fault, zero_fault}
-use Rattle.tiff_dirs.specs.Fault.{large_fault, tile_fault}
+use Rattle.tiff_format.specs.declared.fault.TiffFault.{TiffFault}
+use Rattle.tiff_format.specs.declared.fault.TiffFault.TheVariants.{Unsupported, ZeroSize, TooLarge}
+use Rattle.tiff_format.specs.declared.fault.TiffFault.TheVariants.{TileShape}
+use Rattle.tiff_format.specs.Tag.{image_width_tag, image_length_tag, bits_per_sample_tag}
+use Rattle.tiff_format.specs.Tag.{compression_tag, photometric_tag, strip_offsets_tag}
+use Rattle.tiff_format.specs.Tag.{samples_per_pixel_tag, planar_configuration_tag, tile_offsets_tag}
+use Rattle.tiff_format.specs.Field.{field_value}
+use Rattle.tiff_format.specs.Block.{LevelShape, shape_of, tile_of, strip_rows}
+use Rattle.tiff_format.specs.DirectoryFault.{first_of, is_tile_side}
+use Rattle.tiff_format.specs.Limits.{max_side, max_channels}
+use Rattle.tiff_format.specs.DirectoryFault.{missing_fault, shape_fault, unsupported_fault}
+use Rattle.tiff_format.specs.DirectoryFault.{zero_fault, large_fault, tile_fault}
 
 -- the first values of the fields that every directory reads
 abbrev pub numbers_at : Form → List ℕ → ℕ → List ℕ

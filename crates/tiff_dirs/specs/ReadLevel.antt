@@ -2,12 +2,12 @@
 use Rattle.std.specs.Prelude.{◌≡◌, ℕ, ◌+◌, ◌&&◌, not, nat_le, Bool, List, slice_index, find, Option}
 use Rattle.std.specs.Option.{option_map}
 use Rattle.std.specs.List.{range_with_len}
-use Rattle.tiff_dirs.specs.declared.form.Form.{Form}
+use Rattle.tiff_format.specs.declared.form.Form.{Form}
 use Rattle.tiff_dirs.specs.declared.read_level.ReadLevel.{ReadLevel}
-use Rattle.tiff_dirs.specs.declared.fault.TiffFault.{TiffFault}
-use Rattle.tiff_dirs.specs.declared.fault.TiffFault.TheVariants.{DataOutside}
-use Rattle.tiff_dirs.specs.Form.{header_bytes}
-use Rattle.tiff_dirs.specs.Block.{Level, level_at, level_with, blocks_of, block_bytes}
+use Rattle.tiff_format.specs.declared.fault.TiffFault.{TiffFault}
+use Rattle.tiff_format.specs.declared.fault.TiffFault.TheVariants.{DataOutside}
+use Rattle.tiff_format.specs.Form.{header_bytes}
+use Rattle.tiff_format.specs.Block.{Level, level_at, level_with, blocks_of, block_bytes}
 use Rattle.tiff_dirs.specs.Shape.{seen_shape}
 use Rattle.tiff_dirs.specs.Entries.{IsLinkAt}
 

@@ -1,10 +1,6 @@
 -- What does a reader of bytes give?
-use Rattle.std.specs.Prelude.{◌≡◌, ℕ, ◌+◌, ◌<◌, List, length, slice_index, Option}
+use Rattle.std.specs.Prelude.{◌≡◌, ℕ, List, length, Option}
 use Rattle.std.specs.Option.{ForSome}
-
--- the part is the bytes from a place on
-abbrev pub IsPartAt : List ℕ → ℕ → List ℕ → Type 0
-IsPartAt bytes at part = (k : ℕ) → k < length part → slice_index part k ≡ slice_index bytes (at + k)
 
 -- The laws of a reader: what answered reads leave holds of a reader and itself, and chains; no
 -- read, answered or refused, changes the length or the bytes; and where the bytes are told, the

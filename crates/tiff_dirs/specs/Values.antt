@@ -1,9 +1,9 @@
 -- What is said of the values of a field while they are read?
 use Rattle.std.specs.Prelude.{◌≡◌, ℕ, ◌+◌, ◌<◌, ◌==◌, ◌||◌, not, Bool, true, false, List}
 use Rattle.std.specs.Prelude.{length, take, find, slice_index, Option, Some, None}
-use Rattle.tiff_dirs.specs.declared.form.Form.{Form}
+use Rattle.tiff_format.specs.declared.form.Form.{Form}
 use Rattle.tiff_dirs.specs.declared.sample_fields.SampleField.{SampleField}
-use Rattle.tiff_dirs.specs.Field.{field_values}
+use Rattle.tiff_format.specs.Field.{field_values}
 
 -- how many values are read at once: as many LONGs as 64 KiB hold
 abbrev pub max_values : ℕ

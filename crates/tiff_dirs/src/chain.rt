@@ -3,11 +3,12 @@
 ghost use Rattle.std.specs.Prelude.{◌≡◌, ℕ, length, map, IfOk, IfSome, IsTrue};
 ghost use Rattle.std.specs.Prelude.{OnOk, ◌++◌, None, List, [], ◌∷◌};
 ghost use Rattle.std.specs.Option.{ForSome};
-ghost use Rattle.tiff_dirs.specs.Form.{form_of};
-ghost use Rattle.tiff_dirs.specs.Block.{level_at};
-ghost use Rattle.tiff_dirs.specs.Fault.{first_of, directory_fault, data_fault};
-ghost use Rattle.tiff_dirs.specs.Level.{halved as spec_halved, level_of, level_place, data_faults};
-ghost use Rattle.tiff_dirs.specs.Facts.{IsChain};
+ghost use Rattle.tiff_format.specs.Form.{form_of};
+ghost use Rattle.tiff_format.specs.Block.{level_at};
+ghost use Rattle.tiff_format.specs.DirectoryFault.{first_of, directory_fault, data_fault};
+ghost use Rattle.tiff_format.specs.Level.{halved as spec_halved, directory_level, level_place};
+ghost use Rattle.tiff_format.specs.Fault.{data_faults};
+ghost use Rattle.tiff_format.specs.Facts.{IsChain};
 ghost use Rattle.tiff_dirs.specs.Dirs.{Leaves};
 ghost use Rattle.tiff_dirs.specs.Header.{IsHeader};
 ghost use Rattle.tiff_dirs.specs.Entries.{IsLinkAt};
@@ -15,12 +16,11 @@ ghost use Rattle.tiff_dirs.specs.Shape.{seen_shape};
 ghost use Rattle.tiff_dirs.specs.ReadLevel.{IsLevelAt};
 ghost use Rattle.tiff_dirs.specs.NextLevel.{is_half_of, FindsHalf, IsNext};
 ghost use Rattle.tiff_dirs.specs.Chain.{IsEnd, AreAll};
-ghost use Rattle.tiff_dirs.specs.Shown.{shown, shown_shape};
+ghost use Rattle.tiff_format.specs.Shown.{shown, shown_shape};
 ghost use Rattle.tiff_dirs.specs.Calls.{Finds, Reads};
 
-use crate::dir::Dir;
 use crate::directory::read_directory;
-use crate::fault::DirsError;
+use crate::error::DirsError;
 use crate::fields::first_value;
 use crate::level::{read_level, read_shape};
 use crate::place::Place;
@@ -29,6 +29,7 @@ use crate::reader::ByteReader;
 use crate::shape::LevelShape;
 use crate::tag::SAMPLES_PER_PIXEL;
 use std::alloc::{AllocError, Global};
+use tiff_format::Dir;
 
 /// Sides go to 131072 and halve from level to level.
 const MAX_LEVELS: usize = 18;
@@ -129,8 +130,8 @@ fn follow<B: ByteReader>(
 ) -> Result<(), DirsError<B::Error>>
     requires one { length levels.old.items ≡ 1 }
     ensures told { ForSome (B.bytes b.old) (λ bytes.
-        map shown levels.old.items ≡ level_of bytes 0 ∷ []
-        → data_fault (form_of bytes) bytes 0 (level_of bytes 0) ≡ None
+        map shown levels.old.items ≡ directory_level bytes 0 ∷ []
+        → data_fault (form_of bytes) bytes 0 (directory_level bytes 0) ≡ None
         → IsEnd bytes 0 first_next
         → Finds (data_faults bytes) (λ _. AreAll bytes (map shown levels.new.items)) result) }
     ensures chain { OnOk result (IsChain (map shown levels.new.items)) }

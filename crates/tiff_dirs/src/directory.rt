@@ -2,19 +2,19 @@
 
 ghost use Rattle.std.specs.Prelude.{◌≡◌, ℕ, ◌+◌, ◌*◌, ◌^◌, ◌<◌, ◌≤◌, List, length, IfOk, true};
 ghost use Rattle.std.specs.Option.{ForSome};
-ghost use Rattle.tiff_dirs.specs.Form.{entry_bytes, offset_bytes};
-ghost use Rattle.tiff_dirs.specs.Directory.{entry_count, entry_place};
+ghost use Rattle.tiff_format.specs.Form.{entry_bytes, offset_bytes};
+ghost use Rattle.tiff_format.specs.Directory.{entry_count, entry_place};
 ghost use Rattle.tiff_dirs.specs.Dirs.{Leaves};
 ghost use Rattle.tiff_dirs.specs.Entries.{AddsBlock, AreEntriesAt, IsDirectoryAt};
-ghost use Rattle.tiff_dirs.specs.Fault.{outside_fault};
+ghost use Rattle.tiff_format.specs.DirectoryFault.{outside_fault};
 ghost use Rattle.tiff_dirs.specs.Calls.{Finds, Reads};
 
-use crate::fault::{DirsError, TiffFault};
-use crate::form::{COUNT_BYTES, ENTRY_BYTES, OFFSET_BYTES};
+use crate::error::DirsError;
 use crate::found::Found;
 use crate::place::Place;
 use crate::reader::{ByteReader, MAX_READ_BYTES, read_at};
 use std::alloc::Global;
+use tiff_format::{COUNT_BYTES, ENTRY_BYTES, OFFSET_BYTES, TiffFault};
 
 /// How many entries are read at once, with an offset behind them.
 const MAX_ENTRIES: usize = (MAX_READ_BYTES - OFFSET_BYTES) / ENTRY_BYTES;

@@ -3,17 +3,17 @@
 ghost use Rattle.std.specs.Prelude.{◌≡◌, ℕ, ◌+◌, ◌*◌, ◌^◌, ◌<◌, ◌≤◌, ◌==◌, ◌||◌, Bool, List};
 ghost use Rattle.std.specs.Prelude.{length, nat_le, IsTrue};
 ghost use Rattle.std.specs.Option.{ForSome};
-ghost use Rattle.tiff_dirs.specs.Form.{entry_bytes, offset_bytes};
-ghost use Rattle.tiff_dirs.specs.Field.{type_size, entry_value};
-ghost use Rattle.tiff_dirs.specs.Reader.{IsPartAt};
+ghost use Rattle.tiff_format.specs.Form.{entry_bytes, offset_bytes};
+ghost use Rattle.tiff_format.specs.Field.{type_size, entry_value};
+ghost use Rattle.tiff_format.specs.Bytes.{IsPartAt};
 ghost use Rattle.tiff_dirs.specs.Entries.{IsEntry, is_shaped, is_read, part_value};
 ghost use Rattle.tiff_dirs.specs.Entries.{SpellValues};
 ghost use Rattle.tiff_dirs.specs.Dirs.{Leaves};
 ghost use Rattle.tiff_dirs.specs.Calls.{Reads};
 
-use crate::fault::DirsError;
-use crate::form::{ENTRY_BYTES, Form, OFFSET_BYTES};
+use crate::error::DirsError;
 use crate::reader::{ByteReader, read_at};
+use tiff_format::{ENTRY_BYTES, Form, OFFSET_BYTES};
 
 /// The types that are read (TIFF 6.0, section 2, "Types").
 const SHORT: u16 = 3;
@@ -138,7 +138,7 @@ impl Entry {
     }
 
     /// Value k among the bytes of values.
-    pub fn value_in(&self, part: &[u8], k: usize) -> u32
+    pub fn value_among(&self, part: &[u8], k: usize) -> u32
         requires kind { IsTrue (is_read self.now.kind) }
         requires room { type_size self.now.kind * k + type_size self.now.kind ≤ length part.now }
         ensures { result ≡ part_value self.now part.now k }

@@ -2,15 +2,15 @@
 
 ghost use Rattle.std.specs.Prelude.{◌≡◌, ℕ, ◌^◌, ◌<◌, ◌≤◌, List, IsTrue};
 ghost use Rattle.std.specs.Option.{ForSome};
-ghost use Rattle.tiff_dirs.specs.Field.{entry_value, field_value};
-ghost use Rattle.tiff_dirs.specs.Block.{tile_of, strip_rows};
+ghost use Rattle.tiff_format.specs.Field.{entry_value, field_value};
+ghost use Rattle.tiff_format.specs.Block.{tile_of, strip_rows};
 ghost use Rattle.tiff_dirs.specs.Dirs.{Leaves};
 ghost use Rattle.tiff_dirs.specs.Entries.{IsEntry, is_shaped, is_known};
 ghost use Rattle.tiff_dirs.specs.Numbers.{numbers_at, AreNumbersAt};
 ghost use Rattle.tiff_dirs.specs.Calls.{Reads, OfEntries};
 
 use crate::entry::{Entry, LONG_BYTES};
-use crate::fault::DirsError;
+use crate::error::DirsError;
 use crate::found::Found;
 use crate::numbers::Numbers;
 use crate::reader::ByteReader;
@@ -29,7 +29,7 @@ fn value_of_entry<B: ByteReader>(b: &mut B, entry: &Entry) -> Result<u32, DirsEr
     let mut buffer = [0u8; LONG_BYTES];
     let part = &mut buffer[..entry.value_size() as usize];
     entry.read_part(b, 0, part)?;
-    Ok(entry.value_in(part, 0))
+    Ok(entry.value_among(part, 0))
 }
 
 /// The first value of a field: that of its entry, or its default. 0 where there is none.

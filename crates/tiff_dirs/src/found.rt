@@ -3,25 +3,24 @@
 ghost use Rattle.std.specs.Prelude.{◌≡◌, ℕ, ◌+◌, ◌*◌, ◌/◌, ◌^◌, ◌<◌, ◌≤◌, List, length};
 ghost use Rattle.std.specs.Prelude.{slice_index_or, Option, IsTrue, if◌then◌else◌, ◌==◌, Bool};
 ghost use Rattle.std.specs.Option.{option_or};
-ghost use Rattle.tiff_dirs.specs.Field.{field_place};
-ghost use Rattle.tiff_dirs.specs.Reader.{IsPartAt};
-ghost use Rattle.tiff_dirs.specs.declared.form.Form.{Form};
-ghost use Rattle.tiff_dirs.specs.Form.{entry_bytes};
+ghost use Rattle.tiff_format.specs.Field.{field_place};
+ghost use Rattle.tiff_format.specs.Bytes.{IsPartAt};
+ghost use Rattle.tiff_format.specs.declared.form.Form.{Form};
+ghost use Rattle.tiff_format.specs.Form.{entry_bytes};
 ghost use Rattle.tiff_dirs.specs.Entries.{Covers, IsKept, is_known, noted, tag_count};
 ghost use Rattle.std.specs.Prelude.{find, not, [], ◌∷◌};
 ghost use Rattle.std.specs.List.{list_all};
-ghost use Rattle.tiff_dirs.specs.Field.{has_field};
-ghost use Rattle.tiff_dirs.specs.Block.{is_tiled};
-ghost use Rattle.tiff_dirs.specs.Fault.{is_misshapen, missing_fault, shape_fault};
+ghost use Rattle.tiff_format.specs.Field.{has_field};
+ghost use Rattle.tiff_format.specs.Block.{is_tiled};
+ghost use Rattle.tiff_format.specs.DirectoryFault.{is_misshapen, missing_fault, shape_fault};
 ghost use Rattle.tiff_dirs.specs.Numbers.{entries_fault};
 ghost use Rattle.tiff_dirs.specs.Calls.{OfEntries, Tests};
 
 use crate::entry::Entry;
-use crate::fault::TiffFault;
-use crate::form::{ENTRY_BYTES, Form};
 use crate::tag::{
     STRIPPED_READ, STRIPPED_REQUIRED, TAG_COUNT, TAGS, TILE_WIDTH, TILED_READ, TILED_REQUIRED,
 };
+use tiff_format::{ENTRY_BYTES, Form, TiffFault};
 
 /// The first entry of each tag, at the tag's place in `TAGS`.
 #[derive(Clone, Copy)]

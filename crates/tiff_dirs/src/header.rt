@@ -3,18 +3,18 @@
 
 ghost use Rattle.std.specs.Prelude.{◌≡◌, ℕ, ◌≤◌, List, length};
 ghost use Rattle.std.specs.Option.{ForSome};
-ghost use Rattle.tiff_dirs.specs.declared.form.TheConstants.{HEADER_BYTES};
-ghost use Rattle.tiff_dirs.specs.Bytes.{has_mark as spec_mark};
-ghost use Rattle.tiff_dirs.specs.Level.{header_fault};
-ghost use Rattle.tiff_dirs.specs.Reader.{IsPartAt};
+ghost use Rattle.tiff_format.specs.declared.form.TheConstants.{HEADER_BYTES};
+ghost use Rattle.tiff_format.specs.Bytes.{has_mark as spec_mark};
+ghost use Rattle.tiff_format.specs.Fault.{header_fault};
+ghost use Rattle.tiff_format.specs.Bytes.{IsPartAt};
 ghost use Rattle.tiff_dirs.specs.Header.{IsHeader};
 ghost use Rattle.tiff_dirs.specs.Dirs.{Leaves};
 ghost use Rattle.tiff_dirs.specs.Calls.{Finds, Tests};
 
-use crate::fault::{DirsError, TiffFault};
-use crate::form::{Form, HEADER_BYTES, OFFSET_BYTES};
+use crate::error::DirsError;
 use crate::place::Place;
 use crate::reader::{ByteReader, read_at};
+use tiff_format::{Form, HEADER_BYTES, OFFSET_BYTES, TiffFault};
 
 /// Where the number behind the mark stands.
 const VERSION_AT: usize = 2;
@@ -23,7 +23,7 @@ const VERSION_AT: usize = 2;
 const TIFF_VERSION: u16 = 42;
 
 /// The two bytes at the head of the file are this letter.
-#[tactic(auto, unfolding(crate::specs::Bytes::has_mark))]
+#[tactic(auto, unfolding(tiff_format::specs::Bytes::has_mark))]
 fn is_marked(letter: u8, head: &[u8]) -> bool
     requires { 2 ≤ length head.now }
     ensures { result ≡ spec_mark letter head.now }

@@ -2,9 +2,9 @@
 
 ghost use Rattle.std.specs.Prelude.{◌≡◌, ℕ, length, IfOk};
 ghost use Rattle.std.specs.Option.{ForSome};
-ghost use Rattle.tiff_dirs.specs.declared.form.Form.{Form};
-ghost use Rattle.tiff_dirs.specs.Block.{shape_at};
-ghost use Rattle.tiff_dirs.specs.Fault.{count_fault};
+ghost use Rattle.tiff_format.specs.declared.form.Form.{Form};
+ghost use Rattle.tiff_format.specs.Block.{shape_at};
+ghost use Rattle.tiff_format.specs.DirectoryFault.{count_fault};
 ghost use Rattle.tiff_dirs.specs.Dirs.{Leaves};
 ghost use Rattle.tiff_dirs.specs.Entries.{IsDirectoryAt};
 ghost use Rattle.tiff_dirs.specs.Shape.{seen_shape};
@@ -13,7 +13,7 @@ ghost use Rattle.tiff_dirs.specs.ReadLevel.{IsLevelAt};
 ghost use Rattle.tiff_dirs.specs.Calls.{Finds, OfEntries};
 
 use crate::directory::Directory;
-use crate::fault::DirsError;
+use crate::error::DirsError;
 use crate::fields::read_numbers;
 use crate::found::Found;
 use crate::offsets::read_offsets;

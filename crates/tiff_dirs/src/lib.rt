@@ -2,13 +2,10 @@
 #![tactic(auto)]
 
 mod chain;
-mod dir;
 mod directory;
-mod dirs;
 mod entry;
-mod fault;
+mod error;
 mod fields;
-mod form;
 mod found;
 mod header;
 mod level;
@@ -22,9 +19,6 @@ mod sample_fields;
 mod shape;
 mod tag;
 
-pub use dir::Dir;
-pub use dirs::Dirs;
-pub use fault::{DirsError, TiffFault};
-pub use form::Form;
+pub use error::DirsError;
 pub use read::read_dirs;
 pub use reader::ByteReader;

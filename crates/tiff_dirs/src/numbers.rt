@@ -1,24 +1,16 @@
 //! The fields of a directory that hold one number, and the faults that they show.
 
 ghost use Rattle.std.specs.Prelude.{◌≡◌, ◌||◌, ◌==◌, IsTrue};
-ghost use Rattle.tiff_dirs.specs.Facts.{IsDepth};
-ghost use Rattle.tiff_dirs.specs.Fault.{is_tile_side as spec_tile_side};
+ghost use Rattle.tiff_format.specs.Facts.{IsDepth};
+ghost use Rattle.tiff_format.specs.DirectoryFault.{is_tile_side as spec_tile_side};
 ghost use Rattle.tiff_dirs.specs.Shape.{seen_shape};
 ghost use Rattle.tiff_dirs.specs.Calls.{Tests};
-ghost use Rattle.tiff_dirs.specs.declared.fault.TiffFault.TheVariants.{Unsupported};
+ghost use Rattle.tiff_format.specs.declared.fault.TiffFault.TheVariants.{Unsupported};
 ghost use Rattle.tiff_dirs.specs.Numbers.{value_fault, size_fault, is_bad_tile, numbers_shape};
 
-use crate::fault::TiffFault;
 use crate::shape::LevelShape;
 use crate::tag::{COMPRESSION, PHOTOMETRIC, PLANAR_CONFIGURATION};
-
-/// The largest side of an image and of a tile.
-const MAX_SIDE: u32 = 131072;
-
-const MAX_CHANNELS: u32 = 8;
-
-/// The sides of a tile are multiples of it.
-const TILE_STEP: u32 = 16;
+use tiff_format::{MAX_CHANNELS, MAX_SIDE, TILE_STEP, TiffFault};
 
 /// Compression: the samples stand as they are.
 const UNCOMPRESSED: u32 = 1;
@@ -103,7 +95,7 @@ impl Numbers {
         if self.width == 0 || self.height == 0 || self.samples == 0 || self.rows_per_strip == 0 {
             return Err(TiffFault::ZeroSize);
         }
-        if self.width > MAX_SIDE || self.height > MAX_SIDE || self.samples > MAX_CHANNELS {
+        if self.width > MAX_SIDE || self.height > MAX_SIDE || self.samples > MAX_CHANNELS as u32 {
             return Err(TiffFault::TooLarge);
         }
         if is_bad(self.tile) {

@@ -3,21 +3,22 @@
 ghost use Rattle.std.specs.Prelude.{◌≡◌, ℕ, ◌+◌, ◌*◌, ◌^◌, ◌<◌, ◌≤◌, List, length, IsTrue, IfOk};
 ghost use Rattle.std.specs.Prelude.{OnOk, min, vec_len, vec_capacity, take};
 ghost use Rattle.std.specs.Option.{ForSome};
-ghost use Rattle.tiff_dirs.specs.Block.{shape_at, blocks_of, offsets_tag};
-ghost use Rattle.tiff_dirs.specs.Fault.{count_fault};
+ghost use Rattle.tiff_format.specs.Block.{shape_at, blocks_of, offsets_tag};
+ghost use Rattle.tiff_format.specs.DirectoryFault.{count_fault};
 ghost use Rattle.tiff_dirs.specs.Dirs.{Leaves};
-ghost use Rattle.tiff_dirs.specs.Field.{type_size, entry_value, field_values};
+ghost use Rattle.tiff_format.specs.Field.{type_size, entry_value, field_values};
 ghost use Rattle.tiff_dirs.specs.Entries.{IsEntry, is_shaped, is_read, part_value};
 ghost use Rattle.tiff_dirs.specs.Values.{AppendsNumbers, AreFirstValues, max_values};
 ghost use Rattle.tiff_dirs.specs.Shape.{seen_shape};
 ghost use Rattle.tiff_dirs.specs.Calls.{Finds, Reads, OfEntries};
 
 use crate::entry::{Entry, LONG_BYTES};
-use crate::fault::{DirsError, TiffFault};
+use crate::error::DirsError;
 use crate::found::Found;
 use crate::reader::{ByteReader, MAX_READ_BYTES};
 use crate::shape::LevelShape;
 use std::alloc::Global;
+use tiff_format::TiffFault;
 
 /// How many values are read at once.
 pub const MAX_VALUES: usize = MAX_READ_BYTES / LONG_BYTES;
@@ -32,7 +33,7 @@ fn append_values(values: &mut Vec<u64>, entry: &Entry, part: &[u8], more: usize)
         values.old.items values.new.items }
 {
     for k in 0..more {
-        values.push_reserved(u64::from(entry.value_in(part, k)));
+        values.push_reserved(u64::from(entry.value_among(part, k)));
     }
 }
 

@@ -1,4 +1,4 @@
-use crate::form::Form;
+use tiff_format::Form;
 
 /// A place in a file of this form.
 #[derive(Clone, Copy)]

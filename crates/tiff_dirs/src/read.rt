@@ -4,11 +4,11 @@ ghost use Rattle.std.specs.Option.{ForSome};
 ghost use Rattle.tiff_dirs.specs.Dirs.{Tells, Leaves};
 
 use crate::chain::read_levels;
-use crate::dirs::Dirs;
-use crate::fault::DirsError;
+use crate::error::DirsError;
 use crate::header::read_header;
 use crate::reader::ByteReader;
 use std::alloc::Global;
+use tiff_format::Dirs;
 
 /// The levels of a file, or the first fault that it shows.
 ///

@@ -1,13 +1,12 @@
 //! A level as it was read.
 
 ghost use Rattle.std.specs.Prelude.{◌≡◌, length};
-ghost use Rattle.tiff_dirs.specs.Block.{blocks_of};
+ghost use Rattle.tiff_format.specs.Block.{blocks_of};
 ghost use Rattle.tiff_dirs.specs.Shape.{seen_shape};
 
-use crate::dir::Dir;
-use crate::fault::TiffFault;
 use crate::place::Place;
 use crate::shape::LevelShape;
+use tiff_format::{Dir, TiffFault};
 
 /// A level of which no block was tested yet.
 #[derive(Drop)]
@@ -22,7 +21,7 @@ pub struct ReadLevel {
 impl ReadLevel {
     ghost use Rattle.std.specs.Prelude.{◌<◌, ◌≤◌, ◌^◌};
     ghost use Rattle.tiff_dirs.specs.ReadLevel.{seen_level, blocks_fault};
-    ghost use Rattle.tiff_dirs.specs.Shown.{shown};
+    ghost use Rattle.tiff_format.specs.Shown.{shown};
     ghost use Rattle.tiff_dirs.specs.Calls.{Tests};
 
     /// The directory of the level of that number, where its strips and tiles lie in a file of that

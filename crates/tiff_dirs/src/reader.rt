@@ -1,10 +1,11 @@
 ghost use Rattle.std.specs.Prelude.{◌≡◌, ℕ, ◌+◌, ◌≤◌, List, length, Option, OnOk, IfErr};
 ghost use Rattle.std.specs.Option.{ForSome};
-ghost use Rattle.tiff_dirs.specs.Reader.{IsPartAt, IsReader};
+ghost use Rattle.tiff_format.specs.Bytes.{IsPartAt};
+ghost use Rattle.tiff_dirs.specs.Reader.{IsReader};
 ghost use Rattle.tiff_dirs.specs.Dirs.{Leaves};
 ghost use Rattle.tiff_dirs.specs.Calls.{Reads};
 
-use crate::fault::DirsError;
+use crate::error::DirsError;
 
 /// The most bytes that are read at once.
 pub const MAX_READ_BYTES: usize = 65536;

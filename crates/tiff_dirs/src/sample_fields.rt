@@ -3,12 +3,12 @@
 ghost use Rattle.std.specs.Prelude.{◌≡◌, ℕ, ◌+◌, ◌*◌, ◌^◌, ◌<◌, ◌≤◌, List, length, IsTrue, OnOk};
 ghost use Rattle.std.specs.Prelude.{take, find, not};
 ghost use Rattle.std.specs.Option.{ForSome, option_map};
-ghost use Rattle.tiff_dirs.specs.declared.form.Form.{Form};
-ghost use Rattle.tiff_dirs.specs.declared.fault.TiffFault.TheVariants.{Unsupported};
-ghost use Rattle.tiff_dirs.specs.Field.{type_size, entry_value, default_of};
+ghost use Rattle.tiff_format.specs.declared.form.Form.{Form};
+ghost use Rattle.tiff_format.specs.declared.fault.TiffFault.TheVariants.{Unsupported};
+ghost use Rattle.tiff_format.specs.Field.{type_size, entry_value, default_of};
 ghost use Rattle.tiff_dirs.specs.Dirs.{Leaves};
-ghost use Rattle.tiff_dirs.specs.Facts.{IsDepth};
-ghost use Rattle.tiff_dirs.specs.Fault.{bits_fault, format_fault};
+ghost use Rattle.tiff_format.specs.Facts.{IsDepth};
+ghost use Rattle.tiff_format.specs.DirectoryFault.{bits_fault, format_fault};
 ghost use Rattle.tiff_dirs.specs.Entries.{IsEntry, HasEntries, is_shaped, is_read, is_known};
 ghost use Rattle.tiff_dirs.specs.Entries.{part_value};
 ghost use Rattle.tiff_dirs.specs.Values.{is_allowed, IsFirstOther, first_other};
@@ -16,7 +16,7 @@ ghost use Rattle.tiff_dirs.specs.Numbers.{AreNumbersAt};
 ghost use Rattle.tiff_dirs.specs.Calls.{Finds, Reads, OfEntries};
 
 use crate::entry::Entry;
-use crate::fault::DirsError;
+use crate::error::DirsError;
 use crate::found::Found;
 use crate::numbers::{Numbers, unsupported};
 use crate::offsets::MAX_VALUES;
@@ -63,7 +63,7 @@ impl SampleField {
         ensures { IsFirstOther (is_allowed self.now) (part_value entry.now part.now) count result }
     {
         for k in 0..count {
-            let value = entry.value_in(part, k);
+            let value = entry.value_among(part, k);
             if !self.allows(value) {
                 return Some(value);
             }

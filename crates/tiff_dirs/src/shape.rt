@@ -1,12 +1,11 @@
 //! How a level lies in a file, but for the offsets of its blocks.
 
 ghost use Rattle.std.specs.Prelude.{◌≡◌, ◌≤◌};
-ghost use Rattle.tiff_dirs.specs.Block.{shape_of, pieces_over};
-ghost use Rattle.tiff_dirs.specs.Facts.{IsLevelShape, IsSide};
+ghost use Rattle.tiff_format.specs.Block.{shape_of, pieces_over};
+ghost use Rattle.tiff_format.specs.Facts.{IsLevelShape, IsSide};
 
-use crate::dir::Dir;
-use crate::form::Form;
 use crate::tag::{STRIP_OFFSETS, TILE_OFFSETS};
+use tiff_format::{Dir, Form};
 
 /// The numbers of a level that say where its samples stand in its strips or tiles.
 #[derive(Clone, Copy)]
@@ -31,12 +30,12 @@ pub const BYTE_BITS: u32 = 8;
 
 impl LevelShape {
     ghost use Rattle.std.specs.Prelude.{ℕ, ◌*◌, ◌<◌, length};
-    ghost use Rattle.tiff_dirs.specs.Block.{blocks_of, sample_bytes, texel_bytes, block_bytes};
-    ghost use Rattle.tiff_dirs.specs.Block.{block_texels_by, level_with};
-    ghost use Rattle.tiff_dirs.specs.Facts.{HasOffsets};
-    ghost use Rattle.tiff_dirs.specs.Fault.{max_side, max_channels};
+    ghost use Rattle.tiff_format.specs.Block.{blocks_of, sample_bytes, texel_bytes, block_bytes};
+    ghost use Rattle.tiff_format.specs.Block.{block_texels_by, level_with};
+    ghost use Rattle.tiff_format.specs.Facts.{HasOffsets};
+    ghost use Rattle.tiff_format.specs.Limits.{max_side, max_channels};
     ghost use Rattle.tiff_dirs.specs.Shape.{seen_shape};
-    ghost use Rattle.tiff_dirs.specs.Shown.{shown};
+    ghost use Rattle.tiff_format.specs.Shown.{shown};
     ghost use Rattle.tiff_dirs.specs.Numbers.{tag_of_offsets};
     ghost use Rattle.tiff_dirs.specs.ReadLevel.{lies_within, first_outside};
 

@@ -2,7 +2,7 @@
 
 ghost use Rattle.std.specs.Prelude.{◌≡◌};
 ghost use Rattle.std.specs.Option.{option_to_list};
-ghost use Rattle.tiff_dirs.specs.Field.{default_of};
+ghost use Rattle.tiff_format.specs.Field.{default_of};
 
 pub const IMAGE_WIDTH: u16 = 256;
 

@@ -1,10 +1,10 @@
 -- A block that has no offset does not lie in the file.
 use Rattle.std.proofs.Common.{◌≡◌, ℕ, ◌≤◌, false, List, length, get_or, take, refl, arith}
 use Rattle.std.proofs.lemmas.List.{get_or_past, length-take}
-use Rattle.tiff_dirs.specs.declared.form.Form.{Form}
-use Rattle.tiff_dirs.specs.Field.{field_values}
-use Rattle.tiff_dirs.specs.Block.{offsets_tag, blocks_of, shape_at, level_at}
-use Rattle.tiff_dirs.specs.Fault.{block_inside}
+use Rattle.tiff_format.specs.declared.form.Form.{Form}
+use Rattle.tiff_format.specs.Field.{field_values}
+use Rattle.tiff_format.specs.Block.{offsets_tag, blocks_of, shape_at, level_at}
+use Rattle.tiff_format.specs.DirectoryFault.{block_inside}
 
 pub past_is_outside : (form : Form) (bytes : List ℕ) (at i : ℕ)
     → length (field_values form bytes at (offsets_tag form bytes at)) ≤ i

@@ -4,10 +4,10 @@ use Rattle.std.proofs.Common.{get_or, None, Some, refl, arith}
 use Rattle.std.proofs.Common.{inl, inr}
 use Rattle.std.proofs.lemmas.Bool.{cases_Bool}
 use Rattle.std.proofs.lemmas.List.FromFn.{length-map-range_with_len, get_or-map-range_with_len}
-use Rattle.tiff_dirs.specs.declared.form.Form.{Form}
-use Rattle.tiff_dirs.specs.Bytes.{number_at}
-use Rattle.tiff_dirs.specs.Form.{entry_bytes, tag_bytes}
-use Rattle.tiff_dirs.specs.Field.{first_entry, count_of, has_shape, entry_value, entry_values}
+use Rattle.tiff_format.specs.declared.form.Form.{Form}
+use Rattle.tiff_format.specs.Bytes.{number_at}
+use Rattle.tiff_format.specs.Form.{entry_bytes, tag_bytes}
+use Rattle.tiff_format.specs.Field.{first_entry, count_of, has_shape, entry_value, entry_values}
 
 -- where the first entry has the tag, it is found
 pub first_entry_found : (form : Form) (tag : ℕ) (bytes : List ℕ) (place n : ℕ) → 0 < n

@@ -3,8 +3,8 @@ use Rattle.std.proofs.Common.{◌≡◌, ℕ, zero, suc, ◌+◌, ◌<◌, Bool,
 use Rattle.std.proofs.Common.{Some, refl, arith}
 use Rattle.std.specs.List.{find, range_with_len}
 use Rattle.std.specs.Option.{option_or}
-use Rattle.tiff_dirs.specs.declared.fault.TiffFault.{TiffFault}
-use Rattle.tiff_dirs.specs.Fault.{first_of}
+use Rattle.tiff_format.specs.declared.fault.TiffFault.{TiffFault}
+use Rattle.tiff_format.specs.DirectoryFault.{first_of}
 
 -- the first number passes
 pub find_here : (p : ℕ → Bool) (i n : ℕ) → 0 < n → p i ≡ true → find p (range_with_len i n) ≡ Some i

@@ -7,20 +7,22 @@ use Rattle.std.specs.Option.{is_none}
 use Rattle.std.specs.List.{find}
 use Rattle.std.proofs.lemmas.Bool.{cases_Bool, false≢true}
 use Rattle.std.proofs.lemmas.Option.{none-some}
-use Rattle.tiff_dirs.specs.declared.fault.TiffFault.TheVariants.{Unsupported}
-use Rattle.tiff_dirs.specs.declared.form.Form.{Form}
-use Rattle.tiff_dirs.specs.Form.{form_of}
-use Rattle.tiff_dirs.specs.Tag.{bits_per_sample_tag}
-use Rattle.tiff_dirs.specs.Directory.{lies_inside, next_directory, directory_place}
-use Rattle.tiff_dirs.specs.Field.{field_value, field_values}
-use Rattle.tiff_dirs.specs.Block.{shape_at}
-use Rattle.tiff_dirs.specs.Facts.{IsDepth}
-use Rattle.tiff_dirs.specs.Fault.{first_of, samples, outside_fault, missing_fault, shape_fault}
-use Rattle.tiff_dirs.specs.Fault.{unsupported_fault, bits_fault, compression_fault}
-use Rattle.tiff_dirs.specs.Fault.{photometric_fault, planar_fault, format_fault, zero_fault}
-use Rattle.tiff_dirs.specs.Fault.{large_fault, tile_fault, count_fault, directory_fault}
-use Rattle.tiff_dirs.specs.Level.{first_fault, is_level, is_next_level, leading, stored_levels}
-use Rattle.tiff_dirs.specs.Level.{level_place, max_levels}
+use Rattle.tiff_format.specs.declared.fault.TiffFault.TheVariants.{Unsupported}
+use Rattle.tiff_format.specs.declared.form.Form.{Form}
+use Rattle.tiff_format.specs.Form.{form_of}
+use Rattle.tiff_format.specs.Tag.{bits_per_sample_tag}
+use Rattle.tiff_format.specs.Directory.{lies_inside, next_directory, directory_place}
+use Rattle.tiff_format.specs.Field.{field_value, field_values}
+use Rattle.tiff_format.specs.Block.{shape_at}
+use Rattle.tiff_format.specs.Facts.{IsDepth}
+use Rattle.tiff_format.specs.DirectoryFault.{first_of, samples, outside_fault, missing_fault}
+use Rattle.tiff_format.specs.DirectoryFault.{shape_fault, unsupported_fault, bits_fault}
+use Rattle.tiff_format.specs.DirectoryFault.{compression_fault, photometric_fault, planar_fault}
+use Rattle.tiff_format.specs.DirectoryFault.{format_fault, zero_fault, large_fault, tile_fault}
+use Rattle.tiff_format.specs.DirectoryFault.{count_fault, directory_fault}
+use Rattle.tiff_format.specs.Fault.{first_fault}
+use Rattle.tiff_format.specs.Level.{is_level, is_next_level, leading, stored_levels, level_place}
+use Rattle.tiff_format.specs.Level.{max_levels}
 
 -- where neither of two is there, the first is not, nor the second
 none_of_or : {A : Type 0} (a b : Option A) → option_or a b ≡ None → (a ≡ None) × (b ≡ None)

@@ -1,7 +1,7 @@
 -- What does a level that was read show?
 use Rattle.tiff_plain.specs.declared.shape.PlainShape.{PlainShape}
 use Rattle.tiff_plain.specs.declared.level.PlainLevel.{PlainLevel}
-use Rattle.tiff_dirs.specs.Block.{LevelShape, Level, shape_of, level_with}
+use Rattle.tiff_format.specs.Block.{LevelShape, Level, shape_of, level_with}
 
 -- its shape as plain data
 abbrev pub shown_shape : PlainShape → LevelShape

@@ -1,11 +1,11 @@
 //! Where the directories of a file stand.
 
 ghost use Rattle.std.specs.Prelude.{◌≡◌, ◌<◌, ◌^◌};
-ghost use Rattle.tiff_dirs.specs.Directory as spec;
+ghost use Rattle.tiff_format.specs.Directory as spec;
 
 use crate::form::{count_bytes, entry_bytes, first_place, header_bytes, offset_at, offset_bytes};
 use crate::numbers::number_at;
-use tiff_dirs::Form;
+use tiff_format::Form;
 
 /// How many entries the directory at a place has.
 pub fn entry_count(form: Form, bytes: &[u8], at: u32) -> u32
@@ -31,7 +31,7 @@ fn next_place(form: Form, bytes: &[u8], at: u32) -> u128
 }
 
 /// The directory lies in the file, behind the header.
-#[tactic(auto, unfolding(tiff_dirs::specs::Directory::lies_inside))]
+#[tactic(auto, unfolding(tiff_format::specs::Directory::lies_inside))]
 pub fn lies_inside(form: Form, bytes: &[u8], at: u32) -> bool
     ensures value { result ≡ spec.lies_inside form bytes.now at }
 {
@@ -40,7 +40,7 @@ pub fn lies_inside(form: Form, bytes: &[u8], at: u32) -> bool
 }
 
 /// The place of the directory after the one at a place.
-#[tactic(auto, unfolding(tiff_dirs::specs::Directory::next_directory))]
+#[tactic(auto, unfolding(tiff_format::specs::Directory::next_directory))]
 pub fn next_directory(form: Form, bytes: &[u8], at: u32) -> Option<u32>
     ensures value { result ≡ spec.next_directory form bytes.now at }
 {
@@ -52,7 +52,7 @@ pub fn next_directory(form: Form, bytes: &[u8], at: u32) -> Option<u32>
 }
 
 /// The place of directory k.
-#[tactic(auto, unfolding(tiff_dirs::specs::Directory::directory_place))]
+#[tactic(auto, unfolding(tiff_format::specs::Directory::directory_place))]
 pub fn directory_place(form: Form, bytes: &[u8], k: u32) -> Option<u32>
     ensures value { result ≡ spec.directory_place form bytes.now k }
 {

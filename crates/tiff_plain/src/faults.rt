@@ -2,10 +2,10 @@
 
 ghost use Rattle.std.specs.Prelude.{◌≡◌, ◌==◌, ◌||◌, not, take, find};
 ghost use Rattle.std.specs.List.{range_with_len};
-ghost use Rattle.tiff_dirs.specs.Block as block;
-ghost use Rattle.tiff_dirs.specs.Fault as spec;
-ghost use Rattle.tiff_dirs.specs.Field as field;
-ghost use Rattle.tiff_dirs.specs.Tag.{bits_per_sample_tag, sample_format_tag};
+ghost use Rattle.tiff_format.specs.Block as block;
+ghost use Rattle.tiff_format.specs.DirectoryFault as spec;
+ghost use Rattle.tiff_format.specs.Field as field;
+ghost use Rattle.tiff_format.specs.Tag.{bits_per_sample_tag, sample_format_tag};
 
 use crate::directories::lies_inside;
 use crate::fields::{field_length, field_number, field_place, field_value, has_field, has_shape};
@@ -17,7 +17,7 @@ use crate::tags::{
     ROWS_PER_STRIP, SAMPLE_FORMAT, SAMPLES_PER_PIXEL, STRIP_OFFSETS, TILE_LENGTH, TILE_OFFSETS,
     TILE_WIDTH,
 };
-use tiff_dirs::{Form, TiffFault};
+use tiff_format::{Form, TiffFault};
 
 /// The largest side of an image and of a tile.
 const MAX_SIDE: u32 = 131_072;
@@ -38,7 +38,7 @@ pub fn first_of(faults: &[Option<TiffFault>]) -> Option<TiffFault>
     }
 }
 
-#[tactic(auto, unfolding(tiff_dirs::specs::Fault::outside_fault))]
+#[tactic(auto, unfolding(tiff_format::specs::DirectoryFault::outside_fault))]
 fn outside_fault(form: Form, bytes: &[u8], at: u32) -> Option<TiffFault>
     ensures { result ≡ spec.outside_fault form bytes.now at }
 {
@@ -65,7 +65,7 @@ fn first_absent(form: Form, bytes: &[u8], at: u32, tags: &[u32]) -> Option<u32>
         .find(|tag| !has_field(form, bytes, at, *tag))
 }
 
-#[tactic(auto, unfolding(tiff_dirs::specs::Fault::missing_fault))]
+#[tactic(auto, unfolding(tiff_format::specs::DirectoryFault::missing_fault))]
 fn missing_fault(form: Form, bytes: &[u8], at: u32) -> Option<TiffFault>
     ensures { result ≡ spec.missing_fault form bytes.now at }
 {
@@ -128,7 +128,7 @@ fn first_misshapen(form: Form, bytes: &[u8], at: u32, tags: &[u32]) -> Option<u3
         .find(|tag| is_misshapen(form, bytes, at, *tag))
 }
 
-#[tactic(auto, unfolding(tiff_dirs::specs::Fault::shape_fault))]
+#[tactic(auto, unfolding(tiff_format::specs::DirectoryFault::shape_fault))]
 fn shape_fault(form: Form, bytes: &[u8], at: u32) -> Option<TiffFault>
     ensures { result ≡ spec.shape_fault form bytes.now at }
 {
@@ -232,7 +232,7 @@ fn format_fault(form: Form, bytes: &[u8], at: u32) -> Option<TiffFault>
     }
 }
 
-#[tactic(auto, unfolding(tiff_dirs::specs::Fault::unsupported_fault))]
+#[tactic(auto, unfolding(tiff_format::specs::DirectoryFault::unsupported_fault))]
 fn unsupported_fault(form: Form, bytes: &[u8], at: u32) -> Option<TiffFault>
     ensures { result ≡ spec.unsupported_fault form bytes.now at }
 {
@@ -245,7 +245,7 @@ fn unsupported_fault(form: Form, bytes: &[u8], at: u32) -> Option<TiffFault>
     ])
 }
 
-#[tactic(auto, unfolding(tiff_dirs::specs::Fault::zero_fault))]
+#[tactic(auto, unfolding(tiff_format::specs::DirectoryFault::zero_fault))]
 fn zero_fault(form: Form, bytes: &[u8], at: u32) -> Option<TiffFault>
     ensures { result ≡ spec.zero_fault form bytes.now at }
 {
@@ -256,7 +256,7 @@ fn zero_fault(form: Form, bytes: &[u8], at: u32) -> Option<TiffFault>
     is_zero.then_some(TiffFault::ZeroSize)
 }
 
-#[tactic(auto, unfolding(tiff_dirs::specs::Fault::large_fault))]
+#[tactic(auto, unfolding(tiff_format::specs::DirectoryFault::large_fault))]
 fn large_fault(form: Form, bytes: &[u8], at: u32) -> Option<TiffFault>
     ensures { result ≡ spec.large_fault form bytes.now at }
 {
@@ -273,7 +273,7 @@ fn is_tile_side(side: u32) -> bool
     0 < side && side <= MAX_SIDE && side % TILE_STEP == 0
 }
 
-#[tactic(auto, unfolding(tiff_dirs::specs::Fault::tile_fault))]
+#[tactic(auto, unfolding(tiff_format::specs::DirectoryFault::tile_fault))]
 fn tile_fault(form: Form, bytes: &[u8], at: u32) -> Option<TiffFault>
     ensures { result ≡ spec.tile_fault form bytes.now at }
 {
@@ -282,7 +282,7 @@ fn tile_fault(form: Form, bytes: &[u8], at: u32) -> Option<TiffFault>
     (is_tiled(form, bytes, at) && !fits).then_some(TiffFault::TileShape)
 }
 
-#[tactic(auto, unfolding(tiff_dirs::specs::Fault::count_fault))]
+#[tactic(auto, unfolding(tiff_format::specs::DirectoryFault::count_fault))]
 fn count_fault(form: Form, bytes: &[u8], at: u32) -> Option<TiffFault>
     ensures { result ≡ spec.count_fault form bytes.now at }
 {
@@ -291,7 +291,7 @@ fn count_fault(form: Form, bytes: &[u8], at: u32) -> Option<TiffFault>
 }
 
 /// The first fault that the directory at a place shows.
-#[tactic(auto, unfolding(tiff_dirs::specs::Fault::directory_fault))]
+#[tactic(auto, unfolding(tiff_format::specs::DirectoryFault::directory_fault))]
 pub fn directory_fault(form: Form, bytes: &[u8], at: u32) -> Option<TiffFault>
     ensures value { result ≡ spec.directory_fault form bytes.now at }
 {
@@ -308,7 +308,7 @@ pub fn directory_fault(form: Form, bytes: &[u8], at: u32) -> Option<TiffFault>
 }
 
 /// Block i of the level at a place lies in the file, behind the header.
-#[tactic(auto, unfolding(tiff_dirs::specs::Block::level_at))]
+#[tactic(auto, unfolding(tiff_format::specs::Block::level_at))]
 fn block_inside(form: Form, bytes: &[u8], at: u32, i: u32) -> bool
     ensures { result ≡ spec.block_inside form bytes.now (block.level_at form bytes.now at) i }
 {
@@ -334,7 +334,7 @@ fn first_outside(form: Form, bytes: &[u8], at: u32) -> Option<u32>
 }
 
 /// The first fault of the blocks of the level at a place, which has this number.
-#[tactic(auto, unfolding(tiff_dirs::specs::Fault::data_fault))]
+#[tactic(auto, unfolding(tiff_format::specs::DirectoryFault::data_fault))]
 pub fn data_fault(form: Form, bytes: &[u8], number: u32, at: u32) -> Option<TiffFault>
     ensures value { result
         ≡ spec.data_fault form bytes.now number (block.level_at form bytes.now at) }

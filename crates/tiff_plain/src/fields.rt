@@ -2,7 +2,7 @@
 
 ghost use Rattle.std.specs.Prelude.{◌≡◌, ◌≤◌, ◌<◌, ◌*◌, ◌^◌, length, slice_index, IfSome, IfOk};
 ghost use Rattle.std.specs.Option.{option_to_list};
-ghost use Rattle.tiff_dirs.specs.Field as spec;
+ghost use Rattle.tiff_format.specs.Field as spec;
 
 use crate::directories::{entry_count, entry_place};
 use crate::form::{
@@ -14,7 +14,7 @@ use crate::tags::{
     SAMPLES_PER_PIXEL,
 };
 use std::alloc::{AllocError, Global};
-use tiff_dirs::Form;
+use tiff_format::Form;
 
 /// The types that are read.
 const SHORT: u32 = 3;
@@ -40,7 +40,7 @@ fn first_entry(form: Form, tag: u32, bytes: &[u8], place: u128, n: u32) -> Optio
 }
 
 /// The place of the first entry of a tag in the directory at a place.
-#[tactic(auto, unfolding(tiff_dirs::specs::Field::field_place))]
+#[tactic(auto, unfolding(tiff_format::specs::Field::field_place))]
 pub fn field_place(form: Form, bytes: &[u8], at: u32, tag: u32) -> Option<u128>
     ensures value { result ≡ spec.field_place form bytes.now at tag }
     ensures fits { IfSome result (λ p. p < 2 ^ 101) }
@@ -104,7 +104,7 @@ fn values_size(form: Form, bytes: &[u8], place: u128) -> u128
 }
 
 /// Where its values stand.
-#[tactic(auto, unfolding(tiff_dirs::specs::Field::values_place))]
+#[tactic(auto, unfolding(tiff_format::specs::Field::values_place))]
 fn values_place(form: Form, bytes: &[u8], place: u128) -> u128
     requires { place < 2 ^ 101 }
     ensures value { result ≡ spec.values_place form bytes.now place }
@@ -119,7 +119,7 @@ fn values_place(form: Form, bytes: &[u8], place: u128) -> u128
 }
 
 /// Its value i.
-#[tactic(auto, unfolding(tiff_dirs::specs::Field::entry_value))]
+#[tactic(auto, unfolding(tiff_format::specs::Field::entry_value))]
 fn entry_value(form: Form, bytes: &[u8], place: u128, i: u32) -> u32
     requires { place < 2 ^ 101 }
     ensures { result ≡ spec.entry_value form bytes.now place i }
@@ -135,7 +135,7 @@ fn entry_value(form: Form, bytes: &[u8], place: u128, i: u32) -> u32
 }
 
 /// Its type is read, it has a value, and its values lie in the file.
-#[tactic(auto, unfolding(tiff_dirs::specs::Field::has_shape))]
+#[tactic(auto, unfolding(tiff_format::specs::Field::has_shape))]
 pub fn has_shape(form: Form, bytes: &[u8], place: u128) -> bool
     requires { place < 2 ^ 101 }
     ensures value { result ≡ spec.has_shape form bytes.now place }
@@ -190,7 +190,7 @@ fn default_of(tag: u32) -> Option<u32>
 }
 
 /// The number of values of a field: those of its first entry, or its default.
-#[tactic(auto, unfolding(tiff_dirs::specs::Field::field_values))]
+#[tactic(auto, unfolding(tiff_format::specs::Field::field_values))]
 pub fn field_length(form: Form, bytes: &[u8], at: u32, tag: u32) -> u32
     ensures { result ≡ length (spec.field_values form bytes.now at tag) }
 {
@@ -202,7 +202,7 @@ pub fn field_length(form: Form, bytes: &[u8], at: u32, tag: u32) -> u32
 }
 
 /// Value i of a field, 0 where it has no such value.
-#[tactic(auto, unfolding(tiff_dirs::specs::Field::field_values))]
+#[tactic(auto, unfolding(tiff_format::specs::Field::field_values))]
 pub fn field_number(form: Form, bytes: &[u8], at: u32, tag: u32, i: u128) -> u32
     ensures { result ≡ slice_index (spec.field_values form bytes.now at tag) i }
 {

@@ -1,10 +1,10 @@
 //! The form of a file, and how wide its parts are.
 
 ghost use Rattle.std.specs.Prelude.{◌≡◌, ◌<◌, ◌^◌};
-ghost use Rattle.tiff_dirs.specs.Form as spec;
+ghost use Rattle.tiff_format.specs.Form as spec;
 
 use crate::numbers::{is_big, number_at};
-use tiff_dirs::Form;
+use tiff_format::Form;
 
 /// The bytes of an entry's tag.
 pub const TAG_BYTES: u32 = 2;

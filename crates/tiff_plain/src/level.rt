@@ -1,9 +1,9 @@
 //! What is kept of a directory.
 
 ghost use Rattle.std.specs.Prelude.{◌≡◌, IfOk, slice_index, take};
-ghost use Rattle.tiff_dirs.specs.Block as spec;
-ghost use Rattle.tiff_dirs.specs.Field as field;
-ghost use Rattle.tiff_dirs.specs.Level as level;
+ghost use Rattle.tiff_format.specs.Block as spec;
+ghost use Rattle.tiff_format.specs.Field as field;
+ghost use Rattle.tiff_format.specs.Level as level;
 ghost use Rattle.tiff_plain.specs.PlainLevel.{shown};
 
 use crate::fields::{field_number, field_values};
@@ -11,7 +11,7 @@ use crate::form::form_of;
 use crate::levels::level_place;
 use crate::shape::{PlainShape, blocks_at, offsets_tag, shape_at};
 use std::alloc::{AllocError, Global};
-use tiff_dirs::Form;
+use tiff_format::Form;
 
 /// What is known of a level: its shape, and the offset of each strip or tile.
 #[derive(Debug, Drop)]
@@ -21,7 +21,7 @@ pub struct PlainLevel {
 }
 
 /// The offset of block i of the directory at a place, 0 where there is no such block.
-#[tactic(auto, unfolding(tiff_dirs::specs::Block::level_at))]
+#[tactic(auto, unfolding(tiff_format::specs::Block::level_at))]
 pub fn offset_of(form: Form, bytes: &[u8], at: u32, i: u128) -> u32
     ensures { result ≡ slice_index (spec.level_at form bytes.now at).offsets i }
 {
@@ -48,7 +48,7 @@ fn block_offsets(alloc: Global, form: Form, bytes: &[u8], at: u32) -> Result<Vec
 }
 
 /// What is kept of the directory at a place.
-#[tactic(auto, unfolding(tiff_dirs::specs::Block::level_at))]
+#[tactic(auto, unfolding(tiff_format::specs::Block::level_at))]
 pub fn level_at(alloc: Global, form: Form, bytes: &[u8], at: u32) -> Result<PlainLevel, AllocError>
     ensures ok { IfOk result (λ l. shown l ≡ spec.level_at form bytes.now at) }
 {
@@ -59,9 +59,9 @@ pub fn level_at(alloc: Global, form: Form, bytes: &[u8], at: u32) -> Result<Plai
 }
 
 /// What is kept of directory k.
-#[tactic(auto, unfolding(tiff_dirs::specs::Level::level_of))]
-pub fn level_of(alloc: Global, bytes: &[u8], k: u32) -> Result<PlainLevel, AllocError>
-    ensures ok { IfOk result (λ l. shown l ≡ level.level_of bytes.now k) }
+#[tactic(auto, unfolding(tiff_format::specs::Level::directory_level))]
+pub fn directory_level(alloc: Global, bytes: &[u8], k: u32) -> Result<PlainLevel, AllocError>
+    ensures ok { IfOk result (λ l. shown l ≡ level.directory_level bytes.now k) }
 {
     level_at(alloc, form_of(bytes), bytes, level_place(bytes, k))
 }

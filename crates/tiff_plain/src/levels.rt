@@ -3,17 +3,18 @@
 ghost use Rattle.std.specs.Prelude.{◌≡◌, ◌≤◌, ◌+◌, false, not, map};
 ghost use Rattle.std.specs.Option.{option_map_or};
 ghost use Rattle.std.specs.List.{range_with_len};
-ghost use Rattle.tiff_dirs.specs.Directory as directory;
-ghost use Rattle.tiff_dirs.specs.Fault as fault;
-ghost use Rattle.tiff_dirs.specs.Form as form;
-ghost use Rattle.tiff_dirs.specs.Level as spec;
+ghost use Rattle.tiff_format.specs.Directory as directory;
+ghost use Rattle.tiff_format.specs.DirectoryFault as fault;
+ghost use Rattle.tiff_format.specs.Fault as file;
+ghost use Rattle.tiff_format.specs.Form as form;
+ghost use Rattle.tiff_format.specs.Level as spec;
 
 use crate::directories::{directory_place, next_directory};
 use crate::faults::{data_fault, directory_fault, first_of};
 use crate::form::{form_of, header_bytes};
 use crate::numbers::{is_big, is_little, version};
 use crate::shape::{has_half_size, has_samples_of, is_single, shape_at};
-use tiff_dirs::{Form, TiffFault};
+use tiff_format::{Form, TiffFault};
 
 /// The most levels that are looked for.
 const MAX_LEVELS: u32 = 18;
@@ -30,7 +31,7 @@ pub fn level_place(bytes: &[u8], k: u32) -> u32
 
 /// The directory at `next` is the half-size picture of the one at `at`, with the samples of the one
 /// at `first`.
-#[tactic(auto, unfolding(tiff_dirs::specs::Level::is_next_level))]
+#[tactic(auto, unfolding(tiff_format::specs::Level::is_next_level))]
 fn is_next_level(form: Form, bytes: &[u8], first: u32, at: u32, next: u32) -> bool
     ensures { result ≡ spec.is_next_level form bytes.now first at next }
 {
@@ -58,7 +59,7 @@ fn has_next_level(bytes: &[u8], k: u32) -> bool
 }
 
 /// Directory k is level k.
-#[tactic(auto, unfolding(tiff_dirs::specs::Level::is_level))]
+#[tactic(auto, unfolding(tiff_format::specs::Level::is_level))]
 pub fn is_level(bytes: &[u8], k: u32) -> bool
     ensures value { result ≡ spec.is_level bytes.now k }
 {
@@ -79,7 +80,7 @@ fn leading_levels(bytes: &[u8], k: u32, n: u32) -> u32
 }
 
 /// The number of levels that the file stores.
-#[tactic(auto, unfolding(tiff_dirs::specs::Level::stored_levels))]
+#[tactic(auto, unfolding(tiff_format::specs::Level::stored_levels))]
 pub fn stored_levels(bytes: &[u8]) -> u32
     ensures value { result ≡ spec.stored_levels bytes.now }
     ensures few { result ≤ spec.max_levels }
@@ -95,9 +96,9 @@ pub fn is_whole_chain(bytes: &[u8]) -> bool
 }
 
 /// The fault of the header: it is cut short, has neither mark, or another version.
-#[tactic(auto, unfolding(tiff_dirs::specs::Level::header_fault))]
+#[tactic(auto, unfolding(tiff_format::specs::Fault::header_fault))]
 pub fn header_fault(bytes: &[u8]) -> Option<TiffFault>
-    ensures value { result ≡ spec.header_fault bytes.now }
+    ensures value { result ≡ file.header_fault bytes.now }
 {
     first_of(&[
         (bytes.len() < header_bytes(form_of(bytes)) as usize).then_some(TiffFault::Short),
@@ -111,7 +112,7 @@ fn first_data_fault(bytes: &[u8], k: u32, n: u32) -> Option<TiffFault>
     requires { k + n ≤ spec.max_levels }
     ensures { result ≡ fault.first_of
         (map (λ k. fault.data_fault (form.form_of bytes.now) bytes.now k
-        (spec.level_of bytes.now k)) (range_with_len k n)) }
+        (spec.directory_level bytes.now k)) (range_with_len k n)) }
 {
     if n == 0 {
         None
@@ -122,17 +123,17 @@ fn first_data_fault(bytes: &[u8], k: u32, n: u32) -> Option<TiffFault>
 }
 
 /// The first block outside the file, level 0 first.
-#[tactic(auto, unfolding(tiff_dirs::specs::Level::data_faults))]
+#[tactic(auto, unfolding(tiff_format::specs::Fault::data_faults))]
 fn data_faults(bytes: &[u8]) -> Option<TiffFault>
-    ensures { result ≡ spec.data_faults bytes.now }
+    ensures { result ≡ file.data_faults bytes.now }
 {
     first_data_fault(bytes, 0, stored_levels(bytes))
 }
 
 /// The first fault that a file shows, none where it is good.
-#[tactic(auto, unfolding(tiff_dirs::specs::Level::first_fault))]
+#[tactic(auto, unfolding(tiff_format::specs::Fault::first_fault))]
 pub fn first_fault(bytes: &[u8]) -> Option<TiffFault>
-    ensures value { result ≡ spec.first_fault bytes.now }
+    ensures value { result ≡ file.first_fault bytes.now }
 {
     first_of(&[
         header_fault(bytes),

@@ -18,7 +18,7 @@ pub use directories::{directory_place, lies_inside, next_directory};
 pub use faults::{data_fault, directory_fault};
 pub use fields::{field_place, field_value, field_values, has_field, has_shape};
 pub use form::form_of;
-pub use level::{PlainLevel, level_at, level_of};
+pub use level::{PlainLevel, directory_level, level_at};
 pub use levels::{first_fault, header_fault, is_level, is_whole_chain, level_place, stored_levels};
 pub use numbers::{is_big, is_little, number_at};
 pub use shape::{PlainShape, block_bytes, blocks_of, is_tiled, shape_at};

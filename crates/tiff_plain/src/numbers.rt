@@ -1,7 +1,7 @@
 //! Numbers in the bytes of a file.
 
 ghost use Rattle.std.specs.Prelude.{◌≡◌, ◌≤◌, ◌<◌, ◌^◌, true, false, slice_index};
-ghost use Rattle.tiff_dirs.specs.Bytes as spec;
+ghost use Rattle.tiff_format.specs.Bytes as spec;
 
 /// The byte at a place, 0 past the end.
 fn byte_at(bytes: &[u8], at: u128) -> u32
@@ -16,7 +16,7 @@ fn byte_at(bytes: &[u8], at: u128) -> u32
 }
 
 /// The number that up to four bytes spell, the highest first.
-#[tactic(auto, unfolding(tiff_dirs::specs::Bytes::number_at))]
+#[tactic(auto, unfolding(tiff_format::specs::Bytes::number_at))]
 fn big_number(n: u32, bytes: &[u8], at: u128) -> u32
     requires size { n ≤ 4 }
     requires place { at < 2 ^ 120 }
@@ -37,7 +37,7 @@ fn big_number(n: u32, bytes: &[u8], at: u128) -> u32
 }
 
 /// The number that up to four bytes spell, the lowest first.
-#[tactic(auto, unfolding(tiff_dirs::specs::Bytes::number_at))]
+#[tactic(auto, unfolding(tiff_format::specs::Bytes::number_at))]
 fn little_number(n: u32, bytes: &[u8], at: u128) -> u32
     requires size { n ≤ 4 }
     requires place { at < 2 ^ 120 }
@@ -58,7 +58,7 @@ fn little_number(n: u32, bytes: &[u8], at: u128) -> u32
 }
 
 /// The number that n bytes from a place on spell. A byte past the end counts as 0.
-#[tactic(auto, unfolding(tiff_dirs::specs::Bytes::number_at))]
+#[tactic(auto, unfolding(tiff_format::specs::Bytes::number_at))]
 pub fn number_at(big: bool, n: u32, bytes: &[u8], at: u128) -> u32
     requires size { n ≤ 4 }
     requires place { at < 2 ^ 120 }
@@ -72,7 +72,7 @@ pub fn number_at(big: bool, n: u32, bytes: &[u8], at: u128) -> u32
     }
 }
 
-#[tactic(auto, unfolding(tiff_dirs::specs::Bytes::has_mark))]
+#[tactic(auto, unfolding(tiff_format::specs::Bytes::has_mark))]
 fn has_mark(letter: u8, bytes: &[u8]) -> bool
     ensures { result ≡ spec.has_mark letter bytes.now }
 {

@@ -1,8 +1,8 @@
 //! What is known of a level without the offsets of its blocks.
 
 ghost use Rattle.std.specs.Prelude.{◌≡◌, ◌≤◌, ◌<◌, ◌-◌, ◌*◌, ◌^◌, min};
-ghost use Rattle.tiff_dirs.specs.Block as spec;
-ghost use Rattle.tiff_dirs.specs.Level as level;
+ghost use Rattle.tiff_format.specs.Block as spec;
+ghost use Rattle.tiff_format.specs.Level as level;
 ghost use Rattle.tiff_plain.specs.PlainLevel.{shown_shape};
 
 use crate::fields::{ALL_ROWS, field_value, has_field};
@@ -10,7 +10,7 @@ use crate::tags::{
     BITS_PER_SAMPLE, IMAGE_LENGTH, IMAGE_WIDTH, PHOTOMETRIC, ROWS_PER_STRIP, SAMPLES_PER_PIXEL,
     STRIP_OFFSETS, TILE_LENGTH, TILE_OFFSETS, TILE_WIDTH,
 };
-use tiff_dirs::Form;
+use tiff_format::Form;
 
 /// The fields of a directory that its samples are read by, but for the offsets.
 #[derive(Clone, Copy, Debug, PartialEq, Eq)]

@@ -1,11 +1,12 @@
 //! Which sample stands in a level at a texel, and which value it is answered as.
 
 ghost use Rattle.std.specs.Prelude.{◌≡◌, ◌<◌, ◌+◌, ◌*◌, ◌/◌, ◌%◌, ◌^◌, None, slice_index};
-ghost use Rattle.tiff_dirs.specs.Block as block;
-ghost use Rattle.tiff_dirs.specs.Bytes as number;
-ghost use Rattle.tiff_dirs.specs.Facts.{IsDepth};
-ghost use Rattle.tiff_dirs.specs.Level as level;
-ghost use Rattle.tiff_dirs.specs.Texel as spec;
+ghost use Rattle.tiff_format.specs.Block as block;
+ghost use Rattle.tiff_format.specs.Bytes as number;
+ghost use Rattle.tiff_format.specs.Facts.{IsDepth};
+ghost use Rattle.tiff_format.specs.Fault as fault;
+ghost use Rattle.tiff_format.specs.Level as level;
+ghost use Rattle.tiff_format.specs.Texel as spec;
 ghost use Rattle.tiff_plain.specs.PlainLevel.{shown_shape};
 
 use crate::form::form_of;
@@ -104,30 +105,30 @@ fn unwhite(is_white: bool, depth: u32, stored: u32) -> u32
 }
 
 /// What is known of stored level l of a good file without its offsets.
-#[tactic(auto, unfolding(tiff_dirs::specs::Level::level_of, tiff_dirs::specs::Block::level_at))]
+#[tactic(auto, unfolding(tiff_format::specs::Level::directory_level, tiff_format::specs::Block::level_at))]
 fn stored_shape(bytes: &[u8], l: u32) -> PlainShape
-    requires good { level.first_fault bytes.now ≡ None }
+    requires good { fault.first_fault bytes.now ≡ None }
     requires stored { l < level.stored_levels bytes.now }
-    ensures value { shown_shape result ≡ (level.level_of bytes.now l).shape }
+    ensures value { shown_shape result ≡ (level.directory_level bytes.now l).shape }
     ensures depth { IsDepth result.depth }
 {
     shape_at(form_of(bytes), bytes, level_place(bytes, l))
 }
 
 /// The offset of block i of level l.
-#[tactic(auto, unfolding(tiff_dirs::specs::Level::level_of))]
+#[tactic(auto, unfolding(tiff_format::specs::Level::directory_level))]
 fn stored_offset(bytes: &[u8], l: u32, i: u128) -> u32
-    ensures { result ≡ slice_index (level.level_of bytes.now l).offsets i }
+    ensures { result ≡ slice_index (level.directory_level bytes.now l).offsets i }
 {
     offset_of(form_of(bytes), bytes, level_place(bytes, l), i)
 }
 
 /// The place of the sample of channel c of texel (x, y) of stored level l of a good file.
-#[tactic(auto, unfolding(tiff_dirs::specs::Texel::sample_place))]
+#[tactic(auto, unfolding(tiff_format::specs::Texel::sample_place))]
 fn sample_place(bytes: &[u8], l: u32, x: u32, y: u32, c: u32) -> u128
-    requires good { level.first_fault bytes.now ≡ None }
+    requires good { fault.first_fault bytes.now ≡ None }
     requires stored { l < level.stored_levels bytes.now }
-    ensures value { result ≡ spec.sample_place (level.level_of bytes.now l) x y c }
+    ensures value { result ≡ spec.sample_place (level.directory_level bytes.now l) x y c }
     ensures fits { result < 2 ^ 110 }
 {
     let shape = stored_shape(bytes, l);
@@ -146,12 +147,12 @@ fn number_stored(big: bool, depth: u32, bytes: &[u8], place: u128) -> u32
 }
 
 /// The sample of channel c of texel (x, y) of stored level l of a good file.
-#[tactic(auto, unfolding(tiff_dirs::specs::Texel::sample_in))]
+#[tactic(auto, unfolding(tiff_format::specs::Texel::sample_in))]
 pub fn sample_at(bytes: &[u8], l: u32, x: u32, y: u32, c: u32) -> u32
-    requires good { level.first_fault bytes.now ≡ None }
+    requires good { fault.first_fault bytes.now ≡ None }
     requires stored { l < level.stored_levels bytes.now }
     ensures value { result ≡ spec.sample_at bytes.now l x y c }
-    ensures fits { result < 2 ^ (level.level_of bytes.now l).shape.depth }
+    ensures fits { result < 2 ^ (level.directory_level bytes.now l).shape.depth }
 {
     let shape = stored_shape(bytes, l);
     let place = sample_place(bytes, l, x, y, c);
@@ -174,10 +175,10 @@ fn value_of(depth: u32, sample: u32) -> u16
 
 /// The same as a 16-bit value.
 pub fn value_at(bytes: &[u8], l: u32, x: u32, y: u32, c: u32) -> u16
-    requires good { level.first_fault bytes.now ≡ None }
+    requires good { fault.first_fault bytes.now ≡ None }
     requires stored { l < level.stored_levels bytes.now }
     ensures value { result
-        ≡ spec.value_of (level.level_of bytes.now l).shape.depth
+        ≡ spec.value_of (level.directory_level bytes.now l).shape.depth
         (spec.sample_at bytes.now l x y c) }
 {
     let depth = stored_shape(bytes, l).depth;

@@ -3,12 +3,12 @@ use Rattle.std.proofs.Common.{◌≡◌, ℕ, ◌+◌, ◌-◌, ◌*◌, ◌/◌
 use Rattle.std.proofs.Common.{Option, Some, None, refl, arith}
 use Rattle.std.proofs.Math.Nat.{mul-le-mul_right, div-mul-le_self, div-add-mod}
 use Rattle.std.proofs.lemmas.Nat.{le-div, mod_below, mul-add-lt}
-use Rattle.tiff_dirs.specs.declared.dir.Dir.{Dir}
-use Rattle.tiff_dirs.specs.Block.{LevelShape, Level, pieces_over, blocks_by, block_texels_by}
-use Rattle.tiff_dirs.specs.Block.{texel_bytes}
-use Rattle.tiff_dirs.specs.Shown.{shown}
-use Rattle.tiff_dirs.specs.Facts.{HasTileSides, IsLevelShape, HasOffsets}
-use Rattle.tiff_dirs.specs.Texel.{block_by, texels_before_by, sample_place}
+use Rattle.tiff_format.specs.declared.dir.Dir.{Dir}
+use Rattle.tiff_format.specs.Block.{LevelShape, Level, pieces_over, blocks_by, block_texels_by}
+use Rattle.tiff_format.specs.Block.{texel_bytes}
+use Rattle.tiff_format.specs.Shown.{shown}
+use Rattle.tiff_format.specs.Facts.{HasTileSides, IsLevelShape, HasOffsets}
+use Rattle.tiff_format.specs.Texel.{block_by, texels_before_by, sample_place}
 use Rattle.tile_layout.specs.declared.piece.Piece.{Piece}
 use Rattle.tile_layout.specs.Pieces.{row_rest_by, row_rest, block_of, LiesInBlock}
 use Rattle.tile_layout.proofs.PlaceLemmas.{place_is}

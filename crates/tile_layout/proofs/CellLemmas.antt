@@ -3,7 +3,7 @@ use Rattle.std.proofs.Common.{◌≡◌, ℕ, ◌*◌, ◌/◌, ◌%◌, ◌<◌
 use Rattle.std.proofs.Common.{arith}
 use Rattle.std.proofs.Math.Nat.{mul-le-mul, mul-le-mul_left, zero-div, zero-mod, one-le-mul}
 use Rattle.std.proofs.lemmas.Nat.{mod_below, mul-add-lt, div-mul-add, mod-mul-add, div-add-mod'}
-use Rattle.tiff_dirs.specs.Block.{pieces_over}
+use Rattle.tiff_format.specs.Block.{pieces_over}
 use Rattle.tile_layout.specs.Cell.{CutLevel, cells_across, cells_down, cell_count, cell_index}
 use Rattle.tile_layout.specs.Cell.{cell_rect, HoldsTexel, CellsFitOn}
 use Rattle.tile_layout.specs.Cell.{max_cell_bytes}

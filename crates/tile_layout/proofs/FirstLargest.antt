@@ -1,9 +1,9 @@
 -- No level is larger than level 0.
 use Rattle.std.proofs.Common.{◌≡◌, ℕ, zero, suc, ◌<◌, ◌≤◌, max, sym, ◌∙◌, ap, arith, inl, inr}
 use Rattle.std.proofs.lemmas.Bool.{cases_lt, eqb-true, and_parts}
-use Rattle.tiff_dirs.specs.Block.{LevelShape}
-use Rattle.tiff_dirs.specs.Facts.{IsChain}
-use Rattle.tiff_dirs.specs.Level.{halved}
+use Rattle.tiff_format.specs.Block.{LevelShape}
+use Rattle.tiff_format.specs.Facts.{IsChain}
+use Rattle.tiff_format.specs.Level.{halved}
 use Rattle.tile_layout.specs.Kept.{Kept, stored_count, no_level, level_in}
 use Rattle.tile_layout.specs.Level.{side_in, width_in, height_in}
 use Rattle.tile_layout.proofs.LevelLemmas.{side_stored, side_halved}

@@ -7,13 +7,13 @@ use Rattle.std.specs.Option.{option_or, option_map}
 use Rattle.std.specs.List.{range_with_len}
 use Rattle.std.proofs.lemmas.Option.{none-some}
 use Rattle.std.proofs.lemmas.Bool.{leb-true, and_parts}
-use Rattle.tiff_dirs.specs.declared.fault.TiffFault.{TiffFault}
-use Rattle.tiff_dirs.specs.declared.fault.TiffFault.TheVariants.{DataOutside}
-use Rattle.tiff_dirs.specs.Fault.{first_of, data_fault, block_inside, directory_fault}
-use Rattle.tiff_dirs.specs.Block.{blocks_of, block_bytes}
-use Rattle.tiff_dirs.specs.Form.{form_of, header_bytes}
-use Rattle.tiff_dirs.specs.Level.{level_of, level_place, stored_levels, header_fault, data_faults}
-use Rattle.tiff_dirs.specs.Level.{first_fault}
+use Rattle.tiff_format.specs.declared.fault.TiffFault.{TiffFault}
+use Rattle.tiff_format.specs.declared.fault.TiffFault.TheVariants.{DataOutside}
+use Rattle.tiff_format.specs.DirectoryFault.{first_of, data_fault, block_inside, directory_fault}
+use Rattle.tiff_format.specs.Block.{blocks_of, block_bytes}
+use Rattle.tiff_format.specs.Form.{form_of, header_bytes}
+use Rattle.tiff_format.specs.Level.{directory_level, level_place, stored_levels}
+use Rattle.tiff_format.specs.Fault.{header_fault, data_faults, first_fault}
 use Rattle.tile_layout.specs.Blocks.{HoldsBlocks}
 
 -- ---- none of them
@@ -70,12 +70,12 @@ module _ (bytes : List ℕ) (good : first_fault bytes ≡ None) where
       let directory = none_of_two of_first (option_or (data_faults bytes) None) header.1 in
       (none_of_two (data_faults bytes) None directory.1).0
 
-  pub good_level : (l : ℕ) → l < stored_levels bytes → HoldsBlocks bytes (level_of bytes l)
+  pub good_level : (l : ℕ) → l < stored_levels bytes → HoldsBlocks bytes (directory_level bytes l)
   unfolding data_faults data_fault
   good_level l lt = λ i below.
       let form = form_of bytes in
-      let level = level_of bytes l in
-      let none = none_of_all (λ k. data_fault form bytes k (level_of bytes k)) 0
+      let level = directory_level bytes l in
+      let none = none_of_all (λ k. data_fault form bytes k (directory_level bytes k)) 0
       (stored_levels bytes) no_block_outside l lt in
       let found = none_mapped (DataOutside l)
       (find (λ i. not (block_inside form bytes level i))

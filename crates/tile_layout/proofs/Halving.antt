@@ -3,8 +3,8 @@ use Rattle.std.proofs.Common.{◌≡◌, ℕ, zero, suc, ◌+◌, ◌-◌, ◌/�
 use Rattle.std.proofs.Common.{◌∙◌, arith, inl, inr, add-zero, add-suc}
 use Rattle.std.proofs.lemmas.Nat.{shr-shr}
 use Rattle.std.proofs.lemmas.Bool.{cases_lt}
-use Rattle.tiff_dirs.specs.Block.{LevelShape}
-use Rattle.tiff_dirs.specs.Level.{halved}
+use Rattle.tiff_format.specs.Block.{LevelShape}
+use Rattle.tiff_format.specs.Level.{halved}
 use Rattle.tile_layout.specs.Kept.{Kept, stored_count, level_in}
 use Rattle.tile_layout.specs.Level.{side_in}
 use Rattle.tile_layout.proofs.LevelLemmas.{side_stored, side_halved}

@@ -2,9 +2,9 @@
 use Rattle.std.proofs.Common.{◌≡◌, ℕ, zero, suc, ◌<◌, ◌≤◌, List, refl, zero-add, eqb}
 use Rattle.std.proofs.lemmas.List.FromFn.{length-map-range_with_len, get_or-map-range_with_len}
 use Rattle.std.proofs.lemmas.Bool.{lt-ltb, le-ltb, and_parts, eqb-true}
-use Rattle.tiff_dirs.specs.Block.{LevelShape}
-use Rattle.tiff_dirs.specs.Facts.{IsChain}
-use Rattle.tiff_dirs.specs.Level.{level_of, stored_levels, halved}
+use Rattle.tiff_format.specs.Block.{LevelShape}
+use Rattle.tiff_format.specs.Facts.{IsChain}
+use Rattle.tiff_format.specs.Level.{directory_level, stored_levels, halved}
 use Rattle.tile_layout.specs.Cell.{bit_depth_in}
 use Rattle.tile_layout.specs.Kept.{Kept, kept_of, stored_count, no_level, level_in}
 use Rattle.tile_layout.specs.Level.{side_in}
@@ -37,9 +37,9 @@ depth_stored file chain l lt =
 
 module _ (bytes : List ℕ) where
   pub stored_told : stored_count (kept_of bytes) ≡ stored_levels bytes
-  stored_told = length-map-range_with_len (level_of bytes) 0 (stored_levels bytes)
+  stored_told = length-map-range_with_len (directory_level bytes) 0 (stored_levels bytes)
 
-  pub level_told : (l : ℕ) → l < stored_levels bytes → level_in (kept_of bytes) l ≡ level_of bytes l
+  pub level_told : (l : ℕ) → l < stored_levels bytes → level_in (kept_of bytes) l ≡ directory_level bytes l
   level_told l lt =
-      get_or-map-range_with_len (level_of bytes) 0 (stored_levels bytes) l l no_level lt
+      get_or-map-range_with_len (directory_level bytes) 0 (stored_levels bytes) l l no_level lt
       (zero-add l)

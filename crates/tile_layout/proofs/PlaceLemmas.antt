@@ -2,9 +2,9 @@
 use Rattle.std.proofs.Common.{◌≡◌, ℕ, ◌+◌, ◌*◌, ◌/◌, ◌%◌, ◌<◌, Option, Some, None, get_or, refl}
 use Rattle.std.proofs.Common.{ap, arith}
 use Rattle.std.proofs.lemmas.Nat.{div-mul-add, mod-mul-add, div-add-mod'}
-use Rattle.tiff_dirs.specs.Block.{LevelShape, Level, pieces_over, sample_bytes, texel_bytes}
-use Rattle.tiff_dirs.specs.Texel.{block_by, block_index, texels_before_by, texels_before}
-use Rattle.tiff_dirs.specs.Texel.{sample_place}
+use Rattle.tiff_format.specs.Block.{LevelShape, Level, pieces_over, sample_bytes, texel_bytes}
+use Rattle.tiff_format.specs.Texel.{block_by, block_index, texels_before_by, texels_before}
+use Rattle.tiff_format.specs.Texel.{sample_place}
 use Rattle.tile_layout.specs.Pieces.{row_rest_by, row_rest}
 
 -- ---- one side, cut into pieces

@@ -9,8 +9,8 @@ use Rattle.std.proofs.Math.Nat.{pow-suc, pow-le-pow_right}
 use Rattle.std.proofs.lemmas.Nat.{pow_pos, div_below, le-div}
 use Rattle.std.proofs.lemmas.Bool.{cases_lt, cases_Bool, eq-eqb, ne_eqb, and_from, and_left}
 use Rattle.std.proofs.lemmas.Bool.{and_right}
-use Rattle.tiff_dirs.specs.Fault.{max_side}
-use Rattle.tiff_dirs.specs.Level.{max_levels}
+use Rattle.tiff_format.specs.Limits.{max_side}
+use Rattle.tiff_format.specs.Level.{max_levels}
 use Rattle.tile_layout.specs.Kept.{Kept, stored_count, level_in}
 use Rattle.tile_layout.specs.Level.{width_in, height_in, levels_down}
 use Rattle.tile_layout.proofs.Halving.{side_by}

@@ -1,9 +1,9 @@
 -- The texels of stored levels are the samples that stand in the file.
 use Rattle.std.proofs.Common.{◌≡◌, ℕ, zero, suc, ◌<◌, List, refl, sym, subst}
 use Rattle.std.proofs.lemmas.Bool.{lt-ltb}
-use Rattle.tiff_dirs.specs.Block.{Level}
-use Rattle.tiff_dirs.specs.Texel.{sample_in}
-use Rattle.tiff_dirs.specs.Level.{first_fault}
+use Rattle.tiff_format.specs.Block.{Level}
+use Rattle.tiff_format.specs.Texel.{sample_in}
+use Rattle.tiff_format.specs.Fault.{first_fault}
 use Rattle.std.specs.Prelude.{None}
 use Rattle.tile_layout.specs.Blocks.{HoldsBlocks}
 use Rattle.tile_layout.specs.Kept.{Kept, kept_of, stored_count, level_in}

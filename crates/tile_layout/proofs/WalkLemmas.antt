@@ -3,9 +3,9 @@ use Rattle.std.proofs.Common.{◌≡◌, ℕ, ◌+◌, ◌<◌, ◌≤◌, ◌++
 use Rattle.std.proofs.Common.{◌∙◌, arith, length-append}
 use Rattle.std.specs.Prelude.{⊤}
 use Rattle.std.specs.Iterator.{at_most, MakesProgress}
-use Rattle.tiff_dirs.specs.Block.{Level}
+use Rattle.tiff_format.specs.Block.{Level}
 use Rattle.tile_layout.specs.declared.piece.Piece.{Piece}
-use Rattle.tile_layout.specs.declared.rect.Rect.{Rect}
+use Rattle.tiff_format.specs.declared.rect.Rect.{Rect}
 use Rattle.tile_layout.specs.Pieces.{Walk, Takes, LiesSideBySide, row_texels}
 use Rattle.tile_layout.specs.Walk.{walk_at}
 use Rattle.tile_layout.proofs.TexelLemmas.{piece_taken, row_done, length-row_texels}

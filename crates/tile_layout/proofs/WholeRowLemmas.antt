@@ -2,12 +2,11 @@
 use Rattle.std.proofs.Common.{◌≡◌, ℕ, zero, suc, ◌+◌, ◌-◌, ◌*◌, ◌/◌, ◌%◌, ◌^◌, ◌<◌, ◌≤◌}
 use Rattle.std.proofs.Common.{Option, Some, None, refl, ap, ◌∙◌, arith}
 use Rattle.std.proofs.lemmas.Nat.{div-add-mod', mod-mul-add, mod_below}
-use Rattle.tiff_dirs.specs.Block.{LevelShape, Level, sample_bytes, texel_bytes}
-use Rattle.tiff_dirs.specs.Facts.{HasTileSides}
-use Rattle.tiff_dirs.specs.Texel.{block_by, texels_before_by}
-use Rattle.tiff_dirs.specs.Texel.{sample_place}
+use Rattle.tiff_format.specs.Block.{LevelShape, Level, sample_bytes, texel_bytes}
+use Rattle.tiff_format.specs.Facts.{HasTileSides}
+use Rattle.tiff_format.specs.Texel.{block_by, texels_before_by, sample_place}
 use Rattle.tile_layout.specs.declared.piece.Piece.{Piece}
-use Rattle.tile_layout.specs.declared.rect.Rect.{Rect}
+use Rattle.tiff_format.specs.declared.rect.Rect.{Rect}
 use Rattle.tile_layout.specs.Pieces.{LiesOn, row_rest_by, row_rest, block_of}
 use Rattle.tile_layout.specs.WholeRows.{block_width_by, block_width, block_rows_by, block_rows}
 use Rattle.tile_layout.specs.WholeRows.{HasWholeRows, RowFollows, AreWholeRows, StandsWhole}

@@ -1,6 +1,6 @@
 -- When are all strips and tiles of a level in the file?
 use Rattle.std.specs.Prelude.{ℕ, ◌+◌, ◌<◌, ◌≤◌, List, length, slice_index}
-use Rattle.tiff_dirs.specs.Block.{Level, blocks_of, block_bytes}
+use Rattle.tiff_format.specs.Block.{Level, blocks_of, block_bytes}
 
 -- none of them ends behind the bytes
 abbrev pub HoldsBlocks : List ℕ → Level → Type 0

@@ -1,8 +1,8 @@
 -- What is known of a side that is cut into cells?
 use Rattle.std.specs.Prelude.{◌≡◌, ℕ, ◌+◌, ◌/◌, ◌%◌, ◌^◌, ◌<◌, ◌≤◌}
-use Rattle.tiff_dirs.specs.Block.{pieces_over}
-use Rattle.tiff_dirs.specs.Fault.{max_side, tile_step}
-use Rattle.tiff_dirs.specs.Facts.{IsSide}
+use Rattle.tiff_format.specs.Block.{pieces_over}
+use Rattle.tiff_format.specs.Limits.{max_side, tile_step}
+use Rattle.tiff_format.specs.Facts.{IsSide}
 
 -- the most cells of a side
 abbrev pub max_cells_aside : ℕ

@@ -1,6 +1,6 @@
 -- How are the samples of a level stored?
 use Rattle.std.specs.Prelude.{◌≡◌, Bool, if◌then◌else◌}
-use Rattle.tiff_dirs.specs.Block.{LevelShape}
+use Rattle.tiff_format.specs.Block.{LevelShape}
 use Rattle.tile_layout.specs.declared.texel_format.TexelFormat.{TexelFormat}
 
 -- the format is that of a level of this shape, in a file of this byte order

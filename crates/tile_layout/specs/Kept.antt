@@ -1,10 +1,10 @@
 -- What is kept of a file?
 use Rattle.std.specs.Prelude.{◌≡◌, ℕ, Bool, false, List, [], length, map, slice_index_or, None}
-use Rattle.tiff_dirs.specs.declared.dirs.Dirs.{Dirs}
-use Rattle.tiff_dirs.specs.Bytes.{is_big}
-use Rattle.tiff_dirs.specs.Block.{LevelShape, Level}
-use Rattle.tiff_dirs.specs.Level.{levels_of}
-use Rattle.tiff_dirs.specs.Shown.{shown}
+use Rattle.tiff_format.specs.declared.dirs.Dirs.{Dirs}
+use Rattle.tiff_format.specs.Bytes.{is_big}
+use Rattle.tiff_format.specs.Block.{LevelShape, Level}
+use Rattle.tiff_format.specs.Level.{levels_of}
+use Rattle.tiff_format.specs.Shown.{shown}
 
 -- its byte order, and its stored levels, the largest first
 pub record Kept : Type 0 where

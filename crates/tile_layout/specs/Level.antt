@@ -5,8 +5,8 @@ use Rattle.std.specs.Prelude.{◌≡◌, ℕ, zero, suc, ◌<◌, ◌≤◌, max
 use Rattle.std.specs.Prelude.{find, if◌then◌else◌}
 use Rattle.std.specs.Option.{option_map_or}
 use Rattle.std.specs.List.{range_with_len}
-use Rattle.tiff_dirs.specs.Block.{LevelShape}
-use Rattle.tiff_dirs.specs.Level.{halved, max_levels}
+use Rattle.tiff_format.specs.Block.{LevelShape}
+use Rattle.tiff_format.specs.Level.{halved, max_levels}
 use Rattle.tile_layout.specs.Kept.{Kept, kept_of, stored_count, level_in}
 
 -- a side of a level: its own where it is stored, else half of that of the level before

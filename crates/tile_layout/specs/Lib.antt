@@ -1,4 +1,3 @@
-pub mod Cut
 pub mod Key
 pub mod Kept
 pub mod Level

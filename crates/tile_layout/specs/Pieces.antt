@@ -2,10 +2,10 @@
 use Rattle.std.specs.Prelude.{◌≡◌, ℕ, ◌+◌, ◌-◌, ◌*◌, ◌%◌, ◌^◌, ◌<◌, ◌≤◌, min, List, [], ◌++◌}
 use Rattle.std.specs.Prelude.{map, slice_index, MatchOption, Option, Some, None}
 use Rattle.std.specs.List.{range_with_len, flat_map}
-use Rattle.tiff_dirs.specs.Block.{LevelShape, Level, sample_bytes, texel_bytes, blocks_of}
-use Rattle.tiff_dirs.specs.Block.{block_bytes}
-use Rattle.tiff_dirs.specs.Texel.{block_index, sample_place}
-use Rattle.tile_layout.specs.declared.rect.Rect.{Rect}
+use Rattle.tiff_format.specs.Block.{LevelShape, Level, sample_bytes, texel_bytes, blocks_of}
+use Rattle.tiff_format.specs.Block.{block_bytes}
+use Rattle.tiff_format.specs.Texel.{block_index, sample_place}
+use Rattle.tiff_format.specs.declared.rect.Rect.{Rect}
 use Rattle.tile_layout.specs.declared.piece.Piece.{Piece}
 use Rattle.tile_layout.specs.Kept.{Kept}
 use Rattle.tile_layout.specs.Level.{width_in, height_in}

@@ -1,7 +1,7 @@
 -- What is known of every format of texels?
 use Rattle.std.specs.Prelude.{◌≡◌, ℕ, ◌*◌}
-use Rattle.tiff_dirs.specs.Block.{sample_bytes}
-use Rattle.tiff_dirs.specs.Facts.{IsChannelCount, IsDepth}
+use Rattle.tiff_format.specs.Block.{sample_bytes}
+use Rattle.tiff_format.specs.Facts.{IsChannelCount, IsDepth}
 
 -- the samples of a texel stand side by side
 pub record IsTexelFormat (depth channels texel_bytes : ℕ) : Type 0 where

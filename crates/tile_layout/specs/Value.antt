@@ -1,6 +1,6 @@
 -- Which 16-bit value has a channel of a texel of a file? (docs/FORMAT.md, "Values")
 use Rattle.std.specs.Prelude.{ℕ, nat_lt, List, if◌then◌else◌}
-use Rattle.tiff_dirs.specs.Texel.{value_of}
+use Rattle.tiff_format.specs.Texel.{value_of}
 use Rattle.tile_layout.specs.Kept.{Kept, kept_of}
 use Rattle.tile_layout.specs.Cell.{channels_in, bit_depth_in}
 use Rattle.tile_layout.specs.Texel.{texel_in}

@@ -1,8 +1,8 @@
 -- What do the functions of this crate say of the fields of a walk?
 use Rattle.std.specs.Prelude.{ℕ, zero, suc, ◌+◌, ◌-◌, ◌<◌, ◌≤◌, List, [], ◌++◌}
 use Rattle.std.specs.List.{range_with_len, flat_map}
-use Rattle.tiff_dirs.specs.Block.{LevelShape, Level}
-use Rattle.tile_layout.specs.declared.rect.Rect.{Rect}
+use Rattle.tiff_format.specs.Block.{LevelShape, Level}
+use Rattle.tiff_format.specs.declared.rect.Rect.{Rect}
 use Rattle.tile_layout.specs.Pieces.{Walk, LiesOn, row_texels}
 
 -- the texels to come of so many rows from row y on: of that row those from x on, of each later one

@@ -1,8 +1,8 @@
 -- When do the texels of a rectangle stand side by side in the file, row behind row?
 use Rattle.std.specs.Prelude.{◌≡◌, ℕ, ◌+◌, ◌*◌, ◌%◌, ◌^◌, ◌<◌, ◌≤◌, List, length, Option, Some, None}
-use Rattle.tiff_dirs.specs.Block.{LevelShape, Level, sample_bytes, texel_bytes}
-use Rattle.tiff_dirs.specs.Texel.{sample_place}
-use Rattle.tile_layout.specs.declared.rect.Rect.{Rect}
+use Rattle.tiff_format.specs.Block.{LevelShape, Level, sample_bytes, texel_bytes}
+use Rattle.tiff_format.specs.Texel.{sample_place}
+use Rattle.tiff_format.specs.declared.rect.Rect.{Rect}
 use Rattle.tile_layout.specs.Blocks.{HoldsBlocks}
 
 -- the texels of a row of a strip, or of a tile

@@ -1,5 +1,5 @@
 ghost use Rattle.std.specs.Prelude.{◌≡◌, ◌+◌, ◌*◌, ◌/◌, ◌<◌, ◌≤◌};
-ghost use Rattle.tiff_dirs.specs.Facts.{IsSide};
+ghost use Rattle.tiff_format.specs.Facts.{IsSide};
 ghost use Rattle.tile_layout.specs.Cell.{clipped};
 ghost use Rattle.tile_layout.specs.CutSide.{IsCellSide, IsCutSide};
 

@@ -1,12 +1,12 @@
 ghost use Rattle.std.specs.Prelude.{◌≡◌, ◌<◌, ◌≤◌, ◌↔◌, IsTrue};
-ghost use Rattle.tiff_dirs.specs.Facts.{IsChannelCount};
+ghost use Rattle.tiff_format.specs.Facts.{IsChannelCount};
 ghost use Rattle.tile_layout.specs.Cell.{cell_count, cell_index, cell_rect, HoldsTexel};
 ghost use Rattle.tile_layout.specs.Cell.{CellsFitOn, number_of};
 ghost use Rattle.tile_layout.specs.CutSide.{max_cells};
 ghost use Rattle.tile_layout.specs.Pieces.{LiesOn};
 
 use crate::cut_side::CutSide;
-use crate::rect::Rect;
+use tiff_format::Rect;
 
 /// The most bytes of a cell in memory.
 pub const MAX_CELL_BYTES: u64 = 33_554_432;

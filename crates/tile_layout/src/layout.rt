@@ -1,9 +1,9 @@
 ghost use Rattle.std.specs.Prelude.{◌≡◌, ℕ, ◌/◌, ◌^◌, ◌<◌, ◌≤◌, ◌↔◌, max, List};
 ghost use Rattle.std.specs.Prelude.{IsTrue, IfSome, IsSome};
-ghost use Rattle.tiff_dirs.specs.Level.{max_levels};
-ghost use Rattle.tiff_dirs.specs.Facts.{IsSide, IsChannelCount, IsDepth};
-ghost use Rattle.tiff_dirs.specs.Shown.{shown, shown_shape};
-ghost use Rattle.tile_layout.specs.Cut.{IsCut};
+ghost use Rattle.tiff_format.specs.Level.{max_levels};
+ghost use Rattle.tiff_format.specs.Facts.{IsSide, IsChannelCount, IsDepth};
+ghost use Rattle.tiff_format.specs.Shown.{shown, shown_shape};
+ghost use Rattle.tiff_format.specs.Cut.{IsCut};
 ghost use Rattle.tile_layout.specs.Kept.{kept_of, kept_in, AreDirsOf, stored_count, level_in};
 ghost use Rattle.tile_layout.specs.Level.{width_in, height_in, level_count_in, levels_down};
 ghost use Rattle.tile_layout.specs.Level.{HasLevel, IsLevelCount, IsOfEach};
@@ -17,15 +17,13 @@ ghost use Rattle.tile_layout.specs.Grid.{shown_grid};
 ghost use Rattle.tile_layout.specs.Halving.{HalvesWithinCells};
 ghost use Rattle.tile_layout.specs.WholeRows.{block_width, block_rows, AreWholeRows, StandsWhole};
 
-use crate::cut::Cut;
 use crate::cut_side::CutSide;
 use crate::grid::Grid;
 use crate::pieces::Pieces;
 use crate::place::{block_rows, block_width, texel_bytes, whole_rows};
-use crate::rect::Rect;
 use crate::texel_format::TexelFormat;
 use std::marker::Model;
-use tiff_dirs::{Dir, Dirs};
+use tiff_format::{Cut, Dir, Dirs, Rect};
 
 /// The levels of a file that shows no fault, and where their texels stand in it.
 ///

@@ -2,27 +2,19 @@
 //! the file the texels of a rectangle stand.
 #![tactic(auto)]
 
-mod cut;
 mod cut_side;
 mod grid;
-mod info;
 mod key;
 mod layout;
 mod piece;
 mod pieces;
 mod place;
-mod rect;
-mod shard_count;
 mod texel_format;
 
-pub use cut::Cut;
 pub use cut_side::CutSide;
 pub use grid::{Grid, MAX_CELL_BYTES};
-pub use info::Info;
 pub use key::TileKey;
 pub use layout::Layout;
 pub use piece::Piece;
 pub use pieces::Pieces;
-pub use rect::Rect;
-pub use shard_count::ShardCount;
 pub use texel_format::TexelFormat;

@@ -1,12 +1,11 @@
 ghost use Rattle.std.specs.Prelude.{◌≡◌};
-ghost use Rattle.tiff_dirs.specs.Shown.{shown};
+ghost use Rattle.tiff_format.specs.Shown.{shown};
 ghost use Rattle.tile_layout.specs.Pieces.{LiesOn, walk_over};
 
 use crate::piece::Piece;
 use crate::place::piece_at;
-use crate::rect::Rect;
 use std::marker::Model;
-use tiff_dirs::Dir;
+use tiff_format::{Dir, Rect};
 
 /// The pieces of a rectangle of a level, row by row and in each row from left to right.
 ///
@@ -23,7 +22,7 @@ pub struct Pieces<'a> {
 }
 
 impl<'a> Model for Pieces<'a> {
-    ghost use Rattle.tiff_dirs.specs.Shown.{shown, shown_shape};
+    ghost use Rattle.tiff_format.specs.Shown.{shown, shown_shape};
     ghost use Rattle.tile_layout.specs.Pieces.{Walk};
     ghost use Rattle.tile_layout.specs.Walk.{walk_at, IsWalk};
 

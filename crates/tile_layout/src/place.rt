@@ -1,16 +1,15 @@
 //! Where the texels of a level stand in the file.
 
 ghost use Rattle.std.specs.Prelude.{◌≡◌, ◌+◌, ◌^◌, ◌<◌, ◌≤◌, ◌↔◌, length, IfSome, IsSome, IsTrue};
-ghost use Rattle.tiff_dirs.specs.Block.{pieces_over, texel_bytes};
-ghost use Rattle.tiff_dirs.specs.Shown.{shown, shown_shape};
-ghost use Rattle.tiff_dirs.specs.Texel.{block_index, texels_before, sample_place};
+ghost use Rattle.tiff_format.specs.Block.{pieces_over, texel_bytes};
+ghost use Rattle.tiff_format.specs.Shown.{shown, shown_shape};
+ghost use Rattle.tiff_format.specs.Texel.{block_index, texels_before, sample_place};
 ghost use Rattle.tile_layout.specs.Pieces.{row_rest, LiesOn, LiesSideBySide};
 ghost use Rattle.tile_layout.specs.WholeRows.{block_width, block_rows, HasWholeRows, RowFollows};
 ghost use Rattle.tile_layout.specs.WholeRows.{RowsFollow, AreWholeRows, StandsWhole};
 
 use crate::piece::Piece;
-use crate::rect::Rect;
-use tiff_dirs::Dir;
+use tiff_format::{Dir, Rect};
 
 /// As many as it takes to cover a side by pieces of that length.
 fn pieces_over(side: u32, piece: u32) -> u64

@@ -4,9 +4,9 @@ use Rattle.std.proofs.Common.{IsOkAnd, IfOk, ap, ◌∙◌, subst, sym}
 use Rattle.std.specs.Option.{ForSome, option_map_or}
 use Rattle.tex_world.specs.World.{Files}
 use Rattle.tex_world.specs.Tap.{Named}
-use Rattle.tiff_dirs.specs.Level.{first_fault}
-use Rattle.tiff_dirs.specs.declared.fault.TiffFault.{TiffFault}
-use Rattle.tile_layout.specs.declared.cut.Cut.{Cut}
+use Rattle.tiff_format.specs.Fault.{first_fault}
+use Rattle.tiff_format.specs.declared.fault.TiffFault.{TiffFault}
+use Rattle.tiff_format.specs.declared.cut.Cut.{Cut}
 use Rattle.tile_layout.specs.Cell.{CellsFit}
 use Rattle.tile_layout.specs.Kept.{Kept, kept_of}
 use Rattle.file_table.specs.Record.{RecordState, IsRecord, layout_of}

@@ -8,10 +8,10 @@ use Rattle.std.proofs.lemmas.List.Elements.{All-get_or, All-from_get_or}
 use Rattle.std.proofs.lemmas.List.FromFn.{get_or-map-range_with_len}
 use Rattle.std.proofs.lemmas.Nat.{mod-mul-add, div-add-mod', mul-add-lt}
 use Rattle.std.proofs.Math.Nat.{mul-le-mul_right}
-use Rattle.tiff_dirs.specs.Block.{LevelShape, Level, texel_bytes}
-use Rattle.tiff_dirs.specs.Texel.{sample_place}
+use Rattle.tiff_format.specs.Block.{LevelShape, Level, texel_bytes}
+use Rattle.tiff_format.specs.Texel.{sample_place}
 use Rattle.tile_layout.specs.declared.piece.Piece.{Piece}
-use Rattle.tile_layout.specs.declared.rect.Rect.{Rect}
+use Rattle.tiff_format.specs.declared.rect.Rect.{Rect}
 use Rattle.tile_layout.specs.Pieces.{row_rest_by, row_texels, LiesSideBySide, Walk, Takes}
 use Rattle.tile_layout.specs.WholeRows.{StandsWhole}
 use Rattle.tile_layout.proofs.TexelLemmas.{length-row_texels}

@@ -6,11 +6,11 @@ use Rattle.std.specs.List.{range_with_len, flat_map}
 use Rattle.std.proofs.lemmas.Bool.{ne_eqb}
 use Rattle.std.proofs.lemmas.Nat.{mod-mul-add, mul-add-lt}
 use Rattle.std.proofs.Math.Nat.{mul-le-mul_left}
-use Rattle.tiff_dirs.specs.Bytes.{number_at}
-use Rattle.tiff_dirs.specs.Block.{Level, sample_bytes, texel_bytes}
-use Rattle.tiff_dirs.specs.Reader.{IsPartAt}
-use Rattle.tiff_dirs.specs.Texel.{sample_in, sample_place}
-use Rattle.tiff_dirs.proofs.BytesOfParts.{number_of_part}
+use Rattle.tiff_format.specs.Bytes.{number_at}
+use Rattle.tiff_format.specs.Block.{Level, sample_bytes, texel_bytes}
+use Rattle.tiff_format.specs.Bytes.{IsPartAt}
+use Rattle.tiff_format.specs.Texel.{sample_in, sample_place}
+use Rattle.tiff_format.proofs.BytesOfParts.{number_of_part}
 use Rattle.tile_layout.specs.declared.piece.Piece.{Piece}
 use Rattle.tile_layout.specs.declared.texel_format.TexelFormat.{TexelFormat}
 use Rattle.tile_layout.specs.FormatOf.{IsFormatOf}

@@ -8,8 +8,8 @@ use Rattle.std.proofs.lemmas.List.{get_or_append_left, get_or-append_right}
 use Rattle.std.proofs.lemmas.List.FromFn.{length-map-range_with_len, get_or-map-range_with_len}
 use Rattle.std.proofs.lemmas.Nat.{mul-add-lt}
 use Rattle.std.proofs.Math.Nat.{mul-le-mul_left}
-use Rattle.tiff_dirs.specs.Block.{Level, sample_bytes, texel_bytes}
-use Rattle.tiff_dirs.specs.Texel.{sample_in}
+use Rattle.tiff_format.specs.Block.{Level, sample_bytes, texel_bytes}
+use Rattle.tiff_format.specs.Texel.{sample_in}
 use Rattle.tile_layout.specs.FormatOf.{IsFormatOf}
 use Rattle.tile_load.specs.declared.run.Run.{Run}
 use Rattle.tile_layout.specs.declared.texel_format.TexelFormat.{TexelFormat}

@@ -5,9 +5,9 @@ use Rattle.std.specs.List.{range_with_len}
 use Rattle.std.proofs.lemmas.Bool.{eqb-true, false≢true}
 use Rattle.std.proofs.lemmas.List.Elements.{All-append, All-from_get_or}
 use Rattle.std.proofs.lemmas.List.FromFn.{length-map-range_with_len, get_or-map-range_with_len}
-use Rattle.tiff_dirs.specs.Block.{LevelShape}
-use Rattle.tiff_dirs.specs.Facts.{IsDepth}
-use Rattle.tiff_dirs.specs.Texel.{greatest_sample}
+use Rattle.tiff_format.specs.Block.{LevelShape}
+use Rattle.tiff_format.specs.Facts.{IsDepth}
+use Rattle.tiff_format.specs.Texel.{greatest_sample}
 use Rattle.tile_layout.specs.FormatOf.{IsFormatOf}
 use Rattle.tile_layout.specs.Texel.{FitDepth}
 use Rattle.tile_layout.specs.declared.texel_format.TexelFormat.{TexelFormat}

@@ -6,9 +6,9 @@ use Rattle.std.proofs.lemmas.Grind.{same_number_lists}
 use Rattle.std.proofs.lemmas.Bool.{cases_lt}
 use Rattle.std.proofs.lemmas.Nat.{mul-add-lt, div-mul-add, mod-mul-add, mod_below, div-add-mod'}
 use Rattle.std.proofs.Math.Nat.{mul-le-mul_left, div-add-mod}
-use Rattle.tiff_dirs.specs.Block.{Level, sample_bytes, texel_bytes}
-use Rattle.tiff_dirs.specs.Texel.{sample_in}
-use Rattle.tile_layout.specs.declared.rect.Rect.{Rect}
+use Rattle.tiff_format.specs.Block.{Level, sample_bytes, texel_bytes}
+use Rattle.tiff_format.specs.Texel.{sample_in}
+use Rattle.tiff_format.specs.declared.rect.Rect.{Rect}
 use Rattle.tile_layout.specs.Pieces.{rect_texels}
 use Rattle.tile_layout.specs.Texel.{AreTexelsOn}
 use Rattle.tile_layout.specs.WholeRows.{StandsWhole}

@@ -10,7 +10,7 @@ use Rattle.std.proofs.lemmas.List.{get_or-take, get_or-drop}
 use Rattle.std.proofs.lemmas.List.Elements.{All-head, All-tail, All-weaker}
 use Rattle.std.proofs.lemmas.List.FromFn.{get_or-map-range_with_len}
 use Rattle.std.proofs.lemmas.Nat.{mul-add-lt, div-mul-add, mod-mul-add}
-use Rattle.tile_layout.specs.declared.rect.Rect.{Rect}
+use Rattle.tiff_format.specs.declared.rect.Rect.{Rect}
 use Rattle.tile_layout.specs.Pieces.{row_texels, rect_texels}
 use Rattle.tile_load.specs.Zeros.{AreZeros, AddsTexel, AddsTexels}
 use Rattle.tile_load.proofs.Ranges.{flat_alike, map_alike, flat_rows}

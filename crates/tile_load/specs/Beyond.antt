@@ -1,9 +1,9 @@
 -- Which samples of a rectangle count as 0, since their bytes do not lie below a length of the file?
 -- Over told bytes there are none: all strips and tiles lie in the file.
 use Rattle.std.specs.Prelude.{◌≡◌, ℕ, ◌+◌, ◌-◌, ◌*◌, ◌<◌, ◌≤◌, min, List, slice_index}
-use Rattle.tiff_dirs.specs.Block.{Level, texel_bytes}
-use Rattle.tiff_dirs.specs.Texel.{sample_place}
-use Rattle.tile_layout.specs.declared.rect.Rect.{Rect}
+use Rattle.tiff_format.specs.Block.{Level, texel_bytes}
+use Rattle.tiff_format.specs.Texel.{sample_place}
+use Rattle.tiff_format.specs.declared.rect.Rect.{Rect}
 use Rattle.tile_layout.specs.Pieces.{row_rest}
 
 -- A piece is the texels of a row, before column `right`, that stand in one strip or tile. How many

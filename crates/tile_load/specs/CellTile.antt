@@ -1,6 +1,6 @@
 -- Which tile is that of a cell?
 use Rattle.std.specs.Prelude.{◌≡◌, ℕ}
-use Rattle.tile_layout.specs.declared.cut.Cut.{Cut}
+use Rattle.tiff_format.specs.declared.cut.Cut.{Cut}
 use Rattle.tile_layout.specs.Key.{level_of, index_of}
 use Rattle.tile_layout.specs.Kept.{Kept, level_in}
 use Rattle.tile_layout.specs.Cell.{cell_rect, cut_level_in, channels_in}

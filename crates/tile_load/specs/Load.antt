@@ -1,10 +1,10 @@
 -- Which cell is loaded?
 use Rattle.std.specs.Prelude.{◌≡◌, ℕ, ◌<◌, List, None}
-use Rattle.tiff_dirs.specs.Level.{first_fault}
+use Rattle.tiff_format.specs.Fault.{first_fault}
 use Rattle.tex_world.specs.Tap.{Named}
 use Rattle.file_table.specs.Record.{RecordState}
-use Rattle.tile_layout.specs.declared.cut.Cut.{Cut}
-use Rattle.tile_layout.specs.declared.rect.Rect.{Rect}
+use Rattle.tiff_format.specs.declared.cut.Cut.{Cut}
+use Rattle.tiff_format.specs.declared.rect.Rect.{Rect}
 use Rattle.tile_layout.specs.Key.{generation_of, file_of, level_of, index_of}
 use Rattle.tile_layout.specs.Kept.{Kept, kept_of, stored_count}
 use Rattle.tile_layout.specs.Cell.{cell_count, cut_level_in}

@@ -1,9 +1,9 @@
 -- Which texels stand side by side in a file, and which values are theirs?
 use Rattle.std.specs.Prelude.{◌≡◌, ℕ, ◌+◌, ◌*◌, ◌<◌, List, length, ◌++◌, map, slice_index}
 use Rattle.std.specs.List.{range_with_len}
-use Rattle.tiff_dirs.specs.Block.{Level, sample_bytes, texel_bytes}
-use Rattle.tiff_dirs.specs.Reader.{IsPartAt}
-use Rattle.tiff_dirs.specs.Texel.{sample_in, sample_place}
+use Rattle.tiff_format.specs.Block.{Level, sample_bytes, texel_bytes}
+use Rattle.tiff_format.specs.Bytes.{IsPartAt}
+use Rattle.tiff_format.specs.Texel.{sample_in, sample_place}
 use Rattle.tile_load.specs.declared.run.Run.{Run}
 use Rattle.tile_layout.specs.declared.texel_format.TexelFormat.{TexelFormat}
 use Rattle.tile_load.specs.Unpacked.{unpacked}

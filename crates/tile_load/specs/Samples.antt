@@ -1,8 +1,8 @@
 -- Which samples has a texel of a level?
 use Rattle.std.specs.Prelude.{ℕ, Bool, List, map}
 use Rattle.std.specs.List.{range_with_len}
-use Rattle.tiff_dirs.specs.Block.{Level}
-use Rattle.tiff_dirs.specs.Texel.{sample_in}
+use Rattle.tiff_format.specs.Block.{Level}
+use Rattle.tiff_format.specs.Texel.{sample_in}
 
 -- those of a texel, by its column and row, channels side by side
 abbrev pub samples_at : Bool → List ℕ → Level → ℕ × ℕ → List ℕ

@@ -1,6 +1,6 @@
 -- What does a window on a file hold?
 use Rattle.std.specs.Prelude.{ℕ, ◌+◌, ◌≤◌, List, [], ◌∷◌, length, ⊤}
-use Rattle.tiff_dirs.specs.Reader.{IsPartAt}
+use Rattle.tiff_format.specs.Bytes.{IsPartAt}
 use Rattle.tile_load.specs.declared.span.Span.{Span}
 use Rattle.tile_load.specs.declared.window.Window.{Window}
 

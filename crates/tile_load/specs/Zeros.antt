@@ -1,7 +1,7 @@
 -- What do the functions of this crate say of the zeros that they append?
 use Rattle.std.specs.Prelude.{◌≡◌, ℕ, ◌+◌, ◌*◌, ◌<◌, List, [], ◌∷◌, ◌++◌, length, slice_index}
-use Rattle.tiff_dirs.specs.Block.{Level}
-use Rattle.tile_layout.specs.declared.rect.Rect.{Rect}
+use Rattle.tiff_format.specs.Block.{Level}
+use Rattle.tiff_format.specs.declared.rect.Rect.{Rect}
 use Rattle.tile_load.specs.Beyond.{IsBeyond}
 
 -- each of the numbers is 0

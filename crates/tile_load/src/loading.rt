@@ -4,7 +4,7 @@ ghost use Rattle.std.specs.Prelude.{◌≡◌, ◌*◌, length, IfOk, IsOkAnd};
 ghost use Rattle.std.specs.Option.{ForSome};
 ghost use Rattle.tap_reader.specs.TapReader.{lent_of};
 ghost use Rattle.tile_layout.specs.Cell.{CellsFit, bit_depth_in};
-ghost use Rattle.tile_layout.specs.Cut.{IsCut};
+ghost use Rattle.tiff_format.specs.Cut.{IsCut};
 ghost use Rattle.tile_layout.specs.Kept.{level_in};
 ghost use Rattle.tile_layout.specs.Texel.{texel_at, AreTexelsOn, FitDepth};
 ghost use Rattle.tile_load.specs.Load.{IsLayoutOf, IsReadBy, NamesCell};
@@ -20,7 +20,8 @@ use file_table::Record;
 use std::alloc::Global;
 use tap_reader::TapReader;
 use tex_world::Tap;
-use tile_layout::{Cut, Layout, TileKey};
+use tiff_format::Cut;
+use tile_layout::{Layout, TileKey};
 use tile_store::Tile;
 
 /// The tile of a cell of a stored level of a record, read through the tap under a handle of the

@@ -1,6 +1,7 @@
 ghost use Rattle.tile_load.specs.Load.{IsPlace};
 
-use tile_layout::{Layout, Rect};
+use tiff_format::Rect;
+use tile_layout::Layout;
 
 /// A rectangle of a stored level.
 #[derive(Drop)]

@@ -4,7 +4,7 @@ ghost use Rattle.std.specs.Prelude.{◌≡◌, ◌+◌, ◌*◌, ◌≤◌, ◌<
 ghost use Rattle.std.specs.List.{All};
 ghost use Rattle.std.specs.Option.{ForSome};
 ghost use Rattle.std.specs.List.{flat_map};
-ghost use Rattle.tiff_dirs.specs.Block.{Level};
+ghost use Rattle.tiff_format.specs.Block.{Level};
 ghost use Rattle.tile_layout.specs.Kept.{level_in};
 ghost use Rattle.tile_layout.specs.Pieces.{LiesSideBySide, row_texels, rect_texels};
 ghost use Rattle.tile_layout.specs.FormatOf.{IsFormatOf};
@@ -25,7 +25,8 @@ use crate::span::Span;
 use crate::window::{Window, ready};
 use std::alloc::{AllocError, Global};
 use tiff_dirs::ByteReader;
-use tile_layout::{Piece, Pieces, Rect, TexelFormat};
+use tiff_format::Rect;
+use tile_layout::{Piece, Pieces, TexelFormat};
 
 /// The most bytes that the windows of a row read ahead, all together.
 pub(crate) const MAX_AHEAD: u64 = 256 * 1024;

@@ -2,7 +2,7 @@
 
 ghost use Rattle.std.specs.Prelude.{◌≡◌, ◌*◌, ◌<◌, length, IfOk};
 ghost use Rattle.std.specs.Option.{ForSome};
-ghost use Rattle.tiff_dirs.specs.Texel.{sample_in};
+ghost use Rattle.tiff_format.specs.Texel.{sample_in};
 ghost use Rattle.tile_layout.specs.Blocks.{HoldsBlocks};
 ghost use Rattle.tile_layout.specs.Cell.{bit_depth_in};
 ghost use Rattle.tile_layout.specs.Kept.{stored_count, level_in};
@@ -17,7 +17,8 @@ use crate::rect_error::RectError;
 use crate::rows::Rows;
 use std::alloc::Global;
 use tiff_dirs::ByteReader;
-use tile_layout::{Layout, Rect};
+use tiff_format::Rect;
+use tile_layout::Layout;
 
 /// The samples of a rectangle of a stored level, in the depth of the file: row by row, those of a
 /// texel side by side. A piece of a row that does not lie below the reader's length is not read,

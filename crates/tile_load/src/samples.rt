@@ -3,8 +3,8 @@
 ghost use Rattle.std.specs.Prelude.{◌≡◌, ◌+◌, ◌-◌, ◌*◌, ◌≤◌, ◌<◌, ◌++◌, ℕ, length, map};
 ghost use Rattle.std.specs.Prelude.{slice_index, OnOk};
 ghost use Rattle.std.specs.List.{range_with_len};
-ghost use Rattle.tiff_dirs.specs.Block.{sample_bytes};
-ghost use Rattle.tiff_dirs.specs.Texel.{greatest_sample};
+ghost use Rattle.tiff_format.specs.Block.{sample_bytes};
+ghost use Rattle.tiff_format.specs.Texel.{greatest_sample};
 ghost use Rattle.unpack.specs.Sample.{depth_of};
 ghost use Rattle.tile_load.specs.Unpacked.{is_wide, unpacked, KeepsDepth};
 

@@ -11,7 +11,7 @@ use Rattle.tile_store.specs.Entry.{EntryState, Entries, unpinned_bytes, loose_by
 use Rattle.tile_store.specs.Entry.{AreEntries, IsEntry, is_unpinned}
 use Rattle.tile_store.specs.Changes.{pinned_first, unpinned_once, with_first, with_room, kept_within}
 use Rattle.tile_store.specs.Changes.{without_last_unpinned, without_stale, is_stale, new_entry}
-use Rattle.tile_store.specs.Tag.{share_of, cut_of}
+use Rattle.tile_store.specs.Tag.{share_in_tag, cut_of}
 use Rattle.tile_store.specs.Lawful.{FitsCut, FitsTag, Lawful}
 use Rattle.tile_store.proofs.PinLemmas.{loose-pinned_first, All-pinned_first, All-unpinned_once, some_entry}
 use Rattle.tile_store.proofs.WithinLemmas.{All-kept_within}
@@ -71,7 +71,7 @@ module _ (files : Files) (tag : ℕ) where
   lawful_empty = record { distinct = none_distinct; cells = All-nil HasCell; share = omega arith }
 
   module _ (es : Entries) (lawful : Lawful files tag es) where
-    was_within : loose_bytes es ≤ share_of tag
+    was_within : loose_bytes es ≤ share_in_tag tag
     was_within = lawful.share
 
     pub lawful_pinned : (key : ℕ) (e : EntryState) → entry_at key es ≡ Some e
@@ -97,7 +97,7 @@ module _ (files : Files) (tag : ℕ) where
       );
     }
 
-    pub lawful_released : (key share : ℕ) → share_of tag ≡ share → HasPin key es
+    pub lawful_released : (key share : ℕ) → share_in_tag tag ≡ share → HasPin key es
         → IsDistinct nat_eq (keys_of (kept_within share (unpinned_once key es)))
         → loose_bytes (kept_within share (unpinned_once key es)) ≤ share
         → Lawful files tag (kept_within share (unpinned_once key es))

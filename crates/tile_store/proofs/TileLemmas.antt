@@ -5,7 +5,7 @@ use Rattle.std.proofs.lemmas.List.{get_or-take, get_or-drop, get_or_default}
 use Rattle.std.proofs.lemmas.List.Elements.{All-get_or}
 use Rattle.std.proofs.lemmas.Nat.{mul-add-lt, mul-le}
 use Rattle.std.proofs.Math.Nat.{add-mul, mul_comm}
-use Rattle.tiff_dirs.specs.Texel.{greatest_sample}
+use Rattle.tiff_format.specs.Texel.{greatest_sample}
 use Rattle.tex_world.specs.World.{Files}
 use Rattle.tile_layout.specs.Cell.{HoldsTexel, bit_depth_of}
 use Rattle.tile_layout.specs.Key.{generation_of, file_of}

@@ -3,14 +3,14 @@ use Rattle.std.specs.Prelude.{◌≡◌, ℕ, ◌<◌, ◌≤◌, nat_eq, List}
 use Rattle.std.specs.List.{All, IsDistinct}
 use Rattle.std.specs.Map.{keys_of}
 use Rattle.tex_world.specs.World.{Files}
-use Rattle.tile_layout.specs.declared.cut.Cut.{Cut}
+use Rattle.tiff_format.specs.declared.cut.Cut.{Cut}
 use Rattle.tile_layout.specs.Key.{level_of, index_of}
 use Rattle.tile_layout.specs.Level.{level_count}
 use Rattle.tile_layout.specs.Cell.{cut_level_of, cell_count, cell_rect}
 use Rattle.tile_store.specs.Tile.{CachedTile}
 use Rattle.tile_store.specs.Told.{ToldBy, IsOfBytes}
 use Rattle.tile_store.specs.Entry.{Entries, loose_bytes}
-use Rattle.tile_store.specs.Tag.{share_of, cut_of}
+use Rattle.tile_store.specs.Tag.{share_in_tag, cut_of}
 
 -- The key of the tile names a cell that a file with these bytes has under this cut, and the tile
 -- has the rectangle of that cell.
@@ -20,13 +20,13 @@ pub record HasCell (cut : Cut) (bytes : List ℕ) (tile : CachedTile) : Type 0 w
   pub rect : tile.rect ≡ cell_rect (cut_level_of bytes cut (level_of tile.key)) (index_of tile.key)
 
 -- the tile is a cell, under this cut, of a file with these bytes: the one that its key names
-pub record IsCellOf (cut : Cut) (bytes : List ℕ) (tile : CachedTile) : Type 0 where
+pub record IsTileUnder (cut : Cut) (bytes : List ℕ) (tile : CachedTile) : Type 0 where
   pub cell : HasCell cut bytes tile
   pub of_bytes : IsOfBytes bytes tile
 
 -- the tile fits the cut: where the world tells, it is a cell of its file under the cut
 abbrev pub FitsCut : Files → Cut → CachedTile → Type 0
-FitsCut files cut tile = ToldBy files tile.key (λ bytes. IsCellOf cut bytes tile)
+FitsCut files cut tile = ToldBy files tile.key (λ bytes. IsTileUnder cut bytes tile)
 
 -- it fits the cut that the tag names
 abbrev pub FitsTag : Files → CachedTile → ℕ → Type 0
@@ -37,7 +37,7 @@ FitsTag files tile tag = FitsCut files (cut_of tag) tile
 pub record Lawful (files : Files) (tag : ℕ) (es : Entries) : Type 0 where
   pub distinct : IsDistinct nat_eq (keys_of es)
   pub cells : All (λ e. FitsCut files (cut_of tag) e.1.tile) es
-  pub share : loose_bytes es ≤ share_of tag
+  pub share : loose_bytes es ≤ share_in_tag tag
 
 -- what is lawful for a tag stays so
 abbrev pub KeepsLawful : Files → Entries → Entries → Type 0

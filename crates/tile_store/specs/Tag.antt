@@ -1,7 +1,7 @@
 -- Which share and which cut does the tag of a shard name?
 use Rattle.std.specs.Prelude.{ℕ, ◌+◌, ◌*◌, ◌/◌, ◌%◌, ◌==◌, if◌then◌else◌}
-use Rattle.tile_layout.specs.declared.cut.Cut.{Cut}
-use Rattle.tile_layout.specs.Cut.{autotile_step}
+use Rattle.tiff_format.specs.declared.cut.Cut.{Cut}
+use Rattle.tiff_format.specs.Cut.{autotile_step}
 
 -- the tags of one share
 abbrev pub share_step : ℕ
@@ -13,8 +13,8 @@ tag_of share cut =
     share_step * share + 2 * (cut.autotile / autotile_step) + (if cut.automip then 1 else 0)
 
 -- the bytes that the unpinned tiles of a shard with this tag may take
-unfoldable pub share_of : ℕ → ℕ
-share_of tag = tag / share_step
+unfoldable pub share_in_tag : ℕ → ℕ
+share_in_tag tag = tag / share_step
 
 -- how the levels are cut whose cells are its tiles
 unfoldable pub cut_of : ℕ → Cut

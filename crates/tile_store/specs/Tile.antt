@@ -1,7 +1,7 @@
 -- What is a cached tile? The texels of a cell, with the key of the cell.
 use Rattle.std.specs.Prelude.{◌≡◌, ℕ, ◌+◌, ◌-◌, ◌*◌, ◌<◌, ◌≤◌, List, length, slice_index}
-use Rattle.tiff_dirs.specs.Facts.{IsChannelCount}
-use Rattle.tile_layout.specs.declared.rect.Rect.{Rect}
+use Rattle.tiff_format.specs.Facts.{IsChannelCount}
+use Rattle.tiff_format.specs.declared.rect.Rect.{Rect}
 use Rattle.tile_layout.specs.Cell.{max_cell_bytes}
 
 -- the texels of a rectangle of a level, row by row, with so many samples each

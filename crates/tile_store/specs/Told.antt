@@ -1,6 +1,6 @@
 -- When are the texels of a tile those of its file? In every tile they are, where the world tells.
 use Rattle.std.specs.Prelude.{◌≡◌, ℕ, ◌+◌, ◌*◌, ◌<◌, ◌≤◌, IsTrue, List, slice_index, IsSomeAnd}
-use Rattle.tiff_dirs.specs.Texel.{greatest_sample}
+use Rattle.tiff_format.specs.Texel.{greatest_sample}
 use Rattle.tex_world.specs.World.{Files}
 use Rattle.tile_layout.specs.Key.{generation_of, file_of, level_of}
 use Rattle.tile_layout.specs.Cell.{channels_of, bit_depth_of}

@@ -5,7 +5,7 @@ ghost use Rattle.tile_store.specs.Entry.{entry_at, tile_at, HasPin, pin_sum, loo
 ghost use Rattle.tile_store.specs.Entry.{pinned_count, AreEntries};
 ghost use Rattle.tile_store.specs.Changes.{pinned_first, inserted, kept_tile, unpinned_once};
 ghost use Rattle.tile_store.specs.Changes.{kept_within, without_stale, with_pin, KeepsPinned};
-ghost use Rattle.tile_store.specs.Tag.{share_of};
+ghost use Rattle.tile_store.specs.Tag.{share_in_tag};
 ghost use Rattle.tile_store.specs.Lawful.{FitsTag, Lawful, KeepsLawful, KeepsLawfulFor};
 
 use crate::entry::{Entry, owned};
@@ -144,7 +144,7 @@ impl<W: World> Shard<W> {
         ensures entries { self.new ≡ kept_within share (unpinned_once key self.old) }
         ensures pinned { KeepsPinned (unpinned_once key self.old) self.new }
         ensures within { loose_bytes self.new ≤ share }
-        ensures lawful { KeepsLawfulFor W.files (λ tag. share_of tag ≡ share) self.old self.new }
+        ensures lawful { KeepsLawfulFor W.files (λ tag. share_in_tag tag ≡ share) self.old self.new }
     {
         if let Some(order) = &mut self.order {
             let loose = self.loose + unpin(order, key);

@@ -7,7 +7,8 @@ ghost use Rattle.tile_store.specs.Told.{IsTold, IsToldSample, AreToldSamples};
 use crate::two_rows::TwoRows;
 use std::marker::{Model, PhantomData};
 use tex_world::World;
-use tile_layout::{Rect, TileKey};
+use tiff_format::Rect;
+use tile_layout::TileKey;
 
 /// The texels of a cell, in the depth of its file. Where the world tells they are those of the
 /// level, in the generation of the file, that the key names.

@@ -8,7 +8,7 @@ use Rattle.std.proofs.lemmas.Nat.{and_mask}
 use Rattle.std.proofs.Math.ListN.{get_or-append}
 use Rattle.std.proofs.Math.Nat.{mod-eq_of_lt, mul-add-mod_self_right, mul_assoc}
 use Rattle.std.specs.Int.Bits.{xor_add_and, xor_zero_r}
-use Rattle.tiff_dirs.specs.Texel.{greatest_sample, unwhite}
+use Rattle.tiff_format.specs.Texel.{greatest_sample, unwhite}
 use Rattle.unpack.specs.Passes.{AreLow, AreUnwhite, IsWhiteMask}
 use Rattle.unpack.specs.Sample.{depth_of, is_white}
 use Rattle.unpack.proofs.Pixels.{FollowTo}

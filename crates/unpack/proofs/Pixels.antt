@@ -5,7 +5,7 @@ use Rattle.std.proofs.lemmas.Bool.{cases_order, and_from, and_right, ne_eqb, eq-
 use Rattle.std.proofs.lemmas.List.{get_or-set_other, get_or-set_same}
 use Rattle.std.proofs.lemmas.Nat.{mod-mul-add}
 use Rattle.std.proofs.Math.Nat.{mul-mod_left}
-use Rattle.tiff_dirs.specs.Texel.{greatest_sample, unwhite}
+use Rattle.tiff_format.specs.Texel.{greatest_sample, unwhite}
 use Rattle.unpack.specs.Sample.{is_white}
 
 -- the samples before a place follow the rule, and those behind it are as they were

@@ -2,8 +2,8 @@
 use Rattle.std.proofs.Common.{◌≡◌, ℕ, ◌*◌, Bool, true, false, List, get_or, drop, arith, zero-add}
 use Rattle.std.proofs.lemmas.List.{get_or-drop}
 use Rattle.byteorder.specs.Endian.{big_number, little_number}
-use Rattle.tiff_dirs.specs.Bytes.{number_at}
-use Rattle.tiff_dirs.proofs.BytesOfParts.{number_same}
+use Rattle.tiff_format.specs.Bytes.{number_at}
+use Rattle.tiff_format.proofs.BytesOfParts.{number_same}
 use Rattle.unpack.specs.Sample.{stored_sample}
 
 -- a byte is its own number

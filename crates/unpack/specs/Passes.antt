@@ -1,6 +1,6 @@
 -- What do the two passes over the samples of a block do?
 use Rattle.std.specs.Prelude.{◌≡◌, ℕ, ◌<◌, ◌≤◌, Bool, List, length, slice_index}
-use Rattle.tiff_dirs.specs.Texel.{greatest_sample, unwhite}
+use Rattle.tiff_format.specs.Texel.{greatest_sample, unwhite}
 use Rattle.unpack.specs.Sample.{depth_of, is_white, stored_sample}
 
 -- they are the stored samples of these bytes

@@ -1,9 +1,9 @@
 -- Which number is each sample in the bytes of a strip or a tile? (TIFF 6.0, section 2, "Image File
 -- Header", on the byte order, and section 8 on BitsPerSample and PhotometricInterpretation)
 use Rattle.std.specs.Prelude.{ℕ, ◌*◌, ◌%◌, ◌==◌, ◌&&◌, not, Bool, List, if◌then◌else◌}
-use Rattle.tiff_dirs.specs.Bytes.{number_at}
-use Rattle.tiff_dirs.specs.Block.{sample_bytes}
-use Rattle.tiff_dirs.specs.Texel.{unwhite}
+use Rattle.tiff_format.specs.Bytes.{number_at}
+use Rattle.tiff_format.specs.Block.{sample_bytes}
+use Rattle.tiff_format.specs.Texel.{unwhite}
 
 -- the bits of a sample, by whether it is wide
 -- (section 8, BitsPerSample)

@@ -1,7 +1,7 @@
 //! The two passes over the samples of a block: the stored numbers, and the white rule.
 
 ghost use Rattle.std.specs.Prelude.{◌≡◌, ◌+◌, ◌*◌, ◌<◌, ◌≤◌, ℕ, length, slice_index, bit_xor};
-ghost use Rattle.tiff_dirs.specs.Texel.{greatest_sample};
+ghost use Rattle.tiff_format.specs.Texel.{greatest_sample};
 ghost use Rattle.unpack.specs.Sample.{depth_of, sample_size};
 ghost use Rattle.unpack.specs.Passes.{AreLow, AreStored, AreUnwhite, IsWhiteMask};
 

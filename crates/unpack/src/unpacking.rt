@@ -1,7 +1,7 @@
 //! The samples of a block, for each depth and byte order.
 
 ghost use Rattle.std.specs.Prelude.{◌≡◌, ◌*◌, ◌<◌, ◌≤◌, ℕ, length, slice_index};
-ghost use Rattle.tiff_dirs.specs.Texel.{greatest_sample};
+ghost use Rattle.tiff_format.specs.Texel.{greatest_sample};
 ghost use Rattle.unpack.specs.Sample.{depth_of, sample_of, sample_size};
 
 use crate::passes::{invert_white, read_stored};

@@ -1,6 +1,6 @@
 -- The texels of the tile are those of the record's file.
 use Rattle.std.proofs.Common.{ℕ, List, subst}
-use Rattle.tile_layout.specs.declared.rect.Rect.{Rect}
+use Rattle.tiff_format.specs.declared.rect.Rect.{Rect}
 use Rattle.tile_layout.specs.Key.{level_of}
 use Rattle.texel_values.specs.Window.{HasValuesOn}
 use Rattle.image_cache.proofs.TexelLemmas.{told_by_record, level_of_cell}

@@ -7,7 +7,7 @@ use Rattle.texel_values.specs.Values.{kept_value}
 use Rattle.tile_store.specs.Tile.{kept_sample}
 use Rattle.texel_values.proofs.PlaceLemmas.{IsRow, elsewhere, place_is, ends_within}
 use Rattle.texel_values.proofs.PlaceLemmas.{place_at, from_place, first_i, less_or_not}
-use Rattle.tile_layout.specs.declared.rect.Rect.{Rect}
+use Rattle.tiff_format.specs.declared.rect.Rect.{Rect}
 use Rattle.texel_values.specs.declared.window.Window.{Window}
 use Rattle.texel_values.proofs.painting.paint_tile.Goals as goal
 

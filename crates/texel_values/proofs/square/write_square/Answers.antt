@@ -1,6 +1,6 @@
 -- The four texels, each in its corner.
 use Rattle.std.proofs.Common.{ℕ, ◌+◌, ◌-◌, ◌<◌, ◌≤◌, arith}
-use Rattle.tile_layout.specs.declared.rect.Rect.{Rect}
+use Rattle.tiff_format.specs.declared.rect.Rect.{Rect}
 use Rattle.tile_layout.specs.Key.{generation_of, file_of}
 use Rattle.tile_layout.specs.Cell.{HoldsTexel}
 use Rattle.texel_values.proofs.SquareLemmas.{some_four, told_first, texel_samples, one_more_first}

@@ -2,8 +2,8 @@ use Rattle.std.proofs.Common.{◌≡◌, refl, ◌∙◌}
 use Rattle.std.proofs.lemmas.Result.{err_from_is_err_and}
 use Rattle.tiff_dirs.specs.declared.read_level.ReadLevel.{ReadLevel}
 use Rattle.tiff_dirs.specs.declared.shape.LevelShape.{LevelShape}
-use Rattle.tiff_dirs.specs.Block.{shape_at}
-use Rattle.tiff_dirs.specs.Fault.{directory_fault, outside_fault, count_fault}
+use Rattle.tiff_format.specs.Block.{shape_at}
+use Rattle.tiff_format.specs.DirectoryFault.{directory_fault, outside_fault, count_fault}
 use Rattle.tiff_dirs.specs.Shape.{seen_shape}
 use Rattle.tiff_dirs.specs.Entries.{IsDirectoryAt}
 use Rattle.tiff_dirs.specs.Numbers.{fields_fault}

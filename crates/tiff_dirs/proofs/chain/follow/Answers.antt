@@ -3,15 +3,16 @@ use Rattle.std.proofs.Common.{ap, ◌∙◌, arith, subst}
 use Rattle.std.proofs.lemmas.List.{length-append, length-map}
 use Rattle.std.proofs.lemmas.Option.{none-some}
 use Rattle.std.proofs.lemmas.Result.{err_from_is_err_and}
-use Rattle.tiff_dirs.specs.declared.form.Form.{Form}
-use Rattle.tiff_dirs.specs.declared.dir.Dir.{Dir}
+use Rattle.tiff_format.specs.declared.form.Form.{Form}
+use Rattle.tiff_format.specs.declared.dir.Dir.{Dir}
 use Rattle.tiff_dirs.specs.declared.read_level.ReadLevel.{ReadLevel}
-use Rattle.tiff_dirs.specs.Level.{level_place, data_faults, max_levels}
+use Rattle.tiff_format.specs.Level.{level_place, max_levels}
+use Rattle.tiff_format.specs.Fault.{data_faults}
 use Rattle.tiff_dirs.specs.NextLevel.{IsNext, is_followed, is_half_of}
 use Rattle.tiff_dirs.specs.Entries.{IsLinkAt}
-use Rattle.tiff_dirs.specs.Block.{Level}
+use Rattle.tiff_format.specs.Block.{Level}
 use Rattle.tiff_dirs.specs.Chain.{AreLevels, AreAll}
-use Rattle.tiff_dirs.specs.Shown.{shown, shown_shape}
+use Rattle.tiff_format.specs.Shown.{shown, shown_shape}
 use Rattle.tiff_dirs.proofs.Saying.{finds_err, leaves_err}
 use Rattle.tiff_dirs.proofs.Chaining.{chain_one, chain_next}
 use Rattle.tiff_dirs.proofs.Leading.{one_level}

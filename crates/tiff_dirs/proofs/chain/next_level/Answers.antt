@@ -1,7 +1,7 @@
 use Rattle.std.proofs.Common.{◌≡◌, false, refl, sym, ◌∙◌}
 use Rattle.std.proofs.lemmas.Bool.{ne_eqb}
-use Rattle.tiff_dirs.specs.Level.{is_single}
-use Rattle.tiff_dirs.specs.Shown.{shown, shown_shape}
+use Rattle.tiff_format.specs.Level.{is_single}
+use Rattle.tiff_format.specs.Shown.{shown, shown_shape}
 use Rattle.tiff_dirs.proofs.NextLevel.{last_is_last, no_next, some_next, end_is_last}
 use Rattle.tiff_dirs.proofs.NextLevel.{fault_is_last, next_of_half, shape_of_level}
 use Rattle.tiff_dirs.proofs.chain.next_level.Goals as goal

@@ -2,15 +2,16 @@ use Rattle.std.proofs.Common.{◌≡◌, [], ◌∷◌, length, map, Option, Som
 use Rattle.std.proofs.Common.{refl, sym, ap, ◌∙◌}
 use Rattle.std.proofs.lemmas.Result.{err_from_is_err_and}
 use Rattle.std.specs.Option.{option_or}
-use Rattle.tiff_dirs.specs.declared.dir.Dir.{Dir}
-use Rattle.tiff_dirs.specs.declared.fault.TiffFault.{TiffFault}
-use Rattle.tiff_dirs.specs.Form.{form_of}
-use Rattle.tiff_dirs.specs.Block.{Level}
-use Rattle.tiff_dirs.specs.Fault.{first_of, directory_fault}
-use Rattle.tiff_dirs.specs.Level.{level_place, data_faults}
+use Rattle.tiff_format.specs.declared.dir.Dir.{Dir}
+use Rattle.tiff_format.specs.declared.fault.TiffFault.{TiffFault}
+use Rattle.tiff_format.specs.Form.{form_of}
+use Rattle.tiff_format.specs.Block.{Level}
+use Rattle.tiff_format.specs.DirectoryFault.{first_of, directory_fault}
+use Rattle.tiff_format.specs.Level.{level_place}
+use Rattle.tiff_format.specs.Fault.{data_faults}
 use Rattle.tiff_dirs.specs.ReadLevel.{IsLevelAt}
 use Rattle.tiff_dirs.specs.Chain.{AreAll}
-use Rattle.tiff_dirs.specs.Shown.{shown}
+use Rattle.tiff_format.specs.Shown.{shown}
 use Rattle.tiff_dirs.proofs.Saying.{finds_err, leaves_err}
 use Rattle.tiff_dirs.proofs.Order.{or_none}
 use Rattle.tiff_dirs.proofs.LevelFaults.{tested_is, faults_at_first}

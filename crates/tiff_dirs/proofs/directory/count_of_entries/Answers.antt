@@ -1,5 +1,5 @@
 use Rattle.std.proofs.Common.{◌≡◌, ◌*◌, arith, ◌∙◌, add-zero, refl}
-use Rattle.tiff_dirs.proofs.BytesOfParts.{number_of_part}
+use Rattle.tiff_format.proofs.BytesOfParts.{number_of_part}
 use Rattle.tiff_dirs.proofs.Parts.{IsInside, inside_parts}
 use Rattle.tiff_dirs.proofs.Shown.{outside_is, inside_is}
 use Rattle.tiff_dirs.proofs.directory.count_of_entries.Goals as goal

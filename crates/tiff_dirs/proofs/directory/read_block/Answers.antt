@@ -1,6 +1,6 @@
 use Rattle.std.proofs.Common.{◌≡◌, ℕ, ◌*◌, ◌-◌, ◌/◌, length, take, refl, arith, ◌∙◌, add-zero}
 use Rattle.std.proofs.lemmas.List.{length-take}
-use Rattle.tiff_dirs.proofs.BytesOfParts.{number_of_part, part_of_part}
+use Rattle.tiff_format.proofs.BytesOfParts.{number_of_part, part_of_part}
 use Rattle.tiff_dirs.proofs.directory.read_block.Goals as goal
 
 pub returns-clause-told : goal.returns-clause-told

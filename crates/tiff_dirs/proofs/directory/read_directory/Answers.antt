@@ -1,7 +1,7 @@
 use Rattle.std.proofs.Common.{◌≡◌, ◌+◌, ◌*◌, None, ◌∙◌, arith, ap}
-use Rattle.tiff_dirs.specs.Form.{offset_at}
-use Rattle.tiff_dirs.specs.Directory.{next_place}
-use Rattle.tiff_dirs.specs.Fault.{outside_fault}
+use Rattle.tiff_format.specs.Form.{offset_at}
+use Rattle.tiff_format.specs.Directory.{next_place}
+use Rattle.tiff_format.specs.DirectoryFault.{outside_fault}
 use Rattle.tiff_dirs.specs.Entries.{AreEntriesAt, IsDirectoryAt}
 use Rattle.tiff_dirs.proofs.Covering.{has_entries}
 use Rattle.tiff_dirs.proofs.Saying.{finds_so}

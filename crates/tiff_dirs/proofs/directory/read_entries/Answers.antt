@@ -2,7 +2,7 @@ use Rattle.std.proofs.Common.{◌≡◌, ℕ, ◌+◌, ◌*◌, None, arith, ref
 use Rattle.std.proofs.lemmas.List.{length-take}
 use Rattle.std.proofs.lemmas.Option.{none-some}
 use Rattle.std.proofs.lemmas.Result.{err_from_is_err_and}
-use Rattle.tiff_dirs.specs.Form.{offset_at}
+use Rattle.tiff_format.specs.Form.{offset_at}
 use Rattle.tiff_dirs.specs.Entries.{AddsBlock, AreEntriesAt}
 use Rattle.tiff_dirs.proofs.Saying.{finds_err}
 use Rattle.tiff_dirs.proofs.directory.read_entries.Goals as goal

@@ -1,6 +1,6 @@
 use Rattle.std.proofs.Common.{◌≡◌, ◌-◌, ◌+◌, ◌*◌, ◌≤◌, min, vec_len}
 use Rattle.std.specs.Option.{ForSome}
-use Rattle.tiff_dirs.specs.declared.form.TheConstants.{ENTRY_BYTES, OFFSET_BYTES}
+use Rattle.tiff_format.specs.declared.form.TheConstants.{ENTRY_BYTES, OFFSET_BYTES}
 use Rattle.tiff_dirs.specs.declared.directory.TheConstants.{MAX_ENTRIES}
 use Rattle.tiff_dirs.specs.Entries.{Covers}
 use Rattle.tiff_dirs.proofs.directory.read_entries.Given as goal

@@ -1,5 +1,5 @@
 use Rattle.std.proofs.Common.{◌≡◌, ℕ, true, false, length, get_or, List, None, refl, sym, ap, ◌∙◌}
-use Rattle.tiff_dirs.specs.Field.{entry_value, field_value}
+use Rattle.tiff_format.specs.Field.{entry_value, field_value}
 use Rattle.tiff_dirs.specs.Entries.{is_shaped}
 use Rattle.tiff_dirs.proofs.Saying.{finds_so}
 use Rattle.tiff_dirs.proofs.FieldValues.{absent_values, misshapen_values, shaped_values}

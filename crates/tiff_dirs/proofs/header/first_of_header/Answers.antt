@@ -1,6 +1,6 @@
 use Rattle.std.proofs.Common.{◌≤◌, length, ◌∙◌, sym, arith, refl}
 use Rattle.std.proofs.lemmas.Bool.{false≢true}
-use Rattle.tiff_dirs.proofs.BytesOfParts.{number_of_part}
+use Rattle.tiff_format.proofs.BytesOfParts.{number_of_part}
 use Rattle.tiff_dirs.proofs.Shown.{mark_of_part, mark_is, version_is, header_is_good}
 use Rattle.tiff_dirs.proofs.header.first_of_header.Goals as goal
 

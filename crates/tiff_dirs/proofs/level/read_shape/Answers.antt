@@ -1,6 +1,6 @@
 use Rattle.std.proofs.Common.{◌≡◌, length, refl, sym, ◌∙◌}
 use Rattle.tiff_dirs.specs.declared.shape.LevelShape.{LevelShape}
-use Rattle.tiff_dirs.specs.Block.{shape_at}
+use Rattle.tiff_format.specs.Block.{shape_at}
 use Rattle.tiff_dirs.specs.Shape.{seen_shape}
 use Rattle.tiff_dirs.specs.Numbers.{numbers_fault, fields_fault}
 use Rattle.tiff_dirs.proofs.Saying.{finds_so}

@@ -1,9 +1,9 @@
 use Rattle.std.proofs.Common.{◌≡◌, refl, ◌∙◌}
 use Rattle.std.proofs.lemmas.Result.{err_from_is_err_and}
-use Rattle.tiff_dirs.specs.Fault.{bits_fault, format_fault}
+use Rattle.tiff_format.specs.DirectoryFault.{bits_fault, format_fault}
 use Rattle.tiff_dirs.specs.Numbers.{numbers_fault}
 use Rattle.tiff_dirs.specs.declared.shape.LevelShape.{LevelShape}
-use Rattle.tiff_dirs.specs.Block.{shape_at}
+use Rattle.tiff_format.specs.Block.{shape_at}
 use Rattle.tiff_dirs.specs.Shape.{seen_shape}
 use Rattle.tiff_dirs.proofs.Saying.{finds_err}
 use Rattle.tiff_dirs.proofs.Order.{numbers_are, shape_is_at}

@@ -1,8 +1,8 @@
 use Rattle.std.proofs.Common.{◌≡◌, ℕ, ◌*◌, ◌+◌, ◌≤◌, length, arith, refl}
 use Rattle.std.proofs.lemmas.List.{length-take}
 use Rattle.std.proofs.Math.Nat.{mul-le-mul_left}
-use Rattle.tiff_dirs.specs.Bytes.{number_at}
-use Rattle.tiff_dirs.specs.Field.{type_size, entry_value}
+use Rattle.tiff_format.specs.Bytes.{number_at}
+use Rattle.tiff_format.specs.Field.{type_size, entry_value}
 use Rattle.tiff_dirs.proofs.Gathering.{first_more}
 use Rattle.tiff_dirs.proofs.offsets.read_more.Goals as goal
 

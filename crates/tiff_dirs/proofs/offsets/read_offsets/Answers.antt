@@ -1,10 +1,10 @@
 use Rattle.std.proofs.Common.{◌≡◌, ℕ, ◌<◌, ◌≤◌, Bool, true, false, length, get_or, take, List}
 use Rattle.std.proofs.Common.{[], Vec}
 use Rattle.std.proofs.Common.{Global, None, arith, sym, ap, ◌∙◌}
-use Rattle.tiff_dirs.specs.Field.{field_values, entry_value}
-use Rattle.tiff_dirs.specs.Block.{shape_at, blocks_of, offsets_tag}
+use Rattle.tiff_format.specs.Field.{field_values, entry_value}
+use Rattle.tiff_format.specs.Block.{shape_at, blocks_of, offsets_tag}
 use Rattle.tiff_dirs.specs.Shape.{seen_shape}
-use Rattle.tiff_dirs.specs.Fault.{count_fault}
+use Rattle.tiff_format.specs.DirectoryFault.{count_fault}
 use Rattle.tiff_dirs.specs.Entries.{is_shaped}
 use Rattle.tiff_dirs.specs.Values.{AreFirstValues}
 use Rattle.tiff_dirs.proofs.Saying.{finds_so}

@@ -1,15 +1,16 @@
 use Rattle.std.proofs.Common.{[], ◌∷◌, map, Option, Vec, Global, ap, ◌∙◌}
 use Rattle.std.proofs.lemmas.Result.{err_from_is_err_and}
 use Rattle.std.specs.Option.{option_or}
-use Rattle.tiff_dirs.specs.declared.form.Form.{Form}
-use Rattle.tiff_dirs.specs.declared.dir.Dir.{Dir}
-use Rattle.tiff_dirs.specs.declared.fault.TiffFault.{TiffFault}
-use Rattle.tiff_dirs.specs.Form.{form_of}
-use Rattle.tiff_dirs.specs.Fault.{first_of, directory_fault}
-use Rattle.tiff_dirs.specs.Level.{header_fault, level_place, data_faults}
+use Rattle.tiff_format.specs.declared.form.Form.{Form}
+use Rattle.tiff_format.specs.declared.dir.Dir.{Dir}
+use Rattle.tiff_format.specs.declared.fault.TiffFault.{TiffFault}
+use Rattle.tiff_format.specs.Form.{form_of}
+use Rattle.tiff_format.specs.DirectoryFault.{first_of, directory_fault}
+use Rattle.tiff_format.specs.Fault.{header_fault, data_faults}
+use Rattle.tiff_format.specs.Level.{level_place}
 use Rattle.tiff_dirs.specs.Header.{IsHeader}
 use Rattle.tiff_dirs.specs.Chain.{AreAll}
-use Rattle.tiff_dirs.specs.Shown.{shown}
+use Rattle.tiff_format.specs.Shown.{shown}
 use Rattle.tiff_dirs.proofs.Saying.{tells_err}
 use Rattle.tiff_dirs.proofs.FirstLevel.{fault_is}
 use Rattle.tiff_dirs.proofs.read.read_dirs.Goals as goal

@@ -1,10 +1,10 @@
 use Rattle.std.proofs.Common.{◌≡◌, true, eqb, refl}
 use Rattle.std.specs.Prelude.{◌||◌}
 use Rattle.std.specs.Option.{option_map}
-use Rattle.tiff_dirs.specs.declared.fault.TiffFault.TheVariants.{Unsupported}
+use Rattle.tiff_format.specs.declared.fault.TiffFault.TheVariants.{Unsupported}
 use Rattle.tiff_dirs.specs.declared.sample_fields.SampleField.{SampleField}
-use Rattle.tiff_dirs.specs.Tag.{bits_per_sample_tag}
-use Rattle.tiff_dirs.specs.Fault.{bits_fault}
+use Rattle.tiff_format.specs.Tag.{bits_per_sample_tag}
+use Rattle.tiff_format.specs.DirectoryFault.{bits_fault}
 use Rattle.tiff_dirs.specs.Values.{first_other}
 use Rattle.tiff_dirs.proofs.Saying.{finds_so}
 use Rattle.tiff_dirs.proofs.Order.{bits_are, is_depth}

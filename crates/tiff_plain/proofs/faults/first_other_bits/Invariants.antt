@@ -1,8 +1,8 @@
 use Rattle.std.proofs.Common.{◌≡◌, ◌==◌, not, drop, take}
 use Rattle.std.specs.List.{find}
-use Rattle.tiff_dirs.specs.Fault.{samples}
-use Rattle.tiff_dirs.specs.Field.{field_values}
-use Rattle.tiff_dirs.specs.Tag.{bits_per_sample_tag}
+use Rattle.tiff_format.specs.DirectoryFault.{samples}
+use Rattle.tiff_format.specs.Field.{field_values}
+use Rattle.tiff_format.specs.Tag.{bits_per_sample_tag}
 use Rattle.tiff_plain.proofs.faults.first_other_bits.Given as goal
 
 -- The values so far are these bits.

@@ -1,8 +1,8 @@
 use Rattle.std.proofs.Common.{◌≡◌, ◌==◌, ◌||◌, not, drop, take}
 use Rattle.std.specs.List.{find}
-use Rattle.tiff_dirs.specs.Fault.{samples}
-use Rattle.tiff_dirs.specs.Field.{field_values}
-use Rattle.tiff_dirs.specs.Tag.{sample_format_tag}
+use Rattle.tiff_format.specs.DirectoryFault.{samples}
+use Rattle.tiff_format.specs.Field.{field_values}
+use Rattle.tiff_format.specs.Tag.{sample_format_tag}
 use Rattle.tiff_plain.proofs.faults.first_other_format.Given as goal
 
 -- The values so far are 1 or 4.

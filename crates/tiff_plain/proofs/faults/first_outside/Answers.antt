@@ -1,7 +1,7 @@
 -- The search among the blocks, one after another.
 use Rattle.std.proofs.Common.{◌≡◌, ℕ, ◌+◌, ◌-◌, Bool, true, false, not, ap, sym, ◌∙◌, arith, rules}
-use Rattle.tiff_dirs.specs.Block.{Level, level_at, blocks_of}
-use Rattle.tiff_dirs.specs.Fault.{block_inside}
+use Rattle.tiff_format.specs.Block.{Level, level_at, blocks_of}
+use Rattle.tiff_format.specs.DirectoryFault.{block_inside}
 use Rattle.tiff_plain.proofs.BlockLemmas.{past_is_outside}
 use Rattle.tiff_plain.proofs.FindLemmas.{find_here, find_on, find_end}
 use Rattle.tiff_plain.proofs.faults.first_outside.Goals as goal

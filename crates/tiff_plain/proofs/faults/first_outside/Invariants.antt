@@ -1,7 +1,7 @@
 use Rattle.std.proofs.Common.{◌≡◌, ◌-◌, ◌≤◌, not}
 use Rattle.std.specs.List.{find, range_with_len}
-use Rattle.tiff_dirs.specs.Block.{level_at, blocks_of}
-use Rattle.tiff_dirs.specs.Fault.{block_inside}
+use Rattle.tiff_format.specs.Block.{level_at, blocks_of}
+use Rattle.tiff_format.specs.DirectoryFault.{block_inside}
 use Rattle.tiff_plain.proofs.faults.first_outside.Given as goal
 
 -- The blocks so far lie in the file, and have offsets.

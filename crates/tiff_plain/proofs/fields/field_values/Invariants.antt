@@ -1,5 +1,5 @@
 use Rattle.std.proofs.Common.{◌≡◌, take}
-use Rattle.tiff_dirs.specs.Field.{field_values}
+use Rattle.tiff_format.specs.Field.{field_values}
 use Rattle.tiff_plain.proofs.fields.field_values.Given as goal
 
 -- The values so far.

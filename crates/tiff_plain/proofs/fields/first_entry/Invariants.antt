@@ -1,6 +1,6 @@
 use Rattle.std.proofs.Common.{◌≡◌, ◌+◌, ◌-◌, ◌*◌}
-use Rattle.tiff_dirs.specs.Field.{first_entry}
-use Rattle.tiff_dirs.specs.Form.{entry_bytes}
+use Rattle.tiff_format.specs.Field.{first_entry}
+use Rattle.tiff_format.specs.Form.{entry_bytes}
 use Rattle.tiff_plain.proofs.fields.first_entry.Given as goal
 
 -- The entries so far do not have the tag.

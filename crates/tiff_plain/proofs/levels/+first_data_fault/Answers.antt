@@ -1,17 +1,17 @@
 -- The first level's fault, or else that of the others.
 use Rattle.std.proofs.Common.{ℕ, ◌-◌, Option, refl, arith}
-use Rattle.tiff_dirs.specs.declared.fault.TiffFault.{TiffFault}
-use Rattle.tiff_dirs.specs.Fault.{data_fault}
-use Rattle.tiff_dirs.specs.Form.{form_of}
-use Rattle.tiff_dirs.specs.Level.{level_of}
+use Rattle.tiff_format.specs.declared.fault.TiffFault.{TiffFault}
+use Rattle.tiff_format.specs.DirectoryFault.{data_fault}
+use Rattle.tiff_format.specs.Form.{form_of}
+use Rattle.tiff_format.specs.Level.{directory_level}
 use Rattle.tiff_plain.proofs.FindLemmas.{first_of_more}
 use Rattle.tiff_plain.proofs.levels.+first_data_fault.Goals as goal
 
 pub returns-else-n-eq0 : goal.returns-else-n-eq0
-unfolding level_of
+unfolding directory_level
 returns-else-n-eq0 t c =
     let fault : ℕ → Option TiffFault =
-    λ k. data_fault (form_of c.args.bytes.now) c.args.bytes.now k (level_of c.args.bytes.now k) in
+    λ k. data_fault (form_of c.args.bytes.now) c.args.bytes.now k (directory_level c.args.bytes.now k) in
     rw (
       first_of_more fault c.args.k c.args.n (c.args.n - 1) (omega arith),
       c.or.ensures,

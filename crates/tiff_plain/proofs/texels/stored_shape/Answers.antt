@@ -1,6 +1,6 @@
 use Rattle.std.proofs.Common.{ap}
-use Rattle.tiff_dirs.specs.Form.{form_of}
-use Rattle.tiff_dirs.specs.Level.{level_place}
+use Rattle.tiff_format.specs.Form.{form_of}
+use Rattle.tiff_format.specs.Level.{level_place}
 use Rattle.tiff_plain.proofs.LevelLemmas.{depth_is, level_is_good}
 use Rattle.tiff_plain.proofs.texels.stored_shape.Goals as goal
 

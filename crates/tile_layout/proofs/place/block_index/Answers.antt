@@ -1,5 +1,5 @@
 use Rattle.std.proofs.Common.{ℕ, Some, arith}
-use Rattle.tiff_dirs.specs.Shown.{shown_shape}
+use Rattle.tiff_format.specs.Shown.{shown_shape}
 use Rattle.tile_layout.proofs.BlockLemmas.{block_below}
 use Rattle.tile_layout.proofs.place.block_index.Goals as goal
 

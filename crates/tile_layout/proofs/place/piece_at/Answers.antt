@@ -1,7 +1,7 @@
 use Rattle.std.proofs.Common.{ℕ, ◌≡◌, ◌+◌, ◌*◌, ◌<◌, ◌≤◌, arith, sym, ap, ◌∙◌}
-use Rattle.tiff_dirs.specs.Block.{sample_bytes, texel_bytes}
-use Rattle.tiff_dirs.specs.Shown.{shown, shown_shape}
-use Rattle.tiff_dirs.specs.Texel.{sample_place}
+use Rattle.tiff_format.specs.Block.{sample_bytes, texel_bytes}
+use Rattle.tiff_format.specs.Shown.{shown, shown_shape}
+use Rattle.tiff_format.specs.Texel.{sample_place}
 use Rattle.tile_layout.specs.declared.piece.Piece.{Piece}
 use Rattle.tile_layout.specs.Pieces.{row_rest}
 use Rattle.tile_layout.proofs.PlaceLemmas.{side_by_side, of_channel}

@@ -1,7 +1,7 @@
 use Rattle.std.proofs.Common.{◌≡◌, ◌+◌, ◌*◌, ◌<◌, ◌^◌, arith, sym, get_or, refl}
 use Rattle.std.proofs.lemmas.List.{get_or_read}
-use Rattle.tiff_dirs.specs.Shown.{shown}
-use Rattle.tiff_dirs.specs.Texel.{sample_place}
+use Rattle.tiff_format.specs.Shown.{shown}
+use Rattle.tiff_format.specs.Texel.{sample_place}
 use Rattle.tile_layout.specs.declared.piece.Piece.{Piece}
 use Rattle.tile_layout.proofs.PlaceLemmas.{place_is}
 use Rattle.tile_layout.proofs.BlockLemmas.{sound, ends_below}

@@ -1,5 +1,5 @@
 use Rattle.std.proofs.Common.{arith}
-use Rattle.tiff_dirs.specs.Shown.{shown}
+use Rattle.tiff_format.specs.Shown.{shown}
 use Rattle.tile_layout.proofs.BlockLemmas.{sound}
 use Rattle.tile_layout.proofs.WholeRowLemmas.{row_ends}
 use Rattle.tile_layout.proofs.place.row_follows.Goals as goal

@@ -1,7 +1,7 @@
 use Rattle.std.proofs.Common.{◌≡◌, ℕ, ◌+◌, ◌-◌, ◌%◌, ◌<◌, arith, inl, inr, refl, subst}
 use Rattle.std.proofs.lemmas.Bool.{cases_lt}
 use Rattle.std.proofs.lemmas.Nat.{mod_below}
-use Rattle.tiff_dirs.specs.Shown.{shown, shown_shape}
+use Rattle.tiff_format.specs.Shown.{shown, shown_shape}
 use Rattle.tile_layout.specs.WholeRows.{block_rows, RowFollows}
 use Rattle.tile_layout.proofs.BlockLemmas.{sound}
 use Rattle.tile_layout.proofs.WholeRowLemmas.{follows_in_block, next_block, block_behind}

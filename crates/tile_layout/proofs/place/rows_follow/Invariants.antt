@@ -1,5 +1,5 @@
 use Rattle.std.proofs.Common.{◌≡◌, ℕ, ◌+◌, ◌-◌, ◌%◌, ◌<◌, ◌≤◌}
-use Rattle.tiff_dirs.specs.Shown.{shown, shown_shape}
+use Rattle.tiff_format.specs.Shown.{shown, shown_shape}
 use Rattle.tile_layout.specs.WholeRows.{block_rows, RowFollows}
 use Rattle.tile_layout.proofs.place.rows_follow.Given as goal
 

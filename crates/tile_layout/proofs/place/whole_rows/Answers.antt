@@ -1,5 +1,5 @@
 use Rattle.std.proofs.Common.{◌≡◌, ◌%◌, arith, subst, sym, ℕ}
-use Rattle.tiff_dirs.specs.Shown.{shown}
+use Rattle.tiff_format.specs.Shown.{shown}
 use Rattle.tile_layout.specs.WholeRows.{AreWholeRows, StandsWhole}
 use Rattle.tile_layout.proofs.BlockLemmas.{sound}
 use Rattle.tile_layout.proofs.WholeRowLemmas.{stands_whole}

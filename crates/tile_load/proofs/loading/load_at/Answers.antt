@@ -1,5 +1,5 @@
 use Rattle.std.proofs.Common.{◌≡◌, ℕ, ◌*◌, ◌<◌, ◌≤◌, length, ap, ◌∙◌, arith, sym, subst}
-use Rattle.tile_layout.specs.declared.rect.Rect.{Rect}
+use Rattle.tiff_format.specs.declared.rect.Rect.{Rect}
 use Rattle.tile_layout.specs.Key.{level_of, index_of}
 use Rattle.tile_layout.specs.Cell.{rect_bytes, cell_rect, cut_level_in, channels_in}
 use Rattle.tile_layout.specs.Cell.{max_cell_bytes}

@@ -1,5 +1,5 @@
 use Rattle.std.proofs.Common.{◌<◌, ◌∙◌, sym, ap, subst}
-use Rattle.tiff_dirs.specs.Texel.{sample_in}
+use Rattle.tiff_format.specs.Texel.{sample_in}
 use Rattle.tile_layout.specs.Blocks.{HoldsBlocks}
 use Rattle.tile_layout.specs.Kept.{Kept, kept_of, stored_count, level_in}
 use Rattle.tile_layout.specs.Texel.{texel_at}

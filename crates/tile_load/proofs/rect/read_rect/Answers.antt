@@ -1,6 +1,6 @@
 use Rattle.std.proofs.Common.{◌≡◌, ◌*◌, ◌≤◌, length, ap, ◌∙◌, arith}
 use Rattle.std.proofs.lemmas.List.Elements.{All-nil}
-use Rattle.tiff_dirs.specs.Texel.{sample_in, greatest_sample}
+use Rattle.tiff_format.specs.Texel.{sample_in, greatest_sample}
 use Rattle.tile_layout.specs.Kept.{level_in}
 use Rattle.tile_layout.specs.Texel.{FitDepth}
 use Rattle.tile_load.proofs.RectValues.{are_texels}

@@ -1,6 +1,6 @@
 use Rattle.std.proofs.Common.{◌≡◌, ◌∙◌, ℕ, ◌+◌, ◌*◌, ◌≤◌, ap, arith}
 use Rattle.std.proofs.lemmas.Result.{err_from_is_err_and}
-use Rattle.tiff_dirs.specs.Block.{texel_bytes}
+use Rattle.tiff_format.specs.Block.{texel_bytes}
 use Rattle.tile_load.specs.declared.run.Run.{Run}
 use Rattle.tile_load.proofs.Leaves.{leaves_after}
 use Rattle.tile_load.proofs.RunValues.{bytes_within, part_stands, appends_none, appends_more}

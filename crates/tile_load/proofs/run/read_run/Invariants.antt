@@ -1,6 +1,6 @@
 use Rattle.std.proofs.Common.{◌≡◌, ℕ, ◌+◌, ◌-◌, ◌*◌, ◌≤◌, length}
 use Rattle.std.specs.Option.{ForSome}
-use Rattle.tiff_dirs.specs.Block.{Level}
+use Rattle.tiff_format.specs.Block.{Level}
 use Rattle.tile_layout.specs.FormatOf.{IsFormatOf}
 use Rattle.tile_load.specs.Run.{AppendsValues, StandSideBySide}
 use Rattle.tile_load.specs.Unpacked.{KeepsDepth}

@@ -3,7 +3,7 @@ use Rattle.std.proofs.Common.{slice_index, ap, ◌∙◌, arith, sym}
 use Rattle.std.specs.List.{range_with_len}
 use Rattle.std.proofs.Math.Seq.{take-append_seam}
 use Rattle.std.proofs.lemmas.List.Elements.{All-same}
-use Rattle.tiff_dirs.specs.Texel.{greatest_sample}
+use Rattle.tiff_format.specs.Texel.{greatest_sample}
 use Rattle.tile_load.specs.Unpacked.{unpacked}
 use Rattle.tile_load.proofs.Appended.{is_appended}
 use Rattle.tile_load.proofs.SampleValues.{fit_appended}

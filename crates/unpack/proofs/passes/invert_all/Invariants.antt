@@ -1,5 +1,5 @@
 use Rattle.std.proofs.Common.{◌≡◌, ℕ, ◌-◌, ◌<◌, ◌≤◌, slice_index}
-use Rattle.tiff_dirs.specs.Texel.{greatest_sample}
+use Rattle.tiff_format.specs.Texel.{greatest_sample}
 use Rattle.unpack.specs.Sample.{depth_of}
 use Rattle.unpack.proofs.passes.invert_all.Given as goal
 

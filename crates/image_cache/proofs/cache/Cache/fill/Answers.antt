@@ -1,6 +1,6 @@
 -- A further cell is painted, which was needed once more.
 use Rattle.std.proofs.Common.{◌≡◌, ◌∙◌, ℕ, List, refl, sym, inl, inr, subst, arith}
-use Rattle.tile_layout.specs.declared.rect.Rect.{Rect}
+use Rattle.tiff_format.specs.declared.rect.Rect.{Rect}
 use Rattle.tile_layout.specs.Grid.{shown_grid}
 use Rattle.tile_layout.specs.Key.{key_of}
 use Rattle.tile_layout.specs.Cell.{cell_rect}

@@ -1,7 +1,7 @@
 -- The cell is one of the file and the generation that the handle reads, and of a stored level.
 use Rattle.std.proofs.Common.{sym, ap, subst, ◌∙◌}
-use Rattle.tile_layout.specs.declared.cut.Cut.{Cut}
-use Rattle.tile_layout.specs.Cut.{IsCut}
+use Rattle.tiff_format.specs.declared.cut.Cut.{Cut}
+use Rattle.tiff_format.specs.Cut.{IsCut}
 use Rattle.image_cache.specs.Pass.{CacheState}
 use Rattle.image_cache.proofs.CellLemmas.{names_cell}
 use Rattle.image_cache.proofs.cache.Cache.load_cell.Goals as goal

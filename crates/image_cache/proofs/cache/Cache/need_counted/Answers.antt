@@ -1,7 +1,7 @@
 -- The key alone decides a hit, where the world tells.
 use Rattle.std.proofs.Common.{◌≡◌, ◌∷◌, [], sym, ap, subst, ◌∙◌}
 use Rattle.std.specs.List.{All}
-use Rattle.tile_layout.specs.declared.cut.Cut.{Cut}
+use Rattle.tiff_format.specs.declared.cut.Cut.{Cut}
 use Rattle.tile_store.specs.Lawful.{FitsCut}
 use Rattle.pinned_tiles.specs.Pinned.{IsAskedFor, PinnedState}
 use Rattle.pinned_tiles.specs.Cell.{has_cell}

@@ -1,7 +1,7 @@
 -- Where the world tells, the tile that stands first is that of the cell.
 use Rattle.std.proofs.Common.{◌≡◌, ◌∙◌, sym, ap, subst}
 use Rattle.std.specs.List.{All}
-use Rattle.tile_layout.specs.declared.cut.Cut.{Cut}
+use Rattle.tiff_format.specs.declared.cut.Cut.{Cut}
 use Rattle.tile_store.specs.Lawful.{FitsCut}
 use Rattle.pinned_tiles.specs.Cell.{HasFirst}
 use Rattle.image_cache.specs.Pass.{PassState}

@@ -2,7 +2,7 @@
 use Rattle.std.proofs.Common.{sym, ap, subst, Option, IfSome}
 use Rattle.std.specs.Option.{option_copied}
 use Rattle.micro.specs.Items.{has_key}
-use Rattle.tile_layout.specs.declared.cut.Cut.{Cut}
+use Rattle.tiff_format.specs.declared.cut.Cut.{Cut}
 use Rattle.tile_store.specs.Tile.{CachedTile}
 use Rattle.tile_store.specs.Lawful.{FitsCut}
 use Rattle.pinned_tiles.specs.Pinned.{PinnedState}

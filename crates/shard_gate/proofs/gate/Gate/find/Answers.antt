@@ -1,7 +1,7 @@
 -- What a visit to one shard leaves of the seat, and what it answers.
 use Rattle.std.proofs.Common.{subst, IfOk, IfSome, option_map}
 use Rattle.std.specs.Arc.{arc_value}
-use Rattle.tile_layout.specs.declared.cut.Cut.{Cut}
+use Rattle.tiff_format.specs.declared.cut.Cut.{Cut}
 use Rattle.shard_gate.specs.Gate.{IsTileOf}
 use Rattle.shard_gate.specs.Given.{Finds}
 use Rattle.shard_gate.specs.Calls.{IfNotPinned}

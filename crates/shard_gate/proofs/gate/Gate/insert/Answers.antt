@@ -1,7 +1,7 @@
 -- What a visit to one shard leaves of the seat, and what it answers.
 use Rattle.std.proofs.Common.{ℕ, subst, sym, ap, IfOk}
 use Rattle.std.specs.Arc.{arc_value}
-use Rattle.tile_layout.specs.declared.cut.Cut.{Cut}
+use Rattle.tiff_format.specs.declared.cut.Cut.{Cut}
 use Rattle.tile_store.specs.Lawful.{FitsCut}
 use Rattle.shard_gate.specs.Gate.{GateState, IsTileOf, slots_of}
 use Rattle.shard_gate.specs.Given.{Inserts}

@@ -1,6 +1,6 @@
 use Rattle.std.proofs.Common.{◌-◌, ◌∙◌, ap, arith, sym}
-use Rattle.tiff_dirs.specs.Field.{type_size, values_place}
-use Rattle.tiff_dirs.proofs.BytesOfParts.{number_of_part, part_of_part}
+use Rattle.tiff_format.specs.Field.{type_size, values_place}
+use Rattle.tiff_format.proofs.BytesOfParts.{number_of_part, part_of_part}
 use Rattle.tiff_dirs.proofs.Entries.{place_inner, place_far}
 use Rattle.tiff_dirs.proofs.entry.Entry.from_bytes.Goals as goal
 use Rattle.tiff_dirs.proofs.entry.Entry.from_bytes.Goals.{then-fits, else-fits}

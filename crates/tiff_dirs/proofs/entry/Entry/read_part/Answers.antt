@@ -1,12 +1,12 @@
 use Rattle.std.proofs.Common.{true, leb, ◌≡◌, ◌+◌, ◌*◌, ◌≤◌, length, arith, ◌∙◌, sym, refl, ◌-◌}
 use Rattle.std.proofs.Common.{None}
 use Rattle.std.proofs.lemmas.Bool.{leb-true}
-use Rattle.tiff_dirs.specs.Field.{type_size, entry_value}
+use Rattle.tiff_format.specs.Field.{type_size, entry_value}
 use Rattle.tiff_dirs.specs.Entries.{SpellValues}
-use Rattle.tiff_dirs.specs.Form.{value_field_at}
-use Rattle.tiff_dirs.specs.Reader.{IsPartAt}
+use Rattle.tiff_format.specs.Form.{value_field_at}
+use Rattle.tiff_format.specs.Bytes.{IsPartAt}
 use Rattle.tiff_dirs.proofs.Saying.{finds_so}
-use Rattle.tiff_dirs.proofs.BytesOfParts.{part_of_part}
+use Rattle.tiff_format.proofs.BytesOfParts.{part_of_part}
 use Rattle.tiff_dirs.proofs.Entries.{place_inner, shape_parts}
 use Rattle.tiff_dirs.proofs.FieldValues.{value_of_part}
 use Rattle.tiff_dirs.proofs.entry.Entry.read_part.Goals as goal

@@ -1,5 +1,5 @@
 use Rattle.std.proofs.Common.{◌≡◌, ℕ, get_or, not, true, ◌∙◌, sym, ap, arith}
-use Rattle.tiff_dirs.specs.Field.{has_field}
+use Rattle.tiff_format.specs.Field.{has_field}
 use Rattle.tiff_dirs.proofs.Finding.{find_none, find_first}
 use Rattle.tiff_dirs.proofs.found.Found.first_absent.Goals as goal
 

@@ -1,6 +1,6 @@
 use Rattle.std.proofs.Common.{◌≡◌, ℕ, ◌<◌, false, not, List, get_or}
-use Rattle.tiff_dirs.specs.declared.form.Form.{Form}
-use Rattle.tiff_dirs.specs.Field.{has_field}
+use Rattle.tiff_format.specs.declared.form.Form.{Form}
+use Rattle.tiff_format.specs.Field.{has_field}
 use Rattle.tiff_dirs.specs.Entries.{HasEntries}
 use Rattle.tiff_dirs.proofs.found.Found.first_absent.Given as goal
 

@@ -1,5 +1,5 @@
 use Rattle.std.proofs.Common.{◌∙◌, sym, arith}
-use Rattle.tiff_dirs.specs.Fault.{is_misshapen}
+use Rattle.tiff_format.specs.DirectoryFault.{is_misshapen}
 use Rattle.tiff_dirs.proofs.Finding.{find_none, find_first}
 use Rattle.tiff_dirs.proofs.found.Found.first_misshapen.Goals as goal
 

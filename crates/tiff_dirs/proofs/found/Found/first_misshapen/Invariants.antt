@@ -1,6 +1,6 @@
 use Rattle.std.proofs.Common.{◌≡◌, ℕ, ◌<◌, false, List, get_or, length}
-use Rattle.tiff_dirs.specs.declared.form.Form.{Form}
-use Rattle.tiff_dirs.specs.Fault.{is_misshapen}
+use Rattle.tiff_format.specs.declared.form.Form.{Form}
+use Rattle.tiff_format.specs.DirectoryFault.{is_misshapen}
 use Rattle.tiff_dirs.specs.Entries.{HasEntries}
 use Rattle.tiff_dirs.proofs.found.Found.first_misshapen.Given as goal
 

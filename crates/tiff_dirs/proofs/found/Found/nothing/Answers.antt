@@ -1,5 +1,5 @@
 use Rattle.std.proofs.Common.{rules}
-use Rattle.tiff_dirs.specs.Field.{first_entry}
+use Rattle.tiff_format.specs.Field.{first_entry}
 use Rattle.tiff_dirs.proofs.found.Found.nothing.Goals as goal
 
 pub returns : goal.returns

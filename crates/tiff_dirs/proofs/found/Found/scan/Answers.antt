@@ -1,7 +1,7 @@
 use Rattle.std.proofs.Common.{◌≡◌, ℕ, ◌+◌, ◌*◌, ◌≤◌, ◌-◌, length, take, drop, arith, add_assoc, ◌∙◌}
 use Rattle.std.proofs.lemmas.List.{length-take, length-drop}
 use Rattle.tiff_dirs.proofs.Covering.{covers_more}
-use Rattle.tiff_dirs.proofs.BytesOfParts.{part_of_part, number_of_part}
+use Rattle.tiff_format.proofs.BytesOfParts.{part_of_part, number_of_part}
 use Rattle.tiff_dirs.proofs.found.Found.scan.Goals as goal
 
 pub loop-i-preserved : goal.loop-i-preserved

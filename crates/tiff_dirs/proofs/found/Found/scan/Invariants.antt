@@ -1,6 +1,6 @@
 use Rattle.std.proofs.Common.{◌≡◌, ℕ, ◌+◌, ◌*◌, List}
-use Rattle.tiff_dirs.specs.Form.{entry_bytes}
-use Rattle.tiff_dirs.specs.Reader.{IsPartAt}
+use Rattle.tiff_format.specs.Form.{entry_bytes}
+use Rattle.tiff_format.specs.Bytes.{IsPartAt}
 use Rattle.tiff_dirs.specs.Entries.{Covers}
 use Rattle.tiff_dirs.proofs.found.Found.scan.Given as goal
 

@@ -1,5 +1,5 @@
 use Rattle.std.proofs.Common.{refl}
-use Rattle.tiff_dirs.specs.Fault.{missing_fault}
+use Rattle.tiff_format.specs.DirectoryFault.{missing_fault}
 use Rattle.tiff_dirs.proofs.found.Found.test_required.Goals as goal
 use Rattle.tiff_dirs.proofs.found.Found.test_required.Goals.{then-is_tiled, else-is_tiled}
 

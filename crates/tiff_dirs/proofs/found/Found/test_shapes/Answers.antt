@@ -1,5 +1,5 @@
 use Rattle.std.proofs.Common.{refl}
-use Rattle.tiff_dirs.specs.Fault.{shape_fault}
+use Rattle.tiff_format.specs.DirectoryFault.{shape_fault}
 use Rattle.tiff_dirs.proofs.found.Found.test_shapes.Goals as goal
 use Rattle.tiff_dirs.proofs.found.Found.test_shapes.Goals.{then-is_tiled, else-is_tiled}
 

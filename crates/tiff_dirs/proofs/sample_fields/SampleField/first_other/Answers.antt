@@ -2,7 +2,7 @@ use Rattle.std.proofs.Common.{◌≡◌, ℕ, true, false, not, length, List, Op
 use Rattle.std.proofs.Common.{refl, sym, ap, ◌∙◌, arith, min, take}
 use Rattle.std.proofs.Math.Seq.{take-nil}
 use Rattle.std.specs.Prelude.{find}
-use Rattle.tiff_dirs.specs.Field.{entry_value, field_values}
+use Rattle.tiff_format.specs.Field.{entry_value, field_values}
 use Rattle.tiff_dirs.specs.Entries.{is_shaped}
 use Rattle.tiff_dirs.specs.Values.{is_allowed, IsFirstOther, first_other}
 use Rattle.tiff_dirs.proofs.Saying.{finds_so}

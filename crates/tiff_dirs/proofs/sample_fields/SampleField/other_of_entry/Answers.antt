@@ -1,5 +1,5 @@
 use Rattle.std.proofs.Common.{◌+◌, refl, ◌∙◌, arith}
-use Rattle.tiff_dirs.specs.Field.{entry_value}
+use Rattle.tiff_format.specs.Field.{entry_value}
 use Rattle.tiff_dirs.specs.Values.{is_allowed}
 use Rattle.tiff_dirs.proofs.Finding.{other_behind, pass_more}
 use Rattle.tiff_dirs.proofs.sample_fields.SampleField.other_of_entry.Goals as goal

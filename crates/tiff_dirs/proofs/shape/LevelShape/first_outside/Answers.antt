@@ -1,6 +1,6 @@
 use Rattle.std.proofs.Common.{ℕ, ◌<◌, arith, ◌∙◌, sym, ap, not}
 use Rattle.std.proofs.lemmas.Bool.{not_from_true}
-use Rattle.tiff_dirs.specs.Block.{level_with, blocks_of}
+use Rattle.tiff_format.specs.Block.{level_with, blocks_of}
 use Rattle.tiff_dirs.specs.Shape.{seen_shape}
 use Rattle.tiff_dirs.specs.ReadLevel.{lies_within}
 use Rattle.tiff_dirs.proofs.Finding.{first_below, none_below}

@@ -1,7 +1,7 @@
 use Rattle.std.proofs.Common.{ap, arith, ◌∙◌}
 use Rattle.std.proofs.lemmas.Grind.{common_steps}
-use Rattle.tiff_dirs.specs.Block.{Level}
-use Rattle.tiff_dirs.specs.Facts.{IsChain}
+use Rattle.tiff_format.specs.Block.{Level}
+use Rattle.tiff_format.specs.Facts.{IsChain}
 use Rattle.tile_layout.proofs.LevelLemmas.{depth_stored}
 use Rattle.tile_layout.proofs.layout.Layout.dir.Goals as goal
 

@@ -1,6 +1,6 @@
 use Rattle.std.proofs.Common.{◌≡◌, ◌≤◌, ◌<◌, max, arith, ap, sym}
-use Rattle.tiff_dirs.specs.Block.{Level}
-use Rattle.tiff_dirs.specs.Level.{max_levels}
+use Rattle.tiff_format.specs.Block.{Level}
+use Rattle.tiff_format.specs.Level.{max_levels}
 use Rattle.tile_layout.specs.Kept.{level_in}
 use Rattle.tile_layout.proofs.SingleLemmas.{levels_down_is, few_halvings}
 use Rattle.tile_layout.proofs.layout.Layout.levels_down.Goals as goal

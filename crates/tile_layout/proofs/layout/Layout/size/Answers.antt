@@ -1,5 +1,5 @@
 use Rattle.std.proofs.Common.{◌≡◌, ℕ, ◌-◌, ◌/◌, ◌^◌, ◌≤◌, max, arith, ap, sym, refl, ◌∙◌}
-use Rattle.tiff_dirs.specs.Block.{LevelShape, Level}
+use Rattle.tiff_format.specs.Block.{LevelShape, Level}
 use Rattle.tile_layout.specs.Kept.{level_in}
 use Rattle.tile_layout.specs.Level.{side_in}
 use Rattle.tile_layout.proofs.Halving.{side_by}

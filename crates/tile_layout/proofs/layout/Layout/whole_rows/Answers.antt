@@ -1,5 +1,5 @@
 use Rattle.std.proofs.Common.{arith, ap}
-use Rattle.tiff_dirs.specs.Block.{Level}
+use Rattle.tiff_format.specs.Block.{Level}
 use Rattle.tile_layout.proofs.LevelLemmas.{side_stored}
 use Rattle.tile_layout.proofs.layout.Layout.whole_rows.Goals as goal
 

@@ -1,5 +1,5 @@
 use Rattle.std.proofs.Common.{arith}
-use Rattle.tiff_dirs.specs.Shown.{shown}
+use Rattle.tiff_format.specs.Shown.{shown}
 use Rattle.tile_layout.proofs.WalkLemmas.{goes_on, turns, progress}
 use Rattle.tile_layout.proofs.pieces.PiecesIterator.next.Goals as goal
 

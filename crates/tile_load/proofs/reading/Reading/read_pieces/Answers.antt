@@ -3,7 +3,7 @@ use Rattle.std.specs.List.{flat_map}
 use Rattle.std.proofs.lemmas.List.{append-nil}
 use Rattle.std.proofs.lemmas.List.Concat.{flat_map-append}
 use Rattle.std.proofs.lemmas.Result.{err_from_is_err_and}
-use Rattle.tiff_dirs.specs.Block.{Level, texel_bytes}
+use Rattle.tiff_format.specs.Block.{Level, texel_bytes}
 use Rattle.tile_layout.specs.FormatOf.{IsFormatOf}
 use Rattle.tile_layout.specs.Pieces.{row_texels}
 use Rattle.tile_layout.specs.declared.texel_format.TexelFormat.{TexelFormat}

@@ -1,6 +1,6 @@
 use Rattle.std.proofs.Common.{◌≡◌, ◌+◌, ◌*◌, length, ap, ◌∙◌, sym, subst, arith, OnOk}
 use Rattle.std.specs.List.{All}
-use Rattle.tiff_dirs.specs.Block.{Level}
+use Rattle.tiff_format.specs.Block.{Level}
 use Rattle.tile_layout.specs.Blocks.{HoldsBlocks}
 use Rattle.tile_layout.specs.Kept.{level_in}
 use Rattle.tile_layout.specs.Pieces.{Walk}

@@ -1,7 +1,7 @@
 use Rattle.std.proofs.Common.{◌≡◌, ℕ, ◌*◌, List, ◌++◌, length, map, ap, ◌∙◌, arith}
 use Rattle.std.specs.List.{range_with_len}
 use Rattle.std.proofs.lemmas.List.FromFn.{length-map-range_with_len}
-use Rattle.tiff_dirs.specs.Block.{sample_bytes, texel_bytes}
+use Rattle.tiff_format.specs.Block.{sample_bytes, texel_bytes}
 use Rattle.tile_load.specs.Unpacked.{unpacked}
 use Rattle.tile_load.proofs.PieceValues.{piece_values}
 use Rattle.tile_load.proofs.Windows.{window_at, window_set}

@@ -3,10 +3,10 @@
 use Rattle.std.specs.Prelude.{ℕ, zero, suc, ◌+◌, ◌*◌, Bool, ◌==◌, ◌&&◌, nat_le, List, length}
 use Rattle.std.specs.Prelude.{Option, Some, None, if◌then◌else◌}
 use Rattle.std.specs.Option.{option_and_then}
-use Rattle.tiff_dirs.specs.declared.form.Form.{Form}
-use Rattle.tiff_dirs.specs.Bytes.{number_at}
-use Rattle.tiff_dirs.specs.Form.{header_bytes, count_bytes, entry_bytes, offset_bytes, offset_at}
-use Rattle.tiff_dirs.specs.Form.{first_place}
+use Rattle.tiff_format.specs.declared.form.Form.{Form}
+use Rattle.tiff_format.specs.Bytes.{number_at}
+use Rattle.tiff_format.specs.Form.{header_bytes, count_bytes, entry_bytes, offset_bytes, offset_at}
+use Rattle.tiff_format.specs.Form.{first_place}
 
 -- how many entries the directory at a place has
 abbrev pub entry_count : Form → List ℕ → ℕ → ℕ

@@ -7,14 +7,14 @@ use Rattle.std.specs.Prelude.{nat_lt, List, [], ◌∷◌, length, map, slice_in
 use Rattle.std.specs.Prelude.{is_some, if◌then◌else◌}
 use Rattle.std.specs.Option.{option_map_or}
 use Rattle.std.specs.List.{range_with_len}
-use Rattle.tiff_dirs.specs.declared.form.Form.{Form}
-use Rattle.tiff_dirs.specs.Bytes.{number_at}
-use Rattle.tiff_dirs.specs.Form.{entry_bytes, offset_bytes, offset_at, tag_bytes, type_bytes}
-use Rattle.tiff_dirs.specs.Form.{values_count_at, value_field_at}
-use Rattle.tiff_dirs.specs.Tag.{bits_per_sample_tag, compression_tag, photometric_tag}
-use Rattle.tiff_dirs.specs.Tag.{samples_per_pixel_tag, rows_per_strip_tag}
-use Rattle.tiff_dirs.specs.Tag.{planar_configuration_tag, sample_format_tag}
-use Rattle.tiff_dirs.specs.Directory.{entry_count, entry_place}
+use Rattle.tiff_format.specs.declared.form.Form.{Form}
+use Rattle.tiff_format.specs.Bytes.{number_at}
+use Rattle.tiff_format.specs.Form.{entry_bytes, offset_bytes, offset_at, tag_bytes, type_bytes}
+use Rattle.tiff_format.specs.Form.{values_count_at, value_field_at}
+use Rattle.tiff_format.specs.Tag.{bits_per_sample_tag, compression_tag, photometric_tag}
+use Rattle.tiff_format.specs.Tag.{samples_per_pixel_tag, rows_per_strip_tag}
+use Rattle.tiff_format.specs.Tag.{planar_configuration_tag, sample_format_tag}
+use Rattle.tiff_format.specs.Directory.{entry_count, entry_place}
 
 -- the place of the first entry of a tag among n entries, of which the first stands at a place
 unfoldable pub first_entry : Form → ℕ → List ℕ → ℕ → ℕ → Option ℕ

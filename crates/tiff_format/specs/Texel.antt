@@ -2,9 +2,9 @@
 -- 3 and 6 on PhotometricInterpretation and PlanarConfiguration 1, section 15 on tiles)
 use Rattle.std.specs.Prelude.{ℕ, ◌+◌, ◌-◌, ◌*◌, ◌/◌, ◌%◌, ◌^◌, ◌==◌, ◌&&◌, Bool, List, slice_index}
 use Rattle.std.specs.Prelude.{Option, Some, None, if◌then◌else◌}
-use Rattle.tiff_dirs.specs.Bytes.{number_at, is_big}
-use Rattle.tiff_dirs.specs.Block.{LevelShape, Level, pieces_over, sample_bytes}
-use Rattle.tiff_dirs.specs.Level.{level_of}
+use Rattle.tiff_format.specs.Bytes.{number_at, is_big}
+use Rattle.tiff_format.specs.Block.{LevelShape, Level, pieces_over, sample_bytes}
+use Rattle.tiff_format.specs.Level.{directory_level}
 
 -- ---- where a sample stands
 
@@ -56,4 +56,4 @@ value_of depth sample = if depth == 8 then 257 * sample else sample
 
 -- The sample of channel c of texel (x, y) of stored level l of a file.
 abbrev pub sample_at : List ℕ → ℕ → ℕ → ℕ → ℕ → ℕ
-sample_at bytes l x y c = sample_in (is_big bytes) bytes (level_of bytes l) x y c
+sample_at bytes l x y c = sample_in (is_big bytes) bytes (directory_level bytes l) x y c

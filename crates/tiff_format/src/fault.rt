@@ -1,10 +1,5 @@
-//! What can be wrong with a TIFF file, and why its directories were not read.
-
 ghost use Rattle.std.specs.Prelude.{◌≡◌};
-ghost use Rattle.tiff_dirs.specs.Code.{code_of};
-ghost use Rattle.tiff_dirs.specs.declared.fault.DirsError.TheVariants.{Fault, NoMemory};
-
-use std::alloc::AllocError;
+ghost use Rattle.tiff_format.specs.Fault.{code_of};
 
 /// The first fault that the bytes of a file show.
 /// The faults stand in the order in which they are looked for.
@@ -56,32 +51,5 @@ impl TiffFault {
             TiffFault::OffsetCount => 11,
             TiffFault::DataOutside { .. } => 12,
         }
-    }
-}
-
-/// Why the directories of a file were not read.
-#[derive(Debug, Drop)]
-pub enum DirsError<E> {
-    /// The bytes show this fault.
-    Fault(TiffFault),
-    /// The reader refused a read with this error.
-    Reader(E),
-    /// No memory was found.
-    NoMemory,
-}
-
-impl<E> From<TiffFault> for DirsError<E> {
-    ghost from_gives = { λ fault e. e ≡ Fault fault };
-
-    fn from(fault: TiffFault) -> Self {
-        DirsError::Fault(fault)
-    }
-}
-
-impl<E> From<AllocError> for DirsError<E> {
-    ghost from_gives = { λ _ e. e ≡ NoMemory };
-
-    fn from(_: AllocError) -> Self {
-        DirsError::NoMemory
     }
 }

@@ -1,11 +1,16 @@
 -- Which numbers stand in the bytes of a file?
 -- (TIFF 6.0, section 2, "Image File Header": the byte order)
-use Rattle.std.specs.Prelude.{ℕ, Bool, ◌==◌, ◌&&◌, List, slice_index, if◌then◌else◌}
+use Rattle.std.specs.Prelude.{◌≡◌, ℕ, ◌+◌, ◌<◌, Bool, ◌==◌, ◌&&◌, List, length, slice_index}
+use Rattle.std.specs.Prelude.{if◌then◌else◌}
 use Rattle.byteorder.specs.Endian.{big_from, little_from}
 
 -- the number that n bytes from a place on spell, the highest byte first where `big`
 unfoldable pub number_at : Bool → ℕ → List ℕ → ℕ → ℕ
 number_at big n bytes at = if big then big_from at n bytes else little_from at n bytes
+
+-- the part is the bytes from a place on
+abbrev pub IsPartAt : List ℕ → ℕ → List ℕ → Type 0
+IsPartAt bytes at part = (k : ℕ) → k < length part → slice_index part k ≡ slice_index bytes (at + k)
 
 -- the two bytes at the head of the file are these
 unfoldable pub has_mark : ℕ → List ℕ → Bool

@@ -1,6 +1,6 @@
 -- Which cuts of the levels of a file may be asked for?
 use Rattle.std.specs.Prelude.{◌≡◌, ℕ, ◌%◌, ◌≤◌}
-use Rattle.tile_layout.specs.declared.cut.Cut.{Cut}
+use Rattle.tiff_format.specs.declared.cut.Cut.{Cut}
 
 -- the sides of the cells of stripped levels are multiples of this
 abbrev pub autotile_step : ℕ

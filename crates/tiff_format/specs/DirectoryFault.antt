@@ -1,43 +1,34 @@
--- Which fault does a file show first? (the profile of docs/FORMAT.md, "Faults")
+-- Which faults do a directory and the blocks of a level show, and in which order?
+-- (the profile of docs/FORMAT.md, "Faults")
 use Rattle.std.specs.Prelude.{ℕ, ◌+◌, ◌%◌, Bool, false, ◌==◌, ◌&&◌, ◌||◌, not, nat_le, nat_lt, List}
 use Rattle.std.specs.Prelude.{[], ◌∷◌, length, take, slice_index, find, Option, Some, None}
 use Rattle.std.specs.Prelude.{if◌then◌else◌}
 use Rattle.std.specs.Option.{option_or, option_map, option_map_or}
 use Rattle.std.specs.Bool.{then_some}
 use Rattle.std.specs.List.{range_with_len}
-use Rattle.tiff_dirs.specs.declared.form.Form.{Form}
-use Rattle.tiff_dirs.specs.declared.fault.TiffFault.{TiffFault}
-use Rattle.tiff_dirs.specs.declared.fault.TiffFault.TheVariants.{DirOutside, FieldMissing}
-use Rattle.tiff_dirs.specs.declared.fault.TiffFault.TheVariants.{FieldShape, Unsupported, ZeroSize}
-use Rattle.tiff_dirs.specs.declared.fault.TiffFault.TheVariants.{TooLarge, TileShape, OffsetCount}
-use Rattle.tiff_dirs.specs.declared.fault.TiffFault.TheVariants.{DataOutside}
-use Rattle.tiff_dirs.specs.Form.{header_bytes}
-use Rattle.tiff_dirs.specs.Tag.{image_width_tag, image_length_tag, bits_per_sample_tag}
-use Rattle.tiff_dirs.specs.Tag.{compression_tag, photometric_tag, strip_offsets_tag}
-use Rattle.tiff_dirs.specs.Tag.{samples_per_pixel_tag, rows_per_strip_tag}
-use Rattle.tiff_dirs.specs.Tag.{planar_configuration_tag, tile_width_tag, tile_length_tag}
-use Rattle.tiff_dirs.specs.Tag.{tile_offsets_tag, sample_format_tag}
-use Rattle.tiff_dirs.specs.Directory.{lies_inside}
-use Rattle.tiff_dirs.specs.Field.{field_place, has_field, has_shape, field_values, field_value}
-use Rattle.tiff_dirs.specs.Block.{Level, is_tiled, offsets_tag, shape_at, blocks_of, block_bytes}
+use Rattle.tiff_format.specs.declared.form.Form.{Form}
+use Rattle.tiff_format.specs.declared.fault.TiffFault.{TiffFault}
+use Rattle.tiff_format.specs.declared.fault.TiffFault.TheVariants.{DirOutside, FieldMissing}
+use Rattle.tiff_format.specs.declared.fault.TiffFault.TheVariants.{FieldShape, Unsupported}
+use Rattle.tiff_format.specs.declared.fault.TiffFault.TheVariants.{ZeroSize, TooLarge, TileShape}
+use Rattle.tiff_format.specs.declared.fault.TiffFault.TheVariants.{OffsetCount, DataOutside}
+use Rattle.tiff_format.specs.Form.{header_bytes}
+use Rattle.tiff_format.specs.Tag.{image_width_tag, image_length_tag, bits_per_sample_tag}
+use Rattle.tiff_format.specs.Tag.{compression_tag, photometric_tag, strip_offsets_tag}
+use Rattle.tiff_format.specs.Tag.{samples_per_pixel_tag, rows_per_strip_tag}
+use Rattle.tiff_format.specs.Tag.{planar_configuration_tag, tile_width_tag, tile_length_tag}
+use Rattle.tiff_format.specs.Tag.{tile_offsets_tag, sample_format_tag}
+use Rattle.tiff_format.specs.Limits.{max_side, max_channels, tile_step}
+use Rattle.tiff_format.specs.Directory.{lies_inside}
+use Rattle.tiff_format.specs.Field.{field_place, has_field, has_shape, field_values, field_value}
+use Rattle.tiff_format.specs.Block.{Level, is_tiled, offsets_tag, shape_at, blocks_of, block_bytes}
 
 -- the first of the faults that is shown
 abbrev pub first_of : List (Option TiffFault) → Option TiffFault
 first_of [] = None
 first_of (fault ∷ faults) = option_or fault (first_of faults)
 
--- the largest side of an image and of a tile, and the most channels
-abbrev pub max_side : ℕ
-max_side = 131072
-
-abbrev pub max_channels : ℕ
-max_channels = 8
-
--- the sides of a tile are multiples of 16
-abbrev pub tile_step : ℕ
-tile_step = 16
-
--- a side that a tile may have: such a multiple that is not 0
+-- a side that a tile may have: such a multiple, and not 0
 abbrev pub is_tile_side : ℕ → Bool
 is_tile_side side = nat_lt 0 side && (nat_le side max_side && (side % tile_step == 0))
 

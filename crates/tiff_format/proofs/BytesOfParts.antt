@@ -5,8 +5,7 @@ use Rattle.std.proofs.lemmas.List.{get_or-drop, get_or-take, length-take, length
 use Rattle.std.proofs.lemmas.Slice.{between_to_end}
 use native.Mathlib.Numerals.{unary_clauses}
 use Rattle.byteorder.specs.Endian.{big_from, little_from}
-use Rattle.tiff_dirs.specs.Bytes.{number_at}
-use Rattle.tiff_dirs.specs.Reader.{IsPartAt}
+use Rattle.tiff_format.specs.Bytes.{number_at, IsPartAt}
 
 shifted : (i j k : ℕ) (xs ys : List ℕ) → get_or xs (i + suc k) 0 ≡ get_or ys (j + suc k) 0
     → get_or xs (suc i + k) 0 ≡ get_or ys (suc j + k) 0

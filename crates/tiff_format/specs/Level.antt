@@ -1,18 +1,13 @@
--- Which levels does a file store, and what is its first fault?
--- (docs/FORMAT.md, "Levels" and "Faults")
-use Rattle.std.specs.Prelude.{◌≡◌, ℕ, zero, suc, ◌/◌, max, Bool, true, false, ◌==◌, ◌&&◌, ◌||◌, not}
-use Rattle.std.specs.Prelude.{nat_lt, List, [], ◌∷◌, length, map, Option, is_none, if◌then◌else◌}
+-- Which levels does a file store? (docs/FORMAT.md, "Levels")
+use Rattle.std.specs.Prelude.{◌≡◌, ℕ, zero, suc, ◌/◌, max, Bool, true, false, ◌==◌, ◌&&◌, not}
+use Rattle.std.specs.Prelude.{List, map, is_none, if◌then◌else◌}
 use Rattle.std.specs.Option.{option_map_or, unwrap_or}
-use Rattle.std.specs.Bool.{then_some}
 use Rattle.std.specs.List.{range_with_len}
-use Rattle.tiff_dirs.specs.declared.form.Form.{Form}
-use Rattle.tiff_dirs.specs.declared.fault.TiffFault.{TiffFault}
-use Rattle.tiff_dirs.specs.declared.fault.TiffFault.TheVariants.{Short, BadMark, BadVersion}
-use Rattle.tiff_dirs.specs.Bytes.{is_little, is_big, version, tiff_version}
-use Rattle.tiff_dirs.specs.Form.{form_of, header_bytes}
-use Rattle.tiff_dirs.specs.Directory.{directory_place, next_directory}
-use Rattle.tiff_dirs.specs.Block.{LevelShape, Level, shape_at, level_at}
-use Rattle.tiff_dirs.specs.Fault.{first_of, directory_fault, data_fault}
+use Rattle.tiff_format.specs.declared.form.Form.{Form}
+use Rattle.tiff_format.specs.Form.{form_of}
+use Rattle.tiff_format.specs.Directory.{directory_place, next_directory}
+use Rattle.tiff_format.specs.Block.{LevelShape, Level, shape_at, level_at}
+use Rattle.tiff_format.specs.DirectoryFault.{directory_fault}
 
 -- half of a side, rounded down, and 1 at least
 abbrev pub halved : ℕ → ℕ
@@ -23,8 +18,8 @@ abbrev pub level_place : List ℕ → ℕ → ℕ
 level_place bytes k = unwrap_or (directory_place (form_of bytes) bytes k) 0
 
 -- What is kept of directory k.
-unfoldable pub level_of : List ℕ → ℕ → Level
-level_of bytes k = level_at (form_of bytes) bytes (level_place bytes k)
+unfoldable pub directory_level : List ℕ → ℕ → Level
+directory_level bytes k = level_at (form_of bytes) bytes (level_place bytes k)
 
 -- a level of one texel
 abbrev pub is_single : LevelShape → Bool
@@ -75,29 +70,8 @@ stored_levels bytes = leading (is_level bytes) 0 max_levels
 
 -- the levels that the file stores, the largest first
 abbrev pub levels_of : List ℕ → List Level
-levels_of bytes = map (level_of bytes) (range_with_len 0 (stored_levels bytes))
+levels_of bytes = map (directory_level bytes) (range_with_len 0 (stored_levels bytes))
 
 -- the directory behind the last level is none, so no level was left out
 abbrev pub IsWholeChain : List ℕ → Type 0
 IsWholeChain bytes = is_level bytes (stored_levels bytes) ≡ false
-
--- ---- the first fault of a file
-
--- 1 to 3: the header is cut short, has neither mark, or another version
-unfoldable pub header_fault : List ℕ → Option TiffFault
-header_fault bytes = first_of
-    (then_some (nat_lt (length bytes) (header_bytes (form_of bytes))) Short
-    ∷ then_some (not (is_little bytes || is_big bytes)) BadMark
-    ∷ then_some (not (version bytes == tiff_version)) BadVersion ∷ [])
-
--- 12: the first block outside the file, level 0 first
-unfoldable pub data_faults : List ℕ → Option TiffFault
-data_faults bytes = first_of
-    (map (λ k. data_fault (form_of bytes) bytes k (level_of bytes k))
-    (range_with_len 0 (stored_levels bytes)))
-
--- The first fault that a file shows, none where it is good.
-unfoldable pub first_fault : List ℕ → Option TiffFault
-first_fault bytes = first_of
-    (header_fault bytes ∷ directory_fault (form_of bytes) bytes (level_place bytes 0)
-    ∷ data_faults bytes ∷ [])

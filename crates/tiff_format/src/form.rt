@@ -1,9 +1,9 @@
 //! The form of a file, and its numbers among bytes.
 
 ghost use Rattle.std.specs.Prelude.{◌≡◌, ◌+◌, ◌≤◌, length};
-ghost use Rattle.tiff_dirs.specs.Bytes.{number_at};
-ghost use Rattle.tiff_dirs.specs.Form.{header_bytes, count_bytes, entry_bytes, offset_bytes};
-ghost use Rattle.tiff_dirs.specs.Form.{offset_at};
+ghost use Rattle.tiff_format.specs.Bytes.{number_at};
+ghost use Rattle.tiff_format.specs.Form.{header_bytes, count_bytes, entry_bytes, offset_bytes};
+ghost use Rattle.tiff_format.specs.Form.{offset_at};
 
 use byteorder::{BigEndian, ByteOrder, LittleEndian};
 

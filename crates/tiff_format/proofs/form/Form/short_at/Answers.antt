@@ -1,5 +1,5 @@
-use Rattle.tiff_dirs.proofs.BytesOfParts.{little_behind, big_behind}
-use Rattle.tiff_dirs.proofs.form.Form.short_at.Goals as goal
+use Rattle.tiff_format.proofs.BytesOfParts.{little_behind, big_behind}
+use Rattle.tiff_format.proofs.form.Form.short_at.Goals as goal
 
 pub returns-then-self : goal.returns-then-self
 returns-then-self c =

@@ -2,12 +2,12 @@
 -- "Rows and Columns", and 15, "Tiled Images")
 use Rattle.std.specs.Prelude.{ℕ, ◌+◌, ◌-◌, ◌*◌, ◌/◌, ◌==◌, Bool, min, List, take, Option, Some}
 use Rattle.std.specs.Prelude.{None, if◌then◌else◌}
-use Rattle.tiff_dirs.specs.declared.form.Form.{Form}
-use Rattle.tiff_dirs.specs.Tag.{image_width_tag, image_length_tag, bits_per_sample_tag}
-use Rattle.tiff_dirs.specs.Tag.{photometric_tag, samples_per_pixel_tag, rows_per_strip_tag}
-use Rattle.tiff_dirs.specs.Tag.{strip_offsets_tag, tile_width_tag, tile_length_tag}
-use Rattle.tiff_dirs.specs.Tag.{tile_offsets_tag}
-use Rattle.tiff_dirs.specs.Field.{field_value, field_values, has_field, all_rows}
+use Rattle.tiff_format.specs.declared.form.Form.{Form}
+use Rattle.tiff_format.specs.Tag.{image_width_tag, image_length_tag, bits_per_sample_tag}
+use Rattle.tiff_format.specs.Tag.{photometric_tag, samples_per_pixel_tag, rows_per_strip_tag}
+use Rattle.tiff_format.specs.Tag.{strip_offsets_tag, tile_width_tag, tile_length_tag}
+use Rattle.tiff_format.specs.Tag.{tile_offsets_tag}
+use Rattle.tiff_format.specs.Field.{field_value, field_values, has_field, all_rows}
 
 -- What is known of a level without the offsets of its blocks.
 -- A tiled one reads no RowsPerStrip: all rows stand there.

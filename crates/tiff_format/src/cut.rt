@@ -1,3 +1,9 @@
+/// The sides of the cells of stripped levels are multiples of it.
+pub const AUTOTILE_STEP: u32 = 16;
+
+/// And no longer than this.
+pub const MAX_AUTOTILE: u32 = 4096;
+
 /// How the levels of a file are cut into cells, and which levels it has.
 #[derive(Clone, Copy, Debug, PartialEq, Eq)]
 pub struct Cut {

@@ -1,6 +1,6 @@
 ghost use Rattle.std.specs.Prelude.{map};
-ghost use Rattle.tiff_dirs.specs.Facts.{IsChain};
-ghost use Rattle.tiff_dirs.specs.Shown.{shown};
+ghost use Rattle.tiff_format.specs.Facts.{IsChain};
+ghost use Rattle.tiff_format.specs.Shown.{shown};
 
 use crate::dir::Dir;
 

@@ -1,6 +1,6 @@
 -- What does a directory that was read show?
-use Rattle.tiff_dirs.specs.declared.dir.Dir.{Dir}
-use Rattle.tiff_dirs.specs.Block.{LevelShape, Level, shape_of, level_with}
+use Rattle.tiff_format.specs.declared.dir.Dir.{Dir}
+use Rattle.tiff_format.specs.Block.{LevelShape, Level, shape_of, level_with}
 
 -- its fields but for the offsets
 abbrev pub shown_shape : Dir → LevelShape

@@ -1,5 +1,5 @@
-ghost use Rattle.tiff_dirs.specs.Block.{shape_of, level_with};
-ghost use Rattle.tiff_dirs.specs.Facts.{IsLevelShape, HasOffsets};
+ghost use Rattle.tiff_format.specs.Block.{shape_of, level_with};
+ghost use Rattle.tiff_format.specs.Facts.{IsLevelShape, HasOffsets};
 
 /// A directory that shows no fault: one level of the file (TIFF 6.0, section 2).
 #[derive(Debug, Drop)]

@@ -2,8 +2,8 @@
 -- (TIFF 6.0, section 2, "Image File Header" and "Image File Directory")
 -- The sizes are words of the form, so that a form with wider offsets changes them here alone.
 use Rattle.std.specs.Prelude.{ℕ, ◌-◌, ◌+◌, List}
-use Rattle.tiff_dirs.specs.declared.form.Form.{Form}
-use Rattle.tiff_dirs.specs.Bytes.{number_at, is_big}
+use Rattle.tiff_format.specs.declared.form.Form.{Form}
+use Rattle.tiff_format.specs.Bytes.{number_at, is_big}
 
 -- the form of a file with these bytes
 abbrev pub form_of : List ℕ → Form

@@ -2,9 +2,9 @@
 use Rattle.std.specs.Prelude.{◌≡◌, ℕ, suc, ◌+◌, ◌^◌, ◌<◌, ◌≤◌, ◌%◌, IsTrue, ◌==◌, ◌||◌, List}
 use Rattle.std.specs.Prelude.{length, slice_index, slice_index_or, Option}
 use Rattle.std.specs.Option.{ForSome}
-use Rattle.tiff_dirs.specs.Block.{LevelShape, Level, blocks_of, block_bytes}
-use Rattle.tiff_dirs.specs.Fault.{max_side, max_channels, tile_step}
-use Rattle.tiff_dirs.specs.Level.{max_levels, has_half_size, has_samples_of}
+use Rattle.tiff_format.specs.Block.{LevelShape, Level, blocks_of, block_bytes}
+use Rattle.tiff_format.specs.Limits.{max_side, max_channels, tile_step}
+use Rattle.tiff_format.specs.Level.{max_levels, has_half_size, has_samples_of}
 
 -- a side of an image
 pub record IsSide (side : ℕ) : Type 0 where

@@ -1,0 +1,49 @@
+-- Which fault does a file show first, and which number does it have?
+-- (the profile of docs/FORMAT.md, "Faults")
+use Rattle.std.specs.Prelude.{ℕ, ◌==◌, ◌||◌, not, nat_lt, List, [], ◌∷◌, length, map, Option}
+use Rattle.std.specs.Bool.{then_some}
+use Rattle.std.specs.List.{range_with_len}
+use Rattle.tiff_format.specs.declared.fault.TiffFault.{TiffFault}
+use Rattle.tiff_format.specs.declared.fault.TiffFault.TheVariants.{Short, BadMark, BadVersion}
+use Rattle.tiff_format.specs.declared.fault.TiffFault.TheVariants.{DirOutside, FieldMissing}
+use Rattle.tiff_format.specs.declared.fault.TiffFault.TheVariants.{FieldShape, Unsupported}
+use Rattle.tiff_format.specs.declared.fault.TiffFault.TheVariants.{ZeroSize, TooLarge, TileShape}
+use Rattle.tiff_format.specs.declared.fault.TiffFault.TheVariants.{OffsetCount, DataOutside}
+use Rattle.tiff_format.specs.Bytes.{is_little, is_big, version, tiff_version}
+use Rattle.tiff_format.specs.Form.{form_of, header_bytes}
+use Rattle.tiff_format.specs.DirectoryFault.{first_of, directory_fault, data_fault}
+use Rattle.tiff_format.specs.Level.{level_place, directory_level, stored_levels}
+
+-- its place in the order in which the faults are looked for, from 1
+abbrev pub code_of : TiffFault → ℕ
+code_of Short = 1
+code_of BadMark = 2
+code_of BadVersion = 3
+code_of DirOutside = 4
+code_of (FieldMissing tag) = 5
+code_of (FieldShape tag) = 6
+code_of (Unsupported tag value) = 7
+code_of ZeroSize = 8
+code_of TooLarge = 9
+code_of TileShape = 10
+code_of OffsetCount = 11
+code_of (DataOutside level index) = 12
+
+-- 1 to 3: the header is cut short, has neither mark, or another version
+unfoldable pub header_fault : List ℕ → Option TiffFault
+header_fault bytes = first_of
+    (then_some (nat_lt (length bytes) (header_bytes (form_of bytes))) Short
+    ∷ then_some (not (is_little bytes || is_big bytes)) BadMark
+    ∷ then_some (not (version bytes == tiff_version)) BadVersion ∷ [])
+
+-- 12: the first block outside the file, level 0 first
+unfoldable pub data_faults : List ℕ → Option TiffFault
+data_faults bytes = first_of
+    (map (λ k. data_fault (form_of bytes) bytes k (directory_level bytes k))
+    (range_with_len 0 (stored_levels bytes)))
+
+-- The first fault that a file shows, none where it is good.
+unfoldable pub first_fault : List ℕ → Option TiffFault
+first_fault bytes = first_of
+    (header_fault bytes ∷ directory_fault (form_of bytes) bytes (level_place bytes 0)
+    ∷ data_faults bytes ∷ [])

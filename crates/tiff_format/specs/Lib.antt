@@ -1,0 +1,14 @@
+pub mod Bytes
+pub mod Form
+pub mod Tag
+pub mod Directory
+pub mod Field
+pub mod Block
+pub mod Limits
+pub mod DirectoryFault
+pub mod Level
+pub mod Fault
+pub mod Texel
+pub mod Facts
+pub mod Shown
+pub mod Cut

@@ -1,0 +1,23 @@
+//! The format of a TIFF file (TIFF 6.0): its definitions, in `specs/`, and the plain data that speak
+//! of it.
+#![tactic(auto)]
+
+mod cut;
+mod dir;
+mod dirs;
+mod fault;
+mod form;
+mod info;
+mod limits;
+mod rect;
+mod shard_count;
+
+pub use cut::{AUTOTILE_STEP, Cut, MAX_AUTOTILE};
+pub use dir::Dir;
+pub use dirs::Dirs;
+pub use fault::TiffFault;
+pub use form::{COUNT_BYTES, ENTRY_BYTES, Form, HEADER_BYTES, OFFSET_BYTES};
+pub use info::Info;
+pub use limits::{MAX_CHANNELS, MAX_SIDE, TILE_STEP};
+pub use rect::Rect;
+pub use shard_count::ShardCount;
