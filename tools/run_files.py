@@ -25,9 +25,10 @@ MARKS = {LITTLE: b"II", BIG: b"MM"}
 # A level of a file: `texel` gives the stored samples of a column and a row. It is cut into tiles of
 # that width and height, or into strips of so many rows. The blocks stand in the file in the order
 # `stored`, each at the next free place, and their offsets have that type. Where `spoken`, the fields
-# of a tiled level that need not be there stand there too.
-Level = namedtuple("Level", "width height texel depth photometric tile rows offset_type stored spoken",
-                   defaults=(8, BLACK_IS_ZERO, None, None, LONG, None, False))
+# of a tiled level that need not be there stand there too. Where `planar`, each channel has a plane of
+# its own.
+Level = namedtuple("Level", "width height texel depth photometric tile rows offset_type stored spoken planar",
+                   defaults=(8, BLACK_IS_ZERO, None, None, LONG, None, False, False))
 
 
 def channels(level):
@@ -47,7 +48,21 @@ def fields(level, offsets, sizes):
         found += [(273, kind, offsets), (278, SHORT, [level.rows]), (279, kind, sizes)]
     if level.spoken:
         found += [(284, SHORT, [1]), (325, kind, sizes)]
+    if level.planar:
+        found += [(284, SHORT, [2])]
     return sorted(found)
+
+
+def plane(level, channel):
+    """A channel of a level alone."""
+    return level._replace(texel=lambda x, y: [level.texel(x, y)[channel]])
+
+
+def blocks_of(order, level):
+    """The strips or tiles of a level: of a planar one those of each plane, the first plane first."""
+    if level.planar:
+        return [it for channel in range(channels(level)) for it in blocks(order, plane(level, channel))]
+    return blocks(order, level)
 
 
 def directory_bytes(order, found, at, following):
@@ -58,7 +73,7 @@ def directory_bytes(order, found, at, following):
 
 def tiff(order, levels):
     """A file: its directories, each with its values, and then the blocks of each level."""
-    cut = [blocks(order, level) for level in levels]
+    cut = [blocks_of(order, level) for level in levels]
     places, at = [], 8
     for level, stored in zip(levels, cut):
         places.append(at)
@@ -113,6 +128,24 @@ PICTURES = {
                               16, rows=5) for n in range(7)]),
 }
 
+# And those whose channels have planes: strips of one row and of several, in another order than they are
+# numbered, the last of a plane shorter; tiles with padding; both orders, 8 and 16 bits, 2 to 8 channels,
+# channel 0 alone turned round where 0 is white; and levels of which only some are planar.
+PICTURES |= {
+    "planar.tif": (LITTLE, [Level(2, 2, lambda x, y: [2 * y + x + 1 + 10 * c for c in range(3)], photometric=RGB,
+                                  rows=1, offset_type=SHORT, planar=True)]),
+    "planes.tif": (BIG, [Level(max(1, 13 >> n), max(1, 11 >> n),
+                               lambda x, y, n=n: [(9001 * c + 1300 * n + 997 * y + 61 * x) & 65535 for c in range(4)],
+                               16, WHITE_IS_ZERO, rows=(3, 2, 5, 1)[n], planar=n != 1) for n in range(4)]),
+    "backward.tif": (LITTLE, [Level(5, 7, lambda x, y: [30 * y + 5 * x + c for c in range(2)], rows=2,
+                                    stored=range(7, -1, -1), planar=True)]),
+    "squares.tif": (LITTLE, [Level(40 >> n, 24 >> n,
+                                   lambda x, y, n=n: [(31 * c + 7 * y + 3 * x + 50 * n) & 255 for c in range(8)],
+                                   tile=(16, 16), planar=n != 1) for n in range(3)]),
+    "shorts.tif": (BIG, [Level(37, 19, lambda x, y: [20000 * c + 1000 * y + 17 * x + 3 for c in range(3)], 16, RGB,
+                               tile=(32, 16), planar=True)]),
+}
+
 # Files that are another one with some bytes changed, and the fault that this makes.
 CHANGED = {
     "loop.tif": ("A.tif", 118, b"\x08", None),
@@ -128,7 +161,8 @@ CHANGED = {
 }
 
 # Files that are another one cut short by so many bytes, and their faults.
-CUT = {"short.tif": ("A.tif", 131, "1"), "cut.tif": ("B.tif", 1, "12 0 3")}
+CUT = {"short.tif": ("A.tif", 131, "1"), "cut.tif": ("B.tif", 1, "12 0 3"),
+       "torn.tif": ("planar.tif", 1, "12 0 5")}
 
 TEXTS = {"note.txt": (b"hello, reader", "2")}
 

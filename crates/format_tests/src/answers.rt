@@ -17,6 +17,7 @@ pub(crate) fn shape_of(dir: &Dir) -> PlainShape {
         width: dir.width,
         height: dir.height,
         channels: dir.channels,
+        planes: dir.planes,
         depth: dir.depth,
         white: dir.white,
         tile: dir.tile,
@@ -26,10 +27,11 @@ pub(crate) fn shape_of(dir: &Dir) -> PlainShape {
 
 /// A level's size and samples.
 fn push_samples(text: &mut String, shape: PlainShape) -> Result<(), Fail> {
+    let planes = if shape.planes == 1 { "" } else { ", planar" };
     let white = if shape.white { ", white" } else { "" };
     write!(
         text,
-        " {}x{}, {} of {} bits{white},",
+        " {}x{}, {} of {} bits{planes}{white},",
         shape.width, shape.height, shape.channels, shape.depth
     )?;
     Ok(())

@@ -84,7 +84,9 @@ const ROWS: &str = "\
     palette, 0 samples | A 66=3 90=0 | Unsupported { tag: 262, value: 3 }
     palette, planar 3 | A 66=3 106=28 114=3 | Unsupported { tag: 262, value: 3 }
     planar 2 | A 106=28 114=2 | II: 4x4, 1 of 8 bits, strips of 4 at 122
-    planar 2, two samples | A 90=2 106=28 114=2 | Unsupported { tag: 284, value: 2 }
+    planar 2, two samples | A 90=2 106=28 114=2 | OffsetCount
+    planes | A 90=2 106=28 114=2 74=2 78=138 to=162 138=122,0,0,0,146 | II: 4x4, 2 of 8 bits, planar, strips of 4 at 122 146
+    planes, the last cut short | A 90=2 106=28 114=2 74=2 78=138 to=161 138=122,0,0,0,146 | DataOutside { level: 0, index: 1 }
     planar 3 | A 106=28 114=3 | Unsupported { tag: 284, value: 3 }
     planar 16 | A 106=28 | Unsupported { tag: 284, value: 16 }
     planar 3, format 3 | A 94=83 102=3 106=28 114=3 | Unsupported { tag: 284, value: 3 }

@@ -93,6 +93,7 @@ fn assert_tiles(rt: &impl Abort, dir: &Dir, side: u32, first: u64) -> u64 {
         width: side,
         height: side,
         channels: 3,
+        planes: 1,
         depth: 8,
         white: false,
         tile: Some((64, 64)),

@@ -15,8 +15,8 @@ use tile_layout::Layout;
 use tile_load::read_rect;
 
 /// Strips and tiles of 8 and of 16 bits in both orders, with one channel and with several, with 0 as
-/// white, with edge tiles, and with a second level.
-static FILES: [&str; 9] = [
+/// white, with edge tiles, with a second level, and with planes.
+static FILES: [&str; 10] = [
     "A",
     "BigA",
     "Two",
@@ -26,7 +26,12 @@ static FILES: [&str; 9] = [
     "B 19=20 31=17 79=2 103=16 115=16",
     STRIPS,
     GAP,
+    PLANES,
 ];
+
+/// Two planes of two strips each, the second of one row, with 0 as white.
+const PLANES: &str = "A 66=0 74=4 78=138 90=2 102=3 106=28 114=2 to=170 \
+    138=122,0,0,0,134,0,0,0,154,0,0,0,166,0,0,0,200,201,202,203,204,205,206,207,208,209,210,211,212";
 
 /// What lies on the level of each of them is read.
 static PLACES: [Place; 12] = [

@@ -3,7 +3,7 @@
 use std::alloc::{AllocError, Global};
 use std::process::Abort;
 use std::test::Fail;
-use unpack::{unpack, unpack_as};
+use unpack::{unpack, unpack_as, unpack_plane, unpack_plane_as};
 
 /// The channels of a WhiteIsZero picture, or 0; the bytes; the samples.
 type Row = (usize, &'static [u8], &'static [u16]);
@@ -102,4 +102,26 @@ fn unpacks_many_white_samples(rt: HostRuntime) -> Result<(), Fail> {
         }
     }
     Ok(())
+}
+
+#[test]
+fn unpacks_planes(rt: HostRuntime) {
+    let mut bytes = [9; 6];
+    unpack_plane::<false, false, 3>(&[10, 255], false, 1, &mut bytes);
+    assert!(rt; bytes == [9, 10, 9, 9, 255, 9]);
+    unpack_plane::<false, true, 2>(&[0, 1, 255], true, 0, &mut bytes);
+    assert!(rt; bytes == [255, 10, 254, 9, 0, 9]);
+    let mut shorts = [7; 4];
+    unpack_plane_as(
+        true,
+        true,
+        2,
+        &[0x12, 0x34, 0xff, 0xfe],
+        true,
+        1,
+        &mut shorts,
+    );
+    assert!(rt; shorts == [7, 60875, 7, 1]);
+    unpack_plane_as(true, false, 4, &[0x34, 0x12], false, 3, &mut shorts);
+    assert!(rt; shorts == [7, 60875, 7, 4660]);
 }

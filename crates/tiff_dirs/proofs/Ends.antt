@@ -9,6 +9,7 @@ use Rattle.tiff_format.specs.Block.{LevelShape, Level, blocks_of, block_bytes, p
 use Rattle.tiff_format.specs.Block.{blocks_by}
 use Rattle.tiff_format.specs.Facts.{IsSide, IsTileSide, HasTileSides, IsLevelShape, HasOffsets}
 use Rattle.tiff_dirs.specs.ReadLevel.{lies_within, first_outside}
+use Rattle.tiff_format.proofs.Planes.{plane_count}
 use Rattle.tiff_dirs.proofs.Finding.{none_of_range}
 
 -- ---- a level has fewer than 2^32 blocks
@@ -36,8 +37,10 @@ few_by shape (Some tile) w h t some =
     let sides = t tile refl in
     mul-le-mul (few_tiles shape.width tile.0 w sides.0) (few_tiles shape.height tile.1 h sides.1)
 
-pub few_blocks : (shape : LevelShape) → IsLevelShape shape → blocks_of shape ≤ 67125249
-few_blocks shape is = few_by shape shape.tile is.width is.height is.tile is.rows
+pub few_blocks : (shape : LevelShape) → IsLevelShape shape → blocks_of shape ≤ 537001992
+few_blocks shape is =
+    let planes = plane_count shape.channels shape.planes is.planes is.channels in
+    mul-le-mul planes.1 (few_by shape shape.tile is.width is.height is.tile is.rows)
 
 -- ---- no block that lies in a file ends past 2^64
 

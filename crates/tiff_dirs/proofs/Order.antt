@@ -64,7 +64,7 @@ module _ (form : Form) (bytes : List ℕ) (at : ℕ) where
   values_are : (n : Numbers) → AreNumbersAt form bytes at n
       → first_of (compression_fault form bytes at ∷ photometric_fault form bytes at
       ∷ planar_fault form bytes at ∷ []) ≡ value_fault n
-  values_are n are = rw (are.compression, are.photometric, are.planar, are.samples) refl
+  values_are n are = rw (are.compression, are.photometric, are.planar) refl
 
   sizes_by : (n : Numbers) (tiled : Bool) → is_tiled form bytes at ≡ tiled
       → AreNumbersAt form bytes at n
@@ -108,6 +108,7 @@ module _ (form : Form) (bytes : List ℕ) (at : ℕ) where
     are.width,
     are.height,
     are.samples,
+    are.planar,
     are.bits,
     are.photometric,
     are.tile,

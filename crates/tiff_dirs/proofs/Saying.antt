@@ -49,3 +49,13 @@ leaves_err T U keeps refuses first mid last (Reader e) chains before leaves =
     (leaves.0, chains first mid leaves.0 before leaves.1, leaves.2)
 leaves_err T U keeps refuses first mid last NoMemory chains before leaves =
     chains first mid last before leaves
+
+-- what a last call leaves after answered reads, whatever it gives
+pub leaves_more : {R E : Type 0} (T : Type 0) (keeps : R → R → Type 0)
+    (refuses : R → E → R → Type 0) (first mid last : R) (r : Result T (DirsError E))
+    → ((a b c : R) → keeps a b → keeps b c → keeps a c) → keeps first mid
+    → Leaves keeps refuses mid last r → Leaves keeps refuses first last r
+leaves_more T keeps refuses first mid last (Ok x) chains before leaves =
+    chains first mid last before leaves
+leaves_more T keeps refuses first mid last (Err e) chains before leaves =
+    leaves_err T T keeps refuses first mid last e chains before leaves

@@ -13,7 +13,7 @@ use Rattle.tiff_format.specs.Tag.{image_width_tag, image_length_tag, bits_per_sa
 use Rattle.tiff_format.specs.Tag.{compression_tag, photometric_tag, strip_offsets_tag}
 use Rattle.tiff_format.specs.Tag.{samples_per_pixel_tag, planar_configuration_tag, tile_offsets_tag}
 use Rattle.tiff_format.specs.Field.{field_value}
-use Rattle.tiff_format.specs.Block.{LevelShape, shape_of, tile_of, strip_rows}
+use Rattle.tiff_format.specs.Block.{LevelShape, shape_of, tile_of, strip_rows, planes_by}
 use Rattle.tiff_format.specs.DirectoryFault.{first_of, is_tile_side}
 use Rattle.tiff_format.specs.Limits.{max_side, max_channels}
 use Rattle.tiff_format.specs.DirectoryFault.{missing_fault, shape_fault, unsupported_fault}
@@ -37,8 +37,8 @@ pub record AreNumbersAt (form : Form) (bytes : List ℕ) (at : ℕ) (n : Numbers
 
 -- the shape that they say
 abbrev pub numbers_shape : Numbers → LevelShape
-numbers_shape n = shape_of n.width n.height n.samples n.bits (n.photometric == 0) n.tile
-    n.rows_per_strip
+numbers_shape n = shape_of n.width n.height n.samples (planes_by n.planar n.samples) n.bits
+    (n.photometric == 0) n.tile n.rows_per_strip
 
 -- the field that holds the offsets of the blocks
 abbrev pub tag_of_offsets : Option (ℕ × ℕ) → ℕ
@@ -52,7 +52,7 @@ abbrev pub value_fault : Numbers → Option TiffFault
 value_fault n = first_of
     (then_some (not (n.compression == 1)) (Unsupported compression_tag n.compression)
     ∷ then_some (nat_lt 2 n.photometric) (Unsupported photometric_tag n.photometric)
-    ∷ then_some (not ((n.planar == 1) || ((n.planar == 2) && (n.samples == 1))))
+    ∷ then_some (not ((n.planar == 1) || (n.planar == 2)))
     (Unsupported planar_configuration_tag n.planar) ∷ [])
 
 -- a tile has a side that it may not have

@@ -3,6 +3,7 @@
 ghost use Rattle.std.specs.Prelude.{◌≡◌, ◌||◌, ◌==◌, IsTrue};
 ghost use Rattle.tiff_format.specs.Facts.{IsDepth};
 ghost use Rattle.tiff_format.specs.DirectoryFault.{is_tile_side as spec_tile_side};
+ghost use Rattle.tiff_format.specs.Block.{planes_by};
 ghost use Rattle.tiff_dirs.specs.Shape.{seen_shape};
 ghost use Rattle.tiff_dirs.specs.Calls.{Tests};
 ghost use Rattle.tiff_format.specs.declared.fault.TiffFault.TheVariants.{Unsupported};
@@ -80,10 +81,21 @@ impl Numbers {
         if self.photometric > RGB {
             return Err(unsupported(PHOTOMETRIC, self.photometric));
         }
-        if self.planar != CHUNKY && (self.planar != PLANAR || self.samples != 1) {
+        if self.planar != CHUNKY && self.planar != PLANAR {
             return Err(unsupported(PLANAR_CONFIGURATION, self.planar));
         }
         Ok(())
+    }
+
+    /// How many planes there are: 1 where the samples of a pixel stand side by side.
+    fn planes(&self) -> u32
+        ensures { result ≡ planes_by self.now.planar self.now.samples }
+    {
+        if self.planar == PLANAR {
+            self.samples
+        } else {
+            1
+        }
     }
 
     /// The shape of these sizes.
@@ -105,6 +117,7 @@ impl Numbers {
             width: self.width,
             height: self.height,
             channels: self.samples,
+            planes: self.planes(),
             depth: self.bits,
             white: self.photometric == WHITE_IS_ZERO,
             tile: self.tile,

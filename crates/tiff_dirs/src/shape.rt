@@ -13,6 +13,8 @@ pub struct LevelShape {
     pub width: u32,
     pub height: u32,
     pub channels: u32,
+    /// 1 where the samples of a pixel stand side by side, else one for each channel.
+    pub planes: u32,
     /// Bits of a sample, 8 or 16.
     pub depth: u32,
     /// WhiteIsZero.
@@ -22,7 +24,7 @@ pub struct LevelShape {
     /// 2^32 - 1 where it is tiled.
     pub rows_per_strip: u32,
     ghost shape_in: { IsLevelShape
-        (shape_of width height channels depth white tile rows_per_strip) },
+        (shape_of width height channels planes depth white tile rows_per_strip) },
 }
 
 /// The bits of a sample that takes one byte.
@@ -30,7 +32,7 @@ pub const BYTE_BITS: u32 = 8;
 
 impl LevelShape {
     ghost use Rattle.std.specs.Prelude.{ℕ, ◌*◌, ◌<◌, length};
-    ghost use Rattle.tiff_format.specs.Block.{blocks_of, sample_bytes, texel_bytes, block_bytes};
+    ghost use Rattle.tiff_format.specs.Block.{blocks_of, plane_blocks, texel_bytes, block_bytes};
     ghost use Rattle.tiff_format.specs.Block.{block_texels_by, level_with};
     ghost use Rattle.tiff_format.specs.Facts.{HasOffsets};
     ghost use Rattle.tiff_format.specs.Limits.{max_side, max_channels};
@@ -39,15 +41,24 @@ impl LevelShape {
     ghost use Rattle.tiff_dirs.specs.Numbers.{tag_of_offsets};
     ghost use Rattle.tiff_dirs.specs.ReadLevel.{lies_within, first_outside};
 
-    /// The number of strips or tiles.
-    pub fn blocks(&self) -> u64
-        ensures count { result ≡ blocks_of (seen_shape self.now) }
+    /// The number of strips or tiles of a plane.
+    fn plane_blocks(&self) -> u64
+        ensures count { result ≡ plane_blocks (seen_shape self.now) }
         ensures some { 1 ≤ result }
+        ensures few { result ≤ max_side * max_side }
     {
         match self.tile {
             None => pieces(self.height, self.rows_per_strip),
             Some((width, height)) => pieces(self.width, width) * pieces(self.height, height),
         }
+    }
+
+    /// The number of strips or tiles.
+    pub fn blocks(&self) -> u64
+        ensures count { result ≡ blocks_of (seen_shape self.now) }
+        ensures some { 1 ≤ result }
+    {
+        u64::from(self.planes) * self.plane_blocks()
     }
 
     /// The tag of the field that holds the offsets of its blocks.
@@ -60,16 +71,18 @@ impl LevelShape {
         }
     }
 
-    /// The bytes of a texel.
+    /// The bytes of a texel: of its samples that stand side by side.
     fn texel_bytes(&self) -> u64
         ensures value { result ≡ texel_bytes (seen_shape self.now) }
         ensures few { result ≤ max_channels * 2 }
     {
         let sample = if self.depth == BYTE_BITS { 1 } else { 2 };
-        u64::from(self.channels) * sample
+        let samples = if self.planes == 1 { self.channels } else { 1 };
+        u64::from(samples) * sample
     }
 
-    /// How many texels strip or tile i has: the last strip may have fewer rows, a tile is padded.
+    /// How many texels strip or tile i has: the last strip of a plane may have fewer rows, a tile is
+    /// padded.
     fn block_texels(&self, i: u32) -> u64
         ensures value { result ≡ block_texels_by (seen_shape self.now) self.now.tile i }
         ensures few { result ≤ max_side * max_side }
@@ -77,7 +90,8 @@ impl LevelShape {
         match self.tile {
             None => {
                 let rows = u64::from(self.rows_per_strip);
-                let left = u64::from(self.height).saturating_sub(rows * u64::from(i));
+                let strip = u64::from(i) % pieces(self.height, self.rows_per_strip);
+                let left = u64::from(self.height).saturating_sub(rows * strip);
                 rows.min(left) * u64::from(self.width)
             }
             Some((width, height)) => u64::from(width) * u64::from(height),
@@ -123,6 +137,7 @@ impl LevelShape {
             width: self.width,
             height: self.height,
             channels: self.channels,
+            planes: self.planes,
             depth: self.depth,
             white: self.white,
             tile: self.tile,

@@ -1,1 +1,2 @@
 pub mod BytesOfParts
+pub mod Planes

@@ -1,12 +1,12 @@
 -- Which strips or tiles does a directory have, and where do their bytes lie? (TIFF 6.0, sections 4,
--- "Rows and Columns", and 15, "Tiled Images")
-use Rattle.std.specs.Prelude.{ℕ, ◌+◌, ◌-◌, ◌*◌, ◌/◌, ◌==◌, Bool, min, List, take, Option, Some}
-use Rattle.std.specs.Prelude.{None, if◌then◌else◌}
+-- "Rows and Columns", 15, "Tiled Images", and 8 on PlanarConfiguration)
+use Rattle.std.specs.Prelude.{ℕ, ◌+◌, ◌-◌, ◌*◌, ◌/◌, ◌%◌, ◌==◌, Bool, min, List, take, Option}
+use Rattle.std.specs.Prelude.{Some, None, if◌then◌else◌}
 use Rattle.tiff_format.specs.declared.form.Form.{Form}
 use Rattle.tiff_format.specs.Tag.{image_width_tag, image_length_tag, bits_per_sample_tag}
 use Rattle.tiff_format.specs.Tag.{photometric_tag, samples_per_pixel_tag, rows_per_strip_tag}
-use Rattle.tiff_format.specs.Tag.{strip_offsets_tag, tile_width_tag, tile_length_tag}
-use Rattle.tiff_format.specs.Tag.{tile_offsets_tag}
+use Rattle.tiff_format.specs.Tag.{planar_configuration_tag, strip_offsets_tag, tile_width_tag}
+use Rattle.tiff_format.specs.Tag.{tile_length_tag, tile_offsets_tag}
 use Rattle.tiff_format.specs.Field.{field_value, field_values, has_field, all_rows}
 
 -- What is known of a level without the offsets of its blocks.
@@ -15,6 +15,8 @@ pub record LevelShape : Type 0 where
   pub width : ℕ
   pub height : ℕ
   pub channels : ℕ
+  -- 1 where the samples of a pixel stand side by side, else one for each channel
+  pub planes : ℕ
   -- bits of a sample, 8 or 16
   pub depth : ℕ
   -- WhiteIsZero
@@ -30,11 +32,12 @@ pub record Level : Type 0 where
   pub offsets : List ℕ
 
 -- the shape with these fields
-abbrev pub shape_of : ℕ → ℕ → ℕ → ℕ → Bool → Option (ℕ × ℕ) → ℕ → LevelShape
-shape_of width height channels depth white tile rows = record {
+abbrev pub shape_of : ℕ → ℕ → ℕ → ℕ → ℕ → Bool → Option (ℕ × ℕ) → ℕ → LevelShape
+shape_of width height channels planes depth white tile rows = record {
   width = width;
   height = height;
   channels = channels;
+  planes = planes;
   depth = depth;
   white = white;
   tile = tile;
@@ -49,28 +52,37 @@ level_with shape offsets = record { shape = shape; offsets = offsets }
 abbrev pub pieces_over : ℕ → ℕ → ℕ
 pieces_over n piece = (n + piece - 1) / piece
 
--- how many strips there are, or tiles of this width and height
+-- how many strips a plane has, or tiles of this width and height
 abbrev pub blocks_by : LevelShape → Option (ℕ × ℕ) → ℕ
 blocks_by shape None = pieces_over shape.height shape.rows_per_strip
 blocks_by shape (Some tile) = pieces_over shape.width tile.0 * pieces_over shape.height tile.1
 
--- how many strips or tiles a level has
+-- how many strips or tiles a plane of a level has
+abbrev pub plane_blocks : LevelShape → ℕ
+plane_blocks shape = blocks_by shape shape.tile
+
+-- how many strips or tiles a level has: those of the first plane come first
 abbrev pub blocks_of : LevelShape → ℕ
-blocks_of shape = blocks_by shape shape.tile
+blocks_of shape = shape.planes * plane_blocks shape
 
 -- the bytes of a sample
 abbrev pub sample_bytes : ℕ → ℕ
 sample_bytes depth = if depth == 8 then 1 else 2
 
--- the bytes of a texel: its samples stand side by side
+-- how many samples of a texel stand side by side: all of them, or one where each has a plane
+abbrev pub samples_aside : LevelShape → ℕ
+samples_aside shape = if shape.planes == 1 then shape.channels else 1
+
+-- the bytes of a texel in a strip or tile: of the samples that stand side by side
 abbrev pub texel_bytes : LevelShape → ℕ
-texel_bytes shape = shape.channels * sample_bytes shape.depth
+texel_bytes shape = samples_aside shape * sample_bytes shape.depth
 
 -- how many texels strip i has, or a tile of this width and height:
--- the last strip may have fewer rows, a tile is padded to its full size
+-- the last strip of a plane may have fewer rows, a tile is padded to its full size
 abbrev pub block_texels_by : LevelShape → Option (ℕ × ℕ) → ℕ → ℕ
 block_texels_by shape None i =
-    min shape.rows_per_strip (shape.height - shape.rows_per_strip * i) * shape.width
+    min shape.rows_per_strip (shape.height - shape.rows_per_strip * (i % blocks_by shape None))
+    * shape.width
 block_texels_by shape (Some tile) i = tile.0 * tile.1
 
 -- the bytes of strip or tile i
@@ -100,12 +112,22 @@ abbrev pub strip_rows : Form → List ℕ → ℕ → ℕ
 strip_rows form bytes at =
     if is_tiled form bytes at then all_rows else field_value form bytes at rows_per_strip_tag
 
+-- how many planes there are, by PlanarConfiguration and SamplesPerPixel: 2 is planar
+abbrev pub planes_by : ℕ → ℕ → ℕ
+planes_by planar samples = if planar == 2 then samples else 1
+
+-- the planes of the directory
+abbrev pub planes_at : Form → List ℕ → ℕ → ℕ
+planes_at form bytes at = planes_by (field_value form bytes at planar_configuration_tag)
+    (field_value form bytes at samples_per_pixel_tag)
+
 -- What is known of the directory at a place without its offsets.
 abbrev pub shape_at : Form → List ℕ → ℕ → LevelShape
 shape_at form bytes at = shape_of
     (field_value form bytes at image_width_tag)
     (field_value form bytes at image_length_tag)
     (field_value form bytes at samples_per_pixel_tag)
+    (planes_at form bytes at)
     (field_value form bytes at bits_per_sample_tag)
     (field_value form bytes at photometric_tag == 0)
     (tile_of form bytes at)

@@ -101,12 +101,11 @@ module _ (form : Form) (bytes : List ℕ) (at : ℕ) where
       let v = field_value form bytes at photometric_tag in
       then_some (nat_lt 2 v) (Unsupported photometric_tag v)
 
-  -- 7, PlanarConfiguration: 1 is chunky; 2, planar, is the same where a pixel has one sample
+  -- 7, PlanarConfiguration: 1 is chunky, and 2 is planar
   abbrev pub planar_fault : Option TiffFault
   planar_fault =
       let v = field_value form bytes at planar_configuration_tag in
-      then_some (not ((v == 1) || ((v == 2) && (samples == 1))))
-      (Unsupported planar_configuration_tag v)
+      then_some (not ((v == 1) || (v == 2))) (Unsupported planar_configuration_tag v)
 
   -- 7, SampleFormat: 1 is unsigned, and 4, undefined, is read as 1
   abbrev pub format_fault : Option TiffFault

@@ -22,6 +22,10 @@ pub record IsChannelCount (channels : ℕ) : Type 0 where
   pub low : 1 ≤ channels
   pub high : channels ≤ max_channels
 
+-- a number of planes: 1, or one for each channel
+abbrev pub IsPlaneCount : ℕ → ℕ → Type 0
+IsPlaneCount channels planes = IsTrue ((planes == 1) || (planes == channels))
+
 -- the bits of a sample
 abbrev pub IsDepth : ℕ → Type 0
 IsDepth depth = IsTrue ((depth == 8) || (depth == 16))
@@ -35,6 +39,7 @@ pub record IsLevelShape (shape : LevelShape) : Type 0 where
   pub width : IsSide shape.width
   pub height : IsSide shape.height
   pub channels : IsChannelCount shape.channels
+  pub planes : IsPlaneCount shape.channels shape.planes
   pub depth : IsDepth shape.depth
   pub tile : HasTileSides shape.tile
   pub rows : 1 ≤ shape.rows_per_strip

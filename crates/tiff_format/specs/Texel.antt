@@ -1,9 +1,10 @@
 -- Which sample stands in a level at a texel, and which value is it answered as? (TIFF 6.0, sections
--- 3 and 6 on PhotometricInterpretation and PlanarConfiguration 1, section 15 on tiles)
+-- 3 and 6 on PhotometricInterpretation, section 8 on PlanarConfiguration, section 15 on tiles)
 use Rattle.std.specs.Prelude.{ℕ, ◌+◌, ◌-◌, ◌*◌, ◌/◌, ◌%◌, ◌^◌, ◌==◌, ◌&&◌, Bool, List, slice_index}
 use Rattle.std.specs.Prelude.{Option, Some, None, if◌then◌else◌}
 use Rattle.tiff_format.specs.Bytes.{number_at, is_big}
-use Rattle.tiff_format.specs.Block.{LevelShape, Level, pieces_over, sample_bytes}
+use Rattle.tiff_format.specs.Block.{LevelShape, Level, pieces_over, sample_bytes, plane_blocks}
+use Rattle.tiff_format.specs.Block.{samples_aside}
 use Rattle.tiff_format.specs.Level.{directory_level}
 
 -- ---- where a sample stands
@@ -13,7 +14,7 @@ abbrev pub block_by : LevelShape → Option (ℕ × ℕ) → ℕ → ℕ → ℕ
 block_by shape None x y = y / shape.rows_per_strip
 block_by shape (Some tile) x y = y / tile.1 * pieces_over shape.width tile.0 + x / tile.0
 
--- the block that holds texel (x, y)
+-- the block of a plane that holds texel (x, y)
 abbrev pub block_index : LevelShape → ℕ → ℕ → ℕ
 block_index shape x y = block_by shape shape.tile x y
 
@@ -26,11 +27,22 @@ texels_before_by shape (Some tile) x y = y % tile.1 * tile.0 + x % tile.0
 abbrev pub texels_before : LevelShape → ℕ → ℕ → ℕ
 texels_before shape x y = texels_before_by shape shape.tile x y
 
--- the place of the sample of channel c of texel (x, y): the samples of a pixel stand side by side
+-- the plane that holds channel c
+abbrev pub plane_of : LevelShape → ℕ → ℕ
+plane_of shape c = if shape.planes == 1 then 0 else c
+
+-- the number of samples before that of channel c among those of a texel that stand side by side
+abbrev pub samples_before : LevelShape → ℕ → ℕ
+samples_before shape c = if shape.planes == 1 then c else 0
+
+-- the place of the sample of channel c of texel (x, y): in the block of its plane,
+-- behind the samples of the texels before it
 unfoldable pub sample_place : Level → ℕ → ℕ → ℕ → ℕ
 sample_place level x y c =
-    slice_index level.offsets (block_index level.shape x y)
-    + (texels_before level.shape x y * level.shape.channels + c) * sample_bytes level.shape.depth
+    slice_index level.offsets
+    (plane_of level.shape c * plane_blocks level.shape + block_index level.shape x y)
+    + (texels_before level.shape x y * samples_aside level.shape + samples_before level.shape c)
+    * sample_bytes level.shape.depth
 
 -- ---- which number it is
 

@@ -10,6 +10,9 @@ pub struct Dir {
     pub height: u32,
     /// SamplesPerPixel, 1 to 8.
     pub channels: u32,
+    /// 1 where the samples of a pixel stand side by side, else as many as channels: each has a plane
+    /// of its own (section 8, PlanarConfiguration).
+    pub planes: u32,
     /// BitsPerSample, 8 or 16, the same for all samples.
     pub depth: u32,
     /// PhotometricInterpretation is 0, WhiteIsZero.
@@ -19,10 +22,11 @@ pub struct Dir {
     pub tile: Option<(u32, u32)>,
     /// RowsPerStrip, at least 1, where it is stripped. 2^32 - 1 where it is tiled.
     pub rows_per_strip: u32,
-    /// The offset of each strip or tile, as many as there are.
+    /// The offset of each strip or tile, as many as there are: those of the first plane, then those
+    /// of the next.
     pub offsets: Vec<u64>,
     ghost shape_in: { IsLevelShape
-        (shape_of width height channels depth white tile rows_per_strip) },
+        (shape_of width height channels planes depth white tile rows_per_strip) },
     ghost offsets_in: { HasOffsets (level_with
-        (shape_of width height channels depth white tile rows_per_strip) offsets.items) },
+        (shape_of width height channels planes depth white tile rows_per_strip) offsets.items) },
 }

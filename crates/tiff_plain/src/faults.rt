@@ -196,9 +196,7 @@ fn planar_fault(form: Form, bytes: &[u8], at: u32) -> Option<TiffFault>
     ensures { result ≡ spec.planar_fault form bytes.now at }
 {
     let value = field_value(form, bytes, at, PLANAR_CONFIGURATION);
-    let is_read = value == 1
-        || (value == 2 && field_value(form, bytes, at, SAMPLES_PER_PIXEL) == 1);
-    (!is_read).then_some(TiffFault::Unsupported {
+    (value != 1 && value != 2).then_some(TiffFault::Unsupported {
         tag: PLANAR_CONFIGURATION,
         value: u64::from(value),
     })

@@ -1,14 +1,14 @@
 //! What is known of a level without the offsets of its blocks.
 
-ghost use Rattle.std.specs.Prelude.{◌≡◌, ◌≤◌, ◌<◌, ◌-◌, ◌*◌, ◌^◌, min};
+ghost use Rattle.std.specs.Prelude.{◌≡◌, ◌≤◌, ◌<◌, ◌-◌, ◌*◌, ◌%◌, ◌^◌, min};
 ghost use Rattle.tiff_format.specs.Block as spec;
 ghost use Rattle.tiff_format.specs.Level as level;
 ghost use Rattle.tiff_plain.specs.PlainLevel.{shown_shape};
 
 use crate::fields::{ALL_ROWS, field_value, has_field};
 use crate::tags::{
-    BITS_PER_SAMPLE, IMAGE_LENGTH, IMAGE_WIDTH, PHOTOMETRIC, ROWS_PER_STRIP, SAMPLES_PER_PIXEL,
-    STRIP_OFFSETS, TILE_LENGTH, TILE_OFFSETS, TILE_WIDTH,
+    BITS_PER_SAMPLE, IMAGE_LENGTH, IMAGE_WIDTH, PHOTOMETRIC, PLANAR_CONFIGURATION, ROWS_PER_STRIP,
+    SAMPLES_PER_PIXEL, STRIP_OFFSETS, TILE_LENGTH, TILE_OFFSETS, TILE_WIDTH,
 };
 use tiff_format::Form;
 
@@ -18,6 +18,8 @@ pub struct PlainShape {
     pub width: u32,
     pub height: u32,
     pub channels: u32,
+    /// 1 where the samples of a pixel stand side by side, else one for each channel.
+    pub planes: u32,
     /// Bits of a sample.
     pub depth: u32,
     /// WhiteIsZero.
@@ -73,6 +75,17 @@ fn strip_rows(form: Form, bytes: &[u8], at: u32) -> u32
     }
 }
 
+/// Its planes.
+fn planes_at(form: Form, bytes: &[u8], at: u32) -> u32
+    ensures { result ≡ spec.planes_at form bytes.now at }
+{
+    if field_value(form, bytes, at, PLANAR_CONFIGURATION) == 2 {
+        field_value(form, bytes, at, SAMPLES_PER_PIXEL)
+    } else {
+        1
+    }
+}
+
 /// What is known of the directory at a place without its offsets.
 pub fn shape_at(form: Form, bytes: &[u8], at: u32) -> PlainShape
     ensures value { shown_shape result ≡ spec.shape_at form bytes.now at }
@@ -81,6 +94,7 @@ pub fn shape_at(form: Form, bytes: &[u8], at: u32) -> PlainShape
         width: field_value(form, bytes, at, IMAGE_WIDTH),
         height: field_value(form, bytes, at, IMAGE_LENGTH),
         channels: field_value(form, bytes, at, SAMPLES_PER_PIXEL),
+        planes: planes_at(form, bytes, at),
         depth: field_value(form, bytes, at, BITS_PER_SAMPLE),
         white: field_value(form, bytes, at, PHOTOMETRIC) == 0,
         tile: tile_of(form, bytes, at),
@@ -92,7 +106,8 @@ pub fn shape_at(form: Form, bytes: &[u8], at: u32) -> PlainShape
 
 /// As many as it takes to cover n places by pieces of that many, 0 where a piece is 0.
 pub fn pieces_over(n: u32, piece: u32) -> u64
-    ensures { result ≡ spec.pieces_over n piece }
+    ensures value { result ≡ spec.pieces_over n piece }
+    ensures fits { result < 2 ^ 33 }
 {
     if piece == 0 {
         0
@@ -104,6 +119,14 @@ pub fn pieces_over(n: u32, piece: u32) -> u64
 /// How many blocks a level has.
 pub fn blocks_of(shape: PlainShape) -> u128
     ensures value { result ≡ spec.blocks_of (shown_shape shape) }
+{
+    u128::from(shape.planes) * plane_blocks(shape)
+}
+
+/// How many blocks a plane has.
+pub fn plane_blocks(shape: PlainShape) -> u128
+    ensures value { result ≡ spec.plane_blocks (shown_shape shape) }
+    ensures fits { result < 2 ^ 68 }
 {
     match shape.tile {
         Some((tile_width, tile_height)) => {
@@ -129,18 +152,38 @@ pub fn sample_bytes(depth: u32) -> u32
     if depth == 8 { 1 } else { 2 }
 }
 
+/// How many samples of a texel stand side by side.
+pub fn samples_aside(shape: PlainShape) -> u32
+    ensures { result ≡ spec.samples_aside (shown_shape shape) }
+{
+    if shape.planes == 1 { shape.channels } else { 1 }
+}
+
 /// The bytes of a texel.
 fn texel_bytes(shape: PlainShape) -> u64
     ensures { result ≡ spec.texel_bytes (shown_shape shape) }
 {
-    u64::from(shape.channels) * u64::from(sample_bytes(shape.depth))
+    u64::from(samples_aside(shape)) * u64::from(sample_bytes(shape.depth))
 }
 
-/// The rows of strip i, of which the last may have fewer.
-fn rows_left(shape: PlainShape, i: u32) -> u32
-    ensures { result ≡ min shape.rows_per_strip (shape.height - shape.rows_per_strip * i) }
+/// The strip of its plane that strip i is.
+fn strip_of_plane(shape: PlainShape, i: u32) -> u32
+    ensures { result ≡ i % spec.pieces_over shape.height shape.rows_per_strip }
 {
-    let before = u64::from(shape.rows_per_strip) * u64::from(i);
+    let strips = pieces_over(shape.height, shape.rows_per_strip);
+    if strips == 0 {
+        i
+    } else {
+        (u64::from(i) % strips) as u32
+    }
+}
+
+/// The rows of strip i, of which the last of a plane may have fewer.
+fn rows_left(shape: PlainShape, i: u32) -> u32
+    ensures { result ≡ min shape.rows_per_strip (shape.height
+        - shape.rows_per_strip * (i % spec.pieces_over shape.height shape.rows_per_strip)) }
+{
+    let before = u64::from(shape.rows_per_strip) * u64::from(strip_of_plane(shape, i));
     u64::from(shape.rows_per_strip).min(u64::from(shape.height).saturating_sub(before)) as u32
 }
 

@@ -13,7 +13,7 @@ use crate::form::form_of;
 use crate::level::offset_of;
 use crate::levels::level_place;
 use crate::numbers::{is_big, number_at};
-use crate::shape::{PlainShape, pieces_over, sample_bytes, shape_at};
+use crate::shape::{PlainShape, pieces_over, plane_blocks, sample_bytes, samples_aside, shape_at};
 
 /// The quotient, 0 over 0.
 fn quotient(a: u32, b: u32) -> u32
@@ -37,9 +37,10 @@ fn place_in_rows(row: u32, width: u32, column: u32) -> u128
     u128::from(row) * u128::from(width) + u128::from(column)
 }
 
-/// The block that holds texel (x, y).
+/// The block of a plane that holds texel (x, y).
 fn block_index(shape: PlainShape, x: u32, y: u32) -> u128
-    ensures { result ≡ spec.block_index (shown_shape shape) x y }
+    ensures value { result ≡ spec.block_index (shown_shape shape) x y }
+    ensures fits { result < 2 ^ 66 }
 {
     match shape.tile {
         Some((tile_width, tile_height)) => {
@@ -49,6 +50,15 @@ fn block_index(shape: PlainShape, x: u32, y: u32) -> u128
         }
         None => u128::from(quotient(y, shape.rows_per_strip)),
     }
+}
+
+/// The block that holds the sample of channel c of texel (x, y).
+fn block_of_sample(shape: PlainShape, x: u32, y: u32, c: u32) -> u128
+    ensures { result ≡ spec.plane_of (shown_shape shape) c
+        * block.plane_blocks (shown_shape shape) + spec.block_index (shown_shape shape) x y }
+{
+    let plane = if shape.planes == 1 { 0 } else { c };
+    u128::from(plane) * plane_blocks(shape) + block_index(shape, x, y)
 }
 
 /// The number of texels before texel (x, y) in its block.
@@ -70,11 +80,13 @@ fn texels_before(shape: PlainShape, x: u32, y: u32) -> u128
 
 /// The place in its block of the sample of channel c of texel (x, y).
 fn place_in_block(shape: PlainShape, x: u32, y: u32, c: u32) -> u128
-    ensures value { result ≡ (spec.texels_before (shown_shape shape) x y * shape.channels + c)
+    ensures value { result ≡ (spec.texels_before (shown_shape shape) x y
+        * block.samples_aside (shown_shape shape) + spec.samples_before (shown_shape shape) c)
         * block.sample_bytes shape.depth }
     ensures fits { result < 2 ^ 100 }
 {
-    (texels_before(shape, x, y) * u128::from(shape.channels) + u128::from(c))
+    let before = if shape.planes == 1 { c } else { 0 };
+    (texels_before(shape, x, y) * u128::from(samples_aside(shape)) + u128::from(before))
         * u128::from(sample_bytes(shape.depth))
 }
 
@@ -132,7 +144,7 @@ fn sample_place(bytes: &[u8], l: u32, x: u32, y: u32, c: u32) -> u128
     ensures fits { result < 2 ^ 110 }
 {
     let shape = stored_shape(bytes, l);
-    let offset = stored_offset(bytes, l, block_index(shape, x, y));
+    let offset = stored_offset(bytes, l, block_of_sample(shape, x, y, c));
     u128::from(offset) + place_in_block(shape, x, y, c)
 }
 

@@ -1,16 +1,19 @@
 -- The texels of a row of a strip or tile lie in it.
-use Rattle.std.proofs.Common.{◌≡◌, ℕ, ◌+◌, ◌-◌, ◌*◌, ◌/◌, ◌%◌, ◌^◌, ◌<◌, ◌≤◌, min, length}
-use Rattle.std.proofs.Common.{Option, Some, None, refl, arith}
-use Rattle.std.proofs.Math.Nat.{mul-le-mul_right, div-mul-le_self, div-add-mod}
+use Rattle.std.proofs.Common.{◌≡◌, ℕ, ◌+◌, ◌-◌, ◌*◌, ◌/◌, ◌%◌, ◌^◌, ◌<◌, ◌≤◌, min, get_or}
+use Rattle.std.proofs.Common.{Option, Some, None, Bool, true, false, eqb, refl, arith, lit≤}
+use Rattle.std.specs.Prelude.{if◌then◌else◌}
+use Rattle.std.proofs.Math.Nat.{mul-le-mul_right, div-mul-le_self, div-add-mod, mod-eq_of_lt}
 use Rattle.std.proofs.lemmas.Nat.{le-div, mod_below, mul-add-lt}
 use Rattle.tiff_format.specs.declared.dir.Dir.{Dir}
 use Rattle.tiff_format.specs.Block.{LevelShape, Level, pieces_over, blocks_by, block_texels_by}
-use Rattle.tiff_format.specs.Block.{texel_bytes}
-use Rattle.tiff_format.specs.Shown.{shown}
-use Rattle.tiff_format.specs.Facts.{HasTileSides, IsLevelShape, HasOffsets}
+use Rattle.tiff_format.specs.Block.{blocks_of, plane_blocks, block_bytes, texel_bytes}
+use Rattle.tiff_format.specs.Shown.{shown, shown_shape}
+use Rattle.tiff_format.specs.Facts.{HasTileSides, IsChannelCount, IsLevelShape}
 use Rattle.tiff_format.specs.Texel.{block_by, texels_before_by, sample_place}
 use Rattle.tile_layout.specs.declared.piece.Piece.{Piece}
 use Rattle.tile_layout.specs.Pieces.{row_rest_by, row_rest, block_of, LiesInBlock}
+use Rattle.tile_layout.specs.Plane.{plane_shape, plane_level}
+use Rattle.tile_layout.proofs.PlaneBlocks.{plane_offset, plane_block, block_there}
 use Rattle.tile_layout.proofs.PlaceLemmas.{place_is}
 
 -- place y is in one of the pieces that cover the side
@@ -19,6 +22,11 @@ piece_below side piece y some below =
     let more : (y / piece + 1) * piece ≤ side + piece - 1 =
     omega (arith, div-mul-le_self y piece) in
     omega (arith, le-div (y / piece + 1) (side + piece - 1) piece some more)
+
+-- and so it is the strip of its number, also where the planes before have as many
+strip_of : (side piece y : ℕ) → 1 ≤ piece → y < side
+    → y / piece % pieces_over side piece ≡ y / piece
+strip_of side piece y some below = mod-eq_of_lt (piece_below side piece y some below)
 
 -- ---- the block of a texel
 
@@ -53,8 +61,9 @@ block_fits shape None x y n unit sides some across down le =
     let rows = shape.rows_per_strip in
     let row : y % rows < min rows (shape.height - rows * (y / rows)) =
     omega (arith, mod_below y rows some, div-add-mod y rows) in
-    row_fits shape.width (y % rows) (min rows (shape.height - rows * (y / rows))) unit x n row
-    (omega arith)
+    rw (strip_of shape.height rows y some down)
+    (row_fits shape.width (y % rows) (min rows (shape.height - rows * (y / rows))) unit x n row
+    (omega arith))
 block_fits shape (Some tile) x y n unit sides some across down le =
     let is = sides tile refl in
     let row : y % tile.1 < tile.1 = mod_below y tile.1 (omega (arith, is.1.low)) in
@@ -64,13 +73,40 @@ block_fits shape (Some tile) x y n unit sides some across down le =
       row_fits tile.0 (y % tile.1) tile.1 unit (x % tile.0) n row (omega arith),
     )
 
--- what is known of every directory
+-- what is known of every plane, taken alone
 pub record IsSound (level : Level) : Type 0 where
   pub shape : IsLevelShape level.shape
-  pub offsets : HasOffsets level
+  pub ends : (i : ℕ) → i < blocks_of level.shape
+      → get_or level.offsets i 0 + block_bytes level.shape i < 2 ^ 64
+  pub one : level.shape.planes ≡ 1
 
-pub sound : (dir : Dir) → IsSound (shown dir)
-sound dir = record { shape = dir.shape_in; offsets = dir.offsets_in }
+module _ (dir : Dir) (p : ℕ) (is : p < dir.planes) where
+  pub plane_channels : (b : Bool) → IsChannelCount (if b then dir.channels else 1)
+  plane_channels true = dir.shape_in.channels
+  plane_channels false = record { low = lit≤ tt; high = lit≤ tt }
+
+  plane_shape_in : IsLevelShape (plane_shape (shown_shape dir) p)
+  plane_shape_in = record {
+    width = dir.shape_in.width;
+    height = dir.shape_in.height;
+    channels = plane_channels (eqb dir.planes 1);
+    planes = refl;
+    depth = dir.shape_in.depth;
+    tile = dir.shape_in.tile;
+    rows = dir.shape_in.rows;
+  }
+
+  pub sound : IsSound (plane_level (shown dir) p)
+  sound = record {
+    shape = plane_shape_in;
+    ends = λ i lt.
+        let level = shown dir in
+        let below : i < plane_blocks level.shape = omega (arith, lt) in
+        rw (plane_offset level p i, plane_block level p i)
+        (dir.offsets_in.ends (p * plane_blocks level.shape + i)
+        (rw dir.offsets_in.count (block_there level p i is below)));
+    one = refl;
+  }
 
 -- ---- a piece
 
@@ -79,13 +115,16 @@ module _ (level : Level) (piece : Piece) (is : IsSound level) (across : piece.x 
     (le : piece.n ≤ row_rest level.shape piece.x) where
   pub lies_in_block : LiesInBlock level piece
   lies_in_block = record {
-    is = block_below level.shape level.shape.tile piece.x piece.y is.shape.tile is.shape.rows
-        across down;
-    from = omega (arith, at, place_is level piece.x piece.y);
+    is = rw is.one (omega (
+      arith,
+      block_below level.shape level.shape.tile piece.x piece.y is.shape.tile is.shape.rows across
+          down,
+    ));
+    from = omega (arith, at, place_is level piece.x piece.y is.one);
     to = omega (
       arith,
       at,
-      place_is level piece.x piece.y,
+      place_is level piece.x piece.y is.one,
       block_fits level.shape level.shape.tile piece.x piece.y piece.n (texel_bytes level.shape)
           is.shape.tile is.shape.rows across down le,
     );
@@ -94,6 +133,4 @@ module _ (level : Level) (piece : Piece) (is : IsSound level) (across : piece.x 
   -- no byte of it stands past 2^64
   pub ends_below : piece.at + piece.n * texel_bytes level.shape < 2 ^ 64
   ends_below =
-      let stored : block_of level.shape piece < length level.offsets =
-      rw is.offsets.count lies_in_block.is in
-      omega (arith, lies_in_block.to, is.offsets.ends (block_of level.shape piece) stored)
+      omega (arith, lies_in_block.to, is.ends (block_of level.shape piece) lies_in_block.is)

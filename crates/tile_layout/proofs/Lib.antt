@@ -2,8 +2,10 @@ pub mod LevelLemmas
 pub mod Halving
 pub mod SingleLemmas
 pub mod TexelLemmas
+pub mod PlaneBlocks
 pub mod PlaceLemmas
 pub mod BlockLemmas
+pub mod DirPlanes
 pub mod WalkLemmas
 pub mod GoodLevels
 pub mod CellLemmas

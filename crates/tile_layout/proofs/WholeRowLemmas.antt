@@ -30,17 +30,17 @@ before_down shape None x y j down =
     rw (place_in_piece y shape.rows_per_strip j down) (omega arith)
 before_down shape (Some tile) x y j down = rw (place_in_piece y tile.1 j down) (omega arith)
 
-place_down : (level : Level) (x y j : ℕ)
+place_down : (level : Level) (x y j : ℕ) → level.shape.planes ≡ 1
     → y % block_rows level.shape + j < block_rows level.shape
     → sample_place level x (y + j) 0
     ≡ sample_place level x y 0 + j * (block_width level.shape * texel_bytes level.shape)
-place_down level x y j down =
+place_down level x y j one down =
     let tile = level.shape.tile in
-    place_is level x (y + j)
+    place_is level x (y + j) one
     ∙ rw (
       block_down level.shape tile x y j down,
       before_down level.shape tile x y j down,
-      place_is level x y,
+      place_is level x y one,
     ) (omega arith)
 
 -- ---- the first row of a strip or tile
@@ -83,8 +83,8 @@ module _ (level : Level) (rect : Rect) (is : IsSound level)
       let next : rect.y + (j + 1) ≡ top + (k + 1) = omega (arith, here) in
       rw (next, here, each.width) (omega (
         arith,
-        place_down level rect.x top (k + 1) down,
-        place_down level rect.x top k (omega (arith, down)),
+        place_down level rect.x top (k + 1) is.one down,
+        place_down level rect.x top k is.one (omega (arith, down)),
       ))
 
   pub wide : 1 ≤ rect.w
@@ -131,10 +131,10 @@ module _ (level : Level) (rect : Rect) (is : IsSound level)
         → sample_place level (rect.x + i) (rect.y + j) c
         ≡ at + (j * rect.w + i) * texel_bytes level.shape + c * sample_bytes level.shape.depth
     place_of i j c in_row below =
-        of_channel level (rect.x + i) (rect.y + j) c
+        of_channel level (rect.x + i) (rect.y + j) c is.one
         ∙ omega (
           arith,
-          side_by_side level rect.x (rect.y + j) i (omega (arith, rest)),
+          side_by_side level rect.x (rect.y + j) i is.one (omega (arith, rest)),
           row_at j below,
         )
 

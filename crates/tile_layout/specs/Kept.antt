@@ -34,6 +34,7 @@ no_shape = record {
   width = 0;
   height = 0;
   channels = 0;
+  planes = 0;
   depth = 0;
   white = false;
   tile = None;

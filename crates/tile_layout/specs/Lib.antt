@@ -1,5 +1,6 @@
 pub mod Key
 pub mod Kept
+pub mod Plane
 pub mod Level
 pub mod CutSide
 pub mod Cell

@@ -48,7 +48,7 @@ pub record LiesInBlock (level : Level) (piece : Piece) : Type 0 where
       ≤ slice_index level.offsets (block_of level.shape piece)
       + block_bytes level.shape (block_of level.shape piece)
 
--- The piece has a texel at least, and reaches as far as its row before `right` and the row of its
+-- The level is a plane taken alone. The piece has a texel at least, and reaches as far as its row before `right` and the row of its
 -- block allow. Its texels stand side by side in the file from `at` on, with their samples side by
 -- side. Its bytes lie in its block, and none stands past 2^64.
 pub record LiesSideBySide (level : Level) (right : ℕ) (piece : Piece) : Type 0 where
@@ -61,7 +61,7 @@ pub record LiesSideBySide (level : Level) (right : ℕ) (piece : Piece) : Type 0
   pub block : LiesInBlock level piece
   pub ends : piece.at + piece.n * texel_bytes level.shape < 2 ^ 64
 
--- What is left of a walk over a rectangle of a level: the texels to come, in rows that end
+-- What is left of a walk over a rectangle of a plane, taken alone as a level: the texels to come, in rows that end
 -- before `right`.
 pub record Walk : Type 0 where
   pub level : Level

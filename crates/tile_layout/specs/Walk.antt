@@ -21,9 +21,10 @@ walk_at level rect x y = record {
   texels = texels_left rect.x (rect.x + rect.w) x y (rect.y + rect.h - y);
 }
 
--- the rectangle lies on a level of that shape, and the texel to come, if there is one,
--- is in a column
-pub record IsWalk (shape : LevelShape) (rect : Rect) (x y : ℕ) : Type 0 where
+-- the rectangle lies on a level of that shape, the plane is one of its planes, and the texel to come,
+-- if there is one, is in a column
+pub record IsWalk (shape : LevelShape) (plane : ℕ) (rect : Rect) (x y : ℕ) : Type 0 where
+  pub is : plane < shape.planes
   pub on : LiesOn shape.width shape.height rect
   pub row : y ≤ rect.y + rect.h
   pub next : y < rect.y + rect.h → (rect.x ≤ x) × (x < rect.x + rect.w)

@@ -1,10 +1,13 @@
 ghost use Rattle.std.specs.Prelude.{◌≡◌, ℕ, ◌/◌, ◌^◌, ◌<◌, ◌≤◌, ◌↔◌, max, List};
 ghost use Rattle.std.specs.Prelude.{IsTrue, IfSome, IsSome};
 ghost use Rattle.tiff_format.specs.Level.{max_levels};
-ghost use Rattle.tiff_format.specs.Facts.{IsSide, IsChannelCount, IsDepth};
+ghost use Rattle.tiff_format.specs.Texel.{sample_place};
+ghost use Rattle.tiff_format.specs.Facts.{IsSide, IsChannelCount, IsDepth, IsPlaneCount};
+ghost use Rattle.tiff_format.specs.Limits.{max_channels};
 ghost use Rattle.tiff_format.specs.Shown.{shown, shown_shape};
 ghost use Rattle.tiff_format.specs.Cut.{IsCut};
 ghost use Rattle.tile_layout.specs.Kept.{kept_of, kept_in, AreDirsOf, stored_count, level_in};
+ghost use Rattle.tile_layout.specs.Plane.{plane_in};
 ghost use Rattle.tile_layout.specs.Level.{width_in, height_in, level_count_in, levels_down};
 ghost use Rattle.tile_layout.specs.Level.{HasLevel, IsLevelCount, IsOfEach};
 ghost use Rattle.tile_layout.specs.Pieces.{LiesOnLevel, walk_over};
@@ -20,7 +23,7 @@ ghost use Rattle.tile_layout.specs.WholeRows.{block_width, block_rows, AreWholeR
 use crate::cut_side::CutSide;
 use crate::grid::Grid;
 use crate::pieces::Pieces;
-use crate::place::{block_rows, block_width, texel_bytes, whole_rows};
+use crate::place::{block_rows, block_width, is_white, samples_aside, texel_bytes, whole_rows};
 use crate::texel_format::TexelFormat;
 use std::marker::Model;
 use tiff_format::{Cut, Dir, Dirs, Rect};
@@ -123,19 +126,31 @@ impl Layout {
         self.dir(level).white
     }
 
-    /// How the samples of a stored level are stored.
-    pub fn format(&self, level: u32) -> TexelFormat
+    /// The planes of a stored level: 1 where the samples of a texel stand side by side, else one for
+    /// each channel. The levels of a file may differ in it.
+    pub fn planes(&self, level: u32) -> u32
         requires { level < stored_count self.now }
-        ensures value { IsFormatOf self.now.big (level_in self.now level).shape result }
+        ensures value { result ≡ (level_in self.now level).shape.planes }
+        ensures one_or_all { IsPlaneCount (level_in self.now level).shape.channels result }
+        ensures in_range { (1 ≤ result) × (result ≤ max_channels) }
+    {
+        self.dir(level).planes
+    }
+
+    /// How the samples of a plane of a stored level are stored.
+    pub fn format(&self, level: u32, plane: u32) -> TexelFormat
+        requires stored { level < stored_count self.now }
+        requires plane { plane < (level_in self.now level).shape.planes }
+        ensures value { IsFormatOf self.now.big (plane_in self.now level plane).shape result }
         ensures depth { result.depth ≡ bit_depth_in self.now }
     {
         let dir = self.dir(level);
-        let channels = dir.channels as usize;
+        let channels = samples_aside(dir) as usize;
         TexelFormat {
             depth: dir.depth,
             big: self.big(),
             channels,
-            invert: if dir.white { channels } else { 0 },
+            invert: if is_white(dir, plane) { channels } else { 0 },
             texel_bytes: texel_bytes(dir) as usize,
         }
     }
@@ -208,26 +223,42 @@ impl Layout {
         true
     }
 
-    /// The pieces of a rectangle of a stored level, row by row and in each row from left to right.
+    /// The pieces of a rectangle of a stored level, row by row and in each row from left to right:
+    /// those of its first plane, which has channel 0.
     pub fn pieces(&self, level: u32, rect: Rect) -> Pieces<'_>
         requires stored { level < stored_count self.now }
         requires inside { LiesOnLevel self.now level rect }
-        ensures value { result ≡ walk_over (level_in self.now level) rect }
+        ensures value { result ≡ walk_over (plane_in self.now level 0) rect }
+        ensures place { (x y : ℕ) → sample_place result.level x y 0
+            ≡ sample_place (level_in self.now level) x y 0 }
     {
-        Pieces::over(self.dir(level), rect)
+        Pieces::over(self.dir(level), 0, rect)
     }
 
-    /// Where the texels of a rectangle of a stored level stand side by side in the file, row behind
-    /// row. They do exactly where it is whole rows of one strip or tile, or of several that stand
-    /// one directly behind the other. It looks at each strip or tile once, and at no row of it.
-    pub fn whole_rows(&self, level: u32, rect: Rect) -> Option<u64>
+    /// The same of one of its planes, whose first channel has the plane's number.
+    pub fn plane_pieces(&self, level: u32, rect: Rect, plane: u32) -> Pieces<'_>
         requires stored { level < stored_count self.now }
         requires inside { LiesOnLevel self.now level rect }
-        requires some { 1 ≤ rect.h }
-        ensures found { IsSome result ↔ AreWholeRows (level_in self.now level) rect }
-        ensures place { IfSome result (StandsWhole (level_in self.now level) rect) }
+        requires plane { plane < (level_in self.now level).shape.planes }
+        ensures value { result ≡ walk_over (plane_in self.now level plane) rect }
+        ensures place { (x y : ℕ) → sample_place result.level x y 0
+            ≡ sample_place (level_in self.now level) x y plane }
     {
-        whole_rows(self.dir(level), rect)
+        Pieces::over(self.dir(level), plane, rect)
+    }
+
+    /// Where the texels of a rectangle of a plane of a stored level stand side by side in the file,
+    /// row behind row. They do exactly where it is whole rows of one strip or tile, or of several that stand
+    /// one directly behind the other. It looks at each strip or tile once, and at no row of it.
+    pub fn whole_rows(&self, level: u32, plane: u32, rect: Rect) -> Option<u64>
+        requires stored { level < stored_count self.now }
+        requires plane { plane < (level_in self.now level).shape.planes }
+        requires inside { LiesOnLevel self.now level rect }
+        requires some { 1 ≤ rect.h }
+        ensures found { IsSome result ↔ AreWholeRows (plane_in self.now level plane) rect }
+        ensures place { IfSome result (StandsWhole (plane_in self.now level plane) rect) }
+    {
+        whole_rows(self.dir(level), plane, rect)
     }
 
     /// The rows of a strip or tile of a stored level. The last strip may have fewer.

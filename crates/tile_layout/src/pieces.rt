@@ -1,19 +1,21 @@
-ghost use Rattle.std.specs.Prelude.{◌≡◌};
+ghost use Rattle.std.specs.Prelude.{◌≡◌, ◌<◌};
 ghost use Rattle.tiff_format.specs.Shown.{shown};
 ghost use Rattle.tile_layout.specs.Pieces.{LiesOn, walk_over};
+ghost use Rattle.tile_layout.specs.Plane.{plane_level};
 
 use crate::piece::Piece;
 use crate::place::piece_at;
 use std::marker::Model;
 use tiff_format::{Dir, Rect};
 
-/// The pieces of a rectangle of a level, row by row and in each row from left to right.
+/// The pieces of a rectangle of a plane of a level, row by row and in each row from left to right.
 ///
 /// A piece is as long as the rectangle and the row of its strip or tile allow. An empty rectangle
 /// has none.
 #[derive(Debug, Drop)]
 pub struct Pieces<'a> {
     dir: &'a Dir,
+    plane: u32,
     /// The rectangle, of no rows where it has no columns.
     rect: Rect,
     /// The texel that comes next. None does where y is the row behind the last.
@@ -24,24 +26,27 @@ pub struct Pieces<'a> {
 impl<'a> Model for Pieces<'a> {
     ghost use Rattle.tiff_format.specs.Shown.{shown, shown_shape};
     ghost use Rattle.tile_layout.specs.Pieces.{Walk};
+    ghost use Rattle.tile_layout.specs.Plane.{plane_level};
     ghost use Rattle.tile_layout.specs.Walk.{walk_at, IsWalk};
 
     ghost Value = { Walk };
 
-    ghost view = { λ a. walk_at (shown a.dir.now) a.rect a.x a.y };
+    ghost view = { λ a. walk_at (plane_level (shown a.dir.now) a.plane) a.rect a.x a.y };
 
-    ghost invariant = { λ a. IsWalk (shown_shape a.dir.now) a.rect a.x a.y };
+    ghost invariant = { λ a. IsWalk (shown_shape a.dir.now) a.plane a.rect a.x a.y };
 }
 
 impl<'a> Pieces<'a> {
-    pub(crate) fn over(dir: &'a Dir, rect: Rect) -> Self
-        requires { LiesOn dir.now.width dir.now.height rect }
-        ensures { result ≡ walk_over (shown dir.now) rect }
+    pub(crate) fn over(dir: &'a Dir, plane: u32, rect: Rect) -> Self
+        requires plane { plane < dir.now.planes }
+        requires on { LiesOn dir.now.width dir.now.height rect }
+        ensures { result ≡ walk_over (plane_level (shown dir.now) plane) rect }
     {
         // a row without texels has no piece
         let rows = if rect.w == 0 { 0 } else { rect.h };
         Pieces {
             dir,
+            plane,
             rect: Rect { h: rows, ..rect },
             x: rect.x,
             y: rect.y,
@@ -65,7 +70,7 @@ impl<'a> Iterator for Pieces<'a> {
             return None;
         }
         let right = self.rect.x + self.rect.w;
-        let piece = piece_at(self.dir, self.x, self.y, right);
+        let piece = piece_at(self.dir, self.plane, self.x, self.y, right);
         self.x += piece.n;
         if self.x == right {
             self.x = self.rect.x;

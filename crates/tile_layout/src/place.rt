@@ -1,7 +1,9 @@
 //! Where the texels of a level stand in the file.
 
-ghost use Rattle.std.specs.Prelude.{◌≡◌, ◌+◌, ◌^◌, ◌<◌, ◌≤◌, ◌↔◌, length, IfSome, IsSome, IsTrue};
-ghost use Rattle.tiff_format.specs.Block.{pieces_over, texel_bytes};
+ghost use Rattle.std.specs.Prelude.{◌≡◌, ◌+◌, ◌*◌, ◌^◌, ◌<◌, ◌≤◌, ◌↔◌, length, IfSome, IsSome, IsTrue};
+ghost use Rattle.tiff_format.specs.Block.{pieces_over, plane_blocks, samples_aside, texel_bytes};
+ghost use Rattle.tiff_format.specs.Facts.{IsSide, IsChannelCount};
+ghost use Rattle.tile_layout.specs.Plane.{plane_shape, plane_level};
 ghost use Rattle.tiff_format.specs.Shown.{shown, shown_shape};
 ghost use Rattle.tiff_format.specs.Texel.{block_index, texels_before, sample_place};
 ghost use Rattle.tile_layout.specs.Pieces.{row_rest, LiesOn, LiesSideBySide};
@@ -13,20 +15,54 @@ use tiff_format::{Dir, Rect};
 
 /// As many as it takes to cover a side by pieces of that length.
 fn pieces_over(side: u32, piece: u32) -> u64
-    requires { 1 ≤ piece }
+    requires side { IsSide side }
+    requires piece { 1 ≤ piece }
     ensures value { result ≡ pieces_over side piece }
-    ensures few { result < 2 ^ 33 }
+    ensures few { result ≤ side }
 {
     let piece = u64::from(piece);
     (u64::from(side) + piece - 1) / piece
 }
 
-/// The strip or tile that holds texel (x, y).
-fn block_index(dir: &Dir, x: u32, y: u32) -> u64
+/// The number of strips or tiles of a plane.
+fn plane_blocks(dir: &Dir) -> u64
+    ensures value { result ≡ plane_blocks (shown_shape dir.now) }
+{
+    match dir.tile {
+        None => pieces_over(dir.height, dir.rows_per_strip),
+        Some((width, height)) => pieces_over(dir.width, width) * pieces_over(dir.height, height),
+    }
+}
+
+/// How many strips or tiles the planes before a plane have.
+fn first_block(dir: &Dir, plane: u32) -> u64
+    requires { plane < dir.now.planes }
+    ensures value { result ≡ plane * plane_blocks (shown_shape dir.now) }
+{
+    if plane == 0 {
+        return 0;
+    }
+    u64::from(plane) * plane_blocks(dir)
+}
+
+/// The strip or tile that holds texel (x, y) of a plane.
+fn block_index(dir: &Dir, plane: u32, x: u32, y: u32) -> u64
+    requires plane { plane < dir.now.planes }
+    requires across { x < dir.now.width }
+    requires down { y < dir.now.height }
+    ensures value { result ≡ plane * plane_blocks (shown_shape dir.now)
+        + block_index (shown_shape dir.now) x y }
+    ensures stored { result < length dir.now.offsets.items }
+{
+    first_block(dir, plane) + block_in_plane(dir, x, y)
+}
+
+/// How many strips or tiles of its plane stand before the one that holds texel (x, y).
+fn block_in_plane(dir: &Dir, x: u32, y: u32) -> u64
     requires across { x < dir.now.width }
     requires down { y < dir.now.height }
     ensures value { result ≡ block_index (shown_shape dir.now) x y }
-    ensures stored { result < length dir.now.offsets.items }
+    ensures below { result < plane_blocks (shown_shape dir.now) }
 {
     match dir.tile {
         None => u64::from(y / dir.rows_per_strip),
@@ -48,12 +84,27 @@ fn texels_before(dir: &Dir, x: u32, y: u32) -> u64
     }
 }
 
-/// The bytes of a texel.
+/// How many samples of a texel stand side by side.
+pub(crate) fn samples_aside(dir: &Dir) -> u32
+    ensures value { result ≡ samples_aside (shown_shape dir.now) }
+    ensures few { IsChannelCount result }
+{
+    if dir.planes == 1 { dir.channels } else { 1 }
+}
+
+/// The white rule applies to the first channel of a plane.
+pub(crate) fn is_white(dir: &Dir, plane: u32) -> bool
+    ensures { result ≡ (plane_shape (shown_shape dir.now) plane).white }
+{
+    dir.white && plane == 0
+}
+
+/// The bytes of a texel: of its samples that stand side by side.
 pub(crate) fn texel_bytes(dir: &Dir) -> u64
     ensures { result ≡ texel_bytes (shown_shape dir.now) }
 {
     let sample = if dir.depth == 8 { 1 } else { 2 };
-    u64::from(dir.channels) * sample
+    u64::from(samples_aside(dir)) * sample
 }
 
 /// How many texels the row of the strip or tile has from texel x of the level's row on.
@@ -68,25 +119,27 @@ fn row_rest(dir: &Dir, x: u32) -> u32
     }
 }
 
-/// The place of the sample of channel 0 of texel (x, y).
-fn place(dir: &Dir, x: u32, y: u32) -> u64
+/// The place of the first sample of texel (x, y) of a plane.
+fn place(dir: &Dir, plane: u32, x: u32, y: u32) -> u64
+    requires plane { plane < dir.now.planes }
     requires across { x < dir.now.width }
     requires down { y < dir.now.height }
-    ensures { result ≡ sample_place (shown dir.now) x y 0 }
+    ensures { result ≡ sample_place (plane_level (shown dir.now) plane) x y 0 }
 {
-    let offset = dir.offsets[block_index(dir, x, y) as usize];
+    let offset = dir.offsets[block_index(dir, plane, x, y) as usize];
     offset + texels_before(dir, x, y) * texel_bytes(dir)
 }
 
-/// The piece from (x, y) on of a row that ends before `right`.
-pub(crate) fn piece_at(dir: &Dir, x: u32, y: u32, right: u32) -> Piece
+/// The piece from (x, y) on of a row of a plane that ends before `right`.
+pub(crate) fn piece_at(dir: &Dir, plane: u32, x: u32, y: u32, right: u32) -> Piece
+    requires plane { plane < dir.now.planes }
     requires across { x < right × right ≤ dir.now.width }
     requires down { y < dir.now.height }
     ensures start { (result.x ≡ x) × (result.y ≡ y) }
-    ensures lies { LiesSideBySide (shown dir.now) right result }
+    ensures lies { LiesSideBySide (plane_level (shown dir.now) plane) right result }
 {
     Piece {
-        at: place(dir, x, y),
+        at: place(dir, plane, x, y),
         x,
         y,
         n: row_rest(dir, x).min(right - x),
@@ -116,29 +169,31 @@ pub(crate) fn block_rows(dir: &Dir) -> u32
 }
 
 /// The row below row `above` of a rectangle of whole rows begins in the file where that one ends.
-fn row_follows(dir: &Dir, rect: Rect, above: u32) -> bool
+fn row_follows(dir: &Dir, plane: u32, rect: Rect, above: u32) -> bool
+    requires plane { plane < dir.now.planes }
     requires on { LiesOn dir.now.width dir.now.height rect }
     requires each { HasWholeRows (shown_shape dir.now) rect }
     requires below { above + 1 < rect.h }
-    ensures value { IsTrue result ↔ RowFollows (shown dir.now) rect above }
+    ensures value { IsTrue result ↔ RowFollows (plane_level (shown dir.now) plane) rect above }
 {
-    let end = place(dir, rect.x, rect.y + above) + u64::from(rect.w) * texel_bytes(dir);
-    place(dir, rect.x, rect.y + (above + 1)) == end
+    let end = place(dir, plane, rect.x, rect.y + above) + u64::from(rect.w) * texel_bytes(dir);
+    place(dir, plane, rect.x, rect.y + (above + 1)) == end
 }
 
 /// Each row of a rectangle of whole rows but the first begins in the file where the one above ends.
 ///
 /// Inside a strip or tile they do, so only the first row of each strip or tile is looked at.
-fn rows_follow(dir: &Dir, rect: Rect) -> bool
+fn rows_follow(dir: &Dir, plane: u32, rect: Rect) -> bool
+    requires plane { plane < dir.now.planes }
     requires on { LiesOn dir.now.width dir.now.height rect }
     requires each { HasWholeRows (shown_shape dir.now) rect }
-    ensures value { IsTrue result ↔ RowsFollow (shown dir.now) rect }
+    ensures value { IsTrue result ↔ RowsFollow (plane_level (shown dir.now) plane) rect }
 {
     let rows = block_rows(dir);
     // the first row of the next strip or tile
     let mut row = rows - rect.y % rows;
     'below: while row < rect.h {
-        if !row_follows(dir, rect, row - 1) {
+        if !row_follows(dir, plane, rect, row - 1) {
             return false;
         }
         row = row.saturating_add(rows);
@@ -147,15 +202,16 @@ fn rows_follow(dir: &Dir, rect: Rect) -> bool
 }
 
 /// Where the texels of a rectangle stand that is whole rows, one directly behind the other.
-pub(crate) fn whole_rows(dir: &Dir, rect: Rect) -> Option<u64>
+pub(crate) fn whole_rows(dir: &Dir, plane: u32, rect: Rect) -> Option<u64>
+    requires plane { plane < dir.now.planes }
     requires on { LiesOn dir.now.width dir.now.height rect }
     requires some { 1 ≤ rect.h }
-    ensures found { IsSome result ↔ AreWholeRows (shown dir.now) rect }
-    ensures place { IfSome result (StandsWhole (shown dir.now) rect) }
+    ensures found { IsSome result ↔ AreWholeRows (plane_level (shown dir.now) plane) rect }
+    ensures place { IfSome result (StandsWhole (plane_level (shown dir.now) plane) rect) }
 {
     let width = block_width(dir);
-    if rect.w == width && rect.x % width == 0 && rows_follow(dir, rect) {
-        Some(place(dir, rect.x, rect.y))
+    if rect.w == width && rect.x % width == 0 && rows_follow(dir, plane, rect) {
+        Some(place(dir, plane, rect.x, rect.y))
     } else {
         None
     }

@@ -12,3 +12,5 @@ pub mod ZeroTexels
 pub mod PieceEnds
 pub mod RectZeros
 pub mod ToldTiles
+pub mod Placing
+pub mod PlanarSamples

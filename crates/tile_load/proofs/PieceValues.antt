@@ -12,6 +12,7 @@ use Rattle.tiff_format.specs.Bytes.{IsPartAt}
 use Rattle.tiff_format.specs.Texel.{sample_in, sample_place}
 use Rattle.tiff_format.proofs.BytesOfParts.{number_of_part}
 use Rattle.tile_layout.specs.declared.piece.Piece.{Piece}
+use Rattle.tile_layout.proofs.PlaceLemmas.{bytes_by}
 use Rattle.tile_layout.specs.declared.texel_format.TexelFormat.{TexelFormat}
 use Rattle.tile_layout.specs.FormatOf.{IsFormatOf}
 use Rattle.tile_layout.specs.Pieces.{LiesSideBySide, row_texels}
@@ -58,7 +59,11 @@ module _ (big : Bool) (bytes : List ℕ) (level : Level) (format : TexelFormat)
       let there = number_of_part big size (size * k) at bytes span part
       (omega (arith, more, long)) in
       let place : at + size * k ≡ sample_place level (x_of j) (y_of j) c =
-      omega (arith, places j c j-below) in
+      omega (
+        arith,
+        places j c j-below
+            ∙ ap (λ (u : ℕ). at + j * u + c * size) (bytes_by level.shape is.one),
+      ) in
       ap (λ (d : ℕ). number_at format.big (sample_bytes d) span (sample_bytes d * k)) depth_is
       ∙ ap (λ (b : Bool). number_at b size span (size * k)) is.order
       ∙ there ∙ ap (number_at big size bytes) place

@@ -12,7 +12,7 @@ use Rattle.tile_layout.specs.WholeRows.{StandsWhole}
 use Rattle.tile_layout.specs.Pieces.{rect_texels}
 use Rattle.tile_layout.proofs.TexelLemmas.{length-rect_texels}
 use Rattle.tile_load.specs.declared.run.Run.{Run}
-use Rattle.tile_load.specs.Beyond.{IsAllBeyond, piece_end}
+use Rattle.tile_load.specs.Beyond.{IsPlaneBeyond, piece_end}
 use Rattle.tile_load.specs.Zeros.{AddsTexels, AddsZeros, LiesBeyond}
 use Rattle.tile_load.proofs.PieceEnds.{below_of_whole}
 use Rattle.tile_load.proofs.WholeRows.{some_columns, row_below}
@@ -26,7 +26,7 @@ pub below_of_run : (format : TexelFormat) (big : Bool) (level : Level) (rect : R
     → piece_end level (rect.x + rect.w) (rect.x + i) (rect.y + j) ≤ len
 below_of_run format big level rect run len is whole count low =
     let unit : format.texel_bytes ≡ texel_bytes level.shape =
-    rw (← is.channels, ← is.depth) format.in_range.bytes in
+    rw (is.one, ← is.channels, ← is.depth) format.in_range.bytes in
     below_of_whole level rect run.at len whole (rw (unit, count) at low)
 
 module _ (level : Level) (len : ℕ) (rect : Rect) where
@@ -45,7 +45,7 @@ module _ (level : Level) (len : ℕ) (rect : Rect) where
       (subst far (sym (texel_at_place rect i j (0, 0) across down)) beyond)
 
   -- each texel of it
-  pub rect_far : IsAllBeyond level len rect → All far (rect_texels rect)
+  pub rect_far : IsPlaneBeyond level len rect → All far (rect_texels rect)
   rect_far beyond =
       All-from_get_or far (rect_texels rect) (0, 0)
       (λ k below.

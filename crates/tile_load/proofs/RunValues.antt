@@ -11,6 +11,7 @@ use Rattle.std.proofs.Math.Nat.{mul-le-mul_left}
 use Rattle.tiff_format.specs.Block.{Level, sample_bytes, texel_bytes}
 use Rattle.tiff_format.specs.Texel.{sample_in}
 use Rattle.tile_layout.specs.FormatOf.{IsFormatOf}
+use Rattle.tile_layout.proofs.PlaceLemmas.{bytes_by}
 use Rattle.tile_load.specs.declared.run.Run.{Run}
 use Rattle.tile_layout.specs.declared.texel_format.TexelFormat.{TexelFormat}
 use Rattle.tile_load.specs.Run.{AppendsRun, AreValuesOf, AppendsValues, StandSideBySide}
@@ -53,7 +54,8 @@ module _ (bytes : List ℕ) (level : Level) (format : TexelFormat) (part : Run)
       let below : k * n + c < all =
       rw is.channels (omega (arith, mul-add-lt k n c part.texels k-below c-below)) in
       let long : length more.span ≡ sample_bytes level.shape.depth * (part.texels * n) =
-      more.long ∙ ap (λ (u : ℕ). part.texels * u) unit ∙ omega arith in
+      more.long ∙ ap (λ (u : ℕ). part.texels * u) (unit ∙ bytes_by level.shape is.one)
+      ∙ omega arith in
       ap (λ (l : List ℕ). slice_index l at) more.values
       ∙ get_or-append_right old added (length old) at 0 refl (omega (arith, place))
       ∙ get_or-map-range_with_len value 0 all (at - length old) (k * n + c) 0

@@ -28,6 +28,7 @@ depth_by depth depths = by_bits depth (eqb depth 8) (eqb depth 16) refl refl dep
 pub own_order : (big : Bool) (shape : LevelShape) (format : TexelFormat) → IsFormatOf big shape format
     → IsFormatOf format.big shape format
 own_order big shape format is = record {
+  one = is.one;
   depth = is.depth;
   order = refl;
   channels = is.channels;

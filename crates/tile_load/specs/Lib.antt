@@ -5,6 +5,7 @@ pub mod Samples
 pub mod RectRead
 pub mod Beyond
 pub mod Zeros
+pub mod Planes
 pub mod Load
 pub mod LoadError
 pub mod CellTile

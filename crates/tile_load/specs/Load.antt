@@ -6,7 +6,7 @@ use Rattle.file_table.specs.Record.{RecordState}
 use Rattle.tiff_format.specs.declared.cut.Cut.{Cut}
 use Rattle.tiff_format.specs.declared.rect.Rect.{Rect}
 use Rattle.tile_layout.specs.Key.{generation_of, file_of, level_of, index_of}
-use Rattle.tile_layout.specs.Kept.{Kept, kept_of, stored_count}
+use Rattle.tile_layout.specs.Kept.{Kept, kept_of, stored_count, level_in}
 use Rattle.tile_layout.specs.Cell.{cell_count, cut_level_in}
 use Rattle.tile_layout.specs.Pieces.{LiesOnLevel}
 
@@ -27,7 +27,8 @@ pub record NamesCell (handle : Named) (layout : Kept) (cut : Cut) (key : ℕ) : 
   pub stored : level_of key < stored_count layout
   pub index : index_of key < cell_count (cut_level_in layout cut (level_of key))
 
--- the rectangle is one of a stored level
-pub record IsPlace (layout : Kept) (level : ℕ) (rect : Rect) : Type 0 where
+-- the rectangle is one of a plane of a stored level
+pub record IsPlace (layout : Kept) (level plane : ℕ) (rect : Rect) : Type 0 where
   pub stored : level < stored_count layout
+  pub there : plane < (level_in layout level).shape.planes
   pub inside : LiesOnLevel layout level rect

@@ -25,6 +25,13 @@ AddsTexels beyond n (texel ∷ texels) old new =
 abbrev pub LiesBeyond : Level → ℕ → ℕ → ℕ × ℕ → Type 0
 LiesBeyond level right len texel = IsBeyond level right len texel.0 texel.1
 
+-- each sample of a piece of a plane that does not lie below the length is 0
+abbrev pub AreZerosBeyond : Level → ℕ → Rect → List ℕ → Type 0
+AreZerosBeyond level len rect samples = (i j c : ℕ) → i < rect.w → j < rect.h
+    → c < level.shape.channels
+    → IsBeyond level (rect.x + rect.w) len (rect.x + i) (rect.y + j)
+    → slice_index samples ((j * rect.w + i) * level.shape.channels + c) ≡ 0
+
 -- behind `old` stand the numbers of a rectangle, and each of a piece beyond the length is 0
 abbrev pub AddsZeros : Level → ℕ → Rect → List ℕ → List ℕ → Type 0
 AddsZeros level len rect old new = (i j c : ℕ) → i < rect.w → j < rect.h

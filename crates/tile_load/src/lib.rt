@@ -4,6 +4,7 @@
 mod load_error;
 mod loading;
 mod place;
+mod planes;
 mod reading;
 mod rect;
 mod rect_error;

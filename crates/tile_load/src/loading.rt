@@ -94,9 +94,12 @@ pub fn load_at<T: Tap>(
     let _levels = layout.levels(cut);
     let level = key.level();
     let rect = layout.cell_rect(level, cut, key.index());
+    // each stored level has a first plane
+    let _planes = layout.planes(level);
     let place = Place {
         layout,
         level,
+        plane: 0,
         rect,
     };
     match read_place(alloc, tap, handle, &place) {

@@ -3,11 +3,12 @@ ghost use Rattle.tile_load.specs.Load.{IsPlace};
 use tiff_format::Rect;
 use tile_layout::Layout;
 
-/// A rectangle of a stored level.
+/// A rectangle of a plane of a stored level.
 #[derive(Drop)]
 pub(crate) struct Place<'a> {
     pub(crate) layout: &'a Layout,
     pub(crate) level: u32,
+    pub(crate) plane: u32,
     pub(crate) rect: Rect,
-    ghost known: { IsPlace layout.now level rect },
+    ghost known: { IsPlace layout.now level plane rect },
 }

@@ -5,7 +5,7 @@ ghost use Rattle.std.specs.List.{All};
 ghost use Rattle.std.specs.Option.{ForSome};
 ghost use Rattle.std.specs.List.{flat_map};
 ghost use Rattle.tiff_format.specs.Block.{Level};
-ghost use Rattle.tile_layout.specs.Kept.{level_in};
+ghost use Rattle.tile_layout.specs.Plane.{plane_in};
 ghost use Rattle.tile_layout.specs.Pieces.{LiesSideBySide, row_texels, rect_texels};
 ghost use Rattle.tile_layout.specs.FormatOf.{IsFormatOf};
 ghost use Rattle.tile_layout.specs.Blocks.{HoldsBlocks};
@@ -13,7 +13,7 @@ ghost use Rattle.tile_load.specs.Samples.{samples_at};
 ghost use Rattle.tile_load.specs.Unpacked.{KeepsDepth};
 ghost use Rattle.tile_load.specs.Window.{AreWindows};
 ghost use Rattle.tile_load.specs.RectRead.{LeavesReader};
-ghost use Rattle.tile_load.specs.Beyond.{IsFilled, IsAllBeyond};
+ghost use Rattle.tile_load.specs.Beyond.{IsFilled, IsPlaneBeyond};
 ghost use Rattle.tile_load.specs.Zeros.{AddsTexel, AddsTexels, AddsZeros, LiesBeyond};
 
 use crate::place::Place;
@@ -225,32 +225,34 @@ impl Reading {
         place: &Place<'_>,
     ) -> Result<(), RectError<B::Error>>
         requires { IsFormatOf place.now.layout.now.big
-            (level_in place.now.layout.now place.now.level).shape format.now }
+            (plane_in place.now.layout.now place.now.level place.now.plane).shape format.now }
         ensures count { OnOk result (length self.new.values.items
             ≡ length self.old.values.items
             + place.now.rect.w * place.now.rect.h * format.now.channels) }
         ensures zeros { OnOk result (AddsZeros
-            (level_in place.now.layout.now place.now.level) (B.size reader.old) place.now.rect
+            (plane_in place.now.layout.now place.now.level place.now.plane) (B.size reader.old) place.now.rect
             self.old.values.items self.new.values.items) }
-        ensures unread { IsFilled place.now.rect → IsAllBeyond
-            (level_in place.now.layout.now place.now.level) (B.size reader.old) place.now.rect
+        ensures unread { IsFilled place.now.rect → IsPlaneBeyond
+            (plane_in place.now.layout.now place.now.level place.now.plane) (B.size reader.old) place.now.rect
             → reader.new ≡ reader.old }
         ensures low { OnOk result (KeepsDepth format.now
             self.old.values.items self.new.values.items) }
         ensures told { ForSome (B.bytes reader.old) (λ bytes.
             AreWindows bytes self.old.windows.items
-            → HoldsBlocks bytes (level_in place.now.layout.now place.now.level)
+            → HoldsBlocks bytes (plane_in place.now.layout.now place.now.level place.now.plane)
             → OnOk result (AreWindows bytes self.new.windows.items
             × (self.new.values.items ≡ self.old.values.items
             ++ flat_map (samples_at place.now.layout.now.big bytes
-            (level_in place.now.layout.now place.now.level))
+            (plane_in place.now.layout.now place.now.level place.now.plane))
             (rect_texels place.now.rect)))) }
         ensures reader { LeavesReader B.keeps B.refuses reader.old reader.new result }
     {
         match Run::of(place, format, reader.len()) {
             Some(run) => read_run(reader, format, &run, &mut self.values),
             None => {
-                let mut pieces = place.layout.pieces(place.level, place.rect);
+                let mut pieces = place
+                    .layout
+                    .plane_pieces(place.level, place.rect, place.plane);
                 self.read_pieces(reader, format, &mut pieces)
             }
         }

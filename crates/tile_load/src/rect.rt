@@ -12,19 +12,19 @@ ghost use Rattle.tile_load.specs.RectRead.{LeavesReader};
 ghost use Rattle.tile_load.specs.Beyond.{CountAsZero, IsFilled, IsAllBeyond};
 
 use crate::place::Place;
-use crate::reading::Reading;
+use crate::planes::{read_plane, read_planes};
 use crate::rect_error::RectError;
-use crate::rows::Rows;
 use std::alloc::Global;
 use tiff_dirs::ByteReader;
 use tiff_format::Rect;
 use tile_layout::Layout;
 
 /// The samples of a rectangle of a stored level, in the depth of the file: row by row, those of a
-/// texel side by side. A piece of a row that does not lie below the reader's length is not read,
-/// and its samples count as 0: over told bytes there is none.
+/// texel side by side. A piece of a row of a plane that does not lie below the reader's length is
+/// not read, and its samples count as 0: over told bytes there is none.
 ///
-/// Besides them it takes the bytes of a row and at most 256 KiB that are read ahead.
+/// Besides them it takes the bytes of a row and at most 256 KiB that are read ahead, and where the
+/// channels have planes of their own the samples of one.
 pub fn read_rect<B: ByteReader>(
     alloc: Global,
     reader: &mut B,
@@ -49,15 +49,16 @@ pub fn read_rect<B: ByteReader>(
         (level_in layout.now level).shape.channels rect samples.items)) }
     ensures reader { LeavesReader B.keeps B.refuses reader.old reader.new result }
 {
-    let format = layout.format(level);
-    let rows = Rows::of(layout, level, &format, rect.y.saturating_add(rect.h));
+    let planes = layout.planes(level);
     let place = Place {
         layout,
         level,
+        plane: 0,
         rect,
     };
-    let mut reading = Reading::new(alloc, rows);
-    reading.reserve(rect, format.channels)?;
-    reading.read_place(reader, &format, &place)?;
-    Ok(reading.values)
+    if planes == 1 {
+        read_plane(alloc, reader, &place)
+    } else {
+        read_planes(alloc, reader, &place)
+    }
 }

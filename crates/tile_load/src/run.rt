@@ -5,7 +5,7 @@ ghost use Rattle.std.specs.Prelude.{OnOk};
 ghost use Rattle.std.specs.Option.{ForSome};
 ghost use Rattle.tiff_format.specs.Block.{Level};
 ghost use Rattle.tile_layout.specs.FormatOf.{IsFormatOf};
-ghost use Rattle.tile_layout.specs.Kept.{level_in};
+ghost use Rattle.tile_layout.specs.Plane.{plane_in};
 ghost use Rattle.tile_layout.specs.WholeRows.{StandsWhole};
 ghost use Rattle.tile_load.specs.RectRead.{LeavesReader};
 ghost use Rattle.tile_load.specs.Run.{AppendsRun, AppendsValues, StandSideBySide};
@@ -35,11 +35,11 @@ impl Run {
     /// below a length of the file.
     pub(crate) fn of(place: &Place<'_>, format: &TexelFormat, len: u64) -> Option<Run>
         requires { IsFormatOf place.now.layout.now.big
-            (level_in place.now.layout.now place.now.level).shape format.now }
+            (plane_in place.now.layout.now place.now.level place.now.plane).shape format.now }
         ensures texels { IfSome result (λ run.
             run.texels ≡ place.now.rect.w * place.now.rect.h) }
         ensures whole { IfSome result (λ run. StandsWhole
-            (level_in place.now.layout.now place.now.level) place.now.rect run.at) }
+            (plane_in place.now.layout.now place.now.level place.now.plane) place.now.rect run.at) }
         ensures below { IfSome result (λ run.
             run.at + run.texels * format.now.texel_bytes ≤ len) }
     {
@@ -47,7 +47,7 @@ impl Run {
         if rect.h == 0 {
             return None;
         }
-        let at = place.layout.whole_rows(place.level, rect)?;
+        let at = place.layout.whole_rows(place.level, place.plane, rect)?;
         let texels = rect.w as usize * rect.h as usize;
         let span = Span {
             at,

@@ -1,3 +1,4 @@
 pub mod Stored
 pub mod Pixels
 pub mod Masks
+pub mod PlaneSamples

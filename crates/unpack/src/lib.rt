@@ -2,6 +2,8 @@
 #![tactic(auto)]
 
 mod passes;
+mod plane;
 mod unpacking;
 
+pub use plane::{unpack_plane, unpack_plane_as};
 pub use unpacking::{unpack, unpack_as};

@@ -56,7 +56,7 @@ pub fn invert_white(wide: bool, channels: usize, dst: &mut [u16])
 }
 
 /// The greatest value of a sample.
-fn greatest(wide: bool) -> u16
+pub fn greatest(wide: bool) -> u16
     ensures { result ≡ greatest_sample (depth_of wide) }
 {
     if wide { u16::MAX } else { u16::from(u8::MAX) }

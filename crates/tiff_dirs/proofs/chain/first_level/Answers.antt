@@ -8,7 +8,7 @@ use Rattle.tiff_dirs.specs.Shape.{seen_shape}
 use Rattle.tiff_dirs.specs.Entries.{IsDirectoryAt}
 use Rattle.tiff_dirs.specs.Numbers.{fields_fault}
 use Rattle.tiff_dirs.specs.ReadLevel.{IsLevelAt}
-use Rattle.tiff_dirs.proofs.Saying.{finds_err, finds_so, leaves_err}
+use Rattle.tiff_dirs.proofs.Saying.{finds_err, finds_so, leaves_err, leaves_more}
 use Rattle.tiff_dirs.proofs.Order.{directory_is}
 use Rattle.tiff_dirs.proofs.chain.first_level.Goals as goal
 
@@ -57,3 +57,10 @@ returns-in_err-shape-clause-reader g c =
     rw (p.1, p.2) (leaves_err LevelShape ReadLevel g.B.ByteReader.keeps g.B.ByteReader.refuses
     _ _ _ c.in_err-shape.field-0.0 g.met.B.ByteReader.lawful.chains
     c.in_ok-directory.ensures.reader c.in_err-shape.ensures.reader)
+
+pub returns-clause-reader : goal.returns-clause-reader
+returns-clause-reader g c =
+    let chains = g.met.B.ByteReader.lawful.chains in
+    leaves_more ReadLevel g.B.ByteReader.keeps g.B.ByteReader.refuses _ _ _ c.read_level.result
+    chains (chains _ _ _ c.in_ok-directory.ensures.reader c.in_ok-shape.ensures.reader)
+    c.read_level.ensures.reader

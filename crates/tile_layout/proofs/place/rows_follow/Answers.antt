@@ -3,6 +3,8 @@ use Rattle.std.proofs.lemmas.Bool.{cases_lt}
 use Rattle.std.proofs.lemmas.Nat.{mod_below}
 use Rattle.tiff_format.specs.Shown.{shown, shown_shape}
 use Rattle.tile_layout.specs.WholeRows.{block_rows, RowFollows}
+use Rattle.tile_layout.specs.Plane.{plane_level}
+use Rattle.tile_layout.proofs.PlaneBlocks.{each_of}
 use Rattle.tile_layout.proofs.BlockLemmas.{sound}
 use Rattle.tile_layout.proofs.WholeRowLemmas.{follows_in_block, next_block, block_behind}
 use Rattle.tile_layout.proofs.place.rows_follow.Goals as goal
@@ -20,7 +22,9 @@ below-init c =
           subst (λ (n : ℕ). (rect.y + (rows - rect.y % rows)) % n ≡ 0) is
           (next_block rect.y rows some);
       follow = λ j down on.
-          follows_in_block (shown dir) rect (sound dir) c.requires.on c.requires.each rect.y j j refl
+          follows_in_block (plane_level (shown dir) c.args.plane) rect
+          (sound dir c.args.plane c.requires.plane) c.requires.on
+          (each_of (shown_shape c.args.dir.now) c.args.plane c.args.rect c.requires.each) rect.y j j refl
           (subst (λ (n : ℕ). rect.y % n + (j + 1) < n) is (omega (arith, down)));
     }
 
@@ -47,10 +51,12 @@ below-preserved c =
             | inr ge ↦ elim (cases_lt j row) [
               | inl last ↦
                   let at : row - 1 ≡ j = omega (arith, ge, last) in
-                  subst (λ (k : ℕ). RowFollows (shown dir) rect k) at
+                  subst (λ (k : ℕ). RowFollows (plane_level (shown dir) c.args.plane) rect k) at
                   (c.row_follows.ensures.value.0 c.if-not-row_follows.false)
               | inr behind ↦
-                  follows_in_block (shown dir) rect (sound dir) c.requires.on c.requires.each
+                  follows_in_block (plane_level (shown dir) c.args.plane) rect
+                  (sound dir c.args.plane c.requires.plane) c.requires.on
+                  (each_of (shown_shape c.args.dir.now) c.args.plane c.args.rect c.requires.each)
                   (rect.y + row) (j - row) j (omega (arith, behind))
                   (omega (arith, first, down, next, is, behind))
             ]

@@ -1,13 +1,14 @@
 use Rattle.std.proofs.Common.{◌≡◌, ◌%◌, arith, subst, sym, ℕ}
 use Rattle.tiff_format.specs.Shown.{shown}
 use Rattle.tile_layout.specs.WholeRows.{AreWholeRows, StandsWhole}
+use Rattle.tile_layout.specs.Plane.{plane_level}
 use Rattle.tile_layout.proofs.BlockLemmas.{sound}
 use Rattle.tile_layout.proofs.WholeRowLemmas.{stands_whole}
 use Rattle.tile_layout.proofs.place.whole_rows.Goals as goal
 
 pub returns-then-rows_follow-clause-place : goal.returns-then-rows_follow-clause-place
 returns-then-rows_follow-clause-place c =
-    let level = shown c.args.dir.now in
+    let level = plane_level (shown c.args.dir.now) c.args.plane in
     let rect = c.args.rect in
     let whole : AreWholeRows level rect = record {
       each = record {
@@ -18,4 +19,5 @@ returns-then-rows_follow-clause-place c =
       rows = c.rows_follow.ensures.value.0 c.if-rows_follow.true;
     } in
     subst (λ (at : ℕ). StandsWhole level rect at) (sym c.place.ensures)
-    (stands_whole level rect (sound c.args.dir.now) c.requires.on whole.each c.requires.some whole)
+    (stands_whole level rect (sound c.args.dir.now c.args.plane c.requires.plane)
+    c.requires.on whole.each c.requires.some whole)

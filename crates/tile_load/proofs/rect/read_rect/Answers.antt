@@ -1,39 +1,26 @@
-use Rattle.std.proofs.Common.{◌≡◌, ◌*◌, ◌≤◌, length, ap, ◌∙◌, arith}
-use Rattle.std.proofs.lemmas.List.Elements.{All-nil}
-use Rattle.tiff_format.specs.Texel.{sample_in, greatest_sample}
+use Rattle.std.proofs.Common.{◌≡◌, ℕ, ◌<◌, Vec, Global, arith}
+use Rattle.tiff_format.specs.Texel.{sample_in}
 use Rattle.tile_layout.specs.Kept.{level_in}
-use Rattle.tile_layout.specs.Texel.{FitDepth}
-use Rattle.tile_load.proofs.RectValues.{are_texels}
+use Rattle.tile_layout.specs.Plane.{plane_level}
+use Rattle.tile_layout.specs.Texel.{AreTexelsOn}
+use Rattle.tile_layout.proofs.PlaneBlocks.{plane_held}
+use Rattle.tile_load.proofs.Leaves.{if_ok}
+use Rattle.tile_load.proofs.PlanarSamples.{alone_texels}
 use Rattle.tile_load.proofs.rect.read_rect.Goals as goal
 
-pub returns-clause-count : goal.returns-clause-count
-returns-clause-count g c =
-    let none : length c.reserve.new.self.values.items ≡ 0 =
-    ap length (c.reserve.ensures.values ∙ c.new-reading.ensures.values) in
-    let channels = c.format-format.ensures.value.channels in
-    omega (
-      arith,
-      c.in_ok-read_place.ensures.count,
-      none,
-      ap (λ n. c.args.rect.w * c.args.rect.h * n) channels,
-    )
-
-pub returns-clause-told : goal.returns-clause-told
-returns-clause-told g c = λ bytes told holds.
-    let big = c.args.layout.now.big in
+pub returns-then-planes-eq1-clause-told : goal.returns-then-planes-eq1-clause-told
+returns-then-planes-eq1-clause-told g c = λ bytes told holds.
     let level = level_in c.args.layout.now c.args.level in
-    let read = c.in_ok-read_place.ensures.told bytes told (rw (
-      c.reserve.ensures.windows,
-      c.new-reading.ensures.windows,
-    ) tt) holds in
-    let all = rw (c.reserve.ensures.values, c.new-reading.ensures.values) at read in
-    are_texels (sample_in big bytes level) level.shape.channels c.args.rect
-    c.read_place.new.self.values.items all.1
-
-pub returns-clause-low : goal.returns-clause-low
-returns-clause-low g c =
-    let depth = c.format-format.result.depth in
-    let none : FitDepth depth c.reserve.new.self.values.items =
-    rw (c.reserve.ensures.values, c.new-reading.ensures.values)
-    (All-nil (λ sample. sample ≤ greatest_sample depth)) in
-    rw c.format-format.ensures.depth at (c.in_ok-read_place.ensures.low none)
+    let alone = plane_level level 0 in
+    let big = c.args.layout.now.big in
+    let one : level.shape.planes ≡ 1 =
+    omega (arith, c.planes-planes.ensures.value, c.if-planes-eq1.true) in
+    let there : 0 < level.shape.planes = omega (arith, one) in
+    if_ok
+    (λ (samples : Vec ℕ Global). AreTexelsOn (sample_in big bytes alone) alone.shape.channels
+    c.args.rect samples.items)
+    (λ (samples : Vec ℕ Global). AreTexelsOn (sample_in big bytes level) level.shape.channels
+    c.args.rect samples.items)
+    c.read_plane.result
+    (λ samples are. alone_texels level c.args.rect samples.items one big bytes are)
+    (c.read_plane.ensures.told bytes told (plane_held level 0 bytes there holds))

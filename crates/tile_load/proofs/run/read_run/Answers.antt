@@ -72,7 +72,7 @@ parts-preserved g c =
             read.0,
             λ level x_of y_of is stand.
                 let unit : format.texel_bytes ≡ texel_bytes level.shape =
-                rw (← is.channels, ← is.depth) format.in_range.bytes in
+                rw (is.one, ← is.channels, ← is.depth) format.in_range.bytes in
                 appends_more bytes level c.args.format.now part x_of y_of c.parts.done
                 c.reserve.new.values.items c.parts.values.items c.read_part.new.values.items is unit
                 (part_stands level run part x_of y_of c.parts.done stand within

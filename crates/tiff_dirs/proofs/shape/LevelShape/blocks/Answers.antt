@@ -1,12 +1,13 @@
-use Rattle.std.proofs.Common.{arith}
+use Rattle.std.proofs.Common.{◌≤◌, arith}
+use Rattle.std.proofs.Math.Nat.{mul-le-mul}
+use Rattle.tiff_format.specs.Limits.{max_channels}
+use Rattle.tiff_format.proofs.Planes.{plane_count}
 use Rattle.tiff_dirs.proofs.shape.LevelShape.blocks.Goals as goal
 
-pub pieces-requires-in-Some-clause-piece : goal.pieces-requires-in-Some-clause-piece
-pieces-requires-in-Some-clause-piece c =
-    let sides = c.args.self.now.shape_in.tile (c.in-Some.width, c.in-Some.height) c.in-Some.is in
-    omega (arith, sides.0.low)
-
-pub pieces-requires-in-Some-2-clause-piece : goal.pieces-requires-in-Some-2-clause-piece
-pieces-requires-in-Some-2-clause-piece c =
-    let sides = c.args.self.now.shape_in.tile (c.in-Some.width, c.in-Some.height) c.in-Some.is in
-    omega (arith, sides.1.low)
+pub overflow_mul-result : goal.overflow_mul-result
+overflow_mul-result c =
+    let shape = c.args.self.now in
+    let planes = plane_count shape.channels shape.planes shape.shape_in.planes
+    shape.shape_in.channels in
+    let few : c.from.result ≤ max_channels = omega (arith, planes.1) in
+    omega (arith, mul-le-mul few c.plane_blocks.ensures.few)

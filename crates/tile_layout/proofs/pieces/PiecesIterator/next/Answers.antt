@@ -1,5 +1,6 @@
 use Rattle.std.proofs.Common.{arith}
 use Rattle.tiff_format.specs.Shown.{shown}
+use Rattle.tile_layout.specs.Plane.{plane_level}
 use Rattle.tile_layout.proofs.WalkLemmas.{goes_on, turns, progress}
 use Rattle.tile_layout.proofs.pieces.PiecesIterator.next.Goals as goal
 
@@ -7,7 +8,7 @@ pub returns-then-self-right-clause-steps : goal.returns-then-self-right-clause-s
 returns-then-self-right-clause-steps c =
     let a = c.self.inside in
     let piece = c.piece_at-piece in
-    rw (← c.self.view_is) (turns (shown a.dir.now) a.rect a.x a.y piece.result
+    rw (← c.self.view_is) (turns (plane_level (shown a.dir.now) a.plane) a.rect a.x a.y piece.result
     piece.ensures.start.0 piece.ensures.start.1 (omega arith) (omega arith) piece.ensures.lies
     c.if-self-right.true)
 
@@ -18,7 +19,7 @@ pub returns-else-self-right-clause-steps : goal.returns-else-self-right-clause-s
 returns-else-self-right-clause-steps c =
     let a = c.self.inside in
     let piece = c.piece_at-piece in
-    rw (← c.self.view_is) (goes_on (shown a.dir.now) a.rect a.x a.y piece.result
+    rw (← c.self.view_is) (goes_on (plane_level (shown a.dir.now) a.plane) a.rect a.x a.y piece.result
     piece.ensures.start.0 piece.ensures.start.1 (omega arith) (omega arith) piece.ensures.lies)
 
 pub returns-else-self-right-clause-goes : goal.returns-else-self-right-clause-goes

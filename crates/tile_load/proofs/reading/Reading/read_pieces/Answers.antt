@@ -31,7 +31,7 @@ values_taken values old mid new all left row rest parts so_far more =
 unit_of : (format : TexelFormat) (level : Level)
     → IsFormatOf format.big level.shape format
     → format.texel_bytes ≡ texel_bytes level.shape
-unit_of format level is = rw (← is.channels, ← is.depth) format.in_range.bytes
+unit_of format level is = rw (is.one, ← is.channels, ← is.depth) format.in_range.bytes
 
 pub pieces-init : goal.pieces-init
 pieces-init g c = record {

@@ -2,7 +2,7 @@ use Rattle.std.proofs.Common.{◌≡◌, ◌+◌, ◌*◌, length, ap, ◌∙◌
 use Rattle.std.specs.List.{All}
 use Rattle.tiff_format.specs.Block.{Level}
 use Rattle.tile_layout.specs.Blocks.{HoldsBlocks}
-use Rattle.tile_layout.specs.Kept.{level_in}
+use Rattle.tile_layout.specs.Plane.{plane_in}
 use Rattle.tile_layout.specs.Pieces.{Walk}
 use Rattle.tile_layout.proofs.TexelLemmas.{length-rect_texels}
 use Rattle.tile_load.proofs.SampleValues.{own_order}
@@ -22,7 +22,7 @@ returns-in-Some-clause-count g c =
 pub returns-in-Some-clause-told : goal.returns-in-Some-clause-told
 returns-in-Some-clause-told g c = λ bytes told windows holds.
     let place = c.args.place.now in
-    let level = level_in place.layout.now place.level in
+    let level = plane_in place.layout.now place.level place.plane in
     let format = c.args.format.now in
     let rect = place.rect in
     let run = c.in-Some.run' in
@@ -41,20 +41,20 @@ returns-in-Some-clause-told g c = λ bytes told windows holds.
 pub returns-in-None-clause-count : goal.returns-in-None-clause-count
 returns-in-None-clause-count g c =
     let rect = c.args.place.now.rect in
-    let texels : length c.pieces-pieces.result.texels ≡ rect.w * rect.h =
-    ap (λ (w : Walk). length w.texels) c.pieces-pieces.ensures.value ∙ length-rect_texels rect in
+    let texels : length c.plane_pieces-pieces.result.texels ≡ rect.w * rect.h =
+    ap (λ (w : Walk). length w.texels) c.plane_pieces-pieces.ensures.value ∙ length-rect_texels rect in
     let read : OnOk c.read_pieces.result (length c.read_pieces.new.self.values.items
     ≡ length c.args.self.now.values.items
-    + length c.pieces-pieces.result.texels * c.args.format.now.channels) =
+    + length c.plane_pieces-pieces.result.texels * c.args.format.now.channels) =
     c.read_pieces.ensures.count in
     rw texels at read
 
 pub returns-in-None-clause-told : goal.returns-in-None-clause-told
 returns-in-None-clause-told g c = λ bytes told windows holds.
     let place = c.args.place.now in
-    let level = level_in place.layout.now place.level in
+    let level = plane_in place.layout.now place.level place.plane in
     let format = own_order place.layout.now.big level.shape c.args.format.now c.requires in
-    let walk = c.pieces-pieces.ensures.value in
+    let walk = c.plane_pieces-pieces.ensures.value in
     let level_is = ap (λ (w : Walk). w.level) walk in
     let read = c.read_pieces.ensures.told bytes told windows (rw level_is format)
     (subst (λ (l : Level). HoldsBlocks bytes l) (sym level_is) holds) in
@@ -64,7 +64,7 @@ returns-in-None-clause-told g c = λ bytes told windows holds.
 pub returns-in-Some-clause-zeros : goal.returns-in-Some-clause-zeros
 returns-in-Some-clause-zeros g c =
     let place = c.args.place.now in
-    let level = level_in place.layout.now place.level in
+    let level = plane_in place.layout.now place.level place.plane in
     let len = g.B.ByteReader.size c.args.reader.now in
     let run = c.in-Some.run' in
     let low = below_of_run c.args.format.now place.layout.now.big level place.rect run len
@@ -77,7 +77,7 @@ returns-in-Some-clause-zeros g c =
 pub returns-in-Some-clause-unread : goal.returns-in-Some-clause-unread
 returns-in-Some-clause-unread g c = λ filled far.
     let place = c.args.place.now in
-    let level = level_in place.layout.now place.level in
+    let level = plane_in place.layout.now place.level place.plane in
     let len = g.B.ByteReader.size c.args.reader.now in
     let run = c.in-Some.run' in
     let low = below_of_run c.args.format.now place.layout.now.big level place.rect run len
@@ -88,9 +88,9 @@ returns-in-Some-clause-unread g c = λ filled far.
 pub returns-in-None-clause-zeros : goal.returns-in-None-clause-zeros
 returns-in-None-clause-zeros g c =
     let place = c.args.place.now in
-    let level = level_in place.layout.now place.level in
+    let level = plane_in place.layout.now place.level place.plane in
     let format = own_order place.layout.now.big level.shape c.args.format.now c.requires in
-    let walk = c.pieces-pieces.ensures.value in
+    let walk = c.plane_pieces-pieces.ensures.value in
     let level_is = ap (λ (w : Walk). w.level) walk in
     let read = c.read_pieces.ensures.zeros (rw level_is format) in
     let adds = rw walk at read in
@@ -102,10 +102,10 @@ returns-in-None-clause-zeros g c =
 pub returns-in-None-clause-unread : goal.returns-in-None-clause-unread
 returns-in-None-clause-unread g c = λ filled beyond.
     let place = c.args.place.now in
-    let level = level_in place.layout.now place.level in
+    let level = plane_in place.layout.now place.level place.plane in
     let len = g.B.ByteReader.size c.args.reader.now in
     let format = own_order place.layout.now.big level.shape c.args.format.now c.requires in
-    let walk = c.pieces-pieces.ensures.value in
+    let walk = c.plane_pieces-pieces.ensures.value in
     let level_is = ap (λ (w : Walk). w.level) walk in
     c.read_pieces.ensures.unread (rw level_is format)
     (subst (λ (w : Walk). All (LiesBeyond w.level w.right len) w.texels) (sym walk)

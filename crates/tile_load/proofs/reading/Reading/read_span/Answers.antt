@@ -3,6 +3,7 @@ use Rattle.std.specs.List.{range_with_len}
 use Rattle.std.proofs.lemmas.List.FromFn.{length-map-range_with_len}
 use Rattle.tiff_format.specs.Block.{sample_bytes, texel_bytes}
 use Rattle.tile_load.specs.Unpacked.{unpacked}
+use Rattle.tile_layout.proofs.PlaceLemmas.{bytes_by}
 use Rattle.tile_load.proofs.PieceValues.{piece_values}
 use Rattle.tile_load.proofs.Windows.{window_at, window_set}
 use Rattle.tile_load.proofs.reading.Reading.read_span.Goals as goal
@@ -21,12 +22,12 @@ returns-clause-told g c = λ bytes told level right windows is lies.
     let window = window_at bytes list c.args.k c.index_mut-window.result.now
     c.index_mut-window.result.now windows c.requires.there c.index_mut-window.ensures.value in
     let unit : format.texel_bytes ≡ texel_bytes level.shape =
-    rw (← is.channels, ← is.depth) format.in_range.bytes in
+    rw (is.one, ← is.channels, ← is.depth) format.in_range.bytes in
     let new = c.in_ok-fill.ensures.told bytes told window in
     let long : length span ≡ sample_bytes level.shape.depth * (piece.n * level.shape.channels) =
     c.piece.ensures.long ∙ c.span_of-span.ensures.size
     ∙ samples_of piece.n format.texel_bytes level.shape.channels (sample_bytes level.shape.depth)
-    unit in
+    (unit ∙ bytes_by level.shape is.one) in
     let values : ℕ → ℕ = unpacked c.args.format.now span in (
       window_set bytes list c.args.k c.fill.new.self windows new,
       c.in_ok-push_samples.ensures.values

@@ -1,0 +1,10 @@
+use Rattle.std.specs.Prelude.{not, nat_eq}
+use Rattle.unpack.specs.Plane.{plane_sample}
+use Rattle.unpack.proofs.PlaneSamples.{StandTo}
+use Rattle.unpack.proofs.plane.unpack_plane.Given as goal
+
+-- the samples so far stand at their places
+abbrev pub invariant-loop-k : goal.invariant-loop-k
+invariant-loop-k g l =
+    StandTo (plane_sample (not (nat_eq g.row.WIDE 0)) (not (nat_eq g.row.BIG 0)) l.flip l.src)
+    l.first g.row.STEP l.k l.initial.dst l.dst
