@@ -248,8 +248,9 @@ impl Layout {
     }
 
     /// Where the texels of a rectangle of a plane of a stored level stand side by side in the file,
-    /// row behind row. They do exactly where it is whole rows of one strip or tile, or of several that stand
-    /// one directly behind the other. It looks at each strip or tile once, and at no row of it.
+    /// row behind row. They do exactly where it is whole rows of one strip or tile, or of several
+    /// that stand one directly behind the other. It looks at each strip or tile once, and at no row
+    /// of it.
     pub fn whole_rows(&self, level: u32, plane: u32, rect: Rect) -> Option<u64>
         requires stored { level < stored_count self.now }
         requires plane { plane < (level_in self.now level).shape.planes }
