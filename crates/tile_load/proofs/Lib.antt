@@ -12,5 +12,7 @@ pub mod ZeroTexels
 pub mod PieceEnds
 pub mod RectZeros
 pub mod ToldTiles
+pub mod HalfSides
+pub mod PartRows
 pub mod Placing
 pub mod PlanarSamples

@@ -9,3 +9,7 @@ pub mod Planes
 pub mod Load
 pub mod LoadError
 pub mod CellTile
+pub mod Halving
+pub mod Quarters
+pub mod PartPlace
+pub mod Halved

@@ -1,10 +1,15 @@
 //! The one place that reads texels: a rectangle of a level, from the bytes of its file.
 #![tactic(auto)]
 
+mod halve_part;
+mod halving;
 mod load_error;
 mod loading;
+mod part_place;
+mod part_span;
 mod place;
 mod planes;
+mod quarters;
 mod reading;
 mod rect;
 mod rect_error;
@@ -14,6 +19,7 @@ mod samples;
 mod span;
 mod window;
 
+pub use halving::Halving;
 pub use load_error::LoadError;
 pub use loading::{load, load_at};
 pub use rect::read_rect;

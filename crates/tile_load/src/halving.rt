@@ -1,0 +1,165 @@
+//! A cell of a generated level, made of the cells of the level before.
+
+ghost use Rattle.std.specs.Prelude.{◌≡◌, ◌+◌, ◌*◌, ◌≤◌, ◌<◌, length, IfOk, IsOkAnd};
+ghost use Rattle.tile_layout.specs.Cell.{CellsFit};
+ghost use Rattle.tiff_format.specs.Cut.{IsCut};
+ghost use Rattle.tile_load.specs.CellTile.{IsCellTile};
+ghost use Rattle.tile_load.specs.Halving.{part_count, part_key, IsPartOf, NamesGenerated};
+ghost use Rattle.tile_load.specs.Halving.{halving_state};
+ghost use Rattle.tile_load.specs.PartPlace.{max_cell_samples};
+ghost use Rattle.tile_load.specs.Zeros.{AreZeros};
+ghost use Rattle.tile_store.specs.Told.{IsTold};
+
+use crate::halve_part::halve_part;
+use crate::part_place::PartPlace;
+use crate::part_span::PartSpan;
+use file_table::Record;
+use std::alloc::{AllocError, Global};
+use std::marker::{Model, PhantomData};
+use tex_world::{NoMemory, World};
+use tiff_format::{Cut, Rect};
+use tile_layout::{Grid, Layout, TileKey};
+use tile_store::Tile;
+
+/// The tile of a cell of a generated level while it is made: of up to four cells of the level
+/// before, its parts, which are added one after another in their order.
+///
+/// It borrows the layout of its file's record.
+#[derive(Drop)]
+pub struct Halving<'a, W: World> {
+    layout: &'a Layout,
+    cut: Cut,
+    key: TileKey,
+    /// How many parts were added.
+    done: u32,
+    /// How the level before is cut.
+    source: Grid,
+    /// The columns and the rows of cells of that level in which the parts are.
+    across: PartSpan,
+    down: PartSpan,
+    rect: Rect,
+    channels: u32,
+    samples: Vec<u16>,
+    world: PhantomData<W>,
+}
+
+impl<'a, W: World> Model for Halving<'a, W> {
+    ghost use Rattle.tile_load.specs.Halving.{HalvingState, halving_state};
+    ghost use Rattle.tile_load.specs.Halved.{IsHalving};
+
+    ghost Value = { HalvingState };
+
+    ghost view = { λ a. halving_state a.layout.now a.cut a.key a.done };
+
+    ghost invariant = { λ a. IsHalving W.files a.layout.now a.cut a.key a.done a.source a.across
+        a.down a.rect a.channels a.samples.items };
+}
+
+impl<'a, W: World> Halving<'a, W> {
+    /// The cell of a generated level of a record's file, of which no part was added. It takes the
+    /// memory of the whole tile.
+    pub fn new(
+        alloc: Global,
+        known: &'a Record<W>,
+        key: TileKey,
+        cut: Cut,
+    ) -> Result<Halving<'a, W>, NoMemory>
+        requires cut { IsCut cut }
+        requires cell { IsOkAnd known.now.layout (λ layout.
+            NamesGenerated known.now layout cut key) }
+        requires fits { IsOkAnd known.now.layout (λ layout. CellsFit layout cut) }
+        ensures ok { IsOkAnd known.now.layout (λ layout.
+            IfOk result (λ h. h ≡ halving_state layout cut key 0)) }
+    {
+        let Ok(layout) = known.layout() else {
+            unreachable!();
+        };
+        let _levels = layout.levels(cut);
+        let level = key.level();
+        let source = layout.grid(level - 1, cut);
+        let rect = layout.cell_rect(level, cut, key.index());
+        let channels = layout.channels();
+        let Ok(samples) = zeros(alloc, rect, channels) else {
+            return Err(NoMemory);
+        };
+        Ok(Halving {
+            layout,
+            cut,
+            key,
+            done: 0,
+            source,
+            across: PartSpan::of(&source.across, rect.x, rect.w),
+            down: PartSpan::of(&source.down, rect.y, rect.h),
+            rect,
+            channels,
+            samples,
+            world: PhantomData,
+        })
+    }
+
+    /// How many parts the cell has.
+    pub fn parts(&self) -> u32
+        ensures value { result ≡ part_count self.now.layout self.now.cut self.now.key }
+        ensures in_range { 1 ≤ result × result ≤ 4 }
+    {
+        self.across.count * self.down.count
+    }
+
+    /// The key of part k. The parts are numbered row by row.
+    pub fn part(&self, k: u32) -> TileKey
+        requires { k < part_count self.now.layout self.now.cut self.now.key }
+        ensures value { result ≡ part_key self.now.layout self.now.cut self.now.key k }
+        ensures part { IsPartOf self.now.layout self.now.cut self.now.key result }
+    {
+        let column = self.across.first + k % self.across.count;
+        let row = self.down.first + k / self.across.count;
+        let index = self.source.index(column, row);
+        TileKey::new(
+            self.key.generation(),
+            self.key.file(),
+            self.key.level() - 1,
+            index,
+        )
+    }
+
+    /// Adds the tile of the next part.
+    pub fn add(&mut self, tile: &Tile<W>)
+        requires next { self.old.done < part_count self.old.layout self.old.cut self.old.key }
+        requires tile { IsCellTile self.old.layout self.old.cut
+            (part_key self.old.layout self.old.cut self.old.key self.old.done) tile.now }
+        ensures { self.new ≡ halving_state self.old.layout self.old.cut self.old.key
+            (self.old.done + 1) }
+    {
+        // where the world tells, the part's samples are those of its level
+        let _told = tile.key();
+        let place = PartPlace {
+            part: tile.rect(),
+            cell: self.rect,
+            channels: self.channels,
+        };
+        halve_part(tile, &place, &mut self.samples);
+        self.done += 1;
+    }
+
+    /// The tile, once all parts were added.
+    pub fn finish(self) -> Tile<W>
+        requires done { self.done ≡ part_count self.layout self.cut self.key }
+        ensures tile { IsCellTile self.entry.layout self.entry.cut self.entry.key result }
+        ensures told { IsTold W.files result }
+    {
+        Tile::new(self.key, self.rect, self.channels, self.samples)
+    }
+}
+
+/// So many samples of 0 for each texel of a rectangle.
+fn zeros(alloc: Global, rect: Rect, channels: u32) -> Result<Vec<u16>, AllocError>
+    requires { rect.w * rect.h * channels ≤ max_cell_samples }
+    ensures count { IfOk result (λ samples.
+        length samples.items ≡ rect.w * rect.h * channels) }
+    ensures zeros { IfOk result (λ samples. AreZeros samples.items) }
+{
+    let count = rect.w as usize * rect.h as usize * channels as usize;
+    let mut samples = Vec::with_capacity(alloc, count)?;
+    samples.resize(count, 0)?;
+    Ok(samples)
+}
