@@ -6,6 +6,7 @@ use Rattle.std.proofs.lemmas.Bool.{cases_lt}
 use Rattle.std.proofs.lemmas.Nat.{div-mul-add, mod_below, div-add-mod'}
 use Rattle.tiff_format.specs.Block.{pieces_over}
 use Rattle.tiff_format.specs.Level.{halved}
+use Rattle.tiff_format.specs.Limits.{max_side}
 use Rattle.tile_layout.specs.Cell.{clipped}
 use Rattle.tile_layout.specs.Texel.{clamped}
 use Rattle.tile_layout.proofs.BlockLemmas.{piece_below}
@@ -36,11 +37,11 @@ in_cell place cell some =
 pub source_at : (side x : ℕ) → 1 ≤ side → x < halved side → clamped side (2 * x) ≡ 2 * x
 source_at side x some below = omega arith
 
--- and where both are in a part of the side that begins at an even place
-pub source_in : (side m w i e : ℕ) → 1 ≤ w → m + w ≤ side → m % 2 ≡ 0 → (w ≡ 1 → side ≡ 1)
-    → i < halved w → e ≤ 1
-    → clamped side (2 * (m / 2 + i) + e) ≡ m + clamped w (2 * i + e)
-source_in side m w i e some inside even whole below low = elim (cases_lt 1 w) [
+-- where both sources are in a part of the side that begins at an even place
+source_in : (side m w i e x : ℕ) → 1 ≤ w → m + w ≤ side → m % 2 ≡ 0 → (w ≡ 1 → side ≡ 1)
+    → i < halved w → e ≤ 1 → x ≡ m / 2 + i
+    → clamped side (2 * x + e) ≡ m + clamped w (2 * i + e)
+source_in side m w i e x some inside even whole below low is = elim (cases_lt 1 w) [
   | inl wide ↦ omega arith
   | inr narrow ↦
       let one : w ≡ 1 = omega arith in
@@ -59,6 +60,15 @@ module _ (side cell from n : ℕ) (is : IsHalfCell side cell from n) where
 
   inside : from + n ≤ halved side
   inside = let long = is.long in let some = is.some_n in omega arith
+
+  pub within_side : from + n ≤ side
+  within_side = let some = is.some in omega (arith, inside)
+
+  pub cell_ends : from + n ≤ max_side
+  cell_ends =
+      let high = is.high in
+      let some = is.some in
+      omega (arith, inside)
 
   -- where a source of the cell lies
   source_is : (x : ℕ) → x < from + n
@@ -149,8 +159,7 @@ module _ (side cell from n : ℕ) (is : IsHalfCell side cell from n) where
         let both = source_is (from + n - 1) (omega arith) in
         let behind = no_longer first p cell low in
         let before = no_longer p last cell up_to_last in
-        let next = no_longer p (first + 1) cell (omega (arith, up_to_last, last_high)) in
-        (
+        let next = no_longer p (first + 1) cell (omega (arith, up_to_last, last_high)) in (
           omega (arith, behind, first_is),
           omega (arith, next, first_is),
           omega (arith, before, both.0),
@@ -221,6 +230,16 @@ module _ (side cell from n : ℕ) (is : IsHalfCell side cell from n) where
         let all = inside in
         let before = below_side in
         omega arith
+
+    -- the sources of a place that is made of the part
+    pub sources : (i x : ℕ) → i < halved w → x ≡ m / 2 + i
+        → (clamped side (2 * x) ≡ m + clamped w (2 * i))
+        × (clamped side (2 * x + 1) ≡ m + clamped w (2 * i + 1))
+    sources i x below at =
+        let one : 1 ≤ 1 = omega arith in
+        let none : 0 ≤ 1 = omega arith in
+        let first = source_in side m w i 0 x some_wide ends even narrow below none at in
+        (omega (arith, first), source_in side m w i 1 x some_wide ends even narrow below one at)
 
   -- ---- the part of a place
 

@@ -13,6 +13,7 @@ use Rattle.file_table.specs.Record.{RecordState, IsRecord, layout_of}
 use Rattle.tile_store.specs.Tile.{CachedTile}
 use Rattle.tile_load.specs.Load.{IsLayoutOf, IsReadBy, NamesCell}
 use Rattle.tile_load.specs.CellTile.{IsCellTile}
+use Rattle.tile_load.specs.Halving.{NamesGenerated}
 use Rattle.tile_load.specs.declared.load_error.LoadError.{LoadError}
 
 -- where a fault, or none, gives a layout there is none, and the layout is the one that is kept
@@ -22,7 +23,7 @@ without_fault : (fault : Option TiffFault) (known : Result Kept TiffFault) (layo
 without_fault None known layout kept is same = (refl, cc)
 without_fault (Some fault) known layout kept is same = absurd (cc (is, same))
 
-layout_given : (bytes : List ℕ) (known : Result Kept TiffFault) (layout : Kept)
+pub layout_given : (bytes : List ℕ) (known : Result Kept TiffFault) (layout : Kept)
     → known ≡ Ok layout → known ≡ layout_of bytes → IsLayoutOf bytes layout
 layout_given bytes known layout is same =
     let both = without_fault (first_fault bytes) known layout (kept_of bytes) is same in
@@ -49,6 +50,11 @@ module _ (state : RecordState) (layout : Kept) (is : state.layout ≡ Ok layout)
 
   pub cells_fit : (cut : Cut) → IsOkAnd state.layout (λ l. CellsFit l cut) → CellsFit layout cut
   cells_fit cut fit = subst (λ k. IsOkAnd k (λ l. CellsFit l cut)) is fit
+
+  pub names_generated : (cut : Cut) (key : ℕ)
+      → IsOkAnd state.layout (λ l. NamesGenerated state l cut key) → NamesGenerated state layout cut key
+  names_generated cut key cell =
+      subst (λ k. IsOkAnd k (λ l. NamesGenerated state l cut key)) is cell
 
   pub is_cell_tile : (cut : Cut) (key : ℕ) (result : Result CachedTile LoadError)
       → IfOk result (IsCellTile layout cut key)

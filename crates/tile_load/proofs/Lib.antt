@@ -14,5 +14,9 @@ pub mod RectZeros
 pub mod ToldTiles
 pub mod HalfSides
 pub mod PartRows
+pub mod CellParts
+pub mod HalfTexels
+pub mod HalfMade
+pub mod GeneratedCells
 pub mod Placing
 pub mod PlanarSamples

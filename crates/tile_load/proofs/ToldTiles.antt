@@ -14,7 +14,7 @@ use Rattle.tile_store.specs.Tile.{cached_tile}
 use Rattle.tile_store.specs.Told.{IsTold, IsOfBytes}
 use Rattle.tile_load.specs.Load.{IsLayoutOf, NamesCell}
 
-some_told : (held : Option (List ℕ)) (P : List ℕ → Type 0) → IsSome held → ForSome held P
+pub some_told : (held : Option (List ℕ)) (P : List ℕ → Type 0) → IsSome held → ForSome held P
     → IsSomeAnd held P
 some_told None P there all = absurd (cc there)
 some_told (Some bytes) P there all = all bytes refl

@@ -27,7 +27,12 @@ fn write_row(rows: &TwoRows<'_>, place: &PartPlace, start: usize, samples: &mut 
 {
     let channels = place.channels as usize;
     let size = place.columns() as usize * channels;
-    halve_row(rows, place.part.w as usize, channels, &mut samples[start..start + size]);
+    halve_row(
+        rows,
+        place.part.w as usize,
+        channels,
+        &mut samples[start..start + size],
+    );
 }
 
 /// Writes row j of half of a part.

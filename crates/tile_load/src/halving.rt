@@ -74,7 +74,10 @@ impl<'a, W: World> Halving<'a, W> {
         let Ok(layout) = known.layout() else {
             unreachable!();
         };
+        // a file stores a level, and a key is one of a generation
+        let _stored = layout.stored();
         let _levels = layout.levels(cut);
+        let _generation = key.generation();
         let level = key.level();
         let source = layout.grid(level - 1, cut);
         let rect = layout.cell_rect(level, cut, key.index());

@@ -14,14 +14,14 @@ loop-i-preserved c =
     record {
       long = omega (arith, c.halve_texel.ensures.long, c.loop-i.invariant.long);
       each = λ i k below channel. elim (cases_lt i done) [
-            | inl before ↦
-                let at : i * n + k < done * n =
-                omega (arith, mul-add-lt i n k done before channel) in
-                c.halve_texel.ensures.before (i * n + k) at
-                ∙ c.loop-i.invariant.each i k before channel
-            | inr behind ↦
-                let is : done ≡ i = omega arith in
-                subst (λ (i : ℕ). row_sample n out i k ≡ row_average n top bottom (2 * i) (2 * i + 1) k)
-                is (c.halve_texel.ensures.each k channel)
-          ];
+        | inl before ↦
+            let at : i * n + k < done * n =
+            omega (arith, mul-add-lt i n k done before channel) in
+            c.halve_texel.ensures.before (i * n + k) at
+            ∙ c.loop-i.invariant.each i k before channel
+        | inr behind ↦
+            let is : done ≡ i = omega arith in
+            subst (λ (i : ℕ). row_sample n out i k ≡ row_average n top bottom (2 * i) (2 * i + 1) k)
+            is (c.halve_texel.ensures.each k channel)
+      ];
     }
