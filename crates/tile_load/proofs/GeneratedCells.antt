@@ -1,7 +1,7 @@
 -- What is known of a cell of a generated level, and of the fields of one that is begun.
-use Rattle.std.proofs.Common.{◌≡◌, ℕ, zero, suc, ◌+◌, ◌-◌, ◌*◌, ◌/◌, ◌%◌, ◌<◌, ◌≤◌, min, Bool}
+use Rattle.std.proofs.Common.{◌≡◌, ℕ, suc, ◌-◌, ◌*◌, ◌/◌, ◌%◌, ◌<◌, ◌≤◌, min, Bool}
 use Rattle.std.proofs.Common.{true, false, cond, ◌&&◌, List, refl, sym, ap, ◌∙◌, subst, arith, inl}
-use Rattle.std.proofs.Common.{inr, IsOkAnd, Ok}
+use Rattle.std.proofs.Common.{inr, Ok}
 use Rattle.std.proofs.lemmas.Bool.{cases_lt, lt-ltb, le-ltb, eqb-true}
 use Rattle.std.specs.Prelude.{if◌then◌else◌, nat_lt}
 use Rattle.tiff_format.specs.Block.{LevelShape}
@@ -16,8 +16,8 @@ use Rattle.tile_layout.specs.Cell.{CutLevel, cell_count, cell_rect, cells_across
 use Rattle.tile_layout.specs.Cell.{pattern_shape, cell_width_by, cell_height_by}
 use Rattle.tile_layout.specs.CutSide.{IsCellSide, max_cells}
 use Rattle.tile_layout.specs.Grid.{shown_grid}
-use Rattle.tile_layout.specs.Kept.{Kept, kept_of, stored_count, level_in}
-use Rattle.tile_layout.specs.Key.{generation_of, file_of, level_of, index_of, IsKey}
+use Rattle.tile_layout.specs.Kept.{Kept, stored_count, level_in}
+use Rattle.tile_layout.specs.Key.{level_of, index_of, IsKey}
 use Rattle.tile_layout.specs.Level.{side_in, width_in, height_in, level_count_in}
 use Rattle.tile_layout.proofs.GridLemmas.{few_cells}
 use Rattle.tile_layout.proofs.LevelLemmas.{side_halved}
@@ -25,8 +25,7 @@ use Rattle.tile_store.specs.Told.{ToldBy}
 use Rattle.tile_load.specs.declared.part_span.PartSpan.{PartSpan}
 use Rattle.tile_load.specs.Halving.{NamesGenerated, level_cut, source_cut, rect_of, source_cell}
 use Rattle.tile_load.specs.Halving.{source_cells}
-use Rattle.tile_load.specs.Halved.{IsHalfCell, IsHalvedKey, IsHalfMade, AreSpans}
-use Rattle.tile_load.specs.Load.{IsLayoutOf}
+use Rattle.tile_load.specs.Halved.{IsHalvedKey, IsHalfMade, AreSpans}
 use Rattle.tile_load.specs.Zeros.{AreZeros}
 use Rattle.tile_load.proofs.HalfMade.{none_made}
 use Rattle.tile_load.proofs.KnownLayouts.{layout_given}

@@ -1,5 +1,5 @@
 -- A cell of which some parts were added: one more, all, and none.
-use Rattle.std.proofs.Common.{◌≡◌, ℕ, ◌+◌, ◌-◌, ◌*◌, ◌/◌, ◌<◌, ◌≤◌, List, length, slice_index}
+use Rattle.std.proofs.Common.{◌≡◌, ℕ, ◌+◌, ◌-◌, ◌*◌, ◌<◌, ◌≤◌, List, length}
 use Rattle.std.proofs.Common.{Option, None, Some, IsSomeAnd, sym, ap, ◌∙◌, subst, arith, inl, inr}
 use Rattle.std.proofs.lemmas.Bool.{cases_lt}
 use Rattle.std.proofs.lemmas.List.Elements.{All-get_or, All-from_get_or}
@@ -12,10 +12,10 @@ use Rattle.tile_layout.specs.Cell.{channels_in, bit_depth_of}
 use Rattle.tile_layout.specs.Kept.{Kept, kept_of, stored_count}
 use Rattle.tile_layout.specs.Key.{generation_of, file_of, level_of}
 use Rattle.tile_layout.specs.Level.{width_in, height_in}
-use Rattle.tile_layout.specs.Texel.{texel_at, quarter, AreTexelsOn, FitDepth}
+use Rattle.tile_layout.specs.Texel.{texel_at, quarter, AreTexelsOn}
 use Rattle.tile_store.specs.Tile.{CachedTile, cached_tile}
 use Rattle.tile_store.specs.Told.{ToldBy, IsTold, IsOfBytes}
-use Rattle.tile_load.specs.Halving.{source_cut, rect_of, part_count, part_key}
+use Rattle.tile_load.specs.Halving.{rect_of, part_count, part_key}
 use Rattle.tile_load.specs.Halved.{IsHalvedKey, IsHalfMade, part_at}
 use Rattle.tile_load.specs.PartPlace.{HalvesRows, max_cell_samples, sample_on}
 use Rattle.tile_load.specs.Zeros.{AreZeros}

@@ -1,19 +1,13 @@
 -- The samples of a cell of a generated level, by those of its parts.
 use Rattle.std.proofs.Common.{◌≡◌, ℕ, zero, suc, ◌+◌, ◌-◌, ◌*◌, ◌/◌, ◌%◌, ◌<◌, ◌≤◌, List, length}
-use Rattle.std.proofs.Common.{get_or, slice_index, refl, sym, ap, ◌∙◌, subst, arith, inl, inr}
+use Rattle.std.proofs.Common.{slice_index, refl, sym, ap, ◌∙◌, subst, arith, inl, inr}
 use Rattle.std.proofs.lemmas.Bool.{cases_lt, le-ltb}
-use Rattle.std.proofs.lemmas.List.Elements.{All-get_or, All-from_get_or}
 use Rattle.std.proofs.lemmas.Nat.{mul-add-lt, div-add-mod', mod_below, div_below}
 use Rattle.tiff_format.specs.Level.{halved}
-use Rattle.tiff_format.specs.Texel.{greatest_sample}
-use Rattle.tiff_format.specs.declared.cut.Cut.{Cut}
 use Rattle.tiff_format.specs.declared.rect.Rect.{Rect}
-use Rattle.tile_layout.specs.Cell.{channels_in, bit_depth_of}
-use Rattle.tile_layout.specs.Kept.{Kept, kept_of, stored_count}
-use Rattle.tile_layout.specs.Key.{level_of}
+use Rattle.tile_layout.specs.Kept.{Kept, stored_count}
 use Rattle.tile_layout.specs.Level.{width_in, height_in}
-use Rattle.tile_layout.specs.Texel.{texel_in, texel_at, average, clamped, quarter, FitDepth}
-use Rattle.tile_layout.specs.Texel.{AreTexelsOn}
+use Rattle.tile_layout.specs.Texel.{texel_in, average, clamped, quarter}
 use Rattle.tile_load.specs.PartPlace.{IsPartPlace, HalvesRows, left_of, top_of, sample_on}
 
 -- ---- a generated texel

@@ -1,4 +1,5 @@
--- Of which cells is a cell of a generated level made? (docs/FORMAT.md, "Levels" and "Cells")
+-- Of which cells is a cell of a generated level made? (docs/FORMAT.md, "The texels of generated
+-- levels" and "Cells")
 -- Its parts are the cells of the level before that hold a texel from which one of the cell is made.
 -- They lie side by side, one or two across and down, and are numbered row by row from 0.
 use Rattle.std.specs.Prelude.{◌≡◌, ℕ, ◌+◌, ◌-◌, ◌*◌, ◌/◌, ◌%◌, ◌<◌, ◌≤◌}

@@ -1,5 +1,5 @@
 -- Which samples has a row of texels that is half of two rows?
-use Rattle.std.specs.Prelude.{ℕ, ◌+◌, ◌*◌, ◌<◌, ◌≡◌, List, slice_index}
+use Rattle.std.specs.Prelude.{ℕ, ◌+◌, ◌*◌, ◌≡◌, List, slice_index}
 use Rattle.tile_layout.specs.Texel.{average, clamped}
 
 -- sample c of texel i of a row, with n samples of each

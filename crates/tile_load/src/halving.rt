@@ -130,7 +130,7 @@ impl<'a, W: World> Halving<'a, W> {
         requires next { self.old.done < part_count self.old.layout self.old.cut self.old.key }
         requires tile { IsCellTile self.old.layout self.old.cut
             (part_key self.old.layout self.old.cut self.old.key self.old.done) tile.now }
-        ensures { self.new ≡ halving_state self.old.layout self.old.cut self.old.key
+        ensures added { self.new ≡ halving_state self.old.layout self.old.cut self.old.key
             (self.old.done + 1) }
     {
         // where the world tells, the part's samples are those of its level

@@ -4,11 +4,9 @@ use Rattle.std.proofs.Math.Seq.{take-append_seam}
 use Rattle.tiff_format.specs.Level.{halved}
 use Rattle.tiff_format.specs.declared.rect.Rect.{Rect}
 use Rattle.tile_layout.specs.Cell.{channels_in}
-use Rattle.tile_store.specs.Tile.{cached_tile, IsTile}
-use Rattle.tile_store.specs.Told.{ToldBy, IsTold}
 use Rattle.tile_load.specs.CellTile.{IsCellTile}
 use Rattle.tile_load.specs.Halving.{HalvingState, rect_of, part_count, part_key}
-use Rattle.tile_load.specs.Halved.{IsHalving, IsHalfMade}
+use Rattle.tile_load.specs.Halved.{IsHalving}
 use Rattle.tile_load.specs.PartPlace.{IsPartPlace, HalvesRows, max_cell_samples}
 use Rattle.tile_load.proofs.CellParts.{count_high, part_rect, part_rect_is, part_place}
 use Rattle.tile_load.proofs.HalfMade.{told_more}

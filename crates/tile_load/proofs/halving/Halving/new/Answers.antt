@@ -1,13 +1,10 @@
-use Rattle.std.proofs.Common.{◌≡◌, ℕ, ◌+◌, ◌-◌, ◌*◌, ◌<◌, ◌≤◌, length, IsOkAnd, sym, ap, ◌∙◌, subst}
+use Rattle.std.proofs.Common.{◌-◌, ◌≤◌, sym, subst}
 use Rattle.std.proofs.Common.{arith}
 use Rattle.tiff_format.specs.declared.rect.Rect.{Rect}
-use Rattle.tile_layout.specs.Cell.{CutLevel, cell_rect, cut_level_in, rect_bytes, max_cell_bytes}
-use Rattle.tile_layout.specs.Grid.{shown_grid}
+use Rattle.tile_layout.specs.Cell.{rect_bytes, max_cell_bytes}
 use Rattle.tile_layout.specs.Kept.{stored_count}
 use Rattle.tile_layout.specs.Key.{level_of, index_of}
-use Rattle.tile_store.specs.Tile.{cached_tile, IsTile}
-use Rattle.tile_load.specs.Halving.{NamesGenerated, source_cut, rect_of}
-use Rattle.tile_load.specs.Halved.{IsHalvedKey}
+use Rattle.tile_load.specs.Halving.{rect_of}
 use Rattle.tile_load.proofs.CellParts.{grid_across, grid_down}
 use Rattle.tile_load.proofs.GeneratedCells.{level_some, begun, told_begun, spans_are}
 use Rattle.tile_load.proofs.KnownLayouts.{cells_fit, names_generated}

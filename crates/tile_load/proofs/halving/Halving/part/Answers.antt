@@ -1,6 +1,6 @@
-use Rattle.std.proofs.Common.{◌≡◌, ℕ, ◌<◌, sym, ap, ◌∙◌, subst, arith}
+use Rattle.std.proofs.Common.{◌≡◌, ◌<◌, sym, ap, ◌∙◌, subst, arith}
 use Rattle.tile_layout.specs.Grid.{shown_grid}
-use Rattle.tile_load.specs.Halving.{HalvingState, source_cut, part_count, part_index, part_key}
+use Rattle.tile_load.specs.Halving.{HalvingState, source_cut, part_count, part_key}
 use Rattle.tile_load.specs.Halving.{IsPartOf}
 use Rattle.tile_load.proofs.CellParts.{columns_low, column_is, row_is, part_fits, is_part}
 use Rattle.tile_load.proofs.CellParts.{span_column, span_row, span_index, grid_columns, grid_rows}

@@ -1,6 +1,6 @@
-use Rattle.std.proofs.Common.{◌≡◌, ℕ, ◌*◌, ap, ◌∙◌, arith}
-use Rattle.tile_load.specs.Halving.{HalvingState, part_columns, part_count}
-use Rattle.tile_load.proofs.CellParts.{columns_high, rows_high, count_low, count_high}
+use Rattle.std.proofs.Common.{ap, ◌∙◌, arith}
+use Rattle.tile_load.specs.Halving.{HalvingState, part_count}
+use Rattle.tile_load.proofs.CellParts.{count_low, count_high}
 use Rattle.tile_load.proofs.CellParts.{spans_count}
 use Rattle.tile_load.proofs.halving.Halving.parts.Goals as goal
 
