@@ -1,2 +1,3 @@
 mod TableLemmas
 mod PlanLemmas
+pub mod SampleLemmas

@@ -13,12 +13,12 @@ use Rattle.tex_world.specs.declared.mem_folder.MemFolder.{MemFolder}
 
 module _ (count : ℕ) (name : ℕ → List ℕ) where
   module _ {A : Type 0} where
-    few_files : count ≤ max_files → (o : Option A) → size_once_entered count o ≤ max_files
+    pub few_files : count ≤ max_files → (o : Option A) → size_once_entered count o ≤ max_files
     few_files few None = omega arith
     few_files few (Some path) = few
 
     -- The number of a name is that of a file with this name, and there is one only once entered.
-    numbered : (o : Option A) (wanted : List ℕ)
+    pub numbered : (o : Option A) (wanted : List ℕ)
         → ForSome (number_in (names_once_entered count name o) wanted)
         (λ n. (n < size_once_entered count o) × (name n ≡ wanted))
     numbered None wanted n found = absurd (cc found)
@@ -28,13 +28,13 @@ module _ (count : ℕ) (name : ℕ → List ℕ) where
         (low, sym (get_or-table_names count name n low) ∙ at.1)
 
     -- Before, no name has a number.
-    unnumbered : (o : Option A) → o ≡ None → (wanted : List ℕ)
+    pub unnumbered : (o : Option A) → o ≡ None → (wanted : List ℕ)
         → number_in (names_once_entered count name o) wanted ≡ None
     unnumbered None none wanted = refl
     unnumbered (Some path) none wanted = absurd (cc none)
 
     -- Once entered, a name without a number is that of no file.
-    unnamed : (o : Option A) → IsSome o → (wanted : List ℕ)
+    pub unnamed : (o : Option A) → IsSome o → (wanted : List ℕ)
         → number_in (names_once_entered count name o) wanted ≡ None
         → (n : ℕ) → n < count → name n ≢ wanted
     unnamed None entered wanted none n low same = absurd (cc entered)

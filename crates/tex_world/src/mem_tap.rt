@@ -208,7 +208,7 @@ impl<T: FileTable> Tap for MemTap<T> {
 }
 
 // Fills the buffer with the bytes of the handle from a place on.
-fn fill<T: FileTable>(h: &MemHandle<T>, at: u64, buf: &mut [u8])
+pub(crate) fn fill<T: FileTable>(h: &MemHandle<T>, at: u64, buf: &mut [u8])
     requires { at + length buf.old ≤ h.now.len }
     ensures { (k : ℕ) → k < length buf.new →
         slice_index buf.new k ≡ T.byte_of h.now.file h.now.generation (at + k) }

@@ -1,0 +1,118 @@
+-- Which names and which bytes have the sample files? Each is a TIFF of one directory.
+-- Files of an even number are little-endian: RGB of 8 bits in strips of 16 rows. Those of an odd
+-- number are big-endian: one channel of 16 bits in tiles of 64 by 64. Their headers are given as
+-- numbers of two bytes each, in the byte order of the file.
+use Rattle.std.specs.Prelude.{ℕ, ◌+◌, ◌-◌, ◌*◌, ◌/◌, ◌%◌, ◌==◌, ◌||◌, Bool, nat_lt, codes}
+use Rattle.std.specs.Prelude.{if◌then◌else◌, List, [], ◌∷◌, slice_index, Option, Some, None}
+use Rattle.tex_world.specs.declared.sample_files.TheConstants.{STRIPS, TILES}
+
+-- how many there are
+abbrev pub sample_count : ℕ
+sample_count = 8
+
+-- in the order of their numbers
+abbrev pub sample_names : List (List ℕ)
+sample_names =
+    codes "sample0.tif" ∷ codes "sample1.tif" ∷ codes "sample2.tif" ∷ codes "sample3.tif"
+    ∷ codes "sample4.tif" ∷ codes "sample5.tif" ∷ codes "sample6.tif" ∷ codes "sample7.tif" ∷ []
+
+-- the texels of a row; there are 192 rows
+abbrev pub sample_width : ℕ → ℕ
+sample_width n = 256 + 32 * n
+
+-- ---- files of strips
+
+-- the bytes of a strip: 16 rows of three samples a texel
+abbrev pub strip_size : ℕ → ℕ
+strip_size n = 48 * sample_width n
+
+-- two bytes of a number of four: its lower half, or its upper half
+abbrev pub half_of : Bool → ℕ → ℕ
+half_of lower value = if lower then value % 65536 else value / 65536
+
+-- number j of the header of a file of strips: its width, the other entries, three BitsPerSample,
+-- twelve StripOffsets, lower half first, and twelve StripByteCounts
+unfoldable pub strips_word : ℕ → ℕ → ℕ
+strips_word n j =
+    if j == 9 then sample_width n
+    else if nat_lt j 61 then slice_index STRIPS j
+    else if nat_lt j 64 then 8
+    else if nat_lt j 88 then half_of (j % 2 == 0) (200 + strip_size n * ((j - 64) / 2))
+    else strip_size n
+
+-- sample c of texel (x, y) of a file of strips
+abbrev pub strips_sample : ℕ → ℕ → ℕ → ℕ → ℕ
+strips_sample n x y c = (7 * x + 13 * y + 29 * c + n) % 256
+
+-- the byte at a place behind its header, where row stands behind row
+unfoldable pub strips_byte : ℕ → ℕ → ℕ
+strips_byte n k =
+    let row = 3 * sample_width n in
+    strips_sample n (k % row / 3) (k / row) (k % row % 3)
+
+-- ---- files of tiles
+
+-- the tiles of a row of tiles; there are three rows
+abbrev pub tiles_across : ℕ → ℕ
+tiles_across n = (sample_width n + 63) / 64
+
+abbrev pub tile_count : ℕ → ℕ
+tile_count n = 3 * tiles_across n
+
+-- where the first tile begins
+abbrev pub first_tile : ℕ → ℕ
+first_tile n = 146 + 6 * tile_count n
+
+-- number j of the header of a file of tiles: its width, two counts, the place of TileByteCounts,
+-- the other entries, the TileOffsets, upper half first, and the TileByteCounts
+unfoldable pub tiles_word : ℕ → ℕ → ℕ
+tiles_word n j =
+    if j == 9 then sample_width n
+    else if (j == 62) || (j == 68) then tile_count n
+    else if j == 70 then 146 + 4 * tile_count n
+    else if nat_lt j 73 then slice_index TILES j
+    else if nat_lt j (73 + 2 * tile_count n)
+    then half_of (j % 2 == 0) (first_tile n + 8192 * ((j - 73) / 2))
+    else 8192
+
+-- the sample of texel (x, y) of a file of tiles, 0 beside the picture
+abbrev pub tiles_sample : ℕ → ℕ → ℕ → ℕ
+tiles_sample n x y = if nat_lt x (sample_width n) then (x * y + 257 * n) % 65536 else 0
+
+-- sample k of its tiles, which are numbered row by row
+unfoldable pub tiles_number : ℕ → ℕ → ℕ
+tiles_number n k =
+    let tile = k / 4096 in
+    tiles_sample n (64 * (tile % tiles_across n) + k % 64)
+    (64 * (tile / tiles_across n) + k % 4096 / 64)
+
+-- ---- the files
+
+-- byte `at` of numbers of two bytes, lowest or highest byte first
+abbrev pub byte_of_word : Bool → ℕ → ℕ
+byte_of_word lower word = if lower then word % 256 else word / 256
+
+-- the bytes of a file
+abbrev pub sample_len : ℕ → ℕ
+sample_len n =
+    if n % 2 == 0 then 200 + 12 * strip_size n else first_tile n + 8192 * tile_count n
+
+-- in generation 1 alone
+abbrev pub sample_len_of : ℕ → ℕ → Option ℕ
+sample_len_of n g = if g == 1 then Some (sample_len n) else None
+
+-- the byte at a place of a file of strips
+abbrev pub byte_of_strips : ℕ → ℕ → ℕ
+byte_of_strips n at =
+    if nat_lt at 200 then byte_of_word (at % 2 == 0) (strips_word n (at / 2))
+    else strips_byte n (at - 200)
+
+-- and of a file of tiles
+abbrev pub byte_of_tiles : ℕ → ℕ → ℕ
+byte_of_tiles n at =
+    byte_of_word (at % 2 == 1)
+    (if nat_lt at (first_tile n) then tiles_word n (at / 2)
+    else tiles_number n ((at - first_tile n) / 2))
+
+abbrev pub sample_byte : ℕ → ℕ → ℕ
+sample_byte n at = if n % 2 == 0 then byte_of_strips n at else byte_of_tiles n at

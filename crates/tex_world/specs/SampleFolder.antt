@@ -1,0 +1,35 @@
+-- What are the counts of the folder of the sample files and of its taps? They never fail, and their
+-- files never change, so their faults and moves are 0 whatever was called.
+use Rattle.std.specs.Prelude.{false, string_bytes, option_map}
+use Rattle.tex_world.specs.Folder.{FolderState}
+use Rattle.tex_world.specs.MemFolder.{size_once_entered, names_once_entered}
+use Rattle.tex_world.specs.Number.{number_in}
+use Rattle.tex_world.specs.Sample.{sample_count, sample_names}
+use Rattle.tex_world.specs.Names.{name_at}
+use Rattle.tex_world.specs.Tap.{TapState}
+use Rattle.tex_world.specs.declared.sample_folder.SampleFolder.{SampleFolder}
+use Rattle.tex_world.specs.declared.sample_tap.SampleTap.{SampleTap}
+
+-- those of a tap, and its latest answer of a newest generation
+abbrev pub sample_tap : SampleTap → TapState
+sample_tap tap = record {
+  faults = 0;
+  calls = tap.calls;
+  opens = tap.opens;
+  asks = tap.asks;
+  moves = 0;
+  newest = tap.newest;
+}
+
+-- those of the folder, which has all of the files once it is entered, and none before
+abbrev pub sample_folder : SampleFolder → FolderState
+sample_folder folder = record {
+  faults = 0;
+  moves = 0;
+  made = folder.made;
+  returned = folder.returned;
+  over = false;
+  entered = option_map string_bytes folder.entered;
+  size = size_once_entered sample_count folder.entered;
+  number_of = number_in (names_once_entered sample_count (name_at sample_names) folder.entered);
+}

@@ -1,0 +1,92 @@
+//! A folder of sample files.
+ghost use Rattle.std.specs.Prelude.{◌≡◌, IfOk, IfErr, IsOk};
+ghost use Rattle.tex_world.specs.Tap.{IsNew};
+ghost use Rattle.tex_world.specs.Folder.{IsNewFolder, EnterCause, AfterEnter, AfterTap, AfterBack};
+ghost use Rattle.tex_world.specs.SampleFolder.{sample_tap, sample_folder};
+ghost use Rattle.tex_world.specs.SampleLaws.{sample_is_lawful};
+
+use crate::fault::{EnterError, NoMemory};
+use crate::folder::Folder;
+use crate::sample_files::SampleFiles;
+use crate::sample_tap::SampleTap;
+use crate::table::{FileTable, TableWorld, number_of};
+use crate::world::World;
+use std::alloc::Global;
+
+/// A folder with the sample files, under any path. Its world tells their bytes. No call of it or of
+/// its taps fails, and none of its files changes; only memory for the path can be wanting.
+#[derive(Debug, Drop)]
+pub struct SampleFolder {
+    entered: Option<String>,
+    made: u64,
+    returned: u64,
+}
+
+impl SampleFolder {
+    /// A folder that is not entered.
+    pub fn new() -> SampleFolder
+        ensures { IsNewFolder (sample_folder result) }
+    {
+        SampleFolder {
+            entered: None,
+            made: 0,
+            returned: 0,
+        }
+    }
+}
+
+impl Folder for SampleFolder {
+    type W = TableWorld<SampleFiles>;
+
+    type Tap = SampleTap;
+
+    ghost state = { sample_folder };
+
+    /// It keeps the path, which takes memory.
+    fn enter(&mut self, alloc: Global, path: &str) -> Result<(), EnterError>
+        ensures cause { IfErr result (EnterCause ⟦<TableWorld<SampleFiles> as World>⟧.files
+            (sample_folder self.old) (sample_folder self.new)) }
+        ensures after { AfterEnter path.now (sample_folder self.old) (sample_folder self.new)
+            result }
+        ensures err { IfErr result (λ e. e ≡ EnterError.NoMemory) }
+    {
+        self.entered = None;
+        match String::from_str(alloc, path) {
+            Ok(kept) => {
+                self.entered = Some(kept);
+                Ok(())
+            }
+            Err(_) => Err(EnterError::NoMemory),
+        }
+    }
+
+    fn count(&self) -> u32 {
+        match &self.entered {
+            Some(_) => SampleFiles::count(),
+            None => 0,
+        }
+    }
+
+    fn find(&self, name: &str) -> Option<u32> {
+        match &self.entered {
+            Some(_) => number_of::<SampleFiles>(name),
+            None => None,
+        }
+    }
+
+    /// It takes no memory.
+    fn tap(&mut self, _alloc: Global) -> Result<SampleTap, NoMemory>
+        ensures new { IfOk result (λ t. IsNew (sample_tap t)) }
+        ensures after { AfterTap (sample_folder self.old) (sample_folder self.new) result }
+        ensures answers { IsOk result }
+    {
+        self.made = self.made.saturating_add(1);
+        Ok(SampleTap::new())
+    }
+
+    fn back(&mut self, _tap: SampleTap) {
+        self.returned = self.returned.saturating_add(1);
+    }
+
+    ghost lawful = { sample_is_lawful };
+}
