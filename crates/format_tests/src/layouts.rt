@@ -169,7 +169,7 @@ fn is_format(format: &TexelFormat, row: &SamplesRow) -> bool {
 
 /// The format of level 0 tells the samples of a row.
 fn has_format(layout: &Layout, row: &SamplesRow) -> bool {
-    layout.stored() > 0 && is_format(&layout.format(0, 0), row)
+    layout.stored() > 0 && layout.planes(0) > 0 && is_format(&layout.format(0, 0), row)
 }
 
 #[test]
