@@ -1,6 +1,7 @@
 -- Which generation has a file whose stamp is looked at?
 use Rattle.std.specs.Prelude.{◌≡◌, ℕ, ◌+◌, ◌*◌, ◌/◌, ◌%◌, ◌^◌, ◌==◌, nat_lt, ◌&&◌, Bool}
 use Rattle.std.specs.Prelude.{Option, Some, None, if◌then◌else◌}
+use Rattle.std.specs.Option.{option_and_then}
 use Rattle.tex_world.specs.World.{last_generation}
 
 -- how many stamps there are
@@ -47,3 +48,12 @@ settled_word word stamp =
     if is_of_stamp word stamp then Some word
     else (if word_generation word == last_generation then None
     else Some ((word_generation word + 1) * stamps + stamp))
+
+-- The generation of a file with this stamp, once its word was to be exchanged for the one that keeps
+-- it. Where the word that stood there is the one that was looked at, it is that of the word after the
+-- look. Else another was first, and it is that of the word which that one left, if it tells one.
+abbrev pub generation_after : ℕ → ℕ → ℕ → Option ℕ
+generation_after loaded found stamp =
+    if found == loaded
+    then option_and_then (λ word. generation_by word stamp) (settled_word loaded stamp)
+    else generation_by found stamp

@@ -13,6 +13,7 @@ mod world;
 
 pub use folder::RealFolder;
 pub use handle::RealHandle;
+pub use stamp::generation_after;
 pub use stream::{RealFeed, RealSink};
 pub use tap::RealTap;
 pub use world::RealWorld;

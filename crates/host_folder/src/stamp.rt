@@ -4,6 +4,7 @@ ghost use Rattle.std.specs.Prelude.{◌≡◌, ◌↔◌, ◌+◌, ◌*◌, ◌%
 ghost use Rattle.std.specs.Fs.{metadata_len, file_type, IsFile};
 ghost use Rattle.host_folder.specs.Stamp.{stamps, nanos_end, HasStamp, stamp_of_file};
 ghost use Rattle.host_folder.specs.Stamp.{word_generation, settled_word, generation_by};
+ghost use Rattle.host_folder.specs.Stamp as spec;
 ghost use Rattle.tex_world.specs.World.{last_generation};
 
 use std::fs::Metadata;
@@ -95,5 +96,21 @@ pub fn generation_of(word: u64, stamp: u64) -> Option<u32>
         Some(generation)
     } else {
         None
+    }
+}
+
+/// The generation of a file with this stamp, after its word was to be exchanged for the one that keeps
+/// it: `loaded` was looked at before, and `found` stood there in the exchange. Where they are the same
+/// it is that of the word which stands there then. Where another tap was first it is that of the word
+/// which it left, if it is of the same stamp.
+pub fn generation_after(loaded: u64, found: u64, stamp: u64) -> Option<u32>
+    requires { stamp < stamps }
+    ensures value { result ≡ spec.generation_after loaded found stamp }
+    ensures real { IfSome result (λ g. (1 ≤ g) × (g ≤ last_generation)) }
+{
+    if found == loaded {
+        generation_of(settled(loaded, stamp)?, stamp)
+    } else {
+        generation_of(found, stamp)
     }
 }

@@ -8,7 +8,7 @@ ghost use Rattle.host_folder.specs.Stamp.{stamps};
 
 use crate::handle::RealHandle;
 use crate::listing::Listing;
-use crate::stamp::{Look, generation_of, look_of, settled};
+use crate::stamp::{Look, generation_after, look_of, settled};
 use crate::world::RealWorld;
 use std::alloc::Global;
 use std::fs;
@@ -178,20 +178,20 @@ impl<R: Files<File = File>> RealTap<R> {
 }
 
 /// The generation of a file with this stamp, by its word: that of the word as it was loaded where the
-/// stamp is as it was, else the next one, which the word is to keep. Where another tap was first, that
-/// of the word which it left, if it is of the same stamp.
+/// stamp is as it was, else the next one, which the word is to keep. It waits for no other tap.
 fn settle_word(word: &AtomicU64, loaded: u64, stamp: u64) -> Option<u32>
     requires { stamp < stamps }
     ensures { IfSome result (λ g. (1 ≤ g) × (g ≤ last_generation)) }
 {
     let wanted = settled(loaded, stamp)?;
     if wanted == loaded {
-        return generation_of(loaded, stamp);
+        return generation_after(loaded, loaded, stamp);
     }
-    match word.compare_exchange(loaded, wanted, Ordering::SeqCst, Ordering::SeqCst) {
-        Ok(_) => generation_of(wanted, stamp),
-        Err(found) => generation_of(found, stamp),
-    }
+    let found = match word.compare_exchange(loaded, wanted, Ordering::SeqCst, Ordering::SeqCst) {
+        Ok(_) => loaded,
+        Err(found) => found,
+    };
+    generation_after(loaded, found, stamp)
 }
 
 /// Whether an open file is the one that was seen.

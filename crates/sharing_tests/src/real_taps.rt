@@ -2,7 +2,7 @@
 ghost use Rattle.std.specs.Prelude.{ℕ, ◌<◌};
 ghost use Rattle.tex_world.specs.World.{IsFile};
 
-use host_folder::RealFolder;
+use host_folder::{RealFolder, generation_after};
 use std::alloc::Global;
 use std::test::Fail;
 use std::thread::Threads;
@@ -108,6 +108,47 @@ fn taps_of_a_folder_see_one_generation(rt: HostRuntime) -> Result<(), Fail> {
     let taps = taps_of(RealFolder::new(&rt), rt.alloc(), "twice")?;
     let wrong = wrong_row(&rt, taps)?;
     assert!(rt; wrong.is_none(), "{wrong:?}");
+    Ok(())
+}
+
+/// One more than the greatest stamp: a word keeps a stamp in its lowest 44 bits.
+const STAMPS: u64 = 1 << 44;
+
+// A word that keeps a generation beside its stamp.
+fn word(generation: u64, stamp: u64) -> u64 {
+    generation.wrapping_mul(STAMPS).wrapping_add(stamp)
+}
+
+// What another tap leaves in a word while one asks: the generation and the stamp of the word that was
+// looked at, those of the word that stood there in the exchange, the stamp of the file, and its
+// generation, 0 where the call fails.
+static EXCHANGES: &[((u64, u64), (u64, u64), u64, u32)] = &[
+    // the stamp is as it was
+    ((3, 7), (3, 7), 7, 3),
+    // the exchange is won
+    ((0, 0), (0, 0), 5, 1),
+    ((0, 0), (0, 0), 0, 1),
+    ((3, 7), (3, 7), 8, 4),
+    ((1048574, 7), (1048574, 7), 8, 1048575),
+    ((1048575, 7), (1048575, 7), 8, 0),
+    // another tap was first, with the same stamp
+    ((3, 7), (4, 8), 8, 4),
+    ((3, 7), (9, 8), 8, 9),
+    ((0, 0), (1, 0), 0, 1),
+    ((1048574, 7), (1048575, 8), 8, 1048575),
+    // another was, with another stamp
+    ((3, 7), (4, 9), 8, 0),
+    ((0, 0), (1, 6), 5, 0),
+    ((3, 7), (5, 7), 8, 0),
+];
+
+#[test]
+fn what_follows_an_exchange(rt: HostRuntime) -> Result<(), Fail> {
+    for (row, (loaded, found, stamp, wanted)) in EXCHANGES.iter().enumerate() {
+        let (loaded, found) = (word(loaded.0, loaded.1), word(found.0, found.1));
+        let answer = generation_after(loaded, found, *stamp % STAMPS).unwrap_or(0);
+        assert!(rt; answer == *wanted, "row {row}: {answer}");
+    }
     Ok(())
 }
 
