@@ -2,6 +2,7 @@ mod CellLemmas
 pub mod TexelLemmas
 mod NeedLemmas
 mod FillLemmas
+mod MakingLemmas
 pub mod SquareLemmas
 mod VisitLemmas
 mod AskLemmas

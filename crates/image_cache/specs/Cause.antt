@@ -46,6 +46,11 @@ FetchCause files r new tap_old tap_new refused.NoMemory = ⊤
 FetchCause files r new tap_old tap_new (refused.Busy b) = ⊤
 FetchCause files r new tap_old tap_new _ = ⊥
 
+-- the cause may stand anywhere: memory was wanting, or the waiter gave up
+abbrev pub GivesUp : {B : Type 0} → CacheError B → Type 0
+GivesUp e = (files : Files) → (r : RecordState) → (new : ViewState)
+    → (tap_old tap_new : TapState) → FetchCause files r new tap_old tap_new e
+
 -- ---- of a file that is opened
 
 -- Why a file is not opened. A newer generation was met than one that is at least what the pass had

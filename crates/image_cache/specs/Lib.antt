@@ -6,6 +6,7 @@ pub mod Pass
 pub mod Texel
 pub mod Facts
 pub mod Call
+pub mod Making
 pub mod Square
 pub mod Invalid
 pub mod Cause

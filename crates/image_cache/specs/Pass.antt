@@ -1,6 +1,6 @@
 -- What is known of a cache and of its passes, and what does each call leave of a pass?
 use Rattle.std.specs.Prelude.{◌≡◌, ℕ, ◌+◌, ◌-◌, ◌^◌, ◌≤◌, min, max, []}
-use Rattle.std.specs.Prelude.{Option, None, IfSome, slice_index, false}
+use Rattle.std.specs.Prelude.{Option, None, IfSome, slice_index}
 use Rattle.std.specs.Option.{option_map}
 use Rattle.std.specs.declared.sync.Arc.{Arc}
 use Rattle.std.specs.Arc.{arc_value}
@@ -67,11 +67,10 @@ pub record IsPassOf (cache : CacheState) (pass : PassState) : Type 0 where
   pub cut : pass.pinned.cut ≡ cache.gate.cut
 
 -- What holds of every cache: its files and its tiles are under one cut, and there are not too many
--- files. Until levels are generated a cache is made without automip.
+-- files.
 pub record IsCache (cache : CacheState) : Type 0 where
   pub cut : cache.files.cut ≡ cache.gate.cut
   pub few : cache.files.board.files ≤ max_files
-  pub stored : cache.gate.cut.automip ≡ false
   pub side : IsCut cache.gate.cut
 
 -- ---- counts

@@ -1,5 +1,5 @@
 //! The cache.
-ghost use Rattle.std.specs.Prelude.{◌≡◌, ◌<◌, ◌≤◌, false, [], None, length, IfOk, IfErr, OnOk, OnErr};
+ghost use Rattle.std.specs.Prelude.{◌≡◌, ◌<◌, ◌≤◌, [], None, length, IfOk, IfErr, OnOk, OnErr};
 ghost use Rattle.tex_world.specs.World.{max_files};
 ghost use Rattle.tile_store.specs.Tag.{tag_of};
 ghost use Rattle.shard_gate.specs.Given.{AtShard, Counts};
@@ -30,17 +30,20 @@ pub struct Cache<T: Tap> {
     pub(crate) files: Files<T>,
     pub(crate) gate: Gate<T::W>,
     pub(crate) cut: Cut,
+    shards: u32,
 }
 
 impl<T: Tap> Model for Cache<T> {
-    ghost use Rattle.std.specs.Prelude.{◌≡◌};
+    ghost use Rattle.std.specs.Prelude.{◌≡◌, length};
     ghost use Rattle.image_cache.specs.Pass.{CacheState, cache_state, IsCache};
 
     ghost Value = { CacheState };
 
     ghost view = { λ c. cache_state c.files c.gate };
 
-    ghost invariant = { λ c. IsCache (cache_state c.files c.gate) × (c.cut ≡ c.gate.cut) };
+    ghost invariant = { λ c.
+        (IsCache (cache_state c.files c.gate) × (c.shards ≡ length c.gate.id))
+        × (c.cut ≡ c.gate.cut) };
 }
 
 impl<T: Tap> Cache<T> {
@@ -51,7 +54,6 @@ impl<T: Tap> Cache<T> {
         files: u32,
     ) -> Result<(Cache<T>, Pass<T::W>), NewError>
         requires files { files ≤ max_files }
-        requires stored { options.cut.automip ≡ false }
         ensures cache { IfOk result (λ made. IsNewCache options files made.0) }
         ensures pass { IfOk result (λ made. IsFirstPass made.0 made.1) }
         ensures good { OnOk result (first_bad options ≡ None) }
@@ -69,6 +71,13 @@ impl<T: Tap> Cache<T> {
         ensures { result ≡ self.now.gate.cut }
     {
         self.cut
+    }
+
+    /// How many shards its tiles lie in.
+    pub fn shards(&self) -> u32
+        ensures { result ≡ length self.now.gate.id }
+    {
+        self.shards
     }
 
     /// What a shard has. It takes no memory.
@@ -191,7 +200,6 @@ fn made<T: Tap>(
 ) -> Result<(Cache<T>, Pass<T::W>), NoMemory>
     requires options { first_bad options ≡ None }
     requires files { files ≤ max_files }
-    requires stored { options.cut.automip ≡ false }
     ensures cache { IfOk result (λ made. IsNewCache options files made.0) }
     ensures pass { IfOk result (λ made. IsFirstPass made.0 made.1) }
 {
@@ -205,6 +213,7 @@ fn made<T: Tap>(
         files,
         gate,
         cut,
+        shards: options.shards,
     };
     Ok((cache, Pass::of(view, pinned)))
 }

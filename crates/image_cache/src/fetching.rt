@@ -17,6 +17,7 @@ ghost use Rattle.image_cache.specs.Texel.{has_cell_at};
 ghost use Rattle.texel_values.specs.Values.{AreValuesAt};
 ghost use Rattle.image_cache.specs.Call.{CountsNeed, AsksForCellAt, TurnsToCellAt, MovesCellAt};
 ghost use Rattle.image_cache.specs.Call.{AfterNeed, HasNoCall, MissesCellAt};
+ghost use Rattle.image_cache.specs.Making.{AfterMaking};
 ghost use Rattle.image_cache.specs.Call.{LeavesNoHand, KeepsAllButRecent, NoneFalls, AnswersWarm};
 ghost use Rattle.image_cache.specs.Cause.{FetchCause};
 
@@ -238,7 +239,7 @@ impl<T: Tap> Cache<T> {
     /// The tile of a cell that is needed. None where it stands first in the microcache then.
     ///
     /// Over a world that does not tell, a shard may have another tile of the cell's key. It is not
-    /// read, and one that is loaded apart is answered.
+    /// read, and one that is made apart is answered.
     pub(crate) fn need_tile<V: Waiter>(
         &self,
         waiter: &V,
@@ -276,12 +277,12 @@ impl<T: Tap> Cache<T> {
         if pass.pinned.is_latest(cell) {
             return Ok(None);
         }
-        let apart = self.load_apart(waiter, pass, tap, known, cell)?;
+        let apart = self.make_apart(waiter, pass, tap, known, cell)?;
         Ok(Some(apart))
     }
 
-    /// The tile of a cell, loaded for one need alone.
-    fn load_apart<V: Waiter>(
+    /// The tile of a cell, made for one need alone.
+    fn make_apart<V: Waiter>(
         &self,
         waiter: &V,
         pass: &mut Pass<T::W>,
@@ -298,11 +299,14 @@ impl<T: Tap> Cache<T> {
             (T.state tap.old) (T.state tap.new)) }
         ensures tap { NoneFalls (T.state tap.old) (T.state tap.new) }
         // What the call leaves of the pass.
-        ensures pinned { pass.new.pinned ≡ pass.old.pinned }
-        ensures counts { SameCounts pass.old pass.new }
-        ensures same { AfterNeed known.now.file pass.old pass.new }
+        ensures hand { LeavesNoHand V.Busy pass.old pass.new }
+        ensures same { AfterMaking self.now.gate known.now.file pass.old pass.new }
     {
-        self.load_cell(waiter, &mut pass.view, tap, known, cell)
+        // a tile whose pin could not be given back before is given back first
+        if let Err(e) = self.give_back(waiter, pass) {
+            return Err(e);
+        }
+        self.make(waiter, pass, tap, known, cell)
     }
 
     /// Puts the tile of a cell's key first in the microcache.
@@ -339,54 +343,5 @@ impl<T: Tap> Cache<T> {
         self.take_in_hand(waiter, pass, tap, known, cell)?;
         pass.pinned.place(&self.gate, waiter, cell.key);
         Ok(())
-    }
-
-    /// Pins the tile of a cell's key, which is loaded where no shard has it, and takes it in hand.
-    pub(crate) fn take_in_hand<V: Waiter>(
-        &self,
-        waiter: &V,
-        pass: &mut Pass<T::W>,
-        tap: &mut T,
-        known: &Record<T::W>,
-        cell: &CellAt,
-    ) -> Result<(), CacheError<V::Busy>>
-        requires pass { IsPassOf self.now pass.old }
-        requires known { IsRecordOf T.W.files self.now known.now }
-        requires cell { IsCellOf known.now cell.now }
-        ensures hand { OnOk result (IsSomeAnd pass.new.pinned.hand
-            (IsTileOf T.W.files self.now.gate.cut cell.now.key)) }
-        ensures cause { IfErr result (FetchCause T.W.files known.now pass.new.view
-            (T.state tap.old) (T.state tap.new)) }
-        ensures tap { NoneFalls (T.state tap.old) (T.state tap.new) }
-        // What the call leaves of the pass.
-        ensures counts { SameCounts pass.old pass.new }
-        ensures recent { pass.new.pinned.recent ≡ pass.old.pinned.recent }
-        ensures empty { OnErr result ((pass.new.pinned.hand ≡ None) ⊎ V.Busy) }
-        ensures same { AfterNeed known.now.file pass.old pass.new }
-        ensures visits { PurgesNone self.now.gate pass.old.pinned.seat pass.new.pinned.seat }
-        ensures missed { HasNoCall (T.state tap.old) (T.state tap.new)
-            ⊎ Misses self.now.gate cell.now.key pass.old.pinned.seat pass.new.pinned.seat }
-    {
-        match pass.pinned.pin_next(&self.gate, waiter, cell.key) {
-            Ok(true) => return Ok(()),
-            Ok(false) => {}
-            Err(e) => return Err(pin_refused(e)),
-        }
-        let tile = self.load_cell(waiter, &mut pass.view, tap, known, cell)?;
-        match pass.pinned.pin_new(&self.gate, waiter, tile) {
-            Ok(()) => Ok(()),
-            Err(e) => Err(pin_refused(e)),
-        }
-    }
-}
-
-/// Why a tile was not pinned, as the cache says it. Either cause may stand anywhere.
-fn pin_refused<B>(e: PinError<B>) -> CacheError<B>
-    ensures { (files : Files) → (r : RecordState) → (view : ViewState) → (old new : TapState)
-        → FetchCause files r view old new result }
-{
-    match e {
-        PinError::NoMemory => CacheError::NoMemory,
-        PinError::Busy(busy) => CacheError::Busy(busy),
     }
 }

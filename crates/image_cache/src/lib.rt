@@ -10,6 +10,7 @@ mod fetching;
 mod holding;
 mod invalidating;
 mod loading;
+mod making;
 mod opening;
 mod options;
 mod pass;

@@ -1,6 +1,8 @@
 //! A cell that no shard has: loaded from its file, under a handle that the table lends.
-ghost use Rattle.std.specs.Prelude.{◌≡◌, ◌<◌, ◌≤◌, IfOk, IfErr, IsTrue, slice_index};
+ghost use Rattle.std.specs.Prelude.{◌≡◌, ◌<◌, ◌≤◌, IfOk, IfErr, IsOkAnd, IsTrue, slice_index};
 ghost use Rattle.file_table.specs.Calls.{KeepsView, OpensIfAtAll};
+ghost use Rattle.tile_layout.specs.Key.{level_of};
+ghost use Rattle.tile_layout.specs.Kept.{stored_count};
 ghost use Rattle.tile_load.specs.Load.{IsReadBy};
 ghost use Rattle.tile_store.specs.Told.{IsTold};
 ghost use Rattle.shard_gate.specs.Gate.{HasCellRect};
@@ -33,6 +35,8 @@ impl<T: Tap> Cache<T> {
         requires view { view.old.board ≡ self.now.files.board }
         requires known { IsRecordOf T.W.files self.now known.now }
         requires cell { IsCellOf known.now cell.now }
+        requires stored { IsOkAnd known.now.layout (λ kept.
+            level_of cell.now.key < stored_count kept) }
         ensures keyed { IfOk result (λ tile. tile.key ≡ cell.now.key) }
         ensures of_cell { IfOk result (λ tile. IsTrue (is_tile_of cell.now tile)) }
         ensures cell { IfOk result (HasCellRect T.W.files self.now.gate.cut) }

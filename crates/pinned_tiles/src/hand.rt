@@ -1,10 +1,12 @@
 //! The tile in hand: one that was pinned just now, or one whose pin is on its way back.
-ghost use Rattle.std.specs.Prelude.{◌≡◌, ◌⊎◌, ◌++◌, IsTrue, IsFalse, IsSomeAnd};
-ghost use Rattle.std.specs.Prelude.{None, OnOk, OnErr, IfOk};
+ghost use Rattle.std.specs.Prelude.{◌≡◌, ◌⊎◌, ◌↔◌, ◌++◌, IsTrue, IsFalse, IsSome, IsSomeAnd};
+ghost use Rattle.std.specs.Prelude.{None, Some, OnOk, OnErr, IfOk, IfSome};
 ghost use Rattle.shard_gate.specs.Gate.{HasCellRect, IsTileOf};
 ghost use Rattle.shard_gate.specs.Since.{PurgesNone, Misses};
+ghost use Rattle.pinned_tiles.specs.Cell.{is_tile_of};
 ghost use Rattle.pinned_tiles.specs.Pinned.{ArePinned, PinsAt, KeepsTiles, LeavesPart};
 
+use crate::cell::{CellAt, is_tile_of};
 use crate::pinned::Pinned;
 use shard_gate::{Gate, NotPinned, NotUnpinned, PinError};
 use tex_world::World;
@@ -44,6 +46,22 @@ impl<W: World> Pinned<W> {
         ensures are { ArePinned W.files self.new }
     {
         let _given_back = self.release_hand(gate, waiter);
+    }
+
+    /// The tile in hand, where it is that of the cell.
+    pub fn tile_in_hand(&self, cell: &CellAt) -> Option<&Tile<W>>
+        ensures some { IsSome result ↔ IsSomeAnd self.now.hand (λ tile.
+            (tile.key ≡ cell.now.key) × IsTrue (is_tile_of cell.now tile)) }
+        ensures value { IfSome result (λ tile. self.now.hand ≡ Some tile.now) }
+        ensures keyed { IfSome result (λ tile. tile.now.key ≡ cell.now.key) }
+        ensures of_cell { IfSome result (λ tile. IsTrue (is_tile_of cell.now tile.now)) }
+    {
+        let tile = self.hand.as_ref()?.tile();
+        if tile.key() == cell.key && is_tile_of(tile, cell) {
+            Some(tile)
+        } else {
+            None
+        }
     }
 
     /// Pins the tile of a key, if its shard has one, and takes it in hand.

@@ -8,7 +8,7 @@ use Rattle.image_cache.proofs.cache.Cache.load_cell.Goals as goal
 
 pub load-requires-clause-cut : goal.load-requires-clause-cut
 load-requires-clause-cut g c =
-    subst (λ (cut : Cut). IsCut cut) (sym c.self.invariant.1) c.self.invariant.0.side
+    subst (λ (cut : Cut). IsCut cut) (sym c.self.invariant.1) c.self.invariant.0.0.side
 
 pub load-requires-clause-cell : goal.load-requires-clause-cell
 load-requires-clause-cell g c =
@@ -16,4 +16,4 @@ load-requires-clause-cell g c =
     c.self.inside.cut c.requires.cell c.in_ok-handle.ensures.ok
     (c.requires.known.cut ∙ (ap (λ (s : CacheState). s.gate.cut) (sym c.self.view_is)
     ∙ sym c.self.invariant.1))
-    (ap (λ (cut : Cut). cut.automip) c.self.invariant.1 ∙ c.self.invariant.0.stored)
+    c.requires.stored

@@ -3,6 +3,7 @@ use Rattle.std.proofs.Common.{◌≡◌, ◌∙◌, sym, ap, subst}
 use Rattle.std.specs.List.{All}
 use Rattle.tiff_format.specs.declared.cut.Cut.{Cut}
 use Rattle.tile_store.specs.Lawful.{FitsCut}
+use Rattle.shard_gate.proofs.SinceLemmas.{purges_none_chain}
 use Rattle.pinned_tiles.specs.Cell.{HasFirst}
 use Rattle.image_cache.specs.Pass.{PassState}
 use Rattle.image_cache.proofs.VisitLemmas.{told_stands}
@@ -37,3 +38,13 @@ returns-in_err-apart-clause-missed g c tells =
     let stands = told_stands files c.args.known.now cell c.pass.inside.pinned.recent tells
     c.generation-known.ensures.told c.requires.cell first fits in
     absurd (cc (c.is_latest.ensures.1 stands, c.if-is_latest.false))
+
+pub returns-in_err-apart-clause-visits : goal.returns-in_err-apart-clause-visits
+returns-in_err-apart-clause-visits g c =
+    purges_none_chain c.args.self.now.gate c.args.pass.now.pinned.seat c.bring.new.pass.pinned.seat
+    c.make_apart.new.pass.pinned.seat c.bring.ensures.visits c.make_apart.ensures.same.visits
+
+pub returns-clause-visits : goal.returns-clause-visits
+returns-clause-visits g c =
+    purges_none_chain c.args.self.now.gate c.args.pass.now.pinned.seat c.bring.new.pass.pinned.seat
+    c.make_apart.new.pass.pinned.seat c.bring.ensures.visits c.make_apart.ensures.same.visits

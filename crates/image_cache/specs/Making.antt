@@ -1,0 +1,67 @@
+-- How is a tile made that no shard has, and what does making it leave of a pass?
+use Rattle.std.specs.Prelude.{◌≡◌, ℕ, ◌+◌, ◌<◌, ◌≤◌, Ok, IsOkAnd, length}
+use Rattle.tile_layout.specs.Key.{level_of, index_of, generation_of, file_of}
+use Rattle.tile_layout.specs.Kept.{stored_count}
+use Rattle.tile_layout.specs.Level.{level_count_in}
+use Rattle.tile_layout.specs.Cell.{cell_count, cell_rect, cut_level_in, channels_in}
+use Rattle.tile_load.specs.Halving.{HalvingState, part_count, part_key}
+use Rattle.file_table.specs.Record.{RecordState}
+use Rattle.shard_gate.specs.Gate.{GateState}
+use Rattle.shard_gate.specs.Since.{PurgesNone}
+use Rattle.pinned_tiles.specs.declared.cell.CellAt.{CellAt}
+use Rattle.image_cache.specs.Pass.{PassState, SamePlace, SameCounts}
+use Rattle.image_cache.specs.Call.{AfterNeed}
+
+-- the key is that of a cell of the record
+pub record IsKeyOf (state : RecordState) (key : ℕ) : Type 0 where
+  pub generation : generation_of key ≡ state.generation
+  pub file : file_of key ≡ state.file
+  pub under : IsOkAnd state.layout (λ kept.
+      (level_of key < level_count_in kept state.cut.automip)
+      × (index_of key < cell_count (cut_level_in kept state.cut (level_of key))))
+
+-- the key is that of a cell of a generated level of the record, before which there is another
+pub record IsGenerated (state : RecordState) (key : ℕ) : Type 0 where
+  pub some : 1 ≤ level_of key
+  pub beyond : IsOkAnd state.layout (λ kept. stored_count kept ≤ level_of key)
+
+-- a cell of the record is being made of the cells of the level before
+pub record Halves (state : RecordState) (halving : HalvingState) : Type 0 where
+  pub layout : state.layout ≡ Ok halving.layout
+  pub cut : halving.cut ≡ state.cut
+
+-- the cell is the next of those
+pub record IsNextPart (halving : HalvingState) (part : CellAt) : Type 0 where
+  pub next : halving.done < part_count halving.layout halving.cut halving.key
+  pub key : part.key ≡ part_key halving.layout halving.cut halving.key halving.done
+  pub rect : part.rect
+      ≡ cell_rect (cut_level_in halving.layout halving.cut (level_of part.key)) (index_of part.key)
+  pub channels : part.channels ≡ channels_in halving.layout
+
+-- one part more was added
+pub record AddsPart (old new : HalvingState) : Type 0 where
+  pub layout : new.layout ≡ old.layout
+  pub cut : new.cut ≡ old.cut
+  pub key : new.key ≡ old.key
+  pub done : new.done ≡ old.done + 1
+
+-- What making a tile leaves of a pass, whatever it is answered: its microcache, its holds, its
+-- record and its counts are as they were, only this file's number was seen to rise, and each visit
+-- is that of a `pin`, a `pin_new`, an `unpin` or a `count`.
+pub record AfterMaking (gate : GateState) (file : ℕ) (old new : PassState) : Type 0 where
+  pub need : AfterNeed file old new
+  pub counts : SameCounts old new
+  pub recent : new.pinned.recent ≡ old.pinned.recent
+  pub visits : PurgesNone gate old.pinned.seat new.pinned.seat
+
+-- What pinning a tile or giving a pin back leaves of it: only the tile in hand may be another, and
+-- each visit is that of a `pin`, a `pin_new`, an `unpin` or a `count`.
+pub record AfterPinning (gate : GateState) (old new : PassState) : Type 0 where
+  pub place : SamePlace old new
+  pub view : new.view ≡ old.view
+  pub few : length new.pinned.recent ≤ 2
+  pub holds : new.pinned.holds ≡ old.pinned.holds
+  pub latest : new.latest ≡ old.latest
+  pub counts : SameCounts old new
+  pub recent : new.pinned.recent ≡ old.pinned.recent
+  pub visits : PurgesNone gate old.pinned.seat new.pinned.seat
