@@ -15,7 +15,7 @@ use Rattle.render_run.specs.Around.{SinkState, SourceState, Setup, FeedState, Pr
 use Rattle.render_run.specs.Around.{source_of_folder, setup_of, progress_of}
 use Rattle.render_run.specs.Crew.{MakesMore, TakesBack}
 use Rattle.render_run.specs.Around.{around_of, inputs_of}
-use Rattle.render_run.specs.Ending.{HasOptions, IsPrepared, cut_used, path_in}
+use Rattle.render_run.specs.Ending.{HasOptions, IsPrepared, path_in}
 use Rattle.render_run.specs.Dealing.{AreWholeRounds, places_of}
 use Rattle.render_run.specs.Reply.{Line, MeetsAll}
 use Rattle.render_run.specs.Run.{Answers, Runs, MakesTaps, GivesTapsBack, AnswersList}
@@ -239,7 +239,7 @@ module _ (files : Files) (asked : Option Asked) (options : Options) (f0 f1 f2 : 
 
   -- what it answered over the whole call
   abbrev listed : (count : ℕ)
-      → Answers (setup_of files f2 (cut_used options.cut) options.workers) requests count
+      → Answers (setup_of files f2 options.cut options.workers) requests count
       (source_of_folder f1) (source_of_folder f2)
       → AnswersList files asked (around_of f0 i0 s0) (around_of f2 i1 s1)
   listed count answers = record {
@@ -262,14 +262,14 @@ module _ (files : Files) (asked : Option Asked) (options : Options) (f0 f1 f2 : 
   -- all of it, by each status
   pub answered_runs : (ends : ℕ)
       → (ends ≤ status.with_refusals
-      → AnswersAll (setup_of files f2 (cut_used options.cut) options.workers) requests
+      → AnswersAll (setup_of files f2 options.cut options.workers) requests
       (progress_of (source_of_folder f1) s0) (progress_of (source_of_folder f2) s1) ends)
       → (ends ≤ status.with_refusals → MakesTaps options.workers f1 f2)
       → (ends ≡ status.not_written
-      → PartWritten (setup_of files f2 (cut_used options.cut) options.workers) requests
+      → PartWritten (setup_of files f2 options.cut options.workers) requests
       (progress_of (source_of_folder f1) s0) (progress_of (source_of_folder f2) s1))
       → (ends ≡ status.no_memory → (s1.holds ≡ s0.holds)
-      ⊎ RoundsWritten (setup_of files f2 (cut_used options.cut) options.workers) requests
+      ⊎ RoundsWritten (setup_of files f2 options.cut options.workers) requests
       (progress_of (source_of_folder f1) s0) (progress_of (source_of_folder f2) s1))
       → IsAnswerStatus ends → GivesTapsBack f1 f2
       → Runs files asked (around_of f0 i0 s0) (around_of f2 i1 s1) ends
@@ -307,7 +307,7 @@ module _ (files : Files) (asked : Option Asked) (options : Options) (f0 f1 f2 : 
       few (inr (inr is)) = omega arith
 
       by_short : (s1.holds ≡ s0.holds)
-          ⊎ RoundsWritten (setup_of files f2 (cut_used options.cut) options.workers) requests
+          ⊎ RoundsWritten (setup_of files f2 options.cut options.workers) requests
           (progress_of (source_of_folder f1) s0) (progress_of (source_of_folder f2) s1)
           → WritesNothing (around_of f0 i0 s0) (around_of f2 i1 s1)
           ⊎ ListRounds files asked (around_of f0 i0 s0) (around_of f2 i1 s1)

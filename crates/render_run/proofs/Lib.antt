@@ -13,3 +13,4 @@ mod OneMore
 mod Rounds
 mod Folders
 mod Endings
+mod Completing

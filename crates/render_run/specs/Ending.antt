@@ -13,7 +13,6 @@ use Rattle.command_line.specs.declared.invocation.WordsError.TheVariants.{Bad}
 use Rattle.command_line.specs.declared.invocation.WordsError.TheVariants as words
 use Rattle.command_line.specs.Invocation.{Asked, invocation_of}
 use Rattle.command_line.specs.declared.options.Options.{Options}
-use Rattle.tiff_format.specs.declared.cut.Cut.{Cut}
 use Rattle.request_lang.specs.declared.request.Request.{Request}
 use Rattle.render_run.specs.declared.prepare.Ending.{Ending}
 use Rattle.render_run.specs.declared.prepare.Ending.TheVariants.{BadWords, FolderFault}
@@ -36,10 +35,6 @@ path_in asked = option_map (λ a. a.0) asked
 -- these options are asked for
 abbrev pub HasOptions : Option Asked → Options → Type 0
 HasOptions asked options = IsSomeAnd asked (λ a. a.1 ≡ options)
-
--- the cut that is used: levels that a file does not store are not made yet
-abbrev pub cut_used : Cut → Cut
-cut_used cut = record { autotile = cut.autotile; automip = false }
 
 -- why the words name no folder
 abbrev pub WordsCause : Option (List ℕ) → WordsError → Type 0

@@ -9,6 +9,7 @@ pub mod Held
 pub mod ListRead
 pub mod Ending
 pub mod Run
+pub mod Complete
 pub mod Page
 pub mod Answering
 pub mod Crew

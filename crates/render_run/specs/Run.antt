@@ -20,7 +20,7 @@ use Rattle.render_run.specs.Reply.{Line, MeetsAll}
 use Rattle.render_run.specs.Fresh.{IsFresher}
 use Rattle.render_run.specs.Held.{AreCounted}
 use Rattle.image_cache.specs.Invalid.{RisesBy}
-use Rattle.render_run.specs.Ending.{HasOptions, cut_used, path_in, IsPrepared, IsEnded, status_of}
+use Rattle.render_run.specs.Ending.{HasOptions, path_in, IsPrepared, IsEnded, status_of}
 use Rattle.render_run.specs.Ending.{ending_text}
 
 -- ---- the lines
@@ -74,7 +74,7 @@ pub record AnswersList (files : Files) (asked : Option Asked) (old new : Around)
   pub requests : List Request
   pub prepared : IsPrepared (path_in asked) (inputs_in old) (inputs_in new) requests
   pub count : ℕ
-  pub answers : Answers (setup_of files new.folder (cut_used options.cut) options.workers) requests
+  pub answers : Answers (setup_of files new.folder options.cut options.workers) requests
       count (source_of_folder old.folder) (source_of_folder new.folder)
 
 -- All of the list was answered and written. The status tells whether some line is a refusal.

@@ -1,6 +1,6 @@
 //! The top call.
 
-ghost use Rattle.std.specs.Prelude.{◌≡◌, ◌⊎◌, ◌≤◌, [], length, map, IfOk, IfErr, OnOk, IsSome};
+ghost use Rattle.std.specs.Prelude.{◌≡◌, ◌⊎◌, ◌≤◌, [], length, map, IfOk, IfErr, OnOk, IsSome, IsTrue};
 ghost use Rattle.request_lang.specs.Grammar.{max_requests};
 ghost use Rattle.std.specs.List.{AllPass};
 ghost use Rattle.tex_world.specs.World.{max_files};
@@ -12,8 +12,9 @@ ghost use Rattle.render_run.specs.Around.{source_of_folder, setup_of, sight_of, 
 ghost use Rattle.render_run.specs.Around.{source_of_crew};
 ghost use Rattle.render_run.specs.Crew.{MakesMore};
 ghost use Rattle.render_run.specs.Question.{is_answered};
-ghost use Rattle.render_run.specs.Ending.{asked_by, cut_used};
+ghost use Rattle.render_run.specs.Ending.{asked_by};
 ghost use Rattle.render_run.specs.Run.{GivesTapsBack, MakesTaps, Runs};
+ghost use Rattle.render_run.specs.Complete.{HasAList, IsCalm, Completes};
 ghost use Rattle.render_run.specs.Written.{StatusWritten, EndedAs, IsAnswerStatus, KeepsEntered};
 ghost use Rattle.render_run.specs.Written.{AnswersAll, PartWritten, RoundsWritten, list_status};
 ghost use Rattle.render_run.specs.Written.{Finishes, LeavesEarly};
@@ -31,7 +32,6 @@ use std::alloc::Global;
 use std::sync::Wait;
 use std::thread::Threads;
 use tex_world::{Feed, Folder, NoMemory, Sink, Tap};
-use tiff_format::Cut;
 
 /// All of the list was answered, and no line is a refusal.
 const ALL_ANSWERED: u8 = 0;
@@ -94,8 +94,7 @@ fn put_ending<O: Sink>(alloc: Global, out: &mut O, ending: Ending) -> u8
     }
 }
 
-/// A cache of the files of a folder, under the options that are asked for, and its first pass. Levels
-/// that a file does not store are not made yet.
+/// A cache of the files of a folder, under the options that are asked for, and its first pass.
 fn cache_of<T: Tap>(
     alloc: Global,
     options: &Options,
@@ -104,7 +103,7 @@ fn cache_of<T: Tap>(
     requires options { IsInRange options.now }
     requires files { files ≤ max_files }
     ensures files { IfOk result (λ made. made.0.files.board.files ≡ files) }
-    ensures cut { IfOk result (λ made. made.0.gate.cut ≡ cut_used options.now.cut) }
+    ensures cut { IfOk result (λ made. made.0.gate.cut ≡ options.now.cut) }
     ensures pass { IfOk result (λ made. IsFirstPass made.0 made.1) }
 {
     let options = CacheOptions {
@@ -112,10 +111,7 @@ fn cache_of<T: Tap>(
         shards: options.shards,
         passes: options.workers,
         handles: options.handles,
-        cut: Cut {
-            autotile: options.cut.autotile,
-            automip: false,
-        },
+        cut: options.cut,
     };
     match Cache::new(alloc, options, files) {
         Ok(made) => Ok(made),
@@ -142,20 +138,20 @@ where
     requires answered { AllPass is_answered asked.now.requests.items }
     requires few { length asked.now.requests.items ≤ max_requests }
     ensures answered { result ≤ with_refusals → AnswersAll (setup_of F.W.files
-        (F.state folder.new) (cut_used asked.now.options.cut) asked.now.options.workers)
+        (F.state folder.new) asked.now.options.cut asked.now.options.workers)
         asked.now.requests.items (progress_of (source_of_folder (F.state folder.old))
         (sink_state O.faults O.holds out.old)) (progress_of
         (source_of_folder (F.state folder.new)) (sink_state O.faults O.holds out.new)) result }
     ensures made { result ≤ with_refusals
         → MakesTaps asked.now.options.workers (F.state folder.old) (F.state folder.new) }
     ensures part { result ≡ not_written → PartWritten (setup_of F.W.files
-        (F.state folder.new) (cut_used asked.now.options.cut) asked.now.options.workers)
+        (F.state folder.new) asked.now.options.cut asked.now.options.workers)
         asked.now.requests.items (progress_of (source_of_folder (F.state folder.old))
         (sink_state O.faults O.holds out.old)) (progress_of
         (source_of_folder (F.state folder.new)) (sink_state O.faults O.holds out.new)) }
     ensures short { result ≡ no_memory → (O.holds out.new ≡ O.holds out.old)
         ⊎ RoundsWritten (setup_of F.W.files
-        (F.state folder.new) (cut_used asked.now.options.cut) asked.now.options.workers)
+        (F.state folder.new) asked.now.options.cut asked.now.options.workers)
         asked.now.requests.items (progress_of (source_of_folder (F.state folder.old))
         (sink_state O.faults O.holds out.old)) (progress_of
         (source_of_folder (F.state folder.new)) (sink_state O.faults O.holds out.new)) }
@@ -267,6 +263,16 @@ where
     <F::Tap as Tap>::Handle: Send + Sync,
     F::W: Send + Sync,
     ensures runs { Runs F.W.files (asked_by words.now)
+        (around_of (F.state folder.old) (feed_state I.faults I.left feed.old)
+        (sink_state O.faults O.holds out.old))
+        (around_of (F.state folder.new) (feed_state I.faults I.left feed.new)
+        (sink_state O.faults O.holds out.new)) result }
+    ensures complete { IsTrue F.W.files.tells
+        → HasAList (asked_by words.now) (feed_state I.faults I.left feed.old)
+        → IsCalm (around_of (F.state folder.old) (feed_state I.faults I.left feed.old)
+        (sink_state O.faults O.holds out.old)) (around_of (F.state folder.new)
+        (feed_state I.faults I.left feed.new) (sink_state O.faults O.holds out.new))
+        → Completes F.W.files (asked_by words.now)
         (around_of (F.state folder.old) (feed_state I.faults I.left feed.old)
         (sink_state O.faults O.holds out.old))
         (around_of (F.state folder.new) (feed_state I.faults I.left feed.new)

@@ -1,13 +1,12 @@
 use Rattle.std.proofs.Common.{length, map, refl}
 use Rattle.render_run.specs.Around.{sink_state, source_of_crew, sight_of, no_sight}
-use Rattle.render_run.specs.Ending.{cut_used}
 use Rattle.render_run.proofs.Folders.{all_through, part_through, rounds_through}
 use Rattle.render_run.proofs.top.answer_through_taps.Goals as goal
 
 pub returns-clause-answered : goal.returns-clause-answered
 returns-clause-answered g c = λ few.
     all_through g.F.W.World.files c.in-Ok-cache_of.cache.gate.cut
-    (cut_used c.args.asked.now.options.cut) (length c.answer_by_crew-answered.new.posts.items)
+    c.args.asked.now.options.cut (length c.answer_by_crew-answered.new.posts.items)
     c.args.asked.now.options.workers c.args.asked.now.options.workers
     c.args.asked.now.requests.items no_sight.source
     (source_of_crew (map (λ p. sight_of p.worker.pass (g.F.Tap.Tap.state p.worker.tap))
@@ -23,7 +22,7 @@ returns-clause-answered g c = λ few.
 pub returns-clause-part : goal.returns-clause-part
 returns-clause-part g c = λ is.
     part_through g.F.W.World.files c.in-Ok-cache_of.cache.gate.cut
-    (cut_used c.args.asked.now.options.cut) (length c.answer_by_crew-answered.new.posts.items)
+    c.args.asked.now.options.cut (length c.answer_by_crew-answered.new.posts.items)
     c.args.asked.now.options.workers c.args.asked.now.options.workers
     c.args.asked.now.requests.items no_sight.source
     (source_of_crew (map (λ p. sight_of p.worker.pass (g.F.Tap.Tap.state p.worker.tap))
@@ -39,7 +38,7 @@ returns-clause-part g c = λ is.
 pub returns-clause-short : goal.returns-clause-short
 returns-clause-short g c = λ is.
     rounds_through g.F.W.World.files c.in-Ok-cache_of.cache.gate.cut
-    (cut_used c.args.asked.now.options.cut) (length c.answer_by_crew-answered.new.posts.items)
+    c.args.asked.now.options.cut (length c.answer_by_crew-answered.new.posts.items)
     c.args.asked.now.options.workers c.args.asked.now.options.workers
     c.args.asked.now.requests.items no_sight.source
     (source_of_crew (map (λ p. sight_of p.worker.pass (g.F.Tap.Tap.state p.worker.tap))
