@@ -1,25 +1,51 @@
 #!/usr/bin/env python3
 """Writes what the demo's requests are to be answered, from the formulas of the pictures and not from
 the program: `python3 make_expected.py > expected.txt` in this folder."""
+from functools import cache
 from pathlib import Path
 
 from lookups import Lookup
-from make_pictures import CUT, PICTURES, WHITE_IS_ZERO
+from make_pictures import BLACK_IS_ZERO, CUT, PICTURES, WHITE_IS_ZERO
 
 # each file is in the first generation that the program meets
 GENERATION = 1
 BAD_MARK, DATA_OUTSIDE = 2, 12
 
 
-def values(page, x, y):
-    """The 16-bit values of a texel: 0 outside, and in WhiteIsZero channel 0 turned round."""
-    channels = len(page.texel(0, 0))
-    if not (0 <= x < page.width and 0 <= y < page.height):
-        return [0] * channels
-    samples = page.texel(x, y)
+def samples(page, x, y):
+    """The samples of a texel: in WhiteIsZero channel 0 turned round."""
+    found = page.texel(x, y)
     if page.photometric == WHITE_IS_ZERO:
-        samples = [2 ** page.depth - 1 - samples[0], *samples[1:]]
-    return [257 * it for it in samples] if page.depth == 8 else samples
+        return [2 ** page.depth - 1 - found[0], *found[1:]]
+    return found
+
+
+def values(page, x, y):
+    """The 16-bit values of a texel, 0 outside."""
+    if not (0 <= x < page.width and 0 <= y < page.height):
+        return [0] * len(page.texel(0, 0))
+    return [257 * it if page.depth == 8 else it for it in samples(page, x, y)]
+
+
+def halved(page):
+    """The level that is generated behind a page: each sample is the average of four, a half rounded up."""
+    @cache
+    def texel(x, y):
+        across = [min(2 * x + i, page.width - 1) for i in range(2)]
+        down = [min(2 * y + j, page.height - 1) for j in range(2)]
+        four = [samples(page, i, j) for j in down for i in across]
+        return [(sum(it) + 2) // 4 for it in zip(*four)]
+
+    return page._replace(width=max(1, page.width // 2), height=max(1, page.height // 2), texel=texel,
+                         photometric=BLACK_IS_ZERO)
+
+
+def with_generated(pages):
+    """The levels of a picture: where it stores one, those down to 1 by 1 are generated."""
+    levels = list(pages)
+    while len(pages) == 1 and (levels[-1].width, levels[-1].height) != (1, 1):
+        levels.append(halved(levels[-1]))
+    return levels
 
 
 def region(page, x, y, w, h):
@@ -43,18 +69,19 @@ def value(page, x, y, channel):
 
 def on_pages(word, numbers, pages):
     """What a request is answered on the pages of a picture."""
+    levels = with_generated(pages)
     if word == "info":
         page = pages[0]
-        facts = [page.width, page.height, len(page.texel(0, 0)), page.depth, len(pages), len(pages)]
+        facts = [page.width, page.height, len(page.texel(0, 0)), page.depth, len(pages), len(levels)]
         return ["info", GENERATION, *facts]
     if word == "tex":
         s, t, lod = map(int, numbers[:3])
-        lookup = Lookup(pages, value, s, t, lod, *numbers[3:6])
+        lookup = Lookup(levels, value, s, t, lod, *numbers[3:6])
         return ["tex", GENERATION, *map(lookup.answer, range(int(numbers[6])))]
     level, x, y, w, h = map(int, numbers)
-    if level >= len(pages):
-        return ["no level", GENERATION, len(pages)]
-    return ["pixels", GENERATION, *region(pages[level], x, y, w, h)]
+    if level >= len(levels):
+        return ["no level", GENERATION, len(levels)]
+    return ["pixels", GENERATION, *region(levels[level], x, y, w, h)]
 
 
 # how many fields stand between the word of a request and its name

@@ -13,3 +13,6 @@ picture bricks.tif wrap_mirror.png --wrap mirror --filter closest --from -0.75 -
 picture rings.tif filter_closest.png --wrap clamp --filter closest --level 0 --levels-to 3 --size 100 60
 picture rings.tif filter_bilinear.png --wrap clamp --filter bilinear --level 0 --levels-to 3 --size 100 60
 picture rings.tif filter_trilinear.png --wrap clamp --filter trilinear --level 0 --levels-to 3 --size 100 60
+
+# generated levels: the hills, of which the file stores one level, from level 0 at the left to level 5
+picture hills.tif generated_levels.png --wrap clamp --filter trilinear --level 0 --levels-to 5 --size 96 64

@@ -92,7 +92,6 @@ fn met_by<T: Tap + Drop>(
     rows: &[Row],
 ) -> Result<usize, Fail>
     requires told { IsFile T.W.files 0 }
-    requires stored { options.cut.automip ≡ false }
 {
     let (cache, pass) = cache_of(alloc, options, 1)?;
     let waiter = Tries::new(1);

@@ -52,7 +52,6 @@ pub(crate) fn cache_of<T: Tap>(
     files: u32,
 ) -> Result<(Cache<T>, Pass<T::W>), Fail>
     requires files { files ≤ max_files }
-    requires stored { options.cut.automip ≡ false }
     ensures files { IfOk result (λ made. made.0.files.board.files ≡ files) }
     ensures shards { IfOk result (λ made. length made.0.gate.id ≡ options.shards) }
     ensures pass { IfOk result (λ made. IsPassOf made.0 made.1) }

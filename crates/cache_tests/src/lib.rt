@@ -1,6 +1,7 @@
 //! Tests of the cache and of lookups through it. Over a real folder: values and counts of fetches.
-//! Over files in memory: regions, holds, records and lookups, files that are made invalid, the
-//! refusals of each call, a pass that ends in another, and two threads. Options, and what refusals are called.
+//! Over files in memory: regions, holds, records and lookups, files that are made invalid, generated
+//! levels, the refusals of each call, a pass that ends in another, and two threads. Options, and
+//! what refusals are called.
 #![tactic(auto)]
 
 #[cfg(test)]
@@ -13,6 +14,8 @@ mod calls;
 mod fetches;
 #[cfg(test)]
 mod folder;
+#[cfg(test)]
+mod generated;
 #[cfg(test)]
 mod invalid;
 #[cfg(test)]

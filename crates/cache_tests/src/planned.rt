@@ -138,7 +138,6 @@ fn met_by<T: Tap + Drop + Shows>(
     steps: &[Step],
 ) -> Result<usize, Fail>
     requires told { (file : ℕ) → file < 5 → IsFile T.W.files file }
-    requires stored { options.cut.automip ≡ false }
 {
     let (cache, pass) = cache_of(alloc, options, 5)?;
     let mut worker = Worker {
@@ -153,8 +152,6 @@ fn met_by<T: Tap + Drop + Shows>(
 
 /// How many steps the first caller of a new cache over the files in memory meets, up to the first
 /// that it does not.
-pub(crate) fn steps_met(alloc: Global, options: Options, steps: &[Step]) -> Result<usize, Fail>
-    requires { options.cut.automip ≡ false }
-{
+pub(crate) fn steps_met(alloc: Global, options: Options, steps: &[Step]) -> Result<usize, Fail> {
     met_by(alloc, options, taps_of(alloc)?, steps)
 }

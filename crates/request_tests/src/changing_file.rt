@@ -180,7 +180,7 @@ fn what_is_read_of_a_removed_file_is_a_fault(rt: HostRuntime) -> Result<(), Fail
     )?;
     assert!(rt; status == 1);
     let mut text = wide_text(alloc)?;
-    text.push_str("pixels 1 1 257 514\nread fault\ninfo 1 3 70 1 8 1 1\n")?;
+    text.push_str("pixels 1 1 257 514\nread fault\ninfo 1 3 70 1 8 1 7\n")?;
     assert!(rt; taken.as_slice() == text.as_bytes());
     Ok(())
 }

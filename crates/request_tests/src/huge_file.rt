@@ -70,15 +70,15 @@ type Cut = (&'static [&'static str], &'static str, u8);
 static CUTS: &[Cut] = &[
     (
         &["--autotile", "0", "."],
-        "info 1 8192 4096 1 8 1 1\ntile too large 1\n",
+        "info 1 8192 4096 1 8 1 14\ntile too large 1\n",
         1,
     ),
     (
         &["--autotile", "4096", "."],
-        "info 1 8192 4096 1 8 1 1\npixels 1 1 0\n",
+        "info 1 8192 4096 1 8 1 14\npixels 1 1 0\n",
         0,
     ),
-    (&["."], "info 1 8192 4096 1 8 1 1\npixels 1 1 0\n", 0),
+    (&["."], "info 1 8192 4096 1 8 1 14\npixels 1 1 0\n", 0),
 ];
 
 #[test]

@@ -40,6 +40,8 @@ mod refusals;
 #[cfg(test)]
 mod rows;
 #[cfg(test)]
+mod samples;
+#[cfg(test)]
 mod says;
 #[cfg(test)]
 mod small_files;

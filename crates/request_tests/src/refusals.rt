@@ -39,7 +39,7 @@ fn refuses_words(rt: HostRuntime) -> Result<(), Fail> {
 static WORDS: &[&[&str]] = &[
     &["-"],
     &["--shards=2", "--", "-x"],
-    &["--workers", "1", ".", "--no-automip"],
+    &["--workers", "1", "."],
     &["--workers=16", "."],
     &["--budget=0", "--handles", "1024", "--autotile=4096", "."],
     &["--budget=0", "--shards=1", "--handles=1", "."],
@@ -56,7 +56,7 @@ const READ_TEXT: &str =
     "pixels 1 3 3163 23163 43163 3164 23164 43164 3263 23263 43263 3264 23264 43264\n\
     pixels 1 1 13107\n\
     tex 1 4779 24779\n\
-    info 1 4 4 1 8 1 1\n\
+    info 1 4 4 1 8 1 3\n\
     pixels 1 3 3264 23264 43264\n";
 
 #[test]
@@ -65,6 +65,17 @@ fn takes_words(rt: HostRuntime) -> Result<(), Fail> {
         let ran = run_bytes(&rt, rt.alloc(), words, READ)?;
         ran.is_calmly(&rt, READ_TEXT, 0, "the words");
     }
+    Ok(())
+}
+
+#[test]
+fn takes_stored_levels_alone(rt: HostRuntime) -> Result<(), Fail> {
+    let words = &["--workers", "1", ".", "--no-automip"];
+    let list =
+        b"info A.tif\npixels 1 0 0 1 1 A.tif\ntex 32768 32768 65536 clamp clamp bilinear 1 A.tif\n";
+    let ran = run_bytes(&rt, rt.alloc(), words, list)?;
+    let wanted = "info 1 4 4 1 8 1 1\nno level 1 1\ntex 1 6554\n";
+    ran.is_calmly(&rt, wanted, 1, "without generated levels");
     Ok(())
 }
 

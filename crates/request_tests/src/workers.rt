@@ -154,8 +154,8 @@ static RUNS: &[Run] = &[
         Failing::Tap(5),
         "info A.tif\ninvalidate_all\ninvalidate_all\n",
         &[
-            "info 1 4 4 1 8 1 1\nread fault\ninvalidated all\n",
-            "info 1 4 4 1 8 1 1\ninvalidated all\nread fault\n",
+            "info 1 4 4 1 8 1 3\nread fault\ninvalidated all\n",
+            "info 1 4 4 1 8 1 3\ninvalidated all\nread fault\n",
         ],
         1,
     ),
@@ -179,8 +179,8 @@ static RUNS: &[Run] = &[
          pixels 9 0 0 1024 1024 A.tif\nhold 0 4 0 A.tif\nhold 0 4 0 none.tif\n\
          hold 9 4 0 A.tif\ninvalidate none.tif\nrenew none.tif\n",
         &[
-            "no such file\nregion too large\nno level 1 1\noutside 1\nno such file\n\
-           no level 1 1\nno such file\nno such file\n",
+            "no such file\nregion too large\nno level 1 3\noutside 1\nno such file\n\
+           no level 1 3\nno such file\nno such file\n",
         ],
         1,
     ),
@@ -274,7 +274,7 @@ fn two_requests_run_beside_each_other(rt: HostRuntime) -> Result<(), Fail> {
     let list = b"info A.tif\ninfo A.tif\n".to_vec(rt.alloc())?;
     let words = [".", "--workers", "2"];
     let ran = run_hooked::<SmallFiles>(&rt, rt.alloc(), &words, list, Failing::Nothing, &hook)?;
-    let written = "info 1 4 4 1 8 1 1\ninfo 1 4 4 1 8 1 1\n";
+    let written = "info 1 4 4 1 8 1 3\ninfo 1 4 4 1 8 1 3\n";
     ran.is_calmly(&rt, written, 0, "two workers");
     assert!(rt;
         !hook.gave_up.load(Ordering::Acquire),
