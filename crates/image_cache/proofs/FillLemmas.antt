@@ -15,7 +15,7 @@ use Rattle.tile_store.specs.Tile.{CachedTile}
 use Rattle.gen_board.specs.View.{ViewState}
 use Rattle.file_table.specs.Record.{RecordState}
 use Rattle.file_table.specs.Calls.{KeepsView}
-use Rattle.micro.specs.Runs.{IsAsked, AreAsked}
+use Rattle.micro.specs.Runs.{AreAsked}
 use Rattle.pinned_tiles.specs.Pinned.{key_in}
 use Rattle.texel_values.specs.declared.area.Area.{Area}
 use Rattle.texel_values.specs.declared.window.Window.{Window}
@@ -128,63 +128,43 @@ none_falls_chain a b c ab bc = record {
 
 -- ---- needs
 
-asked_more : (old : List CachedTile) (keys : List ℕ) (answers : List Bool)
-    (mid : List CachedTile) (key : ℕ) (answer : Bool) (new : List CachedTile)
-    → AreAsked key_in old keys answers mid → IsAsked key_in mid key answer new
-    → AreAsked key_in old (keys ++ key ∷ []) (answers ++ answer ∷ []) new
-asked_more old [] [] mid key answer new run one =
-    (new, subst (λ (tiles : List CachedTile). IsAsked key_in tiles key answer new) run one, refl)
-asked_more old [] (b ∷ answers) mid key answer new run one = absurd run
-asked_more old (k ∷ keys) [] mid key answer new run one = absurd run
-asked_more old (k ∷ keys) (b ∷ answers) mid key answer new run one =
-    (run.0, run.1, asked_more run.0 keys answers mid key answer new run.2 one)
+asked_chain : (keys others : List ℕ) (answers more : List Bool) (old mid new : List CachedTile)
+    → AreAsked key_in old keys answers mid → AreAsked key_in mid others more new
+    → AreAsked key_in old (keys ++ others) (answers ++ more) new
+asked_chain [] others [] more old mid new first later =
+    subst (λ (tiles : List CachedTile). AreAsked key_in tiles others more new) first later
+asked_chain [] others (b ∷ answers) more old mid new first later = absurd first
+asked_chain (k ∷ keys) others [] more old mid new first later = absurd first
+asked_chain (k ∷ keys) others (b ∷ answers) more old mid new first later =
+    (first.0, first.1, asked_chain keys others answers more first.0 mid new first.2 later)
 
 counted_more : (n a b : ℕ)
     → counted_together (counted_together n a) b ≡ counted_together n (a + b)
 counted_more n a b = omega arith
 
-count_more : (answers : List Bool) (b : Bool) → count_by (λ (h : Bool). h) (answers ++ b ∷ [])
-    ≡ count_by (λ (h : Bool). h) answers + count_by (λ (h : Bool). h) (b ∷ [])
-count_more answers b = sum_by-append (λ (h : Bool). cond h 1 0) answers (b ∷ [])
+hits_chain : (answers more : List Bool) → count_by (λ (h : Bool). h) (answers ++ more)
+    ≡ count_by (λ (h : Bool). h) answers + count_by (λ (h : Bool). h) more
+hits_chain answers more = sum_by-append (λ (h : Bool). cond h 1 0) answers more
 
-one_answer : (files : Files) (key : ℕ) (old new : PassState) (needs : Needs files (key ∷ []) old new)
-    → (b : Bool) × (needs.answers ≡ b ∷ []) × IsAsked key_in old.pinned.recent key b new.pinned.recent
-one_answer files key old new needs = by needs.answers refl needs.asked
-  where
-    by : (answers : List Bool) → needs.answers ≡ answers
-        → AreAsked key_in old.pinned.recent (key ∷ []) answers new.pinned.recent
-        → (b : Bool) × (needs.answers ≡ b ∷ [])
-        × IsAsked key_in old.pinned.recent key b new.pinned.recent
-    by [] is run = absurd run
-    by (b ∷ []) is run = (
-      b,
-      is,
-      subst (λ (tiles : List CachedTile).
-          IsAsked key_in old.pinned.recent key b tiles) (sym run.2) run.1,
-    )
-    by (b ∷ (e ∷ rest)) is run = absurd run.2
-
-pub needs_more : (files : Files) (keys : List ℕ) (key : ℕ) (a b c : PassState)
-    → Needs files keys a b → Needs files (key ∷ []) b c → Needs files (keys ++ key ∷ []) a c
-needs_more files keys key a b c first one =
-    let last = one_answer files key b c one in
-    record {
-      answers = first.answers ++ last.0 ∷ [];
-      asked = asked_more a.pinned.recent keys first.answers b.pinned.recent key last.0
-          c.pinned.recent first.asked last.2;
-      needs = one.needs
-          ∙ (ap (λ (n : ℕ). counted_together n 1) first.needs
-          ∙ (counted_more a.needs (length keys) 1
-          ∙ ap (counted_together a.needs) (sym (length-append keys (key ∷ [])))));
-      hits = λ tells.
-          one.hits tells
-          ∙ (ap (λ (bs : List Bool). counted_together b.hits (count_by (λ (h : Bool). h) bs)) last.1
-          ∙ (ap (λ (n : ℕ). counted_together n (count_by (λ (h : Bool). h) (last.0 ∷ [])))
-          (first.hits tells)
-          ∙ (counted_more a.hits (count_by (λ (h : Bool). h) first.answers)
-          (count_by (λ (h : Bool). h) (last.0 ∷ []))
-          ∙ ap (counted_together a.hits) (sym (count_more first.answers last.0)))));
-    }
+-- what was needed, and then more
+pub needs_chain : (files : Files) (keys others : List ℕ) (a b c : PassState)
+    → Needs files keys a b → Needs files others b c → Needs files (keys ++ others) a c
+needs_chain files keys others a b c first later = record {
+  answers = first.answers ++ later.answers;
+  asked = asked_chain keys others first.answers later.answers a.pinned.recent b.pinned.recent
+      c.pinned.recent first.asked later.asked;
+  needs = later.needs
+      ∙ (ap (λ (n : ℕ). counted_together n (length others)) first.needs
+      ∙ (counted_more a.needs (length keys) (length others)
+      ∙ ap (counted_together a.needs) (sym (length-append keys others))));
+  hits = λ tells.
+      later.hits tells
+      ∙ (ap (λ (n : ℕ). counted_together n (count_by (λ (h : Bool). h) later.answers))
+      (first.hits tells)
+      ∙ (counted_more a.hits (count_by (λ (h : Bool). h) first.answers)
+      (count_by (λ (h : Bool). h) later.answers)
+      ∙ ap (counted_together a.hits) (sym (hits_chain first.answers later.answers))));
+}
 
 pub no_needs : (files : Files) (pass : PassState) → pass.needs ≤ max_count → pass.hits ≤ max_count
     → Needs files [] pass pass
@@ -372,7 +352,7 @@ if_ok (Err e) P Q f p = tt
 
 -- What was needed between two moments was needed between two at which the pass has the same tiles
 -- and counts.
-needs_between : (files : Files) (keys : List ℕ) (a b c d : PassState)
+pub needs_between : (files : Files) (keys : List ℕ) (a b c d : PassState)
     → b.pinned.recent ≡ a.pinned.recent → SameCounts a b → d.pinned.recent ≡ c.pinned.recent
     → SameCounts c d → Needs files keys b c → Needs files keys a d
 needs_between files keys a b c d first before last after needs = record {

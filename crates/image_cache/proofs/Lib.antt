@@ -1,9 +1,10 @@
 mod CellLemmas
 pub mod TexelLemmas
 mod NeedLemmas
-mod FillLemmas
+pub mod FillLemmas
 mod MakingLemmas
 pub mod SquareLemmas
 mod VisitLemmas
 mod AskLemmas
 mod HoldLemmas
+pub mod UnreadLemmas

@@ -181,6 +181,17 @@ hits_of : (n : ℕ) (hit : Bool) → n ≤ max_count → (if hit then counted n 
 hits_of n true low = refl
 hits_of n false low = omega (arith, low)
 
+-- a key that the microcache had
+pub needs_hit : (files : Files) (key : ℕ) (old new : PassState)
+    → IsAsked key_in old.pinned.recent key true new.pinned.recent → CountsNeed true old new
+    → Needs files (key ∷ []) old new
+needs_hit files key old new asked counts = record {
+  answers = true ∷ [];
+  asked = (new.pinned.recent, asked, refl);
+  needs = counts.needs;
+  hits = λ tells. counts.hits;
+}
+
 module _ (files : Files) (state : RecordState) (cell : CellAt) where
   map_all : (tiles : List CachedTile) → All (FitsCut files state.cut) tiles → IsTrue files.tells
       → IsRecord files state → IsCellOf state cell

@@ -1,6 +1,6 @@
 -- Four texels of one cell that the microcache has.
 use Rattle.std.proofs.Common.{◌≡◌, ℕ, ◌+◌, ◌<◌, ◌≤◌, ◌/◌, ◌%◌, ◌*◌, ◌-◌, true, refl, sym, ap, subst}
-use Rattle.std.proofs.Common.{◌∙◌, arith, List, Result, Ok, Err, Option, Some, None, min, length}
+use Rattle.std.proofs.Common.{◌∙◌, arith, List, [], ◌∷◌, Result, Ok, Err, Option, Some, None, min, length}
 use Rattle.std.specs.Prelude.{IsOkAnd, IfOk, IsSomeAnd}
 use Rattle.std.proofs.lemmas.Nat.{div-mul-add, div-add-mod'}
 use Rattle.tiff_format.specs.declared.fault.TiffFault.{TiffFault}
@@ -32,9 +32,10 @@ use Rattle.pinned_tiles.proofs.TurnLemmas.{stands_has}
 use Rattle.image_cache.specs.Pass.{PassState, counted, counted_together}
 use Rattle.image_cache.specs.Texel.{cell_number_at, cell_of, IsCellIn, IsCellAt, has_cell_by}
 use Rattle.image_cache.specs.Texel.{has_cell_at, IsTexelOf, IsTexelIn}
-use Rattle.image_cache.specs.Call.{CountsNeed, KeepsAllButRecent}
+use Rattle.image_cache.specs.Call.{CountsNeed, Needs, KeepsAllButRecent}
 use Rattle.image_cache.specs.Square.{left_top, right_top, left_bottom, right_bottom}
 use Rattle.image_cache.specs.Square.{LieInOne, LieInOneOf, MeetsAt, MeetsSquare}
+use Rattle.image_cache.proofs.NeedLemmas.{needs_hit}
 use Rattle.image_cache.proofs.TexelLemmas.{at_cell, asks_at, told_by_record}
 
 -- ---- their cell
@@ -104,13 +105,13 @@ has_at state at cell tiles is = by state.layout is
 
 -- ---- what they leave
 
-module _ (state : RecordState) (cell : CellAt) where
+module _ (files : Files) (state : RecordState) (cell : CellAt) where
   -- the first of them turns the microcache to the cell
   meets_first : (at : TexelAt) (old new : PassState) → IsCellIn state at cell
       → has_cell cell old.pinned.recent ≡ true
       → IsAsked key_in old.pinned.recent cell.key true new.pinned.recent
       → AsksFor cell.key old.pinned.recent new.pinned.recent → CountsNeed true old new
-      → KeepsAllButRecent old new → MeetsAt state at old new
+      → KeepsAllButRecent old new → MeetsAt files state at old new
   meets_first at old new is has asked asks need kept = record {
     had = has_at state at cell old.pinned.recent is ∙ has;
     need = need;
@@ -120,13 +121,15 @@ module _ (state : RecordState) (cell : CellAt) where
     moved = at_cell (λ key. new.pinned.recent ≡ key_first key_in key old.pinned.recent) state at
         cell is asked.1;
     kept = kept;
+    needs = at_cell (λ key. Needs files (key ∷ []) old new) state at cell is
+        (needs_hit files cell.key old new asked need);
   }
 
   -- and each further one finds it there
   meets_again : (at : TexelAt) (old new : PassState) → IsCellIn state at cell
       → StandsFirst cell old.pinned.recent → StaysAskedFor cell.key old.pinned.recent
       → new.pinned.recent ≡ old.pinned.recent → CountsNeed true old new
-      → KeepsAllButRecent old new → MeetsAt state at old new
+      → KeepsAllButRecent old new → MeetsAt files state at old new
   meets_again at old new is first stays same need kept =
       meets_first at old new is (stands_has cell old.pinned.recent first)
       (stays.there, same ∙ stays.moved)
@@ -149,15 +152,16 @@ same_but_counts pass n h m k few = record {
   latest = refl;
 }
 
-pub meets_square : (state : RecordState) (square : Square) (cell : CellAt) (old new : PassState)
+pub meets_square : (files : Files) (state : RecordState) (square : Square) (cell : CellAt)
+    (old new : PassState)
     → IsCellIn state (left_top square) cell → LieInOneOf state square
     → has_cell cell old.pinned.recent ≡ true
     → IsAsked key_in old.pinned.recent cell.key true new.pinned.recent
     → AsksFor cell.key old.pinned.recent new.pinned.recent
     → StandsFirst cell new.pinned.recent → StaysAskedFor cell.key new.pinned.recent
     → KeepsAllButRecent old new → new.needs ≡ counted_together old.needs 4
-    → new.hits ≡ counted_together old.hits 4 → MeetsSquare state square old new
-meets_square state square cell old new is one has asked asks first stays kept needs hits =
+    → new.hits ≡ counted_together old.hits 4 → MeetsSquare files state square old new
+meets_square files state square cell old new is one has asked asks first stays kept needs hits =
     let each = cell_of_each state square cell is one in
     let n1 = counted old.needs in
     let h1 = counted old.hits in
@@ -174,7 +178,7 @@ meets_square state square cell old new is one has asked asks first stays kept ne
       first = one_more;
       second = two_more;
       third = three_more;
-      to_first = meets_first state cell (left_top square) old one_more each.first has asked asks
+      to_first = meets_first files state cell (left_top square) old one_more each.first has asked asks
           (record { needs = refl; hits = refl })
           (record {
             place = record {
@@ -190,13 +194,13 @@ meets_square state square cell old new is one has asked asks first stays kept ne
             hand = kept.hand;
             latest = kept.latest;
           });
-      to_second = meets_again state cell (right_top square) one_more two_more each.second first
+      to_second = meets_again files state cell (right_top square) one_more two_more each.second first
           stays refl (record { needs = refl; hits = refl })
           (same_but_counts new n1 h1 n2 h2 kept.few);
-      to_third = meets_again state cell (left_bottom square) two_more three_more each.third first
+      to_third = meets_again files state cell (left_bottom square) two_more three_more each.third first
           stays refl (record { needs = refl; hits = refl })
           (same_but_counts new n2 h2 n3 h3 kept.few);
-      to_last = meets_again state cell (right_bottom square) three_more new each.last first
+      to_last = meets_again files state cell (right_bottom square) three_more new each.last first
           stays refl (record { needs = last_need; hits = last_hit })
           (same_but_counts new n3 h3 new.needs new.hits kept.few);
     }

@@ -1,6 +1,6 @@
 -- What a texel of a record is answered, by the tile of its cell.
-use Rattle.std.proofs.Common.{◌≡◌, ℕ, Bool, true, false, refl, ap, subst, ◌∙◌, List, Result, Ok}
-use Rattle.std.proofs.Common.{Err, Option, Some, ◌<◌, ◌≤◌, nat_lt, arith}
+use Rattle.std.proofs.Common.{◌≡◌, ℕ, Bool, true, false, refl, ap, sym, subst, ◌∙◌, List}
+use Rattle.std.proofs.Common.{Result, Ok, Err, Option, Some, ◌<◌, ◌≤◌, nat_lt, arith}
 use Rattle.std.proofs.lemmas.Bool.{ltb-true, ltb-false}
 use Rattle.tex_world.specs.Counts.{Rises, last_count}
 use Rattle.tex_world.specs.Tap.{TapState}
@@ -110,6 +110,20 @@ at_cell P state at cell is here = by state.layout is
         → IfOk layout (λ kept. P (cell_of state.generation state.file state.cut kept at).key)
     by (Ok kept) same = subst (λ (c : CellAt). P c.key) same here
     by (Err fault) same = tt
+
+-- and so of the key itself
+pub of_cell_at : (P : ℕ → Type 0) (state : RecordState) (at : TexelAt) (cell : CellAt)
+    → IsCellIn state at cell
+    → IfOk state.layout (λ kept. P (cell_of state.generation state.file state.cut kept at).key)
+    → P cell.key
+of_cell_at P state at cell is here = by state.layout is here
+  where
+    by : (layout : Result Kept TiffFault)
+        → IsOkAnd layout (λ kept. cell ≡ cell_of state.generation state.file state.cut kept at)
+        → IfOk layout (λ kept. P (cell_of state.generation state.file state.cut kept at).key)
+        → P cell.key
+    by (Ok kept) same p = subst (λ (c : CellAt). P c.key) (sym same) p
+    by (Err fault) same p = absurd same
 
 pub asks_at : (state : RecordState) (at : TexelAt) (cell : CellAt) (old new : List CachedTile)
     → IsCellIn state at cell → AsksFor cell.key old new → AsksForCellAt state at old new

@@ -106,6 +106,11 @@ pub record Needs (files : Files) (keys : List ℕ) (old new : PassState) : Type 
   pub hits : IsTrue files.tells
       → new.hits ≡ counted_together old.hits (count_by (λ hit. hit) answers)
 
+-- The cell that holds a texel of a record was needed so.
+abbrev pub NeedsCellAt : Files → RecordState → TexelAt → PassState → PassState → Type 0
+NeedsCellAt files state at old new = IfOk state.layout (λ kept. Needs files
+    ((cell_of state.generation state.file state.cut kept at).key ∷ []) old new)
+
 -- No count has fallen.
 pub record CountsOn (old new : PassState) : Type 0 where
   pub needs : old.needs ≤ new.needs

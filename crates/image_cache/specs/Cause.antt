@@ -20,6 +20,7 @@ use Rattle.image_cache.specs.declared.error.NotReleased.TheVariants as unrelease
 use Rattle.texel_values.specs.declared.texel_at.TexelAt.{TexelAt}
 use Rattle.texel_values.specs.Region.{max_texels}
 use Rattle.image_cache.specs.Pass.{PassState}
+use Rattle.image_cache.specs.Call.{KeepsRecent}
 use Rattle.image_cache.specs.Texel.{IsTexelOf}
 
 -- ---- of a texel
@@ -184,6 +185,17 @@ StepCause files r new tap_old tap_new Refuses refused.ReadFault =
 StepCause files r new tap_old tap_new Refuses refused.NoMemory = ⊤
 StepCause files r new tap_old tap_new Refuses (refused.Busy b) = ⊤
 StepCause files r new tap_old tap_new Refuses e = Refuses r e
+
+-- ---- what a refusal leaves
+
+-- A refusal that comes before a cell is needed leaves microcache and counts as they were. The four
+-- that may come of a cell too may leave others.
+abbrev pub KeepsRecentAt : {B : Type 0} → PassState → PassState → CacheError B → Type 0
+KeepsRecentAt old new (refused.Again from to) = ⊤
+KeepsRecentAt old new refused.ReadFault = ⊤
+KeepsRecentAt old new refused.NoMemory = ⊤
+KeepsRecentAt old new (refused.Busy b) = ⊤
+KeepsRecentAt old new _ = KeepsRecent old new
 
 -- ---- other calls
 

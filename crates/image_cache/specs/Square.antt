@@ -1,5 +1,6 @@
 -- When has a microcache all four texels of a square, and what do they leave, one after another?
 use Rattle.std.specs.Prelude.{◌≡◌, true, IsTrue, IsOkAnd, List}
+use Rattle.tex_world.specs.World.{Files}
 use Rattle.texel_filter.specs.declared.square.Square.{Square}
 use Rattle.tiff_format.specs.declared.cut.Cut.{Cut}
 use Rattle.tile_layout.specs.Kept.{Kept}
@@ -9,7 +10,7 @@ use Rattle.texel_values.specs.declared.texel_at.TexelAt.{TexelAt}
 use Rattle.image_cache.specs.Pass.{PassState}
 use Rattle.image_cache.specs.Texel.{cell_number_at, has_cell_at, IsTexelIn}
 use Rattle.image_cache.specs.Call.{CountsNeed, AsksForCellAt, TurnsToCellAt, MovesCellAt}
-use Rattle.image_cache.specs.Call.{KeepsAllButRecent}
+use Rattle.image_cache.specs.Call.{NeedsCellAt, KeepsAllButRecent}
 
 -- ---- the four texels
 
@@ -49,21 +50,23 @@ HasSquareAt state square tiles =
 -- ---- what they leave
 
 -- The microcache had the cell of a texel, which was read there: what `fetch_local` leaves then.
-pub record MeetsAt (state : RecordState) (at : TexelAt) (old new : PassState) : Type 0 where
+pub record MeetsAt (files : Files) (state : RecordState) (at : TexelAt) (old new : PassState)
+    : Type 0 where
   pub had : has_cell_at state at old.pinned.recent ≡ true
   pub need : CountsNeed true old new
   pub asked : AsksForCellAt state at old.pinned.recent new.pinned.recent
   pub turned : TurnsToCellAt state at old.pinned.recent new.pinned.recent
   pub moved : MovesCellAt state at old.pinned.recent new.pinned.recent
   pub kept : KeepsAllButRecent old new
+  pub needs : NeedsCellAt files state at old new
 
 -- All four were read so, one after another, the upper row first.
-pub record MeetsSquare (state : RecordState) (square : Square) (old new : PassState)
-    : Type 0 where
+pub record MeetsSquare (files : Files) (state : RecordState) (square : Square)
+    (old new : PassState) : Type 0 where
   pub first : PassState
   pub second : PassState
   pub third : PassState
-  pub to_first : MeetsAt state (left_top square) old first
-  pub to_second : MeetsAt state (right_top square) first second
-  pub to_third : MeetsAt state (left_bottom square) second third
-  pub to_last : MeetsAt state (right_bottom square) third new
+  pub to_first : MeetsAt files state (left_top square) old first
+  pub to_second : MeetsAt files state (right_top square) first second
+  pub to_third : MeetsAt files state (left_bottom square) second third
+  pub to_last : MeetsAt files state (right_bottom square) third new

@@ -2,6 +2,7 @@
 ghost use Rattle.std.specs.Prelude.{◌≡◌, ◌<◌, ◌≤◌, [], None, length, IfOk, IfErr, OnOk, OnErr};
 ghost use Rattle.tex_world.specs.World.{max_files};
 ghost use Rattle.tile_store.specs.Tag.{tag_of};
+ghost use Rattle.shard_gate.specs.Gate.{max_shards};
 ghost use Rattle.shard_gate.specs.Given.{AtShard, Counts};
 ghost use Rattle.image_cache.specs.Options.{NewCause, first_bad};
 ghost use Rattle.image_cache.specs.Pass.{IsPassOf, IsNewCache, IsFirstPass, IsSecondPass};
@@ -34,7 +35,8 @@ pub struct Cache<T: Tap> {
 }
 
 impl<T: Tap> Model for Cache<T> {
-    ghost use Rattle.std.specs.Prelude.{◌≡◌, length};
+    ghost use Rattle.std.specs.Prelude.{◌≡◌, ◌≤◌, length};
+    ghost use Rattle.shard_gate.specs.Gate.{max_shards};
     ghost use Rattle.image_cache.specs.Pass.{CacheState, cache_state, IsCache};
 
     ghost Value = { CacheState };
@@ -42,7 +44,8 @@ impl<T: Tap> Model for Cache<T> {
     ghost view = { λ c. cache_state c.files c.gate };
 
     ghost invariant = { λ c.
-        (IsCache (cache_state c.files c.gate) × (c.shards ≡ length c.gate.id))
+        (IsCache (cache_state c.files c.gate)
+        × ((c.shards ≡ length c.gate.id) × (c.shards ≤ max_shards)))
         × (c.cut ≡ c.gate.cut) };
 }
 
@@ -73,9 +76,10 @@ impl<T: Tap> Cache<T> {
         self.cut
     }
 
-    /// How many shards its tiles lie in.
+    /// How many shards its tiles lie in, 1 to 64.
     pub fn shards(&self) -> u32
-        ensures { result ≡ length self.now.gate.id }
+        ensures value { result ≡ length self.now.gate.id }
+        ensures few { result ≤ max_shards }
     {
         self.shards
     }

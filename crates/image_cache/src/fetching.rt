@@ -16,7 +16,7 @@ ghost use Rattle.image_cache.specs.Texel.{IsRecordOf, IsTexelIn, IsCellOf, IsCel
 ghost use Rattle.image_cache.specs.Texel.{has_cell_at};
 ghost use Rattle.texel_values.specs.Values.{AreValuesAt};
 ghost use Rattle.image_cache.specs.Call.{CountsNeed, AsksForCellAt, TurnsToCellAt, MovesCellAt};
-ghost use Rattle.image_cache.specs.Call.{AfterNeed, HasNoCall, MissesCellAt};
+ghost use Rattle.image_cache.specs.Call.{NeedsCellAt, AfterNeed, HasNoCall, MissesCellAt};
 ghost use Rattle.image_cache.specs.Making.{AfterMaking};
 ghost use Rattle.image_cache.specs.Call.{LeavesNoHand, KeepsAllButRecent, NoneFalls, AnswersWarm};
 ghost use Rattle.image_cache.specs.Cause.{FetchCause};
@@ -63,6 +63,7 @@ impl<T: Tap> Cache<T> {
             pass.old.pinned.recent pass.new.pinned.recent) }
         ensures turned { OnOk result (TurnsToCellAt known.now at
             pass.old.pinned.recent pass.new.pinned.recent) }
+        ensures needs { OnOk result (NeedsCellAt T.W.files known.now at pass.old pass.new) }
         ensures hand { LeavesNoHand V.Busy pass.old pass.new }
         ensures same { AfterNeed known.now.file pass.old pass.new }
         // Each visit that it makes is that of a `pin`, a `pin_new`, an `unpin` or a `count`. Where
@@ -81,6 +82,9 @@ impl<T: Tap> Cache<T> {
         if self.fetch_kept(pass, known, &cell, at, out) {
             return Ok(());
         }
+        // the record's layout is that of its bytes, and a tile of the key that of its cell
+        let _known = known.generation();
+        pass.know();
         pass.count_need(false);
         self.fetch_cold(waiter, pass, tap, known, &cell, at, out)
     }
@@ -119,6 +123,7 @@ impl<T: Tap> Cache<T> {
             pass.old.pinned.recent pass.new.pinned.recent }
         ensures moved { IsTrue result → MovesCellAt known.now at
             pass.old.pinned.recent pass.new.pinned.recent }
+        ensures needs { IsTrue result → NeedsCellAt T.W.files known.now at pass.old pass.new }
         ensures kept { IsTrue result → KeepsAllButRecent pass.old pass.new }
         // And where not.
         ensures same { IsFalse result → (pass.new ≡ pass.old) × (out.new ≡ out.old) }
@@ -151,6 +156,7 @@ impl<T: Tap> Cache<T> {
             pass.old.pinned.recent pass.new.pinned.recent }
         ensures moved { IsTrue result → MovesCellAt known.now at
             pass.old.pinned.recent pass.new.pinned.recent }
+        ensures needs { IsTrue result → NeedsCellAt T.W.files known.now at pass.old pass.new }
         ensures kept { IsTrue result → KeepsAllButRecent pass.old pass.new }
         // And where not.
         ensures same { IsFalse result → (pass.new ≡ pass.old) × (out.new ≡ out.old) }

@@ -1,5 +1,7 @@
 ghost use Rattle.std.specs.Prelude.{◌≡◌, ◌<◌, ◌≤◌, length, None, slice_index, slice_get};
+ghost use Rattle.std.specs.List.{All};
 ghost use Rattle.std.specs.Option.{option_copied};
+ghost use Rattle.tile_store.specs.Lawful.{FitsCut};
 ghost use Rattle.pinned_tiles.specs.Pinned.{ArePinned};
 ghost use Rattle.image_cache.specs.Pass.{pass_state, max_count, KeepsAllButCounts};
 ghost use Rattle.image_cache.specs.Pass.{counted_together};
@@ -59,7 +61,8 @@ impl<W: World> Pass<W> {
 
     /// How many of these its microcache had. It stays at 18446744073709551615 once it is there.
     pub fn hits(&self) -> u64
-        ensures { result ≡ self.now.hits }
+        ensures value { result ≡ self.now.hits }
+        ensures most { self.now.hits ≤ self.now.needs }
     {
         self.hits
     }
@@ -89,6 +92,7 @@ impl<W: World> Pass<W> {
     /// What holds of it. It does nothing.
     pub(crate) fn know(&self)
         ensures few { length self.now.pinned.recent ≤ 2 }
+        ensures cells { All (FitsCut W.files self.now.pinned.cut) self.now.pinned.recent }
         ensures needs { self.now.needs ≤ max_count }
         ensures hits { self.now.hits ≤ max_count }
     {

@@ -18,7 +18,7 @@ ghost use Rattle.image_cache.specs.Call.{AfterCall, AfterNeed, CountsOn, KeepsGi
 ghost use Rattle.image_cache.specs.Call.{LeavesNoHand, Needs, NoneFalls};
 ghost use Rattle.image_cache.specs.Region.{ReadsRegion, HasAreaAt, area_keys};
 ghost use Rattle.image_cache.specs.Cause.{around, HasCause, TooManyTexels, PixelsRefuses};
-ghost use Rattle.image_cache.specs.Cause.{StepCause, FetchCause};
+ghost use Rattle.image_cache.specs.Cause.{StepCause, FetchCause, KeepsRecentAt};
 
 use crate::cache::Cache;
 use crate::checks::level_in;
@@ -72,6 +72,7 @@ impl<T: Tap> Cache<T> {
         ensures too_large { max_texels < region.now.w * region.now.h
             → result ≡ Err CacheError.RegionTooLarge }
         ensures err { OnErr result (out.new.items ≡ out.old.items) }
+        ensures unread { IfErr result (KeepsRecentAt pass.old pass.new) }
         // What the call leaves.
         ensures latest { KeepsOne T.W.files file self.now.gate.cut pass.old pass.new }
         ensures same { AfterCall file pass.old pass.new
@@ -111,6 +112,7 @@ impl<T: Tap> Cache<T> {
         ensures cause { IfErr result (StepCause T.W.files known.now pass.new.view
             (T.state tap.old) (T.state tap.new) (PixelsRefuses region.now.level)) }
         ensures err { OnErr result (out.new.items ≡ out.old.items) }
+        ensures unread { IfErr result (KeepsRecentAt pass.old pass.new) }
         // What the call leaves.
         ensures same { AfterNeed known.now.file pass.old pass.new }
         ensures counts { CountsOn pass.old pass.new }

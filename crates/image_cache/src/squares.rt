@@ -41,7 +41,8 @@ impl<T: Tap> Cache<T> {
             ForSome (T.W.files.held known.now.file known.now.generation) (λ bytes.
             AreCorners (channel_value_of bytes) square.now channels out.new) }
         // What the call leaves of the pass, where it has the cell.
-        ensures met { IsTrue result → MeetsSquare known.now square.now pass.old pass.new }
+        ensures met { IsTrue result →
+            MeetsSquare T.W.files known.now square.now pass.old pass.new }
         // And where not.
         ensures same { IsFalse result → (pass.new ≡ pass.old) × (out.new ≡ out.old) }
     {

@@ -1,18 +1,42 @@
 -- What is said of the cells that a pass asked for is so of a pass with another record.
-use Rattle.std.proofs.Common.{◌≡◌, ℕ, ap, subst, ◌∙◌, List}
+use Rattle.std.proofs.Common.{◌≡◌, ℕ, ap, refl, subst, ◌∙◌, List}
 use Rattle.std.proofs.Common.{[], ◌∷◌, length}
-use Rattle.std.specs.Prelude.{if◌then◌else◌}
+use Rattle.std.specs.Prelude.{if◌then◌else◌, IfOk}
+use Rattle.tex_world.specs.World.{Files}
+use Rattle.tile_layout.specs.Kept.{Kept}
 use Rattle.tile_store.specs.Tile.{CachedTile}
 use Rattle.file_table.specs.Record.{RecordState}
 use Rattle.texel_filter.specs.Image.{Texel}
 use Rattle.image_cache.specs.Pass.{PassState, KeepsAllButRecord, counted, counted_together}
 use Rattle.image_cache.specs.Texel.{has_cell_at}
-use Rattle.image_cache.specs.Call.{AsksForCellAt}
-use Rattle.texture_sys.specs.Needs.{at_of, AsksForEach, AsksForCells}
+use Rattle.image_cache.specs.Call.{AsksForCellAt, Needs}
+use Rattle.image_cache.proofs.FillLemmas.{if_ok, needs_between}
+use Rattle.texture_sys.specs.Needs.{at_of, look_keys_on, AsksForEach, AsksForCells}
 
-module _ (state : RecordState) where
+module _ (files : Files) (state : RecordState) where
+  -- what was needed of a record between two moments at which only the record was another
+  needs_from : (keys : Kept → List ℕ) (old mid new : PassState) → KeepsAllButRecord old mid
+      → IfOk state.layout (λ kept. Needs files (keys kept) mid new)
+      → IfOk state.layout (λ kept. Needs files (keys kept) old new)
+  needs_from keys old mid new same needs = if_ok state.layout
+      (λ kept. Needs files (keys kept) mid new) (λ kept. Needs files (keys kept) old new)
+      (λ kept. needs_between files (keys kept) old mid new new same.tiles.recent same.counts refl
+      (record { needs = refl; hits = refl })) needs
+
+  needs_to : (keys : Kept → List ℕ) (old mid new : PassState) → KeepsAllButRecord mid new
+      → IfOk state.layout (λ kept. Needs files (keys kept) old mid)
+      → IfOk state.layout (λ kept. Needs files (keys kept) old new)
+  needs_to keys old mid new same needs = if_ok state.layout
+      (λ kept. Needs files (keys kept) old mid) (λ kept. Needs files (keys kept) old new)
+      (λ kept. needs_between files (keys kept) old old mid new refl
+      (record { needs = refl; hits = refl }) same.tiles.recent same.counts) needs
+
+  -- the keys of the cells that hold these texels
+  abbrev keys_of : List Texel → Kept → List ℕ
+  keys_of texels kept = look_keys_on state.generation state.file state.cut kept texels
+
   each_to : (texels : List Texel) (old mid new : PassState) → KeepsAllButRecord mid new
-      → AsksForEach state texels old mid → AsksForEach state texels old new
+      → AsksForEach files state texels old mid → AsksForEach files state texels old new
   each_to [] old mid new same (counts, recent) = (
     record {
       needs = same.counts.needs ∙ counts.needs;
@@ -25,14 +49,15 @@ module _ (state : RecordState) where
 
   -- what is said of a pass is so of one that has another record
   pub asks_to : (texels : List Texel) (old mid new : PassState) → KeepsAllButRecord mid new
-      → AsksForCells state texels old mid → AsksForCells state texels old new
+      → AsksForCells files state texels old mid → AsksForCells files state texels old new
   asks_to texels old mid new same asks = record {
     each = each_to texels old mid new same asks.each;
     needs = same.counts.needs ∙ asks.needs;
+    keys = needs_to (keys_of texels) old mid new same asks.keys;
   }
 
   each_from : (texels : List Texel) (old mid new : PassState) → KeepsAllButRecord old mid
-      → AsksForEach state texels mid new → AsksForEach state texels old new
+      → AsksForEach files state texels mid new → AsksForEach files state texels old new
   each_from [] old mid new same (counts, recent) = (
     record {
       needs = counts.needs ∙ same.counts.needs;
@@ -53,13 +78,15 @@ module _ (state : RecordState) where
       };
       asked = subst (λ (tiles : List CachedTile). AsksForCellAt state (at_of t) tiles
           next.pinned.recent) same.tiles.recent first.asked;
+      needs = needs_from (keys_of (t ∷ [])) old mid next same first.needs;
     },
     rest,
   )
 
   pub asks_from : (texels : List Texel) (old mid new : PassState) → KeepsAllButRecord old mid
-      → AsksForCells state texels mid new → AsksForCells state texels old new
+      → AsksForCells files state texels mid new → AsksForCells files state texels old new
   asks_from texels old mid new same asks = record {
     each = each_from texels old mid new same asks.each;
     needs = asks.needs ∙ ap (λ (n : ℕ). counted_together n (length texels)) same.counts.needs;
+    keys = needs_from (keys_of texels) old mid new same asks.keys;
   }

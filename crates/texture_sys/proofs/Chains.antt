@@ -1,5 +1,5 @@
 -- What do the fetches of a lookup through the cache leave, one after another?
-use Rattle.std.proofs.Common.{◌≡◌, ◌≤◌, refl, ap, ◌∙◌, inl, inr, arith}
+use Rattle.std.proofs.Common.{◌≡◌, ◌≤◌, refl, ap, ◌∙◌, inl, inr}
 use Rattle.std.proofs.Common.{List, [], ◌∷◌, length, Result, Ok, Err}
 use Rattle.std.specs.Prelude.{slice_index_or, IfErr, OnOk}
 use Rattle.std.proofs.lemmas.List.Elements.{All-head, All-tail}
@@ -9,13 +9,16 @@ use Rattle.file_table.specs.Record.{RecordState}
 use Rattle.texel_filter.specs.Image.{Texel}
 use Rattle.texel_filter.specs.Calls.{EachAnswered, OneRefused, LeftBy}
 use Rattle.image_cache.specs.declared.error.CacheError.{CacheError}
-use Rattle.image_cache.specs.Pass.{PassState, counted_together, max_count}
-use Rattle.image_cache.specs.Call.{MovesCellAt}
+use Rattle.image_cache.specs.Pass.{PassState}
+use Rattle.image_cache.specs.Texel.{has_cell_at}
+use Rattle.image_cache.specs.Call.{MovesCellAt, CountsOn}
 use Rattle.image_cache.specs.Cause.{FetchCause}
 use Rattle.image_cache.proofs.TexelLemmas.{cause_since}
 use Rattle.texture_sys.specs.Needs.{at_of, HasCell, HasCells, AsksForEach}
 use Rattle.texture_sys.specs.Needs.{AsksForCells}
 use Rattle.texture_sys.specs.Fetches.{PassTap, Fetches, Refuses}
+use Rattle.texture_sys.proofs.Counted.{AreCounts, need_counts, counts_chain, each_counts}
+use Rattle.texture_sys.proofs.Counted.{asks_cells}
 use Rattle.texture_sys.proofs.MovedCells.{has_moved}
 use Rattle.texture_sys.proofs.Stays.{Leaves, leaves_none, leaves_chain}
 
@@ -25,16 +28,17 @@ pub still_there : (state : RecordState) (at : Texel) (texels : List Texel) (old 
 still_there state at texels old new moved has =
     λ i d lt. has_moved state (at_of at) (at_of (slice_index_or texels i d)) old new moved ∙ has i d lt
 
-module _ (state : RecordState) where
+module _ (files : Files) (state : RecordState) where
   each_leaves : (texels : List Texel) (p q : PassTap) → length p.pass.pinned.recent ≤ 2
-      → EachAnswered (Fetches state) p texels q → Leaves state.file p q
+      → EachAnswered (Fetches files state) p texels q → Leaves state.file p q
   each_leaves [] p q few is = leaves_none state.file p q few is
   each_leaves (t ∷ texels) p q few (mid, first, rest) =
       leaves_chain state.file p mid q first.pass first.tap
       (each_leaves texels mid q first.pass.few rest)
 
-  pub each_asks : (texels : List Texel) (p q : PassTap) → EachAnswered (Fetches state) p texels q
-      → AsksForEach state texels p.pass q.pass
+  pub each_asks : (texels : List Texel) (p q : PassTap)
+      → EachAnswered (Fetches files state) p texels q
+      → AsksForEach files state texels p.pass q.pass
   each_asks [] p q is =
       let pass : q.pass ≡ p.pass = ap (λ (x : PassTap). x.pass) is in (
         record { needs = ap (λ (x : PassState). x.needs) pass; hits = ap (λ (x : PassState). x.hits) pass },
@@ -45,7 +49,7 @@ module _ (state : RecordState) where
 
   -- they have no call of the tap where the microcache has all cells
   pub each_warm : (texels : List Texel) (p q : PassTap)
-      → HasCells state p.pass.pinned.recent texels → EachAnswered (Fetches state) p texels q
+      → HasCells state p.pass.pinned.recent texels → EachAnswered (Fetches files state) p texels q
       → q.tap ≡ p.tap
   each_warm [] p q has is = ap (λ (x : PassTap). x.tap) is
   each_warm (t ∷ texels) p q has (mid, first, rest) =
@@ -55,16 +59,30 @@ module _ (state : RecordState) where
       (All-tail (HasCell state p.pass.pinned.recent) t texels has)) rest
       ∙ warm.tap
 
-  module _ {B : Type 0} (files : Files) where
+  module _ {B : Type 0} where
     one_leaves : (texels : List Texel) (p q : PassTap) (e : CacheError B)
-        → OneRefused (Fetches state) (Refuses files state) p texels e q → Leaves state.file p q
+        → OneRefused (Fetches files state) (Refuses files state) p texels e q
+        → Leaves state.file p q
     one_leaves [] p q e none = absurd none
     one_leaves (t ∷ texels) p q e (inl is) = record { pass = is.pass; tap = is.tap }
     one_leaves (t ∷ texels) p q e (inr (mid, first, rest)) =
         leaves_chain state.file p mid q first.pass first.tap (one_leaves texels mid q e rest)
 
+    pub one_counts : (texels : List Texel) (p q : PassTap) (e : CacheError B)
+        → AreCounts p.pass → OneRefused (Fetches files state) (Refuses files state) p texels e q
+        → CountsOn p.pass q.pass
+    one_counts [] p q e are none = absurd none
+    one_counts (t ∷ texels) p q e are (inl is) =
+        (need_counts (has_cell_at state (at_of t) p.pass.pinned.recent) p.pass q.pass are
+        is.need).on
+    one_counts (t ∷ texels) p q e are (inr (mid, first, rest)) =
+        let further = need_counts (has_cell_at state (at_of t) p.pass.pinned.recent) p.pass
+        mid.pass are first.asks.need in
+        counts_chain p.pass mid.pass q.pass further.on
+        (one_counts texels mid q e further.are rest)
+
     pub one_cause : (texels : List Texel) (p q : PassTap) (e : CacheError B)
-        → OneRefused (Fetches state) (Refuses files state) p texels e q
+        → OneRefused (Fetches files state) (Refuses files state) p texels e q
         → FetchCause files state q.pass.view p.tap q.tap e
     one_cause [] p q e none = absurd none
     one_cause (t ∷ texels) p q e (inl is) = is.cause
@@ -75,7 +93,7 @@ module _ (state : RecordState) where
     -- none is refused where the microcache has all cells
     pub one_cold : (texels : List Texel) (p q : PassTap) (e : CacheError B)
         → HasCells state p.pass.pinned.recent texels
-        → OneRefused (Fetches state) (Refuses files state) p texels e q → ⊥
+        → OneRefused (Fetches files state) (Refuses files state) p texels e q → ⊥
     one_cold [] p q e has none = none
     one_cold (t ∷ texels) p q e has (inl is) =
         cc (All-head (HasCell state p.pass.pinned.recent) t texels has, is.cold)
@@ -85,43 +103,38 @@ module _ (state : RecordState) where
         mid.pass.pinned.recent warm.moved
         (All-tail (HasCell state p.pass.pinned.recent) t texels has)) rest
 
--- ---- counts
-
--- as many needs are counted
-pub each_needs : (state : RecordState) (texels : List Texel) (old new : PassState)
-    → old.needs ≤ max_count → AsksForEach state texels old new
-    → new.needs ≡ counted_together old.needs (length texels)
-each_needs state [] old new high (same, recent) = grind (arith, same.needs)
-each_needs state (t ∷ texels) old new high (mid, first, rest) =
-    let counted = first.need.needs in
-    let later = each_needs state texels mid new (omega (arith, counted)) rest in
-    grind (arith, counted, later)
-
 -- ---- a whole lookup
 
 module _ {B : Type 0} (files : Files) (state : RecordState) (texels : List Texel) (p q : PassTap)
   where
     pub left_leaves : (result : Result (Unit {0}) (CacheError B)) → length p.pass.pinned.recent ≤ 2
-        → LeftBy (Fetches state) (Refuses files state) p texels q result → Leaves state.file p q
-    left_leaves (Ok done) few left = each_leaves state texels p q few left
-    left_leaves (Err e) few left = one_leaves state files texels p q e left
+        → LeftBy (Fetches files state) (Refuses files state) p texels q result
+        → Leaves state.file p q
+    left_leaves (Ok done) few left = each_leaves files state texels p q few left
+    left_leaves (Err e) few left = one_leaves files state texels p q e left
 
     pub left_cause : (result : Result (Unit {0}) (CacheError B))
-        → LeftBy (Fetches state) (Refuses files state) p texels q result
+        → LeftBy (Fetches files state) (Refuses files state) p texels q result
         → IfErr result (FetchCause files state q.pass.view p.tap q.tap)
     left_cause (Ok done) left = tt
-    left_cause (Err e) left = one_cause state files texels p q e left
+    left_cause (Err e) left = one_cause files state texels p q e left
 
-    pub left_asks : (result : Result (Unit {0}) (CacheError B)) → p.pass.needs ≤ max_count
-        → LeftBy (Fetches state) (Refuses files state) p texels q result
-        → OnOk result (AsksForCells state texels p.pass q.pass)
-    left_asks (Ok done) high left =
-        let each = each_asks state texels p q left in
-        record { each = each; needs = each_needs state texels p.pass q.pass high each }
-    left_asks (Err e) high left = tt
+    pub left_counts : (result : Result (Unit {0}) (CacheError B)) → AreCounts p.pass
+        → LeftBy (Fetches files state) (Refuses files state) p texels q result
+        → CountsOn p.pass q.pass
+    left_counts (Ok done) are left =
+        each_counts files state texels p.pass q.pass are (each_asks files state texels p q left)
+    left_counts (Err e) are left = one_counts files state texels p q e are left
+
+    pub left_asks : (result : Result (Unit {0}) (CacheError B)) → AreCounts p.pass
+        → LeftBy (Fetches files state) (Refuses files state) p texels q result
+        → OnOk result (AsksForCells files state texels p.pass q.pass)
+    left_asks (Ok done) are left =
+        asks_cells files state texels p.pass q.pass are (each_asks files state texels p q left)
+    left_asks (Err e) are left = tt
 
     pub left_warm : (result : Result (Unit {0}) (CacheError B))
-        → LeftBy (Fetches state) (Refuses files state) p texels q result
+        → LeftBy (Fetches files state) (Refuses files state) p texels q result
         → HasCells state p.pass.pinned.recent texels → (result ≡ Ok tt) × (q.tap ≡ p.tap)
-    left_warm (Ok done) left has = (refl, each_warm state texels p q has left)
-    left_warm (Err e) left has = absurd (one_cold state files texels p q e has left)
+    left_warm (Ok done) left has = (refl, each_warm files state texels p q has left)
+    left_warm (Err e) left has = absurd (one_cold files state texels p q e has left)

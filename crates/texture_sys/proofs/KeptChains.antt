@@ -3,14 +3,16 @@ use Rattle.std.proofs.Common.{◌≡◌, ◌≤◌, refl, sym, ap, subst, ◌∙
 use Rattle.std.proofs.Common.{length, Result, Ok, Err}
 use Rattle.std.specs.Prelude.{◌↔◌, IsTrue, is_ok}
 use Rattle.std.proofs.lemmas.List.Elements.{All-nil, All-cons, All-head, All-tail}
+use Rattle.tex_world.specs.World.{Files}
 use Rattle.file_table.specs.Record.{RecordState}
 use Rattle.texel_filter.specs.Image.{Texel}
 use Rattle.texel_filter.specs.Calls.{EachAnswered, OneRefused, LeftBy}
-use Rattle.image_cache.specs.Pass.{PassState, max_count}
-use Rattle.image_cache.specs.Call.{KeepsAllButRecent}
+use Rattle.image_cache.specs.Pass.{PassState}
+use Rattle.image_cache.specs.Call.{KeepsAllButRecent, CountsOn}
 use Rattle.texture_sys.specs.Needs.{HasCell, HasCells, AsksForEach, AsksForCells}
 use Rattle.texture_sys.specs.Fetches.{FindsCell, FetchesKept, Lacks}
-use Rattle.texture_sys.proofs.Chains.{still_there, each_needs}
+use Rattle.texture_sys.proofs.Counted.{AreCounts, each_counts, asks_cells}
+use Rattle.texture_sys.proofs.Chains.{still_there}
 
 recent_none : (p q : PassState) → length p.pinned.recent ≤ 2 → q ≡ p → KeepsAllButRecent p q
 recent_none p q few is = subst (λ (x : PassState). KeepsAllButRecent p x) (sym is) (record {
@@ -40,17 +42,18 @@ recent_chain a b c p q = record {
   latest = q.latest ∙ p.latest;
 }
 
-module _ (state : RecordState) where
+module _ (files : Files) (state : RecordState) where
   -- ---- texels
 
   pub kept_leaves : (texels : List Texel) (p q : PassState) → length p.pinned.recent ≤ 2
-      → EachAnswered (FetchesKept state) p texels q → KeepsAllButRecent p q
+      → EachAnswered (FetchesKept files state) p texels q → KeepsAllButRecent p q
   kept_leaves [] p q few is = recent_none p q few is
   kept_leaves (t ∷ texels) p q few (mid, first, rest) =
       recent_chain p mid q first.pass (kept_leaves texels mid q first.pass.few rest)
 
-  kept_each : (texels : List Texel) (p q : PassState) → EachAnswered (FetchesKept state) p texels q
-      → AsksForEach state texels p q
+  kept_each : (texels : List Texel) (p q : PassState)
+      → EachAnswered (FetchesKept files state) p texels q
+      → AsksForEach files state texels p q
   kept_each [] p q is = (
     record {
       needs = ap (λ (x : PassState). x.needs) is;
@@ -60,11 +63,15 @@ module _ (state : RecordState) where
   )
   kept_each (t ∷ texels) p q (mid, first, rest) = (mid, first.asks, kept_each texels mid q rest)
 
-  pub kept_asks : (texels : List Texel) (p q : PassState) → p.needs ≤ max_count
-      → EachAnswered (FetchesKept state) p texels q → AsksForCells state texels p q
-  kept_asks texels p q high each =
-      let asks = kept_each texels p q each in
-      record { each = asks; needs = each_needs state texels p q high asks }
+  pub kept_asks : (texels : List Texel) (p q : PassState) → AreCounts p
+      → EachAnswered (FetchesKept files state) p texels q → AsksForCells files state texels p q
+  kept_asks texels p q are each =
+      asks_cells files state texels p q are (kept_each texels p q each)
+
+  pub kept_counts : (texels : List Texel) (p q : PassState) → AreCounts p
+      → EachAnswered (FetchesKept files state) p texels q → CountsOn p q
+  kept_counts texels p q are each =
+      each_counts files state texels p q are (kept_each texels p q each)
 
   -- ---- cells
 
@@ -80,7 +87,7 @@ module _ (state : RecordState) where
     -- none is refused where the microcache has all cells
     pub kept_none : (texels : List Texel) (p q : PassState) (e : E)
         → HasCells state p.pinned.recent texels
-        → OneRefused (FetchesKept state) (Lacks state) p texels e q → ⊥
+        → OneRefused (FetchesKept files state) (Lacks state) p texels e q → ⊥
     kept_none [] p q e has none = none
     kept_none (t ∷ texels) p q e has (inl is) =
         cc (All-head (HasCell state p.pinned.recent) t texels has, is.lacks)

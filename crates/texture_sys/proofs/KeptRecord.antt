@@ -57,15 +57,13 @@ module _ (files : Files) (file : ℕ) (cut : Cut) (old mid new : PassState) (k :
   pub texture_kept : {B : Type 0} (r : TexRequest) (tap_mid tap_new : TapState)
       (result : Result ℕ (CacheError B)) → KeepsAllButRecord old mid
       → IfOk result (λ g. g ≡ k.generation)
-      → OnOk result (AsksForCells k (visits_on k r) mid new)
+      → OnOk result (AsksForCells files k (visits_on k r) mid new)
       → IfErr result (LookCause files k new.view tap_mid tap_new)
       → KeepsRecord files file cut r old new result
   texture_kept r tap_mid tap_new (Ok g) same is asks cause =
-      is_kept (IsLookedUp files file cut r old new g) (record {
-        given = later;
-        of = sym is;
-        asks = asks_from k (visits_on k r) old mid new same asks;
-      })
+      let asked = asks_from files k (visits_on k r) old mid new same asks in
+      is_kept (IsLookedUp files file cut r old new g)
+      (record { given = later; of = sym is; asks = asked; needs = asked.keys })
   texture_kept r tap_mid tap_new (Err e) same is asks cause = after tap_mid tap_new e cause
 
 -- ---- a file that was not opened
@@ -102,14 +100,11 @@ module _ {B : Type 0} (files : Files) (file : ℕ) (cut : Cut) where
 pub local_kept : (files : Files) (file : ℕ) (cut : Cut) (r : TexRequest)
     (old mid looked new : PassState) (k : RecordState) (g : ℕ)
     → GivesRecord files file cut old.view new.view k → new.latest ≡ Some k → k.generation ≡ g
-    → KeepsAllButRecord old mid → AsksForCells k (visits_on k r) mid looked
+    → KeepsAllButRecord old mid → AsksForCells files k (visits_on k r) mid looked
     → KeepsAllButRecord looked new
     → IsSomeAnd new.latest (IsLookedUp files file cut r old new g)
 local_kept files file cut r old mid looked new k g given latest is before asks behind =
+    let asked = asks_to files k (visits_on k r) old looked new behind
+    (asks_from files k (visits_on k r) old mid looked before asks) in
     subst (λ (o : Option RecordState). IsSomeAnd o (IsLookedUp files file cut r old new g))
-    (sym latest) (record {
-      given = given;
-      of = is;
-      asks = asks_to k (visits_on k r) old looked new behind
-          (asks_from k (visits_on k r) old mid looked before asks);
-    })
+    (sym latest) (record { given = given; of = is; asks = asked; needs = asked.keys })

@@ -1,6 +1,7 @@
 mod MovedCells
 mod Lent
 mod Stays
+mod Counted
 mod Chains
 mod KeptChains
 pub mod LookLemmas

@@ -26,21 +26,22 @@ same_view state a b same = subst (λ (v : ViewState). KeepsView state.file a v) 
   steps_others = λ f other. refl;
 })
 
-asks_met : (state : RecordState) (texel : Texel) (old new : PassState)
-    → MeetsAt state (at_of texel) old new → AsksForCell state texel old new
-asks_met state texel old new met = record {
+asks_met : (files : Files) (state : RecordState) (texel : Texel) (old new : PassState)
+    → MeetsAt files state (at_of texel) old new → AsksForCell files state texel old new
+asks_met files state texel old new met = record {
   need = subst (λ (hit : Bool). CountsNeed hit old new) (sym met.had) met.need;
   asked = met.asked;
+  needs = met.needs;
 }
 
 -- so one of them was fetched
-pub fetches_met : (state : RecordState) (texel : Texel) (tap : TapState) (old new : PassState)
-    → MeetsAt state (at_of texel) old new
-    → Fetches state (pass_tap old tap) texel (pass_tap new tap)
-fetches_met state texel tap old new met =
+pub fetches_met : (files : Files) (state : RecordState) (texel : Texel) (tap : TapState)
+    (old new : PassState) → MeetsAt files state (at_of texel) old new
+    → Fetches files state (pass_tap old tap) texel (pass_tap new tap)
+fetches_met files state texel tap old new met =
     let view = met.kept.view in
     record {
-      asks = asks_met state texel old new met;
+      asks = asks_met files state texel old new met;
       pass = record {
         place = met.kept.place;
         view = same_view state old.view new.view view;
@@ -54,11 +55,11 @@ fetches_met state texel tap old new met =
     }
 
 -- and so where nothing but the microcache is asked
-pub kept_met : (state : RecordState) (texel : Texel) (old new : PassState)
-    → MeetsAt state (at_of texel) old new → FetchesKept state old texel new
-kept_met state texel old new met = record {
+pub kept_met : (files : Files) (state : RecordState) (texel : Texel) (old new : PassState)
+    → MeetsAt files state (at_of texel) old new → FetchesKept files state old texel new
+kept_met files state texel old new met = record {
   had = met.had;
-  asks = asks_met state texel old new met;
+  asks = asks_met files state texel old new met;
   pass = met.kept;
   moved = met.moved;
 }
@@ -81,10 +82,11 @@ none_met gate old new kept = purges_none gate old.pinned.seat new.pinned.seat
 -- ---- from a pass that is as it was
 
 module _ (a b : PassState) (same : b ≡ a) where
-  pub fetches_from : (state : RecordState) (texel : Texel) (tap : TapState) (new : PassTap)
-      → Fetches state (pass_tap b tap) texel new → Fetches state (pass_tap a tap) texel new
-  fetches_from state texel tap new fetched =
-      subst (λ (p : PassState). Fetches state (pass_tap p tap) texel new) same fetched
+  pub fetches_from : (files : Files) (state : RecordState) (texel : Texel) (tap : TapState)
+      (new : PassTap) → Fetches files state (pass_tap b tap) texel new
+      → Fetches files state (pass_tap a tap) texel new
+  fetches_from files state texel tap new fetched =
+      subst (λ (p : PassState). Fetches files state (pass_tap p tap) texel new) same fetched
 
   pub refuses_from : {B : Type 0} (files : Files) (state : RecordState) (texel : Texel)
       (tap : TapState) (e : CacheError B) (new : PassTap)
@@ -99,10 +101,10 @@ module _ (a b : PassState) (same : b ≡ a) where
   visits_from gate new visits =
       subst (λ (p : PassState). PurgesNone gate p.pinned.seat new.pinned.seat) same visits
 
-  pub kept_from : (state : RecordState) (texel : Texel) (new : PassState)
-      → FetchesKept state b texel new → FetchesKept state a texel new
-  kept_from state texel new fetched =
-      subst (λ (p : PassState). FetchesKept state p texel new) same fetched
+  pub kept_from : (files : Files) (state : RecordState) (texel : Texel) (new : PassState)
+      → FetchesKept files state b texel new → FetchesKept files state a texel new
+  kept_from files state texel new fetched =
+      subst (λ (p : PassState). FetchesKept files state p texel new) same fetched
 
   pub lacks_from : {E : Type 0} (state : RecordState) (texel : Texel) (e : E) (new : PassState)
       → Lacks state b texel e new → Lacks state a texel e new

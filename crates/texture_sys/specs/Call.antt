@@ -15,9 +15,9 @@ use Rattle.texel_filter.specs.declared.request.TexRequest.{TexRequest}
 use Rattle.image_cache.specs.declared.error.CacheError.{CacheError}
 use Rattle.image_cache.specs.declared.error.CacheError.TheVariants as refused
 use Rattle.image_cache.specs.Pass.{PassState, SamePlace}
-use Rattle.image_cache.specs.Call.{Serves}
+use Rattle.image_cache.specs.Call.{Serves, CountsOn}
 use Rattle.texture_sys.specs.Look.{look_on}
-use Rattle.texture_sys.specs.Needs.{visits_on, HasCells, AsksForCells}
+use Rattle.texture_sys.specs.Needs.{visits_on, HasCells, AsksForCells, NeedsCells}
 
 -- ---- answers
 
@@ -82,22 +82,24 @@ IsUnfit k refused.HoldsFull = ⊥
 
 -- ---- what a lookup leaves
 
--- The pass has looked at this file's word, and at no other. No number that it had seen has fallen,
--- its microcache has two tiles at most, and its holds are as they were.
+-- The pass has looked at this file's word, and at no other. No number that it had seen and no count
+-- has fallen, its microcache has two tiles at most, and its holds are as they were.
 pub record AfterLookup (file : ℕ) (old new : PassState) : Type 0 where
   pub place : SamePlace old new
   pub view : KeepsView file old.view new.view
   pub looks : slice_index old.view.steps file < slice_index new.view.steps file
   pub few : length new.pinned.recent ≤ 2
   pub holds : new.pinned.holds ≡ old.pinned.holds
+  pub counts : CountsOn old new
 
 -- The record is that of the generation that was answered, and the cells that the lookup needed of
--- it were asked for.
+-- it were asked for, one after another.
 pub record IsLookedUp (files : Files) (file : ℕ) (cut : Cut) (r : TexRequest) (old new : PassState)
     (generation : ℕ) (state : RecordState) : Type 0 where
   pub given : GivesRecord files file cut old.view new.view state
   pub of : state.generation ≡ generation
-  pub asks : AsksForCells state (visits_on state r) old new
+  pub asks : AsksForCells files state (visits_on state r) old new
+  pub needs : NeedsCells files state (visits_on state r) old new
 
 -- The record is that of the generation that was refused.
 pub record IsRefused {B : Type 0} (files : Files) (file : ℕ) (cut : Cut) (old new : PassState)

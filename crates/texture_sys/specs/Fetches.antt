@@ -10,7 +10,7 @@ use Rattle.texel_filter.specs.Image.{Values, Texel}
 use Rattle.image_cache.specs.declared.error.CacheError.{CacheError}
 use Rattle.image_cache.specs.Pass.{CacheState, PassState}
 use Rattle.image_cache.specs.Texel.{has_cell_at}
-use Rattle.image_cache.specs.Call.{AfterNeed, KeepsAllButRecent, NoneFalls}
+use Rattle.image_cache.specs.Call.{CountsNeed, AfterNeed, KeepsAllButRecent, NoneFalls}
 use Rattle.image_cache.specs.Cause.{FetchCause}
 use Rattle.image_cache.specs.Call.{MovesCellAt}
 use Rattle.texture_sys.specs.Look.{sizes_known}
@@ -57,29 +57,31 @@ pub record IsWarmFetch (state : RecordState) (old : PassTap) (texel : Texel) (ne
   pub moved : MovesCellAt state (at_of texel) old.pass.pinned.recent new.pass.pinned.recent
 
 -- A texel of a record was fetched. Where the microcache had its cell, from there.
-pub record Fetches (state : RecordState) (old : PassTap) (texel : Texel) (new : PassTap)
-    : Type 0 where
-  pub asks : AsksForCell state texel old.pass new.pass
+pub record Fetches (files : Files) (state : RecordState) (old : PassTap) (texel : Texel)
+    (new : PassTap) : Type 0 where
+  pub asks : AsksForCell files state texel old.pass new.pass
   pub pass : AfterNeed state.file old.pass new.pass
   pub tap : NoneFalls old.tap new.tap
   pub warm : has_cell_at state (at_of texel) old.pass.pinned.recent ≡ true
       → IsWarmFetch state old texel new
 
--- It was not, for one of the causes of `fetch`. The microcache lacked its cell.
+-- It was not, for one of the causes of `fetch`. The microcache lacked its cell, and one need is
+-- counted.
 pub record Refuses {B : Type 0} (files : Files) (state : RecordState) (old : PassTap)
     (texel : Texel) (e : CacheError B) (new : PassTap) : Type 0 where
   pub cause : FetchCause files state new.pass.view old.tap new.tap e
   pub pass : AfterNeed state.file old.pass new.pass
   pub tap : NoneFalls old.tap new.tap
   pub cold : has_cell_at state (at_of texel) old.pass.pinned.recent ≡ false
+  pub need : CountsNeed (has_cell_at state (at_of texel) old.pass.pinned.recent) old.pass new.pass
 
 -- ---- fetches of what the microcache has
 
 -- A texel of a record was read from its cell in the microcache.
-pub record FetchesKept (state : RecordState) (old : PassState) (texel : Texel) (new : PassState)
-    : Type 0 where
+pub record FetchesKept (files : Files) (state : RecordState) (old : PassState) (texel : Texel)
+    (new : PassState) : Type 0 where
   pub had : has_cell_at state (at_of texel) old.pinned.recent ≡ true
-  pub asks : AsksForCell state texel old new
+  pub asks : AsksForCell files state texel old new
   pub pass : KeepsAllButRecent old new
   pub moved : MovesCellAt state (at_of texel) old.pinned.recent new.pinned.recent
 

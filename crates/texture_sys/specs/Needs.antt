@@ -1,6 +1,9 @@
 -- Which cells does a lookup need, when has a microcache all of them, and what do the needs leave?
-use Rattle.std.specs.Prelude.{◌≡◌, List, [], ◌∷◌, length, true}
+use Rattle.std.specs.Prelude.{◌≡◌, ℕ, List, [], ◌∷◌, map, length, true, IfOk}
 use Rattle.std.specs.List.{All}
+use Rattle.tex_world.specs.World.{Files}
+use Rattle.tiff_format.specs.declared.cut.Cut.{Cut}
+use Rattle.tile_layout.specs.Kept.{Kept}
 use Rattle.tile_store.specs.Tile.{CachedTile}
 use Rattle.file_table.specs.Record.{RecordState}
 use Rattle.texel_filter.specs.declared.request.TexRequest.{TexRequest}
@@ -8,8 +11,8 @@ use Rattle.texel_filter.specs.Image.{Texel}
 use Rattle.texel_filter.specs.Visits.{lookup_visits}
 use Rattle.texel_values.specs.declared.texel_at.TexelAt.{TexelAt}
 use Rattle.image_cache.specs.Pass.{PassState, SameCounts, counted_together}
-use Rattle.image_cache.specs.Texel.{has_cell_at}
-use Rattle.image_cache.specs.Call.{CountsNeed, AsksForCellAt}
+use Rattle.image_cache.specs.Texel.{has_cell_at, cell_of}
+use Rattle.image_cache.specs.Call.{CountsNeed, AsksForCellAt, Needs, NeedsCellAt}
 use Rattle.texture_sys.specs.Look.{sizes_known}
 
 -- the texel of an image, as the cache names it
@@ -32,20 +35,34 @@ HasCells state tiles texels = All (HasCell state tiles) texels
 
 -- ---- asking for them
 
+-- the keys of the cells that hold these texels, of a generation of a file
+abbrev pub look_keys_on : ℕ → ℕ → Cut → Kept → List Texel → List ℕ
+look_keys_on generation file cut kept texels =
+    map (λ texel. (cell_of generation file cut kept (at_of texel)).key) texels
+
+-- The cells of a record that hold these texels were needed in turn.
+abbrev pub NeedsCells : Files → RecordState → List Texel → PassState → PassState → Type 0
+NeedsCells files state texels old new = IfOk state.layout (λ kept. Needs files
+    (look_keys_on state.generation state.file state.cut kept texels) old new)
+
 -- The pass asked for the cell that holds a texel of a record: one need is counted, and a hit where
 -- its microcache had the cell, which has then the latest of the keys that were asked for.
-pub record AsksForCell (state : RecordState) (texel : Texel) (old new : PassState) : Type 0 where
+pub record AsksForCell (files : Files) (state : RecordState) (texel : Texel) (old new : PassState)
+    : Type 0 where
   pub need : CountsNeed (has_cell_at state (at_of texel) old.pinned.recent) old new
   pub asked : AsksForCellAt state (at_of texel) old.pinned.recent new.pinned.recent
+  pub needs : NeedsCellAt files state (at_of texel) old new
 
 -- The pass asked for the cells that hold these texels, one after another.
-abbrev pub AsksForEach : RecordState → List Texel → PassState → PassState → Type 0
-AsksForEach state [] old new = SameCounts old new × (new.pinned.recent ≡ old.pinned.recent)
-AsksForEach state (texel ∷ rest) old new =
-    (mid : PassState) × AsksForCell state texel old mid × AsksForEach state rest mid new
+abbrev pub AsksForEach : Files → RecordState → List Texel → PassState → PassState → Type 0
+AsksForEach files state [] old new = SameCounts old new × (new.pinned.recent ≡ old.pinned.recent)
+AsksForEach files state (texel ∷ rest) old new =
+    (mid : PassState) × AsksForCell files state texel old mid
+    × AsksForEach files state rest mid new
 
--- So it did, and counted as many needs.
-pub record AsksForCells (state : RecordState) (texels : List Texel) (old new : PassState)
-    : Type 0 where
-  pub each : AsksForEach state texels old new
+-- So it did, and counted as many needs: the microcache was asked for their keys in turn.
+pub record AsksForCells (files : Files) (state : RecordState) (texels : List Texel)
+    (old new : PassState) : Type 0 where
+  pub each : AsksForEach files state texels old new
   pub needs : new.needs ≡ counted_together old.needs (length texels)
+  pub keys : NeedsCells files state texels old new

@@ -10,6 +10,7 @@ use Rattle.file_table.specs.Calls.{KeepsView}
 use Rattle.image_cache.specs.declared.error.CacheError.{CacheError}
 use Rattle.image_cache.specs.declared.error.CacheError.TheVariants as refused
 use Rattle.image_cache.specs.Pass.{PassState, SamePlace, KeepsAllButRecord}
+use Rattle.image_cache.specs.Call.{CountsOn}
 use Rattle.image_cache.specs.Cause.{FetchCause}
 
 -- Why a lookup on a record is not answered: it shows a fault, a cell takes too much memory, or a
@@ -47,3 +48,4 @@ pub record AfterLook (state : RecordState) (old new : PassState) : Type 0 where
   pub few : length new.pinned.recent ≤ 2
   pub holds : new.pinned.holds ≡ old.pinned.holds
   pub latest : new.latest ≡ Some state
+  pub counts : CountsOn old new

@@ -36,7 +36,7 @@ impl<'c, 'v, 'p, 't, 'k, V: Waiter, T: Tap> Fetch for CachedTexels<'c, 'v, 'p, '
         (new.pass.ghost_name ≡ old.pass.ghost_name)
         × (new.tap.ghost_name ≡ old.tap.ghost_name)
         × (new.known.now ≡ old.known.now)
-        × Fetches old.known.now (pass_tap old.pass.now (T.state old.tap.now)) texel
+        × Fetches T.W.files old.known.now (pass_tap old.pass.now (T.state old.tap.now)) texel
         (pass_tap new.pass.now (T.state new.tap.now))
         × (new.cache.now ≡ old.cache.now)
         × PurgesNone old.cache.now.gate old.pass.now.pinned.seat new.pass.now.pinned.seat };

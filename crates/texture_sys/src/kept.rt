@@ -35,7 +35,7 @@ impl<'c, 'p, 'k, T: Tap> Fetch for KeptTexels<'c, 'p, 'k, T> {
     ghost leaves = { λ old texel new.
         (new.pass.ghost_name ≡ old.pass.ghost_name)
         × (new.known.now ≡ old.known.now)
-        × FetchesKept old.known.now old.pass.now texel new.pass.now };
+        × FetchesKept T.W.files old.known.now old.pass.now texel new.pass.now };
 
     ghost refuses = { λ old texel e new.
         (new.pass.ghost_name ≡ old.pass.ghost_name)

@@ -9,7 +9,7 @@ ghost use Rattle.texel_filter.specs.Image.{IsChannelCount, AreValues, image_of};
 ghost use Rattle.texel_filter.specs.Filter.{lookup_value};
 ghost use Rattle.texel_filter.specs.Calls.{LeftBy};
 ghost use Rattle.image_cache.specs.Pass.{IsPassOf, KeepsAllButView};
-ghost use Rattle.image_cache.specs.Call.{KeepsAllButRecent};
+ghost use Rattle.image_cache.specs.Call.{CountsOn, KeepsAllButRecent};
 ghost use Rattle.texture_sys.specs.Look.{sizes_known};
 ghost use Rattle.texture_sys.specs.Needs.{visits_on, HasCells, AsksForCells};
 ghost use Rattle.texture_sys.specs.Fetches.{IsUnder, FetchesKept, Lacks, values_known};
@@ -82,8 +82,9 @@ fn look_local<T: Tap>(
         IsLookOn known.now.cut bytes r.now out.new) }
     ensures same { IsFalse result → (out.new ≡ out.old) × (pass.new ≡ pass.old) }
     // What the call leaves.
-    ensures asks { IsTrue result → AsksForCells known.now (visits_on known.now r.now)
+    ensures asks { IsTrue result → AsksForCells T.W.files known.now (visits_on known.now r.now)
         pass.old pass.new }
+    ensures counts { CountsOn pass.old pass.new }
     ensures kept { KeepsAllButRecent pass.old pass.new }
 {
     if !has_cells(cache, pass, known, r) {
@@ -127,12 +128,15 @@ fn write_kept<T: Tap>(
     requires channels { IsChannelCount r.now.nch }
     ensures value { ForSome (T.W.files.held known.now.file known.now.generation) (λ bytes.
         IsLookOn known.now.cut bytes r.now out.new) }
-    ensures asks { AsksForCells known.now (visits_on known.now r.now) pass.old pass.new }
+    ensures asks { AsksForCells T.W.files known.now (visits_on known.now r.now)
+        pass.old pass.new }
+    ensures counts { CountsOn pass.old pass.new }
     ensures kept { KeepsAllButRecent pass.old pass.new }
 {
-    // these tell that its layout is that of its bytes, and that the count is one of 64 bits
+    // these tell that its layout is that of its bytes, and that the counts are of 64 bits
     let _generation = known.read().generation();
     let _needs = pass.needs();
+    let _hits = pass.hits();
     match fetch_kept(cache, pass, known, r, out) {
         Ok(()) => {}
         Err(Lacking) => unreachable!(),
@@ -153,7 +157,7 @@ fn fetch_kept<T: Tap>(
     requires channels { IsChannelCount r.now.nch }
     ensures told { ForSome (values_known T.W.files known.now) (λ v. OnOk result
         (AreValues (lookup_value (image_of (sizes_known known.now) v) r.now) out.new)) }
-    ensures left { LeftBy (FetchesKept known.now) (Lacks known.now)
+    ensures left { LeftBy (FetchesKept T.W.files known.now) (Lacks known.now)
         pass.old (visits_on known.now r.now) pass.new result }
     ensures err { OnErr result (out.new ≡ out.old) }
 {

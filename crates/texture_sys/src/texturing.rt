@@ -10,8 +10,8 @@ ghost use Rattle.texel_filter.specs.Filter.{lookup_value};
 ghost use Rattle.texel_filter.specs.Calls.{LeftBy};
 ghost use Rattle.shard_gate.specs.Since.{PurgesNone};
 ghost use Rattle.image_cache.specs.Pass.{IsPassOf};
-ghost use Rattle.image_cache.specs.Call.{AfterNeed, NoneFalls};
-ghost use Rattle.image_cache.specs.Cause.{OpeningCause, FetchCause};
+ghost use Rattle.image_cache.specs.Call.{AfterNeed, CountsOn, NoneFalls};
+ghost use Rattle.image_cache.specs.Cause.{OpeningCause, FetchCause, KeepsRecentAt};
 ghost use Rattle.texture_sys.specs.Look.{sizes_known};
 ghost use Rattle.texture_sys.specs.Needs.{visits_on, HasCells, AsksForCells};
 ghost use Rattle.texture_sys.specs.Fetches.{IsUnder, Fetches, Refuses, pass_tap, values_known};
@@ -50,6 +50,7 @@ pub fn texture<V: Waiter, T: Tap>(
     ensures cause { IfErr result (TextureCause T.W.files file cache.now.gate.cut
         (sighted pass.old.view (T.state tap.old)) (sighted pass.new.view (T.state tap.new))) }
     ensures err { OnErr result (out.new ≡ out.old) }
+    ensures unread { IfErr result (KeepsRecentAt pass.old pass.new) }
     // What the call leaves.
     ensures same { AfterLookup file pass.old pass.new }
     ensures kept { KeepsRecord T.W.files file cache.now.gate.cut r.now pass.old pass.new result }
@@ -126,9 +127,10 @@ fn look_at<V: Waiter, T: Tap>(
     ensures cause { IfErr result (LookCause T.W.files read.value pass.new.view
         (T.state tap.old) (T.state tap.new)) }
     ensures err { OnErr result (out.new ≡ out.old) }
+    ensures unread { IfErr result (KeepsRecentAt pass.old pass.new) }
     // What the call leaves.
     ensures same { AfterLook read.value pass.old pass.new }
-    ensures asks { OnOk result (AsksForCells read.value (visits_on read.value r.now)
+    ensures asks { OnOk result (AsksForCells T.W.files read.value (visits_on read.value r.now)
         pass.old pass.new) }
     ensures tap { NoneFalls (T.state tap.old) (T.state tap.new) }
     ensures visits { PurgesNone cache.now.gate pass.old.pinned.seat pass.new.pinned.seat }
@@ -191,16 +193,18 @@ fn look_up<V: Waiter, T: Tap>(
     ensures err { OnErr result (out.new ≡ out.old) }
     // What the call leaves.
     ensures same { AfterNeed known.now.file pass.old pass.new }
-    ensures asks { OnOk result (AsksForCells known.now (visits_on known.now r.now)
+    ensures counts { CountsOn pass.old pass.new }
+    ensures asks { OnOk result (AsksForCells T.W.files known.now (visits_on known.now r.now)
         pass.old pass.new) }
     ensures tap { NoneFalls (T.state tap.old) (T.state tap.new) }
     ensures visits { PurgesNone cache.now.gate pass.old.pinned.seat pass.new.pinned.seat }
     ensures warm { HasCells known.now pass.old.pinned.recent (visits_on known.now r.now)
         → (result ≡ Ok tt) × (T.state tap.new ≡ T.state tap.old) }
 {
-    // these tell that its layout is that of its bytes, and that the count is one of 64 bits
+    // these tell that its layout is that of its bytes, and that the counts are of 64 bits
     let _generation = known.read().generation();
     let _needs = pass.needs();
+    let _hits = pass.hits();
     fetch_all(cache, waiter, pass, tap, known, r, out)
 }
 
@@ -220,7 +224,7 @@ fn fetch_all<V: Waiter, T: Tap>(
     requires channels { IsChannelCount r.now.nch }
     ensures told { ForSome (values_known T.W.files known.now) (λ v. OnOk result
         (AreValues (lookup_value (image_of (sizes_known known.now) v) r.now) out.new)) }
-    ensures left { LeftBy (Fetches known.now) (Refuses T.W.files known.now)
+    ensures left { LeftBy (Fetches T.W.files known.now) (Refuses T.W.files known.now)
         (pass_tap pass.old (T.state tap.old)) (visits_on known.now r.now)
         (pass_tap pass.new (T.state tap.new)) result }
     ensures err { OnErr result (out.new ≡ out.old) }

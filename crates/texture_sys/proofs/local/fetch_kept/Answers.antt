@@ -11,4 +11,4 @@ returns-clause-left g c =
     let back : c.lookup.new.f.pass.now ≡ c.pass-1.given.0 = search (rules, pass) in
     rw (← back)
     (left_as c.lookup.new.f _ _ c.lookup.result _ _ c.lookup.ensures.left (λ f. f.known.now)
-    (λ f. f.pass.now) FetchesKept Lacks (λ a b t p. (p.1, p.2)) (λ a b t e p. (p.1, p.2)))
+    (λ f. f.pass.now) (FetchesKept g.T.W.World.files) Lacks (λ a b t p. (p.1, p.2)) (λ a b t e p. (p.1, p.2)))

@@ -18,6 +18,6 @@ returns-then-looked-clause-kept g c =
     (sym (c.generation-generation.ensures.value ∙ ap (λ (k : RecordState). k.generation)
     (c.read.ensures.value ∙ c.of-known.ensures)))
     c.in-Some.ensures.same
-    (subst (λ (k : RecordState). AsksForCells k (visits_on k c.args.r.now) c.local.new.pass
+    (subst (λ (k : RecordState). AsksForCells g.T.W.World.files k (visits_on k c.args.r.now) c.local.new.pass
     c.look_local-looked.new.pass) c.of-known.ensures (c.if-looked.ensures.asks refl))
     c.keep.ensures.same

@@ -4,7 +4,7 @@ use Rattle.std.specs.Option.{option_map}
 use Rattle.tile_layout.specs.Value.{channel_value_of}
 use Rattle.file_table.specs.Record.{RecordState, IsRecord}
 use Rattle.texture_sys.specs.Needs.{visits_on}
-use Rattle.texture_sys.proofs.KeptChains.{kept_leaves, kept_asks, kept_none}
+use Rattle.texture_sys.proofs.KeptChains.{kept_leaves, kept_asks, kept_counts, kept_none}
 use Rattle.texture_sys.proofs.LookLemmas.{look_told}
 use Rattle.texture_sys.proofs.local.write_kept.Goals as goal
 
@@ -17,15 +17,22 @@ returns-clause-value g c bytes held =
 
 pub returns-clause-asks : goal.returns-clause-asks
 returns-clause-asks g c =
-    kept_asks c.args.known.now (visits_on c.args.known.now c.args.r.now) c.args.pass.now
-    c.fetch_kept.new.pass (omega arith) c.in-Ok.ensures.left
+    kept_asks g.T.W.World.files c.args.known.now (visits_on c.args.known.now c.args.r.now) c.args.pass.now
+    c.fetch_kept.new.pass (record { needs = omega arith; hits = omega arith })
+    c.in-Ok.ensures.left
+
+pub returns-clause-counts : goal.returns-clause-counts
+returns-clause-counts g c =
+    kept_counts g.T.W.World.files c.args.known.now (visits_on c.args.known.now c.args.r.now)
+    c.args.pass.now c.fetch_kept.new.pass (record { needs = omega arith; hits = omega arith })
+    c.in-Ok.ensures.left
 
 pub returns-clause-kept : goal.returns-clause-kept
 returns-clause-kept g c =
-    kept_leaves c.args.known.now (visits_on c.args.known.now c.args.r.now) c.args.pass.now
+    kept_leaves g.T.W.World.files c.args.known.now (visits_on c.args.known.now c.args.r.now) c.args.pass.now
     c.fetch_kept.new.pass c.requires.few c.in-Ok.ensures.left
 
 pub unreachable-requires : goal.unreachable-requires
 unreachable-requires g c =
-    kept_none c.args.known.now (visits_on c.args.known.now c.args.r.now) c.args.pass.now
+    kept_none g.T.W.World.files c.args.known.now (visits_on c.args.known.now c.args.r.now) c.args.pass.now
     c.fetch_kept.new.pass c.in-Err.field-0 c.requires.cells c.in-Err.ensures.left

@@ -16,7 +16,7 @@ returns-clause-left g c =
     let tap_back : c.lookup.new.f.tap.now ≡ c.tap-1.given.0 = search (rules, tap) in
     rw (← pass_back, ← tap_back)
     (left_as c.lookup.new.f _ _ c.lookup.result _ _ c.lookup.ensures.left (λ f. f.known.now)
-    (λ f. pass_tap f.pass.now (g.T.Tap.state f.tap.now)) Fetches (Refuses g.T.W.World.files)
+    (λ f. pass_tap f.pass.now (g.T.Tap.state f.tap.now)) (Fetches g.T.W.World.files) (Refuses g.T.W.World.files)
     (λ a b t p. (p.2, p.3)) (λ a b t e p. (p.2, p.3)))
 
 pub returns-clause-visits : goal.returns-clause-visits

@@ -1,6 +1,8 @@
 -- The cells were asked for before the record was kept.
 use Rattle.std.proofs.Common.{subst}
 use Rattle.file_table.specs.Record.{RecordState}
+use Rattle.image_cache.specs.Pass.{PassState}
+use Rattle.image_cache.proofs.UnreadLemmas.{recent_of, recent_same, at_kept, at_fetch, at_between}
 use Rattle.texture_sys.specs.Needs.{visits_on, AsksForCells}
 use Rattle.texture_sys.proofs.Asked.{asks_to}
 use Rattle.texture_sys.proofs.Visits.{visits_none, visits_before}
@@ -8,9 +10,9 @@ use Rattle.texture_sys.proofs.texturing.look_at.Goals as goal
 
 pub returns-in-Ok-clause-asks : goal.returns-in-Ok-clause-asks
 returns-in-Ok-clause-asks g c =
-    asks_to c.args.read.value (visits_on c.args.read.value c.args.r.now) c.args.pass.now
+    asks_to g.T.W.World.files c.args.read.value (visits_on c.args.read.value c.args.r.now) c.args.pass.now
     c.look_up-looked.new.pass c.keep-2.new.pass c.keep-2.ensures.same
-    (subst (λ (k : RecordState). AsksForCells k (visits_on k c.args.r.now) c.args.pass.now
+    (subst (λ (k : RecordState). AsksForCells g.T.W.World.files k (visits_on k c.args.r.now) c.args.pass.now
     c.look_up-looked.new.pass) c.of-known.ensures c.in-Ok.ensures.asks)
 
 pub returns-in-Ok-clause-visits : goal.returns-in-Ok-clause-visits
@@ -23,3 +25,19 @@ pub returns-in-Err-clause-visits : goal.returns-in-Err-clause-visits
 returns-in-Err-clause-visits g c =
     visits_none c.args.cache.now.gate c.args.pass.now.pinned.seat c.keep.new.pass.pinned.seat
     c.keep.ensures.same.seat
+
+pub returns-in-Err-clause-unread : goal.returns-in-Err-clause-unread
+returns-in-Err-clause-unread g c =
+    let old : PassState = c.args.pass.now in
+    let new : PassState = c.keep.new.pass in
+    at_kept c.in-Err.e old new (recent_of old new c.keep.ensures.same)
+
+pub returns-in-Err-looked-clause-unread : goal.returns-in-Err-looked-clause-unread
+returns-in-Err-looked-clause-unread g c =
+    let old : PassState = c.args.pass.now in
+    let looked : PassState = c.look_up-looked.new.pass in
+    let new : PassState = c.keep-2.new.pass in
+    at_between c.in-Err-looked.e old old looked new (recent_same old)
+    (recent_of looked new c.keep-2.ensures.same)
+    (at_fetch c.in-Err-looked.e old looked _ c.of-known.result _ _ _
+    c.in-Err-looked.ensures.cause)

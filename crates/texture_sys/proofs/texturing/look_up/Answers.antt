@@ -6,7 +6,7 @@ use Rattle.file_table.specs.Record.{RecordState, IsRecord}
 use Rattle.texel_filter.proofs.CallLemmas.{on_ok}
 use Rattle.texture_sys.specs.Needs.{visits_on}
 use Rattle.texture_sys.specs.Fetches.{pass_tap}
-use Rattle.texture_sys.proofs.Chains.{left_leaves, left_cause, left_asks, left_warm}
+use Rattle.texture_sys.proofs.Chains.{left_leaves, left_cause, left_asks, left_counts, left_warm}
 use Rattle.texture_sys.proofs.LookLemmas.{look_told}
 use Rattle.texture_sys.proofs.texturing.look_up.Goals as goal
 
@@ -37,7 +37,15 @@ returns-clause-asks g c = left_asks g.T.W.World.files c.args.known.now
     (visits_on c.args.known.now c.args.r.now)
     (pass_tap c.args.pass.now (g.T.Tap.state c.args.tap.now))
     (pass_tap c.fetch_all.new.pass (g.T.Tap.state c.fetch_all.new.tap))
-    c.fetch_all.result (omega arith) c.fetch_all.ensures.left
+    c.fetch_all.result (record { needs = omega arith; hits = omega arith }) c.fetch_all.ensures.left
+
+pub returns-clause-counts : goal.returns-clause-counts
+returns-clause-counts g c = left_counts g.T.W.World.files c.args.known.now
+    (visits_on c.args.known.now c.args.r.now)
+    (pass_tap c.args.pass.now (g.T.Tap.state c.args.tap.now))
+    (pass_tap c.fetch_all.new.pass (g.T.Tap.state c.fetch_all.new.tap))
+    c.fetch_all.result (record { needs = omega arith; hits = omega arith })
+    c.fetch_all.ensures.left
 
 pub returns-clause-tap : goal.returns-clause-tap
 returns-clause-tap g c = (left_leaves g.T.W.World.files c.args.known.now

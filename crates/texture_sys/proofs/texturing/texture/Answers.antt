@@ -1,5 +1,7 @@
 -- The record was found, and then looked at.
 use Rattle.file_table.specs.Calls.{sighted}
+use Rattle.image_cache.specs.Pass.{PassState}
+use Rattle.image_cache.proofs.UnreadLemmas.{recent_of, recent_same, at_kept, unread_between}
 use Rattle.texture_sys.proofs.TextureLemmas.{texture_value, texture_cause}
 use Rattle.texture_sys.proofs.KeptRecord.{texture_kept, opening_cause, opening_kept}
 use Rattle.texture_sys.proofs.Warm.{texture_warm}
@@ -63,3 +65,17 @@ pub returns-in-Err-clause-visits : goal.returns-in-Err-clause-visits
 returns-in-Err-clause-visits g c =
     visits_none c.args.cache.now.gate c.args.pass.now.pinned.seat c.record_of.new.pass.pinned.seat
     c.in-Err.ensures.seat
+
+pub returns-clause-unread : goal.returns-clause-unread
+returns-clause-unread g c =
+    let old : PassState = c.args.pass.now in
+    let mid : PassState = c.record_of.new.pass in
+    let new : PassState = c.look_at.new.pass in
+    unread_between c.look_at.result old mid new new
+    (recent_of old mid c.in-Ok.ensures.same.keeps) (recent_same new) c.look_at.ensures.unread
+
+pub returns-in-Err-clause-unread : goal.returns-in-Err-clause-unread
+returns-in-Err-clause-unread g c =
+    let old : PassState = c.args.pass.now in
+    let new : PassState = c.record_of.new.pass in
+    at_kept c.in-Err.e old new (recent_of old new c.in-Err.ensures.same.keeps)

@@ -18,7 +18,7 @@ returns-clause-met g c = λ _.
     let was = c.pass.view_is in
     let pinned = c.count_four.ensures.kept.pinned in
     let kept : KeepsAllButRecent old new = search rules in
-    meets_square c.args.known.now c.args.square.now cell old new c.in-Some.ensures.cell.is
+    meets_square g.T.W.World.files c.args.known.now c.args.square.now cell old new c.in-Some.ensures.cell.is
     (c.in-Some.ensures.one.0 refl)
     (subst (λ (s : PassState). has_cell cell s.pinned.recent ≡ true) was
     (sym c.turn_to.ensures.has ∙ is))

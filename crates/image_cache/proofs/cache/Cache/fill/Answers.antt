@@ -1,5 +1,5 @@
 -- A further cell is painted, which was needed once more.
-use Rattle.std.proofs.Common.{◌≡◌, ◌∙◌, ℕ, List, refl, sym, inl, inr, subst, arith}
+use Rattle.std.proofs.Common.{◌≡◌, ◌∙◌, ℕ, List, [], ◌∷◌, refl, sym, inl, inr, subst, arith}
 use Rattle.tiff_format.specs.declared.rect.Rect.{Rect}
 use Rattle.tile_layout.specs.Grid.{shown_grid}
 use Rattle.tile_layout.specs.Key.{key_of}
@@ -13,7 +13,7 @@ use Rattle.shard_gate.proofs.SinceLemmas.{purges_none_chain}
 use Rattle.image_cache.specs.Call.{Needs}
 use Rattle.image_cache.specs.Region.{area_keys}
 use Rattle.image_cache.proofs.FillLemmas.{after_none, after_chain, hand_chain, none_fell}
-use Rattle.image_cache.proofs.FillLemmas.{none_falls_chain, needs_more, no_needs, keys_more}
+use Rattle.image_cache.proofs.FillLemmas.{none_falls_chain, needs_chain, no_needs, keys_more}
 use Rattle.image_cache.proofs.FillLemmas.{painted_stays, beside_stays, same_cache}
 use Rattle.image_cache.proofs.VisitLemmas.{visits_same}
 use Rattle.image_cache.proofs.cache.Cache.fill.Goals as goal
@@ -62,8 +62,8 @@ cells-preserved g c =
                 same (c.in_ok-fill_cell.ensures.value bytes held)
           ];
       needs = subst (λ (keys : List ℕ). Needs files keys first after) (sym (keys_more known area k))
-          (needs_more files (area_keys known area k)
-          (key_of known.generation known.file area.level (area_cell area k)) first before after
+          (needs_chain files (area_keys known area k)
+          (key_of known.generation known.file area.level (area_cell area k) ∷ []) first before after
           inv.needs c.in_ok-fill_cell.ensures.needs);
       pass = same_cache c.args.self.now before after c.fill_cell.ensures.same.place inv.pass;
       same = after_chain known.file first before after inv.same c.fill_cell.ensures.same;

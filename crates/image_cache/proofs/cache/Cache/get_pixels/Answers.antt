@@ -6,6 +6,7 @@ use Rattle.image_cache.specs.declared.pixels.Pixels.{Pixels}
 use Rattle.image_cache.specs.Call.{KeepsGiven}
 use Rattle.image_cache.specs.Region.{ReadsRegion}
 use Rattle.image_cache.proofs.FillLemmas.{if_ok, keeps_given, reads_between}
+use Rattle.image_cache.proofs.UnreadLemmas.{recent_of, unread_kept, unread_between}
 use Rattle.image_cache.proofs.VisitLemmas.{visits_same, visits_from, visits_to}
 use Rattle.image_cache.proofs.cache.Cache.get_pixels.Goals as goal
 
@@ -50,3 +51,19 @@ returns-clause-visits g c =
     c.open.ensures.same.seat
     (visits_to gate opened after c.keep.new.pass.pinned.seat c.pixels_of-answer.ensures.visits
     c.keep.ensures.same.seat)
+
+pub returns-in_err-known-clause-unread : goal.returns-in_err-known-clause-unread
+returns-in_err-known-clause-unread g c =
+    let old = c.args.pass.now in
+    let mid = c.open.new.pass in
+    unread_kept _ old mid (recent_of old mid c.open.ensures.same)
+
+pub returns-clause-unread : goal.returns-clause-unread
+returns-clause-unread g c =
+    let old = c.args.pass.now in
+    let mid = c.open.new.pass in
+    let after = c.pixels_of-answer.new.pass in
+    let new = c.keep.new.pass in
+    unread_between c.pixels_of-answer.result old mid after new
+    (recent_of old mid c.open.ensures.same) (recent_of after new c.keep.ensures.same)
+    c.pixels_of-answer.ensures.unread

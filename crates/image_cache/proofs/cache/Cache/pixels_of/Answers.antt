@@ -1,5 +1,7 @@
 -- The values are those of the region's cells.
+use Rattle.std.proofs.Common.{rules}
 use Rattle.image_cache.proofs.FillLemmas.{after_none, reads_region, values_of_region}
+use Rattle.image_cache.proofs.UnreadLemmas.{recent_same, unread_kept, unread_fetch}
 use Rattle.image_cache.proofs.cache.Cache.pixels_of.Goals as goal
 
 pub returns-in_err-grid-clause-same : goal.returns-in_err-grid-clause-same
@@ -26,3 +28,15 @@ returns-clause-value g c bytes held =
           c.channels_of.ensures.value c.new-area.ensures (c.in_ok-values.ensures.value bytes held)
           c.in_ok-values.ensures.beside c.in_ok-values.ensures.count,
     )
+
+pub returns-in_err-grid-clause-unread : goal.returns-in_err-grid-clause-unread
+returns-in_err-grid-clause-unread g c =
+    let pass = c.args.pass.now in
+    unread_kept _ pass pass (recent_same pass)
+
+pub returns-in_err-values-clause-unread : goal.returns-in_err-values-clause-unread
+returns-in_err-values-clause-unread g c =
+    let pass = c.args.pass.now in
+    unread_fetch _ pass c.values_of.new.pass g.T.W.World.files c.args.known.now
+    c.values_of.new.pass.view (g.T.Tap.state c.args.tap.now) (g.T.Tap.state c.values_of.new.tap)
+    (search rules)

@@ -24,26 +24,26 @@ returns-then-fetch_square_local-clause-left g c =
     let q = c.args.square.now in
     let old : PassState = s.pass.now in
     let new : PassState = c.fetch_square_local.new.pass in
-    let met : MeetsSquare k q old new = subst (λ (r : RecordState). MeetsSquare r q old new)
+    let met : MeetsSquare g.T.W.World.files k q old new = subst (λ (r : RecordState). MeetsSquare g.T.W.World.files r q old new)
     c.read.ensures.value (c.fetch_square_local.ensures.met c.if-fetch_square_local.true) in
     let of_first = same_cache s.cache.now old met.first met.to_first.kept s.of_cache in
     let of_second = same_cache s.cache.now met.first met.second met.to_second.kept of_first in
     let of_third = same_cache s.cache.now met.second met.third met.to_third.kept of_second in (
       record s { pass = record s.pass { now = met.first }; of_cache = of_first },
-      (refl, refl, refl, fetches_met k (texel_of q.level q.left q.top) tap old met.first met.to_first, refl, none_met gate old met.first met.to_first.kept),
+      (refl, refl, refl, fetches_met g.T.W.World.files k (texel_of q.level q.left q.top) tap old met.first met.to_first, refl, none_met gate old met.first met.to_first.kept),
       (
         record s { pass = record s.pass { now = met.second }; of_cache = of_second },
-        (refl, refl, refl, fetches_met k (texel_of q.level q.right q.top) tap met.first met.second met.to_second, refl, none_met gate met.first met.second met.to_second.kept),
+        (refl, refl, refl, fetches_met g.T.W.World.files k (texel_of q.level q.right q.top) tap met.first met.second met.to_second, refl, none_met gate met.first met.second met.to_second.kept),
         (
           record s { pass = record s.pass { now = met.third }; of_cache = of_third },
-          (refl, refl, refl, fetches_met k (texel_of q.level q.left q.bottom) tap met.second met.third met.to_third, refl, none_met gate met.second met.third met.to_third.kept),
+          (refl, refl, refl, fetches_met g.T.W.World.files k (texel_of q.level q.left q.bottom) tap met.second met.third met.to_third, refl, none_met gate met.second met.third met.to_third.kept),
           (
             record s {
               pass = record s.pass { now = new };
               of_cache = c.self-1.given.0;
               under = c.self-1.given.1.0;
             },
-            (refl, refl, refl, fetches_met k (texel_of q.level q.right q.bottom) tap met.third new met.to_last, refl, none_met gate met.third new met.to_last.kept),
+            (refl, refl, refl, fetches_met g.T.W.World.files k (texel_of q.level q.right q.bottom) tap met.third new met.to_last, refl, none_met gate met.third new met.to_last.kept),
             refl,
           ),
         ),
@@ -89,7 +89,7 @@ returns-in_err-texel-2-clause-left g c =
         c.in_ok-texel.ensures.ok.0,
         c.in_ok-texel.ensures.ok.1,
         c.in_ok-texel.ensures.ok.2,
-        fetches_from old mid same c.args.self.now.known.now _ (g.T.Tap.state c.args.self.now.tap.now) _ c.in_ok-texel.ensures.ok.3,
+        fetches_from old mid same g.T.W.World.files c.args.self.now.known.now _ (g.T.Tap.state c.args.self.now.tap.now) _ c.in_ok-texel.ensures.ok.3,
         c.in_ok-texel.ensures.ok.4,
         visits_from old mid same c.args.self.now.cache.now.gate c.texel.new.self.pass.now c.in_ok-texel.ensures.ok.5,
       ),
@@ -110,7 +110,7 @@ returns-in_err-texel-3-clause-left g c =
         c.in_ok-texel.ensures.ok.0,
         c.in_ok-texel.ensures.ok.1,
         c.in_ok-texel.ensures.ok.2,
-        fetches_from old mid same c.args.self.now.known.now _ (g.T.Tap.state c.args.self.now.tap.now) _ c.in_ok-texel.ensures.ok.3,
+        fetches_from old mid same g.T.W.World.files c.args.self.now.known.now _ (g.T.Tap.state c.args.self.now.tap.now) _ c.in_ok-texel.ensures.ok.3,
         c.in_ok-texel.ensures.ok.4,
         visits_from old mid same c.args.self.now.cache.now.gate c.texel.new.self.pass.now c.in_ok-texel.ensures.ok.5,
       ),
@@ -129,7 +129,7 @@ returns-clause-left g c =
         c.in_ok-texel.ensures.ok.0,
         c.in_ok-texel.ensures.ok.1,
         c.in_ok-texel.ensures.ok.2,
-        fetches_from old mid same c.args.self.now.known.now _ (g.T.Tap.state c.args.self.now.tap.now) _ c.in_ok-texel.ensures.ok.3,
+        fetches_from old mid same g.T.W.World.files c.args.self.now.known.now _ (g.T.Tap.state c.args.self.now.tap.now) _ c.in_ok-texel.ensures.ok.3,
         c.in_ok-texel.ensures.ok.4,
         visits_from old mid same c.args.self.now.cache.now.gate c.texel.new.self.pass.now c.in_ok-texel.ensures.ok.5,
       ),
@@ -149,7 +149,7 @@ returns-clause-left g c =
         c.in_ok-texel.ensures.ok.0,
         c.in_ok-texel.ensures.ok.1,
         c.in_ok-texel.ensures.ok.2,
-        fetches_from old mid same c.args.self.now.known.now _ (g.T.Tap.state c.args.self.now.tap.now) _ c.in_ok-texel.ensures.ok.3,
+        fetches_from old mid same g.T.W.World.files c.args.self.now.known.now _ (g.T.Tap.state c.args.self.now.tap.now) _ c.in_ok-texel.ensures.ok.3,
         c.in_ok-texel.ensures.ok.4,
         visits_from old mid same c.args.self.now.cache.now.gate c.texel.new.self.pass.now c.in_ok-texel.ensures.ok.5,
       ),

@@ -21,26 +21,26 @@ returns-then-fetch_square_local-clause-left g c =
     let q = c.args.square.now in
     let old : PassState = s.pass.now in
     let new : PassState = c.fetch_square_local.new.pass in
-    let met : MeetsSquare k q old new = subst (λ (r : RecordState). MeetsSquare r q old new)
+    let met : MeetsSquare g.T.W.World.files k q old new = subst (λ (r : RecordState). MeetsSquare g.T.W.World.files r q old new)
     c.read.ensures.value (c.fetch_square_local.ensures.met c.if-fetch_square_local.true) in
     let of_first = same_cache s.cache.now old met.first met.to_first.kept s.of_cache in
     let of_second = same_cache s.cache.now met.first met.second met.to_second.kept of_first in
     let of_third = same_cache s.cache.now met.second met.third met.to_third.kept of_second in (
       record s { pass = record s.pass { now = met.first }; of_cache = of_first },
-      (refl, refl, kept_met k (texel_of q.level q.left q.top) old met.first met.to_first),
+      (refl, refl, kept_met g.T.W.World.files k (texel_of q.level q.left q.top) old met.first met.to_first),
       (
         record s { pass = record s.pass { now = met.second }; of_cache = of_second },
-        (refl, refl, kept_met k (texel_of q.level q.right q.top) met.first met.second met.to_second),
+        (refl, refl, kept_met g.T.W.World.files k (texel_of q.level q.right q.top) met.first met.second met.to_second),
         (
           record s { pass = record s.pass { now = met.third }; of_cache = of_third },
-          (refl, refl, kept_met k (texel_of q.level q.left q.bottom) met.second met.third met.to_third),
+          (refl, refl, kept_met g.T.W.World.files k (texel_of q.level q.left q.bottom) met.second met.third met.to_third),
           (
             record s {
               pass = record s.pass { now = new };
               of_cache = c.self-1.given.0;
               under = c.self-1.given.1.0;
             },
-            (refl, refl, kept_met k (texel_of q.level q.right q.bottom) met.third new met.to_last),
+            (refl, refl, kept_met g.T.W.World.files k (texel_of q.level q.right q.bottom) met.third new met.to_last),
             refl,
           ),
         ),
@@ -73,7 +73,7 @@ returns-in_err-texel-2-clause-left g c =
     let p = err_from_is_err_and c.from_residual-in_err-texel-2.result
     c.from_residual-in_err-texel-2.ensures.1 in
     rw (p.1, p.2)
-    (inr (c.texel.new.self, (c.in_ok-texel.ensures.ok.0, c.in_ok-texel.ensures.ok.1, kept_from old mid same c.args.self.now.known.now _ c.texel.new.self.pass.now c.in_ok-texel.ensures.ok.2), inl c.in_err-texel-2.ensures.err))
+    (inr (c.texel.new.self, (c.in_ok-texel.ensures.ok.0, c.in_ok-texel.ensures.ok.1, kept_from old mid same g.T.W.World.files c.args.self.now.known.now _ c.texel.new.self.pass.now c.in_ok-texel.ensures.ok.2), inl c.in_err-texel-2.ensures.err))
 
 pub returns-in_err-texel-3-clause-left : goal.returns-in_err-texel-3-clause-left
 returns-in_err-texel-3-clause-left g c =
@@ -85,7 +85,7 @@ returns-in_err-texel-3-clause-left g c =
     rw (p.1, p.2)
     (inr (
       c.texel.new.self,
-      (c.in_ok-texel.ensures.ok.0, c.in_ok-texel.ensures.ok.1, kept_from old mid same c.args.self.now.known.now _ c.texel.new.self.pass.now c.in_ok-texel.ensures.ok.2),
+      (c.in_ok-texel.ensures.ok.0, c.in_ok-texel.ensures.ok.1, kept_from old mid same g.T.W.World.files c.args.self.now.known.now _ c.texel.new.self.pass.now c.in_ok-texel.ensures.ok.2),
       inr (c.texel-2.new.self, c.in_ok-texel-2.ensures.ok, inl c.in_err-texel-3.ensures.err),
     ))
 
@@ -97,7 +97,7 @@ returns-clause-left g c =
     by_result c.texel-4.result
     (λ done is. rw is (
       c.texel.new.self,
-      (c.in_ok-texel.ensures.ok.0, c.in_ok-texel.ensures.ok.1, kept_from old mid same c.args.self.now.known.now _ c.texel.new.self.pass.now c.in_ok-texel.ensures.ok.2),
+      (c.in_ok-texel.ensures.ok.0, c.in_ok-texel.ensures.ok.1, kept_from old mid same g.T.W.World.files c.args.self.now.known.now _ c.texel.new.self.pass.now c.in_ok-texel.ensures.ok.2),
       (
         c.texel-2.new.self,
         c.in_ok-texel-2.ensures.ok,
@@ -110,7 +110,7 @@ returns-clause-left g c =
     ))
     (λ e is. rw is (inr (
       c.texel.new.self,
-      (c.in_ok-texel.ensures.ok.0, c.in_ok-texel.ensures.ok.1, kept_from old mid same c.args.self.now.known.now _ c.texel.new.self.pass.now c.in_ok-texel.ensures.ok.2),
+      (c.in_ok-texel.ensures.ok.0, c.in_ok-texel.ensures.ok.1, kept_from old mid same g.T.W.World.files c.args.self.now.known.now _ c.texel.new.self.pass.now c.in_ok-texel.ensures.ok.2),
       inr (
         c.texel-2.new.self,
         c.in_ok-texel-2.ensures.ok,

@@ -1,0 +1,24 @@
+-- The microcache had the key of the cell.
+use Rattle.std.proofs.Common.{ℕ, true, ◌∷◌, [], sym, subst, rules}
+use Rattle.micro.specs.Runs.{IsAsked}
+use Rattle.pinned_tiles.specs.Pinned.{key_in, PinnedState}
+use Rattle.image_cache.specs.Pass.{PassState}
+use Rattle.image_cache.specs.Call.{CountsNeed, Needs}
+use Rattle.image_cache.proofs.NeedLemmas.{needs_hit}
+use Rattle.image_cache.proofs.TexelLemmas.{at_cell}
+use Rattle.image_cache.proofs.cache.Cache.fetch_kept.Goals as goal
+
+pub returns-clause-needs : goal.returns-clause-needs
+returns-clause-needs g c = λ _.
+    let files = g.T.W.World.files in
+    let cell = c.args.cell.now in
+    let old : PassState = c.args.pass.now in
+    let new : PassState = c.count_need.new.self in
+    let asked : IsAsked key_in old.pinned.recent cell.key true new.pinned.recent =
+    subst (λ (s : PassState). IsAsked key_in s.pinned.recent cell.key true new.pinned.recent)
+    c.pass.view_is
+    (subst (λ (q : PinnedState). IsAsked key_in c.pass.inside.pinned.recent cell.key true q.recent)
+    (sym c.count_need.ensures.kept.pinned) (c.turn_to.ensures.asked c.if-not-turn_to.false)) in
+    let counts : CountsNeed true old new = search rules in
+    at_cell (λ (key : ℕ). Needs files (key ∷ []) old new) c.args.known.now c.args.at cell
+    c.requires.cell.is (needs_hit files cell.key old new asked counts)

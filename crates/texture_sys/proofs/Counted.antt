@@ -1,0 +1,110 @@
+-- What do the needs of a lookup count, one after another?
+use Rattle.std.proofs.Common.{◌≡◌, ◌≤◌, Bool, true, false, List, [], ◌∷◌, length, refl, subst}
+use Rattle.std.proofs.Common.{Result, Ok, Err, arith}
+use Rattle.std.specs.Prelude.{IfOk}
+use Rattle.tex_world.specs.World.{Files}
+use Rattle.tiff_format.specs.declared.fault.TiffFault.{TiffFault}
+use Rattle.tile_layout.specs.Kept.{Kept}
+use Rattle.file_table.specs.Record.{RecordState}
+use Rattle.texel_filter.specs.Image.{Texel}
+use Rattle.image_cache.specs.Pass.{PassState, counted_together, max_count}
+use Rattle.image_cache.specs.Texel.{has_cell_at, cell_of}
+use Rattle.image_cache.specs.Call.{CountsNeed, CountsOn, Needs}
+use Rattle.image_cache.proofs.FillLemmas.{needs_between, needs_chain, no_needs}
+use Rattle.texture_sys.specs.Needs.{at_of, look_keys_on, NeedsCells, AsksForEach, AsksForCells}
+
+-- the counts are of 64 bits
+pub record AreCounts (pass : PassState) : Type 0 where
+  pub needs : pass.needs ≤ max_count
+  pub hits : pass.hits ≤ max_count
+
+-- No count falls by one need, and each is one of 64 bits still.
+pub record CountsFurther (old new : PassState) : Type 0 where
+  pub on : CountsOn old new
+  pub are : AreCounts new
+
+pub need_counts : (hit : Bool) (old new : PassState) → AreCounts old → CountsNeed hit old new
+    → CountsFurther old new
+need_counts true old new are need = record {
+  on = record {
+    needs = omega (arith, need.needs, are.needs);
+    hits = omega (arith, need.hits, are.hits);
+  };
+  are = record { needs = omega (arith, need.needs); hits = omega (arith, need.hits) };
+}
+need_counts false old new are need = record {
+  on = record {
+    needs = omega (arith, need.needs, are.needs);
+    hits = omega (arith, need.hits);
+  };
+  are = record { needs = omega (arith, need.needs); hits = omega (arith, need.hits, are.hits) };
+}
+
+pub counts_chain : (a b c : PassState) → CountsOn a b → CountsOn b c → CountsOn a c
+counts_chain a b c first later = record {
+  needs = omega (arith, first.needs, later.needs);
+  hits = omega (arith, first.hits, later.hits);
+}
+
+pub counts_none : (pass : PassState) → CountsOn pass pass
+counts_none pass = record { needs = omega arith; hits = omega arith }
+
+module _ (files : Files) (state : RecordState) where
+  -- as many needs are counted
+  each_needs : (texels : List Texel) (old new : PassState) → AreCounts old
+      → AsksForEach files state texels old new
+      → new.needs ≡ counted_together old.needs (length texels)
+  each_needs [] old new are (same, recent) = grind (arith, same.needs, are.needs)
+  each_needs (t ∷ texels) old new are (mid, first, rest) =
+      let counted = first.need.needs in
+      let further = need_counts (has_cell_at state (at_of t) old.pinned.recent) old mid are
+      first.need in
+      let later = each_needs texels mid new further.are rest in
+      grind (arith, counted, later)
+
+  pub each_counts : (texels : List Texel) (old new : PassState) → AreCounts old
+      → AsksForEach files state texels old new → CountsOn old new
+  each_counts [] old new are (same, recent) = record {
+    needs = omega (arith, same.needs);
+    hits = omega (arith, same.hits);
+  }
+  each_counts (t ∷ texels) old new are (mid, first, rest) =
+      let further = need_counts (has_cell_at state (at_of t) old.pinned.recent) old mid are
+      first.need in
+      counts_chain old mid new further.on (each_counts texels mid new further.are rest)
+
+  -- and the microcache was asked for their keys in turn
+  keys_in : (kept : Kept) → state.layout ≡ Ok kept → (texels : List Texel) (old new : PassState)
+      → AreCounts old → AsksForEach files state texels old new
+      → Needs files (look_keys_on state.generation state.file state.cut kept texels) old new
+  keys_in kept is [] old new are (same, recent) =
+      needs_between files [] old old old new refl (record { needs = refl; hits = refl }) recent
+      same (no_needs files old are.needs are.hits)
+  keys_in kept is (t ∷ texels) old new are (mid, first, rest) =
+      let key = (cell_of state.generation state.file state.cut kept (at_of t)).key in
+      let further = need_counts (has_cell_at state (at_of t) old.pinned.recent) old mid are
+      first.need in
+      needs_chain files (key ∷ [])
+      (look_keys_on state.generation state.file state.cut kept texels) old mid new
+      (subst (λ (layout : Result Kept TiffFault). IfOk layout (λ k. Needs files
+      ((cell_of state.generation state.file state.cut k (at_of t)).key ∷ []) old mid)) is
+      first.needs)
+      (keys_in kept is texels mid new further.are rest)
+
+  each_keys : (texels : List Texel) (old new : PassState) → AreCounts old
+      → AsksForEach files state texels old new → NeedsCells files state texels old new
+  each_keys texels old new are each = by state.layout refl
+    where
+      by : (layout : Result Kept TiffFault) → state.layout ≡ layout
+          → IfOk layout (λ kept. Needs files
+          (look_keys_on state.generation state.file state.cut kept texels) old new)
+      by (Ok kept) is = keys_in kept is texels old new are each
+      by (Err fault) is = tt
+
+  pub asks_cells : (texels : List Texel) (old new : PassState) → AreCounts old
+      → AsksForEach files state texels old new → AsksForCells files state texels old new
+  asks_cells texels old new are each = record {
+    each = each;
+    needs = each_needs texels old new are each;
+    keys = each_keys texels old new are each;
+  }
