@@ -7,3 +7,4 @@ mod LineLemmas
 mod TextLemmas
 pub mod AppendLemmas
 mod PaddedTextLemmas
+pub mod ChannelLemmas

@@ -1,6 +1,6 @@
 -- Which request is a line? (docs/REQUESTS.md, "The ten forms")
 use Rattle.std.specs.Prelude.{ℕ, ◌==◌, codes, List, [], ◌∷◌, length, Option, Some, None}
-use Rattle.std.specs.Prelude.{Result, Ok, Err, if◌then◌else◌}
+use Rattle.std.specs.Prelude.{Result, Ok, Err, if◌then◌else◌, Bool, true, nat_le, ◌&&◌}
 use Rattle.std.specs.Str.{is_utf8}
 use Rattle.request_lang.specs.declared.request.Request.{Request}
 use Rattle.request_lang.specs.declared.request.Request.TheVariants.{Tex, Pixels, Info, Hold, Drop}
@@ -10,7 +10,8 @@ use Rattle.request_lang.specs.declared.cause.Cause.{Cause}
 use Rattle.request_lang.specs.declared.cause.Cause.TheVariants.{UnknownWord, TrailingText, NotUtf8}
 use Rattle.request_lang.specs.LineField.{before_space, from_space, field, name_field, mapped}
 use Rattle.request_lang.specs.LineField.{meaning}
-use Rattle.request_lang.specs.LineField.{signed, unsigned, channel_count, wrap_mode, filter_mode}
+use Rattle.tiff_format.specs.Limits.{max_channels}
+use Rattle.request_lang.specs.LineField.{min_channels, signed, unsigned, channel_count, wrap_mode, filter_mode}
 
 -- a form: what the bytes behind the word of a line ask for, or the first cause for which they are
 -- none of that form
@@ -75,6 +76,11 @@ hold = do
   x ← unsigned
   y ← unsigned
   named (Hold level x y)
+
+-- a lookup asks for a number of channels that it may ask for
+abbrev pub has_channels : Request → Bool
+has_channels (Tex r name) = nat_le min_channels r.nch && nat_le r.nch max_channels
+has_channels _ = true
 
 -- ---- the ten forms
 

@@ -4,6 +4,7 @@
 
 mod answer;
 mod cause;
+mod closing;
 mod digits;
 mod line;
 mod line_field;
@@ -17,6 +18,7 @@ mod values;
 
 pub use answer::{Answer, Shards, Values};
 pub use cause::{BadList, ParseError};
+pub use closing::{Counts, total_text, worker_text};
 pub use digits::digits_number;
 pub use line::{bad_list_text, head_text, line_text};
 pub use list::parse;

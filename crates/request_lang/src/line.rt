@@ -19,7 +19,7 @@ use tiff_format::{Info, ShardCount, TiffFault};
 
 /// Appends a word and numbers, each behind a space.
 #[tactic(auto, using(crate::proofs::AppendLemmas::kept))]
-fn push_line(out: &mut Vec<u8>, word: &str, numbers: &[u64]) -> Result<(), AllocError>
+pub(crate) fn push_line(out: &mut Vec<u8>, word: &str, numbers: &[u64]) -> Result<(), AllocError>
     ensures text { Pushes (word.now ++ spec.fields numbers.now) out.old.items out.new.items result }
     ensures fits { Fits (length word.now + max_number_bytes * length numbers.now)
         out.old out.new result }

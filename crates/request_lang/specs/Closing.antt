@@ -1,0 +1,26 @@
+-- What do the lines say that close a run? (docs/REQUESTS.md, "The closing lines")
+use Rattle.std.specs.Prelude.{ℕ, ◌+◌, codes, List, [], ◌∷◌, ◌++◌}
+use Rattle.request_lang.specs.Grammar.{line_feed}
+use Rattle.request_lang.specs.Line.{fields}
+use Rattle.request_lang.specs.declared.closing.Counts.{Counts}
+
+-- the line of a worker, with its line feed
+abbrev pub worker_line : ℕ → Counts → List ℕ
+worker_line worker counts =
+    (codes "worker" ++ fields (worker ∷ [])) ++ (codes " needs" ++ fields (counts.needs ∷ []))
+    ++ (codes " hits" ++ fields (counts.hits ∷ [])) ++ line_feed ∷ []
+
+-- the line of how many requests there were, and how many were refused, with its line feed
+abbrev pub total_line : ℕ → ℕ → List ℕ
+total_line total refused =
+    (codes "total" ++ fields (total ∷ [])) ++ (codes " refused" ++ fields (refused ∷ []))
+    ++ line_feed ∷ []
+
+-- the lines of workers, from this one on
+abbrev pub worker_lines : ℕ → List Counts → List ℕ
+worker_lines worker [] = []
+worker_lines worker (c ∷ counts) = worker_line worker c ++ worker_lines (worker + 1) counts
+
+-- The lines that close a run: one for each worker, from 0 on, and one for all requests.
+unfoldable pub closing_lines : List Counts → ℕ → ℕ → List ℕ
+closing_lines counts total refused = worker_lines 0 counts ++ total_line total refused

@@ -1,0 +1,74 @@
+//! The lines that close a run.
+
+ghost use Rattle.std.specs.Prelude.{◌≡◌, ◌++◌, ◌≤◌, OnOk, OnErr};
+ghost use Rattle.request_lang.specs.Appending.{Pushes, Fits, max_part_bytes};
+ghost use Rattle.request_lang.specs.Closing.{worker_line, total_line};
+
+use crate::line::push_line;
+use crate::number::push_text;
+use std::alloc::AllocError;
+use tex_world::NoMemory;
+
+/// How many cells the answers of a worker needed, and how many of these its microcache had.
+#[derive(Clone, Copy, Debug, PartialEq, Eq)]
+pub struct Counts {
+    pub needs: u64,
+    pub hits: u64,
+}
+
+/// Appends the line of a worker, with its line feed.
+#[tactic(auto, using(crate::proofs::AppendLemmas::kept))]
+fn push_worker(out: &mut Vec<u8>, worker: u32, counts: Counts) -> Result<(), AllocError>
+    ensures text { Pushes (worker_line worker counts) out.old.items out.new.items result }
+    ensures fits { Fits max_part_bytes out.old out.new result }
+{
+    push_line(out, "worker", &[u64::from(worker)])?;
+    push_line(out, " needs", &[counts.needs])?;
+    push_line(out, " hits", &[counts.hits])?;
+    push_text(out, b"\n")
+}
+
+/// Appends the line of how many requests there were and how many were refused, with its line feed.
+#[tactic(auto, using(crate::proofs::AppendLemmas::kept))]
+fn push_total(out: &mut Vec<u8>, total: u64, refused: u64) -> Result<(), AllocError>
+    ensures text { Pushes (total_line total refused) out.old.items out.new.items result }
+    ensures fits { Fits max_part_bytes out.old out.new result }
+{
+    push_line(out, "total", &[total])?;
+    push_line(out, " refused", &[refused])?;
+    push_text(out, b"\n")
+}
+
+/// Appends the line that says how many cells the answers of a worker needed, and how many of these its
+/// microcache had. Where there is room for `MAX_PART_BYTES` bytes it takes no memory.
+pub fn worker_text(worker: u32, counts: Counts, out: &mut Vec<u8>) -> Result<(), NoMemory>
+    ensures ok { OnOk result (out.new.items ≡ out.old.items ++ worker_line worker counts) }
+    ensures err { OnErr result (out.new.items ≡ out.old.items) }
+    ensures fits { Fits max_part_bytes out.old out.new result }
+{
+    let before = out.as_slice().len();
+    match push_worker(out, worker, counts) {
+        Ok(()) => Ok(()),
+        Err(_) => {
+            out.truncate(before);
+            Err(NoMemory)
+        }
+    }
+}
+
+/// Appends the line that says how many requests there were, and how many lines are refusals. Where
+/// there is room for `MAX_PART_BYTES` bytes it takes no memory.
+pub fn total_text(total: u64, refused: u64, out: &mut Vec<u8>) -> Result<(), NoMemory>
+    ensures ok { OnOk result (out.new.items ≡ out.old.items ++ total_line total refused) }
+    ensures err { OnErr result (out.new.items ≡ out.old.items) }
+    ensures fits { Fits max_part_bytes out.old out.new result }
+{
+    let before = out.as_slice().len();
+    match push_total(out, total, refused) {
+        Ok(()) => Ok(()),
+        Err(_) => {
+            out.truncate(before);
+            Err(NoMemory)
+        }
+    }
+}
