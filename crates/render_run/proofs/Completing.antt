@@ -15,7 +15,7 @@ use Rattle.render_run.specs.declared.prepare.Ending.TheVariants.{TooManyFiles, L
 use Rattle.render_run.specs.declared.prepare.Ending.TheVariants.{NoMemory}
 use Rattle.render_run.specs.Status.{input_fault}
 use Rattle.render_run.specs.Around.{Around, FeedState}
-use Rattle.render_run.specs.ListRead.{FeedSays, answered_list}
+use Rattle.render_run.specs.ListRead.{FeedSays}
 use Rattle.render_run.specs.Ending.{IsEnded, Ends, path_in, status_of}
 use Rattle.render_run.specs.Run.{inputs_in, IsAnswered, Runs}
 use Rattle.render_run.specs.Complete.{StaysAt, IsCalm, HasAList, NoneFails, Completes}
@@ -29,12 +29,6 @@ has_path (Some a) some none = cc
 has_path None some none = cc
 
 -- ---- a list is no bad list
-
--- what is answered of a list is one
-answered_ok : (said : Parsed) (requests : List Request) → answered_list said ≡ Ok requests
-    → (all : List Request) × (said ≡ Ok all)
-answered_ok (Ok all) requests is = (all, refl)
-answered_ok (Err bad) requests is = absurd cc
 
 if_ok : (b : Bool) (first : Parsed) (bad : BadList) (all : List Request)
     → (if b then first else Err bad) ≡ Ok all → b ≡ true
@@ -56,16 +50,14 @@ says_list : (asked : Option Asked) (old new : FeedState) (bad : BadList) → Has
 says_list asked old new bad has said = elim (cases_lt max_list_bytes (length said.list)) [
   | inl long ↦
       let more : length said.list ≤ length has.bytes = said.read.taken.enough has.bytes has.left in
-      let all = answered_ok (list_of has.bytes) has.requests has.says in
       let short : nat_le (length has.bytes) max_list_bytes ≡ true =
-      is_short has.bytes all.0 all.1 in
+      is_short has.bytes has.requests has.says in
       let past : nat_le (length has.bytes) max_list_bytes ≡ false =
       lt-leb (length has.bytes) max_list_bytes (omega (arith, long, more)) in
       absurd cc
   | inr few ↦
       let same : has.bytes ≡ said.list = (said.read.to_end few).all has.bytes has.left in
-      not_bad (answered_list (list_of has.bytes)) has.requests bad has.says
-      (ap (λ (b : List ℕ). answered_list (list_of b)) same ∙ said.says)
+      not_bad (list_of has.bytes) has.requests bad has.says (ap list_of same ∙ said.says)
 ]
 
 -- ---- no ending has its cause

@@ -58,6 +58,11 @@ module _ (first crew : List Sight) (i : ℕ) (s : Sight) (low : i < length crew)
         (ap (sight_at (set crew i s)) e ∙ at_same crew i s low)
         ∙ on.holds ∙ ap (λ (v : ℕ). (sight_at crew v).holds) (sym e) ∙ kept.holds w few)
         (λ (ne : w ≢ i). rw (at_other crew i w s ne) (kept.holds w few));
+    tally = λ w few. dite (ℕ_discrete w i)
+        (λ (e : w ≡ i). ap (λ (t : Sight). t.tally)
+        (ap (sight_at (set crew i s)) e ∙ at_same crew i s low)
+        ∙ on.tally ∙ ap (λ (v : ℕ). (sight_at crew v).tally) (sym e) ∙ kept.tally w few)
+        (λ (ne : w ≢ i). rw (at_other crew i w s ne) (kept.tally w few));
     source =
         same_source (source_of_crew (set crew i s)) (source_of_crew crew)
         (sum_same (λ (t : Sight). t.source.faults) (ap (λ (x : SourceState). x.faults) on.source))
@@ -71,6 +76,7 @@ see_same crew = record {
   count = refl;
   seen = λ w low n. omega arith;
   holds = λ w low. refl;
+  tally = λ w low. refl;
   source = refl;
 }
 
@@ -83,6 +89,7 @@ module _ (f0 f1 : Sight) (o0 o1 : List Sight) (first : SightsOn f0 f1) (others :
       count = ap suc others.count;
       seen = λ w. by_seen w;
       holds = λ w. by_holds w;
+      tally = λ w. by_tally w;
       source = same_source (source_of_crew (f1 ∷ o1)) (source_of_crew (f0 ∷ o0))
           (sum_cons (λ (t : Sight). t.source.faults)
           (ap (λ (x : SourceState). x.faults) first.source)
@@ -106,6 +113,11 @@ module _ (f0 f1 : Sight) (o0 o1 : List Sight) (first : SightsOn f0 f1) (others :
             → (sight_at (f1 ∷ o1) w).holds ≡ (sight_at (f0 ∷ o0) w).holds
         by_holds zero low = first.holds
         by_holds (suc w) low = others.holds w (omega arith)
+
+        by_tally : (w : ℕ) → w < length (f0 ∷ o0)
+            → (sight_at (f1 ∷ o1) w).tally ≡ (sight_at (f0 ∷ o0) w).tally
+        by_tally zero low = first.tally
+        by_tally (suc w) low = others.tally w (omega arith)
 
     -- what the first has seen then has all of the others in it, and all of them have that
     pub both_carried : (seen : List ℕ) → SeesNoLess f0.seen seen
@@ -163,10 +175,11 @@ module _ {A : Type 0} (sight : A → Sight) where
 
 module _ (whole : List Sight) (f0 f1 : Sight) (o0 mid o1 : List Sight) (seen : List ℕ)
     (is : whole ≡ f0 ∷ o0) (same : mid ≡ o0) (own : SeesNoLess f0.seen seen)
-    (then_seen : f1.seen ≡ seen) (holds : f1.holds ≡ f0.holds) (source : f1.source ≡ f0.source)
+    (then_seen : f1.seen ≡ seen) (holds : f1.holds ≡ f0.holds) (tally : f1.tally ≡ f0.tally)
+    (source : f1.source ≡ f0.source)
     (kept : SeeNoLess mid o1) where
   first_on : SightsOn f0 f1
-  first_on = record { seen = rw then_seen own; holds = holds; source = source }
+  first_on = record { seen = rw then_seen own; holds = holds; tally = tally; source = source }
 
   pub carry_kept : SeeNoLess whole (f1 ∷ o1)
   carry_kept = rw is (both_see f0 f1 o0 o1 first_on (rw (← same) kept))

@@ -1,24 +1,23 @@
 -- What was answered through a tap, said of the folder that the tap came back to.
-use Rattle.std.proofs.Common.{◌≡◌, ℕ, ◌+◌, ◌<◌, ◌≤◌, ◌⊎◌, inl, inr, Bool, List, Option, length, map}
+use Rattle.std.proofs.Common.{◌≡◌, ℕ, ◌+◌, ◌<◌, ◌≤◌, ◌⊎◌, inl, inr, Bool, List, [], Option, length, map}
 use Rattle.std.proofs.Common.{true, false, Result, Ok, Err, IfOk, OnOk}
 use Rattle.std.proofs.Common.{take, refl, ap, subst, ◌∙◌, arith}
 use Rattle.std.specs.Prelude.{min, if◌then◌else◌, IfErr}
 use Rattle.tex_world.specs.Counts.{RisesByAtLeast, last_count}
 use Rattle.tex_world.specs.World.{Files}
 use Rattle.tex_world.specs.Folder.{FolderState}
-use Rattle.tiff_format.specs.declared.cut.Cut.{Cut}
 use Rattle.command_line.specs.declared.options.Options.{Options}
 use Rattle.command_line.specs.Invocation.{Asked}
 use Rattle.request_lang.specs.declared.request.Request.{Request}
 use Rattle.render_run.specs.Status as status
-use Rattle.render_run.specs.Around.{SinkState, SourceState, Setup, FeedState, Progress}
-use Rattle.render_run.specs.Around.{source_of_folder, setup_of, progress_of}
+use Rattle.render_run.specs.Around.{SinkState, SourceState, Terms, Setup, FeedState, Progress}
+use Rattle.render_run.specs.Around.{source_of_folder, setup_of, progress_of, terms_for}
 use Rattle.render_run.specs.Crew.{MakesMore, TakesBack}
 use Rattle.render_run.specs.Around.{around_of, inputs_of}
 use Rattle.render_run.specs.Ending.{HasOptions, IsPrepared, path_in}
 use Rattle.render_run.specs.Dealing.{AreWholeRounds, places_of}
 use Rattle.render_run.specs.Reply.{Line, MeetsAll}
-use Rattle.render_run.specs.Run.{Answers, Runs, MakesTaps, GivesTapsBack, AnswersList}
+use Rattle.render_run.specs.Run.{Answers, Closes, Runs, MakesTaps, GivesTapsBack, AnswersList}
 use Rattle.render_run.specs.Run.{WritesNothing, ListRounds}
 use Rattle.render_run.specs.Written.{Finishes, AnswersAll, PartWritten, RoundsWritten}
 use Rattle.render_run.specs.Written.{IsAnswerStatus, KeepsEntered, KeepsTaps, LeavesUnfinished}
@@ -51,16 +50,16 @@ rises_over n t0 t1 f0 f1 new later over rises = record {
 
 -- ---- taps that came back
 
-module _ (files : Files) (cut used : Cut) (m n workers : ℕ) (requests : List Request)
+module _ (files : Files) (terms used : Terms) (m n workers : ℕ) (requests : List Request)
     (c0 c1 : SourceState) (f0 f1 f2 : FolderState) (none : IsNone c0) (makes : MakesMore m f0 f1)
-    (back : TakesBack m c1 f1 f2) (same : cut ≡ used) (count : n ≡ workers) where
+    (back : TakesBack m c1 f1 f2) (same : terms ≡ used) (count : n ≡ workers) where
   -- what it is answered over
-  setups : setup_of files f1 cut n ≡ setup_of files f2 used workers
+  setups : setup_of files f1 terms n ≡ setup_of files f2 used workers
   setups = rw (same, count, ← back.files.number_of) refl
 
   -- the answers
   abbrev over : (count : ℕ)
-      → Answers (setup_of files f1 cut n) requests count c0 c1
+      → Answers (setup_of files f1 terms n) requests count c0 c1
       → Answers (setup_of files f2 used workers) requests count (source_of_folder f0)
       (source_of_folder f2)
   over count answers = record {
@@ -79,34 +78,50 @@ module _ (files : Files) (cut used : Cut) (m n workers : ℕ) (requests : List R
   }
 
   module _ (s0 s1 : SinkState) where
+    -- what closes the run
+    closes_over : (lines : List Line) (text : List ℕ) → Closes files n lines text
+        → Closes files workers lines text
+    closes_over lines text closes =
+        subst (λ (k : ℕ). Closes files k lines text) count closes
+
+    may_close : (done : ℕ) (lines : List Line) (text : List ℕ)
+        → (text ≡ []) ⊎ ((done ≡ length requests) × Closes files n lines text)
+        → (text ≡ []) ⊎ ((done ≡ length requests) × Closes files workers lines text)
+    may_close done lines text (inl none) = inl none
+    may_close done lines text (inr (all, closes)) = inr (all, closes_over lines text closes)
+
     -- all of a list
     pub finishes_over : (refused : Bool) (ends : ℕ)
-        → Finishes (setup_of files f1 cut n) requests (progress_of c0 s0)
+        → Finishes (setup_of files f1 terms n) requests (progress_of c0 s0)
         (progress_of c1 s1) refused
         → ends ≡ (if refused then status.with_refusals else status.all_answered)
         → AnswersAll (setup_of files f2 used workers) requests
         (progress_of (source_of_folder f0) s0) (progress_of (source_of_folder f2) s1) ends
     finishes_over refused ends finishes is = record {
       answers = over (length requests) finishes.answers;
+      closing = finishes.closing;
+      closes = closes_over finishes.answers.lines finishes.closing finishes.closes;
       written = finishes.written;
       refusal = is ∙ ap (λ (b : Bool). if b then status.with_refusals else status.all_answered)
           finishes.refusal;
     }
 
     -- a first part
-    pub part_over : PartWritten (setup_of files f1 cut n) requests
+    pub part_over : PartWritten (setup_of files f1 terms n) requests
         (progress_of c0 s0) (progress_of c1 s1)
         → PartWritten (setup_of files f2 used workers) requests
         (progress_of (source_of_folder f0) s0) (progress_of (source_of_folder f2) s1)
     part_over part = record {
       count = part.count;
       answers = over part.count part.answers;
+      closing = part.closing;
+      closes = may_close part.count part.answers.lines part.closing part.closes;
       part = part.part;
       cause = part.cause;
     }
 
     -- whole rounds
-    pub rounds_over : RoundsWritten (setup_of files f1 cut n) requests
+    pub rounds_over : RoundsWritten (setup_of files f1 terms n) requests
         (progress_of c0 s0) (progress_of c1 s1)
         → RoundsWritten (setup_of files f2 used workers) requests
         (progress_of (source_of_folder f0) s0) (progress_of (source_of_folder f2) s1)
@@ -122,7 +137,7 @@ module _ (files : Files) (cut used : Cut) (m n workers : ℕ) (requests : List R
 
     -- all of it
     pub all_through : (r : Result Bool Unfinished) (ends : ℕ)
-        → IfOk r (Finishes (setup_of files f1 cut n) requests (progress_of c0 s0)
+        → IfOk r (Finishes (setup_of files f1 terms n) requests (progress_of c0 s0)
         (progress_of c1 s1)) → ends ≡ list_status r
         → ends ≤ status.with_refusals
         → AnswersAll (setup_of files f2 used workers) requests
@@ -140,7 +155,7 @@ module _ (files : Files) (cut used : Cut) (m n workers : ℕ) (requests : List R
 
     -- a first part
     pub part_through : (r : Result Bool Unfinished) (ends : ℕ)
-        → IfErr r (LeavesEarly (setup_of files f1 cut n) requests
+        → IfErr r (LeavesEarly (setup_of files f1 terms n) requests
         (progress_of c0 s0) (progress_of c1 s1))
         → ends ≡ list_status r → ends ≡ status.not_written
         → PartWritten (setup_of files f2 used workers) requests
@@ -151,7 +166,7 @@ module _ (files : Files) (cut used : Cut) (m n workers : ℕ) (requests : List R
     part_through (Err unfinished.NoMemory) ends err is at = absurd (omega arith)
 
     -- whole rounds, or nothing
-    by_rounds : (s1.holds ≡ s0.holds) ⊎ RoundsWritten (setup_of files f1 cut n) requests
+    by_rounds : (s1.holds ≡ s0.holds) ⊎ RoundsWritten (setup_of files f1 terms n) requests
         (progress_of c0 s0) (progress_of c1 s1)
         → (s1.holds ≡ s0.holds) ⊎ RoundsWritten (setup_of files f2 used workers) requests
         (progress_of (source_of_folder f0) s0) (progress_of (source_of_folder f2) s1)
@@ -159,7 +174,7 @@ module _ (files : Files) (cut used : Cut) (m n workers : ℕ) (requests : List R
     by_rounds (inr rounds) = inr (rounds_over rounds)
 
     pub rounds_through : (r : Result Bool Unfinished) (ends : ℕ)
-        → IfErr r (LeavesEarly (setup_of files f1 cut n) requests
+        → IfErr r (LeavesEarly (setup_of files f1 terms n) requests
         (progress_of c0 s0) (progress_of c1 s1))
         → ends ≡ list_status r → ends ≡ status.no_memory
         → (s1.holds ≡ s0.holds) ⊎ RoundsWritten (setup_of files f2 used workers) requests
@@ -193,30 +208,30 @@ module _ (files : Files) (cut used : Cut) (m n workers : ℕ) (requests : List R
 
 -- ---- what a crew leaves, said of so many workers that had done nothing
 
-module _ (files : Files) (f : FolderState) (cut : Cut) (n workers : ℕ) (requests : List Request)
+module _ (files : Files) (f : FolderState) (terms : Terms) (n workers : ℕ) (requests : List Request)
     (crew none : SourceState) (s0 : SinkState) (new : Progress) (count : n ≡ workers)
     (is : crew ≡ none) where
   pub crew_finishes : (r : Result Bool Unfinished)
-      → IfOk r (Finishes (setup_of files f cut n) requests (progress_of crew s0) new)
-      → IfOk r (Finishes (setup_of files f cut workers) requests (progress_of none s0) new)
+      → IfOk r (Finishes (setup_of files f terms n) requests (progress_of crew s0) new)
+      → IfOk r (Finishes (setup_of files f terms workers) requests (progress_of none s0) new)
   crew_finishes r ok =
-      subst (λ (k : ℕ). IfOk r (Finishes (setup_of files f cut k) requests (progress_of none s0)
+      subst (λ (k : ℕ). IfOk r (Finishes (setup_of files f terms k) requests (progress_of none s0)
       new)) count
-      (subst (λ (c : SourceState). IfOk r (Finishes (setup_of files f cut n) requests
+      (subst (λ (c : SourceState). IfOk r (Finishes (setup_of files f terms n) requests
       (progress_of c s0) new)) is ok)
 
   pub crew_leaves : (r : Result Bool Unfinished)
-      → IfErr r (LeavesUnfinished (setup_of files f cut n) requests (progress_of crew s0) new)
-      → IfErr r (LeavesEarly (setup_of files f cut workers) requests (progress_of none s0) new)
+      → IfErr r (LeavesUnfinished (setup_of files f terms n) requests (progress_of crew s0) new)
+      → IfErr r (LeavesEarly (setup_of files f terms workers) requests (progress_of none s0) new)
   crew_leaves (Ok refused) err = tt
   crew_leaves (Err NotWritten) err =
-      subst (λ (k : ℕ). PartWritten (setup_of files f cut k) requests (progress_of none s0) new)
-      count (subst (λ (c : SourceState). PartWritten (setup_of files f cut n) requests
+      subst (λ (k : ℕ). PartWritten (setup_of files f terms k) requests (progress_of none s0) new)
+      count (subst (λ (c : SourceState). PartWritten (setup_of files f terms n) requests
       (progress_of c s0) new) is err)
   crew_leaves (Err unfinished.NoMemory) err =
-      inr (subst (λ (k : ℕ). RoundsWritten (setup_of files f cut k) requests
+      inr (subst (λ (k : ℕ). RoundsWritten (setup_of files f terms k) requests
       (progress_of none s0) new) count
-      (subst (λ (c : SourceState). RoundsWritten (setup_of files f cut n) requests
+      (subst (λ (c : SourceState). RoundsWritten (setup_of files f terms n) requests
       (progress_of c s0) new) is err))
 
 -- ---- the top call
@@ -239,7 +254,7 @@ module _ (files : Files) (asked : Option Asked) (options : Options) (f0 f1 f2 : 
 
   -- what it answered over the whole call
   abbrev listed : (count : ℕ)
-      → Answers (setup_of files f2 options.cut options.workers) requests count
+      → Answers (setup_of files f2 (terms_for options) options.workers) requests count
       (source_of_folder f1) (source_of_folder f2)
       → AnswersList files asked (around_of f0 i0 s0) (around_of f2 i1 s1)
   listed count answers = record {
@@ -262,14 +277,14 @@ module _ (files : Files) (asked : Option Asked) (options : Options) (f0 f1 f2 : 
   -- all of it, by each status
   pub answered_runs : (ends : ℕ)
       → (ends ≤ status.with_refusals
-      → AnswersAll (setup_of files f2 options.cut options.workers) requests
+      → AnswersAll (setup_of files f2 (terms_for options) options.workers) requests
       (progress_of (source_of_folder f1) s0) (progress_of (source_of_folder f2) s1) ends)
       → (ends ≤ status.with_refusals → MakesTaps options.workers f1 f2)
       → (ends ≡ status.not_written
-      → PartWritten (setup_of files f2 options.cut options.workers) requests
+      → PartWritten (setup_of files f2 (terms_for options) options.workers) requests
       (progress_of (source_of_folder f1) s0) (progress_of (source_of_folder f2) s1))
       → (ends ≡ status.no_memory → (s1.holds ≡ s0.holds)
-      ⊎ RoundsWritten (setup_of files f2 options.cut options.workers) requests
+      ⊎ RoundsWritten (setup_of files f2 (terms_for options) options.workers) requests
       (progress_of (source_of_folder f1) s0) (progress_of (source_of_folder f2) s1))
       → IsAnswerStatus ends → GivesTapsBack f1 f2
       → Runs files asked (around_of f0 i0 s0) (around_of f2 i1 s1) ends
@@ -277,6 +292,8 @@ module _ (files : Files) (asked : Option Asked) (options : Options) (f0 f1 f2 : 
     answered = λ few. let done = all few in record {
       list = listed (length requests) done.answers;
       all = refl;
+      closing = done.closing;
+      closes = done.closes;
       written = done.written;
       refusal = done.refusal;
       made = rw (← kept.made) (made few);
@@ -284,7 +301,12 @@ module _ (files : Files) (asked : Option Asked) (options : Options) (f0 f1 f2 : 
     stopped = λ low high. absurd (no_stop statuses low high);
     cut = λ is. let written = part is in record {
       failed = written.cause;
-      part = inr (record { list = listed written.count written.answers; part = written.part });
+      part = inr (record {
+        list = listed written.count written.answers;
+        closing = written.closing;
+        closes = written.closes;
+        part = written.part;
+      });
     };
     short = λ is. by_short (short is);
     statuses = few statuses;
@@ -307,7 +329,7 @@ module _ (files : Files) (asked : Option Asked) (options : Options) (f0 f1 f2 : 
       few (inr (inr is)) = omega arith
 
       by_short : (s1.holds ≡ s0.holds)
-          ⊎ RoundsWritten (setup_of files f2 options.cut options.workers) requests
+          ⊎ RoundsWritten (setup_of files f2 (terms_for options) options.workers) requests
           (progress_of (source_of_folder f1) s0) (progress_of (source_of_folder f2) s1)
           → WritesNothing (around_of f0 i0 s0) (around_of f2 i1 s1)
           ⊎ ListRounds files asked (around_of f0 i0 s0) (around_of f2 i1 s1)

@@ -9,6 +9,9 @@ mod TileLemmas
 mod Shares
 mod Sums
 mod CrewLemmas
+mod PassLemmas
+mod TallyLemmas
+mod NeedLemmas
 mod OneMore
 mod Rounds
 mod Folders

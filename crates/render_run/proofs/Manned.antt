@@ -9,6 +9,7 @@ use Rattle.tex_world.specs.Tap.{TapState, IsNew}
 use Rattle.tex_world.specs.Folder.{FolderState, KeepsFiles, AfterBack}
 use Rattle.image_cache.specs.Pass.{CacheState, PassState, IsPassOf, IsFresh}
 use Rattle.render_run.specs.Around.{Sight, SourceState, source_of_crew, sight_of, no_sight}
+use Rattle.render_run.specs.Around.{tally_of, no_tally}
 use Rattle.render_run.specs.Crew.{IsNewPost, AddsPost, MakesMore, GivesMore, AreIdle}
 
 -- ---- made
@@ -72,6 +73,10 @@ sum_none f (x ∷ xs) all =
       sum_none f xs (λ k d lt. all (suc k) d (omega arith)),
     )
 
+-- a fresh pass has counted nothing
+same_tally : (pass : PassState) → IsFresh pass → tally_of pass ≡ no_tally
+same_tally pass fresh = rw (fresh.recent, fresh.needs, fresh.hits) refl
+
 module _ {A : Type 0} (cache : CacheState) (pass_of : A → PassState) (tap_of : A → TapState) where
   -- their taps have done nothing
   pub crew_none : (posts : List A) → All (λ p. IsNewPost cache (pass_of p) (tap_of p)) posts
@@ -86,11 +91,14 @@ module _ {A : Type 0} (cache : CacheState) (pass_of : A → PassState) (tap_of :
             posts (λ k d lt. (all k d lt).unused.moves)),
       ) refl
 
-  -- they hold nothing
+  -- they hold nothing and have counted nothing
   pub crew_idle : (posts : List A) → All (λ p. IsNewPost cache (pass_of p) (tap_of p)) posts
       → AreIdle (map (λ p. sight_of (pass_of p) (tap_of p)) posts)
-  crew_idle [] all w = refl
-  crew_idle (p ∷ ps) all zero = ap length (all 0 p (omega arith)).fresh.holds
+  crew_idle [] all w = record { holds = refl; tally = refl }
+  crew_idle (p ∷ ps) all zero = record {
+    holds = ap length (all 0 p (omega arith)).fresh.holds;
+    tally = same_tally (pass_of p) (all 0 p (omega arith)).fresh;
+  }
   crew_idle (p ∷ ps) all (suc w) = crew_idle ps (λ k d lt. all (suc k) d (omega arith)) w
 
 -- what is written back behind so many is not kept

@@ -12,9 +12,8 @@ use Rattle.request_lang.specs.declared.request.Request.{Request}
 use Rattle.request_lang.specs.declared.answer.Answer.{Answer}
 use Rattle.request_lang.specs.Basis.{basis_of, is_fault, is_move}
 use Rattle.tex_world.specs.World.{Files}
-use Rattle.tiff_format.specs.declared.cut.Cut.{Cut}
 use Rattle.render_run.specs.declared.question.Task.{Task}
-use Rattle.render_run.specs.Around.{SourceState, Sight, Setup, sight_at, source_of_crew}
+use Rattle.render_run.specs.Around.{SourceState, Sight, Terms, Setup, sight_at, source_of_crew}
 use Rattle.render_run.specs.Question.{task_of, file_in}
 use Rattle.render_run.specs.Dealing.{Place, place}
 use Rattle.render_run.specs.Reply.{Line, Meets, MeetsAll}
@@ -32,6 +31,9 @@ use Rattle.std.proofs.lemmas.List.{length-set}
 use mathlib.Core.Logic.{dite}
 use native.Mathlib.Decide.{ℕ_discrete}
 use Rattle.render_run.proofs.Counting.{faults_more, moves_more}
+use Rattle.texel_values.specs.Region.{max_texels}
+use Rattle.render_run.specs.Tallied.{IsTallied}
+use Rattle.render_run.proofs.TallyLemmas.{tally_own, tally_other}
 
 -- a line more meets a request more
 pub meets_push : (setup : Setup) (rs : List Request) (lines : List Line) (r : Request)
@@ -95,13 +97,14 @@ module _ (setup : Setup) (old : SourceState) (round : ℕ) where
   module _ (front : List Request) (lines : List Line) (r : Request) (w : ℕ) (answer : Answer)
       (crew : List Sight) (after : Sight)
       (told : AreLinesSoFar setup front old round crew lines) (low : w < setup.workers)
-      (one : AnswersTask setup.files setup.cut (task_of setup.number_of r) (sight_at crew w) after
+      (one : AnswersTask setup.files setup.terms (task_of setup.number_of r) (sight_at crew w) after
       answer) where
     abbrev line : Line
     line = record {
       place = place round w;
       file = file_in (task_of setup.number_of r);
       held = (sight_at crew w).holds;
+      needed = one.tallies.needed;
       answer = answer;
     }
 
@@ -137,12 +140,23 @@ module _ (setup : Setup) (old : SourceState) (round : ℕ) where
         (λ (ne : v ≢ w). rw (at_other crew w v after ne)
         (holds_other v lines line (sight_at crew v) (λ e. ne (sym e)) (told.holds v few)))
 
+    tallied_then : (v : ℕ) → v < setup.workers
+        → IsTallied setup.files v (lines ++ line ∷ []) (sight_at (set crew w after) v).tally
+    tallied_then v few = dite (ℕ_discrete v w)
+        (λ (e : v ≡ w). rw (e, at_same crew w after here)
+        (tally_own w lines line setup.files (sight_at crew w).tally (told.tallied w low)
+        after.tally refl one.tallies refl))
+        (λ (ne : v ≢ w). rw (at_other crew w v after ne)
+        (tally_other v lines line setup.files (sight_at crew v).tally (told.tallied v few)
+        (λ e. ne (sym e))))
+
     pub lines_more : AreLinesSoFar setup (front ++ r ∷ []) old round (set crew w after)
         (lines ++ line ∷ [])
     lines_more = record {
       met = meets_push setup front lines r line told.met (record {
         file = refl;
         answer = one.meets;
+        needed = one.tallies.are;
       });
       fresh = all_pairs_push IsFresher lines line told.fresh
           (λ k d lt placed n first second g late h early.
@@ -162,7 +176,10 @@ module _ (setup : Setup) (old : SourceState) (round : ℕ) where
           (crew_cause crew w after here (basis_of answer) one.after.cause) told.moves);
       workers = length-set crew w after ∙ told.workers;
       holds = holds_then;
+      tallied = tallied_then;
       of_crew = All-push (λ (l : Line). l.place.worker < setup.workers) lines line told.of_crew low;
+      few = All-push (λ (l : Line). length l.needed ≤ max_texels) lines line told.few
+          one.tallies.few;
       seen = All-push (λ (l : Line). (v : ℕ) → v < setup.workers → IsKnownTo round v l
           → IsSeenOf (sight_at (set crew w after) v).seen l) lines line
           (λ k d lt v few known. seen_later v (get_or lines k d) (told.seen k d lt v few known))
@@ -174,7 +191,7 @@ module _ (setup : Setup) (old : SourceState) (round : ℕ) where
 module _ (setup : Setup) (round : ℕ) where
   -- the answers of the requests of a round from the i-th on
   abbrev pub Turns : ℕ → List Request → List Answer → List Sight → List Sight → Type 0
-  Turns i rs answers before after = AnswersInTurn setup.files setup.cut setup.workers i
+  Turns i rs answers before after = AnswersInTurn setup.files setup.terms setup.workers i
       (map (task_of setup.number_of) rs) answers before after
 
   -- the lines of answers of a round, the first of which is its i-th
@@ -187,6 +204,7 @@ module _ (setup : Setup) (round : ℕ) where
     place = place round (i % setup.workers);
     file = file_in (task_of setup.number_of r);
     held = (sight_at before (i % setup.workers)).holds;
+    needed = turns.1.tallies.needed;
     answer = a;
   } ∷ placed (i + 1) rs answers (set before (i % setup.workers) turns.0) after turns.2
 
@@ -209,6 +227,7 @@ module _ (setup : Setup) (round : ℕ) where
         place = place round w;
         file = file_in (task_of setup.number_of r);
         held = (sight_at before w).holds;
+        needed = turns.1.tallies.needed;
         answer = a;
       } in
       let later = placed (i + 1) rs answers (set before w turns.0) after turns.2 in
@@ -275,7 +294,9 @@ module _ (setup : Setup) (front : List Request) (old : SourceState) (lines : Lis
         (sym carried.kept.source) told.moves;
     workers = carried.kept.count ∙ told.workers;
     holds = λ w low. rw (carried.kept.holds w (omega (arith, told.workers))) (told.holds w low);
+    tallied = λ w low. rw (carried.kept.tally w (omega (arith, told.workers))) (told.tallied w low);
     of_crew = told.of_crew;
+    few = told.few;
     seen = λ k d lt w low known n is g late.
         let own = told.of_crew k d lt in
         let saw = told.seen k d lt (get_or lines k d).place.worker own (inr refl) n is g late in
@@ -300,7 +321,9 @@ module _ (setup : Setup) (front : List Request) (old : SourceState) (lines : Lis
         (sym kept.source) told.moves;
     workers = kept.count ∙ told.workers;
     holds = λ w low. rw (kept.holds w (omega (arith, told.workers))) (told.holds w low);
+    tallied = λ w low. rw (kept.tally w (omega (arith, told.workers))) (told.tallied w low);
     of_crew = told.of_crew;
+    few = told.few;
     seen = λ k d lt w low known n is g late.
         let saw = told.seen k d lt w low known n is g late in
         omega (arith, saw, kept.seen w (omega (arith, told.workers)) n);
@@ -318,7 +341,9 @@ lines_own setup front old round crew lines told = record {
   moves = told.moves;
   workers = told.workers;
   holds = told.holds;
+  tallied = told.tallied;
   of_crew = told.of_crew;
+  few = told.few;
   seen = λ k d lt w low known. told.seen k d lt w low (own_only (get_or lines k d) w known);
 }
   where
@@ -329,13 +354,13 @@ lines_own setup front old round crew lines told = record {
 -- ---- one answer more of a round
 
 -- a worker answered one request more
-pub each_push : (files : Files) (cut : Cut) (tasks : List Task) (answers : List Answer)
+pub each_push : (files : Files) (terms : Terms) (tasks : List Task) (answers : List Answer)
     (old mid new : Sight) (task : Task) (answer : Answer)
-    → AnswersEach files cut tasks answers old mid → AnswersTask files cut task mid new answer
-    → AnswersEach files cut (tasks ++ task ∷ []) (answers ++ answer ∷ []) old new
-each_push files cut [] [] old mid new task answer each one =
-    (new, subst (λ (s : Sight). AnswersTask files cut task s new answer) each one, refl)
-each_push files cut [] (a ∷ answers) old mid new task answer each one = absurd each
-each_push files cut (t ∷ tasks) [] old mid new task answer each one = absurd each
-each_push files cut (t ∷ tasks) (a ∷ answers) old mid new task answer each one =
-    (each.0, each.1, each_push files cut tasks answers each.0 mid new task answer each.2 one)
+    → AnswersEach files terms tasks answers old mid → AnswersTask files terms task mid new answer
+    → AnswersEach files terms (tasks ++ task ∷ []) (answers ++ answer ∷ []) old new
+each_push files terms [] [] old mid new task answer each one =
+    (new, subst (λ (s : Sight). AnswersTask files terms task s new answer) each one, refl)
+each_push files terms [] (a ∷ answers) old mid new task answer each one = absurd each
+each_push files terms (t ∷ tasks) [] old mid new task answer each one = absurd each
+each_push files terms (t ∷ tasks) (a ∷ answers) old mid new task answer each one =
+    (each.0, each.1, each_push files terms tasks answers each.0 mid new task answer each.2 one)

@@ -1,8 +1,8 @@
 -- One round more is answered and written.
-use Rattle.std.proofs.Common.{◌≡◌, ℕ, ◌+◌, ◌%◌, ◌<◌, ◌≤◌, Bool, true, false, ◌||◌, List, [], ◌∷◌, ◌++◌}
-use Rattle.std.proofs.Common.{ltb, length, map, take, drop, Some, refl, sym, ap, subst, ◌∙◌, append_assoc}
-use Rattle.std.proofs.Common.{arith}
-use Rattle.std.specs.List.{All, flat_map, list_any}
+use Rattle.std.proofs.Common.{◌≡◌, ℕ, ◌+◌, ◌*◌, ◌%◌, ◌<◌, ◌≤◌, min, Bool, true, false, List, [], ◌∷◌, ◌++◌}
+use Rattle.std.proofs.Common.{ltb, eqb, nat_lt, inl, inr, length, map, take, drop, get_or, Some, refl, sym, ap}
+use Rattle.std.proofs.Common.{subst, ◌∙◌, append_assoc, count_by, if◌then◌else◌, arith}
+use Rattle.std.specs.List.{All, flat_map}
 use Rattle.std.proofs.Math.Seq.{take-add, take-append_seam, drop-append_seam}
 use Rattle.std.proofs.lemmas.List.{append-nil, map-append, length-map, length-append, length-take}
 use Rattle.std.proofs.lemmas.List.{length-drop, drop-drop}
@@ -10,7 +10,15 @@ use Rattle.std.proofs.lemmas.Bool.{ltb-true, ltb-false}
 use Rattle.std.proofs.lemmas.List.Concat.{flat_map-append}
 use Rattle.std.proofs.lemmas.List.Elements.{All-append, All-map}
 use Rattle.std.proofs.lemmas.List.FromFn.{length-map-range_with_len}
-use Rattle.std.proofs.lemmas.List.Folds.{list_any-append, flat_map-map}
+use Rattle.std.proofs.lemmas.List.Folds.{flat_map-map}
+use Rattle.std.proofs.lemmas.List.{get_or-map}
+use Rattle.std.proofs.lemmas.List.Sums.{sum_by_push, sum_by-append, sum_by-cons, sum_by-le, sum_by-le-sum_by}
+use Rattle.tex_world.specs.Tap.{TapState}
+use Rattle.texel_values.specs.Region.{max_texels}
+use Rattle.image_cache.specs.Pass.{PassState, max_count}
+use Rattle.request_lang.specs.declared.closing.Counts.{Counts}
+use Rattle.request_lang.specs.Closing.{closing_lines}
+use Rattle.request_lang.specs.Grammar.{max_requests}
 use Rattle.request_lang.specs.declared.request.Request.{Request}
 use Rattle.request_lang.specs.declared.answer.Answer.{Answer}
 use Rattle.request_lang.specs.Basis.{is_refusal}
@@ -18,18 +26,22 @@ use Rattle.request_lang.specs.Line.{line_of}
 use Rattle.tex_world.specs.Counts.{Rises, last_count}
 use Rattle.tex_world.specs.Stream.{Appends, AppendsPart}
 use Rattle.render_run.specs.Around.{SourceState, SinkState, Sight, Progress, Setup, progress_of}
-use Rattle.render_run.specs.Around.{source_of_crew}
+use Rattle.render_run.specs.Around.{source_of_crew, sight_at, sight_of, no_sight, counts_of}
 use Rattle.render_run.specs.Crew.{AreCarried, AreIdle, SeeNoLess}
 use Rattle.render_run.specs.Question.{task_of}
 use Rattle.render_run.specs.Dealing.{Place, place, fresh_round, places_from, places_of}
 use Rattle.render_run.specs.Dealing.{round_places, IsRound, AreWholeRounds}
 use Rattle.render_run.specs.Reply.{Line}
-use Rattle.render_run.specs.Run.{Answers, lines_text, some_refused}
+use Rattle.render_run.specs.Held.{one_if}
+use Rattle.render_run.specs.Counted.{needs_by, hits_by, AreCountsOf, no_counts}
+use Rattle.render_run.specs.Run.{Answers, Closes, lines_text, refusals}
 use Rattle.render_run.specs.Page.{Passes, PassesPart, outgoing_of}
 use Rattle.render_run.specs.Written.{Finishes, PartWritten, RoundsWritten}
 use Rattle.render_run.specs.Answering.{AnswersInTurn, SoFar, answers_text}
 use Rattle.render_run.proofs.DealingLemmas.{later_rounds}
-use Rattle.render_run.proofs.Passing.{passes_more, rest_part}
+use Rattle.render_run.proofs.Passing.{passes_more, passes_part, rest_part}
+use Rattle.render_run.proofs.TallyLemmas.{none_tallied}
+use Rattle.render_run.proofs.CrewLemmas.{one_of}
 use Rattle.render_run.proofs.OneMore.{placed, round_more, placed_places, placed_answers}
 use Rattle.render_run.proofs.OneMore.{placed_rounds, Turns, lines_carried, lines_kept, lines_own}
 
@@ -51,7 +63,7 @@ rises_from a b c low rises = record {
 -- before the first round
 pub none_yet : (setup : Setup) (requests : List Request) (crew : List Sight) (old : Progress)
     → length crew ≡ setup.workers → AreIdle crew → source_of_crew crew ≡ old.source
-    → SoFar setup requests 0 crew old old [] false
+    → SoFar setup requests 0 crew old old [] 0
 none_yet setup requests crew old count idle from = record {
   lines = [];
   round = 0;
@@ -60,8 +72,10 @@ none_yet setup requests crew old count idle from = record {
     fresh = λ i j d lt below. absurd (omega arith);
     counted = tt;
     workers = count;
-    holds = λ w low. rw (idle w) refl;
+    holds = λ w low. rw (idle w).holds refl;
+    tallied = λ w low. none_tallied setup.files w (sight_at crew w).tally (idle w).tally;
     of_crew = λ k d lt. absurd (omega arith);
+    few = λ k d lt. absurd (omega arith);
     faults = record {
       later = omega (arith, ap (λ (s : SourceState). s.faults) from);
       by_n = λ below. omega (arith, ap (λ (s : SourceState). s.faults) from);
@@ -90,23 +104,22 @@ text_more front a =
     flat_map-append line_of front (a ∷ [])
     ∙ ap (λ (t : List ℕ). answers_text front ++ t) (append-nil (line_of a))
 
--- a test, or none
-or_false : (b : Bool) → (b || false) ≡ b
-or_false true = refl
-or_false false = refl
+-- how many answers are refusals, with one more
+pub count_more : (front : List Answer) (a : Answer)
+    → count_by is_refusal (front ++ a ∷ []) ≡ count_by is_refusal front + one_if (is_refusal a)
+count_more front a = sum_by_push (λ (x : Answer). one_if (is_refusal x)) front a
 
--- some answer is a refusal, or the one more is
-pub any_more : (front : List Answer) (a : Answer)
-    → list_any is_refusal (front ++ a ∷ []) ≡ (list_any is_refusal front || is_refusal a)
-any_more front a =
-    list_any-append is_refusal front (a ∷ [])
-    ∙ ap (λ (b : Bool). list_any is_refusal front || b) (or_false (is_refusal a))
-
--- a test of what a function gives
-any_map : {X Y : Type 0} (p : Y → Bool) (f : X → Y) (xs : List X)
-    → list_any (λ x. p (f x)) xs ≡ list_any p (map f xs)
-any_map p f [] = refl
-any_map p f (x ∷ xs) = ap (λ (b : Bool). p (f x) || b) (any_map p f xs)
+-- a count of what a function gives
+count_map : {X Y : Type 0} (p : Y → Bool) (f : X → Y) (xs : List X)
+    → count_by (λ x. p (f x)) xs ≡ count_by p (map f xs)
+count_map p f [] = refl
+count_map p f (x ∷ xs) =
+    omega (
+      arith,
+      sum_by-cons (λ y. one_if (p (f y))) x xs,
+      sum_by-cons (λ y. one_if (p y)) (f x) (map f xs),
+      count_map p f xs,
+    )
 
 module _ (setup : Setup) (round : ℕ) (rs : List Request) (answers : List Answer)
     (before after : List Sight) (turns : Turns setup round 0 rs answers before after) where
@@ -116,11 +129,11 @@ module _ (setup : Setup) (round : ℕ) (rs : List Request) (answers : List Answe
       sym (flat_map-map line_of (λ (l : Line). l.answer) (placed setup round 0 rs answers before after turns))
       ∙ ap (flat_map line_of) (placed_answers setup round 0 rs answers before after turns)
 
-  -- whether one of them is a refusal
-  more_refused : some_refused (placed setup round 0 rs answers before after turns) ≡ list_any is_refusal answers
+  -- how many of them are refusals
+  more_refused : refusals (placed setup round 0 rs answers before after turns) ≡ count_by is_refusal answers
   more_refused =
-      any_map is_refusal (λ (l : Line). l.answer) (placed setup round 0 rs answers before after turns)
-      ∙ ap (list_any is_refusal) (placed_answers setup round 0 rs answers before after turns)
+      count_map is_refusal (λ (l : Line). l.answer) (placed setup round 0 rs answers before after turns)
+      ∙ ap (count_by is_refusal) (placed_answers setup round 0 rs answers before after turns)
 
   -- how many there are
   more_count : length (placed setup round 0 rs answers before after turns) ≡ length rs
@@ -130,15 +143,15 @@ module _ (setup : Setup) (round : ℕ) (rs : List Request) (answers : List Answe
       ∙ length-map-range_with_len (λ k. place round (k % setup.workers)) 0 (length rs)
 
 module _ (setup : Setup) (requests : List Request) (done count : ℕ) (known before after : List Sight)
-    (old mid new : Progress) (p1 p2 : List ℕ) (refused said both : Bool) (answers : List Answer)
+    (old mid new : Progress) (p1 p2 : List ℕ) (refused said both : ℕ) (answers : List Answer)
     (some : 0 < setup.workers) (carried : AreCarried known before) where
   -- one round more
   pub rounds_more : SoFar setup requests done known old mid p1 refused
       → IsRound (drop done requests) count → done + count ≤ length requests
-      → AnswersInTurn setup.files setup.cut setup.workers 0
+      → AnswersInTurn setup.files setup.terms setup.workers 0
       (map (task_of setup.number_of) (take count (drop done requests))) answers before after
       → Passes (answers_text answers) (outgoing_of p1 mid.sink) (outgoing_of p2 new.sink)
-      → said ≡ list_any is_refusal answers → both ≡ (refused || said)
+      → said ≡ count_by is_refusal answers → both ≡ refused + said
       → SoFar setup requests (done + count) after old new p2 both
   rounds_more so_far is_round within turns passes told either =
       let rs = take count (drop done requests) in
@@ -195,15 +208,15 @@ module _ (setup : Setup) (requests : List Request) (done count : ℕ) (known bef
             (outgoing_of p1 mid.sink) (outgoing_of p2 new.sink) so_far.written passes);
         refusal =
             either ∙ rw (so_far.refusal, told)
-            (sym (list_any-append (λ (l : Line). is_refusal l.answer) lines more
-            ∙ ap (λ (b : Bool). some_refused lines || b)
+            (sym (sum_by-append (λ (l : Line). one_if (is_refusal l.answer)) lines more
+            ∙ ap (λ (n : ℕ). refusals lines + n)
             (more_refused setup round rs answers before after turns)));
       }
 
 -- ---- what stands then
 
 module _ (setup : Setup) (requests : List Request) (done : ℕ) (crew : List Sight)
-    (old new : Progress) (page : List ℕ) (refused : Bool)
+    (old new : Progress) (page : List ℕ) (refused : ℕ)
     (so_far : SoFar setup requests done crew old new page refused) where
   -- the places of the lines, and those of the rest
   pub front_places : map (λ (l : Line). l.place) so_far.lines ≡ take done (places_of setup.workers requests)
@@ -280,32 +293,34 @@ waiting text page sink = record {
 }
 
 module _ (setup : Setup) (requests : List Request) (done count : ℕ) (known before after : List Sight)
-    (old mid : Progress) (last : SinkState) (page : List ℕ) (refused : Bool)
+    (old mid : Progress) (last : SinkState) (page : List ℕ) (refused : ℕ)
     (answers : List Answer) (some : 0 < setup.workers) (carried : AreCarried known before) where
   -- a first part of the lines of one round more
   pub rounds_part : SoFar setup requests done known old mid page refused
       → IsRound (drop done requests) count → done + count ≤ length requests
-      → AnswersInTurn setup.files setup.cut setup.workers 0
+      → AnswersInTurn setup.files setup.terms setup.workers 0
       (map (task_of setup.number_of) (take count (drop done requests))) answers before after
       → PassesPart (answers_text answers) (outgoing_of page mid.sink) last.holds
       → Rises old.sink.faults last.faults
       → PartWritten setup requests old (progress_of (source_of_crew after) last)
   rounds_part so_far is_round within turns part cause =
-      let both = refused || list_any is_refusal answers in
+      let both = refused + count_by is_refusal answers in
       let waits = page ++ answers_text answers in
       let more = rounds_more setup requests done count known before after old mid mid page waits
-      refused (list_any is_refusal answers) both answers some carried so_far is_round within turns
+      refused (count_by is_refusal answers) both answers some carried so_far is_round within turns
       (waiting (answers_text answers) page mid.sink) refl refl in
       record {
         count = done + count;
         answers = answered_so_far setup requests (done + count) after old mid waits both more;
-        part = rest_part (lines_text more.lines) (outgoing_of [] old.sink)
-            (outgoing_of waits mid.sink) last.holds more.written part;
+        closing = [];
+        closes = inl refl;
+        part = rw (append-nil (lines_text more.lines)) (rest_part (lines_text more.lines) (outgoing_of [] old.sink)
+            (outgoing_of waits mid.sink) last.holds more.written part);
         cause = cause;
       }
 
 module _ (setup : Setup) (requests : List Request) (done : ℕ) (crew : List Sight) (old mid : Progress)
-    (last : SinkState) (page : List ℕ) (refused : Bool)
+    (last : SinkState) (page : List ℕ) (refused : ℕ)
     (so_far : SoFar setup requests done crew old mid page refused) where
   -- what waited was put
   pub rounds_written : (p2 : List ℕ)
@@ -331,28 +346,137 @@ module _ (setup : Setup) (requests : List Request) (done : ℕ) (crew : List Sig
   rounds_cut part cause = record {
     count = done;
     answers = answered_so_far setup requests done crew old mid page refused so_far;
-    part = rest_part (lines_text so_far.lines) (outgoing_of [] old.sink)
-        (outgoing_of page mid.sink) last.holds so_far.written part;
+    closing = [];
+    closes = inl refl;
+    part = rw (append-nil (lines_text so_far.lines)) (rest_part (lines_text so_far.lines)
+        (outgoing_of [] old.sink) (outgoing_of page mid.sink) last.holds so_far.written part);
     cause = cause;
   }
 
--- all of a list
-pub rounds_finish : (setup : Setup) (requests : List Request) (crew : List Sight) (old mid : Progress)
-    (last : SinkState) (page : List ℕ) (refused : Bool) (p2 : List ℕ)
-    → SoFar setup requests (length requests) crew old mid page refused
-    → Passes [] (outgoing_of page mid.sink) (outgoing_of p2 last) → p2 ≡ []
-    → Finishes setup requests old (progress_of (source_of_crew crew) last) refused
-rounds_finish setup requests crew old mid last page refused p2 so_far passes empty = record {
-  answers = answered_so_far setup requests (length requests) crew old mid page refused so_far;
-  written =
-      rounds_written setup requests (length requests) crew old mid last page refused so_far p2
-      passes empty;
-  refusal = so_far.refusal;
-}
+-- ---- the lines that close a run
+
+-- counts that stand below the most that they tell
+short_least : (m n s : ℕ) → n ≤ m → min n m ≤ s → n ≤ s
+short_least m n s short least = omega (arith, short, least)
+
+short_exact : (m n s : ℕ) → n ≤ m → s ≡ min n m → s ≡ n
+short_exact m n s short is = omega (arith, short, is)
+
+short_hits : (m h s n : ℕ) → s ≤ n → n < m → s ≡ min h m → s ≡ h
+short_hits m h s n few short is = omega (arith, few, short, is)
+
+module _ (setup : Setup) (requests : List Request) (crew : List Sight) (old mid : Progress)
+    (page : List ℕ) (refused : ℕ)
+    (so_far : SoFar setup requests (length requests) crew old mid page refused)
+    (short : length requests ≤ max_requests) where
+  -- so many cells at most were needed
+  needs_short : (w : ℕ) → needs_by w so_far.lines ≤ max_requests * max_texels
+  needs_short w =
+      let part = sum_by-le-sum_by
+      (λ (l : Line). if eqb l.place.worker w then length l.needed else 0)
+      (λ (l : Line). length l.needed) so_far.lines
+      (λ l. own_or_none (eqb l.place.worker w) (length l.needed)) in
+      let all = sum_by-le (λ (l : Line). length l.needed) max_texels so_far.lines so_far.so_far.few in
+      let long : length so_far.lines * max_texels ≤ max_requests * max_texels =
+      omega (arith, so_far.count, short) in
+      omega (arith, part, all, long)
+    where
+      own_or_none : (b : Bool) (n : ℕ) → (if b then n else 0) ≤ n
+      own_or_none true n = omega arith
+      own_or_none false n = omega arith
+
+  -- the counts of a worker are those of its lines
+  counts_told : (w : ℕ) → w < setup.workers → (counts : Counts) → counts.hits ≤ counts.needs
+      → counts.needs ≡ (sight_at crew w).tally.needs → counts.hits ≡ (sight_at crew w).tally.hits
+      → AreCountsOf setup.files.tells w so_far.lines counts
+  counts_told w low counts few needs hits =
+      let told = so_far.so_far.tallied w low in
+      let below : needs_by w so_far.lines < max_count = omega (arith, needs_short w) in
+      record {
+        few = few;
+        least = λ tells. short_least max_count (needs_by w so_far.lines) counts.needs
+            (omega (arith, below)) (rw needs told.least);
+        exact = λ tells calm.
+            let exact = told.exact tells calm in
+            let all : counts.needs ≡ needs_by w so_far.lines =
+            short_exact max_count (needs_by w so_far.lines) counts.needs (omega (arith, below))
+            (needs ∙ exact.needs) in
+            record {
+              needs = all;
+              hits = short_hits max_count (hits_by w so_far.lines) counts.hits counts.needs few
+                  (omega (arith, all, below)) (hits ∙ exact.hits);
+            };
+      }
+
+module _ {A : Type 0} (pass_of : A → PassState) (tap_of : A → TapState) (posts : List A)
+    (setup : Setup) (requests : List Request) (old mid : Progress) (page : List ℕ) (refused : ℕ)
+    (some : 0 < length posts)
+    (so_far : SoFar setup requests (length requests)
+    (map (λ p. sight_of (pass_of p) (tap_of p)) posts) old mid page refused)
+    (short : length requests ≤ max_requests)
+    (few : All (λ p. (pass_of p).hits ≤ (pass_of p).needs) posts) where
+  -- the text of the lines that close the run
+  abbrev text : List ℕ
+  text = closing_lines (map (λ p. counts_of (pass_of p)) posts) (length requests) refused
+
+  count : length posts ≡ setup.workers
+  count =
+      sym (length-map posts (λ p. sight_of (pass_of p) (tap_of p))) ∙ so_far.so_far.workers
+
+  closes_so_far : Closes setup.files setup.workers so_far.lines text
+  closes_so_far = record {
+    counts = map (λ p. counts_of (pass_of p)) posts;
+    each = length-map posts (λ p. counts_of (pass_of p)) ∙ count;
+    counted = λ w low.
+        let d = one_of posts some in
+        let here : w < length posts = omega (arith, low, count) in
+        let sight = get_or-map (λ p. sight_of (pass_of p) (tap_of p)) posts w d no_sight here in
+        rw (get_or-map (λ p. counts_of (pass_of p)) posts w d no_counts here)
+        (counts_told setup requests (map (λ p. sight_of (pass_of p) (tap_of p)) posts) old mid page
+        refused so_far short w low (counts_of (pass_of (get_or posts w d))) (few w d here)
+        (sym (ap (λ (s : Sight). s.tally.needs) sight))
+        (sym (ap (λ (s : Sight). s.tally.hits) sight)));
+    tells = rw (so_far.count, ← so_far.refusal) refl;
+  }
+
+  module _ (last : SinkState) where
+    -- all of a list
+    pub rounds_finish : (p2 : List ℕ) → Passes text (outgoing_of page mid.sink) (outgoing_of p2 last)
+        → p2 ≡ []
+        → Finishes setup requests old
+        (progress_of (source_of_crew (map (λ p. sight_of (pass_of p) (tap_of p)) posts)) last)
+        (nat_lt 0 refused)
+    rounds_finish p2 passes empty = record {
+      answers = answered_so_far setup requests (length requests) _ old mid page refused so_far;
+      closing = text;
+      closes = closes_so_far;
+      written =
+          all_put (lines_text so_far.lines ++ text) old.sink last
+          (subst (λ (p : List ℕ). Passes (lines_text so_far.lines ++ text) (outgoing_of [] old.sink)
+          (outgoing_of p last)) empty
+          (passes_more (lines_text so_far.lines) text (outgoing_of [] old.sink)
+          (outgoing_of page mid.sink) (outgoing_of p2 last) so_far.written passes));
+      refusal = ap (nat_lt 0) so_far.refusal;
+    }
+
+    -- a first part of the lines that close it
+    pub close_cut : PassesPart text (outgoing_of page mid.sink) last.holds
+        → Rises old.sink.faults last.faults
+        → PartWritten setup requests old
+        (progress_of (source_of_crew (map (λ p. sight_of (pass_of p) (tap_of p)) posts)) last)
+    close_cut part cause = record {
+      count = length requests;
+      answers = answered_so_far setup requests (length requests) _ old mid page refused so_far;
+      closing = text;
+      closes = inr (refl, closes_so_far);
+      part = passes_part (lines_text so_far.lines) text (outgoing_of [] old.sink)
+          (outgoing_of page mid.sink) last.holds so_far.written part;
+      cause = cause;
+    }
 
 -- where no round more was begun, though what was seen was carried
 pub rounds_kept : (setup : Setup) (requests : List Request) (done : ℕ) (known crew : List Sight)
-    (old new : Progress) (source : SourceState) (page : List ℕ) (refused : Bool)
+    (old new : Progress) (source : SourceState) (page : List ℕ) (refused : ℕ)
     → SoFar setup requests done known old new page refused → SeeNoLess known crew
     → SoFar setup requests done crew old (progress_of source new.sink) page refused
 rounds_kept setup requests done known crew old new source page refused so_far kept = record {

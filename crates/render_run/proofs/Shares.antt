@@ -9,11 +9,10 @@ use Rattle.std.proofs.lemmas.List.{get_or-map, length-map}
 use Rattle.std.proofs.lemmas.List.{same_lists, get_or_default, drop-drop, drop_all, drop_more}
 use Rattle.std.proofs.lemmas.Bool.{ltb-true, ltb-false}
 use Rattle.tex_world.specs.World.{Files}
-use Rattle.tiff_format.specs.declared.cut.Cut.{Cut}
 use Rattle.request_lang.specs.declared.answer.Answer.{Answer}
 use Rattle.request_lang.specs.declared.answer.Answer.TheVariants.{Synced}
 use Rattle.render_run.specs.declared.question.Task.{Task}
-use Rattle.render_run.specs.Around.{Sight, sight_at, no_sight}
+use Rattle.render_run.specs.Around.{Sight, Terms, sight_at, no_sight}
 use Rattle.render_run.specs.Answering.{AnswersTask, AnswersEach, AnswersInTurn, AreInTurn, share_of, in_turn}
 use Rattle.render_run.specs.Crew.{AnswersShares, answers_at}
 
@@ -104,10 +103,10 @@ share_has n some (x ∷ xs) zero (suc p) low =
     omega (arith, rest)
 share_has n some (x ∷ xs) (suc d) p low = share_has n some xs d p (omega arith)
 
-module _ (files : Files) (cut : Cut) where
+module _ (files : Files) (terms : Terms) where
   -- as many answers as requests
   pub each_length : (tasks : List Task) (answers : List Answer) (old new : Sight)
-      → AnswersEach files cut tasks answers old new → length answers ≡ length tasks
+      → AnswersEach files terms tasks answers old new → length answers ≡ length tasks
   each_length [] [] old new each = refl
   each_length [] (a ∷ answers) old new each = absurd each
   each_length (t ∷ tasks) [] old new each = absurd each
@@ -115,7 +114,7 @@ module _ (files : Files) (cut : Cut) where
       ap suc (each_length tasks answers each.0 new each.2)
 
   -- nothing was asked
-  none_asked : (answers : List Answer) (old new : Sight) → AnswersEach files cut [] answers old new
+  none_asked : (answers : List Answer) (old new : Sight) → AnswersEach files terms [] answers old new
       → new ≡ old
   none_asked [] old new each = each
   none_asked (a ∷ answers) old new each = absurd each
@@ -127,11 +126,11 @@ module _ (files : Files) (cut : Cut) where
     later : List Answer
     mid : Sight
     are : answers ≡ answer ∷ later
-    one : AnswersTask files cut task old mid answer
-    each : AnswersEach files cut rest later mid new
+    one : AnswersTask files terms task old mid answer
+    each : AnswersEach files terms rest later mid new
 
   first_of : (task : Task) (rest : List Task) (answers : List Answer) (old new : Sight)
-      → AnswersEach files cut (task ∷ rest) answers old new → First task rest answers old new
+      → AnswersEach files terms (task ∷ rest) answers old new → First task rest answers old new
   first_of task rest [] old new each = absurd each
   first_of task rest (a ∷ answers) old new each = record {
     answer = a;
@@ -147,7 +146,7 @@ module _ (files : Files) (cut : Cut) where
     -- places later, and the p-th of its own.
     abbrev Remain : ℕ → List Task → List Sight → List Sight → Type 0
     Remain i tasks old new = (w d p : ℕ) → w < n → d < n → i + d ≡ w + p * n
-        → AnswersEach files cut (share_of n d tasks) (drop p (answers_at lists w))
+        → AnswersEach files terms (share_of n d tasks) (drop p (answers_at lists w))
         (sight_at old w) (sight_at new w)
 
     -- the place of the i-th request
@@ -166,12 +165,12 @@ module _ (files : Files) (cut : Cut) where
         k = i % n
 
         -- of another worker, whose next request is one place nearer
-        other : d + 1 < n → AnswersEach files cut (share_of n d tasks)
+        other : d + 1 < n → AnswersEach files terms (share_of n d tasks)
             (drop p (answers_at lists w)) (sight_at (set old (i % n) f.mid) w) (sight_at new w)
         other short =
             let before = remain w (suc d) p low (omega arith) (omega (arith, at)) in
             let ne : w ≢ i % n = λ same. absurd (no_turn same) in
-            subst (λ (s : Sight). AnswersEach files cut (share_of n d tasks)
+            subst (λ (s : Sight). AnswersEach files terms (share_of n d tasks)
             (drop p (answers_at lists w)) s (sight_at new w))
             (sym (get_or-set_other old (i % n) w f.mid no_sight ne)) before
           where
@@ -187,11 +186,11 @@ module _ (files : Files) (cut : Cut) where
                 omega (arith, up, down)
 
         -- of the worker itself
-        own : d + 1 ≡ n → AnswersEach files cut (share_of n d tasks)
+        own : d + 1 ≡ n → AnswersEach files terms (share_of n d tasks)
             (drop p (answers_at lists w)) (sight_at (set old (i % n) f.mid) w) (sight_at new w)
         own last = by_p p at
           where
-            by_p : (q : ℕ) → i + 1 + d ≡ w + q * n → AnswersEach files cut (share_of n d tasks)
+            by_p : (q : ℕ) → i + 1 + d ≡ w + q * n → AnswersEach files terms (share_of n d tasks)
                 (drop q (answers_at lists w)) (sight_at (set old (i % n) f.mid) w)
                 (sight_at new w)
             by_p zero is = absurd (omega (arith, is, last, low))
@@ -211,7 +210,7 @@ module _ (files : Files) (cut : Cut) where
                 (omega (arith, count, mod-lt i some)) in
                 rw (there, behind, seen, ← split.0) f.each
 
-        by_end : (e : ℕ) → n - (d + 1) ≡ e → AnswersEach files cut (share_of n d tasks)
+        by_end : (e : ℕ) → n - (d + 1) ≡ e → AnswersEach files terms (share_of n d tasks)
             (drop p (answers_at lists w)) (sight_at (set old (i % n) f.mid) w) (sight_at new w)
         by_end zero is = own (omega arith)
         by_end (suc e) is = other (omega arith)
@@ -219,7 +218,7 @@ module _ (files : Files) (cut : Cut) where
     -- they were answered in turn
     in_turn_from : (i : ℕ) (tasks : List Task) (old new : List Sight) → length old ≡ n
         → length new ≡ n → Remain i tasks old new
-        → AnswersInTurn files cut n i tasks (in_turn n i (length tasks) lists) old new
+        → AnswersInTurn files terms n i tasks (in_turn n i (length tasks) lists) old new
     in_turn_from i [] old new count same remain =
         same_sights old new (same ∙ sym count) (λ w low. last w (omega (arith, low, same)))
       where
@@ -256,22 +255,22 @@ module _ (files : Files) (cut : Cut) where
         (length-set old (i % n) f.mid ∙ count) same
         (remain_more i t tasks old new count remain f) in (
           f.mid,
-          subst (λ (a : Answer). AnswersTask files cut t (sight_at old (i % n)) f.mid a)
+          subst (λ (a : Answer). AnswersTask files terms t (sight_at old (i % n)) f.mid a)
               (sym told) f.one,
           rest,
         )
 
   -- So it is of all requests of a round.
   pub shares_in_turn : (tasks : List Task) (lists : List (List Answer)) (old new : List Sight)
-      → 0 < length old → AnswersShares files cut tasks lists old new
-      → AnswersInTurn files cut (length old) 0 tasks
+      → 0 < length old → AnswersShares files terms tasks lists old new
+      → AnswersInTurn files terms (length old) 0 tasks
       (in_turn (length old) 0 (length tasks) lists) old new
   shares_in_turn tasks lists old new some shares =
       in_turn_from (length old) some lists 0 tasks old new refl shares.count
       (λ w d p low small at. by_p w d low small p at)
     where
       by_p : (w d : ℕ) → w < length old → d < length old → (p : ℕ) → 0 + d ≡ w + p * length old
-          → AnswersEach files cut (share_of (length old) d tasks) (drop p (answers_at lists w))
+          → AnswersEach files terms (share_of (length old) d tasks) (drop p (answers_at lists w))
           (sight_at old w) (sight_at new w)
       by_p w d low small zero at =
           let same : d ≡ w = omega (arith, at) in
@@ -283,7 +282,7 @@ module _ (files : Files) (cut : Cut) where
 
   -- Each answer is there.
   pub shares_there : (tasks : List Task) (lists : List (List Answer)) (old new : List Sight)
-      → 0 < length old → AnswersShares files cut tasks lists old new
+      → 0 < length old → AnswersShares files terms tasks lists old new
       → AreInTurn (length old) (length tasks) lists
   shares_there tasks lists old new some shares i low =
       let n = length old in
@@ -302,15 +301,15 @@ module _ (files : Files) (cut : Cut) where
 
   -- nothing is left of it
   pub share_end : (n k : ℕ) (tasks : List Task) (s : Sight) → length tasks ≤ k
-      → AnswersEach files cut (share_of n 0 (drop k tasks)) [] s s
+      → AnswersEach files terms (share_of n 0 (drop k tasks)) [] s s
   share_end n k tasks s long = rw (drop_all k tasks long) refl
 
   -- one request of it, and then what comes in turn
   pub share_next : (n k : ℕ) (tasks : List Task) (t : Task) (answer : Answer)
       (rest : List Answer) (old mid new : Sight) → 0 < n → k < length tasks → get_or tasks k t ≡ t
-      → AnswersTask files cut t old mid answer
-      → AnswersEach files cut (share_of n 0 (drop (k + n) tasks)) rest mid new
-      → AnswersEach files cut (share_of n 0 (drop k tasks)) (answer ∷ rest) old new
+      → AnswersTask files terms t old mid answer
+      → AnswersEach files terms (share_of n 0 (drop (k + n) tasks)) rest mid new
+      → AnswersEach files terms (share_of n 0 (drop k tasks)) (answer ∷ rest) old new
   share_next n k tasks t answer rest old mid new some low is one each =
       let there : drop k tasks ≡ t ∷ drop (k + 1) tasks =
       drop_more tasks k t low ∙ ap (λ (x : Task). x ∷ drop (k + 1) tasks) is in
@@ -322,13 +321,13 @@ module _ (files : Files) (cut : Cut) where
 
 -- ---- of workers that have their answers with them
 
-module _ {A : Type 0} (sight : A → Sight) (answers_of : A → List Answer) (files : Files) (cut : Cut)
+module _ {A : Type 0} (sight : A → Sight) (answers_of : A → List Answer) (files : Files) (terms : Terms)
     (tasks : List Task) (before after : List A) (same : length after ≡ length before) where
   -- one of them, as it stands among all
   pub share_is : (w : ℕ) (a b d : A) → w < length before → a ≡ get_or before w d
       → b ≡ get_or after w d
-      → AnswersEach files cut (share_of (length before) w tasks) (answers_of b) (sight a) (sight b)
-      → AnswersEach files cut (share_of (length (map sight before)) w tasks)
+      → AnswersEach files terms (share_of (length before) w tasks) (answers_of b) (sight a) (sight b)
+      → AnswersEach files terms (share_of (length (map sight before)) w tasks)
       (answers_at (map answers_of after) w) (sight_at (map sight before) w)
       (sight_at (map sight after) w)
   share_is w a b d low a_is b_is each =
@@ -341,10 +340,10 @@ module _ {A : Type 0} (sight : A → Sight) (answers_of : A → List Answer) (fi
         ← b_is,
       ) each
 
-module _ {A : Type 0} (sight : A → Sight) (answers_of : A → List Answer) (files : Files) (cut : Cut)
+module _ {A : Type 0} (sight : A → Sight) (answers_of : A → List Answer) (files : Files) (terms : Terms)
     (tasks : List Task) (n count : ℕ) (before after : List A) (many : length before ≡ n)
     (left : length after ≡ n) (some : 0 < n) (size : length tasks ≡ count)
-    (shares : AnswersShares files cut tasks (map answers_of after) (map sight before)
+    (shares : AnswersShares files terms tasks (map answers_of after) (map sight before)
     (map sight after)) where
   crew : length (map sight before) ≡ n
   crew = length-map before sight ∙ many
@@ -353,20 +352,20 @@ module _ {A : Type 0} (sight : A → Sight) (answers_of : A → List Answer) (fi
   crew_some = omega (arith, crew, some)
 
   -- they answered in turn
-  pub turns_taken : AnswersInTurn files cut n 0 tasks
+  pub turns_taken : AnswersInTurn files terms n 0 tasks
       (in_turn (length after) 0 count (map answers_of after)) (map sight before)
       (map sight after)
   turns_taken =
-      subst (λ (m : ℕ). AnswersInTurn files cut n 0 tasks
+      subst (λ (m : ℕ). AnswersInTurn files terms n 0 tasks
       (in_turn (length after) 0 m (map answers_of after)) (map sight before)
       (map sight after)) size
-      (subst (λ (m : ℕ). AnswersInTurn files cut n 0 tasks
+      (subst (λ (m : ℕ). AnswersInTurn files terms n 0 tasks
       (in_turn m 0 (length tasks) (map answers_of after)) (map sight before)
       (map sight after)) (sym left)
-      (subst (λ (m : ℕ). AnswersInTurn files cut m 0 tasks
+      (subst (λ (m : ℕ). AnswersInTurn files terms m 0 tasks
       (in_turn m 0 (length tasks) (map answers_of after)) (map sight before)
       (map sight after)) crew
-      (shares_in_turn files cut tasks (map answers_of after) (map sight before)
+      (shares_in_turn files terms tasks (map answers_of after) (map sight before)
       (map sight after) crew_some shares)))
 
   -- each answer is there
@@ -374,5 +373,5 @@ module _ {A : Type 0} (sight : A → Sight) (answers_of : A → List Answer) (fi
   turns_there =
       subst (λ (m : ℕ). AreInTurn (length after) m (map answers_of after)) size
       (subst (λ (m : ℕ). AreInTurn m (length tasks) (map answers_of after)) (crew ∙ sym left)
-      (shares_there files cut tasks (map answers_of after) (map sight before)
+      (shares_there files terms tasks (map answers_of after) (map sight before)
       (map sight after) crew_some shares))

@@ -1,25 +1,27 @@
 -- What does a worker leave of what it sees, and how far has answering a list come?
-use Rattle.std.specs.Prelude.{◌≡◌, ◌⊎◌, ℕ, zero, suc, ◌+◌, ◌-◌, ◌/◌, ◌%◌, ◌<◌, ◌≤◌, Bool, List, [], ◌∷◌, ◌++◌}
+use Rattle.std.specs.Prelude.{◌≡◌, ◌⊎◌, ℕ, zero, suc, ◌+◌, ◌-◌, ◌/◌, ◌%◌, ◌<◌, ◌≤◌, List, [], ◌∷◌, ◌++◌}
 use Rattle.std.specs.Prelude.{length, slice_index, slice_index_or, slice_set}
 use Rattle.std.specs.Prelude.{map, take, drop, Option, Some, IsTrue, ⊤}
 use Rattle.std.specs.Option.{ForSome}
 use Rattle.std.specs.List.{All, AllPairs, flat_map}
 use Rattle.tex_world.specs.Counts.{Rises, RisesByAtLeast}
 use Rattle.tex_world.specs.World.{Files, IsFile}
-use Rattle.tiff_format.specs.declared.cut.Cut.{Cut}
+use Rattle.texel_values.specs.Region.{max_texels}
 use Rattle.request_lang.specs.declared.request.Request.{Request}
 use Rattle.request_lang.specs.declared.answer.Answer.{Answer}
 use Rattle.request_lang.specs.declared.answer.Answer.TheVariants.{Synced}
 use Rattle.request_lang.specs.Line.{line_of}
 use Rattle.request_lang.specs.Basis.{Basis, OnNewer, OnFault, basis_of, latest}
 use Rattle.render_run.specs.declared.question.Task.{Task}
-use Rattle.render_run.specs.Around.{SourceState, Sight, Progress, Setup, sight_at, source_of_crew}
+use Rattle.render_run.specs.Around.{SourceState, Sight, Terms, Progress, Setup, sight_at}
+use Rattle.render_run.specs.Around.{source_of_crew}
 use Rattle.render_run.specs.Question.{may_be_given, file_in}
 use Rattle.render_run.specs.Dealing.{fresh_round, places_from, places_of}
 use Rattle.render_run.specs.Reply.{Line, MeetsTask, MeetsAll}
 use Rattle.render_run.specs.Fresh.{IsFresher, KeepsFresh}
 use Rattle.render_run.specs.Held.{one_if, is_hold, is_drop, holds_by, drops_by, AreCounted}
-use Rattle.render_run.specs.Run.{read_faults, agains, some_refused, lines_text}
+use Rattle.render_run.specs.Tallied.{TalliesAnswer, IsTallied}
+use Rattle.render_run.specs.Run.{read_faults, agains, refusals, lines_text}
 use Rattle.render_run.specs.Page.{Passes, outgoing_of}
 
 -- ---- one request
@@ -51,10 +53,11 @@ pub record AfterAnswer (file : Option ℕ) (old new : Sight) (line : Answer) : T
   pub counts : GoesOn old.source new.source
 
 -- The answer meets what a worker was given of a request.
-pub record AnswersTask (files : Files) (cut : Cut) (task : Task) (old new : Sight) (line : Answer)
-    : Type 0 where
-  pub meets : MeetsTask files cut old.holds task line
+pub record AnswersTask (files : Files) (terms : Terms) (task : Task) (old new : Sight)
+    (line : Answer) : Type 0 where
+  pub meets : MeetsTask files terms old.holds task line
   pub after : AfterAnswer (file_in task) old new line
+  pub tallies : TalliesAnswer files terms.cut task old.tally new.tally line
 
 -- ---- the requests of a round
 
@@ -76,23 +79,23 @@ share_of n zero (x ∷ xs) = x ∷ share_of n (n - 1) xs
 share_of n (suc d) (x ∷ xs) = share_of n d xs
 
 -- a worker answered what it was given, one after another
-abbrev pub AnswersEach : Files → Cut → List Task → List Answer → Sight → Sight → Type 0
-AnswersEach files cut [] [] old new = new ≡ old
-AnswersEach files cut [] (line ∷ lines) old new = ⊥
-AnswersEach files cut (task ∷ tasks) [] old new = ⊥
-AnswersEach files cut (task ∷ tasks) (line ∷ lines) old new =
-    (mid : Sight) × AnswersTask files cut task old mid line
-    × AnswersEach files cut tasks lines mid new
+abbrev pub AnswersEach : Files → Terms → List Task → List Answer → Sight → Sight → Type 0
+AnswersEach files terms [] [] old new = new ≡ old
+AnswersEach files terms [] (line ∷ lines) old new = ⊥
+AnswersEach files terms (task ∷ tasks) [] old new = ⊥
+AnswersEach files terms (task ∷ tasks) (line ∷ lines) old new =
+    (mid : Sight) × AnswersTask files terms task old mid line
+    × AnswersEach files terms tasks lines mid new
 
 -- The requests of a round from the i-th on were answered by n workers, the i-th by worker i % n.
-abbrev pub AnswersInTurn : Files → Cut → ℕ → ℕ → List Task → List Answer → List Sight → List Sight
+abbrev pub AnswersInTurn : Files → Terms → ℕ → ℕ → List Task → List Answer → List Sight → List Sight
     → Type 0
-AnswersInTurn files cut n i [] [] old new = new ≡ old
-AnswersInTurn files cut n i [] (line ∷ lines) old new = ⊥
-AnswersInTurn files cut n i (task ∷ tasks) [] old new = ⊥
-AnswersInTurn files cut n i (task ∷ tasks) (line ∷ lines) old new =
-    (mid : Sight) × AnswersTask files cut task (sight_at old (i % n)) mid line
-    × AnswersInTurn files cut n (i + 1) tasks lines (slice_set old (i % n) mid) new
+AnswersInTurn files terms n i [] [] old new = new ≡ old
+AnswersInTurn files terms n i [] (line ∷ lines) old new = ⊥
+AnswersInTurn files terms n i (task ∷ tasks) [] old new = ⊥
+AnswersInTurn files terms n i (task ∷ tasks) (line ∷ lines) old new =
+    (mid : Sight) × AnswersTask files terms task (sight_at old (i % n)) mid line
+    × AnswersInTurn files terms n (i + 1) tasks lines (slice_set old (i % n) mid) new
 
 -- so many answers from the i-th on, of n workers in turn, each of which has its own in a list
 abbrev pub in_turn : ℕ → ℕ → ℕ → List (List Answer) → List Answer
@@ -122,7 +125,8 @@ abbrev pub IsKnownTo : ℕ → ℕ → Line → Type 0
 IsKnownTo round w line = (line.place.round < round) ⊎ (line.place.worker ≡ w)
 
 -- What the lines for some first requests tell. None of those that a worker knows, of its own and of
--- the rounds before this one, is newer than what it has then seen, and it holds what they leave.
+-- the rounds before this one, is newer than what it has then seen, and it holds and has counted what
+-- they leave.
 pub record AreLinesSoFar (setup : Setup) (requests : List Request) (old : SourceState) (round : ℕ)
     (crew : List Sight) (lines : List Line) : Type 0 where
   pub met : MeetsAll setup requests lines
@@ -133,14 +137,17 @@ pub record AreLinesSoFar (setup : Setup) (requests : List Request) (old : Source
   pub workers : length crew ≡ setup.workers
   pub holds : (w : ℕ) → w < setup.workers
       → (sight_at crew w).holds + drops_by w lines ≡ holds_by w lines
+  pub tallied : (w : ℕ) → w < setup.workers
+      → IsTallied setup.files w lines (sight_at crew w).tally
   pub of_crew : All (λ line. line.place.worker < setup.workers) lines
+  pub few : All (λ line. length line.needed ≤ max_texels) lines
   pub seen : All (λ line. (w : ℕ) → w < setup.workers → IsKnownTo round w line
       → IsSeenOf (sight_at crew w).seen line) lines
 
--- Some first rounds of a list were answered, and their lines passed on to a page that was empty.
--- Some is a refusal, or none.
+-- Some first rounds of a list were answered, and their lines passed on to a page that was empty. So
+-- many are refusals.
 pub record SoFar (setup : Setup) (requests : List Request) (done : ℕ) (crew : List Sight)
-    (old new : Progress) (page : List ℕ) (refused : Bool) : Type 0 where
+    (old new : Progress) (page : List ℕ) (refused : ℕ) : Type 0 where
   pub lines : List Line
   pub round : ℕ
   pub so_far : AreLinesSoFar setup (take done requests) old.source 0 crew lines
@@ -149,4 +156,4 @@ pub record SoFar (setup : Setup) (requests : List Request) (done : ℕ) (crew : 
   pub rounds : All (λ line. line.place.round < round) lines
   pub count : length lines ≡ done
   pub written : Passes (lines_text lines) (outgoing_of [] old.sink) (outgoing_of page new.sink)
-  pub refusal : refused ≡ some_refused lines
+  pub refusal : refused ≡ refusals lines

@@ -1,11 +1,15 @@
 -- What is known of the folder, the feed and the sink around a call, before it and after it?
-use Rattle.std.specs.Prelude.{ℕ, List, [], Option, length, slice_index_or}
+use Rattle.std.specs.Prelude.{ℕ, ◌/◌, List, [], Option, length, slice_index_or}
 use Rattle.std.specs.List.{sum_by}
 use Rattle.tex_world.specs.World.{Files}
 use Rattle.tex_world.specs.Tap.{TapState}
 use Rattle.tex_world.specs.Folder.{FolderState}
 use Rattle.tiff_format.specs.declared.cut.Cut.{Cut}
+use Rattle.command_line.specs.declared.options.Options.{Options}
+use Rattle.tile_store.specs.Tile.{CachedTile}
+use Rattle.shard_gate.specs.Gate.{GateState}
 use Rattle.image_cache.specs.Pass.{PassState}
+use Rattle.request_lang.specs.declared.closing.Counts.{Counts}
 
 -- of a feed: how often it has failed, and what it has left, where it tells
 pub record FeedState : Type 0 where
@@ -56,19 +60,42 @@ pub record Progress : Type 0 where
   pub source : SourceState
   pub sink : SinkState
 
+-- What a cache was asked for: how levels are cut, how many shards it has, and how many bytes the
+-- unpinned tiles of each may take.
+pub record Terms : Type 0 where
+  pub cut : Cut
+  pub shards : ℕ
+  pub share : ℕ
+
 -- What requests are answered over: the files of the world, the number that a name has among those of
--- the folder, if any, how levels are cut, and how many workers there are.
+-- the folder, if any, the terms of the cache, and how many workers there are.
 pub record Setup : Type 0 where
   pub files : Files
   pub number_of : List ℕ → Option ℕ
-  pub cut : Cut
+  pub terms : Terms
   pub workers : ℕ
 
--- What a worker has seen of each file, how many tiles it holds, and the source that its tap is.
+-- The microcache of a worker, and what it has counted.
+pub record Tally : Type 0 where
+  pub recent : List CachedTile
+  pub needs : ℕ
+  pub hits : ℕ
+
+-- What a worker has seen of each file, how many tiles it holds, what it has counted, and the source
+-- that its tap is.
 pub record Sight : Type 0 where
   pub seen : List ℕ
   pub holds : ℕ
+  pub tally : Tally
   pub source : SourceState
+
+-- the terms that options ask for: the budget is shared among the shards
+abbrev pub terms_for : Options → Terms
+terms_for o = record { cut = o.cut; shards = o.shards; share = o.budget / o.shards }
+
+-- those of the tiles of a cache
+abbrev pub terms_of : GateState → Terms
+terms_of gate = record { cut = gate.cut; shards = length gate.id; share = gate.share }
 
 -- all three
 abbrev pub around_of : FolderState → FeedState → SinkState → Around
@@ -82,24 +109,42 @@ inputs_of folder feed = record { folder = folder; feed = feed }
 abbrev pub progress_of : SourceState → SinkState → Progress
 progress_of source sink = record { source = source; sink = sink }
 
--- the files as a folder numbers them, under a cut, for so many workers
-abbrev pub setup_of : Files → FolderState → Cut → ℕ → Setup
-setup_of files folder cut workers =
-    record { files = files; number_of = folder.number_of; cut = cut; workers = workers }
+-- the files as a folder numbers them, on these terms, for so many workers
+abbrev pub setup_of : Files → FolderState → Terms → ℕ → Setup
+setup_of files folder terms workers =
+    record { files = files; number_of = folder.number_of; terms = terms; workers = workers }
+
+-- what a pass has counted
+abbrev pub tally_of : PassState → Tally
+tally_of pass = record { recent = pass.pinned.recent; needs = pass.needs; hits = pass.hits }
+
+-- what the line of a worker tells of it
+abbrev pub counts_of : PassState → Counts
+counts_of pass = record { needs = pass.needs; hits = pass.hits }
 
 -- what a worker sees by its pass and its tap
 abbrev pub sight_of : PassState → TapState → Sight
 sight_of pass tap = record {
   seen = pass.view.seen;
   holds = length pass.pinned.holds;
+  tally = tally_of pass;
   source = source_of_tap tap;
 }
 
 -- ---- several workers
 
+-- nothing is counted
+abbrev pub no_tally : Tally
+no_tally = record { recent = []; needs = 0; hits = 0 }
+
 -- a worker that has seen nothing
 abbrev pub no_sight : Sight
-no_sight = record { seen = []; holds = 0; source = record { faults = 0; moves = 0 } }
+no_sight = record {
+  seen = [];
+  holds = 0;
+  tally = no_tally;
+  source = record { faults = 0; moves = 0 };
+}
 
 -- of worker w
 abbrev pub sight_at : List Sight → ℕ → Sight

@@ -7,7 +7,6 @@ use Rattle.request_lang.specs.Grammar.{list_of}
 use Rattle.request_lang.specs.declared.request.Request.{Request}
 use Rattle.render_run.specs.Status as status
 use Rattle.render_run.specs.Around.{Around, FeedState}
-use Rattle.render_run.specs.ListRead.{answered_list}
 use Rattle.render_run.specs.Reply.{Line}
 use Rattle.render_run.specs.Run.{IsAnswered, read_faults, agains}
 
@@ -29,7 +28,7 @@ pub record HasAList (asked : Option Asked) (feed : FeedState) : Type 0 where
   pub bytes : List ℕ
   pub left : feed.left ≡ Some bytes
   pub requests : List Request
-  pub says : answered_list (list_of bytes) ≡ Ok requests
+  pub says : list_of bytes ≡ Ok requests
 
 -- none of the lines says that the source failed, or that a newer generation was met
 pub record NoneFails (lines : List Line) : Type 0 where

@@ -6,10 +6,10 @@ use Rattle.tex_world.specs.Tap.{TapState, IsNew}
 use Rattle.tex_world.specs.Folder.{FolderState, KeepsFiles}
 use Rattle.image_cache.specs.Pass.{CacheState, PassState, IsPassOf, IsFresh}
 use Rattle.image_cache.specs.Invalid.{RisesBy}
-use Rattle.tiff_format.specs.declared.cut.Cut.{Cut}
 use Rattle.request_lang.specs.declared.answer.Answer.{Answer}
 use Rattle.render_run.specs.declared.question.Task.{Task}
-use Rattle.render_run.specs.Around.{SourceState, Sight, sight_at, source_of_crew}
+use Rattle.render_run.specs.Around.{SourceState, Sight, Terms, sight_at, source_of_crew}
+use Rattle.render_run.specs.Around.{tally_of, no_tally}
 use Rattle.render_run.specs.Answering.{AnswersEach, SeesNoLess, share_of}
 
 -- the most workers
@@ -21,28 +21,33 @@ abbrev pub answers_at : List (List Answer) → ℕ → List Answer
 answers_at lists w = slice_index_or lists w []
 
 -- Each worker answered its share of the requests of a round.
-pub record AnswersShares (files : Files) (cut : Cut) (tasks : List Task) (lists : List (List Answer))
+pub record AnswersShares (files : Files) (terms : Terms) (tasks : List Task) (lists : List (List Answer))
     (old new : List Sight) : Type 0 where
   pub count : length new ≡ length old
-  pub each : (w : ℕ) → w < length old → AnswersEach files cut (share_of (length old) w tasks)
+  pub each : (w : ℕ) → w < length old → AnswersEach files terms (share_of (length old) w tasks)
       (answers_at lists w) (sight_at old w) (sight_at new w)
 
--- A pass sees no less of a file than before, and holds the same tiles.
+-- A pass sees no less of a file than before, holds the same tiles and has counted the same.
 pub record SeesOn (old new : PassState) : Type 0 where
   pub seen : SeesNoLess old.view.seen new.view.seen
   pub holds : new.pinned.holds ≡ old.pinned.holds
+  pub tally : tally_of new ≡ tally_of old
 
--- A worker sees no less of a file than before. What it holds and its tap are as before.
+-- A worker sees no less of a file than before. What it holds, what it has counted and its tap are as
+-- before.
 pub record SightsOn (old new : Sight) : Type 0 where
   pub seen : SeesNoLess old.seen new.seen
   pub holds : new.holds ≡ old.holds
+  pub tally : new.tally ≡ old.tally
   pub source : new.source ≡ old.source
 
--- No worker sees less of a file than before. What they hold and their taps are as before.
+-- No worker sees less of a file than before. What they hold, what they have counted and their taps
+-- are as before.
 pub record SeeNoLess (old new : List Sight) : Type 0 where
   pub count : length new ≡ length old
   pub seen : (w : ℕ) → w < length old → SeesNoLess (sight_at old w).seen (sight_at new w).seen
   pub holds : (w : ℕ) → w < length old → (sight_at new w).holds ≡ (sight_at old w).holds
+  pub tally : (w : ℕ) → w < length old → (sight_at new w).tally ≡ (sight_at old w).tally
   pub source : source_of_crew new ≡ source_of_crew old
 
 -- The same, and what each worker has seen was carried to every other.
@@ -98,6 +103,11 @@ pub record GivesMore (all : ℕ) (whole : SourceState) (left : ℕ) (rest : Sour
   pub moves : min (old.moves + whole.moves) last_count ≤ new.moves + rest.moves
   pub files : KeepsFiles old new
 
--- No worker holds a tile.
+-- A worker holds no tile and has counted nothing.
+pub record IsIdle (sight : Sight) : Type 0 where
+  pub holds : sight.holds ≡ 0
+  pub tally : sight.tally ≡ no_tally
+
+-- So it is of each.
 abbrev pub AreIdle : List Sight → Type 0
-AreIdle crew = (w : ℕ) → (sight_at crew w).holds ≡ 0
+AreIdle crew = (w : ℕ) → IsIdle (sight_at crew w)

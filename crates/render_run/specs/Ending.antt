@@ -76,16 +76,6 @@ EnterEnds files path old new NoMemory = ⊤
 EnterEnds files path old new ListFault = ⊥
 EnterEnds files path old new (NotAList bad) = ⊥
 
--- the requests, or the ending of a list that is none, as it was said
-abbrev pub IsAsSaid : Parsed → Result (Vec Request) Ending → Type 0
-IsAsSaid said (Ok requests) = said ≡ Ok requests.items
-IsAsSaid said (Err (NotAList bad)) = said ≡ Err bad
-IsAsSaid said (Err BadWords) = ⊥
-IsAsSaid said (Err FolderFault) = ⊥
-IsAsSaid said (Err TooManyFiles) = ⊥
-IsAsSaid said (Err ListFault) = ⊥
-IsAsSaid said (Err NoMemory) = ⊥
-
 -- What an ending says of the feed.
 abbrev pub ListEnds : FeedState → FeedState → Ending → Type 0
 ListEnds old new ListFault = Rises old.faults new.faults

@@ -3,9 +3,12 @@ pub mod Status
 pub mod Around
 pub mod Dealing
 pub mod Refusal
+pub mod Needed
 pub mod Reply
 pub mod Fresh
 pub mod Held
+pub mod Counted
+pub mod Tallied
 pub mod ListRead
 pub mod Ending
 pub mod Run

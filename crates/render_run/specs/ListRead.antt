@@ -1,14 +1,12 @@
 -- What does reading a list from a feed say?
 use Rattle.std.specs.Prelude.{◌≡◌, ℕ, ◌≤◌, List, [], length, take, drop, Option, Some}
-use Rattle.std.specs.Prelude.{Ok, Err, ⊤, if◌then◌else◌}
-use Rattle.std.specs.List.{list_all}
+use Rattle.std.specs.Prelude.{⊤}
 use Rattle.std.specs.Option.{ForSome}
 use Rattle.tex_world.specs.Counts.{Rises}
 use Rattle.render_run.specs.declared.list.ListError.{ListError}
 use Rattle.render_run.specs.declared.list.ListError.TheVariants as list
-use Rattle.request_lang.specs.Grammar.{Parsed, max_list_bytes, whole_list, list_of}
+use Rattle.request_lang.specs.Grammar.{Parsed, max_list_bytes, list_of}
 use Rattle.render_run.specs.Around.{FeedState}
-use Rattle.render_run.specs.Question.{is_answered}
 
 -- the bytes came off the front of what the feed had left, where it tells that
 pub record IsTaken (bytes : List ℕ) (old new : Option (List ℕ)) : Type 0 where
@@ -27,23 +25,11 @@ pub record IsRead (bytes : List ℕ) (old new : Option (List ℕ)) : Type 0 wher
   pub taken : IsTaken bytes old new
   pub to_end : length bytes ≤ max_list_bytes → IsReadToEnd bytes old new
 
--- the cause where a list holds a form that is not answered
-abbrev pub not_answered : ℕ
-not_answered = 1
-
--- What a list says where some forms are not answered: one that holds such a form is none, told of
--- all of the list.
-abbrev pub answered_list : Parsed → Parsed
-answered_list (Ok requests) =
-    if list_all is_answered requests then Ok requests
-    else Err (record { line = whole_list; why = not_answered })
-answered_list (Err bad) = Err bad
-
 -- The bytes that were read from the feed are a list that says so.
 pub record FeedSays (said : Parsed) (old new : FeedState) : Type 0 where
   pub list : List ℕ
   pub read : IsRead list old.left new.left
-  pub says : answered_list (list_of list) ≡ said
+  pub says : list_of list ≡ said
 
 -- ---- refusals
 

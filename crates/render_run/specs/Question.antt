@@ -1,4 +1,4 @@
--- What does a request ask of its worker? (docs/REQUESTS.md, "What the program answers today")
+-- What does a request ask of its worker? (docs/REQUESTS.md, "The ten forms")
 use Rattle.std.specs.Prelude.{ℕ, ◌*◌, ◌==◌, nat_lt, nat_le, ◌&&◌, Bool, true, false, List, Option}
 use Rattle.std.specs.Prelude.{None}
 use Rattle.texel_filter.specs.declared.request.TexRequest.{TexRequest}
@@ -17,12 +17,6 @@ use Rattle.render_run.specs.declared.question.Task.TheVariants as task
 abbrev pub has_channels : TexRequest → Bool
 has_channels r = nat_le 1 r.nch && nat_le r.nch max_channels
 
--- the request is of a form that is answered
-abbrev pub is_answered : Request → Bool
-is_answered (request.Tex r name) = has_channels r
-is_answered request.Stat = false
-is_answered _ = true
-
 -- what a worker is given of a request: what is asked of the file of its name, which has this number
 -- in the folder, if any, or what is asked of no file
 abbrev pub task_of : (List ℕ → Option ℕ) → Request → Task
@@ -36,7 +30,7 @@ task_of number_of request.Drop = task.Release
 task_of number_of (request.Invalidate name) = task.Ask (number_of name) (Renewal false)
 task_of number_of (request.Renew name) = task.Ask (number_of name) (Renewal true)
 task_of number_of request.InvalidateAll = task.RenewAll
-task_of number_of request.Stat = task.Sync
+task_of number_of request.Stat = task.Count
 task_of number_of request.Sync = task.Sync
 
 -- the file that is asked, if one is
@@ -44,6 +38,7 @@ abbrev pub file_in : Task → Option ℕ
 file_in (task.Ask file q) = file
 file_in task.Release = None
 file_in task.RenewAll = None
+file_in task.Count = None
 file_in task.Sync = None
 
 -- a lookup asks for a number of channels that it may ask for
@@ -59,6 +54,7 @@ abbrev pub may_be_given : Task → Bool
 may_be_given (task.Ask file q) = may_be_asked q
 may_be_given task.Release = true
 may_be_given task.RenewAll = true
+may_be_given task.Count = true
 may_be_given task.Sync = true
 
 -- a region of more texels is asked for than a region may have

@@ -3,6 +3,8 @@ use Rattle.std.specs.Prelude.{◌≡◌, ◌⊎◌, ℕ, ◌*◌, ◌<◌, ◌�
 use Rattle.std.specs.Prelude.{length, Bool, true, false}
 use Rattle.std.specs.Prelude.{Option, Some, None, ⊤, if◌then◌else◌}
 use Rattle.std.specs.Option.{ForSome}
+use Rattle.std.specs.List.{All}
+use Rattle.tiff_format.specs.declared.shard_count.ShardCount.{ShardCount}
 use Rattle.tex_world.specs.World.{Files, IsReal}
 use Rattle.tiff_format.specs.Fault.{first_fault}
 use Rattle.tiff_format.specs.declared.cut.Cut.{Cut}
@@ -24,14 +26,16 @@ use Rattle.request_lang.specs.declared.answer.Answer.TheVariants.{RegionTooLarge
 use Rattle.request_lang.specs.declared.answer.Answer.TheVariants.{Held, Dropped, Invalidated}
 use Rattle.request_lang.specs.declared.answer.Answer.TheVariants.{Renewed, InvalidatedAll, Outside}
 use Rattle.request_lang.specs.declared.answer.Answer.TheVariants.{HoldsFull, NothingHeld, ReadFault}
+use Rattle.request_lang.specs.declared.answer.Answer.TheVariants.{Stat, NoMemory}
 use Rattle.request_lang.specs.Basis.{Basis, OnBytes, OnNewest, OnNewer, OnNames, OnWords, OnHolds}
 use Rattle.request_lang.specs.Basis.{OnShards, OnFault, OnMemory, basis_of}
 use Rattle.render_run.specs.declared.question.Question.{Question}
 use Rattle.render_run.specs.declared.question.Question.TheVariants.{Facts, Values, Look, Hold}
 use Rattle.render_run.specs.declared.question.Question.TheVariants.{Renewal}
 use Rattle.render_run.specs.declared.question.Task.{Task}
-use Rattle.render_run.specs.declared.question.Task.TheVariants.{Ask, Release, RenewAll, Sync}
-use Rattle.render_run.specs.Around.{Setup}
+use Rattle.render_run.specs.declared.question.Task.TheVariants.{Ask, Release, RenewAll, Count, Sync}
+use Rattle.render_run.specs.Around.{Setup, Terms}
+use Rattle.render_run.specs.Needed.{AreNeeded}
 use Rattle.render_run.specs.Dealing.{Place}
 use Rattle.render_run.specs.Question.{task_of, file_in, is_too_large, is_full}
 
@@ -176,28 +180,43 @@ pub record MeetsOn (files : Files) (cut : Cut) (held file : ℕ) (q : Question) 
 abbrev pub released : ℕ → Answer
 released held = if held == 0 then NothingHeld else Dropped
 
+-- What the shards of a cache have: each may keep so many bytes of unpinned tiles, and keeps no more.
+pub record AreShardsOf (terms : Terms) (shards : List ShardCount) : Type 0 where
+  pub count : length shards ≡ terms.shards
+  pub share : All (λ shard. shard.share ≡ terms.share) shards
+  pub loose : All (λ shard. shard.loose ≤ shard.share) shards
+
+-- The line tells what the shards have, or that no memory was found for it.
+abbrev pub TellsShards : Terms → Answer → Type 0
+TellsShards terms (Stat shards) = AreShardsOf terms shards
+TellsShards terms NoMemory = ⊤
+TellsShards terms _ = ⊥
+
 -- The line meets what a worker is given of a request, which holds so many tiles: `no such file`
 -- exactly where the folder has none of the name, before all else.
-abbrev pub MeetsTask : Files → Cut → ℕ → Task → Answer → Type 0
-MeetsTask files cut held Sync line = line ≡ Synced
-MeetsTask files cut held Release line = line ≡ released held
-MeetsTask files cut held RenewAll line = (line ≡ InvalidatedAll) ⊎ (line ≡ ReadFault)
-MeetsTask files cut held (Ask None q) line = line ≡ NoSuchFile
-MeetsTask files cut held (Ask (Some n) q) line = MeetsOn files cut held n q line
+abbrev pub MeetsTask : Files → Terms → ℕ → Task → Answer → Type 0
+MeetsTask files terms held Sync line = line ≡ Synced
+MeetsTask files terms held Release line = line ≡ released held
+MeetsTask files terms held RenewAll line = (line ≡ InvalidatedAll) ⊎ (line ≡ ReadFault)
+MeetsTask files terms held Count line = TellsShards terms line
+MeetsTask files terms held (Ask None q) line = line ≡ NoSuchFile
+MeetsTask files terms held (Ask (Some n) q) line = MeetsOn files terms.cut held n q line
 
--- A line, its place, the file that the name of its request has in the folder, if any, and how many
--- tiles its worker held before.
+-- A line, its place, the file that the name of its request has in the folder, if any, how many
+-- tiles its worker held before, and the keys of the cells that it needed.
 pub record Line : Type 0 where
   pub place : Place
   pub file : Option ℕ
   pub held : ℕ
+  pub needed : List ℕ
   pub answer : Answer
 
--- The line meets the request, which is of a form that is answered, on the file that its name has in
--- the folder.
+-- The line meets the request on the file that its name has in the folder.
 pub record Meets (setup : Setup) (r : Request) (line : Line) : Type 0 where
   pub file : line.file ≡ file_in (task_of setup.number_of r)
-  pub answer : MeetsTask setup.files setup.cut line.held (task_of setup.number_of r) line.answer
+  pub answer : MeetsTask setup.files setup.terms line.held (task_of setup.number_of r) line.answer
+  pub needed : AreNeeded setup.files setup.terms.cut (task_of setup.number_of r) line.answer
+      line.needed
 
 -- each request has one line that meets it, in order
 abbrev pub MeetsAll : Setup → List Request → List Line → Type 0

@@ -1,7 +1,7 @@
 -- What has the top call done when it ends with a status? (docs/REQUESTS.md, "Statuses")
 use Rattle.std.specs.Prelude.{◌≡◌, ◌⊎◌, ℕ, ◌+◌, ◌<◌, ◌≤◌, Bool, IsTrue, List, [], map, take, length}
-use Rattle.std.specs.Prelude.{Option, if◌then◌else◌}
-use Rattle.std.specs.List.{flat_map, list_any, count_by, AllPairs}
+use Rattle.std.specs.Prelude.{Option, if◌then◌else◌, nat_lt, slice_index_or, ◌++◌}
+use Rattle.std.specs.List.{flat_map, count_by, AllPairs}
 use Rattle.tex_world.specs.Counts.{last_count, Rises, RisesByAtLeast}
 use Rattle.tex_world.specs.World.{Files}
 use Rattle.tex_world.specs.Folder.{FolderState}
@@ -12,22 +12,29 @@ use Rattle.request_lang.specs.declared.request.Request.{Request}
 use Rattle.render_run.specs.declared.prepare.Ending.{Ending}
 use Rattle.render_run.specs.Status as status
 use Rattle.render_run.specs.Around.{SourceState, Around, Inputs, Setup, inputs_of, setup_of}
-use Rattle.render_run.specs.Around.{source_of_folder}
+use Rattle.render_run.specs.Around.{source_of_folder, terms_for}
 use Rattle.request_lang.specs.Line.{line_of}
 use Rattle.request_lang.specs.Basis.{is_refusal, basis_of, is_fault, is_move}
 use Rattle.render_run.specs.Dealing.{AreWholeRounds, places_of}
 use Rattle.render_run.specs.Reply.{Line, MeetsAll}
 use Rattle.render_run.specs.Fresh.{IsFresher}
 use Rattle.render_run.specs.Held.{AreCounted}
+use Rattle.render_run.specs.Counted.{AreCountsOf, no_counts}
+use Rattle.request_lang.specs.declared.closing.Counts.{Counts}
+use Rattle.request_lang.specs.Closing.{closing_lines}
 use Rattle.image_cache.specs.Invalid.{RisesBy}
 use Rattle.render_run.specs.Ending.{HasOptions, path_in, IsPrepared, IsEnded, status_of}
 use Rattle.render_run.specs.Ending.{ending_text}
 
 -- ---- the lines
 
--- some line is a refusal
+-- how many lines are refusals
+abbrev pub refusals : List Line → ℕ
+refusals lines = count_by (λ line. is_refusal line.answer) lines
+
+-- some line is one
 abbrev pub some_refused : List Line → Bool
-some_refused lines = list_any (λ line. is_refusal line.answer) lines
+some_refused lines = nat_lt 0 (refusals lines)
 
 -- how many lines rest on a fault of the source
 abbrev pub read_faults : List Line → ℕ
@@ -55,6 +62,15 @@ pub record Answers (setup : Setup) (requests : List Request) (count : ℕ) (old 
   pub faults : RisesByAtLeast (read_faults lines) old.faults new.faults
   pub moves : RisesByAtLeast (agains lines) old.moves new.moves
 
+-- The text closes a run of so many workers with these lines: it tells what each worker has counted,
+-- how many lines there are, and how many of them are refusals.
+pub record Closes (files : Files) (workers : ℕ) (lines : List Line) (text : List ℕ) : Type 0 where
+  pub counts : List Counts
+  pub each : length counts ≡ workers
+  pub counted : (w : ℕ) → w < workers
+      → AreCountsOf files.tells w lines (slice_index_or counts w no_counts)
+  pub tells : text ≡ closing_lines counts (length lines) (refusals lines)
+
 -- ---- the top call
 
 -- the folder and the feed around the call
@@ -74,23 +90,30 @@ pub record AnswersList (files : Files) (asked : Option Asked) (old new : Around)
   pub requests : List Request
   pub prepared : IsPrepared (path_in asked) (inputs_in old) (inputs_in new) requests
   pub count : ℕ
-  pub answers : Answers (setup_of files new.folder options.cut options.workers) requests
+  pub answers : Answers (setup_of files new.folder (terms_for options) options.workers) requests
       count (source_of_folder old.folder) (source_of_folder new.folder)
 
--- All of the list was answered and written. The status tells whether some line is a refusal.
+-- All of the list was answered and written, with the lines that close a run. The status tells whether
+-- some line is a refusal.
 pub record IsAnswered (files : Files) (asked : Option Asked) (old new : Around) (ends : ℕ)
     : Type 0 where
   pub list : AnswersList files asked old new
   pub all : list.count ≡ length list.requests
-  pub written : Appends (lines_text list.answers.lines) old.sink.holds new.sink.holds
+  pub closing : List ℕ
+  pub closes : Closes files list.options.workers list.answers.lines closing
+  pub written : Appends (lines_text list.answers.lines ++ closing) old.sink.holds new.sink.holds
   pub refusal : ends ≡ (if some_refused list.answers.lines then status.with_refusals
       else status.all_answered)
   pub made : MakesTaps list.options.workers old.folder new.folder
 
--- A first part of the lines for some first requests of a list was written.
+-- A first part of the lines for some first requests of a list was written, or, behind the lines for
+-- all of them, of those that close the run.
 pub record ListPart (files : Files) (asked : Option Asked) (old new : Around) : Type 0 where
   pub list : AnswersList files asked old new
-  pub part : AppendsPart (lines_text list.answers.lines) old.sink.holds new.sink.holds
+  pub closing : List ℕ
+  pub closes : (closing ≡ []) ⊎ ((list.count ≡ length list.requests)
+      × Closes files list.options.workers list.answers.lines closing)
+  pub part : AppendsPart (lines_text list.answers.lines ++ closing) old.sink.holds new.sink.holds
 
 -- The lines of some first rounds of a list were written, whole.
 pub record ListRounds (files : Files) (asked : Option Asked) (old new : Around) : Type 0 where

@@ -1,5 +1,5 @@
 -- What is written for an ending, and what is left around a call?
-use Rattle.std.specs.Prelude.{◌≡◌, ◌⊎◌, ℕ, ◌≤◌, Bool, List, length, if◌then◌else◌}
+use Rattle.std.specs.Prelude.{◌≡◌, ◌⊎◌, ℕ, ◌≤◌, Bool, List, [], ◌++◌, length, if◌then◌else◌}
 use Rattle.std.specs.Prelude.{Result, Ok, Err}
 use Rattle.tex_world.specs.Counts.{Rises}
 use Rattle.tex_world.specs.Folder.{FolderState}
@@ -13,7 +13,7 @@ use Rattle.render_run.specs.declared.answering.Unfinished.TheVariants.{NotWritte
 use Rattle.render_run.specs.declared.answering.Unfinished.TheVariants as unfinished
 use Rattle.render_run.specs.Around.{SinkState, Setup, Sight, Progress}
 use Rattle.render_run.specs.Dealing.{AreWholeRounds, places_of}
-use Rattle.render_run.specs.Run.{Answers, lines_text, some_refused}
+use Rattle.render_run.specs.Run.{Answers, Closes, lines_text, some_refused}
 use Rattle.render_run.specs.Answering.{SoFar}
 use Rattle.render_run.specs.Ending.{status_of, ending_text}
 
@@ -52,27 +52,37 @@ EndedAs e old new ends = StatusWritten (ending_text e) (status_of e) old new end
 
 -- ---- the lines of a list
 
--- All of the list was answered and written, and some line is a refusal, or none.
+-- All of the list was answered and written, with the lines that close a run, and some line is a
+-- refusal, or none.
 pub record Finishes (setup : Setup) (requests : List Request) (old new : Progress) (refused : Bool)
     : Type 0 where
   pub answers : Answers setup requests (length requests) old.source new.source
-  pub written : Appends (lines_text answers.lines) old.sink.holds new.sink.holds
+  pub closing : List ℕ
+  pub closes : Closes setup.files setup.workers answers.lines closing
+  pub written : Appends (lines_text answers.lines ++ closing) old.sink.holds new.sink.holds
   pub refusal : refused ≡ some_refused answers.lines
 
--- All of the list was answered and written. The status tells whether some line is a refusal.
+-- All of the list was answered and written, with the lines that close a run. The status tells whether
+-- some line is a refusal.
 pub record AnswersAll (setup : Setup) (requests : List Request) (old new : Progress) (ends : ℕ)
     : Type 0 where
   pub answers : Answers setup requests (length requests) old.source new.source
-  pub written : Appends (lines_text answers.lines) old.sink.holds new.sink.holds
+  pub closing : List ℕ
+  pub closes : Closes setup.files setup.workers answers.lines closing
+  pub written : Appends (lines_text answers.lines ++ closing) old.sink.holds new.sink.holds
   pub refusal : ends ≡ (if some_refused answers.lines then status.with_refusals
       else status.all_answered)
 
--- A first part of the lines for some first requests was written before the sink failed.
+-- A first part of the lines for some first requests, or, behind those for all, of the lines that
+-- close a run, was written before the sink failed.
 pub record PartWritten (setup : Setup) (requests : List Request) (old new : Progress)
     : Type 0 where
   pub count : ℕ
   pub answers : Answers setup requests count old.source new.source
-  pub part : AppendsPart (lines_text answers.lines) old.sink.holds new.sink.holds
+  pub closing : List ℕ
+  pub closes : (closing ≡ []) ⊎ ((count ≡ length requests)
+      × Closes setup.files setup.workers answers.lines closing)
+  pub part : AppendsPart (lines_text answers.lines ++ closing) old.sink.holds new.sink.holds
   pub cause : Rises old.sink.faults new.sink.faults
 
 -- The lines of some first rounds were written, whole.
@@ -100,7 +110,7 @@ abbrev pub EndsEarly : Setup → List Request → List Sight → Progress → Pr
     → Type 0
 EndsEarly setup requests crew old new page NotWritten = PartWritten setup requests old new
 EndsEarly setup requests crew old new page unfinished.NoMemory =
-    (done : ℕ) × (refused : Bool) × SoFar setup requests done crew old new page refused
+    (done : ℕ) × (refused : ℕ) × SoFar setup requests done crew old new page refused
 
 -- the status of a list that was answered, or was not to its end
 abbrev pub list_status : Result Bool Unfinished → ℕ

@@ -6,12 +6,14 @@ ghost use Rattle.std.specs.List.{All, AllPass};
 ghost use Rattle.image_cache.specs.Pass.{IsPassOf};
 ghost use Rattle.request_lang.specs.Grammar.{max_requests};
 ghost use Rattle.render_run.specs.Around.{sink_state, progress_of, setup_of};
-ghost use Rattle.render_run.specs.Around.{sight_of, source_of_crew};
-ghost use Rattle.render_run.specs.Question.{task_of, is_answered};
+ghost use Rattle.render_run.specs.Around.{sight_of, source_of_crew, terms_of};
+ghost use Rattle.render_run.specs.Question.{task_of};
+ghost use Rattle.request_lang.specs.RequestForm.{has_channels};
 ghost use Rattle.render_run.specs.Answering.{MayBeGiven, SoFar};
 ghost use Rattle.render_run.specs.Crew.{max_workers, AreCarried, SeeNoLess, AreIdle};
 ghost use Rattle.render_run.specs.Written.{Finishes, LeavesUnfinished, EndsEarly};
 
+use crate::closing::close;
 use crate::crew::carry_all;
 use crate::dealing::round_len;
 use crate::hook::Hook;
@@ -34,8 +36,8 @@ pub(crate) enum Unfinished {
     NoMemory,
 }
 
-/// Answers the requests in their order, round by round, writes the line of each, and says whether
-/// some line is a refusal. The page is empty before.
+/// Answers the requests in their order, round by round, writes the line of each and those that close
+/// the run, and says whether some line is a refusal. The page is empty before.
 pub(crate) fn answer_list<R: Threads + Wait + Sync, F: Folder, O: Sink, K: Hook + Sync>(
     rt: &R,
     alloc: Global,
@@ -57,17 +59,17 @@ where
     requires idle { AreIdle (map (λ p. sight_of p.worker.pass (F.Tap.state p.worker.tap))
         posts.old) }
     requires files { cache.now.files.board.files ≡ (F.state folder.now).size }
-    requires answered { AllPass is_answered requests.now }
+    requires channels { AllPass has_channels requests.now }
     requires few { length requests.now ≤ max_requests }
     requires empty { page.old ≡ [] }
     ensures ok { IfOk result (Finishes (setup_of F.W.files (F.state folder.now)
-        cache.now.gate.cut (length posts.old)) requests.now
+        (terms_of cache.now.gate) (length posts.old)) requests.now
         (progress_of (source_of_crew (map (λ p. sight_of p.worker.pass
         (F.Tap.state p.worker.tap)) posts.old)) (sink_state O.faults O.holds out.old))
         (progress_of (source_of_crew (map (λ p. sight_of p.worker.pass
         (F.Tap.state p.worker.tap)) posts.new)) (sink_state O.faults O.holds out.new))) }
     ensures err { IfErr result (LeavesUnfinished (setup_of F.W.files (F.state folder.now)
-        cache.now.gate.cut (length posts.old)) requests.now
+        (terms_of cache.now.gate) (length posts.old)) requests.now
         (progress_of (source_of_crew (map (λ p. sight_of p.worker.pass
         (F.Tap.state p.worker.tap)) posts.old)) (sink_state O.faults O.holds out.old))
         (progress_of (source_of_crew (map (λ p. sight_of p.worker.pass
@@ -75,8 +77,8 @@ where
     ensures faults { O.faults out.old ≤ O.faults out.new }
 {
     match answer_rounds(rt, alloc, cache, folder, hook, posts, requests, page, out) {
-        Ok(refused) => match page.put(out) {
-            Ok(()) => Ok(refused),
+        Ok(refused) => match close(page, posts, requests.len(), refused, out) {
+            Ok(()) => Ok(refused > 0),
             Err(_failed) => Err(Unfinished::NotWritten),
         },
         Err(Unfinished::NoMemory) => match page.put(out) {
@@ -87,7 +89,7 @@ where
     }
 }
 
-/// The same, but that the last lines still wait on the page.
+/// Answers the requests and passes the line of each on, and says how many are refusals.
 fn answer_rounds<R: Threads + Wait + Sync, F: Folder, O: Sink, K: Hook + Sync>(
     rt: &R,
     alloc: Global,
@@ -98,7 +100,7 @@ fn answer_rounds<R: Threads + Wait + Sync, F: Folder, O: Sink, K: Hook + Sync>(
     requests: &[Request],
     page: &mut Page,
     out: &mut O,
-) -> Result<bool, Unfinished>
+) -> Result<usize, Unfinished>
 where
     F::Tap: Send,
     <F::Tap as Tap>::Handle: Send + Sync,
@@ -109,18 +111,18 @@ where
     requires idle { AreIdle (map (λ p. sight_of p.worker.pass (F.Tap.state p.worker.tap))
         posts.old) }
     requires files { cache.now.files.board.files ≡ (F.state folder.now).size }
-    requires answered { AllPass is_answered requests.now }
+    requires channels { AllPass has_channels requests.now }
     requires few { length requests.now ≤ max_requests }
     requires empty { page.old ≡ [] }
     ensures ok { IfOk result (SoFar (setup_of F.W.files (F.state folder.now)
-        cache.now.gate.cut (length posts.old)) requests.now (length requests.now)
+        (terms_of cache.now.gate) (length posts.old)) requests.now (length requests.now)
         (map (λ p. sight_of p.worker.pass (F.Tap.state p.worker.tap)) posts.new)
         (progress_of (source_of_crew (map (λ p. sight_of p.worker.pass
         (F.Tap.state p.worker.tap)) posts.old)) (sink_state O.faults O.holds out.old))
         (progress_of (source_of_crew (map (λ p. sight_of p.worker.pass
         (F.Tap.state p.worker.tap)) posts.new)) (sink_state O.faults O.holds out.new)) page.new) }
     ensures err { IfErr result (EndsEarly (setup_of F.W.files (F.state folder.now)
-        cache.now.gate.cut (length posts.old)) requests.now
+        (terms_of cache.now.gate) (length posts.old)) requests.now
         (map (λ p. sight_of p.worker.pass (F.Tap.state p.worker.tap)) posts.new)
         (progress_of (source_of_crew (map (λ p. sight_of p.worker.pass
         (F.Tap.state p.worker.tap)) posts.old)) (sink_state O.faults O.holds out.old))
@@ -129,7 +131,7 @@ where
     ensures faults { O.faults out.old ≤ O.faults out.new }
 {
     let mut tasks = Vec::new(alloc);
-    let mut refused = false;
+    let mut refused = 0;
     let mut done = 0;
     'rounds: while done < requests.len() {
         let count = round_len(&requests[done..]);
@@ -144,7 +146,7 @@ where
         }
         answer_round(rt, alloc, cache, hook, posts, &tasks, done);
         match write_round(page, posts, count, out) {
-            Ok(said) => refused |= said,
+            Ok(said) => refused += said,
             Err(_failed) => return Err(Unfinished::NotWritten),
         }
         done += count;
@@ -164,7 +166,7 @@ fn begin<F: Folder>(
     requires entered { IsSome (F.state folder.now).entered }
     requires pass { All (λ p. IsPassOf cache.now p.worker.pass) posts.old }
     requires some { 0 < length posts.old }
-    requires answered { AllPass is_answered requests.now }
+    requires channels { AllPass has_channels requests.now }
     requires few { length requests.now ≤ max_requests }
     ensures given { OnOk result
         (All (MayBeGiven F.W.files (F.state folder.now).size) tasks.new.items) }

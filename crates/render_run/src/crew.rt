@@ -9,7 +9,7 @@ ghost use Rattle.tex_world.specs.Counts.{last_count};
 ghost use Rattle.tex_world.specs.Tap.{IsNew};
 ghost use Rattle.image_cache.specs.Pass.{IsPassOf, IsFresh};
 ghost use Rattle.image_cache.specs.Invalid.{RisesBy};
-ghost use Rattle.render_run.specs.Around.{sight_of, sight_at, source_of_crew};
+ghost use Rattle.render_run.specs.Around.{sight_of, sight_at, tally_of, source_of_crew};
 ghost use Rattle.render_run.specs.Answering.{SeesNoLess};
 ghost use Rattle.render_run.specs.Crew.{IsNewPost, SeeNoLess, SeesOn, SightsOn, AreCarried};
 ghost use Rattle.render_run.specs.Crew.{AddsPost, MakesMore, TakesBack};
@@ -90,6 +90,7 @@ fn spread<T: Tap>(
         (map (λ p. sight_of p.worker.pass (T.state p.worker.tap)) others.new)) }
     ensures seen { first.new.view.seen ≡ first.old.view.seen }
     ensures holds { first.new.pinned.holds ≡ first.old.pinned.holds }
+    ensures tally { tally_of first.new ≡ tally_of first.old }
     ensures pass { IsPassOf cache.now first.new }
     ensures kept { SeeNoLess
         (map (λ p. sight_of p.worker.pass (T.state p.worker.tap)) others.old)
@@ -113,6 +114,7 @@ fn carry_to<T: Tap>(
     ensures ok { OnOk result (SeesNoLess from.old.view.seen post.new.worker.pass.view.seen) }
     ensures seen { from.new.view.seen ≡ from.old.view.seen }
     ensures holds { from.new.pinned.holds ≡ from.old.pinned.holds }
+    ensures tally { tally_of from.new ≡ tally_of from.old }
     ensures pass { IsPassOf cache.now from.new }
     ensures kept { SightsOn (sight_of post.old.worker.pass (T.state post.old.worker.tap))
         (sight_of post.new.worker.pass (T.state post.new.worker.tap)) }

@@ -3,6 +3,7 @@
 #![tactic(auto)]
 
 mod answering;
+mod closing;
 mod crew;
 mod dealing;
 mod hook;

@@ -6,10 +6,14 @@ ghost use Rattle.tex_world.specs.Counts.{Rises};
 ghost use Rattle.tex_world.specs.Stream.{AppendsPart};
 ghost use Rattle.request_lang.specs.Grammar.{line_feed};
 ghost use Rattle.request_lang.specs.Line.{fields, head_of, line_of};
+ghost use Rattle.request_lang.specs.Closing.{worker_line, total_line};
 ghost use Rattle.render_run.specs.Around.{sink_state};
 ghost use Rattle.render_run.specs.Page.{outgoing_of, Passes, PassesPart, page_bytes, part_values};
 
-use request_lang::{Answer, MAX_PART_BYTES, PART_VALUES, ValueTexts, head_text, values_text};
+use request_lang::{
+    Answer, Counts, MAX_PART_BYTES, PART_VALUES, ValueTexts, head_text, total_text, values_text,
+    worker_text,
+};
 use std::alloc::{AllocError, Global};
 use std::marker::Model;
 use tex_world::{Failed, Sink};
@@ -176,6 +180,53 @@ impl Page {
             return Err(failed);
         }
         if let Err(_refused) = self.text.push(b'\n') {
+            unreachable!()
+        }
+        Ok(())
+    }
+
+    /// Passes the line of a worker on. It takes no memory.
+    pub(crate) fn pass_worker<O: Sink>(
+        &mut self,
+        out: &mut O,
+        worker: u32,
+        counts: Counts,
+    ) -> Result<(), Failed>
+        ensures ok { OnOk result (Passes (worker_line worker counts)
+            (outgoing_of self.old (sink_state O.faults O.holds out.old))
+            (outgoing_of self.new (sink_state O.faults O.holds out.new))) }
+        ensures part { OnErr result (AppendsPart self.old (O.holds out.old) (O.holds out.new)) }
+        ensures faults { O.faults out.old ≤ O.faults out.new }
+        ensures cause { OnErr result (Rises (O.faults out.old) (O.faults out.new)) }
+    {
+        if let Err(failed) = self.make_room(out) {
+            return Err(failed);
+        }
+        if let Err(_refused) = worker_text(worker, counts, &mut self.text) {
+            unreachable!()
+        }
+        Ok(())
+    }
+
+    /// Passes the line on that says how many lines there are, and how many are refusals. It takes no
+    /// memory.
+    pub(crate) fn pass_total<O: Sink>(
+        &mut self,
+        out: &mut O,
+        total: u64,
+        refused: u64,
+    ) -> Result<(), Failed>
+        ensures ok { OnOk result (Passes (total_line total refused)
+            (outgoing_of self.old (sink_state O.faults O.holds out.old))
+            (outgoing_of self.new (sink_state O.faults O.holds out.new))) }
+        ensures part { OnErr result (AppendsPart self.old (O.holds out.old) (O.holds out.new)) }
+        ensures faults { O.faults out.old ≤ O.faults out.new }
+        ensures cause { OnErr result (Rises (O.faults out.old) (O.faults out.new)) }
+    {
+        if let Err(failed) = self.make_room(out) {
+            return Err(failed);
+        }
+        if let Err(_refused) = total_text(total, refused, &mut self.text) {
             unreachable!()
         }
         Ok(())

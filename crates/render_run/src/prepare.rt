@@ -2,28 +2,21 @@
 
 ghost use Rattle.std.specs.Prelude.{◌≡◌, ◌≤◌, length, IfOk, IfErr, OnOk, Ok};
 ghost use Rattle.request_lang.specs.Grammar.{max_requests};
-ghost use Rattle.std.specs.List.{list_all, AllPass};
+ghost use Rattle.std.specs.List.{AllPass};
 ghost use Rattle.render_run.specs.Around.{feed_state, inputs_of};
-ghost use Rattle.render_run.specs.Question.{is_answered as form_is_answered};
-ghost use Rattle.render_run.specs.ListRead.{FeedSays, answered_list};
+ghost use Rattle.request_lang.specs.RequestForm.{has_channels};
+ghost use Rattle.render_run.specs.ListRead.{FeedSays};
 ghost use Rattle.command_line.specs.Options.{IsInRange};
 ghost use Rattle.render_run.specs.Ending.{asked_by, path_in, HasOptions, WordsCause};
 ghost use Rattle.render_run.specs.Ending.{IsEntered, EnterEnds, ListEnds};
-ghost use Rattle.render_run.specs.Ending.{IsPrepared, IsEnded, IsAsSaid, HasNoMark, MarksAs};
+ghost use Rattle.render_run.specs.Ending.{IsPrepared, IsEnded, HasNoMark, MarksAs};
 ghost use Rattle.render_run.specs.Written.{KeepsTaps};
 
 use crate::list::{ListError, read_list};
-use crate::question::is_answered;
 use command_line::{Invocation, Options, WordsError, invocation_of};
 use request_lang::{BadList, ParseError, Request, parse};
 use std::alloc::Global;
 use tex_world::{EnterError, Feed, Folder};
-
-/// What stands for all of a list in place of a line.
-const WHOLE_LIST: u32 = 0;
-
-/// The cause where a list holds a form that is not answered.
-const NOT_ANSWERED: u32 = 1;
 
 /// Why no list is answered.
 #[derive(Clone, Copy, Debug, PartialEq, Eq)]
@@ -91,31 +84,9 @@ fn enter_folder<F: Folder>(
     }
 }
 
-/// Each request is of a form that is answered.
-fn are_answered(requests: &[Request]) -> bool
-    ensures { result ≡ list_all form_is_answered requests.now }
-{
-    requests.iter().all(is_answered)
-}
-
-/// The requests, where each is of a form that is answered.
-fn answered_requests(requests: Vec<Request>) -> Result<Vec<Request>, Ending>
-    ensures said { IsAsSaid (answered_list (Ok requests.items)) result }
-    ensures answered { IfOk result (λ answered. AllPass form_is_answered answered.items) }
-    ensures same { IfOk result (λ answered. answered.items ≡ requests.items) }
-{
-    if are_answered(&requests) {
-        return Ok(requests);
-    }
-    Err(Ending::NotAList(BadList {
-        line: WHOLE_LIST,
-        why: NOT_ANSWERED,
-    }))
-}
-
 /// The requests of the list that the feed has.
 fn read_requests<I: Feed>(alloc: Global, feed: &mut I) -> Result<Vec<Request>, Ending>
-    ensures answered { IfOk result (λ requests. AllPass form_is_answered requests.items) }
+    ensures channels { IfOk result (λ requests. AllPass has_channels requests.items) }
     ensures few { IfOk result (λ requests. length requests.items ≤ max_requests) }
     ensures listed { IfOk result (λ requests. FeedSays (Ok requests.items)
         (feed_state I.faults I.left feed.old) (feed_state I.faults I.left feed.new)) }
@@ -128,7 +99,7 @@ fn read_requests<I: Feed>(alloc: Global, feed: &mut I) -> Result<Vec<Request>, E
         Err(ListError::NoMemory) => return Err(Ending::NoMemory),
     };
     match parse(alloc, &bytes) {
-        Ok(requests) => answered_requests(requests),
+        Ok(requests) => Ok(requests),
         Err(ParseError::Bad { line, why }) => Err(Ending::NotAList(BadList { line, why })),
         Err(ParseError::NoMemory) => Err(Ending::NoMemory),
     }
@@ -146,7 +117,7 @@ pub(crate) fn prepare<F: Folder, I: Feed>(
         (inputs_of (F.state folder.new) (feed_state I.faults I.left feed.new)) p.requests.items) }
     ensures options { IfOk result (λ p. HasOptions (asked_by words.now) p.options) }
     ensures in_range { IfOk result (λ p. IsInRange p.options) }
-    ensures answered { IfOk result (λ p. AllPass form_is_answered p.requests.items) }
+    ensures channels { IfOk result (λ p. AllPass has_channels p.requests.items) }
     ensures few { IfOk result (λ p. length p.requests.items ≤ max_requests) }
     ensures ended { IfErr result (IsEnded F.W.files (path_in (asked_by words.now))
         (inputs_of (F.state folder.old) (feed_state I.faults I.left feed.old))

@@ -1,6 +1,7 @@
 //! What a request asks of its worker.
 
 ghost use Rattle.std.specs.Prelude.{◌≡◌, IsSome, IsTrue};
+ghost use Rattle.request_lang.specs.RequestForm.{has_channels};
 ghost use Rattle.render_run.specs.Question as spec;
 ghost use Rattle.render_run.specs.Answering.{MayBeGiven};
 
@@ -8,7 +9,6 @@ use request_lang::{Name, Request};
 use tex_world::Folder;
 use texel_filter::TexRequest;
 use texel_values::{Region, TexelAt};
-use tiff_format::MAX_CHANNELS;
 
 /// What is asked of a file.
 #[derive(Clone, Copy, Debug)]
@@ -34,6 +34,8 @@ pub(crate) enum Task {
     Release,
     /// The newest generation of each file that is known.
     RenewAll,
+    /// What each shard has.
+    Count,
     /// The round ends. Nothing is asked.
     Sync,
 }
@@ -42,7 +44,7 @@ impl Task {
     /// What a worker is given of a request.
     pub(crate) fn of<F: Folder>(folder: &F, request: &Request) -> Task
         requires entered { IsSome (F.state folder.now).entered }
-        requires answered { IsTrue (spec.is_answered request.now) }
+        requires channels { IsTrue (has_channels request.now) }
         ensures value { result ≡ spec.task_of (F.state folder.now).number_of request.now }
         ensures given { MayBeGiven F.W.files (F.state folder.now).size result }
     {
@@ -68,7 +70,8 @@ impl Task {
             Request::Renew { name } => ask(folder, name, Question::Renewal(true)),
             Request::Drop => Task::Release,
             Request::InvalidateAll => Task::RenewAll,
-            Request::Stat | Request::Sync => Task::Sync,
+            Request::Stat => Task::Count,
+            Request::Sync => Task::Sync,
         }
     }
 }
@@ -81,22 +84,4 @@ fn ask<F: Folder>(folder: &F, name: &Name, question: Question) -> Task
     ensures given { MayBeGiven F.W.files (F.state folder.now).size result }
 {
     Task::Ask(folder.find(name.as_str()), question)
-}
-
-/// The lookup asks for a number of channels that it may ask for, as each in a list does.
-fn has_channels(request: &TexRequest) -> bool
-    ensures { result ≡ spec.has_channels request.now }
-{
-    request.nch >= 1 && request.nch <= MAX_CHANNELS as u32
-}
-
-/// The request is of a form that is answered.
-pub(crate) fn is_answered(request: &Request) -> bool
-    ensures { result ≡ spec.is_answered request.now }
-{
-    match request {
-        Request::Tex { request, .. } => has_channels(request),
-        Request::Stat => false,
-        _ => true,
-    }
 }

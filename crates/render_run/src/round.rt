@@ -3,13 +3,14 @@
 
 ghost use Rattle.std.specs.Prelude.{◌≡◌, ◌+◌, ◌*◌, ◌<◌, ◌≤◌, [], length, map, vec_capacity};
 ghost use Rattle.std.specs.Prelude.{IfOk, OnOk, OnErr, IsSome};
-ghost use Rattle.std.specs.List.{All, AllPass, list_any};
+ghost use Rattle.std.specs.List.{All, AllPass, count_by};
 ghost use Rattle.tex_world.specs.Counts.{Rises};
 ghost use Rattle.image_cache.specs.Pass.{IsPassOf};
 ghost use Rattle.request_lang.specs.Basis.{is_refusal};
 ghost use Rattle.request_lang.specs.Grammar.{max_requests};
-ghost use Rattle.render_run.specs.Around.{sight_of, sink_state};
-ghost use Rattle.render_run.specs.Question.{task_of, is_answered};
+ghost use Rattle.render_run.specs.Around.{sight_of, sink_state, terms_of};
+ghost use Rattle.render_run.specs.Question.{task_of};
+ghost use Rattle.request_lang.specs.RequestForm.{has_channels};
 ghost use Rattle.render_run.specs.Answering.{AnswersEach, MayBeGiven, AreFiles, share_of};
 ghost use Rattle.render_run.specs.Answering.{answers_text, in_turn, AreInTurn};
 ghost use Rattle.render_run.specs.Crew.{max_workers, AnswersShares};
@@ -50,7 +51,7 @@ pub(crate) fn deal<F: Folder>(
     tasks: &mut Vec<Task>,
 ) -> Result<(), AllocError>
     requires entered { IsSome (F.state folder.now).entered }
-    requires answered { AllPass is_answered requests.now }
+    requires channels { AllPass has_channels requests.now }
     ensures given { OnOk result
         (All (MayBeGiven F.W.files (F.state folder.now).size) tasks.new.items) }
     ensures tasks { OnOk result
@@ -101,7 +102,7 @@ where
     requires files { AreFiles T.W.files cache.now.files.board.files }
     requires some { (0 < length posts.old) × (length posts.old ≤ max_workers) }
     requires few { first + length tasks.now ≤ max_requests }
-    ensures shares { AnswersShares T.W.files cache.now.gate.cut tasks.now
+    ensures shares { AnswersShares T.W.files (terms_of cache.now.gate) tasks.now
         (map (λ p. p.answers.items) posts.new)
         (map (λ p. sight_of p.worker.pass (T.state p.worker.tap)) posts.old)
         (map (λ p. sight_of p.worker.pass (T.state p.worker.tap)) posts.new) }
@@ -119,7 +120,7 @@ where
                 × All (MayBeGiven T.W.files cache.now.files.board.files) tasks.now
                 × AreFiles T.W.files cache.now.files.board.files
                 × (first + length tasks.now ≤ max_requests) }
-            ensures { AnswersEach T.W.files cache.entry.now.gate.cut
+            ensures { AnswersEach T.W.files (terms_of cache.entry.now.gate)
                 (share_of workers worker tasks.entry.now) post.new.answers.items
                 (sight_of post.old.worker.pass (T.state post.old.worker.tap))
                 (sight_of post.new.worker.pass (T.state post.new.worker.tap))
@@ -153,7 +154,7 @@ fn answer_share<R: Wait, T: Tap, K: Hook>(
     requires files { AreFiles T.W.files cache.now.files.board.files }
     requires turn { (turn.worker < turn.workers) × (turn.workers ≤ max_workers) }
     requires few { turn.first + length tasks.now ≤ max_requests }
-    ensures each { AnswersEach T.W.files cache.now.gate.cut
+    ensures each { AnswersEach T.W.files (terms_of cache.now.gate)
         (share_of turn.workers turn.worker tasks.now) post.new.answers.items
         (sight_of post.old.worker.pass (T.state post.old.worker.tap))
         (sight_of post.new.worker.pass (T.state post.new.worker.tap)) }
@@ -173,22 +174,23 @@ fn answer_share<R: Wait, T: Tap, K: Hook>(
     }
 }
 
-/// Passes the lines of a round on, and says whether some line is a refusal. The workers took its
+/// Passes the lines of a round on, and says how many of them are refusals. The workers took its
 /// requests in turn.
 pub(crate) fn write_round<T: Tap, O: Sink>(
     page: &mut Page,
     posts: &[Post<T>],
     count: usize,
     out: &mut O,
-) -> Result<bool, Failed>
+) -> Result<usize, Failed>
     requires some { 0 < length posts.now }
     requires there { AreInTurn (length posts.now) count (map (λ p. p.answers.items) posts.now) }
     ensures ok { OnOk result (Passes
         (answers_text (in_turn (length posts.now) 0 count (map (λ p. p.answers.items) posts.now)))
         (outgoing_of page.old (sink_state O.faults O.holds out.old))
         (outgoing_of page.new (sink_state O.faults O.holds out.new))) }
-    ensures refusal { IfOk result (λ refused. refused ≡ list_any is_refusal
+    ensures refusal { IfOk result (λ refused. refused ≡ count_by is_refusal
         (in_turn (length posts.now) 0 count (map (λ p. p.answers.items) posts.now))) }
+    ensures few { IfOk result (λ refused. refused ≤ count) }
     ensures part { OnErr result (PassesPart
         (answers_text (in_turn (length posts.now) 0 count (map (λ p. p.answers.items) posts.now)))
         (outgoing_of page.old (sink_state O.faults O.holds out.old)) (O.holds out.new)) }
@@ -196,13 +198,13 @@ pub(crate) fn write_round<T: Tap, O: Sink>(
     ensures cause { OnErr result (Rises (O.faults out.old) (O.faults out.new)) }
 {
     let workers = posts.len();
-    let mut refused = false;
+    let mut refused = 0;
     for i in 0..count {
         let answer = &posts[i % workers].answers[i / workers];
-        match page.pass(out, answer) {
-            Ok(()) => refused |= answer.is_refusal(),
-            Err(failed) => return Err(failed),
+        if let Err(failed) = page.pass(out, answer) {
+            return Err(failed);
         }
+        refused += usize::from(answer.is_refusal());
     }
     Ok(refused)
 }

@@ -9,9 +9,9 @@ ghost use Rattle.image_cache.specs.Pass.{IsFirstPass};
 ghost use Rattle.render_run.specs.Status.{with_refusals, not_written, no_memory};
 ghost use Rattle.render_run.specs.Around.{feed_state, sink_state, around_of, progress_of};
 ghost use Rattle.render_run.specs.Around.{source_of_folder, setup_of, sight_of, no_sight};
-ghost use Rattle.render_run.specs.Around.{source_of_crew};
+ghost use Rattle.render_run.specs.Around.{source_of_crew, terms_for, terms_of};
 ghost use Rattle.render_run.specs.Crew.{MakesMore};
-ghost use Rattle.render_run.specs.Question.{is_answered};
+ghost use Rattle.request_lang.specs.RequestForm.{has_channels};
 ghost use Rattle.render_run.specs.Ending.{asked_by};
 ghost use Rattle.render_run.specs.Run.{GivesTapsBack, MakesTaps, Runs};
 ghost use Rattle.render_run.specs.Complete.{HasAList, IsCalm, Completes};
@@ -103,7 +103,7 @@ fn cache_of<T: Tap>(
     requires options { IsInRange options.now }
     requires files { files ≤ max_files }
     ensures files { IfOk result (λ made. made.0.files.board.files ≡ files) }
-    ensures cut { IfOk result (λ made. made.0.gate.cut ≡ options.now.cut) }
+    ensures terms { IfOk result (λ made. terms_of made.0.gate ≡ terms_for options.now) }
     ensures pass { IfOk result (λ made. IsFirstPass made.0 made.1) }
 {
     let options = CacheOptions {
@@ -135,23 +135,23 @@ where
     F::W: Send + Sync,
     requires entered { IsSome (F.state folder.old).entered }
     requires options { IsInRange asked.now.options }
-    requires answered { AllPass is_answered asked.now.requests.items }
+    requires channels { AllPass has_channels asked.now.requests.items }
     requires few { length asked.now.requests.items ≤ max_requests }
     ensures answered { result ≤ with_refusals → AnswersAll (setup_of F.W.files
-        (F.state folder.new) asked.now.options.cut asked.now.options.workers)
+        (F.state folder.new) (terms_for asked.now.options) asked.now.options.workers)
         asked.now.requests.items (progress_of (source_of_folder (F.state folder.old))
         (sink_state O.faults O.holds out.old)) (progress_of
         (source_of_folder (F.state folder.new)) (sink_state O.faults O.holds out.new)) result }
     ensures made { result ≤ with_refusals
         → MakesTaps asked.now.options.workers (F.state folder.old) (F.state folder.new) }
     ensures part { result ≡ not_written → PartWritten (setup_of F.W.files
-        (F.state folder.new) asked.now.options.cut asked.now.options.workers)
+        (F.state folder.new) (terms_for asked.now.options) asked.now.options.workers)
         asked.now.requests.items (progress_of (source_of_folder (F.state folder.old))
         (sink_state O.faults O.holds out.old)) (progress_of
         (source_of_folder (F.state folder.new)) (sink_state O.faults O.holds out.new)) }
     ensures short { result ≡ no_memory → (O.holds out.new ≡ O.holds out.old)
         ⊎ RoundsWritten (setup_of F.W.files
-        (F.state folder.new) asked.now.options.cut asked.now.options.workers)
+        (F.state folder.new) (terms_for asked.now.options) asked.now.options.workers)
         asked.now.requests.items (progress_of (source_of_folder (F.state folder.old))
         (sink_state O.faults O.holds out.old)) (progress_of
         (source_of_folder (F.state folder.new)) (sink_state O.faults O.holds out.new)) }
@@ -193,19 +193,19 @@ where
     F::W: Send + Sync,
     requires entered { IsSome (F.state folder.old).entered }
     requires options { IsInRange asked.now.options }
-    requires answered { AllPass is_answered asked.now.requests.items }
+    requires channels { AllPass has_channels asked.now.requests.items }
     requires few { length asked.now.requests.items ≤ max_requests }
     requires pass { IsFirstPass cache.now pass }
     requires files { cache.now.files.board.files ≡ (F.state folder.old).size }
     requires crew { posts.old.items ≡ [] }
     requires page { page.old ≡ [] }
     ensures ok { IfOk result (Finishes (setup_of F.W.files (F.state folder.new)
-        cache.now.gate.cut asked.now.options.workers) asked.now.requests.items
+        (terms_of cache.now.gate) asked.now.options.workers) asked.now.requests.items
         (progress_of no_sight.source (sink_state O.faults O.holds out.old))
         (progress_of (source_of_crew (map (λ p. sight_of p.worker.pass
         (F.Tap.state p.worker.tap)) posts.new.items)) (sink_state O.faults O.holds out.new))) }
     ensures err { IfErr result (LeavesEarly (setup_of F.W.files (F.state folder.new)
-        cache.now.gate.cut asked.now.options.workers) asked.now.requests.items
+        (terms_of cache.now.gate) asked.now.options.workers) asked.now.requests.items
         (progress_of no_sight.source (sink_state O.faults O.holds out.old))
         (progress_of (source_of_crew (map (λ p. sight_of p.worker.pass
         (F.Tap.state p.worker.tap)) posts.new.items)) (sink_state O.faults O.holds out.new))) }

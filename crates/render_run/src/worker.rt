@@ -1,25 +1,27 @@
 //! A worker, which answers what it is given through the cache.
 
-ghost use Rattle.std.specs.Prelude.{◌≡◌, ◌⊎◌, ◌<◌, IsTrue, IfSome, length, slice_get};
+ghost use Rattle.std.specs.Prelude.{◌≡◌, ◌⊎◌, ◌<◌, ◌≤◌, IsTrue, IfSome, IfOk, length, slice_get};
 ghost use Rattle.tex_world.specs.World.{IsFile};
-ghost use Rattle.image_cache.specs.Pass.{IsPassOf};
-ghost use Rattle.render_run.specs.Around.{sight_of};
+ghost use Rattle.image_cache.specs.Pass.{IsPassOf, IsSamePass};
+ghost use Rattle.request_lang.specs.Appending.{max_shards};
+ghost use Rattle.render_run.specs.Around.{sight_of, tally_of, terms_of};
 ghost use Rattle.render_run.specs.Question.{has_channels, may_be_asked, file_in};
 ghost use Rattle.render_run.specs.Refusal.{refusal_of};
-ghost use Rattle.render_run.specs.Reply.{released, MeetsOn, MeetsTask};
+ghost use Rattle.render_run.specs.Reply.{released, AreShardsOf, TellsShards, MeetsOn, MeetsTask};
 ghost use Rattle.render_run.specs.Answering.{AfterAnswer, AreFiles, MayBeGiven};
+ghost use Rattle.render_run.specs.Tallied.{TalliesAnswer};
 
 use crate::question::{Question, Task};
 use image_cache::{Cache, CacheError, NotReleased, Pass};
-use request_lang::{Answer, Values};
-use std::alloc::Global;
+use request_lang::{Answer, Shards, Values};
+use std::alloc::{AllocError, Global};
 use std::convert::Infallible;
 use std::sync::Wait;
 use tex_world::{Tap, World};
 use texel_filter::TexRequest;
 use texel_values::{Region, TexelAt};
 use texture_sys::texture;
-use tiff_format::Rect;
+use tiff_format::{Rect, ShardCount};
 use waiter::Forever;
 
 /// A worker: its pass, and the tap that it reads by.
@@ -40,11 +42,13 @@ pub(crate) fn answer_of<R: Wait, T: Tap>(
     requires pass { IsPassOf cache.now worker.old.pass }
     requires given { MayBeGiven T.W.files cache.now.files.board.files task.now }
     requires files { AreFiles T.W.files cache.now.files.board.files }
-    ensures meets { MeetsTask T.W.files cache.now.gate.cut (length worker.old.pass.pinned.holds)
-        task.now result }
+    ensures meets { MeetsTask T.W.files (terms_of cache.now.gate)
+        (length worker.old.pass.pinned.holds) task.now result }
     ensures after { AfterAnswer (file_in task.now)
         (sight_of worker.old.pass (T.state worker.old.tap))
         (sight_of worker.new.pass (T.state worker.new.tap)) result }
+    ensures tallies { TalliesAnswer T.W.files cache.now.gate.cut task.now
+        (tally_of worker.old.pass) (tally_of worker.new.pass) result }
     ensures pass { IsPassOf cache.now worker.new.pass }
 {
     match task {
@@ -52,6 +56,7 @@ pub(crate) fn answer_of<R: Wait, T: Tap>(
         Task::Ask(None, _) => Answer::NoSuchFile,
         Task::Release => release(cache, waiter, worker),
         Task::RenewAll => renewal_of_all(cache, waiter, worker),
+        Task::Count => shards_of(alloc, cache, waiter, worker),
         Task::Sync => Answer::Synced,
     }
 }
@@ -74,6 +79,8 @@ fn answer_on<R: Wait, T: Tap>(
     ensures after { AfterAnswer (Some file)
         (sight_of worker.old.pass (T.state worker.old.tap))
         (sight_of worker.new.pass (T.state worker.new.tap)) result }
+    ensures tallies { TalliesAnswer T.W.files cache.now.gate.cut (Task.Ask (Some file) question.now)
+        (tally_of worker.old.pass) (tally_of worker.new.pass) result }
     ensures pass { IsPassOf cache.now worker.new.pass }
 {
     match question {
@@ -100,6 +107,8 @@ fn facts<R: Wait, T: Tap>(
     ensures after { AfterAnswer (Some file)
         (sight_of worker.old.pass (T.state worker.old.tap))
         (sight_of worker.new.pass (T.state worker.new.tap)) result }
+    ensures tallies { TalliesAnswer T.W.files cache.now.gate.cut (Task.Ask (Some file) Question.Facts)
+        (tally_of worker.old.pass) (tally_of worker.new.pass) result }
     ensures pass { IsPassOf cache.now worker.new.pass }
 {
     match cache.info(waiter, &mut worker.pass, &mut worker.tap, file) {
@@ -125,6 +134,9 @@ fn values<R: Wait, T: Tap>(
     ensures after { AfterAnswer (Some file)
         (sight_of worker.old.pass (T.state worker.old.tap))
         (sight_of worker.new.pass (T.state worker.new.tap)) result }
+    ensures tallies { TalliesAnswer T.W.files cache.now.gate.cut
+        (Task.Ask (Some file) (Question.Values region.now))
+        (tally_of worker.old.pass) (tally_of worker.new.pass) result }
     ensures pass { IsPassOf cache.now worker.new.pass }
 {
     let mut values = Vec::new(alloc);
@@ -163,6 +175,9 @@ fn look<R: Wait, T: Tap>(
     ensures after { AfterAnswer (Some file)
         (sight_of worker.old.pass (T.state worker.old.tap))
         (sight_of worker.new.pass (T.state worker.new.tap)) result }
+    ensures tallies { TalliesAnswer T.W.files cache.now.gate.cut
+        (Task.Ask (Some file) (Question.Look request.now))
+        (tally_of worker.old.pass) (tally_of worker.new.pass) result }
     ensures pass { IsPassOf cache.now worker.new.pass }
 {
     let Ok(mut values) = vec![in alloc; 0u16; request.nch as usize] else {
@@ -201,6 +216,9 @@ fn hold<R: Wait, T: Tap>(
     ensures after { AfterAnswer (Some file)
         (sight_of worker.old.pass (T.state worker.old.tap))
         (sight_of worker.new.pass (T.state worker.new.tap)) result }
+    ensures tallies { TalliesAnswer T.W.files cache.now.gate.cut
+        (Task.Ask (Some file) (Question.Hold at))
+        (tally_of worker.old.pass) (tally_of worker.new.pass) result }
     ensures pass { IsPassOf cache.now worker.new.pass }
 {
     let place = worker.pass.held_count();
@@ -231,6 +249,8 @@ fn release<R: Wait, T: Tap>(cache: &Cache<T>, waiter: &Forever<R>, worker: &mut 
     ensures after { AfterAnswer None
         (sight_of worker.old.pass (T.state worker.old.tap))
         (sight_of worker.new.pass (T.state worker.new.tap)) result }
+    ensures tallies { TalliesAnswer T.W.files cache.now.gate.cut Task.Release
+        (tally_of worker.old.pass) (tally_of worker.new.pass) result }
     ensures pass { IsPassOf cache.now worker.new.pass }
 {
     match cache.release_tile(waiter, &mut worker.pass, 0) {
@@ -256,6 +276,9 @@ fn renewal<R: Wait, T: Tap>(
     ensures after { AfterAnswer (Some file)
         (sight_of worker.old.pass (T.state worker.old.tap))
         (sight_of worker.new.pass (T.state worker.new.tap)) result }
+    ensures tallies { TalliesAnswer T.W.files cache.now.gate.cut
+        (Task.Ask (Some file) (Question.Renewal force))
+        (tally_of worker.old.pass) (tally_of worker.new.pass) result }
     ensures pass { IsPassOf cache.now worker.new.pass }
 {
     match cache.invalidate(waiter, &mut worker.pass, &mut worker.tap, file, force) {
@@ -277,12 +300,62 @@ fn renewal_of_all<R: Wait, T: Tap>(
     ensures after { AfterAnswer None
         (sight_of worker.old.pass (T.state worker.old.tap))
         (sight_of worker.new.pass (T.state worker.new.tap)) result }
+    ensures tallies { TalliesAnswer T.W.files cache.now.gate.cut Task.RenewAll
+        (tally_of worker.old.pass) (tally_of worker.new.pass) result }
     ensures pass { IsPassOf cache.now worker.new.pass }
 {
     match cache.invalidate_all(waiter, &mut worker.pass, &mut worker.tap) {
         Ok(()) => Answer::InvalidatedAll,
         Err(e) => refusal(e),
     }
+}
+
+/// What each shard has.
+fn shards_of<R: Wait, T: Tap>(
+    alloc: Global,
+    cache: &Cache<T>,
+    waiter: &Forever<R>,
+    worker: &mut Worker<T>,
+) -> Answer
+    requires pass { IsPassOf cache.now worker.old.pass }
+    ensures meets { TellsShards (terms_of cache.now.gate) result }
+    ensures after { AfterAnswer None
+        (sight_of worker.old.pass (T.state worker.old.tap))
+        (sight_of worker.new.pass (T.state worker.new.tap)) result }
+    ensures tallies { TalliesAnswer T.W.files cache.now.gate.cut Task.Count
+        (tally_of worker.old.pass) (tally_of worker.new.pass) result }
+    ensures pass { IsPassOf cache.now worker.new.pass }
+{
+    match counts_of_shards(alloc, cache, waiter, &mut worker.pass) {
+        Ok(counts) => Answer::Stat {
+            shards: Shards::new(counts),
+        },
+        Err(_refused) => Answer::NoMemory,
+    }
+}
+
+/// What each shard has, in their order.
+fn counts_of_shards<R: Wait, T: Tap>(
+    alloc: Global,
+    cache: &Cache<T>,
+    waiter: &Forever<R>,
+    pass: &mut Pass<T::W>,
+) -> Result<Vec<ShardCount>, AllocError>
+    requires pass { IsPassOf cache.now pass.old }
+    ensures shards { IfOk result (λ counts. AreShardsOf (terms_of cache.now.gate) counts.items) }
+    ensures few { IfOk result (λ counts. length counts.items ≤ max_shards) }
+    ensures same { IsSamePass pass.old pass.new }
+    ensures of { IsPassOf cache.now pass.new }
+{
+    let shards = cache.shards();
+    let mut counts = Vec::with_capacity(alloc, shards as usize)?;
+    for shard in 0..shards {
+        match cache.count(waiter, pass, shard) {
+            Ok(count) => counts.push(count)?,
+            Err(never) => match never {},
+        }
+    }
+    Ok(counts)
 }
 
 /// The line that says that the cache refused a call. What waits for ever never gives up.

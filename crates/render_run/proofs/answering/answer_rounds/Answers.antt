@@ -1,8 +1,8 @@
-use Rattle.std.proofs.Common.{◌≡◌, ◌||◌, ◌+◌, ◌-◌, ℕ, length, map, take, drop, refl, ap, ◌∙◌, arith}
+use Rattle.std.proofs.Common.{◌≡◌, ◌+◌, ◌-◌, ℕ, length, map, take, drop, refl, ap, ◌∙◌, arith}
 use Rattle.std.proofs.lemmas.List.{take_all, length-drop, length-take, length-map}
 use Rattle.request_lang.specs.declared.request.Request.{Request}
 use Rattle.render_run.specs.declared.question.Task.{Task}
-use Rattle.render_run.specs.Around.{source_of_crew, sink_state, progress_of, setup_of, sight_of}
+use Rattle.render_run.specs.Around.{source_of_crew, sink_state, progress_of, setup_of, sight_of, terms_of}
 use Rattle.render_run.specs.Question.{task_of}
 use Rattle.render_run.specs.Answering.{AnswersInTurn, in_turn}
 use Rattle.render_run.proofs.Rounds.{none_yet, rounds_more, rounds_part, rounds_kept, rises_from}
@@ -14,13 +14,14 @@ rounds-init g c = record {
   so_far =
       rw c.requires.empty
       (none_yet (setup_of g.F.W.World.files (g.F.Folder.state c.args.folder.now)
-      c.args.cache.now.gate.cut (length c.args.posts.now)) c.args.requests.now
+      (terms_of c.args.cache.now.gate) (length c.args.posts.now)) c.args.requests.now
       (map (λ p. sight_of p.worker.pass (g.F.Tap.Tap.state p.worker.tap)) c.args.posts.now)
       (progress_of (source_of_crew (map (λ p. sight_of p.worker.pass
       (g.F.Tap.Tap.state p.worker.tap)) c.args.posts.now))
       (sink_state g.O.Sink.faults g.O.Sink.holds c.args.out.now))
       (length-map c.args.posts.now _) c.requires.idle refl);
   within = omega arith;
+  few = omega arith;
   pass = c.requires.pass;
   faults = omega arith;
 }
@@ -65,7 +66,7 @@ write_round-requires-clause-there g c =
       c.round_len-count.ensures.within,
     ) in
     turns_there (λ p. sight_of p.worker.pass (g.F.Tap.Tap.state p.worker.tap))
-    (λ p. p.answers.items) g.F.W.World.files c.args.cache.now.gate.cut c.deref.result.now n count
+    (λ p. p.answers.items) g.F.W.World.files (terms_of c.args.cache.now.gate) c.deref.result.now n count
     c.begin.new.posts c.answer_round.new.posts
     (omega (arith, c.begin.auto.posts, c.rounds.auto.posts))
     (omega (arith, c.begin.auto.posts, c.rounds.auto.posts, c.answer_round.auto.posts))
@@ -92,14 +93,14 @@ rounds-preserved g c =
       length-drop done rs,
       c.round_len-count.ensures.within,
     ) in
-    let turns : AnswersInTurn g.F.W.World.files c.args.cache.now.gate.cut n 0 c.deref.result.now
+    let turns : AnswersInTurn g.F.W.World.files (terms_of c.args.cache.now.gate) n 0 c.deref.result.now
     (in_turn (length c.answer_round.new.posts) 0 count
     (map (λ p. p.answers.items) c.answer_round.new.posts))
     (map (λ p. sight_of p.worker.pass (g.F.Tap.Tap.state p.worker.tap)) c.begin.new.posts)
     (map (λ p. sight_of p.worker.pass (g.F.Tap.Tap.state p.worker.tap))
     c.answer_round.new.posts) =
     turns_taken (λ p. sight_of p.worker.pass (g.F.Tap.Tap.state p.worker.tap))
-    (λ p. p.answers.items) g.F.W.World.files c.args.cache.now.gate.cut c.deref.result.now n count
+    (λ p. p.answers.items) g.F.W.World.files (terms_of c.args.cache.now.gate) c.deref.result.now n count
     c.begin.new.posts c.answer_round.new.posts
     (omega (arith, c.begin.auto.posts, c.rounds.auto.posts))
     (omega (arith, c.begin.auto.posts, c.rounds.auto.posts, c.answer_round.auto.posts))
@@ -107,7 +108,7 @@ rounds-preserved g c =
     record {
       so_far =
           rounds_more (setup_of g.F.W.World.files (g.F.Folder.state c.args.folder.now)
-          c.args.cache.now.gate.cut n) rs done count _ _ _
+          (terms_of c.args.cache.now.gate) n) rs done count _ _ _
           (progress_of (source_of_crew (map (λ p. sight_of p.worker.pass
           (g.F.Tap.Tap.state p.worker.tap)) c.args.posts.now))
           (sink_state g.O.Sink.faults g.O.Sink.holds c.args.out.now))
@@ -118,7 +119,7 @@ rounds-preserved g c =
           (g.F.Tap.Tap.state p.worker.tap)) c.answer_round.new.posts))
           (sink_state g.O.Sink.faults g.O.Sink.holds c.write_round.new.out)) c.rounds.page
           c.write_round.new.page c.rounds.refused c.in-Ok.said
-          (c.rounds.refused || c.in-Ok.said)
+          (c.rounds.refused + c.in-Ok.said)
           (in_turn (length c.answer_round.new.posts) 0 count
           (map (λ p. p.answers.items) c.answer_round.new.posts)) c.requires.crew.0
           c.in_default.ensures.ok c.rounds.invariant.so_far
@@ -127,6 +128,7 @@ rounds-preserved g c =
           (rw tasks at turns)
           c.in-Ok.ensures.ok c.in-Ok.ensures.refusal refl;
       within = omega (arith, c.round_len-count.ensures.within);
+      few = omega (arith, c.rounds.invariant.few, c.in-Ok.ensures.few);
       pass = c.answer_round.ensures.pass;
       faults = omega (arith, c.rounds.invariant.faults, c.write_round.ensures.faults);
     }
@@ -152,20 +154,20 @@ returns-in-Err-write_round-clause-err g c =
       length-drop done rs,
       c.round_len-count.ensures.within,
     ) in
-    let turns : AnswersInTurn g.F.W.World.files c.args.cache.now.gate.cut n 0 c.deref.result.now
+    let turns : AnswersInTurn g.F.W.World.files (terms_of c.args.cache.now.gate) n 0 c.deref.result.now
     (in_turn (length c.answer_round.new.posts) 0 count
     (map (λ p. p.answers.items) c.answer_round.new.posts))
     (map (λ p. sight_of p.worker.pass (g.F.Tap.Tap.state p.worker.tap)) c.begin.new.posts)
     (map (λ p. sight_of p.worker.pass (g.F.Tap.Tap.state p.worker.tap))
     c.answer_round.new.posts) =
     turns_taken (λ p. sight_of p.worker.pass (g.F.Tap.Tap.state p.worker.tap))
-    (λ p. p.answers.items) g.F.W.World.files c.args.cache.now.gate.cut c.deref.result.now n count
+    (λ p. p.answers.items) g.F.W.World.files (terms_of c.args.cache.now.gate) c.deref.result.now n count
     c.begin.new.posts c.answer_round.new.posts
     (omega (arith, c.begin.auto.posts, c.rounds.auto.posts))
     (omega (arith, c.begin.auto.posts, c.rounds.auto.posts, c.answer_round.auto.posts))
     c.requires.crew.0 long c.answer_round.ensures.shares in
     rounds_part (setup_of g.F.W.World.files (g.F.Folder.state c.args.folder.now)
-    c.args.cache.now.gate.cut n) rs done count _ _ _
+    (terms_of c.args.cache.now.gate) n) rs done count _ _ _
     (progress_of (source_of_crew (map (λ p. sight_of p.worker.pass
     (g.F.Tap.Tap.state p.worker.tap)) c.args.posts.now))
     (sink_state g.O.Sink.faults g.O.Sink.holds c.args.out.now))

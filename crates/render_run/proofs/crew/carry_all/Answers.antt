@@ -12,7 +12,8 @@ returns-clause-kept g c =
     c.gather.new.first.view.seen (rw c.in-Some.ensures.cases.0 refl)
     c.gather.ensures.same c.gather.ensures.kept.seen
     c.spread.ensures.seen
-    (ap length (c.spread.ensures.holds ∙ c.gather.ensures.kept.holds)) refl
+    (ap length (c.spread.ensures.holds ∙ c.gather.ensures.kept.holds))
+    (c.spread.ensures.tally ∙ c.gather.ensures.kept.tally) refl
     c.spread.ensures.kept
 
 pub returns-clause-pass : goal.returns-clause-pass
@@ -27,5 +28,6 @@ returns-clause-ok g c =
     c.gather.new.first.view.seen (rw c.in-Some.ensures.cases.0 refl)
     c.gather.ensures.same c.gather.ensures.kept.seen
     c.spread.ensures.seen
-    (ap length (c.spread.ensures.holds ∙ c.gather.ensures.kept.holds)) refl
+    (ap length (c.spread.ensures.holds ∙ c.gather.ensures.kept.holds))
+    (c.spread.ensures.tally ∙ c.gather.ensures.kept.tally) refl
     c.spread.ensures.kept c.spread.result c.in_ok-gather.ensures.ok c.spread.ensures.ok

@@ -16,6 +16,7 @@ loop-post-preserved g c = record {
       c.carry_from.ensures.kept.seen n,
     );
     holds = c.carry_from.ensures.kept.holds ∙ c.loop-post.invariant.kept.holds;
+    tally = c.carry_from.ensures.kept.tally ∙ c.loop-post.invariant.kept.tally;
   };
   pass = c.carry_from.ensures.pass;
   same = same_more _ _ _ c.loop-post.post-index _ c.post-item.result c.loop-post.invariant.same

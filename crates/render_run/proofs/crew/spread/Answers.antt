@@ -11,6 +11,7 @@ pub loop-post-init : goal.loop-post-init
 loop-post-init g c = record {
   seen = refl;
   holds = refl;
+  tally = refl;
   pass = c.requires.first;
   kept = see_same _;
   passes = c.requires.others;
@@ -21,6 +22,7 @@ pub loop-post-preserved : goal.loop-post-preserved
 loop-post-preserved g c = record {
   seen = c.carry_to.ensures.seen ∙ c.loop-post.invariant.seen;
   holds = c.carry_to.ensures.holds ∙ c.loop-post.invariant.holds;
+  tally = c.carry_to.ensures.tally ∙ c.loop-post.invariant.tally;
   pass = c.carry_to.ensures.pass;
   kept = see_more_at _ _ c.loop-post.others c.loop-post.post-index _ c.post-item.result
       (omega (arith, c.loop-post.auto.others, c.loop-post-test.true)) c.carry_to.ensures.kept

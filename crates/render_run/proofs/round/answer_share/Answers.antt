@@ -5,7 +5,7 @@ use Rattle.render_run.specs.declared.question.Task.{Task}
 use Rattle.render_run.specs.declared.question.Task.TheVariants as task
 use Rattle.render_run.specs.declared.question.Question.TheVariants.{Facts}
 use Rattle.std.proofs.Math.Nat.{mul-le-mul_left}
-use Rattle.render_run.specs.Around.{sight_of}
+use Rattle.render_run.specs.Around.{sight_of, terms_of}
 use Rattle.render_run.proofs.Shares.{suc_mul, share_drop, share_next, share_end}
 use Rattle.render_run.proofs.round.answer_share.Goals as goal
 
@@ -37,13 +37,14 @@ share-preserved g c =
       so_far = λ rest end each.
           rw (items, append_assoc c.share.post.answers.items (answer ∷ []) rest)
           (c.share.invariant.so_far (answer ∷ rest) end
-          (share_next g.T.W.World.files c.args.cache.now.gate.cut n k tasks here
+          (share_next g.T.W.World.files (terms_of c.args.cache.now.gate) n k tasks here
           answer rest (sight_of c.share.post.worker.pass (g.T.Tap.state c.share.post.worker.tap))
           (sight_of c.answer_of-answer.new.worker.pass
           (g.T.Tap.state c.answer_of-answer.new.worker.tap)) end (omega arith) c.share-test.true
           (get_or_default tasks k here none c.share-test.true) (record {
             meets = c.answer_of-answer.ensures.meets;
             after = c.answer_of-answer.ensures.after;
+            tallies = c.answer_of-answer.ensures.tallies;
           }) each));
       place = rw (long, more) (omega (arith, c.share.invariant.place));
       room = omega (
@@ -57,5 +58,5 @@ share-preserved g c =
 pub returns-clause-each : goal.returns-clause-each
 returns-clause-each g c =
     rw append-nil at (c.share.invariant.so_far [] _
-    (share_end g.T.W.World.files c.args.cache.now.gate.cut c.args.turn.workers c.share.k
+    (share_end g.T.W.World.files (terms_of c.args.cache.now.gate) c.args.turn.workers c.share.k
     c.args.tasks.now _ c.share-test.false))

@@ -1,5 +1,7 @@
 use Rattle.std.proofs.Common.{◌≡◌, ℕ, ◌+◌, ◌-◌, ◌%◌, ◌/◌, ◌<◌, ◌++◌, ◌∷◌, [], List, length, map, refl, sym, ap, subst, ◌∙◌, arith}
-use Rattle.std.proofs.Common.{get_or}
+use Rattle.std.proofs.Common.{get_or, ◌≤◌, Bool, true, false}
+use Rattle.std.specs.Int.{from_bool}
+use Rattle.render_run.specs.Held.{one_if}
 use Rattle.std.proofs.lemmas.List.{get_or-map}
 use Rattle.std.proofs.Math.Nat.{mod-lt}
 use Rattle.std.proofs.lemmas.List.Concat.{flat_map-append}
@@ -7,9 +9,18 @@ use Rattle.request_lang.specs.declared.answer.Answer.{Answer}
 use Rattle.request_lang.specs.Line.{line_of}
 use Rattle.render_run.specs.Answering.{answers_text, in_turn}
 use Rattle.render_run.proofs.Passing.{passes_more, passes_part, passes_longer}
-use Rattle.render_run.proofs.Rounds.{text_more, any_more}
+use Rattle.render_run.proofs.Rounds.{text_more, count_more}
 use Rattle.render_run.proofs.Shares.{in_turn_append, in_turn_push, answer_in, answer_is}
 use Rattle.render_run.proofs.round.write_round.Goals as goal
+
+-- a test counts once at most
+one_of_byte : (b : Bool) (n : ℕ) → n ≡ from_bool b → n ≡ one_if b
+one_of_byte true n is = is
+one_of_byte false n is = is
+
+one_low : (b : Bool) → one_if b ≤ 1
+one_low true = omega arith
+one_low false = omega arith
 
 pub loop-i-preserved : goal.loop-i-preserved
 loop-i-preserved g c =
@@ -28,14 +39,22 @@ loop-i-preserved g c =
     c.index-posts-i.result _ low deep in
     let next : in_turn n 0 (i + 1) lists ≡ front ++ a ∷ [] =
     in_turn_push n i lists ∙ ap (λ (x : Answer). front ++ x ∷ []) (sym here) in
+    let one : c.from-refused.result ≡ one_if c.is_refusal.result =
+    one_of_byte c.is_refusal.result c.from-refused.result c.from-refused.ensures in
     record {
       passed =
           rw (next, text_more front a)
           (passes_more (answers_text front) (line_of a) _ _ _ c.loop-i.invariant.passed
-          c.in-Ok.ensures.ok);
+          c.in_default.ensures.ok);
       refusal =
-          rw (next, any_more front a)
-          (rw (← c.loop-i.invariant.refusal, ← c.is_refusal-refused.ensures) refl);
+          rw (next, count_more front a)
+          (rw (← c.loop-i.invariant.refusal, ← c.is_refusal.ensures, one) refl);
+      few = omega (
+        arith,
+        c.loop-i.invariant.few,
+        one,
+        one_low c.is_refusal.result,
+      );
       faults = omega (arith, c.loop-i.invariant.faults, c.pass.ensures.faults);
     }
 

@@ -1,5 +1,5 @@
 use Rattle.std.proofs.Common.{◌≡◌, ◌≤◌, length, map}
-use Rattle.std.specs.List.{list_any}
+use Rattle.std.specs.List.{count_by}
 use Rattle.request_lang.specs.Basis.{is_refusal}
 use Rattle.render_run.specs.Around.{sink_state}
 use Rattle.render_run.specs.Answering.{answers_text, in_turn}
@@ -13,7 +13,8 @@ invariant-loop-i g l = record {
       (map (λ p. p.answers.items) l.posts)))
       (outgoing_of l.initial.page (sink_state g.O.Sink.faults g.O.Sink.holds l.initial.out))
       (outgoing_of l.page (sink_state g.O.Sink.faults g.O.Sink.holds l.out));
-  refusal : l.refused ≡ list_any is_refusal (in_turn (length l.posts) 0 l.i
+  refusal : l.refused ≡ count_by is_refusal (in_turn (length l.posts) 0 l.i
       (map (λ p. p.answers.items) l.posts));
+  few : l.refused ≤ l.i;
   faults : g.O.Sink.faults l.initial.out ≤ g.O.Sink.faults l.out;
 }

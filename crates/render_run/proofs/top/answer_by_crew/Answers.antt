@@ -1,5 +1,6 @@
 use Rattle.std.proofs.Common.{◌∙◌, ℕ, length, map, ap, sym, subst, arith}
 use Rattle.render_run.specs.Around.{sink_state, progress_of, source_of_crew, sight_of, no_sight}
+use Rattle.render_run.specs.Around.{terms_of}
 use Rattle.render_run.specs.Crew.{MakesMore}
 use Rattle.render_run.proofs.Manned.{crew_idle, crew_none, written_back}
 use Rattle.render_run.proofs.Folders.{crew_finishes, crew_leaves}
@@ -16,7 +17,7 @@ returns-clause-ok g c =
     let back = written_back c.man.new.posts.len c.answer_list.new.posts c.man.new.posts.items
     (omega (arith, c.deref_mut.ensures.len, c.answer_list.auto.posts)) in
     rw back
-    (crew_finishes g.F.W.World.files (g.F.Folder.state c.man.new.folder) c.args.cache.now.gate.cut
+    (crew_finishes g.F.W.World.files (g.F.Folder.state c.man.new.folder) (terms_of c.args.cache.now.gate)
     (length c.deref_mut.result.now) c.args.asked.now.options.workers
     c.args.asked.now.requests.items
     (source_of_crew (map (λ p. sight_of p.worker.pass (g.F.Tap.Tap.state p.worker.tap))
@@ -36,7 +37,7 @@ returns-clause-err g c =
     let back = written_back c.man.new.posts.len c.answer_list.new.posts c.man.new.posts.items
     (omega (arith, c.deref_mut.ensures.len, c.answer_list.auto.posts)) in
     rw back
-    (crew_leaves g.F.W.World.files (g.F.Folder.state c.man.new.folder) c.args.cache.now.gate.cut
+    (crew_leaves g.F.W.World.files (g.F.Folder.state c.man.new.folder) (terms_of c.args.cache.now.gate)
     (length c.deref_mut.result.now) c.args.asked.now.options.workers
     c.args.asked.now.requests.items
     (source_of_crew (map (λ p. sight_of p.worker.pass (g.F.Tap.Tap.state p.worker.tap))

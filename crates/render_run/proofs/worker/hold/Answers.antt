@@ -1,10 +1,12 @@
-use Rattle.std.proofs.Common.{◌≡◌, ◌∙◌, nat_eq, false, length, ap, rules}
+use Rattle.std.proofs.Common.{◌≡◌, refl, ◌∙◌, nat_eq, false, length, ap, rules}
 use Rattle.std.proofs.lemmas.Bool.{eq-eqb}
 use Rattle.image_cache.specs.Pass.{PassState}
 use Rattle.image_cache.specs.declared.error.CacheError.TheVariants.{HoldsFull}
 use Rattle.image_cache.specs.Cause.{around}
 use Rattle.render_run.specs.Refusal.{refusal_of}
+use Rattle.render_run.specs.Around.{tally_of}
 use Rattle.render_run.proofs.TileLemmas.{tile_rests, tile_reply}
+use Rattle.render_run.proofs.NeedLemmas.{keeps_tally, refusal_keeps}
 use Rattle.render_run.proofs.worker.hold.Goals as goal
 
 -- fewer tiles are held
@@ -40,3 +42,17 @@ returns-in-Err-clause-meets g c = record {
       (g.T.Tap.state c.get_tile.new.tap)) c.args.at (not_four c.args.worker.now.pass one)
       c.in-Err.e c.in-Err.ensures.cause);
 }
+
+pub returns-in-Ok-clause-tallies : goal.returns-in-Ok-clause-tallies
+returns-in-Ok-clause-tallies g c =
+    keeps_tally g.T.W.World.files c.args.cache.now.gate.cut _ (tally_of c.args.worker.now.pass)
+    (tally_of c.get_tile.new.pass) _ refl c.get_tile.ensures.same.1.recent
+    c.get_tile.ensures.same.1.counts.needs c.get_tile.ensures.same.1.counts.hits refl
+
+pub returns-in-Err-clause-tallies : goal.returns-in-Err-clause-tallies
+returns-in-Err-clause-tallies g c =
+    rw c.refusal.ensures
+    (keeps_tally g.T.W.World.files c.args.cache.now.gate.cut _ (tally_of c.args.worker.now.pass)
+    (tally_of c.get_tile.new.pass) (refusal_of c.in-Err.e) refl c.get_tile.ensures.same.1.recent
+    c.get_tile.ensures.same.1.counts.needs c.get_tile.ensures.same.1.counts.hits
+    (refusal_keeps c.in-Err.e))

@@ -1,10 +1,19 @@
-use Rattle.std.proofs.Common.{◌≡◌, ◌*◌, ◌<◌, ◌≤◌, ap, ◌∙◌, rules, arith}
+use Rattle.std.proofs.Common.{◌≡◌, ℕ, ◌*◌, ◌<◌, ◌≤◌, inl, inr, ap, ◌∙◌, rules, arith}
+use Rattle.std.proofs.lemmas.Bool.{cases_lt}
 use Rattle.texel_values.specs.Region.{max_texels}
 use Rattle.image_cache.specs.declared.error.CacheError.TheVariants.{RegionTooLarge}
 use Rattle.image_cache.specs.Cause.{around}
 use Rattle.render_run.specs.Refusal.{refusal_of}
 use Rattle.render_run.proofs.RegionLemmas.{region_rests, region_reply}
+use Rattle.render_run.proofs.NeedLemmas.{region_tally, region_fails}
 use Rattle.render_run.proofs.worker.values.Goals as goal
+
+-- what is not more than so many
+not_large : (n : ℕ) → (max_texels < n → ⊥) → n ≤ max_texels
+not_large n none = elim (cases_lt max_texels n) [
+  | inl many ↦ absurd (none many)
+  | inr few ↦ few
+]
 
 pub returns-in-Ok-clause-meets : goal.returns-in-Ok-clause-meets
 returns-in-Ok-clause-meets g c = record {
@@ -37,3 +46,19 @@ returns-in-Err-clause-meets g c = record {
       (g.T.Tap.state c.get_pixels.new.tap)) c.args.region.now fits c.in-Err.e
       c.in-Err.ensures.cause);
 }
+
+pub returns-in-Ok-clause-tallies : goal.returns-in-Ok-clause-tallies
+returns-in-Ok-clause-tallies g c =
+    let fits : c.args.region.now.w * c.args.region.now.h ≤ max_texels =
+    not_large (c.args.region.now.w * c.args.region.now.h) (λ many.
+    let none = c.in-Ok.ensures.too_large many in absurd (cc (none, c.in-Ok.is))) in
+    region_tally g.T.W.World.files c.args.cache.now.gate.cut c.args.file c.in-Ok.pixels.generation
+    c.args.worker.now.pass c.get_pixels.new.pass c.args.region.now c.in-Ok.pixels.channels _ fits
+    c.in-Ok.ensures.ok
+
+pub returns-in-Err-clause-tallies : goal.returns-in-Err-clause-tallies
+returns-in-Err-clause-tallies g c =
+    rw c.refusal.ensures
+    (region_fails g.T.W.World.files c.args.cache.now.gate.cut c.args.file
+    c.args.worker.now.pass c.get_pixels.new.pass c.args.region.now c.in-Err.e
+    c.in-Err.ensures.unread c.get_pixels.ensures.same.0.counts)

@@ -1,0 +1,76 @@
+-- Which cells did an answer need, by their keys, in the order in which they are counted?
+-- (docs/REQUESTS.md, "The closing lines")
+use Rattle.std.specs.Prelude.{◌≡◌, ℕ, Bool, true, false, List, [], map, Some}
+use Rattle.std.specs.List.{range_with_len}
+use Rattle.std.specs.Option.{ForSome}
+use Rattle.tex_world.specs.World.{Files}
+use Rattle.tiff_format.specs.declared.cut.Cut.{Cut}
+use Rattle.tile_layout.specs.Kept.{kept_of}
+use Rattle.tile_layout.specs.Key.{key_of}
+use Rattle.tile_layout.specs.Cell.{CutLevel, cut_level_of}
+use Rattle.texel_filter.specs.declared.request.TexRequest.{TexRequest}
+use Rattle.texel_filter.specs.Visits.{lookup_visits}
+use Rattle.texel_values.specs.declared.overlap.Overlap.{Overlap}
+use Rattle.texel_values.specs.declared.region.Region.{Region}
+use Rattle.texel_values.specs.Overlap.{IsOverlap}
+use Rattle.texel_values.specs.Met.{cell_met, count_met}
+use Rattle.image_cache.specs.Texel.{cell_of}
+use Rattle.texture_sys.specs.Look.{sizes_in}
+use Rattle.texture_sys.specs.Needs.{at_of}
+use Rattle.request_lang.specs.declared.answer.Answer.{Answer}
+use Rattle.request_lang.specs.declared.answer.Answer.TheVariants.{Tex, Pixels}
+use Rattle.request_lang.specs.declared.answer.Answer.TheVariants.{Invalidated, Renewed}
+use Rattle.request_lang.specs.declared.answer.Answer.TheVariants.{InvalidatedAll}
+use Rattle.request_lang.specs.Basis.{Basis, OnNewer, OnFault, OnMemory}
+use Rattle.render_run.specs.declared.question.Question.TheVariants.{Values, Look}
+use Rattle.render_run.specs.declared.question.Task.{Task}
+use Rattle.render_run.specs.declared.question.Task.TheVariants.{Ask}
+
+-- ---- on the bytes of a generation of a file
+
+-- of a lookup: the cell of each texel that it visits
+abbrev pub look_keys : Cut → List ℕ → ℕ → ℕ → TexRequest → List ℕ
+look_keys cut bytes generation file r =
+    map (λ texel. (cell_of generation file cut (kept_of bytes) (at_of texel)).key)
+    (lookup_visits (sizes_in (kept_of bytes) cut) r)
+
+-- the cells of a level that its places in these columns and rows meet, row by row
+abbrev pub met_keys : ℕ → ℕ → ℕ → CutLevel → Overlap → Overlap → List ℕ
+met_keys generation file level_is level columns rows =
+    map (λ k. key_of generation file level_is (cell_met level columns rows k))
+    (range_with_len 0 (count_met level columns rows))
+
+-- of a region: each cell that it meets on its level
+pub record AreRegionKeys (cut : Cut) (bytes : List ℕ) (generation file : ℕ) (r : Region)
+    (keys : List ℕ) : Type 0 where
+  pub columns : Overlap
+  pub rows : Overlap
+  pub across : IsOverlap r.x r.w (cut_level_of bytes cut r.level).width columns
+  pub down : IsOverlap r.y r.h (cut_level_of bytes cut r.level).height rows
+  pub are : keys ≡ met_keys generation file r.level (cut_level_of bytes cut r.level) columns rows
+
+-- ---- of an answer
+
+-- What an answer needed: a lookup and a region their cells, where the world tells the bytes of the
+-- generation that is answered, and all else none.
+abbrev pub AreNeeded : Files → Cut → Task → Answer → List ℕ → Type 0
+AreNeeded files cut (Ask (Some n) (Look r)) (Tex generation values) keys =
+    ForSome (files.held n generation) (λ bytes. keys ≡ look_keys cut bytes generation n r)
+AreNeeded files cut (Ask (Some n) (Values r)) (Pixels generation channels values) keys =
+    ForSome (files.held n generation) (λ bytes. AreRegionKeys cut bytes generation n r keys)
+AreNeeded files cut task line keys = keys ≡ []
+
+-- The answer is that a file was made invalid, or each: it empties the worker's microcache.
+abbrev pub empties : Answer → Bool
+empties (Invalidated generation) = true
+empties (Renewed generation) = true
+empties InvalidatedAll = true
+empties _ = false
+
+-- An answer that rests on this has cause in the words, the names or the bytes: the source did not
+-- fail, no newer generation was met, and memory was found.
+abbrev pub is_calm : Basis → Bool
+is_calm (OnNewer from to) = false
+is_calm OnFault = false
+is_calm OnMemory = false
+is_calm _ = true
