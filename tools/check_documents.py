@@ -20,7 +20,7 @@ from check_definitions import CARRIED, CRATES, TOP, call_of, public_clauses
 MAX_COLUMNS = 120
 README_COLUMNS = 100
 README_LINES = 150
-SOURCES = (".rt", ".antt", ".py", ".sh")
+SOURCES = (".rt", ".antt", ".py", ".sh", ".c", ".cpp")
 
 LINK = re.compile(r"\]\(([^)\s]+)\)")
 # `docs/FORMAT.md`, "Levels" and "Faults"
@@ -36,7 +36,7 @@ def documents():
 
 
 def sources():
-    for place in ("crates", "tools", "demo", "docs"):
+    for place in ("crates", "tools", "demo", "docs", "bench"):
         for file in sorted((TOP / place).rglob("*")):
             if file.suffix in SOURCES:
                 yield file

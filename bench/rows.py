@@ -1,0 +1,180 @@
+"""The rows of the benchmark: what each asks for, and of which files.
+
+A row has two lists. What it costs is the difference of the two, divided by the difference of what they
+ask for: so neither start-up nor the first reading of what the short list reads as well is in it.
+"""
+
+import random
+from typing import NamedTuple
+
+ONE = 65536
+SIDE, TILE = 1024, 64
+LARGE = {"strip.tif": 8192, "gen.tif": 4096}
+MANY = [f"f{number:02}.tif" for number in range(64)]
+MANY_SIDE, MANY_TILE = 2304, 64
+SMALL = [f"s{number:04}.tif" for number in range(4000)]
+SMALL_SIDE = 64
+
+WRAPS = ("black", "clamp", "periodic", "mirror")
+FILTERS = ("closest", "bilinear", "trilinear")
+
+
+def at(texel, side, shift=18):
+    """The coordinate of a place in a texel, `shift` of 64 parts behind its middle."""
+    return ((2 * texel + 1) * 64 + 2 * shift) * ONE // (128 * side)
+
+
+def tex(s, t, lod, wraps, kind, channels, name):
+    return f"tex {s} {t} {lod} {wraps[0]} {wraps[1]} {kind} {channels} {name}"
+
+
+def scan(kind, lod, passes, rows=48, wide=SIDE):
+    """Each texel of some rows of the tiled picture, from left to right, so many times over."""
+    one = [tex(at(x, SIDE), at(5 + y * (SIDE // rows), SIDE), lod, ("clamp", "clamp"), kind, 3, "t.tif")
+           for y in range(rows) for x in range(wide)]
+    return one * passes
+
+
+def quarters(passes, many=49152):
+    """The four quarters of the tiled picture in turn, texel by texel in each."""
+    half = SIDE // 2
+    one = []
+    for i in range(many):
+        y, x = divmod(i // 4, half)
+        x, y = x + half * (i % 2), 21 * y % half + half * (i // 2 % 2)
+        one.append(tex(at(x, SIDE, 0), at(y, SIDE, 0), 0, ("clamp", "clamp"), "bilinear", 3, "t.tif"))
+    return one * passes
+
+
+def anywhere(passes, many=49152):
+    """Random places in and about the tiled picture, levels, wraps, filters and channels."""
+    dice = random.Random(2)
+    one = [tex(dice.randrange(-2 * ONE, 3 * ONE), dice.randrange(-2 * ONE, 3 * ONE), dice.randrange(4 * ONE),
+               dice.choices(WRAPS, k=2), dice.choice(FILTERS), dice.randint(1, 3), "t.tif")
+           for _ in range(many)]
+    return one * passes
+
+
+def cold(files):
+    """One lookup in each tile of so many files, tile by tile."""
+    middles = range(MANY_TILE // 2, MANY_SIDE, MANY_TILE)
+    return [tex(at(x, MANY_SIDE, 0), at(y, MANY_SIDE, 0), 0, ("clamp", "clamp"), "closest", 3, name)
+            for name in MANY[:files] for y in middles for x in middles]
+
+
+def far_over_budget(many):
+    """Random places in 64 files, which are sixteen times the budget."""
+    dice = random.Random(3)
+    return [tex(dice.randrange(ONE), dice.randrange(ONE), 0, ("periodic", "periodic"), "bilinear", 3,
+                dice.choice(MANY)) for _ in range(many)]
+
+
+def regions(passes):
+    """Regions of 256 by 256 of the tiled picture, side by side."""
+    one = [f"pixels 0 {x} {y} 256 256 t.tif" for y in range(0, SIDE, 256) for x in range(0, SIDE, 256)]
+    return one * passes
+
+
+def stripped_scan(rows):
+    """Every 16th texel of every 32nd row of the first rows, in a picture of strips: two rows of a cell."""
+    side = LARGE["strip.tif"]
+    return [tex(at(x, side, 0), at(y, side, 0), 0, ("clamp", "clamp"), "bilinear", 3, "strip.tif")
+            for y in range(16, rows, 32) for x in range(8, side, 16)]
+
+
+def stripped_anywhere(many):
+    dice = random.Random(4)
+    return [tex(dice.randrange(ONE), dice.randrange(ONE), 0, ("periodic", "periodic"), "bilinear", 3,
+                "strip.tif") for _ in range(many)]
+
+
+def generated(is_all):
+    """The size of a picture with one stored level; then a lookup in each cell of its generated levels."""
+    found, side = ["info gen.tif"], LARGE["gen.tif"]
+    for level in range(1, 13 if is_all else 1):
+        long = side >> level
+        middles = range(min(TILE, long) // 2, long, TILE)
+        found += [tex(at(x, long, 0), at(y, long, 0), level * ONE, ("clamp", "clamp"), "closest", 3, "gen.tif")
+                  for y in middles for x in middles]
+    return found
+
+
+class Row(NamedTuple):
+    """What a row asks for. A unit is what its figure is of, and `units` how many more of them the long
+    list has than the short one; where there is no short list, all that the program takes is the figure.
+    """
+
+    name: str
+    title: str
+    unit: str
+    folder: str
+    short: list
+    long: list
+    units: int
+    options: tuple = ()
+    workers: tuple = (1, 4)
+    # the lists of the count of instructions, where they are counted, and their difference
+    few: list = None
+    more: list = None
+    more_units: int = 0
+
+    def lists(self):
+        found = [("short", self.short), ("long", self.long), ("few", self.few), ("more", self.more)]
+        return [(kind, lines) for kind, lines in found if lines is not None]
+
+
+def repeated(name, title, unit, make, **others):
+    """A row whose list is one pass, and so many passes."""
+    short, long, few, more = make(1, False), make(6, False), make(1, True), make(12, True)
+    return Row(name, title, unit, "main", short, long, len(long) - len(short),
+               few=few, more=more, more_units=len(more) - len(few), **others)
+
+
+def scan_row(kind, lod):
+    def make(passes, is_small):
+        return scan(kind, lod, passes, 4, 512) if is_small else scan(kind, lod, passes)
+    return repeated(kind, f"warm, in scan order: {kind}", "lookup", make)
+
+
+def grown(name, title, unit, folder, short, long, **others):
+    return Row(name, title, unit, folder, short, long, len(long) - len(short), **others)
+
+
+BUDGET = ("--budget", str(64 * 2 ** 20))
+STRIPS = ("--autotile", "64")
+
+
+def all_rows():
+    yield scan_row("closest", 0)
+    yield scan_row("bilinear", 0)
+    yield scan_row("trilinear", ONE // 2)
+    yield repeated("quarters", "four quarters in turn: bilinear", "lookup",
+                   lambda passes, is_small: quarters(passes, 2048 if is_small else 49152))
+    yield repeated("random", "at random: all wraps, filters, levels", "lookup",
+                   lambda passes, is_small: anywhere(passes, 2048 if is_small else 40960))
+    few = {"few": cold(1)[:200], "more": cold(1)[:1000], "more_units": 800}
+    yield grown("cold", "cold: one lookup in each tile", "tile", "many", cold(1), cold(12), **few)
+    yield grown("budget", "64 files of 1 GB, budget 64 MB, at random", "lookup", "many",
+                far_over_budget(8000), far_over_budget(24000), options=BUDGET,
+                few=far_over_budget(400), more=far_over_budget(1200), more_units=800)
+    yield grown("regions", "regions of 256 by 256", "region", "main", regions(1), regions(8))
+    info = [f"info {name}" for name in SMALL]
+    middle = at(SMALL_SIDE // 2, SMALL_SIDE, 0)
+    look = [tex(middle, middle, 0, ("clamp", "clamp"), "closest", 3, name) for name in SMALL]
+    yield grown("info", "opening 4,000 files: the size", "file", "small", info[:1000], info,
+                few=info[:200], more=info[:1000], more_units=800)
+    yield grown("open", "opening 4,000 files: one lookup", "file", "small", look[:1000], look,
+                few=look[:200], more=look[:1000], more_units=800)
+    yield grown("strips", "stripped 8192 by 8192, in scan order", "lookup", "main",
+                stripped_scan(1024), stripped_scan(8192), options=STRIPS)
+    yield grown("strips_random", "stripped 8192 by 8192, at random", "lookup", "main",
+                stripped_anywhere(100), stripped_anywhere(6000), options=STRIPS)
+    yield grown("strips_budget", "the same, budget 64 MB", "lookup", "main",
+                stripped_anywhere(100), stripped_anywhere(1100), options=(*STRIPS, *BUDGET))
+    yield Row("generated", "generated levels of 4096 by 4096, all", "picture", "main",
+              generated(False), generated(True), 1)
+    yield Row("start", "start-up, an empty folder and list", "start", "none", None, [], 1, workers=(1,))
+    yield Row("start_many", "start-up, a folder of 4,000 files", "start", "small", None, [], 1, workers=(1,))
+
+
+ROWS = {row.name: row for row in all_rows()}
