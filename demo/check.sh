@@ -16,4 +16,4 @@ compare() {
 
 compare requests.txt expected.txt 1
 compare bad_requests.txt bad_expected.txt 3
-echo "demo: each of the $(wc -l < "$here/expected.txt") requests has the answer of expected.txt"
+echo "demo: each of the $(wc -l < "$here/expected.txt") lines is that of expected.txt"

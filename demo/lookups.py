@@ -40,6 +40,31 @@ class Lookup:
                 + self.texel(level, i, j + 1, channel) * (ONE - f) * g
                 + self.texel(level, i + 1, j + 1, channel) * f * g)
 
+    def square(self, level):
+        """The texels of the four about a place, the upper row first, that no black wrap leaves out."""
+        page = self.levels[level]
+        i = (self.s * page.width - ONE // 2) // ONE
+        j = (self.t * page.height - ONE // 2) // ONE
+        for row in (j, j + 1):
+            for column in (i, i + 1):
+                x, y = wrapped(self.swrap, column, page.width), wrapped(self.twrap, row, page.height)
+                if x is not None and y is not None:
+                    yield level, x, y
+
+    def visits(self):
+        """The texels that it visits, one after another, each with its level."""
+        last = len(self.levels) - 1
+        nearest = min((self.lod + ONE // 2) // ONE, last)
+        if self.kind == "trilinear":
+            level, q = divmod(min(self.lod, ONE * last), ONE)
+            return [*self.square(level), *(self.square(level + 1) if q else ())]
+        if self.kind == "bilinear":
+            return list(self.square(nearest))
+        page = self.levels[nearest]
+        x = wrapped(self.swrap, self.s * page.width // ONE, page.width)
+        y = wrapped(self.twrap, self.t * page.height // ONE, page.height)
+        return [] if x is None or y is None else [(nearest, x, y)]
+
     def one_level(self, channel):
         """Closest and bilinear: the nearest level, a half rounded up."""
         level = min((self.lod + ONE // 2) // ONE, len(self.levels) - 1)

@@ -4,6 +4,7 @@ the program: `python3 make_expected.py > expected.txt` in this folder."""
 from functools import cache
 from pathlib import Path
 
+from counts import cell, closing, region_cells
 from lookups import Lookup
 from make_pictures import BLACK_IS_ZERO, CUT, PICTURES, WHITE_IS_ZERO
 
@@ -84,6 +85,29 @@ def on_pages(word, numbers, pages):
     return ["pixels", GENERATION, *region(levels[level], x, y, w, h)]
 
 
+def keys_on(word, numbers, pages, name):
+    """The cells that an answer on the pages of a picture needed, in their order."""
+    levels = with_generated(pages)
+    if word == "tex":
+        s, t, lod = map(int, numbers[:3])
+        visits = Lookup(levels, value, s, t, lod, *numbers[3:6]).visits()
+        return [(name, level, *cell(levels[level], x, y)) for level, x, y in visits]
+    if word == "pixels":
+        level, x, y, w, h = map(int, numbers)
+        return [(name, level, *it) for it in region_cells(levels[level], x, y, w, h)]
+    return []
+
+
+def keys(request, line, pages_of):
+    """The cells that a request and its line needed: none of a refusal, and none but of `tex` and
+    `pixels`."""
+    if line[0] not in ("tex", "pixels"):
+        return []
+    word, rest = request.split(" ", 1)
+    *numbers, name = rest.split(" ", FIELDS[word])
+    return keys_on(word, numbers, pages_of(name), name)
+
+
 # how many fields stand between the word of a request and its name
 FIELDS = {"tex": 7, "pixels": 5, "info": 0}
 
@@ -111,6 +135,17 @@ def requests(name):
     return [line for line in lines if line and not line.startswith("#")]
 
 
+# what the demo's program runs with
+WORKERS = 4
+
+
+def main():
+    asked = requests("requests.txt")
+    lines = [answer(it) for it in asked]
+    needed = lambda request, line: keys(request, line, lambda name: PICTURES[name][1])  # noqa: E731
+    for line in lines + closing(asked, lines, WORKERS, needed):
+        print(*line)
+
+
 if __name__ == "__main__":
-    for request in requests("requests.txt"):
-        print(*answer(request))
+    main()

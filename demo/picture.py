@@ -56,7 +56,8 @@ def answers(asked):
     command = [str(TOP / "texcache"), asked.folder]
     done = subprocess.run(command, input="".join(requests(asked)), text=True,
                           stdout=subprocess.PIPE, check=False)
-    lines = done.stdout.splitlines()
+    closing = ("worker ", "total ")
+    lines = [line for line in done.stdout.splitlines() if not line.startswith(closing)]
     for line in lines:
         if not line.startswith("tex "):
             sys.exit(f"picture.py: the program answered: {line}")

@@ -56,7 +56,7 @@ ask secret.tif "$secret"
 "$top/texcache" "$folder" < "$folder.list" > "$folder.got" 2> "$folder.error"
 status=$?
 result=0
-diff "$folder.want" "$folder.got" || result=1
+grep -v '^worker \|^total ' "$folder.got" | diff "$folder.want" - || result=1
 [ -s "$folder.error" ] && { cat "$folder.error"; result=1; }
 [ "$status" = 1 ] || { echo "status $status, not 1"; result=1; }
 rm -f "$folder.list" "$folder.want" "$folder.got" "$folder.error"

@@ -15,7 +15,8 @@ from pathlib import Path
 
 TOP = Path(__file__).resolve().parent.parent
 sys.path.insert(0, str(TOP / "demo"))
-from make_expected import FIELDS, GENERATION, on_pages  # noqa: E402
+from counts import closing  # noqa: E402
+from make_expected import FIELDS, GENERATION, keys, on_pages  # noqa: E402
 from make_pictures import BIG, LITTLE, LONG, RGB, SHORT, BLACK_IS_ZERO, WHITE_IS_ZERO  # noqa: E402
 from make_pictures import blocks, entries_of  # noqa: E402
 
@@ -194,6 +195,9 @@ def levels_of(name):
 
 MOST_TEXELS = 2 ** 20
 
+# what the run is made with
+WORKERS = 4
+
 
 def answer(request):
     """What a request is answered: each file is met in its first generation."""
@@ -218,8 +222,11 @@ def requests():
 
 def written():
     """What it writes, by the path in the folder of the crate."""
-    lines = "".join(" ".join(map(str, answer(it))) + "\n" for it in requests())
-    return {f"data/{name}": data for name, data in files().items()} | {"stdout": lines.encode()}
+    asked = requests()
+    lines = [answer(it) for it in asked]
+    lines += closing(asked, lines, WORKERS, lambda request, line: keys(request, line, levels_of))
+    text = "".join(" ".join(map(str, it)) + "\n" for it in lines)
+    return {f"data/{name}": data for name, data in files().items()} | {"stdout": text.encode()}
 
 
 def main():

@@ -159,7 +159,8 @@ fn lines_name_the_generation_that_they_were_read_from(rt: HostRuntime) -> Result
     // the samples 1 and 2; 192 + 40 and 193 + 40; 41 and 42
     text.push_str(
         "pixels 1 1 257 514\nno such file\nagain 1 2\n\
-         pixels 2 1 59624 59881\npixels 2 1 10537 10794\n",
+         pixels 2 1 59624 59881\npixels 2 1 10537 10794\n\
+         worker 0 needs 5 hits 1\ntotal 7 refused 2\n",
     )?;
     assert!(rt; taken.as_slice() == text.as_bytes());
     Ok(())
@@ -180,7 +181,10 @@ fn what_is_read_of_a_removed_file_is_a_fault(rt: HostRuntime) -> Result<(), Fail
     )?;
     assert!(rt; status == 1);
     let mut text = wide_text(alloc)?;
-    text.push_str("pixels 1 1 257 514\nread fault\ninfo 1 3 70 1 8 1 7\n")?;
+    text.push_str(
+        "pixels 1 1 257 514\nread fault\ninfo 1 3 70 1 8 1 7\n\
+         worker 0 needs 3 hits 1\ntotal 5 refused 1\n",
+    )?;
     assert!(rt; taken.as_slice() == text.as_bytes());
     Ok(())
 }
@@ -210,7 +214,7 @@ fn a_round_has_four_large_regions(rt: HostRuntime) -> Result<(), Fail> {
     let beside = format!(in alloc; "pixels 1 1{zeros}\n")?;
     let mut text = format!(in alloc; "{beside}{beside}{beside}pixels 1 1{above}")?;
     push_rows(alloc, &mut text)?;
-    text.push_str("\nagain 1 2\n")?;
+    text.push_str("\nagain 1 2\nworker 0 needs 2 hits 0\ntotal 5 refused 1\n")?;
     assert!(rt; taken.as_slice() == text.as_bytes());
     Ok(())
 }

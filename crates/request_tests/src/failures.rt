@@ -74,7 +74,7 @@ fn puts_lines_together(rt: HostRuntime) -> Result<(), Fail> {
     let zeros = " 0".repeat(alloc, 256 * 128)?;
     let list = "sync\npixels 0 4 4 256 128 A.tif\nsync\n";
     let first = format!(in alloc; "sync\npixels 1 1{zeros}")?;
-    let all = format!(in alloc; "{first}\nsync\n")?;
+    let all = format!(in alloc; "{first}\nsync\nworker 0 needs 0 hits 0\ntotal 3 refused 0\n")?;
     let ran = run_list(&rt, alloc, list, Failing::Sink(1))?;
     ran.is_calmly(&rt, "", 5, "the first put");
     let ran = run_list(&rt, alloc, list, Failing::Sink(2))?;
@@ -91,7 +91,8 @@ static RISES: &[Met] = &[
         "a rise at byte 8",
         Failing::Rise(0, 8),
         LIST,
-        "again 1 2\npixels 2 1 25957 26214 30069 30326\n",
+        "again 1 2\npixels 2 1 25957 26214 30069 30326\n\
+         worker 0 needs 1 hits 0\ntotal 2 refused 1\n",
         1,
         (0, 1),
     ),
@@ -99,7 +100,8 @@ static RISES: &[Met] = &[
         "a rise at byte 123",
         Failing::Rise(0, 123),
         LIST,
-        "again 1 2\npixels 2 1 25957 26214 30069 30326\n",
+        "again 1 2\npixels 2 1 25957 26214 30069 30326\n\
+         worker 0 needs 2 hits 0\ntotal 2 refused 1\n",
         1,
         (0, 1),
     ),
@@ -118,7 +120,8 @@ static TILE_RISE: Met = (
     "a tile that was changed",
     Failing::Rise(1, 12472),
     "pixels 0 63 0 2 1 B.tif\npixels 0 63 0 2 1 B.tif\n",
-    "again 1 2\npixels 2 3 64 20064 40064 65 20065 40065\n",
+    "again 1 2\npixels 2 3 64 20064 40064 65 20065 40065\n\
+     worker 0 needs 4 hits 0\ntotal 2 refused 1\n",
     1,
     (0, 1),
 );
@@ -129,7 +132,7 @@ static BYTES: &[Met] = &[
         "a byte",
         Failing::Byte(122),
         "pixels 0 0 0 1 1 A.tif\npixels 0 0 0 1 1 A.tif\n",
-        "read fault\npixels 1 1 0\n",
+        "read fault\npixels 1 1 0\nworker 0 needs 2 hits 0\ntotal 2 refused 1\n",
         1,
         (1, 0),
     ),
@@ -137,7 +140,7 @@ static BYTES: &[Met] = &[
         "a byte of a lookup",
         Failing::Byte(132),
         "tex 32768 32768 0 clamp clamp bilinear 1 A.tif\ninfo A.tif\n",
-        "read fault\ninfo 1 4 4 1 8 1 3\n",
+        "read fault\ninfo 1 4 4 1 8 1 3\nworker 0 needs 1 hits 0\ntotal 2 refused 1\n",
         1,
         (1, 0),
     ),
@@ -145,7 +148,7 @@ static BYTES: &[Met] = &[
         "a rise at a lookup",
         Failing::Rise(0, 132),
         "tex 32768 32768 0 clamp clamp bilinear 1 A.tif\ninfo A.tif\n",
-        "again 1 2\ninfo 2 4 4 1 8 1 3\n",
+        "again 1 2\ninfo 2 4 4 1 8 1 3\nworker 0 needs 1 hits 0\ntotal 2 refused 1\n",
         1,
         (0, 1),
     ),
@@ -166,8 +169,9 @@ fn two_lines(alloc: Global, first: &str, second: &str) -> Result<String, AllocEr
     format!(in alloc; "{first}\n{second}\n")
 }
 
-/// A request, its line, and how many calls of the tap it takes.
-type Reads = (&'static str, &'static str, u64);
+/// A request, its line, how many calls of the tap it takes, and the needs and the hits of it and of the
+/// same once more.
+type Reads = (&'static str, &'static str, u64, (u64, u64));
 
 /// How many calls, by what they are for: two open the file and read its header; two of each
 /// directory read its count, and its entries with the next offset; one is for each reading of
@@ -179,18 +183,21 @@ static READS: &[Reads] = &[
         "pixels 0 1 0 2 2 A.tif",
         "pixels 1 1 257 514 4369 4626",
         2 + 2 + 1 + 1,
+        (2, 1),
     ),
     (
         // A lookup of four texels of that cell.
         "tex 32768 32768 0 clamp clamp bilinear 1 A.tif",
         "tex 1 6554",
         2 + 2 + 1 + 1,
+        (8, 7),
     ),
     (
         // The last of three rows lies in a strip that stands before that of the others.
         "pixels 0 4 1 2 3 low.tif",
         "pixels 1 1 1407 0 2407 0 3407 0",
         2 + 2 + 1 + 2,
+        (2, 1),
     ),
     (
         // BitsPerSample stands apart, its first value and all three, and TileOffsets. The region
@@ -199,6 +206,7 @@ static READS: &[Reads] = &[
         "pixels 1 3 3063 23063 43063 3064 23064 43064 3163 23163 43163 3164 23164 43164 \
          3263 23263 43263 3264 23264 43264 3363 23363 43363 3364 23364 43364",
         2 + 2 + 3 + 1 + 4,
+        (8, 0),
     ),
     (
         // TileOffsets stands apart. The region lies on four tiles.
@@ -207,6 +215,7 @@ static READS: &[Reads] = &[
          22102 29555 21845 29298 19275 28270 19018 28013 \
          16448 26985 16191 26728 13621 25700 13364 25443",
         2 + 2 + 1 + 1 + 4,
+        (8, 0),
     ),
     (
         // Level 1, behind two directories. The strip of its second row stands before that of its
@@ -214,6 +223,7 @@ static READS: &[Reads] = &[
         "pixels 1 0 0 2 2 two.tif",
         "pixels 1 1 51400 0 25700 0",
         2 + 2 + 2 + 1 + 2,
+        (2, 1),
     ),
 ];
 
@@ -226,7 +236,7 @@ fn call_fails<R: Abort + Threads + Wait + Sync>(
 ) -> Result<(), Fail> {
     let ran = run_list(rt, alloc, list, Failing::Tap(call))?;
     let message = format!(in alloc; "call {call} for {list}")?;
-    ran.is(rt, written, 1, &message);
+    ran.is_but_needs(rt, written, "total 2 refused 1\n", 1, &message);
     ran.counts(rt, 1, 0, &message);
     Ok(())
 }
@@ -238,14 +248,16 @@ fn each_call_fails<R: Abort + Threads + Wait + Sync>(
     alloc: Global,
     reads: &Reads,
 ) -> Result<(), Fail> {
-    let (request, line, calls) = reads;
+    let (request, line, calls, (needs, hits)) = reads;
     let list = two_lines(alloc, request, request)?;
     let first = two_lines(alloc, FAULT, line)?;
     for call in 1..=*calls {
         call_fails(rt, alloc, &list, call, &first)?;
     }
     let ran = run_list(rt, alloc, &list, Failing::Tap(calls.saturating_add(1)))?;
-    ran.is_calmly(rt, &two_lines(alloc, line, line)?, 0, request);
+    let both = two_lines(alloc, line, line)?;
+    let closing = format!(in alloc; "worker 0 needs {needs} hits {hits}\ntotal 2 refused 0\n")?;
+    ran.is_calmly(rt, &format!(in alloc; "{both}{closing}")?, 0, request);
     Ok(())
 }
 

@@ -67,18 +67,20 @@ const LIST: &[u8] = b"info huge.tif\npixels 0 0 0 1 1 huge.tif\n";
 /// 4096 texels a side it takes two of 32 MiB, and no cell may be larger.
 type Cut = (&'static [&'static str], &'static str, u8);
 
+const ZEROS: &str = "info 1 8192 4096 1 8 1 14\npixels 1 1 0\nworker 0 needs 0 hits 0\n\
+                     worker 1 needs 1 hits 0\nworker 2 needs 0 hits 0\nworker 3 needs 0 hits 0\n\
+                     total 2 refused 0\n";
+
 static CUTS: &[Cut] = &[
     (
         &["--autotile", "0", "."],
-        "info 1 8192 4096 1 8 1 14\ntile too large 1\n",
+        "info 1 8192 4096 1 8 1 14\ntile too large 1\nworker 0 needs 0 hits 0\n\
+         worker 1 needs 0 hits 0\nworker 2 needs 0 hits 0\nworker 3 needs 0 hits 0\n\
+         total 2 refused 1\n",
         1,
     ),
-    (
-        &["--autotile", "4096", "."],
-        "info 1 8192 4096 1 8 1 14\npixels 1 1 0\n",
-        0,
-    ),
-    (&["."], "info 1 8192 4096 1 8 1 14\npixels 1 1 0\n", 0),
+    (&["--autotile", "4096", "."], ZEROS, 0),
+    (&["."], ZEROS, 0),
 ];
 
 #[test]

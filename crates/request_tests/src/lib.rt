@@ -1,14 +1,16 @@
 //! Tests of what stands round a request: the words of the command line, lists and answer lines,
 //! made by hand from docs/REQUESTS.md; wraps and filters over small pictures; the world outside, a
-//! folder in memory with its plan and a real folder, with their taps, feeds and sinks; and whole
-//! runs in which something fails, a file changes, or the words or the list are none. What a run
-//! answers where nothing fails is told by the stored run of the program.
+//! folder in memory with its plan and a real folder, with their taps, feeds and sinks; whole runs in
+//! which something fails, a file changes, or the words or the list are none; and the sample call.
+//! What a run answers where nothing fails is told by the stored run of the program.
 #![tactic(auto)]
 
 #[cfg(test)]
 mod answers;
 #[cfg(test)]
 mod changing_file;
+#[cfg(test)]
+mod closings;
 #[cfg(test)]
 mod failures;
 #[cfg(test)]
@@ -39,6 +41,8 @@ mod real_folder;
 mod refusals;
 #[cfg(test)]
 mod rows;
+#[cfg(test)]
+mod sample_calls;
 #[cfg(test)]
 mod samples;
 #[cfg(test)]

@@ -61,6 +61,28 @@ impl Ran {
         assert!(rt; self.made == self.returned, "taps in {message}");
     }
 
+    /// The same of a run of one worker, whatever it has counted before the last line: no hit that is no
+    /// need.
+    pub(crate) fn is_but_needs(
+        &self,
+        rt: &impl Abort,
+        written: &str,
+        last: &str,
+        status: u8,
+        message: &str,
+    ) {
+        let text = from_utf8(self.written.bytes()).unwrap_or("no text");
+        let counts = text
+            .strip_prefix(written)
+            .and_then(|closing| closing.strip_suffix(last))
+            .and_then(needs_and_hits);
+        match counts {
+            Some((needs, hits)) => assert!(rt; hits <= needs, "in {message}: {text}"),
+            None => assert!(rt; false, "in {message}: {text}"),
+        }
+        self.is(rt, text, status, message);
+    }
+
     /// The same, and no call failed or met a newer generation.
     pub(crate) fn is_calmly(&self, rt: &impl Abort, written: &str, status: u8, message: &str) {
         self.is(rt, written, status, message);
@@ -72,6 +94,13 @@ impl Ran {
         assert!(rt; self.faults == faults, "faults in {message}");
         assert!(rt; self.moves == moves, "moves in {message}");
     }
+}
+
+/// What the line of the first worker says.
+fn needs_and_hits(line: &str) -> Option<(u64, u64)> {
+    let counts = line.strip_prefix("worker 0 needs ")?.strip_suffix("\n")?;
+    let (needs, hits) = counts.split_once(" hits ")?;
+    Some((needs.parse().ok()?, hits.parse().ok()?))
 }
 
 fn owned(alloc: Global, words: &[&str]) -> Result<Vec<String>, AllocError> {

@@ -34,15 +34,32 @@ fn refuses_words(rt: HostRuntime) -> Result<(), Fail> {
     Ok(())
 }
 
-/// Words of a run. However little memory and however few handles they ask for, the answers are the
-/// same.
-static WORDS: &[&[&str]] = &[
-    &["-"],
-    &["--shards=2", "--", "-x"],
-    &["--workers", "1", "."],
-    &["--workers=16", "."],
-    &["--budget=0", "--handles", "1024", "--autotile=4096", "."],
-    &["--budget=0", "--shards=1", "--handles=1", "."],
+/// What four workers count of the list below, one after another, and all together.
+const FOUR: &str = "worker 0 needs 5 hits 1\nworker 1 needs 1 hits 0\nworker 2 needs 1 hits 0\n\
+                    worker 3 needs 0 hits 0\ntotal 5 refused 0\n";
+
+const SIXTEEN: &str = "worker 0 needs 4 hits 0\nworker 1 needs 1 hits 0\nworker 2 needs 1 hits 0\n\
+    worker 3 needs 0 hits 0\nworker 4 needs 1 hits 0\nworker 5 needs 0 hits 0\n\
+    worker 6 needs 0 hits 0\nworker 7 needs 0 hits 0\nworker 8 needs 0 hits 0\n\
+    worker 9 needs 0 hits 0\nworker 10 needs 0 hits 0\nworker 11 needs 0 hits 0\n\
+    worker 12 needs 0 hits 0\nworker 13 needs 0 hits 0\nworker 14 needs 0 hits 0\n\
+    worker 15 needs 0 hits 0\ntotal 5 refused 0\n";
+
+/// Words of a run, and the lines that close it. However little memory and however few handles they ask
+/// for, the answers are the same.
+static WORDS: &[(&[&str], &str)] = &[
+    (&["-"], FOUR),
+    (&["--shards=2", "--", "-x"], FOUR),
+    (
+        &["--workers", "1", "."],
+        "worker 0 needs 7 hits 2\ntotal 5 refused 0\n",
+    ),
+    (&["--workers=16", "."], SIXTEEN),
+    (
+        &["--budget=0", "--handles", "1024", "--autotile=4096", "."],
+        FOUR,
+    ),
+    (&["--budget=0", "--shards=1", "--handles=1", "."], FOUR),
 ];
 
 /// A region on four tiles, a texel of each of two files, and the region's last texel.
@@ -61,9 +78,11 @@ const READ_TEXT: &str =
 
 #[test]
 fn takes_words(rt: HostRuntime) -> Result<(), Fail> {
-    for words in WORDS {
-        let ran = run_bytes(&rt, rt.alloc(), words, READ)?;
-        ran.is_calmly(&rt, READ_TEXT, 0, "the words");
+    let alloc = rt.alloc();
+    for (words, closing) in WORDS {
+        let ran = run_bytes(&rt, alloc, words, READ)?;
+        let written = format!(in alloc; "{READ_TEXT}{closing}")?;
+        ran.is_calmly(&rt, &written, 0, "the words");
     }
     Ok(())
 }
@@ -74,7 +93,8 @@ fn takes_stored_levels_alone(rt: HostRuntime) -> Result<(), Fail> {
     let list =
         b"info A.tif\npixels 1 0 0 1 1 A.tif\ntex 32768 32768 65536 clamp clamp bilinear 1 A.tif\n";
     let ran = run_bytes(&rt, rt.alloc(), words, list)?;
-    let wanted = "info 1 4 4 1 8 1 1\nno level 1 1\ntex 1 6554\n";
+    let wanted = "info 1 4 4 1 8 1 1\nno level 1 1\ntex 1 6554\nworker 0 needs 4 hits 3\n\
+                  total 3 refused 1\n";
     ran.is_calmly(&rt, wanted, 1, "without generated levels");
     Ok(())
 }
@@ -90,7 +110,6 @@ static REFUSED: &[(&[u8], &str)] = &[
     (b"tex 0 0 0 clamp clamp cubic 1 A.tif\n", "1 5"),
     (b"info \xff.tif\n", "1 7"),
     (b"# a line\n\nsync\ninfo A.tif\ninfo\nfoo\n", "5 2"),
-    (b"sync\nstat\n", "0 1"),
     (b"stat\nfoo\n", "2 1"),
 ];
 
@@ -133,6 +152,8 @@ fn answers_long<R: Abort + Threads + Wait + Sync>(
 
 #[test]
 fn refuses_long_lists(rt: HostRuntime) -> Result<(), Fail> {
-    answers_long(&rt, rt.alloc(), MAX_LIST_BYTES, "", 0)?;
+    let none = "worker 0 needs 0 hits 0\nworker 1 needs 0 hits 0\nworker 2 needs 0 hits 0\n\
+                worker 3 needs 0 hits 0\ntotal 0 refused 0\n";
+    answers_long(&rt, rt.alloc(), MAX_LIST_BYTES, none, 0)?;
     answers_long(&rt, rt.alloc(), MAX_LIST_BYTES + 1, "bad list 0 9\n", 3)
 }

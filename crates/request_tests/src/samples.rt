@@ -82,7 +82,9 @@ const ANSWERS: &str = "info 1 256 192 3 8 1 9\ninfo 1 288 192 1 16 1 9\ninfo 1 3
 info 1 352 192 1 16 1 9\ninfo 1 384 192 3 8 1 9\ninfo 1 416 192 1 16 1 9
 info 1 448 192 3 8 1 9\ninfo 1 480 192 1 16 1 9
 pixels 1 3 0 7453 14906 1799 9252 16705\npixels 1 3 44204 51657 59110
-pixels 1 3 54484 61937 3598\npixels 1 1 263\npixels 1 1 27752\n";
+pixels 1 3 54484 61937 3598\npixels 1 1 263\npixels 1 1 27752
+worker 0 needs 2 hits 0\nworker 1 needs 1 hits 0\nworker 2 needs 1 hits 0\nworker 3 needs 1 hits 0
+total 13 refused 0\n";
 
 #[test]
 fn runs_over_all_of_them(rt: HostRuntime) -> Result<(), Fail> {

@@ -117,6 +117,9 @@ struct Told {
     before: usize,
     now: usize,
     answered: u32,
+    refused: u32,
+    /// How many lines and refusals there are, as the last line says.
+    closed: Option<(u32, u32)>,
 }
 
 impl Told {
@@ -159,6 +162,12 @@ impl Told {
         }
     }
 
+    /// One refusal more.
+    fn refuses(&mut self) -> Result<(), Fail> {
+        self.refused = self.refused.saturating_add(1);
+        Ok(())
+    }
+
     /// One line more.
     fn line(&mut self, line: &str) -> Result<(), Fail> {
         let (word, rest) = line.split_once(' ').unwrap_or((line, ""));
@@ -185,18 +194,24 @@ impl Told {
                 let (_file, rest) = rest.split_once(' ').ok_or("no generation")?;
                 let (generation, _fault) = rest.split_once(' ').ok_or("no fault")?;
                 let _generation = self.names(generation)?;
-                Ok(())
+                self.refuses()
             }
             "again" => {
                 let (from, to) = rest.split_once(' ').ok_or("no newer generation")?;
                 let (from, to): (usize, usize) = (from.parse()?, to.parse()?);
                 if from < to {
-                    Ok(())
+                    self.refuses()
                 } else {
                     Err("no newer generation was met".into())
                 }
             }
-            "read" => Ok(()),
+            "read" => self.refuses(),
+            "worker" => Ok(()),
+            "total" => {
+                let (lines, refused) = rest.split_once(" refused ").ok_or("no refusals")?;
+                self.closed = Some((lines.parse()?, refused.parse()?));
+                Ok(())
+            }
             _ => Err("an unknown line".into()),
         }
     }
@@ -250,6 +265,8 @@ fn is_answered(
         before: 0,
         now: 0,
         answered: 0,
+        refused: 0,
+        closed: None,
     };
     let text = from_utf8(&written)?;
     let mut lines: u32 = 0;
@@ -257,7 +274,16 @@ fn is_answered(
         told.line(line)?;
         lines = lines.saturating_add(1);
     }
-    holds(lines == REQUESTS, "each request has a line")?;
+    holds(
+        told.closed == Some((REQUESTS, told.refused)),
+        "the lines are counted",
+    )?;
+    let crew: u32 = workers.parse()?;
+    let closing = crew.saturating_add(1);
+    holds(
+        lines == REQUESTS.saturating_add(closing),
+        "each request has a line",
+    )?;
     holds(told.now > 20, "the file changed")?;
     holds(told.answered > REQUESTS / 4, "most requests are answered")?;
     Ok(())

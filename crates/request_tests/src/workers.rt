@@ -110,8 +110,10 @@ static RUNS: &[Run] = &[
         NEWER,
         "pixels 0 0 0 1 1 A.tif\ninvalidate A.tif\nsync\npixels 0 0 0 1 1 A.tif\n",
         &[
-            "pixels 1 1 0\ninvalidated 2\nsync\npixels 2 1 25700\n",
-            "pixels 2 1 25700\ninvalidated 2\nsync\npixels 2 1 25700\n",
+            "pixels 1 1 0\ninvalidated 2\nsync\npixels 2 1 25700\nworker 0 needs 2 hits 0\n\
+             worker 1 needs 0 hits 0\ntotal 4 refused 0\n",
+            "pixels 2 1 25700\ninvalidated 2\nsync\npixels 2 1 25700\nworker 0 needs 2 hits 1\n\
+             worker 1 needs 0 hits 0\ntotal 4 refused 0\n",
         ],
         0,
     ),
@@ -120,7 +122,7 @@ static RUNS: &[Run] = &[
         &[".", "--workers", "1"],
         Failing::Tap(1),
         "invalidate A.tif\ninvalidate A.tif\n",
-        &["read fault\ninvalidated 1\n"],
+        &["read fault\ninvalidated 1\nworker 0 needs 0 hits 0\ntotal 2 refused 1\n"],
         1,
     ),
     (
@@ -129,7 +131,7 @@ static RUNS: &[Run] = &[
         Failing::Nothing,
         "tex 0 0 0 clamp clamp closest 1 A.tif\nrenew A.tif\n\
          tex 0 0 0 clamp clamp closest 1 A.tif\n",
-        &["tex 1 0\nrenewed 1\ntex 1 0\n"],
+        &["tex 1 0\nrenewed 1\ntex 1 0\nworker 0 needs 2 hits 0\ntotal 3 refused 0\n"],
         0,
     ),
     (
@@ -137,7 +139,10 @@ static RUNS: &[Run] = &[
         &[".", "--workers", "1"],
         Failing::Tap(6 + 1 + 1),
         "pixels 0 1 0 2 2 A.tif\nrenew A.tif\npixels 0 1 0 2 2 A.tif\n",
-        &["pixels 1 1 257 514 4369 4626\nrenewed 1\nread fault\n"],
+        &[
+            "pixels 1 1 257 514 4369 4626\nrenewed 1\nread fault\nworker 0 needs 1 hits 0\n\
+           total 3 refused 1\n",
+        ],
         1,
     ),
     (
@@ -145,7 +150,10 @@ static RUNS: &[Run] = &[
         &[".", "--workers", "1"],
         Failing::Tap(6 + 1 + 1),
         "pixels 0 1 0 2 2 A.tif\ninvalidate A.tif\npixels 0 1 0 2 2 A.tif\n",
-        &["pixels 1 1 257 514 4369 4626\ninvalidated 1\npixels 1 1 257 514 4369 4626\n"],
+        &[
+            "pixels 1 1 257 514 4369 4626\ninvalidated 1\npixels 1 1 257 514 4369 4626\n\
+           worker 0 needs 2 hits 0\ntotal 3 refused 0\n",
+        ],
         0,
     ),
     (
@@ -154,8 +162,10 @@ static RUNS: &[Run] = &[
         Failing::Tap(5),
         "info A.tif\ninvalidate_all\ninvalidate_all\n",
         &[
-            "info 1 4 4 1 8 1 3\nread fault\ninvalidated all\n",
-            "info 1 4 4 1 8 1 3\ninvalidated all\nread fault\n",
+            "info 1 4 4 1 8 1 3\nread fault\ninvalidated all\nworker 0 needs 0 hits 0\n\
+             total 3 refused 1\n",
+            "info 1 4 4 1 8 1 3\ninvalidated all\nread fault\nworker 0 needs 0 hits 0\n\
+             total 3 refused 1\n",
         ],
         1,
     ),
@@ -164,10 +174,11 @@ static RUNS: &[Run] = &[
         &[".", "--workers", "1", "--budget", "1", "--shards", "1"],
         Failing::Nothing,
         "hold 0 0 0 B.tif\nhold 0 64 0 B.tif\nhold 0 0 32 B.tif\nhold 0 64 32 B.tif\n\
-         hold 0 0 0 B.tif\ndrop\ndrop\ndrop\ndrop\ndrop\n",
+         hold 0 0 0 B.tif\nstat\ndrop\ndrop\ndrop\ndrop\nstat\ndrop\n",
         &[
             "held 1 0 0 64 32\nheld 1 64 0 16 32\nheld 1 0 32 64 16\nheld 1 64 32 16 16\n\
-           holds full\ndropped\ndropped\ndropped\ndropped\nnothing held\n",
+           holds full\nstat 4,4,0,1\ndropped\ndropped\ndropped\ndropped\nstat 0,0,0,1\n\
+           nothing held\nworker 0 needs 0 hits 0\ntotal 12 refused 2\n",
         ],
         1,
     ),
@@ -180,7 +191,8 @@ static RUNS: &[Run] = &[
          hold 9 4 0 A.tif\ninvalidate none.tif\nrenew none.tif\n",
         &[
             "no such file\nregion too large\nno level 1 3\noutside 1\nno such file\n\
-           no level 1 3\nno such file\nno such file\n",
+           no level 1 3\nno such file\nno such file\nworker 0 needs 0 hits 0\n\
+           total 8 refused 8\n",
         ],
         1,
     ),
@@ -206,7 +218,8 @@ static RUNS_OF_TWO: &[Run] = &[
          pixels 0 0 0 1 1 A.tif\npixels 0 0 0 1 1 A.tif\n",
         &[
             "pixels 1 1 0\nsync\npixels 1 1 2570\ninvalidated 2\nsync\n\
-           pixels 2 1 25700\npixels 2 1 25700\n",
+           pixels 2 1 25700\npixels 2 1 25700\nworker 0 needs 3 hits 0\n\
+           worker 1 needs 1 hits 0\ntotal 7 refused 0\n",
         ],
         0,
     ),
@@ -219,7 +232,10 @@ static RUNS_OF_TWO: &[Run] = &[
             generation: 1_048_575,
         }),
         "invalidate A.tif\npixels 0 0 0 1 1 A.tif\ninvalidate_all\n",
-        &["invalidated 1048575\npixels 1048575 1 0\ninvalidated all\n"],
+        &[
+            "invalidated 1048575\npixels 1048575 1 0\ninvalidated all\nworker 0 needs 1 hits 0\n\
+           total 3 refused 0\n",
+        ],
         0,
     ),
 ];
@@ -274,7 +290,8 @@ fn two_requests_run_beside_each_other(rt: HostRuntime) -> Result<(), Fail> {
     let list = b"info A.tif\ninfo A.tif\n".to_vec(rt.alloc())?;
     let words = [".", "--workers", "2"];
     let ran = run_hooked::<SmallFiles>(&rt, rt.alloc(), &words, list, Failing::Nothing, &hook)?;
-    let written = "info 1 4 4 1 8 1 3\ninfo 1 4 4 1 8 1 3\n";
+    let written = "info 1 4 4 1 8 1 3\ninfo 1 4 4 1 8 1 3\nworker 0 needs 0 hits 0\n\
+                   worker 1 needs 0 hits 0\ntotal 2 refused 0\n";
     ran.is_calmly(&rt, written, 0, "two workers");
     assert!(rt;
         !hook.gave_up.load(Ordering::Acquire),
