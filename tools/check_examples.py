@@ -4,6 +4,9 @@ program prints, with the lines that close the run, and its status.
 
     python3 tools/check_examples.py [PROGRAM]
 
+Where no program is named it is the proved one that ./build or the gate left; the unproved build takes too
+long for so many lists.
+
 What is expected was worked out by hand from docs/REQUESTS.md, docs/FILTERING.md and the formulas of
 the pictures in tools/run_files.py.
 """
@@ -90,7 +93,11 @@ EXAMPLES = [
 
 
 def main():
-    program = sys.argv[1] if len(sys.argv) > 1 else str(TOP / "texcache")
+    built = TOP / "crates" / "texcache" / "out" / "texcache"
+    program = sys.argv[1] if len(sys.argv) > 1 else str(built)
+    if not Path(program).is_file():
+        print("check_examples.py: the program is not built, so no list was run; ./build builds it")
+        return
     wrong = 0
     for words, requests, lines, closing, status in EXAMPLES:
         ran = subprocess.run([program, str(FILES), *words], input="".join(it + "\n" for it in requests),
