@@ -1,6 +1,7 @@
 -- What do the calls of a table give, when may each be refused, and what do they leave of the view
 -- and of the tap?
 use Rattle.std.specs.Prelude.{◌≡◌, ◌≢◌, ◌⊎◌, ℕ, ◌+◌, ◌<◌, ◌≤◌, slice_index, ⊤}
+use Rattle.std.specs.Prelude.{Result, OnOk, IfErr}
 use Rattle.tex_world.specs.Counts.{Rises, RisesByOne}
 use Rattle.tex_world.specs.World.{Files, IsReal}
 use Rattle.tex_world.specs.Tap.{Named, TapState}
@@ -130,3 +131,14 @@ LendCause files file generation old new lending.NoMemory =
     OpensOnce old.tap new.tap × (new.view ≡ old.view)
 LendCause files file generation old new (lending.Busy b) =
     (new.tap ≡ old.tap) × (new.view ≡ old.view)
+
+-- the refusal is that a newer generation was met
+abbrev pub IsAgain : {B : Type 0} → LendError B → Type 0
+IsAgain (lending.Again from to) = ⊤
+IsAgain _ = ⊥
+
+-- The tap met a newer generation only where that is the answer.
+pub record MovesOnlyAgain {A B : Type 0} (old new : TapState) (result : Result A (LendError B))
+    : Type 0 where
+  pub ok : OnOk result (new.moves ≡ old.moves)
+  pub err : IfErr result (λ e. (IsAgain e → ⊥) → new.moves ≡ old.moves)

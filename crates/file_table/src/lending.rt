@@ -2,7 +2,7 @@
 ghost use Rattle.std.specs.Prelude.{◌≡◌, ◌<◌, ◌≤◌, IfOk, IfErr, IfSome, OnOk};
 ghost use Rattle.tex_world.specs.World.{IsFile, IsReal};
 ghost use Rattle.file_table.specs.Calls.{sighted, RaisesIfAtAll, OpensIfAtAll, OpensOnce};
-ghost use Rattle.file_table.specs.Calls.{IsOfExactly, LendCause};
+ghost use Rattle.file_table.specs.Calls.{IsOfExactly, LendCause, MovesOnlyAgain};
 
 use crate::error::{LendError, NotSettled};
 use crate::files::Files;
@@ -35,6 +35,7 @@ impl<T: Tap> Files<T> {
         // What the call leaves, whatever it answers.
         ensures raises { RaisesIfAtAll file view.old view.new }
         ensures same { OnOk result (view.new ≡ view.old) }
+        ensures moves { MovesOnlyAgain (T.state tap.old) (T.state tap.new) result }
         ensures once { OpensIfAtAll (T.state tap.old) (T.state tap.new) }
     {
         let idle = match self.take_idle(waiter, file, generation) {
@@ -126,6 +127,7 @@ impl<T: Tap> Files<T> {
             (sighted view.old (T.state tap.old)) (sighted view.new (T.state tap.new))) }
         ensures raises { RaisesIfAtAll file view.old view.new }
         ensures same { OnOk result (view.new ≡ view.old) }
+        ensures moves { MovesOnlyAgain (T.state tap.old) (T.state tap.new) result }
         ensures once { OpensOnce (T.state tap.old) (T.state tap.new) }
     {
         let handle = match tap.open(self.alloc, file, generation) {

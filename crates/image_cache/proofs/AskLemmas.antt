@@ -1,9 +1,9 @@
 -- How often is the newest generation asked for, file by file?
 use mathlib.Core.Logic.{dite}
 use native.Mathlib.Decide.{ℕ_discrete}
-use Rattle.std.proofs.Common.{◌≡◌, ◌≢◌, ◌⊎◌, inl, inr, ℕ, zero, suc, ◌+◌, ◌<◌, ◌≤◌, ltb, cond, true, false, Bool}
-use Rattle.std.proofs.Common.{slice_index, refl, sym, ap, ◌∙◌, add-one, arith}
-use Rattle.std.proofs.lemmas.Bool.{lt-ltb, le-ltb}
+use Rattle.std.proofs.Common.{◌≡◌, ◌≢◌, ◌⊎◌, inl, inr, ℕ, zero, suc, ◌+◌, ◌<◌, ◌≤◌, ltb, cond}
+use Rattle.std.proofs.Common.{slice_index, refl, ap, ◌∙◌, add-one, arith}
+use Rattle.std.proofs.lemmas.Bool.{lt-ltb}
 use Rattle.tex_world.specs.Counts.{RisesByOne, last_count}
 use Rattle.gen_board.specs.View.{ViewState}
 use Rattle.tex_world.specs.Tap.{TapState}

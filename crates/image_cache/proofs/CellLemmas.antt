@@ -1,11 +1,11 @@
 -- What a record says of its cells, for a handle of its file and generation.
-use Rattle.std.proofs.Common.{◌≡◌, ℕ, ◌<◌, ◌≤◌, subst, ◌∙◌, Result, Ok, Err}
+use Rattle.std.proofs.Common.{◌≡◌, ◌<◌, ◌≤◌, subst, ◌∙◌, Result, Ok, Err}
 use Rattle.std.proofs.Common.{Option, Some, None}
 use Rattle.std.specs.Prelude.{IsOkAnd, IsSomeAnd}
 use Rattle.tex_world.specs.Tap.{Named}
 use Rattle.tiff_format.specs.declared.cut.Cut.{Cut}
 use Rattle.tile_layout.specs.Key.{level_of, index_of}
-use Rattle.tile_layout.specs.Kept.{Kept, stored_count}
+use Rattle.tile_layout.specs.Kept.{stored_count}
 use Rattle.tile_layout.specs.Level.{level_count_in}
 use Rattle.tile_layout.specs.Cell.{cell_count, cut_level_in}
 use Rattle.tile_load.specs.Load.{NamesCell, IsReadBy}

@@ -1,13 +1,12 @@
 -- What is held, where the tile of a cell was taken in hand?
-use Rattle.std.proofs.Common.{◌≡◌, ◌++◌, ◌∷◌, [], ◌<◌, List, Result, Ok, Err, Option, Some, None, sym, ap, ◌∙◌}
-use Rattle.std.specs.Prelude.{IsTrue, IsOkAnd, IsSomeAnd, IfSome}
+use Rattle.std.proofs.Common.{◌≡◌, ◌++◌, ◌∷◌, [], List, Result, Ok, Err, Option, Some, None, ap, ◌∙◌}
+use Rattle.std.specs.Prelude.{IsOkAnd, IsSomeAnd, IfSome}
 use Rattle.tex_world.specs.World.{Files}
 use Rattle.tiff_format.specs.declared.fault.TiffFault.{TiffFault}
 use Rattle.tiff_format.specs.declared.cut.Cut.{Cut}
 use Rattle.tile_layout.specs.Kept.{Kept}
 use Rattle.tile_layout.specs.Cell.{CellsFit}
 use Rattle.tile_store.specs.Tile.{CachedTile}
-use Rattle.tile_store.specs.Lawful.{FitsCut}
 use Rattle.shard_gate.specs.Gate.{IsTileOf}
 use Rattle.file_table.specs.Record.{RecordState, IsRecord}
 use Rattle.texel_values.specs.declared.texel_at.TexelAt.{TexelAt}

@@ -1,5 +1,5 @@
 -- Which cells are the parts of a cell that is made, and what is left of a pass?
-use Rattle.std.proofs.Common.{◌≡◌, ℕ, ◌+◌, ◌-◌, ◌<◌, ◌≤◌, ◌∙◌, refl, sym, ap, subst, arith, length, slice_index, Ok}
+use Rattle.std.proofs.Common.{◌≡◌, ℕ, ◌-◌, ◌<◌, ◌≤◌, ◌∙◌, refl, sym, ap, subst, arith, length, slice_index, Ok}
 use Rattle.std.specs.Prelude.{IsOkAnd, Result}
 use Rattle.std.proofs.Common.{inl, inr}
 use Rattle.std.proofs.lemmas.Bool.{cases_lt}
@@ -19,7 +19,6 @@ use Rattle.tile_layout.specs.Cell.{cell_count, cut_level_in}
 use Rattle.tile_load.specs.Halving.{HalvingState, IsPartOf, part_count, part_key}
 use Rattle.file_table.specs.Record.{RecordState}
 use Rattle.shard_gate.specs.Gate.{GateState}
-use Rattle.shard_gate.specs.Since.{PurgesNone}
 use Rattle.shard_gate.proofs.SinceLemmas.{purges_none_chain}
 use Rattle.gen_board.specs.View.{ViewState}
 use Rattle.file_table.specs.Calls.{KeepsView}

@@ -1,6 +1,6 @@
 -- Why is a call of a cache refused?
 use Rattle.std.specs.Prelude.{◌≡◌, ◌⊎◌, ℕ, ◌*◌, ◌<◌, ◌≤◌, length, slice_index, ⊤}
-use Rattle.std.specs.Prelude.{Err, IsOkAnd, IsSomeAnd}
+use Rattle.std.specs.Prelude.{Result, Err, IsOkAnd, IsSomeAnd, OnOk, IfErr}
 use Rattle.tex_world.specs.Counts.{Rises}
 use Rattle.tex_world.specs.World.{Files, IsReal}
 use Rattle.tex_world.specs.Tap.{TapState}
@@ -23,6 +23,25 @@ use Rattle.image_cache.specs.Pass.{PassState}
 use Rattle.image_cache.specs.Call.{KeepsRecent}
 use Rattle.image_cache.specs.Texel.{IsTexelOf}
 
+-- ---- the one table
+-- A call is refused since a newer generation was met, since the source failed, for want of memory,
+-- since its waiter gave up, or with a refusal of its own.
+
+-- Why any call is refused: `Met` says which newer generation is met, `Wants` and `Waits` what holds
+-- where memory was wanting and where the waiter gave up, and `Refuses` which refusals are the call's
+-- own, each with what is so only then.
+abbrev pub RefusedFor : {B : Type 0} → (ℕ → ℕ → Type 0) → TapState → TapState → Type 0 → Type 0
+    → (CacheError B → Type 0) → CacheError B → Type 0
+RefusedFor Met old new Wants Waits Refuses (refused.Again from to) = Met from to
+RefusedFor Met old new Wants Waits Refuses refused.ReadFault = Rises old.faults new.faults
+RefusedFor Met old new Wants Waits Refuses refused.NoMemory = Wants
+RefusedFor Met old new Wants Waits Refuses (refused.Busy b) = Waits
+RefusedFor Met old new Wants Waits Refuses e = Refuses e
+
+-- a call that has no refusal of its own
+abbrev pub Never : {B : Type 0} → CacheError B → Type 0
+Never e = ⊥
+
 -- ---- of a texel
 
 -- The generation `from` of a file was asked for, and the newer `to` was met, which the pass has
@@ -36,34 +55,48 @@ pub record MetNewer (files : Files) (file generation from to : ℕ) (new : ViewS
   pub seen : to ≤ slice_index new.seen file
   pub moves : Rises tap_old.moves tap_new.moves
 
--- Why a texel of a record is not given: a call of the tap failed, a newer generation was met,
--- memory was wanting, or the waiter gave up, before the tap had a call or once a cell was loaded.
+-- Why a step of a call by a record is refused: a call of the tap failed, a newer generation was met,
+-- memory was wanting, the waiter gave up, or by what `Refuses` says of the record.
+abbrev pub StepCause : {B : Type 0} → Files → RecordState → ViewState → TapState → TapState
+    → (RecordState → CacheError B → Type 0) → CacheError B → Type 0
+StepCause files r new tap_old tap_new Refuses e =
+    RefusedFor (λ from to. MetNewer files r.file r.generation from to new tap_old tap_new)
+    tap_old tap_new ⊤ ⊤ (Refuses r) e
+
+-- Why a texel of a record is not given: it has no refusal of its own.
 abbrev pub FetchCause : {B : Type 0} → Files → RecordState → ViewState → TapState → TapState
     → CacheError B → Type 0
-FetchCause files r new tap_old tap_new (refused.Again from to) =
-    MetNewer files r.file r.generation from to new tap_old tap_new
-FetchCause files r new tap_old tap_new refused.ReadFault = Rises tap_old.faults tap_new.faults
-FetchCause files r new tap_old tap_new refused.NoMemory = ⊤
-FetchCause files r new tap_old tap_new (refused.Busy b) = ⊤
-FetchCause files r new tap_old tap_new _ = ⊥
+FetchCause files r new tap_old tap_new e =
+    StepCause files r new tap_old tap_new (λ _. Never) e
 
 -- the cause may stand anywhere: memory was wanting, or the waiter gave up
 abbrev pub GivesUp : {B : Type 0} → CacheError B → Type 0
 GivesUp e = (files : Files) → (r : RecordState) → (new : ViewState)
     → (tap_old tap_new : TapState) → FetchCause files r new tap_old tap_new e
 
+-- the refusal is that a newer generation was met
+abbrev pub IsAgain : {B : Type 0} → CacheError B → Type 0
+IsAgain (refused.Again from to) = ⊤
+IsAgain _ = ⊥
+
+-- The tap met a newer generation only where that is the answer: where memory was wanting, where the
+-- source failed and where the waiter gave up it met none.
+pub record MovesOnlyAgain {A B : Type 0} (old new : TapState) (result : Result A (CacheError B))
+    : Type 0 where
+  pub ok : OnOk result (new.moves ≡ old.moves)
+  pub err : IfErr result (λ e. (IsAgain e → ⊥) → new.moves ≡ old.moves)
+
 -- ---- of a file that is opened
 
 -- Why a file is not opened. A newer generation was met than one that is at least what the pass had
--- seen.
+-- seen. Memory is wanting only where the file was opened, and where the waiter gave up the tap had
+-- no call.
 abbrev pub OpeningCause : {B : Type 0} → Files → ℕ → Sighted → Sighted → CacheError B → Type 0
-OpeningCause files file old new (refused.Again from to) =
+OpeningCause files file old new e =
+    RefusedFor (λ from to.
     MeetsNewer files file (slice_index old.view.seen file) from to old.tap new.tap
-    × (to ≤ slice_index new.view.seen file)
-OpeningCause files file old new refused.ReadFault = Rises old.tap.faults new.tap.faults
-OpeningCause files file old new refused.NoMemory = OpensOnce old.tap new.tap
-OpeningCause files file old new (refused.Busy b) = new.tap ≡ old.tap
-OpeningCause files file old new _ = ⊥
+    × (to ≤ slice_index new.view.seen file))
+    old.tap new.tap (OpensOnce old.tap new.tap) (new.tap ≡ old.tap) Never e
 
 -- ---- of a call on a file
 
@@ -104,11 +137,8 @@ RestsOnGiven a P = IsSomeAnd a.new.latest (λ r.
 -- `Refuses` what it refuses by its record.
 abbrev pub HasCause : {B : Type 0} → Around → (CacheError B → Type 0)
     → (RecordState → CacheError B → Type 0) → CacheError B → Type 0
-HasCause a First Refuses (refused.Again from to) = MetAgain a from to
-HasCause a First Refuses refused.ReadFault = Rises a.tap_old.faults a.tap_new.faults
-HasCause a First Refuses refused.NoMemory = ⊤
-HasCause a First Refuses (refused.Busy b) = ⊤
-HasCause a First Refuses e = First e ⊎ RestsOnGiven a (λ r. Refuses r e)
+HasCause a First Refuses e = RefusedFor (MetAgain a) a.tap_old a.tap_new ⊤ ⊤
+    (λ own. First own ⊎ RestsOnGiven a (λ r. Refuses r own)) e
 
 -- ---- what a record refuses
 
@@ -158,10 +188,6 @@ TileRefuses at r e = PixelsRefuses at.level r e
 
 -- ---- what is refused before a file is opened
 
--- nothing
-abbrev pub NoneFirst : {B : Type 0} → CacheError B → Type 0
-NoneFirst e = ⊥
-
 -- a region of too many texels
 abbrev pub TooManyTexels : {B : Type 0} → ℕ → ℕ → CacheError B → Type 0
 TooManyTexels w h refused.RegionTooLarge = max_texels < w * h
@@ -171,20 +197,6 @@ TooManyTexels w h _ = ⊥
 abbrev pub NoFurtherHold : {B : Type 0} → PassState → CacheError B → Type 0
 NoFurtherHold old refused.HoldsFull = length old.pinned.holds ≡ 4
 NoFurtherHold old _ = ⊥
-
--- ---- a step by a record
-
--- Why a step of a call by a record is refused: as a texel is not given, or by what `Refuses` says of
--- the record.
-abbrev pub StepCause : {B : Type 0} → Files → RecordState → ViewState → TapState → TapState
-    → (RecordState → CacheError B → Type 0) → CacheError B → Type 0
-StepCause files r new tap_old tap_new Refuses (refused.Again from to) =
-    MetNewer files r.file r.generation from to new tap_old tap_new
-StepCause files r new tap_old tap_new Refuses refused.ReadFault =
-    Rises tap_old.faults tap_new.faults
-StepCause files r new tap_old tap_new Refuses refused.NoMemory = ⊤
-StepCause files r new tap_old tap_new Refuses (refused.Busy b) = ⊤
-StepCause files r new tap_old tap_new Refuses e = Refuses r e
 
 -- ---- what a refusal leaves
 

@@ -5,7 +5,7 @@ ghost use Rattle.file_table.specs.Calls.{LooksOnce, OpensIfAtAll};
 ghost use Rattle.image_cache.specs.Pass.{IsPassOf, KeepsAllButRecord};
 ghost use Rattle.image_cache.specs.Facts.{info_of};
 ghost use Rattle.image_cache.specs.Call.{KeepsGiven, KeepsOne};
-ghost use Rattle.image_cache.specs.Cause.{around, HasCause, NoneFirst, InfoRefuses};
+ghost use Rattle.image_cache.specs.Cause.{around, HasCause, Never, InfoRefuses};
 
 use crate::cache::Cache;
 use crate::error::CacheError;
@@ -32,7 +32,7 @@ impl<T: Tap> Cache<T> {
             pass.old pass.new info.generation (λ r. IsOkAnd r.layout (λ kept.
             info ≡ info_of r.generation kept r.cut))) }
         ensures cause { IfErr result (HasCause (around T.W.files file self.now.gate.cut
-            pass.old pass.new (T.state tap.old) (T.state tap.new)) NoneFirst InfoRefuses) }
+            pass.old pass.new (T.state tap.old) (T.state tap.new)) Never InfoRefuses) }
         // What the call leaves.
         ensures latest { KeepsOne T.W.files file self.now.gate.cut pass.old pass.new }
         ensures same { KeepsAllButRecord pass.old pass.new }

@@ -19,7 +19,7 @@ ghost use Rattle.image_cache.specs.Call.{CountsNeed, AsksForCellAt, TurnsToCellA
 ghost use Rattle.image_cache.specs.Call.{NeedsCellAt, AfterNeed, HasNoCall, MissesCellAt};
 ghost use Rattle.image_cache.specs.Making.{AfterMaking};
 ghost use Rattle.image_cache.specs.Call.{LeavesNoHand, KeepsAllButRecent, NoneFalls, AnswersWarm};
-ghost use Rattle.image_cache.specs.Cause.{FetchCause};
+ghost use Rattle.image_cache.specs.Cause.{FetchCause, MovesOnlyAgain};
 
 use crate::cache::Cache;
 use crate::error::CacheError;
@@ -54,6 +54,7 @@ impl<T: Tap> Cache<T> {
             OnOk result (AreValuesAt bytes at out.new)) }
         ensures cause { IfErr result (FetchCause T.W.files known.now pass.new.view
             (T.state tap.old) (T.state tap.new)) }
+        ensures moves { MovesOnlyAgain (T.state tap.old) (T.state tap.new) result }
         ensures err { OnErr result (out.new ≡ out.old) }
         ensures tap { NoneFalls (T.state tap.old) (T.state tap.new) }
         // What the call leaves of the pass.
@@ -216,6 +217,7 @@ impl<T: Tap> Cache<T> {
             OnOk result (AreValuesAt bytes at out.new)) }
         ensures cause { IfErr result (FetchCause T.W.files known.now pass.new.view
             (T.state tap.old) (T.state tap.new)) }
+        ensures moves { MovesOnlyAgain (T.state tap.old) (T.state tap.new) result }
         ensures err { OnErr result (out.new ≡ out.old) }
         ensures tap { NoneFalls (T.state tap.old) (T.state tap.new) }
         // What the call leaves of the pass.
@@ -263,6 +265,7 @@ impl<T: Tap> Cache<T> {
             StandsFirst cell.now pass.new.pinned.recent) }
         ensures cause { IfErr result (FetchCause T.W.files known.now pass.new.view
             (T.state tap.old) (T.state tap.new)) }
+        ensures moves { MovesOnlyAgain (T.state tap.old) (T.state tap.new) result }
         ensures tap { NoneFalls (T.state tap.old) (T.state tap.new) }
         // What the call leaves of the pass.
         ensures counts { SameCounts pass.old pass.new }
@@ -303,6 +306,7 @@ impl<T: Tap> Cache<T> {
         ensures of_cell { IfOk result (λ tile. IsTrue (is_tile_of cell.now tile)) }
         ensures cause { IfErr result (FetchCause T.W.files known.now pass.new.view
             (T.state tap.old) (T.state tap.new)) }
+        ensures moves { MovesOnlyAgain (T.state tap.old) (T.state tap.new) result }
         ensures tap { NoneFalls (T.state tap.old) (T.state tap.new) }
         // What the call leaves of the pass.
         ensures hand { LeavesNoHand V.Busy pass.old pass.new }
@@ -329,6 +333,7 @@ impl<T: Tap> Cache<T> {
         requires cell { IsCellOf known.now cell.now }
         ensures cause { IfErr result (FetchCause T.W.files known.now pass.new.view
             (T.state tap.old) (T.state tap.new)) }
+        ensures moves { MovesOnlyAgain (T.state tap.old) (T.state tap.new) result }
         ensures tap { NoneFalls (T.state tap.old) (T.state tap.new) }
         // What the call leaves of the pass.
         ensures counts { SameCounts pass.old pass.new }

@@ -9,7 +9,7 @@ ghost use Rattle.shard_gate.specs.Gate.{HasCellRect};
 ghost use Rattle.pinned_tiles.specs.Cell.{is_tile_of};
 ghost use Rattle.image_cache.specs.Texel.{IsRecordOf, IsCellOf};
 ghost use Rattle.image_cache.specs.Call.{NoneFalls};
-ghost use Rattle.image_cache.specs.Cause.{FetchCause};
+ghost use Rattle.image_cache.specs.Cause.{FetchCause, MovesOnlyAgain};
 
 use crate::cache::Cache;
 use crate::error::CacheError;
@@ -43,6 +43,7 @@ impl<T: Tap> Cache<T> {
         ensures told { IfOk result (IsTold T.W.files) }
         ensures cause { IfErr result (FetchCause T.W.files known.now view.new
             (T.state tap.old) (T.state tap.new)) }
+        ensures moves { MovesOnlyAgain (T.state tap.old) (T.state tap.new) result }
         ensures keeps { KeepsView known.now.file view.old view.new }
         ensures steps { slice_index view.old.steps known.now.file
             ≤ slice_index view.new.steps known.now.file }
@@ -85,6 +86,7 @@ impl<T: Tap> Cache<T> {
         ensures ok { IfOk result (λ h. IsReadBy (T.Handle.named h) known.now) }
         ensures cause { IfErr result (FetchCause T.W.files known.now view.new
             (T.state tap.old) (T.state tap.new)) }
+        ensures moves { MovesOnlyAgain (T.state tap.old) (T.state tap.new) result }
         ensures keeps { KeepsView known.now.file view.old view.new }
         ensures steps { slice_index view.old.steps known.now.file
             ≤ slice_index view.new.steps known.now.file }

@@ -14,7 +14,7 @@ ghost use Rattle.image_cache.specs.Texel.{IsRecordOf, IsCellOf};
 ghost use Rattle.image_cache.specs.Making.{IsKeyOf, IsGenerated, Halves, IsNextPart, AddsPart};
 ghost use Rattle.image_cache.specs.Making.{AfterMaking, AfterPinning};
 ghost use Rattle.image_cache.specs.Call.{AfterNeed, HasNoCall, NoneFalls};
-ghost use Rattle.image_cache.specs.Cause.{FetchCause, GivesUp};
+ghost use Rattle.image_cache.specs.Cause.{FetchCause, MovesOnlyAgain, GivesUp};
 
 use crate::cache::Cache;
 use crate::error::CacheError;
@@ -46,6 +46,7 @@ impl<T: Tap> Cache<T> {
             (IsTileOf T.W.files self.now.gate.cut cell.now.key)) }
         ensures cause { IfErr result (FetchCause T.W.files known.now pass.new.view
             (T.state tap.old) (T.state tap.new)) }
+        ensures moves { MovesOnlyAgain (T.state tap.old) (T.state tap.new) result }
         ensures tap { NoneFalls (T.state tap.old) (T.state tap.new) }
         // What the call leaves of the pass.
         ensures counts { SameCounts pass.old pass.new }
@@ -130,6 +131,7 @@ impl<T: Tap> Cache<T> {
         ensures told { IfOk result (IsTold T.W.files) }
         ensures cause { IfErr result (FetchCause T.W.files known.now pass.new.view
             (T.state tap.old) (T.state tap.new)) }
+        ensures moves { MovesOnlyAgain (T.state tap.old) (T.state tap.new) result }
         ensures tap { NoneFalls (T.state tap.old) (T.state tap.new) }
         ensures hand { pass.new.pinned.hand ≡ pass.old.pinned.hand }
         ensures same { AfterMaking self.now.gate known.now.file pass.old pass.new }
@@ -158,6 +160,7 @@ impl<T: Tap> Cache<T> {
         ensures told { IfOk result (IsTold T.W.files) }
         ensures cause { IfErr result (FetchCause T.W.files known.now pass.new.view
             (T.state tap.old) (T.state tap.new)) }
+        ensures moves { MovesOnlyAgain (T.state tap.old) (T.state tap.new) result }
         ensures tap { NoneFalls (T.state tap.old) (T.state tap.new) }
         // What the call leaves of the pass.
         ensures hand { OnOk result (pass.new.pinned.hand ≡ None) }
@@ -193,6 +196,7 @@ impl<T: Tap> Cache<T> {
         ensures told { IfOk result (IsTold T.W.files) }
         ensures cause { IfErr result (FetchCause T.W.files known.now pass.new.view
             (T.state tap.old) (T.state tap.new)) }
+        ensures moves { MovesOnlyAgain (T.state tap.old) (T.state tap.new) result }
         ensures tap { NoneFalls (T.state tap.old) (T.state tap.new) }
         // What the call leaves of the pass.
         ensures hand { OnOk result (pass.new.pinned.hand ≡ None) }
@@ -269,6 +273,7 @@ impl<T: Tap> Cache<T> {
         ensures ok { OnOk result (AddsPart halving.old halving.new) }
         ensures cause { IfErr result (FetchCause T.W.files known.now pass.new.view
             (T.state tap.old) (T.state tap.new)) }
+        ensures moves { MovesOnlyAgain (T.state tap.old) (T.state tap.new) result }
         ensures tap { NoneFalls (T.state tap.old) (T.state tap.new) }
         // What the call leaves of the pass.
         ensures hand { OnOk result (pass.new.pinned.hand ≡ None) }
@@ -304,6 +309,7 @@ impl<T: Tap> Cache<T> {
         ensures ok { OnOk result (AddsPart halving.old halving.new) }
         ensures cause { IfErr result (FetchCause T.W.files known.now pass.new.view
             (T.state tap.old) (T.state tap.new)) }
+        ensures moves { MovesOnlyAgain (T.state tap.old) (T.state tap.new) result }
         ensures tap { NoneFalls (T.state tap.old) (T.state tap.new) }
         // What the call leaves of the pass.
         ensures hand { OnOk result (pass.new.pinned.hand ≡ None) }

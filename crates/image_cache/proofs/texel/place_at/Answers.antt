@@ -2,7 +2,7 @@
 use Rattle.std.proofs.Common.{refl, ◌∙◌}
 use Rattle.tile_layout.specs.Cell.{cell_index}
 use Rattle.tile_layout.specs.Grid.{shown_grid}
-use Rattle.tile_layout.proofs.CellLemmas.{index_below, holds_texel}
+use Rattle.tile_layout.proofs.CellLemmas.{holds_texel}
 use Rattle.tile_layout.proofs.GridLemmas.{has_cells}
 use Rattle.image_cache.proofs.texel.place_at.Goals as goal
 

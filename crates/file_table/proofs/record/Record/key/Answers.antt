@@ -1,6 +1,5 @@
 -- The four numbers are those of the level's first cell, but for the cell's.
 use Rattle.std.proofs.Common.{◌∙◌}
-use Rattle.tile_layout.specs.Key.{HasParts}
 use Rattle.tile_layout.proofs.KeyLemmas.{key_from_parts}
 use Rattle.file_table.proofs.record.Record.key.Goals as goal
 

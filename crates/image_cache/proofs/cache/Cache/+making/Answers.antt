@@ -1,5 +1,5 @@
 -- What the steps of making a tile leave of a pass, one after another.
-use Rattle.std.proofs.Common.{inr, refl, arith, ◌∙◌}
+use Rattle.std.proofs.Common.{inr, refl, arith, ◌∙◌, rules}
 use Rattle.shard_gate.proofs.SinceLemmas.{purges_none_chain, misses_before}
 use Rattle.image_cache.specs.Making.{AfterMaking}
 use Rattle.image_cache.proofs.MakingLemmas.{making_none, making_chain, making_pinned}
@@ -149,6 +149,7 @@ halve-parts-init g t c = record {
   hand = c.requires.hand;
   same = making_none c.args.self.now.gate c.args.known.now.file c.args.pass.now c.know.ensures.few;
   tap = none_fell (g.T.Tap.state c.args.tap.now);
+  moves = refl;
 }
 
 pub halve-parts-preserved : goal.halve-parts-preserved
@@ -167,6 +168,7 @@ halve-parts-preserved g t c =
           c.add_part.new.pass inv.same c.add_part.ensures.same;
       tap = none_falls_chain (g.T.Tap.state c.args.tap.now) (g.T.Tap.state c.parts.tap)
           (g.T.Tap.state c.add_part.new.tap) inv.tap c.add_part.ensures.tap;
+      moves = c.in_default.ensures.moves.ok ∙ inv.moves;
     }
 
 pub halve-returns-in-Err-clause-cause : goal.halve-returns-in-Err-clause-cause
@@ -179,3 +181,9 @@ pub halve-returns-in-Err-clause-same : goal.halve-returns-in-Err-clause-same
 halve-returns-in-Err-clause-same g t c =
     making_chain c.args.self.now.gate c.args.known.now.file c.args.pass.now c.parts.pass
     c.add_part.new.pass c.parts.invariant.same c.add_part.ensures.same
+
+pub halve-returns-in-Err-clause-moves : goal.halve-returns-in-Err-clause-moves
+halve-returns-in-Err-clause-moves g t c = record {
+  ok = search rules;
+  err = λ none. c.in-Err.ensures.moves.err none ∙ c.parts.invariant.moves;
+}

@@ -1,5 +1,5 @@
 -- Each step goes to the level before: the tiles of a cell are made of those of the level before it.
-use Rattle.std.proofs.Common.{◌≡◌, None, ℕ, ◌+◌, ◌*◌}
+use Rattle.std.proofs.Common.{◌≡◌, None, ◌+◌, ◌*◌}
 use Rattle.tile_layout.specs.Key.{level_of}
 use Rattle.tile_load.specs.Halving.{part_count}
 use Rattle.image_cache.specs.Pass.{IsPassOf}
@@ -33,4 +33,5 @@ invariant-halve-parts g l = record {
   hand : l.pass.pinned.hand ≡ None;
   same : AfterMaking l.self.gate l.known.file l.fn.pass l.pass;
   tap : NoneFalls (g.T.Tap.state l.fn.tap) (g.T.Tap.state l.tap);
+  moves : (g.T.Tap.state l.tap).moves ≡ (g.T.Tap.state l.fn.tap).moves;
 }
