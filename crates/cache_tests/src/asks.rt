@@ -54,7 +54,9 @@ pub(crate) enum Answer {
     HoldsFull,
     Again(u32, u32),
     ReadFault,
-    /// No memory, a waiter that gave up, or a call that cannot be made.
+    /// The waiter gave up.
+    Busy,
+    /// No memory, or a call that cannot be made.
     Other,
 }
 
@@ -69,6 +71,7 @@ pub(crate) fn refusal<B: Drop>(e: CacheError<B>) -> Answer {
         CacheError::HoldsFull => Answer::HoldsFull,
         CacheError::Again { from, to } => Answer::Again(from, to),
         CacheError::ReadFault => Answer::ReadFault,
-        _ => Answer::Other,
+        CacheError::Busy(_gave_up) => Answer::Busy,
+        CacheError::NoMemory => Answer::Other,
     }
 }

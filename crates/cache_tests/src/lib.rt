@@ -7,6 +7,8 @@
 #[cfg(test)]
 mod asks;
 #[cfg(test)]
+mod busy;
+#[cfg(test)]
 mod caller;
 #[cfg(test)]
 mod calls;

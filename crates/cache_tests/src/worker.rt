@@ -122,7 +122,7 @@ impl<T: Tap> Worker<'_, T> {
         match self.cache.release_tile(waiter, &mut self.pass, place) {
             Ok(()) => Answer::Released,
             Err(NotReleased::NothingHeld) => Answer::Nothing,
-            Err(_busy) => Answer::Other,
+            Err(NotReleased::Busy(_gave_up)) => Answer::Busy,
         }
     }
 
@@ -256,7 +256,7 @@ impl<T: Tap> Worker<'_, T> {
                 count.loose,
                 count.share,
             ]),
-            Err(_busy) => Answer::Other,
+            Err(_gave_up) => Answer::Busy,
         }
     }
 

@@ -1,0 +1,202 @@
+//! A waiter that makes a call of the cache in the middle of another one: what it finds taken, it
+//! gives up at. The next try is answered.
+ghost use Rattle.std.specs.Prelude.{ℕ, ◌≡◌, ◌<◌};
+ghost use Rattle.tex_world.specs.World.{IsFile};
+
+use crate::asks::Ask::{Hold, Info, Invalidate, InvalidateAll, Pixels, Texture};
+use crate::asks::{Answer, Ask, Look};
+use crate::folder::{cache_of, second_of};
+use crate::planned::{NEWER, ONE_SHARD, PLAIN, taps_of};
+use crate::small_files::{A, B, SmallFiles};
+use crate::worker::Worker;
+use std::alloc::Global;
+use std::cell::Cell;
+use std::test::Fail;
+use tex_world::{MemTap, Tap};
+use texel_filter::Filter::Bilinear;
+use texel_filter::Wrap::Clamp;
+use waiter::{GaveUp, Tries, Waiter};
+
+// The middle of `A`, whose mean is 6553.5.
+const MIDDLE: Look = ((32768, 32768, 0), Clamp, Bilinear, 1);
+
+// A call asks its waiter no more often for its tries.
+const LAST_TRY: u32 = 16;
+
+// At the k-th time that it is asked for its tries, another caller makes a call by one try.
+#[derive(Drop)]
+struct Nosy<'a, T: Tap> {
+    caller: Cell<Option<Worker<'a, T>>>,
+    ask: (usize, Ask),
+    left: Cell<u32>,
+    answer: Cell<Answer>,
+    ghost told: { (file : ℕ) → file < 5 → IsFile T.W.files file },
+}
+
+impl<'a, T: Tap + Drop> Nosy<'a, T> {
+    // Makes the call, if it is time.
+    fn look_in(&self) {
+        let left = self.left.get();
+        self.left.set(left.saturating_sub(1));
+        if left != 1 {
+            return;
+        }
+        if let Some(mut caller) = self.caller.replace(None) {
+            let (tap, ask) = self.ask;
+            self.answer.set(caller.answer(&Tries::new(1), tap, ask));
+            self.caller.set(Some(caller));
+        }
+    }
+}
+
+impl<T: Tap + Drop> Waiter for Nosy<'_, T> {
+    type Busy = GaveUp;
+
+    ghost tries_of = { λ _. 1 };
+
+    fn tries(&self) -> u64 {
+        self.look_in();
+        1
+    }
+
+    fn pause(&self, _failed: u64) {}
+
+    fn busy(&self) -> GaveUp {
+        GaveUp
+    }
+}
+
+/// What the second caller has asked for before, what the first one asks for, and by which tap the
+/// second asks for what inside of it; and its answer once nothing is taken.
+type Row = (&'static str, Ask, Ask, (usize, Ask), Answer);
+
+static ROWS: &[Row] = &[
+    (
+        "info: the record is taken",
+        Info(B),
+        Info(A),
+        (PLAIN, Info(A)),
+        Answer::Facts([1, 4, 4, 1, 8, 1, 1]),
+    ),
+    (
+        "hold: the record is taken",
+        Info(B),
+        Info(A),
+        (PLAIN, Hold(A, (0, 0, 0))),
+        Answer::Of(1),
+    ),
+    (
+        "region: the record is taken",
+        Info(B),
+        Info(A),
+        (PLAIN, Pixels(A, (0, 3, 3), (1, 1))),
+        Answer::Texels(1, 1),
+    ),
+    (
+        "lookup: the record is taken",
+        Info(B),
+        Info(A),
+        (PLAIN, Texture(A, MIDDLE)),
+        Answer::Of(1),
+    ),
+    (
+        "a file made invalid: the record is taken",
+        Info(B),
+        Info(A),
+        (PLAIN, Invalidate(A, true)),
+        Answer::Of(1),
+    ),
+    (
+        "all files made invalid: the record is taken",
+        Info(A),
+        Info(A),
+        (NEWER, InvalidateAll),
+        Answer::Known,
+    ),
+    (
+        "lookup: the idle handles are taken",
+        Info(A),
+        Pixels(B, (0, 0, 0), (1, 1)),
+        (PLAIN, Texture(A, MIDDLE)),
+        Answer::Of(1),
+    ),
+    (
+        "hold: the idle handles are taken",
+        Info(A),
+        Pixels(B, (0, 0, 0), (1, 1)),
+        (PLAIN, Hold(A, (0, 0, 0))),
+        Answer::Of(1),
+    ),
+    (
+        "region: the idle handles are taken",
+        Info(A),
+        Pixels(B, (0, 0, 0), (1, 1)),
+        (PLAIN, Pixels(A, (0, 3, 3), (1, 1))),
+        Answer::Texels(1, 1),
+    ),
+];
+
+// What a call answers that is made inside another one at the k-th time that this one asks its waiter
+// for its tries, and the same call behind it.
+fn answers<T: Tap + Drop>(
+    alloc: Global,
+    taps: (Vec<T>, Vec<T>),
+    row: &Row,
+    k: u32,
+) -> Result<(Answer, Answer), Fail>
+    requires { (file : ℕ) → file < 5 → IsFile T.W.files file }
+{
+    let (_what, before, outer, inner, _answer) = *row;
+    let (cache, mut pass) = cache_of(alloc, ONE_SHARD, 5)?;
+    let second = second_of(&cache, &mut pass)?;
+    let mut caller = Worker {
+        cache: &cache,
+        shards: ONE_SHARD.shards,
+        pass: second,
+        taps: taps.1,
+        out: Vec::new(alloc),
+    };
+    let _known = caller.answer(&Tries::new(1), PLAIN, before);
+    let nosy = Nosy {
+        caller: Cell::new(Some(caller)),
+        ask: inner,
+        left: Cell::new(k),
+        answer: Cell::new(Answer::Nothing),
+    };
+    let mut worker = Worker {
+        cache: &cache,
+        shards: ONE_SHARD.shards,
+        pass,
+        taps: taps.0,
+        out: Vec::new(alloc),
+    };
+    let _outer = worker.answer(&nosy, PLAIN, outer);
+    let inside = nosy.answer.get();
+    let behind = match nosy.caller.replace(None) {
+        Some(mut caller) => caller.answer(&Tries::new(1), inner.0, inner.1),
+        None => Answer::Other,
+    };
+    Ok((inside, behind))
+}
+
+// Whether the call of a row is once busy inside the other, and is then answered.
+fn is_met(alloc: Global, row: &Row) -> Result<bool, Fail> {
+    let mut busy = 0;
+    for k in 1..=LAST_TRY {
+        let taps: (Vec<MemTap<SmallFiles>>, _) = (taps_of(alloc)?, taps_of(alloc)?);
+        let (inside, behind) = answers(alloc, taps, row, k)?;
+        if behind != row.4 {
+            return Ok(false);
+        }
+        busy += u32::from(inside == Answer::Busy);
+    }
+    Ok(busy > 0)
+}
+
+#[test]
+fn a_call_inside_another_gives_up(rt: HostRuntime) -> Result<(), Fail> {
+    for row in ROWS {
+        assert!(rt; is_met(rt.alloc(), row)?, "{}", row.0);
+    }
+    Ok(())
+}
