@@ -24,6 +24,7 @@ impl<T: Tap> Cache<T> {
     /// all four lie in one cell that the microcache has. Else false, and all is as before.
     ///
     /// The corners get the values of so many channels.
+    #[inline(always)]
     pub fn fetch_square_local(
         &self,
         pass: &mut Pass<T::W>,
@@ -61,6 +62,7 @@ impl<T: Tap> Cache<T> {
 
     /// Writes the values of the texels of a square by the tile of their cell, which stands first in
     /// the microcache.
+    #[inline(always)]
     fn write_corners(
         &self,
         pass: &Pass<T::W>,

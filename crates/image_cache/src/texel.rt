@@ -20,6 +20,7 @@ use tiff_format::Rect;
 use tile_layout::Grid;
 
 /// The cell that holds a texel of a record.
+#[inline(always)]
 pub(crate) fn cell_at<W: World>(known: &Record<W>, at: TexelAt) -> CellAt
     requires inside { IsTexelIn known.now at }
     requires file { known.now.file < max_files }
@@ -51,6 +52,7 @@ fn place_at(grid: &Grid, x: u32, y: u32) -> (u32, Rect)
 }
 
 /// The cell that holds all four texels of a square of a record, if there is one.
+#[inline(always)]
 pub(crate) fn cell_of_square<W: World>(known: &Record<W>, square: &Square) -> Option<CellAt>
     requires inside { IsSquareIn known.now square.now }
     requires file { known.now.file < max_files }

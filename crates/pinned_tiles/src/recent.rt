@@ -79,6 +79,7 @@ impl<W: World> Pinned<W> {
     }
 
     /// The tile of a cell, which stands first in the microcache.
+    #[inline(always)]
     pub fn latest(&self, cell: &CellAt) -> &Tile<W>
         requires { StandsFirst cell.now self.now.recent }
         ensures keyed { result.now.key ≡ cell.now.key }
@@ -91,6 +92,7 @@ impl<W: World> Pinned<W> {
     }
 
     /// Whether the tile that stands first in the microcache is that of the cell.
+    #[inline(always)]
     pub fn is_latest(&self, cell: &CellAt) -> bool
         ensures { IsTrue result ↔ StandsFirst cell.now self.now.recent }
     {

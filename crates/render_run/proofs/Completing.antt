@@ -1,5 +1,5 @@
 -- A list is answered whole where nothing fails.
-use Rattle.std.proofs.Common.{◌≡◌, ◌⊎◌, inl, inr, ℕ, ◌<◌, ◌≤◌, List, length, ◌∙◌}
+use Rattle.std.proofs.Common.{◌≡◌, inl, inr, ℕ, ◌≤◌, List, length, ◌∙◌}
 use Rattle.std.proofs.Common.{Option, Some, None, Ok, Err, arith, nat_le, Bool, true, false, refl, ap}
 use Rattle.std.proofs.lemmas.Bool.{cases_lt, lt-leb}
 use Rattle.std.specs.Prelude.{IsTrue, IsSome, if◌then◌else◌}
@@ -16,7 +16,7 @@ use Rattle.render_run.specs.declared.prepare.Ending.TheVariants.{NoMemory}
 use Rattle.render_run.specs.Status.{input_fault}
 use Rattle.render_run.specs.Around.{Around, FeedState}
 use Rattle.render_run.specs.ListRead.{FeedSays}
-use Rattle.render_run.specs.Ending.{IsEnded, Ends, path_in, status_of}
+use Rattle.render_run.specs.Ending.{Ends, path_in, status_of}
 use Rattle.render_run.specs.Run.{inputs_in, IsAnswered, Runs}
 use Rattle.render_run.specs.Complete.{StaysAt, IsCalm, HasAList, NoneFails, Completes}
 

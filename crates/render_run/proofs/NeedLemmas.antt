@@ -1,25 +1,22 @@
 -- What a call of the cache leaves of what a worker has counted.
 use Rattle.std.proofs.Common.{◌≡◌, ℕ, zero, suc, ◌+◌, ◌-◌, ◌*◌, ◌/◌, ◌<◌, ◌≤◌, ◌==◌, Bool, true, false, List, [], ◌++◌}
-use Rattle.std.proofs.Common.{length, map, refl, sym, ap, subst, ◌∙◌, Option, Some, None, Result, Ok, Err}
-use Rattle.std.proofs.Common.{if◌then◌else◌, IsTrue, IsFalse, min, eqb, ℤ, pos, ◌+ℤ◌, arith}
-use Rattle.std.specs.Prelude.{IsOkAnd, IsSomeAnd, IsSome, IfOk}
+use Rattle.std.proofs.Common.{length, refl, sym, ap, subst, ◌∙◌, Option, Some, None, Result, Ok, Err}
+use Rattle.std.proofs.Common.{if◌then◌else◌, ℤ, pos, ◌+ℤ◌, arith}
+use Rattle.std.specs.Prelude.{IsSomeAnd, IsSome, IfOk}
 use Rattle.std.specs.Option.{ForSome}
-use Rattle.std.specs.List.{range_with_len}
 use Rattle.std.proofs.lemmas.List.{length-map, length-append}
 use Rattle.std.proofs.lemmas.List.FromFn.{length-map-range_with_len}
 use Rattle.std.proofs.Math.Nat.{mul-le-mul, mul-le-mul_left, add-mul, mul_comm}
 use native.Mathlib.Nat.{lt-div-mul-add, div-lt_iff_lt-mul, div-zero}
-use Rattle.std.proofs.lemmas.Bool.{eqb-true, eqb-false}
+use Rattle.std.proofs.lemmas.Bool.{eqb-false}
 use Rattle.tex_world.specs.World.{Files, IsReal}
 use Rattle.tiff_format.specs.declared.fault.TiffFault.{TiffFault}
 use Rattle.tiff_format.specs.declared.cut.Cut.{Cut}
 use Rattle.tiff_format.specs.Fault.{first_fault}
 use Rattle.tile_layout.specs.Kept.{Kept, kept_of}
-use Rattle.tile_layout.specs.Key.{key_of}
 use Rattle.tile_layout.specs.Cell.{CutLevel, cut_level_in, cut_level_of}
 use Rattle.tile_layout.specs.Grid.{shown_grid}
-use Rattle.gen_board.specs.View.{ViewState}
-use Rattle.file_table.specs.Record.{RecordState, layout_of}
+use Rattle.file_table.specs.Record.{RecordState}
 use Rattle.file_table.specs.Calls.{GivesRecord}
 use Rattle.texel_filter.specs.declared.request.TexRequest.{TexRequest}
 use Rattle.texel_filter.specs.declared.request.Filter.{Filter}
@@ -38,14 +35,14 @@ use Rattle.texel_values.specs.Area.{area_cells}
 use Rattle.texel_values.specs.Met.{cells_met, count_met}
 use Rattle.image_cache.specs.declared.error.CacheError.{CacheError}
 use Rattle.image_cache.specs.declared.error.CacheError.TheVariants as refused
-use Rattle.image_cache.specs.Pass.{PassState, max_count, counted_together}
+use Rattle.image_cache.specs.Pass.{PassState}
 use Rattle.image_cache.specs.Call.{Needs, KeepsRecent, CountsOn, KeepsGiven}
 use Rattle.image_cache.specs.Cause.{KeepsRecentAt}
 use Rattle.image_cache.specs.Region.{ReadsRegion, area_keys}
 use Rattle.texture_sys.specs.Look.{sizes_by, sizes_in}
 use Rattle.texture_sys.specs.Needs.{look_keys_on, visits_on, NeedsCells}
 use Rattle.texture_sys.proofs.LookLemmas.{bad_layout}
-use Rattle.texture_sys.specs.Call.{IsLookedUp, IsLookOn}
+use Rattle.texture_sys.specs.Call.{IsLookedUp}
 use Rattle.request_lang.specs.declared.answer.Answer.{Answer}
 use Rattle.request_lang.specs.declared.answer.Answer.TheVariants as line
 use Rattle.request_lang.specs.Basis.{basis_of}
@@ -53,10 +50,10 @@ use Rattle.render_run.specs.declared.question.Question.TheVariants.{Look, Values
 use Rattle.render_run.specs.declared.question.Task.{Task}
 use Rattle.render_run.specs.declared.question.Task.TheVariants.{Ask}
 use Rattle.render_run.specs.Around.{Tally, tally_of}
-use Rattle.render_run.specs.Needed.{AreNeeded, AreRegionKeys, look_keys, met_keys, empties, is_calm}
+use Rattle.render_run.specs.Needed.{AreNeeded, met_keys, empties, is_calm}
 use Rattle.render_run.specs.Refusal.{refusal_of}
-use Rattle.render_run.specs.Tallied.{IsLow, Asks, TalliesAs, TalliesAnswer}
-use Rattle.render_run.proofs.GivenLemmas.{by_given, given_real, kept_told}
+use Rattle.render_run.specs.Tallied.{TalliesAs, TalliesAnswer}
+use Rattle.render_run.proofs.GivenLemmas.{kept_told}
 
 -- ---- nothing was needed
 

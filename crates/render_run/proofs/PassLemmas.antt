@@ -1,5 +1,5 @@
 -- A pass that is as it was, over two calls.
-use Rattle.std.proofs.Common.{◌≡◌, ◌∙◌, refl}
+use Rattle.std.proofs.Common.{◌∙◌, refl}
 use Rattle.image_cache.specs.Pass.{CacheState, PassState, IsPassOf, IsSamePass}
 
 pub same_twice : (a b c : PassState) → IsSamePass a b → IsSamePass b c → IsSamePass a c

@@ -1,23 +1,22 @@
 -- What a worker has counted, with a line more.
 use Rattle.std.proofs.Common.{◌≡◌, ◌≢◌, ℕ, ◌+◌, ◌≤◌, min, Bool, true, false, List, [], ◌∷◌, ◌++◌}
 use Rattle.std.proofs.Common.{length, map, count_by, refl, sym, ap, subst, ◌∙◌, IsTrue, Some, eqb, nat_eq, arith}
-use Rattle.std.specs.Prelude.{fold, if◌then◌else◌}
-use Rattle.std.specs.List.{All, list_any}
+use Rattle.std.specs.Prelude.{if◌then◌else◌}
+use Rattle.std.specs.List.{list_any}
 use Rattle.std.proofs.lemmas.Bool.{eq-eqb, ne_eqb}
 use Rattle.std.proofs.lemmas.List.Sums.{sum_by_push, sum_by-append, fold_push}
 use Rattle.std.proofs.lemmas.List.Elements.{All-pop}
 use Rattle.tex_world.specs.World.{Files}
 use Rattle.tiff_format.specs.declared.cut.Cut.{Cut}
 use Rattle.micro.specs.Items.{AreItems}
-use Rattle.micro.specs.Recent.{hits, hit_count, AreRecent}
+use Rattle.micro.specs.Recent.{hits, hit_count}
 use Rattle.micro.specs.Runs.{AreAsked, IsAsked}
 use Rattle.micro.proofs.HitLemmas.{hit_count-none, any_from_Contains, none_from_absent}
 use Rattle.micro.proofs.ItemLemmas.{no_items, recent_none, first_found, placed_new}
 use Rattle.micro.proofs.RunLemmas.{is_run}
 use Rattle.tile_store.specs.Tile.{CachedTile}
 use Rattle.pinned_tiles.specs.Pinned.{key_in}
-use Rattle.image_cache.specs.Pass.{max_count, counted_together}
-use Rattle.request_lang.specs.declared.answer.Answer.{Answer}
+use Rattle.image_cache.specs.Pass.{max_count}
 use Rattle.request_lang.specs.Basis.{basis_of}
 use Rattle.render_run.specs.declared.question.Task.{Task}
 use Rattle.render_run.specs.Around.{Tally, no_tally}
@@ -25,7 +24,7 @@ use Rattle.render_run.specs.Needed.{empties, is_calm}
 use Rattle.render_run.specs.Reply.{Line}
 use Rattle.render_run.specs.Counted.{Needed, needs_by, hits_by, needed_by, none_needed, hits_in}
 use Rattle.render_run.specs.Counted.{with_own, with_line, AreCalm}
-use Rattle.render_run.specs.Tallied.{IsLow, Asks, IsEmptied, TalliesAs, TalliesAnswer}
+use Rattle.render_run.specs.Tallied.{IsLow, TalliesAs, TalliesAnswer}
 use Rattle.render_run.specs.Tallied.{IsExactly, IsTallied}
 
 -- the items that are left are such as a microcache has: of one key, and of a run

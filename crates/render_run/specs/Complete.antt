@@ -1,5 +1,5 @@
 -- When is a list answered whole, and when does no line of it fail? (docs/REQUESTS.md, "Statuses")
-use Rattle.std.specs.Prelude.{◌≡◌, ◌⊎◌, ℕ, ◌<◌, ◌≤◌, IsTrue, IsSome, List, Option, Some, Ok}
+use Rattle.std.specs.Prelude.{◌≡◌, ◌⊎◌, ℕ, ◌<◌, ◌≤◌, IsSome, List, Option, Some, Ok}
 use Rattle.tex_world.specs.Counts.{last_count}
 use Rattle.tex_world.specs.World.{Files}
 use Rattle.command_line.specs.Invocation.{Asked}

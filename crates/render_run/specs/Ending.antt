@@ -1,10 +1,10 @@
 -- Why does the top call end before it answers a list, and with which status and text?
 -- (docs/REQUESTS.md, "Statuses")
 use Rattle.std.specs.Prelude.{◌≡◌, ◌⊎◌, ℕ, IsTrue, codes, List, [], ◌∷◌, ◌++◌, map, Option, None}
-use Rattle.std.specs.Prelude.{IsSome, IsSomeAnd, Result, Ok, Err, String, false, ⊤}
+use Rattle.std.specs.Prelude.{IsSome, IsSomeAnd, Ok, Err, String, ⊤}
 use Rattle.std.specs.Option.{option_map}
 use Rattle.std.specs.String.{string_bytes}
-use Rattle.std.specs.Global.{Global, Vec}
+use Rattle.std.specs.Global.{Global}
 use Rattle.tex_world.specs.Counts.{Rises}
 use Rattle.tex_world.specs.World.{Files}
 use Rattle.tex_world.specs.Folder.{FolderState}
@@ -20,7 +20,7 @@ use Rattle.render_run.specs.declared.prepare.Ending.TheVariants.{TooManyFiles, L
 use Rattle.render_run.specs.declared.prepare.Ending.TheVariants.{NoMemory}
 use Rattle.render_run.specs.Status as status
 use Rattle.render_run.specs.Around.{FeedState, Inputs}
-use Rattle.request_lang.specs.Grammar.{Parsed, line_feed}
+use Rattle.request_lang.specs.Grammar.{line_feed}
 use Rattle.request_lang.specs.Line.{bad_list_line}
 use Rattle.render_run.specs.ListRead.{FeedSays}
 

@@ -21,7 +21,7 @@ use tex_world::{Tap, World};
 use texel_filter::TexRequest;
 use texel_values::{Region, TexelAt};
 use texture_sys::texture;
-use tiff_format::{Rect, ShardCount};
+use tiff_format::{MAX_CHANNELS, Rect, ShardCount};
 use waiter::Forever;
 
 /// A worker: its pass, and the tap that it reads by.
@@ -86,7 +86,7 @@ fn answer_on<R: Wait, T: Tap>(
     match question {
         Question::Facts => facts(cache, waiter, worker, file),
         Question::Values(region) => values(alloc, cache, waiter, worker, file, region),
-        Question::Look(request) => look(alloc, cache, waiter, worker, file, request),
+        Question::Look(request) => look(cache, waiter, worker, file, request),
         Question::Hold(at) => hold(cache, waiter, worker, file, *at),
         Question::Renewal(force) => renewal(cache, waiter, worker, file, *force),
     }
@@ -159,7 +159,6 @@ fn values<R: Wait, T: Tap>(
 
 /// The values of a lookup.
 fn look<R: Wait, T: Tap>(
-    alloc: Global,
     cache: &Cache<T>,
     waiter: &Forever<R>,
     worker: &mut Worker<T>,
@@ -180,9 +179,8 @@ fn look<R: Wait, T: Tap>(
         (tally_of worker.old.pass) (tally_of worker.new.pass) result }
     ensures pass { IsPassOf cache.now worker.new.pass }
 {
-    let Ok(mut values) = vec![in alloc; 0u16; request.nch as usize] else {
-        return Answer::NoMemory;
-    };
+    let count = request.nch as usize;
+    let mut places = [0u16; MAX_CHANNELS];
     match texture(
         cache,
         waiter,
@@ -190,11 +188,11 @@ fn look<R: Wait, T: Tap>(
         &mut worker.tap,
         file,
         request,
-        &mut values,
+        &mut places[..count],
     ) {
         Ok(generation) => Answer::Tex {
             generation,
-            values: Values::new(values),
+            values: Values::few(places, count),
         },
         Err(e) => refusal(e),
     }

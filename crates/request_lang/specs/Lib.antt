@@ -7,6 +7,7 @@ pub mod LineEnd
 pub mod Parsing
 pub mod Basis
 pub mod Line
+pub mod KeptValues
 pub mod Closing
 pub mod Appending
 pub mod Digits

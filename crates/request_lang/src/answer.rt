@@ -1,21 +1,34 @@
 //! What a request is answered.
 
-ghost use Rattle.std.specs.Prelude.{◌≡◌, ◌≤◌, List, ℕ, length};
+ghost use Rattle.std.specs.Prelude.{◌≡◌, ◌≤◌, List, ℕ, length, take};
+ghost use Rattle.tiff_format.specs.Limits.{max_channels};
 ghost use Rattle.request_lang.specs.Appending.{max_shards};
 
 use std::marker::Model;
-use tiff_format::{Info, Rect, ShardCount, TiffFault};
+use tiff_format::{Info, MAX_CHANNELS, Rect, ShardCount, TiffFault};
 
-/// 16-bit values. Contracts see them as a list.
+/// How the values are kept: a few of them in place, as those of a lookup are, and else as a vector.
+#[derive(Drop)]
+enum Kept {
+    Few([u16; MAX_CHANNELS], usize),
+    Many(Vec<u16>),
+}
+
+/// 16-bit values. Contracts see them as a list. A few of them take no memory.
 #[derive(Drop)]
 pub struct Values {
-    items: Vec<u16>,
+    kept: Kept,
 }
 
 impl Model for Values {
+    ghost use Rattle.std.specs.Prelude.{List, ℕ};
+    ghost use Rattle.request_lang.specs.KeptValues.{kept_values, IsKept};
+
     ghost Value = { List ℕ };
 
-    ghost view = { λ values. values.items.items };
+    ghost view = { λ values. kept_values values.kept };
+
+    ghost invariant = { λ values. IsKept values.kept };
 }
 
 impl Values {
@@ -23,14 +36,29 @@ impl Values {
     pub fn new(items: Vec<u16>) -> Values
         ensures { result ≡ items.items }
     {
-        Values { items }
+        Values {
+            kept: Kept::Many(items),
+        }
+    }
+
+    /// The first of these places, so many of them. It takes no memory.
+    pub fn few(places: [u16; MAX_CHANNELS], count: usize) -> Values
+        requires { count ≤ max_channels }
+        ensures { result ≡ take count places }
+    {
+        Values {
+            kept: Kept::Few(places, count),
+        }
     }
 
     /// The values.
     pub fn as_slice(&self) -> &[u16]
         ensures { result.now ≡ self.now }
     {
-        self.items.as_slice()
+        match &self.kept {
+            Kept::Few(places, count) => &places[..*count],
+            Kept::Many(items) => items.as_slice(),
+        }
     }
 }
 

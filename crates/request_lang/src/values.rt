@@ -97,7 +97,12 @@ pub fn values_text(texts: &ValueTexts, values: &[u16], out: &mut Vec<u8>) -> Res
     ensures ok { OnOk result (out.new.items ≡ out.old.items ++ fields values.now) }
     ensures fits { Fits max_part_bytes out.old out.new result }
 {
-    match push_part(texts, out, &mut [0u8; ROOM_BYTES], values) {
+    let pushed = if values.len() <= FEW_VALUES {
+        push_part(texts, out, &mut [0u8; FEW_BYTES], values)
+    } else {
+        push_part(texts, out, &mut [0u8; ROOM_BYTES], values)
+    };
+    match pushed {
         Ok(()) => Ok(()),
         Err(_) => Err(NoMemory),
     }

@@ -4,14 +4,37 @@ ghost use Rattle.tile_layout.specs.Cell.{HoldsTexel};
 ghost use Rattle.texel_filter.specs.Image.{IsChannelCount};
 ghost use Rattle.texel_values.specs.Square.{HoldsSquare, AreToldCorners};
 
-use crate::values::channel_value;
+use crate::values::{NARROW_DEPTH, channel_value};
 use tex_world::World;
 use texel_filter::{Corners, Square};
 use tile_store::Tile;
 
 /// Writes the values of the first channels of the four texels of a square, all of one tile, and 0
 /// for those that it lacks.
+///
+/// It has a body for samples of 8 bits and one for others, so that none asks for it at each value.
+#[inline(always)]
 pub fn write_square<W: World>(
+    tile: &Tile<W>,
+    depth: u32,
+    square: &Square,
+    channels: usize,
+    out: &mut Corners,
+)
+    requires inside { HoldsSquare tile.now.rect square.now }
+    requires channels { IsChannelCount channels }
+    ensures { AreToldCorners W.files tile.now depth square.now channels out.new }
+{
+    if depth == NARROW_DEPTH {
+        write_corners(tile, NARROW_DEPTH, square, channels, out);
+    } else {
+        write_corners(tile, depth, square, channels, out);
+    }
+}
+
+/// The same, compiled where the compiler knows what it is to know of the depth.
+#[inline(always)]
+fn write_corners<W: World>(
     tile: &Tile<W>,
     depth: u32,
     square: &Square,

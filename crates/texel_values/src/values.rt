@@ -8,7 +8,7 @@ use tex_world::World;
 use tile_store::Tile;
 
 /// The bits of a narrow sample.
-const NARROW_DEPTH: u32 = 8;
+pub(crate) const NARROW_DEPTH: u32 = 8;
 
 /// The numbers of 8 bits.
 const NARROW_NUMBERS: u16 = 256;
@@ -17,6 +17,7 @@ const NARROW_NUMBERS: u16 = 256;
 const NARROW_SCALE: u16 = 257;
 
 /// The 16-bit value of a sample of a file of this depth.
+#[inline(always)]
 pub(crate) fn value_of(depth: u32, sample: u16) -> u16
     ensures { result ≡ kept_value depth sample }
 {
@@ -28,6 +29,7 @@ pub(crate) fn value_of(depth: u32, sample: u16) -> u16
 }
 
 /// The value of a channel of these samples of a texel, 0 for one that they lack.
+#[inline(always)]
 pub(crate) fn channel_value(samples: &[u16], depth: u32, c: usize) -> u16
     ensures { result ≡ sample_value samples.now depth c }
 {

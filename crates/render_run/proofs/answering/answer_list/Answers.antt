@@ -1,4 +1,3 @@
-use Rattle.std.proofs.Common.{length}
 use Rattle.render_run.specs.Around.{sink_state}
 use Rattle.render_run.proofs.Rounds.{rounds_finish, close_cut, rounds_put, rounds_cut, rises_from}
 use Rattle.render_run.proofs.answering.answer_list.Goals as goal

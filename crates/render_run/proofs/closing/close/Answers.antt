@@ -1,4 +1,4 @@
-use Rattle.std.proofs.Common.{[], ◌++◌, map, refl, arith}
+use Rattle.std.proofs.Common.{[], ◌++◌, map, refl}
 use Rattle.std.proofs.lemmas.List.{append-nil}
 use Rattle.request_lang.specs.Closing.{closing_lines, worker_lines, total_line}
 use Rattle.render_run.specs.Around.{sink_state, counts_of}

@@ -4,7 +4,7 @@ use Rattle.tiff_format.specs.declared.rect.Rect.{Rect}
 use Rattle.tile_layout.specs.Key.{generation_of, file_of}
 use Rattle.tile_layout.specs.Cell.{HoldsTexel}
 use Rattle.texel_values.proofs.SquareLemmas.{some_four, told_first, texel_samples, one_more_first}
-use Rattle.texel_values.proofs.square.write_square.Goals as goal
+use Rattle.texel_values.proofs.square.write_corners.Goals as goal
 
 pub channels-preserved : goal.channels-preserved
 channels-preserved g c =

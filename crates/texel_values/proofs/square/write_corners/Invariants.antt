@@ -1,7 +1,7 @@
 -- The channels so far stand in the four corners.
 use Rattle.texel_filter.specs.Image.{AreFirst}
 use Rattle.texel_values.specs.Values.{sample_value}
-use Rattle.texel_values.proofs.square.write_square.Given as goal
+use Rattle.texel_values.proofs.square.write_corners.Given as goal
 
 abbrev pub invariant-channels : goal.invariant-channels
 invariant-channels g l = record {
