@@ -1,17 +1,27 @@
 #!/usr/bin/env bash
 # Runs the real program over files that are no pictures, or that lie about themselves, and compares
-# what it prints. Each gets its named line at once, in little memory. The sparse file has 5 GiB and
-# takes no room on the disk.
+# what it prints. Each gets its named line at once, in little memory. The sparse files have 5 GiB and
+# take no room on the disk.
 set -u
 top=$(cd "$(dirname "${BASH_SOURCE[0]}")/.." && pwd) || exit 1
 folder=$(mktemp -d) || exit 1
 trap 'chmod -R u+rw "$folder"; rm -rf "$folder"' EXIT
 picture=$top/crates/texcache/data/A.tif
+wide=$top/crates/texcache/data/big.tif
 
+# other bytes at a place of a file
+put() { # NAME PLACE BYTES
+  printf "$3" | dd of="$folder/$1" bs=1 seek="$2" conv=notrunc status=none
+}
 # a copy of the picture with other bytes at a place
 changed() { # NAME PLACE BYTES
   cp "$picture" "$folder/$1"
-  printf "$3" | dd of="$folder/$1" bs=1 seek="$2" conv=notrunc status=none
+  put "$1" "$2" "$3"
+}
+# and of the one with wide offsets
+widened() { # NAME PLACE BYTES
+  cp "$wide" "$folder/$1"
+  put "$1" "$2" "$3"
 }
 
 : > "$folder/empty.tif"
@@ -29,6 +39,14 @@ changed one_too_far.tif 78 '\x7b\x00\x00\x00'    # the strip one byte past the e
 # still pictures: the next directory is the first one, or stands far behind the file
 changed itself.tif 118 '\x08\x00\x00\x00'
 changed next_far.tif 118 '\xff\xff\xff\xff'
+# with wide offsets: places near 2^64, and a strip behind 5 GiB, the first sample of which is 7
+head -c 15 "$wide" > "$folder/fifteen.tif"
+widened wide_end.tif 8 '\xf8\xff\xff\xff\xff\xff\xff\xff'
+widened wide_entries.tif 16 '\xff\xff\xff\xff\xff\xff\xff\xff'
+widened wide_offsets.tif 128 '\x01\x00\x00\x00\x00\x00\x00\x20'
+widened wide_strip.tif 136 '\xf0\xff\xff\xff\xff\xff\xff\xff'
+widened beyond.tif 136 '\x00\x00\x00\x40\x01\x00\x00\x00'
+truncate -s 5368709136 "$folder/beyond.tif"; put beyond.tif 5368709120 '\x07'
 mkdir "$folder/folder.tif"
 cp "$picture" "$folder/secret.tif"; chmod 000 "$folder/secret.tif"
 cp "$picture" "$folder/sparse.tif"; truncate -s 5G "$folder/sparse.tif"
@@ -42,14 +60,17 @@ ask() { # NAME LINE
   printf '%s\n' "$2" >> "$folder.want"
 }
 rm -f "$folder.list" "$folder.want"
-for name in empty one seven; do ask "$name.tif" 'bad file 1 1'; done
+for name in empty one seven fifteen; do ask "$name.tif" 'bad file 1 1'; done
 ask zeros.tif 'bad file 1 2'
-for name in eight at_end past_end in_header many_entries; do ask "$name.tif" 'bad file 1 4'; done
-for name in many_offsets no_offsets; do ask "$name.tif" 'bad file 1 6 273'; done
-for name in far_strip one_too_far; do ask "$name.tif" 'bad file 1 12 0 0'; done
+for name in eight at_end past_end in_header many_entries wide_end wide_entries; do
+  ask "$name.tif" 'bad file 1 4'
+done
+for name in many_offsets no_offsets wide_offsets; do ask "$name.tif" 'bad file 1 6 273'; done
+for name in far_strip one_too_far wide_strip; do ask "$name.tif" 'bad file 1 12 0 0'; done
 ask itself.tif 'pixels 1 1 0'
 ask next_far.tif 'pixels 1 1 0'
 ask sparse.tif 'pixels 1 1 0'
+ask beyond.tif 'pixels 1 1 1799'
 ask folder.tif 'no such file'
 ask secret.tif "$secret"
 

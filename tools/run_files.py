@@ -18,18 +18,28 @@ sys.path.insert(0, str(TOP / "demo"))
 from counts import closing  # noqa: E402
 from make_expected import FIELDS, GENERATION, keys, on_pages  # noqa: E402
 from make_pictures import BIG, LITTLE, LONG, RGB, SHORT, BLACK_IS_ZERO, WHITE_IS_ZERO  # noqa: E402
-from make_pictures import blocks, entries_of  # noqa: E402
+from make_pictures import blocks  # noqa: E402
 
 RUN = TOP / "crates" / "texcache"
 MARKS = {LITTLE: b"II", BIG: b"MM"}
+
+# The types of values, by the letters that pack one: LONG8 stands where offsets are wide.
+LONG8 = 16
+LETTERS = {SHORT: "H", LONG: "I", LONG8: "Q"}
+
+# The form of a file: the number behind the mark, what stands between it and the offset of the first
+# directory, and the letters of a directory's count and of an offset.
+Form = namedtuple("Form", "version behind count offset")
+NARROW = Form(42, b"", "H", "I")
+WIDE = {LITTLE: Form(43, b"\x08\0\0\0", "Q", "Q"), BIG: Form(43, b"\0\x08\0\0", "Q", "Q")}
 
 # A level of a file: `texel` gives the stored samples of a column and a row. It is cut into tiles of
 # that width and height, or into strips of so many rows. The blocks stand in the file in the order
 # `stored`, each at the next free place, and their offsets have that type. Where `spoken`, the fields
 # of a tiled level that need not be there stand there too. Where `planar`, each channel has a plane of
-# its own.
-Level = namedtuple("Level", "width height texel depth photometric tile rows offset_type stored spoken planar",
-                   defaults=(8, BLACK_IS_ZERO, None, None, LONG, None, False, False))
+# its own. A field has another type than the usual one where `types` says one for its tag.
+Level = namedtuple("Level", "width height texel depth photometric tile rows offset_type stored spoken planar types",
+                   defaults=(8, BLACK_IS_ZERO, None, None, LONG, None, False, False, {}))
 
 
 def channels(level):
@@ -51,7 +61,7 @@ def fields(level, offsets, sizes):
         found += [(284, SHORT, [1]), (325, kind, sizes)]
     if level.planar:
         found += [(284, SHORT, [2])]
-    return sorted(found)
+    return sorted((tag, level.types.get(tag, usual), numbers) for tag, usual, numbers in found)
 
 
 def plane(level, channel):
@@ -66,21 +76,41 @@ def blocks_of(order, level):
     return blocks(order, level)
 
 
-def directory_bytes(order, found, at, following):
+def entries_of(order, form, found, behind):
+    """The entries of these fields, and the values that do not fit in them, which stand from byte
+    `behind` on."""
+    entries, values = b"", b""
+    for tag, kind, numbers in found:
+        stored = struct.pack(order + LETTERS[kind] * len(numbers), *numbers)
+        offset = struct.pack(order + form.offset, behind + len(values))
+        entries += struct.pack(order + "HH" + form.offset, tag, kind, len(numbers))
+        if len(stored) > len(offset):
+            entries += offset
+            values += stored
+        else:
+            entries += stored.ljust(len(offset), b"\0")
+    return entries, values
+
+
+def directory_bytes(order, form, found, at, following):
     """A directory at a place: its entries, the place of the next one, and the values behind it."""
-    entries, values = entries_of(order, found, at + 2 + 12 * len(found) + 4)
-    return struct.pack(order + "H", len(found)) + entries + struct.pack(order + "I", following) + values
+    count = struct.pack(order + form.count, len(found))
+    after = struct.pack(order + form.offset, following)
+    length = len(entries_of(order, form, found, 0)[0])
+    entries, values = entries_of(order, form, found, at + len(count) + length + len(after))
+    return count + entries + after + values
 
 
-def tiff(order, levels):
+def tiff(order, levels, form=NARROW):
     """A file: its directories, each with its values, and then the blocks of each level."""
     cut = [blocks_of(order, level) for level in levels]
-    places, at = [], 8
+    head = MARKS[order] + struct.pack(order + "H", form.version) + form.behind
+    places, at = [], len(head) + struct.calcsize(order + form.offset)
     for level, stored in zip(levels, cut):
         places.append(at)
         sizes = [len(it) for it in stored]
-        at += len(directory_bytes(order, fields(level, sizes, sizes), at, 0))
-    made, rest = MARKS[order] + struct.pack(order + "HI", 42, 8), b""
+        at += len(directory_bytes(order, form, fields(level, sizes, sizes), at, 0))
+    made, rest = head + struct.pack(order + form.offset, places[0]), b""
     for number, (level, stored) in enumerate(zip(levels, cut)):
         offsets = [0] * len(stored)
         for index in level.stored or range(len(stored)):
@@ -88,7 +118,7 @@ def tiff(order, levels):
             rest += stored[index]
         following = places[number + 1] if number + 1 < len(levels) else 0
         found = fields(level, offsets, [len(it) for it in stored])
-        made += directory_bytes(order, found, places[number], following)
+        made += directory_bytes(order, form, found, places[number], following)
     return made + rest
 
 
@@ -147,10 +177,35 @@ PICTURES |= {
                                tile=(32, 16), planar=True)]),
 }
 
+# And those with wide offsets: both orders, 8 and 16 bits, strips and tiles, several levels, planes on
+# some levels of a file. Offsets and numbers are SHORT, LONG and LONG8. Four SHORT, two LONG and one
+# LONG8 stand in their entries, and more behind the directory.
+PICTURES |= {
+    "big.tif": (LITTLE, [Level(4, 4, grid, rows=4, offset_type=LONG8, types={279: LONG})], WIDE[LITTLE]),
+    "far.tif": (BIG, [Level(max(1, 21 >> n), max(1, 18 >> n),
+                            lambda x, y, n=n: [(7001 * c + 900 * n + 211 * y + 37 * x) & 65535 for c in range(3)],
+                            16, WHITE_IS_ZERO, rows=(5, 4, 3, 2, 1)[n], offset_type=LONG8, planar=n in (1, 3),
+                            stored=range(8, -1, -1) if n == 1 else None, types={278: LONG8})
+                      for n in range(5)], WIDE[BIG]),
+    "fields.tif": (LITTLE, [Level(33 >> n, 20 >> n,
+                                  lambda x, y, n=n: [(40 * c + 9 * y + 5 * x + 60 * n) & 255 for c in range(4)],
+                                  tile=(16, 16), offset_type=(LONG8, LONG, SHORT)[n], spoken=n == 0, planar=n == 1,
+                                  types={256: LONG8, 257: LONG, 322: LONG8, 323: LONG, 277: (SHORT, LONG, LONG8)[n]})
+                            for n in range(3)], WIDE[LITTLE]),
+    "inside.tif": (BIG, [Level(6, 8, lambda x, y: [1000 * y + 10 * x + 5], 16, rows=2, offset_type=SHORT),
+                         Level(3, 4, lambda x, y: [900 * y + 11 * x + 6], 16, rows=2, offset_type=LONG),
+                         Level(1, 2, lambda x, y: [800 * y + 7], 16, rows=2, offset_type=LONG8)], WIDE[BIG]),
+    "shelf.tif": (BIG, [Level(70, 40, lambda x, y: [3 * y + 2 * x & 255, 250 - 4 * y - x & 255], tile=(32, 16),
+                              photometric=WHITE_IS_ZERO, offset_type=LONG, planar=True)], WIDE[BIG]),
+}
+
 # Files that are another one with some bytes changed, and the fault that this makes.
 CHANGED = {
     "loop.tif": ("A.tif", 118, b"\x08", None),
-    "v43.tif": ("A.tif", 2, b"\x2b", "3"),
+    # its bytes 8 to 15 are the place of its first directory, far behind it
+    "v43.tif": ("A.tif", 2, b"\x2b", "4"),
+    "v44.tif": ("A.tif", 2, b"\x2c", "3"),
+    "long8.tif": ("A.tif", 72, b"\x10", "6 273"),
     "dir.tif": ("A.tif", 4, b"\xff", "4"),
     "tag.tif": ("A.tif", 22, b"\x05", "5 257"),
     "type.tif": ("A.tif", 12, b"\x02", "6 256"),
@@ -159,11 +214,25 @@ CHANGED = {
     "nine.tif": ("A.tif", 90, b"\x09", "9"),
     "few.tif": ("A.tif", 102, b"\x02", "11"),
     "end.tif": ("A.tif", 78, b"\x7b", "12 0 0"),
+    # with wide offsets: sums and products that 64 bits do not hold, and numbers above 2^32
+    "four.tif": ("big.tif", 4, b"\x04", "3"),
+    "places.tif": ("big.tif", 8, b"\xf8" + b"\xff" * 7, "4"),
+    "entries.tif": ("big.tif", 16, b"\xff" * 8, "4"),
+    "entries2.tif": ("big.tif", 23, b"\x40", "4"),
+    "values.tif": ("big.tif", 135, b"\x20", "6 273"),
+    "values2.tif": ("big.tif", 128, b"\x02" + b"\0" * 7 + b"\xf8" + b"\xff" * 7, "6 273"),
+    "depth.tif": ("big.tif", 66, struct.pack("<HQQ", LONG8, 1, 2 ** 32 + 8), "7 258 4294967304"),
+    "width.tif": ("big.tif", 26, struct.pack("<HQQ", LONG8, 1, 2 ** 32 + 4), "9"),
+    "rows.tif": ("big.tif", 166, struct.pack("<HQQ", LONG8, 1, 2 ** 32 + 1), None),
+    "strip.tif": ("big.tif", 136, b"\xf0" + b"\xff" * 7, "12 0 0"),
+    "strip2.tif": ("big.tif", 140, b"\x01", "12 0 0"),
+    "level.tif": ("big.tif", 204, b"\xff" * 8, None),
 }
 
 # Files that are another one cut short by so many bytes, and their faults.
 CUT = {"short.tif": ("A.tif", 131, "1"), "cut.tif": ("B.tif", 1, "12 0 3"),
-       "torn.tif": ("planar.tif", 1, "12 0 5")}
+       "torn.tif": ("planar.tif", 1, "12 0 5"),
+       "head.tif": ("big.tif", 213, "1"), "cut8.tif": ("big.tif", 1, "12 0 0")}
 
 TEXTS = {"note.txt": (b"hello, reader", "2")}
 

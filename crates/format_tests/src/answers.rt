@@ -3,7 +3,7 @@
 
 use crate::files::file_of;
 use crate::mem_reader::MemReader;
-use std::alloc::{AllocError, Global};
+use std::alloc::Global;
 use std::fmt::Write;
 use std::process::Abort;
 use std::test::Fail;
@@ -13,15 +13,19 @@ use tiff_plain::{PlainShape, directory_level, first_fault, is_big, is_whole_chai
 
 /// What is known of a level without its offsets.
 pub(crate) fn shape_of(dir: &Dir) -> PlainShape {
+    let tile = match dir.tile {
+        Some((width, height)) => Some((u64::from(width), u64::from(height))),
+        None => None,
+    };
     PlainShape {
-        width: dir.width,
-        height: dir.height,
-        channels: dir.channels,
-        planes: dir.planes,
-        depth: dir.depth,
+        width: u64::from(dir.width),
+        height: u64::from(dir.height),
+        channels: u64::from(dir.channels),
+        planes: u64::from(dir.planes),
+        depth: u64::from(dir.depth),
         white: dir.white,
-        tile: dir.tile,
-        rows_per_strip: dir.rows_per_strip,
+        tile,
+        rows_per_strip: u64::from(dir.rows_per_strip),
     }
 }
 
@@ -82,14 +86,6 @@ fn read(alloc: Global, bytes: &[u8]) -> Result<String, Fail> {
     }
 }
 
-fn widened(alloc: Global, offsets: &[u32]) -> Result<Vec<u64>, AllocError> {
-    let mut wide = Vec::new(alloc);
-    for offset in offsets {
-        wide.push(u64::from(*offset))?;
-    }
-    Ok(wide)
-}
-
 /// What the plain program finds.
 fn plain(alloc: Global, bytes: &[u8]) -> Result<String, Fail> {
     if let Some(fault) = first_fault(bytes) {
@@ -99,8 +95,7 @@ fn plain(alloc: Global, bytes: &[u8]) -> Result<String, Fail> {
     let mut before = mark(is_big(bytes));
     for number in 0..stored_levels(bytes) {
         let level = directory_level(alloc, bytes, number)?;
-        let offsets = widened(alloc, &level.offsets)?;
-        push_level(&mut text, before, level.shape, &offsets)?;
+        push_level(&mut text, before, level.shape, &level.offsets)?;
         before = ";";
     }
     Ok(text)

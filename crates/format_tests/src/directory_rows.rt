@@ -18,7 +18,9 @@ const ROWS: &str = "\
     a text | A to=13 0=104,101,108,108,111,44,32,114,101,97,100,101,114 | BadMark
     mark IM | A 1=77 | BadMark
     no mark and no 42 | A 0=0 2=0 | BadMark
-    43 | A 2=43 | BadVersion
+    44 | A 2=44 | BadVersion
+    // its bytes 8 to 15 name a directory far away
+    43 | A 2=43 | DirOutside
     42 the other way round | A 0=77,77 | BadVersion
     // place of the directory
     the header alone | A to=8 | DirOutside

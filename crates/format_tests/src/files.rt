@@ -53,6 +53,80 @@ const HALF: [u8; 70] = [
     200, 201, 202, 203, // at 204: samples
 ];
 
+/// The file `A` with wide offsets.
+const WIDE: [u8; 228] = [
+    0x49, 0x49, 43, 0, 8, 0, 0, 0, // header, the bytes of an offset, 0
+    16, 0, 0, 0, 0, 0, 0, 0, // the directory at 16
+    9, 0, 0, 0, 0, 0, 0, 0, // entries
+    0, 1, 3, 0, 1, 0, 0, 0, 0, 0, 0, 0, // at 24: ImageWidth 4
+    4, 0, 0, 0, 0, 0, 0, 0, //
+    1, 1, 3, 0, 1, 0, 0, 0, 0, 0, 0, 0, // at 44: ImageLength 4
+    4, 0, 0, 0, 0, 0, 0, 0, //
+    2, 1, 3, 0, 1, 0, 0, 0, 0, 0, 0, 0, // at 64: BitsPerSample 8
+    8, 0, 0, 0, 0, 0, 0, 0, //
+    3, 1, 3, 0, 1, 0, 0, 0, 0, 0, 0, 0, // at 84: Compression 1
+    1, 0, 0, 0, 0, 0, 0, 0, //
+    6, 1, 3, 0, 1, 0, 0, 0, 0, 0, 0, 0, // at 104: BlackIsZero
+    1, 0, 0, 0, 0, 0, 0, 0, //
+    17, 1, 16, 0, 1, 0, 0, 0, 0, 0, 0, 0, // at 124: StripOffsets 212, LONG8
+    212, 0, 0, 0, 0, 0, 0, 0, //
+    21, 1, 3, 0, 1, 0, 0, 0, 0, 0, 0, 0, // at 144: SamplesPerPixel 1
+    1, 0, 0, 0, 0, 0, 0, 0, //
+    22, 1, 3, 0, 1, 0, 0, 0, 0, 0, 0, 0, // at 164: RowsPerStrip 4
+    4, 0, 0, 0, 0, 0, 0, 0, //
+    23, 1, 4, 0, 1, 0, 0, 0, 0, 0, 0, 0, // at 184: StripByteCounts 16
+    16, 0, 0, 0, 0, 0, 0, 0, //
+    0, 0, 0, 0, 0, 0, 0, 0, // at 204: no further directory
+    0x00, 0x01, 0x02, 0x03, 0x10, 0x11, 0x12, 0x13, // at 212: samples
+    0x20, 0x21, 0x22, 0x23, 0x30, 0x31, 0x32, 0x33,
+];
+
+/// The same file, big-endian.
+const WIDE_BIG: [u8; 228] = [
+    0x4d, 0x4d, 0, 43, 0, 8, 0, 0, // header, the bytes of an offset, 0
+    0, 0, 0, 0, 0, 0, 0, 16, // the directory at 16
+    0, 0, 0, 0, 0, 0, 0, 9, // entries
+    1, 0, 0, 3, 0, 0, 0, 0, 0, 0, 0, 1, // at 24: ImageWidth 4
+    0, 4, 0, 0, 0, 0, 0, 0, //
+    1, 1, 0, 3, 0, 0, 0, 0, 0, 0, 0, 1, // at 44: ImageLength 4
+    0, 4, 0, 0, 0, 0, 0, 0, //
+    1, 2, 0, 3, 0, 0, 0, 0, 0, 0, 0, 1, // at 64: BitsPerSample 8
+    0, 8, 0, 0, 0, 0, 0, 0, //
+    1, 3, 0, 3, 0, 0, 0, 0, 0, 0, 0, 1, // at 84: Compression 1
+    0, 1, 0, 0, 0, 0, 0, 0, //
+    1, 6, 0, 3, 0, 0, 0, 0, 0, 0, 0, 1, // at 104: BlackIsZero
+    0, 1, 0, 0, 0, 0, 0, 0, //
+    1, 17, 0, 16, 0, 0, 0, 0, 0, 0, 0, 1, // at 124: StripOffsets 212, LONG8
+    0, 0, 0, 0, 0, 0, 0, 212, //
+    1, 21, 0, 3, 0, 0, 0, 0, 0, 0, 0, 1, // at 144: SamplesPerPixel 1
+    0, 1, 0, 0, 0, 0, 0, 0, //
+    1, 22, 0, 3, 0, 0, 0, 0, 0, 0, 0, 1, // at 164: RowsPerStrip 4
+    0, 4, 0, 0, 0, 0, 0, 0, //
+    1, 23, 0, 4, 0, 0, 0, 0, 0, 0, 0, 1, // at 184: StripByteCounts 16
+    0, 0, 0, 16, 0, 0, 0, 0, //
+    0, 0, 0, 0, 0, 0, 0, 0, // at 204: no further directory
+    0x00, 0x01, 0x02, 0x03, 0x10, 0x11, 0x12, 0x13, // at 212: samples
+    0x20, 0x21, 0x22, 0x23, 0x30, 0x31, 0x32, 0x33,
+];
+
+/// A second directory with wide offsets, to stand at 228: 2 by 2, 8 bits, one strip at 344, all else by
+/// default.
+const WIDE_HALF: [u8; 120] = [
+    5, 0, 0, 0, 0, 0, 0, 0, // entries
+    0, 1, 16, 0, 1, 0, 0, 0, 0, 0, 0, 0, // at 236: ImageWidth 2, LONG8
+    2, 0, 0, 0, 0, 0, 0, 0, //
+    1, 1, 4, 0, 1, 0, 0, 0, 0, 0, 0, 0, // at 256: ImageLength 2, LONG
+    2, 0, 0, 0, 0, 0, 0, 0, //
+    2, 1, 3, 0, 1, 0, 0, 0, 0, 0, 0, 0, // at 276: BitsPerSample 8
+    8, 0, 0, 0, 0, 0, 0, 0, //
+    17, 1, 16, 0, 1, 0, 0, 0, 0, 0, 0, 0, // at 296: StripOffsets 344, LONG8
+    88, 1, 0, 0, 0, 0, 0, 0, //
+    17, 1, 3, 0, 1, 0, 0, 0, 0, 0, 0, 0, // at 316: the same tag again, which does not count
+    6, 0, 0, 0, 0, 0, 0, 0, //
+    0, 0, 0, 0, 0, 0, 0, 0, // at 336: no further directory
+    200, 201, 202, 203, // at 344: samples
+];
+
 /// What stands before the tiles of the file `B`.
 const TILED_HEAD: [u8; 184] = [
     0x4d, 0x4d, 0, 0x2a, 0, 0, 0, 8, // header, the directory at 8
@@ -124,6 +198,16 @@ fn two(alloc: Global) -> Result<Vec<u8>, AllocError> {
     Ok(file)
 }
 
+/// The small file with wide offsets, its next offset leading to its half behind it.
+fn wide_two(alloc: Global) -> Result<Vec<u8>, AllocError> {
+    let mut file = Vec::from_slice(alloc, &WIDE)?;
+    file.extend_from_slice(&WIDE_HALF)?;
+    if let Some(next) = file.get_mut(204) {
+        *next = 228;
+    }
+    Ok(file)
+}
+
 /// The file of a name.
 fn named(alloc: Global, name: &str) -> Result<Vec<u8>, Fail> {
     match name {
@@ -131,6 +215,9 @@ fn named(alloc: Global, name: &str) -> Result<Vec<u8>, Fail> {
         "BigA" => Ok(Vec::from_slice(alloc, &SMALL_BIG)?),
         "B" => Ok(tiled(alloc)?),
         "Two" => Ok(two(alloc)?),
+        "Wide" => Ok(Vec::from_slice(alloc, &WIDE)?),
+        "BigWide" => Ok(Vec::from_slice(alloc, &WIDE_BIG)?),
+        "WideTwo" => Ok(wide_two(alloc)?),
         "Pages" => Ok(pages(alloc)?),
         "Chain" => Ok(chain(alloc)?),
         _ => Err("no file of this name".into()),

@@ -88,7 +88,7 @@ const TILE_BYTES: u64 = 12288;
 
 /// The level has this side, and its tiles stand one after another from a place on. It gives the
 /// place behind them.
-fn assert_tiles(rt: &impl Abort, dir: &Dir, side: u32, first: u64) -> u64 {
+fn assert_tiles(rt: &impl Abort, dir: &Dir, side: u64, first: u64) -> u64 {
     let shape = PlainShape {
         width: side,
         height: side,
@@ -97,7 +97,7 @@ fn assert_tiles(rt: &impl Abort, dir: &Dir, side: u32, first: u64) -> u64 {
         depth: 8,
         white: false,
         tile: Some((64, 64)),
-        rows_per_strip: u32::MAX,
+        rows_per_strip: u64::from(u32::MAX),
     };
     assert!(rt; shape_of(dir) == shape, "the level of side {side}");
     let mut place = first;

@@ -49,3 +49,5 @@ mod tiles;
 mod unpacking;
 #[cfg(test)]
 mod untold;
+#[cfg(test)]
+mod wide_rows;

@@ -15,11 +15,14 @@ use tile_layout::Layout;
 use tile_load::read_rect;
 
 /// Strips and tiles of 8 and of 16 bits in both orders, with one channel and with several, with 0 as
-/// white, with edge tiles, with a second level, and with planes.
-static FILES: [&str; 10] = [
+/// white, with edge tiles, with a second level, with planes, and with wide offsets.
+static FILES: [&str; 13] = [
     "A",
     "BigA",
     "Two",
+    "Wide",
+    "BigWide 57=2 77=16",
+    "WideTwo 36=5",
     "A 18=2 42=16 66=0",
     "A 18=2 30=1 38=2 44=8 66=0 90=2 122=10,20,250,60",
     "B",
@@ -50,7 +53,8 @@ static PLACES: [Place; 12] = [
 ];
 
 /// The places from `start` on that lie on a side of `size` places.
-fn on_side(start: u32, count: u32, size: u32) -> (u32, u32) {
+fn on_side(start: u32, count: u32, side: u64) -> (u32, u32) {
+    let size = side.min(u64::from(u32::MAX)) as u32;
     let first = start.min(size);
     (first, count.min(size - first))
 }
@@ -69,12 +73,13 @@ fn right_samples(bytes: &[u8], level: u32, shape: PlainShape, place: Place, samp
     requires stored { level < levels_in bytes.now }
 {
     let (left, top, w, _) = place;
+    let channels = shape.channels.max(1).min(8) as u32;
     let mut right = 0u32;
     for sample in samples {
-        let texel = right / shape.channels.max(1);
+        let texel = right / channels;
         let x = left.saturating_add(texel % w.max(1));
         let y = top.saturating_add(texel / w.max(1));
-        let c = right % shape.channels.max(1);
+        let c = right % channels;
         if u32::from(*sample) != sample_at(bytes, level, x, y, c) {
             return right;
         }
@@ -104,7 +109,7 @@ fn agrees_on(
         return Ok(false);
     };
     let texels = u64::from(rect.w) * u64::from(rect.h);
-    let count = texels.saturating_mul(u64::from(shape.channels));
+    let count = texels.saturating_mul(shape.channels);
     let right = right_samples(bytes, level, shape, own, &samples);
     Ok(samples.len() as u64 == count && u64::from(right) == count)
 }

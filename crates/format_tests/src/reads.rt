@@ -17,7 +17,9 @@ enum Outcome {
 
 /// What is said of a file, the file, its outcome, and how many reads it takes of how many bytes in
 /// all. Each has one read of 8 bytes for its header. A directory has one of 2 bytes for its count,
-/// one for its entries and the 4 bytes of its next offset, and further ones as its row says.
+/// one for its entries and the 4 bytes of its next offset, and further ones as its row says. Where
+/// offsets are wide the header has a second read of 8 bytes, and the count and the next offset have
+/// 8 bytes each.
 type Row = (&'static str, &'static str, Outcome, u64, u64);
 
 static ROWS: &[Row] = &[
@@ -117,6 +119,42 @@ static ROWS: &[Row] = &[
         Levels(1),
         2 + 13,
         8 + 2 + 786_420 + 13 * 4,
+    ),
+    ("one wide directory", "Wide", Levels(1), 4, 16 + 8 + 180 + 8),
+    ("two wide levels", "WideTwo", Levels(2), 6, 16 + 196 + 116),
+    (
+        "no wide header",
+        "Wide to=15",
+        Fault(TiffFault::Short),
+        1,
+        8,
+    ),
+    ("not 8", "Wide 4=4", Fault(TiffFault::BadVersion), 1, 8),
+    (
+        "five values behind it",
+        "Wide 68=5 76=212",
+        Fault(TiffFault::Unsupported {
+            tag: 258,
+            value: 256,
+        }),
+        5,
+        16 + 196 + 2,
+    ),
+    // 8192 LONG8 at once, which all are 0
+    (
+        "20000 strips, their offsets LONG8",
+        "Wide to=160228 36=1 56=32,78 128=32,78 136=228 176=1",
+        Fault(TiffFault::DataOutside { level: 0, index: 0 }),
+        4 + 3,
+        16 + 196 + 160_000,
+    ),
+    // 3276 wide entries at once
+    (
+        "3277 wide entries",
+        "Wide to=65572 16=205,12",
+        Levels(1),
+        3 + 2,
+        16 + 8 + 65_540 + 2 * 8,
     ),
 ];
 

@@ -16,6 +16,9 @@ static ROWS: &[Row] = &[
     ("A", (0, 3, 3, 0), (51, 13107)),
     ("BigA", (0, 1, 2, 0), (33, 8481)),
     ("BigA", (0, 3, 3, 0), (51, 13107)),
+    ("Wide", (0, 1, 2, 0), (33, 8481)),
+    ("BigWide", (0, 3, 3, 0), (51, 13107)),
+    ("WideTwo", (1, 1, 0, 0), (201, 51657)),
     // of level 1 it is 200 + 2 * y + x
     ("Two", (1, 0, 0, 0), (200, 51400)),
     ("Two", (1, 1, 0, 0), (201, 51657)),
@@ -89,7 +92,10 @@ fn answers_texels(rt: HostRuntime) -> Result<(), Fail> {
 #[test]
 fn follows_a_loop(rt: HostRuntime) -> Result<(), Fail> {
     let bytes = file_of(rt.alloc(), "A 118=8")?;
-    let form = Form { big: false };
+    let form = Form {
+        big: false,
+        wide: false,
+    };
     assert_eq!(rt; directory_place(form, &bytes, 3), Some(8));
     Ok(())
 }

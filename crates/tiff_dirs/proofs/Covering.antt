@@ -25,17 +25,18 @@ first_entry_more : (form : Form) (tag : ℕ) (bytes : List ℕ) (place n : ℕ)
     (Some (place + entry_bytes form * n)) None)
 unfolding first_entry
 first_entry_more form tag bytes place zero =
-    let here : place + 12 * 0 ≡ place = omega arith in
+    let here : place + entry_bytes form * 0 ≡ place = omega arith in
     rw here refl
 first_entry_more form tag bytes place (suc n) =
-    let there : place + 12 + 12 * n ≡ place + 12 * suc n = omega arith in
-    let later = rw there at (first_entry_more form tag bytes (place + 12) n) in
+    let size = entry_bytes form in
+    let there : place + size + size * n ≡ place + size * suc n = omega arith in
+    let later = rw there at (first_entry_more form tag bytes (place + size) n) in
     ap (λ (f : Option ℕ).
     cond (eqb (number_at form.big tag_bytes bytes place) tag) (Some place) f) later
     ∙ or_of_cond (eqb (number_at form.big tag_bytes bytes place) tag) place
-    (first_entry form tag bytes (place + 12) n)
-    (cond (eqb (number_at form.big tag_bytes bytes (place + 12 * suc n)) tag)
-    (Some (place + 12 * suc n)) None)
+    (first_entry form tag bytes (place + size) n)
+    (cond (eqb (number_at form.big tag_bytes bytes (place + size * suc n)) tag)
+    (Some (place + size * suc n)) None)
 
 kept_more : (form : Form) (bytes : List ℕ) (b : Bool) (old : Option Entry) (entry : Entry)
     (f : Option ℕ) (place : ℕ)
@@ -56,12 +57,13 @@ pub covers_more : (form : Form) (bytes : List ℕ) (first n tag : ℕ) (entry : 
     (old new : List (Option Entry))
     → Covers form bytes first n old
     → ((t : ℕ) → t < tag_count → get_or new t None ≡ noted tag entry t (get_or old t None))
-    → tag ≡ number_at form.big tag_bytes bytes (first + 12 * n) → entry.form ≡ form
-    → IsEntry bytes (first + 12 * n) entry
+    → tag ≡ number_at form.big tag_bytes bytes (first + entry_bytes form * n) → entry.form ≡ form
+    → IsEntry bytes (first + entry_bytes form * n) entry
     → Covers form bytes first (n + 1) new
 covers_more form bytes first n tag entry old new covers notes tag-is same is t lt =
     let k = kept_more form bytes (eqb tag (get_or tags t 0)) (get_or old t None) entry
-    (first_entry form (get_or tags t 0) bytes first n) (first + 12 * n) (covers t lt) same is in
+    (first_entry form (get_or tags t 0) bytes first n) (first + entry_bytes form * n)
+    (covers t lt) same is in
     rw (add-one n, notes t lt, first_entry_more form (get_or tags t 0) bytes first n, ← tag-is) k
 
 pub covers_none : (form : Form) (bytes : List ℕ) (first : ℕ) (entries : List (Option Entry))
@@ -113,5 +115,6 @@ pub has_entries : (form : Form) (bytes : List ℕ) (at n : ℕ) (entries : List 
     → HasEntries form bytes at entries
 unfolding field_place
 has_entries form bytes at n entries n-is covers t lt =
-    let first : at + 2 + 12 * 0 ≡ at + 2 = omega arith in
+    let first : at + count_bytes form + entry_bytes form * 0 ≡ at + count_bytes form =
+    omega arith in
     rw (first, ← n-is) (covers t lt)

@@ -8,11 +8,11 @@ use Rattle.std.specs.Option.{option_to_list, unwrap_or}
 use Rattle.std.specs.List.{range_with_len}
 use Rattle.std.proofs.lemmas.List.FromFn.{get_or-map-range_with_len, length-map-range_with_len}
 use Rattle.tiff_dirs.specs.declared.entry.Entry.{Entry}
-use Rattle.tiff_format.specs.Field.{count_of, type_size, values_place, entry_value, has_shape}
+use Rattle.tiff_format.specs.Field.{count_of, values_place, entry_value, has_shape}
 use Rattle.tiff_format.specs.Field.{entry_values, field_place, field_values, default_of}
 use Rattle.tiff_format.specs.DirectoryFault.{is_misshapen}
 use Rattle.tiff_format.specs.Bytes.{IsPartAt}
-use Rattle.tiff_dirs.specs.Entries.{IsEntry, IsKept, is_shaped, part_value}
+use Rattle.tiff_dirs.specs.Entries.{IsEntry, IsKept, value_bytes, is_shaped, part_value}
 use Rattle.tiff_format.proofs.BytesOfParts.{number_of_part}
 use Rattle.tiff_dirs.proofs.Entries.{shape_parts}
 
@@ -75,12 +75,12 @@ entry_values_at form bytes place h k lt =
 -- value from + k of an entry, from the bytes of its values from one of them on
 pub value_of_part : (bytes : List ℕ) (place : ℕ) (entry : Entry) → IsEntry bytes place entry
     → (from k : ℕ) (part : List ℕ)
-    → IsPartAt bytes (entry.start + type_size entry.kind * from) part
-    → type_size entry.kind * k + type_size entry.kind ≤ length part
+    → IsPartAt bytes (entry.start + value_bytes entry * from) part
+    → value_bytes entry * k + value_bytes entry ≤ length part
     → part_value entry part k ≡ entry_value entry.form bytes place (from + k)
 unfolding entry_value
 value_of_part bytes place entry is from k part here long =
-    let size = type_size entry.kind in
+    let size = value_bytes entry in
     let there = number_of_part entry.form.big size (size * k)
     (entry.start + size * from) bytes part here long in
     let at : entry.start + size * from + size * k

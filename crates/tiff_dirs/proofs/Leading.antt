@@ -3,9 +3,10 @@ use Rattle.std.proofs.Common.{◌≡◌, ℕ, zero, suc, ◌+◌, ◌<◌, Bool,
 use Rattle.std.proofs.Common.{Option, Some, None, refl, sym, ap, ◌∙◌, arith, add-zero, zero-add}
 use Rattle.std.proofs.Common.{add-one, below_more, get_or, ◌≤◌}
 use Rattle.std.specs.Option.{option_and_then, unwrap_or}
+use Rattle.std.proofs.lemmas.Bool.{lt-leb}
 use Rattle.std.proofs.lemmas.Option.{none-some}
 use Rattle.std.proofs.lemmas.List.FromFn.{map-range_with_len_more, get_or-map-range_with_len}
-use Rattle.tiff_format.specs.Form.{form_of}
+use Rattle.tiff_format.specs.Form.{form_of, header_bytes}
 use Rattle.tiff_format.specs.Directory.{lies_inside, next_directory, directory_place}
 use Rattle.tiff_format.specs.Block.{Level}
 use Rattle.tiff_format.specs.Level.{is_level, directory_level, level_place, leading, stored_levels}
@@ -13,6 +14,7 @@ use Rattle.tiff_format.specs.Level.{max_levels}
 use Rattle.tiff_format.specs.DirectoryFault.{data_fault}
 use Rattle.tiff_dirs.specs.NextLevel.{is_followed}
 use Rattle.tiff_dirs.specs.Chain.{AreLevels, AreAll}
+use Rattle.tiff_format.proofs.Sizes.{sizes}
 
 -- ---- how many pass in a row
 
@@ -92,7 +94,10 @@ module _ (bytes : List ℕ) where
 
   next_of_zero : next_directory (form_of bytes) bytes 0 ≡ None
   unfolding next_directory lies_inside
-  next_of_zero = refl
+  next_of_zero =
+      let low = lt-leb (header_bytes (form_of bytes)) 0
+      (omega (arith, (sizes (form_of bytes)).low_header)) in
+      rw low refl
 
   place_step : (place : Option ℕ) (next : ℕ)
       → next_directory (form_of bytes) bytes (unwrap_or place 0) ≡ Some next

@@ -1,3 +1,4 @@
+pub mod Products
 pub mod Entries
 pub mod Covering
 pub mod Parts

@@ -1,15 +1,16 @@
 -- The faults of a directory, one after the other.
-use Rattle.std.proofs.Common.{◌≡◌, ℕ, Bool, true, false, not, eqb, List, [], ◌∷◌, ◌++◌}
+use Rattle.std.proofs.Common.{◌≡◌, ℕ, zero, suc, min, arith, Bool, true, false, not, eqb, List, [], ◌∷◌, ◌++◌}
 use Rattle.std.proofs.Common.{Option, Some, None, take, refl, ap, ◌∙◌, sym, ◌⊎◌, inl, inr}
 use Rattle.std.specs.Prelude.{◌||◌}
 use Rattle.std.specs.Option.{option_or, option_map}
+use Rattle.std.proofs.lemmas.Bool.{ne_eqb}
 use Rattle.tiff_format.specs.declared.form.Form.{Form}
 use Rattle.tiff_format.specs.declared.fault.TiffFault.{TiffFault}
 use Rattle.tiff_format.specs.declared.fault.TiffFault.TheVariants.{Unsupported}
 use Rattle.tiff_dirs.specs.declared.numbers.Numbers.{Numbers}
 use Rattle.tiff_dirs.specs.declared.sample_fields.SampleField.{SampleField}
-use Rattle.tiff_format.specs.Tag.{bits_per_sample_tag}
-use Rattle.tiff_format.specs.Field.{field_values}
+use Rattle.tiff_format.specs.Tag.{bits_per_sample_tag, rows_per_strip_tag}
+use Rattle.tiff_format.specs.Field.{field_value, field_values, all_rows}
 use Rattle.tiff_format.specs.Block.{LevelShape, is_tiled, shape_at}
 use Rattle.tiff_format.specs.DirectoryFault.{first_of, directory_fault, outside_fault}
 use Rattle.tiff_format.specs.DirectoryFault.{missing_fault, shape_fault, unsupported_fault}
@@ -19,22 +20,14 @@ use Rattle.tiff_format.specs.DirectoryFault.{planar_fault, format_fault}
 use Rattle.tiff_dirs.specs.Values.{first_other}
 use Rattle.tiff_dirs.specs.Numbers.{AreNumbersAt, value_fault, size_fault, entries_fault}
 use Rattle.tiff_dirs.specs.Numbers.{numbers_fault, fields_fault, numbers_shape}
+use Rattle.tiff_format.proofs.FirstFault.{or_assoc, or_none, first_of_both}
 use Rattle.tiff_dirs.proofs.Finding.{find_same}
 
-or_assoc : (a b c : Option TiffFault) → option_or (option_or a b) c ≡ option_or a (option_or b c)
-or_assoc None b c = refl
-or_assoc (Some x) b c = refl
-
-pub or_none : (a : Option TiffFault) → option_or a None ≡ a
-or_none None = refl
-or_none (Some x) = refl
-
--- the first of two lists of faults, one behind the other
-first_of_both : (xs ys : List (Option TiffFault))
-    → first_of (xs ++ ys) ≡ option_or (first_of xs) (first_of ys)
-first_of_both [] ys = refl
-first_of_both (x ∷ xs) ys =
-    ap (option_or x) (first_of_both xs ys) ∙ sym (or_assoc x (first_of xs) (first_of ys))
+-- a number of rows is kept as 0 where it is 0
+rows_by : (rows : ℕ) → eqb (min all_rows rows) 0 ≡ eqb rows 0
+rows_by zero = refl
+rows_by (suc rows) = ne_eqb (min all_rows (suc rows)) 0 (λ is. omega arith)
+    ∙ sym (ne_eqb (suc rows) 0 (λ is. omega arith))
 
 module _ (form : Form) (bytes : List ℕ) (at : ℕ) where
   -- those of its fields
@@ -72,7 +65,9 @@ module _ (form : Form) (bytes : List ℕ) (at : ℕ) where
       ∷ tile_fault form bytes at ∷ []) ≡ size_fault n
   unfolding zero_fault large_fault tile_fault
   sizes_by n true is are = rw (are.width, are.height, are.samples, are.tile, are.rows, is) refl
-  sizes_by n false is are = rw (are.width, are.height, are.samples, are.tile, are.rows, is) refl
+  sizes_by n false is are =
+      rw (are.width, are.height, are.samples, are.tile, are.rows, is)
+      (rw (rows_by (field_value form bytes at rows_per_strip_tag)) refl)
 
   pub numbers_are : (n : Numbers) → AreNumbersAt form bytes at n → numbers_fault form bytes at
       ≡ option_or (bits_fault form bytes at) (option_or (value_fault n)

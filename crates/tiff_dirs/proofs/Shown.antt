@@ -1,17 +1,21 @@
 -- What faults are shown.
 use Rattle.tiff_format.specs.declared.form.Form.{Form}
 use Rattle.std.proofs.Common.{◌≡◌, ℕ, ◌<◌, ◌≤◌, Bool, true, false, not, List, length}
-use Rattle.std.proofs.Common.{get_or, Some, None, refl, arith}
-use Rattle.std.specs.Prelude.{◌||◌}
+use Rattle.std.proofs.Common.{get_or, [], ◌∷◌, Option, Some, None, refl, sym, ap, ◌∙◌, arith}
+use Rattle.std.specs.Prelude.{◌&&◌, ◌||◌, ◌==◌, nat_lt, if◌then◌else◌}
 use Rattle.std.specs.Bool.{then_some}
-use Rattle.std.proofs.lemmas.Bool.{le-ltb, lt-ltb, ne_eqb, eq-eqb, false_from_ne_true}
+use Rattle.std.proofs.lemmas.Bool.{le-ltb, lt-ltb, ne_eqb, false_from_ne_true}
+use Rattle.tiff_format.specs.declared.fault.TiffFault.{TiffFault}
 use Rattle.tiff_format.specs.declared.fault.TiffFault.TheVariants.{Short, BadMark, BadVersion}
 use Rattle.tiff_format.specs.declared.fault.TiffFault.TheVariants.{DirOutside}
-use Rattle.tiff_format.specs.Bytes.{has_mark, is_big, is_little, version, tiff_version}
+use Rattle.tiff_format.specs.Bytes.{has_mark, is_big, is_marked, version, tiff_version}
+use Rattle.tiff_format.specs.Bytes.{wide_version, has_wide_offsets, number_at}
+use Rattle.tiff_format.specs.Form.{form_of, header_bytes}
 use Rattle.tiff_format.specs.Directory.{lies_inside}
-use Rattle.tiff_format.specs.DirectoryFault.{outside_fault}
-use Rattle.tiff_format.specs.Fault.{header_fault}
+use Rattle.tiff_format.specs.DirectoryFault.{first_of, outside_fault}
+use Rattle.tiff_format.specs.Fault.{header_fault, least_bytes, has_version, says_wide}
 use Rattle.tiff_format.specs.Bytes.{IsPartAt}
+use Rattle.tiff_format.proofs.BytesOfParts.{number_of_part}
 use Rattle.tiff_dirs.proofs.Parts.{IsInside, inside_of_parts}
 
 -- ---- the header
@@ -24,40 +28,110 @@ mark_of_part letter bytes head part le =
     let second : get_or head 1 0 ≡ get_or bytes 1 0 = part 1 (omega arith) in
     rw (first, second) refl
 
-pub short_is : (bytes : List ℕ) → length bytes < 8 → header_fault bytes ≡ Some Short
-unfolding header_fault
-short_is bytes lt = rw (lt-ltb (length bytes) 8 lt) refl
+-- a file of fewer bytes than any header
+-- the number behind the mark, in the bytes that every header has
+pub version_of_part : (big : Bool) (bytes head : List ℕ) → IsPartAt bytes 0 head
+    → least_bytes ≤ length head → big ≡ is_big bytes → number_at big 2 head 2 ≡ version bytes
+version_of_part big bytes head part le is =
+    number_of_part big 2 2 0 bytes head part (omega arith)
+    ∙ ap (λ (b : Bool). number_at b 2 bytes 2) is
 
-pub mark_is : (bytes : List ℕ) → 8 ≤ length bytes → is_little bytes ≡ false → is_big bytes ≡ false
-    → header_fault bytes ≡ Some BadMark
-unfolding header_fault
-mark_is bytes le little big = rw (le-ltb (length bytes) 8 le, little, big) refl
+-- the form of a file, by its mark and by the number behind it
+pub form_is : (bytes : List ℕ) (big wide : Bool) → big ≡ is_big bytes
+    → has_wide_offsets bytes ≡ wide
+    → (let form : Form = record { big = big; wide = wide } in form) ≡ form_of bytes
+form_is bytes big wide is far =
+    let form : Bool → Bool → Form = λ b w. record { big = b; wide = w } in
+    ap (λ (b : Bool). form b wide) is ∙ ap (λ (w : Bool). form (is_big bytes) w) (sym far)
 
--- one of the marks
-either_mark : (a b : Bool) → (b ≡ false → a ≡ true) → not (a || b) ≡ false
-either_mark true b h = refl
-either_mark false true h = refl
-either_mark false false h = absurd (let e : false ≡ true = h refl in cc)
-
-pub version_is : (bytes : List ℕ) → 8 ≤ length bytes
-    → (is_big bytes ≡ false → is_little bytes ≡ true) → (version bytes ≡ tiff_version → ⊥)
-    → header_fault bytes ≡ Some BadVersion
+pub short_is : (bytes : List ℕ) → length bytes < least_bytes → header_fault bytes ≡ Some Short
 unfolding header_fault
-version_is bytes le mark other = rw (
-  le-ltb (length bytes) 8 le,
-  either_mark (is_little bytes) (is_big bytes) mark,
-  ne_eqb (version bytes) tiff_version other,
-) refl
+short_is bytes lt = rw (lt-ltb (length bytes) least_bytes lt) refl
 
-pub header_is_good : (bytes : List ℕ) → 8 ≤ length bytes
-    → (is_big bytes ≡ false → is_little bytes ≡ true) → version bytes ≡ tiff_version
-    → header_fault bytes ≡ None
-unfolding header_fault
-header_is_good bytes le mark same = rw (
-  le-ltb (length bytes) 8 le,
-  either_mark (is_little bytes) (is_big bytes) mark,
-  eq-eqb (version bytes) tiff_version same,
-) refl
+-- whether it has a mark, whether its offsets are wide, and whether its version is read
+-- say which fault the header of another file shows
+faults_by : ℕ → Bool → Bool → Bool → Option TiffFault
+faults_by file marked wide version = first_of
+    (then_some (marked && nat_lt file (if wide then 16 else 8)) Short
+    ∷ then_some (not marked) BadMark ∷ then_some (not version) BadVersion ∷ [])
+
+fault_by : (bytes : List ℕ) (m w v : Bool) → least_bytes ≤ length bytes → is_marked bytes ≡ m
+    → has_wide_offsets bytes ≡ w → has_version bytes ≡ v
+    → header_fault bytes ≡ faults_by (length bytes) m w v
+unfolding header_fault faults_by
+fault_by bytes m w v le marked wide version =
+    ap (λ (b : Bool). first_of
+    (then_some (b || (is_marked bytes && nat_lt (length bytes) (header_bytes (form_of bytes)))) Short
+    ∷ then_some (not (is_marked bytes)) BadMark
+    ∷ then_some (not (has_version bytes)) BadVersion ∷ []))
+    (le-ltb (length bytes) least_bytes le)
+    ∙ ap (λ (b : Bool). first_of
+    (then_some (b && nat_lt (length bytes) (header_bytes (form_of bytes))) Short
+    ∷ then_some (not b) BadMark ∷ then_some (not (has_version bytes)) BadVersion ∷ [])) marked
+    ∙ ap (λ (b : Bool). first_of (then_some (m && nat_lt (length bytes) (if b then 16 else 8)) Short
+    ∷ then_some (not m) BadMark ∷ then_some (not (has_version bytes)) BadVersion ∷ [])) wide
+    ∙ ap (λ (b : Bool). first_of (then_some (m && nat_lt (length bytes) (if w then 16 else 8)) Short
+    ∷ then_some (not m) BadMark ∷ then_some (not b) BadVersion ∷ [])) version
+
+module _ (bytes : List ℕ) (le : least_bytes ≤ length bytes) where
+  pub mark_is : is_marked bytes ≡ false → header_fault bytes ≡ Some BadMark
+  unfolding faults_by
+  mark_is none = fault_by bytes false (has_wide_offsets bytes) (has_version bytes) le none refl refl
+
+  -- with 42 behind the mark
+  pub narrow_is_good : is_marked bytes ≡ true → version bytes ≡ tiff_version
+      → header_fault bytes ≡ None
+  unfolding faults_by
+  narrow_is_good mark same =
+      let wide : has_wide_offsets bytes ≡ false = rw same refl in
+      let good : has_version bytes ≡ true = rw same refl in
+      fault_by bytes true false true le mark wide good
+      ∙ rw (le-ltb (length bytes) least_bytes le) refl
+
+  -- with neither 42 nor 43
+  pub version_is : is_marked bytes ≡ true → (version bytes ≡ tiff_version → ⊥)
+      → (version bytes ≡ wide_version → ⊥) → header_fault bytes ≡ Some BadVersion
+  unfolding faults_by
+  version_is mark other wider =
+      let wide : has_wide_offsets bytes ≡ false = ne_eqb (version bytes) wide_version wider in
+      let bad : has_version bytes ≡ false =
+      rw (ne_eqb (version bytes) tiff_version other, wide) refl in
+      fault_by bytes true false false le mark wide bad
+      ∙ rw (le-ltb (length bytes) least_bytes le) refl
+
+  -- with 43, in a file that is too short for wide offsets
+  pub wide_is_short : is_marked bytes ≡ true → version bytes ≡ wide_version → length bytes < 16
+      → header_fault bytes ≡ Some Short
+  unfolding faults_by
+  wide_is_short mark same lt =
+      let wide : has_wide_offsets bytes ≡ true = rw same refl in
+      fault_by bytes true true (has_version bytes) le mark wide refl
+      ∙ rw (lt-ltb (length bytes) 16 lt) refl
+
+  -- with 43, and as is said of wide offsets or not
+  wide_by : (said : Bool) → is_marked bytes ≡ true → version bytes ≡ wide_version
+      → 16 ≤ length bytes → says_wide bytes ≡ said
+      → header_fault bytes ≡ then_some (not said) BadVersion
+  unfolding faults_by
+  wide_by said mark same long says =
+      let wide : has_wide_offsets bytes ≡ true = rw same refl in
+      let good : has_version bytes ≡ said =
+      ap (λ (n : ℕ). (n == tiff_version) || ((n == wide_version) && says_wide bytes)) same ∙ says in
+      fault_by bytes true true said le mark wide good
+      ∙ rw (le-ltb (length bytes) 16 long) (last said)
+    where
+      last : (b : Bool) → first_of (then_some false Short ∷ then_some false BadMark
+          ∷ then_some (not b) BadVersion ∷ []) ≡ then_some (not b) BadVersion
+      last true = refl
+      last false = refl
+
+  pub unsaid_is : is_marked bytes ≡ true → version bytes ≡ wide_version → 16 ≤ length bytes
+      → says_wide bytes ≡ false → header_fault bytes ≡ Some BadVersion
+  unsaid_is mark same long says = wide_by false mark same long says
+
+  pub wide_is_good : is_marked bytes ≡ true → version bytes ≡ wide_version → 16 ≤ length bytes
+      → says_wide bytes ≡ true → header_fault bytes ≡ None
+  wide_is_good mark same long says = wide_by true mark same long says
 
 -- ---- the place of a directory
 

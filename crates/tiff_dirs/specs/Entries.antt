@@ -1,6 +1,6 @@
 -- What is kept of the entries of a directory?
-use Rattle.std.specs.Prelude.{◌≡◌, ℕ, ◌+◌, ◌*◌, ◌<◌, ◌≤◌, ◌==◌, ◌&&◌, ◌||◌, nat_le, nat_lt}
-use Rattle.std.specs.Prelude.{Bool, List, length, slice_index_or, Option, Some, None, ⊤, true}
+use Rattle.std.specs.Prelude.{◌≡◌, ℕ, ◌+◌, ◌*◌, ◌<◌, ◌≤◌, ◌==◌, ◌&&◌, nat_le, nat_lt}
+use Rattle.std.specs.Prelude.{Bool, List, length, slice_index, slice_index_or, Option, Some, None, ⊤, true}
 use Rattle.std.specs.Prelude.{if◌then◌else◌}
 use Rattle.std.specs.Option.{option_or}
 use Rattle.std.specs.List.{list_any}
@@ -10,11 +10,10 @@ use Rattle.tiff_dirs.specs.declared.tag.TheConstants.{TAGS}
 use Rattle.tiff_dirs.specs.declared.entry.Entry.{Entry}
 use Rattle.tiff_dirs.specs.declared.directory.Directory.{Directory}
 use Rattle.tiff_format.specs.Bytes.{number_at}
-use Rattle.tiff_format.specs.Form.{entry_bytes, offset_at, value_field_at}
+use Rattle.tiff_format.specs.Form.{entry_bytes, offset_bytes, offset_at, value_field_at}
 use Rattle.tiff_format.specs.Directory.{lies_inside, next_place}
-use Rattle.tiff_format.specs.Field.{short_type, long_type, type_of, count_of, type_size}
+use Rattle.tiff_format.specs.Field.{is_read, type_of, count_of, type_size}
 use Rattle.tiff_format.specs.Field.{values_place, first_entry, field_place}
-use Rattle.tiff_format.specs.Bytes.{IsPartAt}
 
 -- ---- an entry
 
@@ -23,28 +22,33 @@ pub record IsEntry (bytes : List ℕ) (place : ℕ) (entry : Entry) : Type 0 whe
   pub kind : entry.kind ≡ type_of entry.form bytes place
   pub count : entry.count ≡ count_of entry.form bytes place
   pub start : entry.start ≡ values_place entry.form bytes place
-  pub inner : IsPartAt bytes (place + value_field_at entry.form) entry.inner
+  pub inner : (k : ℕ) → k < offset_bytes entry.form
+      → slice_index entry.inner k ≡ slice_index bytes (place + value_field_at entry.form + k)
 
--- SHORT and LONG are read
-abbrev pub is_read : ℕ → Bool
-is_read kind = (kind == short_type) || (kind == long_type)
+-- the bytes of one of its values
+abbrev pub value_bytes : Entry → ℕ
+value_bytes entry = type_size entry.form entry.kind
+
+-- the bytes of all its values
+abbrev pub entry_size : Entry → ℕ
+entry_size entry = entry.count * value_bytes entry
 
 -- its values are of a type that is read, there is one at least,
 -- and they lie in a file of that length
 abbrev pub is_shaped : ℕ → Entry → Bool
 is_shaped file entry =
-    is_read entry.kind
-    && (nat_lt 0 entry.count && nat_le (entry.start + entry.count * type_size entry.kind) file)
+    is_read entry.form entry.kind
+    && (nat_lt 0 entry.count && nat_le (entry.start + entry_size entry) file)
 
 -- value k among the bytes of its values
 abbrev pub part_value : Entry → List ℕ → ℕ → ℕ
 part_value entry part k =
-    number_at entry.form.big (type_size entry.kind) part (type_size entry.kind * k)
+    number_at entry.form.big (value_bytes entry) part (value_bytes entry * k)
 
 -- the bytes are those of these values
 abbrev pub SpellValues : Entry → List ℕ → (ℕ → ℕ) → Type 0
 SpellValues entry part value =
-    (k : ℕ) → type_size entry.kind * k + type_size entry.kind ≤ length part
+    (k : ℕ) → value_bytes entry * k + value_bytes entry ≤ length part
     → part_value entry part k ≡ value k
 
 -- ---- the entries that are found

@@ -59,13 +59,17 @@ value_fault n = first_of
 abbrev pub is_bad_tile : Option (ℕ × ℕ) → Bool
 is_bad_tile tile = option_map_or (λ t. not (is_tile_side t.0 && is_tile_side t.1)) tile false
 
+-- a side or the samples of a pixel are above the limits
+abbrev pub is_large : Numbers → Bool
+is_large n =
+    nat_lt max_side n.width || (nat_lt max_side n.height || nat_lt max_channels n.samples)
+
 -- 8 to 10
 abbrev pub size_fault : Numbers → Option TiffFault
 size_fault n = first_of
     (then_some ((n.width == 0) || ((n.height == 0) || ((n.samples == 0)
     || (n.rows_per_strip == 0)))) ZeroSize
-    ∷ then_some (nat_lt max_side n.width
-    || (nat_lt max_side n.height || nat_lt max_channels n.samples)) TooLarge
+    ∷ then_some (is_large n) TooLarge
     ∷ then_some (is_bad_tile n.tile) TileShape ∷ [])
 
 -- ---- those of the directory at a place

@@ -1,13 +1,14 @@
 -- What is said of the values of a field while they are read?
 use Rattle.std.specs.Prelude.{◌≡◌, ℕ, ◌+◌, ◌<◌, ◌==◌, ◌||◌, not, Bool, true, false, List}
 use Rattle.std.specs.Prelude.{length, take, find, slice_index, Option, Some, None}
+use Rattle.std.specs.Prelude.{if◌then◌else◌}
 use Rattle.tiff_format.specs.declared.form.Form.{Form}
 use Rattle.tiff_dirs.specs.declared.sample_fields.SampleField.{SampleField}
 use Rattle.tiff_format.specs.Field.{field_values}
 
--- how many values are read at once: as many LONGs as 64 KiB hold
-abbrev pub max_values : ℕ
-max_values = 16384
+-- how many values are read at once: as many of the widest as 64 KiB hold
+abbrev pub max_values : Form → ℕ
+max_values form = if form.wide then 8192 else 16384
 
 -- ---- for each sample of a pixel
 

@@ -69,7 +69,7 @@ fn half_at<B: ByteReader>(
 {
     let directory = read_directory(alloc, b, place)?;
     let channels = first_value(b, &directory.found, SAMPLES_PER_PIXEL)?;
-    if channels != first.channels {
+    if channels != u64::from(first.channels) {
         return Ok(None);
     }
     let shape = read_shape(alloc, b, &directory.found)?;

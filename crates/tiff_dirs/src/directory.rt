@@ -1,12 +1,13 @@
 //! The entries of a directory, read through a reader.
 
-ghost use Rattle.std.specs.Prelude.{◌≡◌, ℕ, ◌+◌, ◌*◌, ◌^◌, ◌<◌, ◌≤◌, List, length, IfOk, true};
+ghost use Rattle.std.specs.Prelude.{◌≡◌, ◌+◌, ◌*◌, ◌^◌, ◌<◌, ◌≤◌, length, nat_le, IfOk};
 ghost use Rattle.std.specs.Option.{ForSome};
-ghost use Rattle.tiff_format.specs.Form.{entry_bytes, offset_bytes};
+ghost use Rattle.tiff_format.specs.Form.{count_bytes, entry_bytes, offset_bytes};
 ghost use Rattle.tiff_format.specs.Directory.{entry_count, entry_place};
 ghost use Rattle.tiff_dirs.specs.Dirs.{Leaves};
 ghost use Rattle.tiff_dirs.specs.Entries.{AddsBlock, AreEntriesAt, IsDirectoryAt};
 ghost use Rattle.tiff_format.specs.DirectoryFault.{outside_fault};
+ghost use Rattle.tiff_dirs.specs.declared.reader.TheConstants.{MAX_READ_BYTES};
 ghost use Rattle.tiff_dirs.specs.Calls.{Finds, Reads};
 
 use crate::error::DirsError;
@@ -14,10 +15,15 @@ use crate::found::Found;
 use crate::place::Place;
 use crate::reader::{ByteReader, MAX_READ_BYTES, read_at};
 use std::alloc::Global;
-use tiff_format::{COUNT_BYTES, ENTRY_BYTES, OFFSET_BYTES, TiffFault};
+use tiff_format::{Form, MAX_COUNT_BYTES, TiffFault};
 
 /// How many entries are read at once, with an offset behind them.
-const MAX_ENTRIES: usize = (MAX_READ_BYTES - OFFSET_BYTES) / ENTRY_BYTES;
+fn max_entries(form: Form) -> u64
+    ensures some { 1 ≤ result }
+    ensures few { result ≤ MAX_READ_BYTES }
+{
+    (MAX_READ_BYTES as u64 - form.offset_bytes()) / form.entry_bytes()
+}
 
 /// The entries of a directory that are read, and the place of the next one.
 #[derive(Clone, Copy)]
@@ -27,8 +33,32 @@ pub struct Directory {
     pub next: Place,
 }
 
-/// How many entries the directory at a place has, where all of it lies in the file.
-fn count_of_entries<B: ByteReader>(b: &mut B, place: Place) -> Result<u16, DirsError<B::Error>>
+/// So many entries of a form and an offset take no more bytes than these.
+fn has_room(form: Form, count: u64, room: u64) -> bool
+    ensures { result ≡ nat_le (entry_bytes form * count + offset_bytes form) room }
+{
+    match form.entry_bytes().checked_mul(count) {
+        Some(entries) => entries <= room && form.offset_bytes() <= room - entries,
+        None => false,
+    }
+}
+
+/// The count of entries at a place.
+fn read_count<B: ByteReader>(b: &mut B, place: Place) -> Result<u64, DirsError<B::Error>>
+    requires { place.at + count_bytes place.form ≤ B.size b.old }
+    ensures told { ForSome (B.bytes b.old) (λ bytes.
+        Reads (λ count. count ≡ entry_count place.form bytes place.at) result) }
+    ensures reader { Leaves B.keeps B.refuses b.old b.new result }
+{
+    let mut buffer = [0u8; MAX_COUNT_BYTES];
+    let head = &mut buffer[..place.form.count_bytes() as usize];
+    read_at(b, place.at, head)?;
+    Ok(place.form.count_at(head, 0))
+}
+
+/// How many entries the directory at a place has, where all of it lies in the file. What is left of
+/// the file is compared, since no sum of a place and a length need fit 64 bits.
+fn count_of_entries<B: ByteReader>(b: &mut B, place: Place) -> Result<u64, DirsError<B::Error>>
     ensures told { ForSome (B.bytes b.old) (λ bytes.
         Finds (outside_fault place.form bytes place.at)
         (λ count. count ≡ entry_count place.form bytes place.at) result) }
@@ -43,36 +73,43 @@ fn count_of_entries<B: ByteReader>(b: &mut B, place: Place) -> Result<u16, DirsE
     if place.at < form.header_bytes() || file < size || file - size < place.at {
         return Err(DirsError::Fault(TiffFault::DirOutside));
     }
-    let mut head = [0u8; COUNT_BYTES];
-    read_at(b, place.at, &mut head)?;
-    let count = form.short_at(&head, 0);
-    let left = file - size - place.at;
-    if left < form.entry_bytes() * u64::from(count) + form.offset_bytes() {
+    let count = read_count(b, place)?;
+    if !has_room(form, count, file - size - place.at) {
         return Err(DirsError::Fault(TiffFault::DirOutside));
     }
     Ok(count)
 }
 
-/// Reads a block: entries from a place on, and an offset behind them. Keeps the first entry of each
-/// tag, and answers the offset.
+/// The bytes of so many entries and an offset.
+fn bytes_of_entries(form: Form, more: u64) -> u64
+    requires { entry_bytes form * more + offset_bytes form < 2 ^ 64 }
+    ensures { result ≡ entry_bytes form * more + offset_bytes form }
+{
+    form.entry_bytes() * more + form.offset_bytes()
+}
+
+/// Reads a block: so many entries from a place on, and an offset behind them. Keeps the first entry
+/// of each tag, and answers the offset.
 fn read_block<B: ByteReader>(
     b: &mut B,
     place: Place,
     found: &mut Found,
-    block: &mut [u8],
+    buffer: &mut [u8],
+    more: u64,
 ) -> Result<u64, DirsError<B::Error>>
-    requires long { offset_bytes place.form ≤ length block.old }
-    requires inside { place.at + length block.old ≤ B.size b.old }
+    requires room { entry_bytes place.form * more + offset_bytes place.form ≤ length buffer.old }
+    requires inside { place.at + (entry_bytes place.form * more + offset_bytes place.form)
+        ≤ B.size b.old }
     requires low { B.size b.old < 2 ^ 64 }
-    ensures told { ForSome (B.bytes b.old) (λ bytes. (more : ℕ)
-        → length block.old ≡ entry_bytes place.form * more + offset_bytes place.form
-        → Reads (AddsBlock place bytes more found.old.entries found.new.entries) result) }
+    ensures told { ForSome (B.bytes b.old) (λ bytes.
+        Reads (AddsBlock place bytes more found.old.entries found.new.entries) result) }
     ensures reader { Leaves B.keeps B.refuses b.old b.new result }
 {
+    let block = &mut buffer[..bytes_of_entries(place.form, more) as usize];
     read_at(b, place.at, block)?;
-    let end = block.len() - OFFSET_BYTES;
-    found.scan(place.form, &block[..end], place.at);
-    Ok(place.form.offset_at(block, end))
+    found.scan(place, block, more);
+    let end = place.form.entry_bytes() * more;
+    Ok(place.form.offset_at(block, end as usize))
 }
 
 /// The first entry of each tag among so many entries from a place on, and the offset behind them.
@@ -80,7 +117,7 @@ fn read_entries<B: ByteReader>(
     alloc: Global,
     b: &mut B,
     first: Place,
-    count: u16,
+    count: u64,
 ) -> Result<Directory, DirsError<B::Error>>
     requires inside { first.at + entry_bytes first.form * count + offset_bytes first.form
         ≤ B.size b.old }
@@ -90,19 +127,14 @@ fn read_entries<B: ByteReader>(
     ensures reader { Leaves B.keeps B.refuses b.old b.new result }
 {
     let form = first.form;
-    let count = usize::from(count);
-    let most = count.min(MAX_ENTRIES) * ENTRY_BYTES + OFFSET_BYTES;
-    let mut buffer = vec![in alloc; 0u8; most]?;
+    let most = count.min(max_entries(form));
+    let mut buffer = vec![in alloc; 0u8; bytes_of_entries(form, most) as usize]?;
     let mut found = Found::nothing();
     let mut done = 0;
     'reads: loop {
-        let more = (count - done).min(MAX_ENTRIES);
-        let place = Place {
-            form,
-            at: first.at + (done * ENTRY_BYTES) as u64,
-        };
-        let block = &mut buffer[..more * ENTRY_BYTES + OFFSET_BYTES];
-        let at = read_block(b, place, &mut found, block)?;
+        let more = (count - done).min(most);
+        let place = first.behind(form.entry_bytes() * done);
+        let at = read_block(b, place, &mut found, &mut buffer, more)?;
         done += more;
         if done == count {
             let next = Place { form, at };
@@ -124,9 +156,5 @@ pub fn read_directory<B: ByteReader>(
 {
     let form = place.form;
     let count = count_of_entries(b, place)?;
-    let first = Place {
-        form,
-        at: place.at + form.count_bytes(),
-    };
-    read_entries(alloc, b, first, count)
+    read_entries(alloc, b, place.behind(form.count_bytes()), count)
 }

@@ -9,7 +9,7 @@ ghost use Rattle.tiff_dirs.specs.Entries.{IsEntry, is_shaped, is_known};
 ghost use Rattle.tiff_dirs.specs.Numbers.{numbers_at, AreNumbersAt};
 ghost use Rattle.tiff_dirs.specs.Calls.{Reads, OfEntries};
 
-use crate::entry::{Entry, LONG_BYTES};
+use crate::entry::{Entry, LONG8_BYTES};
 use crate::error::DirsError;
 use crate::found::Found;
 use crate::numbers::Numbers;
@@ -19,14 +19,14 @@ use crate::tag::{
 };
 
 /// The first value of an entry. It reads once, or not at all.
-fn value_of_entry<B: ByteReader>(b: &mut B, entry: &Entry) -> Result<u32, DirsError<B::Error>>
+fn value_of_entry<B: ByteReader>(b: &mut B, entry: &Entry) -> Result<u64, DirsError<B::Error>>
     requires low { B.size b.old < 2 ^ 64 }
     requires shape { IsTrue (is_shaped (B.size b.old) entry.now) }
     ensures told { ForSome (B.bytes b.old) (λ bytes. (place : ℕ) → IsEntry bytes place entry.now
         → Reads (λ value. value ≡ entry_value entry.now.form bytes place 0) result) }
     ensures reader { Leaves B.keeps B.refuses b.old b.new result }
 {
-    let mut buffer = [0u8; LONG_BYTES];
+    let mut buffer = [0u8; LONG8_BYTES];
     let part = &mut buffer[..entry.value_size() as usize];
     entry.read_part(b, 0, part)?;
     Ok(entry.value_among(part, 0))
@@ -37,7 +37,7 @@ pub fn first_value<B: ByteReader>(
     b: &mut B,
     found: &Found,
     tag: u16,
-) -> Result<u32, DirsError<B::Error>>
+) -> Result<u64, DirsError<B::Error>>
     requires known { IsTrue (is_known tag) }
     ensures told { ForSome (B.bytes b.old) (λ bytes.
         OfEntries found.now.entries bytes (λ form at.
@@ -60,13 +60,13 @@ pub fn first_value<B: ByteReader>(
 fn first_values<B: ByteReader>(
     b: &mut B,
     found: &Found,
-) -> Result<[u32; NUMBER_COUNT], DirsError<B::Error>>
+) -> Result<[u64; NUMBER_COUNT], DirsError<B::Error>>
     ensures told { ForSome (B.bytes b.old) (λ bytes.
         OfEntries found.now.entries bytes (λ form at.
         Reads (λ values. values ≡ numbers_at form bytes at) result)) }
     ensures reader { Leaves B.keeps B.refuses b.old b.new result }
 {
-    let mut values = [0u32; NUMBER_COUNT];
+    let mut values = [0u64; NUMBER_COUNT];
     for i in 0..NUMBER_COUNT {
         values[i] = first_value(b, found, NUMBERS[i])?;
     }
@@ -77,7 +77,7 @@ fn first_values<B: ByteReader>(
 fn read_tile<B: ByteReader>(
     b: &mut B,
     found: &Found,
-) -> Result<Option<(u32, u32)>, DirsError<B::Error>>
+) -> Result<Option<(u64, u64)>, DirsError<B::Error>>
     ensures told { ForSome (B.bytes b.old) (λ bytes.
         OfEntries found.now.entries bytes (λ form at.
         Reads (λ tile. tile ≡ tile_of form bytes at) result)) }
@@ -91,7 +91,8 @@ fn read_tile<B: ByteReader>(
     Ok(Some((width, height)))
 }
 
-/// The rows of a strip. A tiled directory has none, and they are not read there.
+/// The rows of a strip: all rows where the file says more than 2^32 - 1. A tiled directory has none,
+/// and they are not read there.
 fn read_rows<B: ByteReader>(b: &mut B, found: &Found) -> Result<u32, DirsError<B::Error>>
     ensures told { ForSome (B.bytes b.old) (λ bytes.
         OfEntries found.now.entries bytes (λ form at.
@@ -99,10 +100,10 @@ fn read_rows<B: ByteReader>(b: &mut B, found: &Found) -> Result<u32, DirsError<B
     ensures reader { Leaves B.keeps B.refuses b.old b.new result }
 {
     if found.is_tiled() {
-        Ok(ALL_ROWS)
-    } else {
-        first_value(b, found, ROWS_PER_STRIP)
+        return Ok(ALL_ROWS);
     }
+    let rows = first_value(b, found, ROWS_PER_STRIP)?;
+    Ok(rows.min(u64::from(ALL_ROWS)) as u32)
 }
 
 /// The numbers of a directory. Each that does not fit in its entry takes one read.

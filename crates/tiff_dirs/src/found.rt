@@ -1,6 +1,6 @@
 //! The entries of a directory that are read: the first of each tag.
 
-ghost use Rattle.std.specs.Prelude.{◌≡◌, ℕ, ◌+◌, ◌*◌, ◌/◌, ◌^◌, ◌<◌, ◌≤◌, List, length};
+ghost use Rattle.std.specs.Prelude.{◌≡◌, ℕ, ◌+◌, ◌*◌, ◌^◌, ◌<◌, ◌≤◌, List, length};
 ghost use Rattle.std.specs.Prelude.{slice_index_or, Option, IsTrue, if◌then◌else◌, ◌==◌, Bool};
 ghost use Rattle.std.specs.Option.{option_or};
 ghost use Rattle.tiff_format.specs.Field.{field_place};
@@ -17,10 +17,11 @@ ghost use Rattle.tiff_dirs.specs.Numbers.{entries_fault};
 ghost use Rattle.tiff_dirs.specs.Calls.{OfEntries, Tests};
 
 use crate::entry::Entry;
+use crate::place::Place;
 use crate::tag::{
     STRIPPED_READ, STRIPPED_REQUIRED, TAG_COUNT, TAGS, TILE_WIDTH, TILED_READ, TILED_REQUIRED,
 };
-use tiff_format::{ENTRY_BYTES, Form, TiffFault};
+use tiff_format::TiffFault;
 
 /// The first entry of each tag, at the tag's place in `TAGS`.
 #[derive(Clone, Copy)]
@@ -51,20 +52,21 @@ impl Found {
         }
     }
 
-    /// Keeps what the entries in a part from a place of a file of this form on are the first of.
-    pub fn scan(&mut self, form: Form, part: &[u8], place: u64)
-        requires { place + length part.now < 2 ^ 64 }
+    /// Keeps what the first so many entries in a part, which stands at a place of the file, are the
+    /// first of.
+    pub fn scan(&mut self, place: Place, part: &[u8], more: u64)
+        requires long { entry_bytes place.form * more ≤ length part.now }
+        requires low { place.at + length part.now < 2 ^ 64 }
         ensures { (bytes : List ℕ) (first done : ℕ)
-            → place ≡ first + entry_bytes form * done → IsPartAt bytes place part.now
-            → Covers form bytes first done self.old.entries
-            → Covers form bytes first (done + length part.now / entry_bytes form)
-            self.new.entries }
+            → place.at ≡ first + entry_bytes place.form * done → IsPartAt bytes place.at part.now
+            → Covers place.form bytes first done self.old.entries
+            → Covers place.form bytes first (done + more) self.new.entries }
     {
-        for i in 0..part.len() / ENTRY_BYTES {
-            let at = i * ENTRY_BYTES;
-            let raw = &part[at..at + ENTRY_BYTES];
-            let entry = Entry::from_bytes(form, raw, place + at as u64);
-            self.note(form.short_at(raw, 0), entry);
+        for i in 0..more {
+            let at = place.form.entry_bytes() * i;
+            let raw = &part[at as usize..];
+            let entry = Entry::from_bytes(place.behind(at), raw);
+            self.note(place.form.short_at(raw, 0), entry);
         }
     }
 

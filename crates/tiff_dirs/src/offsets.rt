@@ -6,34 +6,39 @@ ghost use Rattle.std.specs.Option.{ForSome};
 ghost use Rattle.tiff_format.specs.Block.{shape_at, blocks_of, offsets_tag};
 ghost use Rattle.tiff_format.specs.DirectoryFault.{count_fault};
 ghost use Rattle.tiff_dirs.specs.Dirs.{Leaves};
-ghost use Rattle.tiff_format.specs.Field.{type_size, entry_value, field_values};
-ghost use Rattle.tiff_dirs.specs.Entries.{IsEntry, is_shaped, is_read, part_value};
-ghost use Rattle.tiff_dirs.specs.Values.{AppendsNumbers, AreFirstValues, max_values};
+ghost use Rattle.tiff_format.specs.Field.{type_size, is_read, entry_value, field_values};
+ghost use Rattle.tiff_dirs.specs.Entries.{IsEntry, is_shaped, part_value};
+ghost use Rattle.tiff_dirs.specs.Values.{AppendsNumbers, AreFirstValues, max_values as spec_values};
 ghost use Rattle.tiff_dirs.specs.Shape.{seen_shape};
 ghost use Rattle.tiff_dirs.specs.Calls.{Finds, Reads, OfEntries};
 
-use crate::entry::{Entry, LONG_BYTES};
+use crate::entry::{Entry, LONG_BYTES, LONG8_BYTES};
 use crate::error::DirsError;
 use crate::found::Found;
 use crate::reader::{ByteReader, MAX_READ_BYTES};
 use crate::shape::LevelShape;
 use std::alloc::Global;
-use tiff_format::TiffFault;
+use tiff_format::{Form, TiffFault};
 
-/// How many values are read at once.
-pub const MAX_VALUES: usize = MAX_READ_BYTES / LONG_BYTES;
+/// How many values are read at once: of the widest as many as are read of bytes.
+pub fn max_values(form: Form) -> u64
+    ensures { result ≡ spec_values form }
+{
+    let widest = if form.wide { LONG8_BYTES } else { LONG_BYTES };
+    (MAX_READ_BYTES / widest) as u64
+}
 
 /// Appends so many values that stand among bytes.
 fn append_values(values: &mut Vec<u64>, entry: &Entry, part: &[u8], more: usize)
-    requires kind { IsTrue (is_read entry.now.kind) }
-    requires room { type_size entry.now.kind * more ≤ length part.now }
+    requires kind { IsTrue (is_read entry.now.form entry.now.kind) }
+    requires room { type_size entry.now.form entry.now.kind * more ≤ length part.now }
     requires reserved { vec_len values.old + more ≤ vec_capacity values.old }
     ensures capacity { vec_capacity values.new ≡ vec_capacity values.old }
     ensures appends { AppendsNumbers more (part_value entry.now part.now)
         values.old.items values.new.items }
 {
     for k in 0..more {
-        values.push_reserved(u64::from(entry.value_among(part, k)));
+        values.push_reserved(entry.value_among(part, k));
     }
 }
 
@@ -48,7 +53,7 @@ fn read_more<B: ByteReader>(
     requires low { B.size b.old < 2 ^ 64 }
     requires shape { IsTrue (is_shaped (B.size b.old) entry.now) }
     requires within { vec_len values.old + more ≤ entry.now.count }
-    requires room { type_size entry.now.kind * more ≤ length buffer.old }
+    requires room { type_size entry.now.form entry.now.kind * more ≤ length buffer.old }
     requires reserved { vec_len values.old + more ≤ vec_capacity values.old }
     ensures told { ForSome (B.bytes b.old) (λ bytes. (place : ℕ)
         → IsEntry bytes place entry.now →
@@ -60,7 +65,7 @@ fn read_more<B: ByteReader>(
     ensures reader { Leaves B.keeps B.refuses b.old b.new result }
 {
     let part = &mut buffer[..more * entry.value_size() as usize];
-    entry.read_part(b, values.len() as u32, part)?;
+    entry.read_part(b, values.len() as u64, part)?;
     append_values(values, entry, part, more);
     Ok(())
 }
@@ -76,7 +81,8 @@ fn read_all<B: ByteReader>(
     requires low { B.size b.old < 2 ^ 64 }
     requires shape { IsTrue (is_shaped (B.size b.old) entry.now) }
     requires enough { count ≤ entry.now.count }
-    requires room { type_size entry.now.kind * min count max_values ≤ length buffer.old }
+    requires room { type_size entry.now.form entry.now.kind * min count (spec_values entry.now.form)
+        ≤ length buffer.old }
     requires reserved { count ≤ vec_capacity values.old }
     requires none { length values.old.items ≡ 0 }
     ensures told { ForSome (B.bytes b.old) (λ bytes. (place : ℕ)
@@ -86,8 +92,9 @@ fn read_all<B: ByteReader>(
     ensures count { OnOk result (length values.new.items ≡ count) }
     ensures reader { Leaves B.keeps B.refuses b.old b.new result }
 {
+    let most = max_values(entry.form) as usize;
     'values: while values.len() < count {
-        let more = (count - values.len()).min(MAX_VALUES);
+        let more = (count - values.len()).min(most);
         read_more(values, b, entry, buffer, more)?;
     }
     Ok(())
@@ -111,7 +118,8 @@ fn first_of_entry<B: ByteReader>(
 {
     let size = entry.value_size() as usize;
     let mut values = Vec::with_capacity(alloc, count)?;
-    let mut buffer = vec![in alloc; 0u8; size * count.min(MAX_VALUES)]?;
+    let most = count.min(max_values(entry.form) as usize);
+    let mut buffer = vec![in alloc; 0u8; size * most]?;
     read_all(&mut values, b, entry, count, &mut buffer)?;
     Ok(values)
 }
@@ -136,7 +144,7 @@ pub fn read_offsets<B: ByteReader>(
     let Some(entry) = found.entry(shape.offsets_tag()) else {
         return Err(DirsError::Fault(TiffFault::OffsetCount));
     };
-    if !entry.has_shape(b.len()) || u64::from(entry.count) < blocks {
+    if !entry.has_shape(b.len()) || entry.count < blocks {
         return Err(DirsError::Fault(TiffFault::OffsetCount));
     }
     first_of_entry(alloc, b, &entry, blocks as usize)

@@ -1,3 +1,5 @@
+ghost use Rattle.std.specs.Prelude.{◌≡◌, ◌+◌, ◌<◌, ◌^◌};
+
 use tiff_format::Form;
 
 /// A place in a file of this form.
@@ -5,4 +7,18 @@ use tiff_format::Form;
 pub struct Place {
     pub form: Form,
     pub at: u64,
+}
+
+impl Place {
+    /// The place so many bytes behind it.
+    pub fn behind(self, bytes: u64) -> Place
+        requires { self.at + bytes < 2 ^ 64 }
+        ensures form { result.form ≡ self.form }
+        ensures at { result.at ≡ self.at + bytes }
+    {
+        Place {
+            form: self.form,
+            at: self.at + bytes,
+        }
+    }
 }

@@ -5,12 +5,11 @@ ghost use Rattle.std.specs.Prelude.{take, find, not};
 ghost use Rattle.std.specs.Option.{ForSome, option_map};
 ghost use Rattle.tiff_format.specs.declared.form.Form.{Form};
 ghost use Rattle.tiff_format.specs.declared.fault.TiffFault.TheVariants.{Unsupported};
-ghost use Rattle.tiff_format.specs.Field.{type_size, entry_value, default_of};
+ghost use Rattle.tiff_format.specs.Field.{type_size, is_read, entry_value, default_of};
 ghost use Rattle.tiff_dirs.specs.Dirs.{Leaves};
 ghost use Rattle.tiff_format.specs.Facts.{IsDepth};
 ghost use Rattle.tiff_format.specs.DirectoryFault.{bits_fault, format_fault};
-ghost use Rattle.tiff_dirs.specs.Entries.{IsEntry, HasEntries, is_shaped, is_read, is_known};
-ghost use Rattle.tiff_dirs.specs.Entries.{part_value};
+ghost use Rattle.tiff_dirs.specs.Entries.{IsEntry, HasEntries, is_shaped, is_known, part_value};
 ghost use Rattle.tiff_dirs.specs.Values.{is_allowed, IsFirstOther, first_other};
 ghost use Rattle.tiff_dirs.specs.Numbers.{AreNumbersAt};
 ghost use Rattle.tiff_dirs.specs.Calls.{Finds, Reads, OfEntries};
@@ -19,47 +18,47 @@ use crate::entry::Entry;
 use crate::error::DirsError;
 use crate::found::Found;
 use crate::numbers::{Numbers, unsupported};
-use crate::offsets::MAX_VALUES;
+use crate::offsets::max_values;
 use crate::reader::ByteReader;
 use crate::shape::BYTE_BITS;
 use crate::tag::{BITS_PER_SAMPLE, SAMPLE_FORMAT, default_value};
 use std::alloc::Global;
 
 /// The bits of a sample that takes two.
-const SHORT_BITS: u32 = 16;
+const SHORT_BITS: u64 = 16;
 
 /// SampleFormat of the samples that are read.
-const UNSIGNED: u32 = 1;
+const UNSIGNED: u64 = 1;
 
-const UNDEFINED: u32 = 4;
+const UNDEFINED: u64 = 4;
 
 /// A field that has a value for each sample of a pixel, and the two numbers that it may be.
 #[derive(Clone, Copy)]
 pub struct SampleField {
     pub tag: u16,
-    pub one: u32,
-    pub other: u32,
+    pub one: u64,
+    pub other: u64,
 }
 
 /// Some values of an entry: so many, from one of them on.
 #[derive(Clone, Copy)]
 struct Stretch {
-    from: u32,
-    count: u32,
+    from: u64,
+    count: u64,
 }
 
 impl SampleField {
     /// The field may have that value.
-    fn allows(&self, value: u32) -> bool
+    fn allows(&self, value: u64) -> bool
         ensures { result ≡ is_allowed self.now value }
     {
         value == self.one || value == self.other
     }
 
     /// The first of so many values among bytes that it may not have.
-    fn other_among(&self, entry: &Entry, part: &[u8], count: usize) -> Option<u32>
-        requires kind { IsTrue (is_read entry.now.kind) }
-        requires room { type_size entry.now.kind * count ≤ length part.now }
+    fn other_among(&self, entry: &Entry, part: &[u8], count: usize) -> Option<u64>
+        requires kind { IsTrue (is_read entry.now.form entry.now.kind) }
+        requires room { type_size entry.now.form entry.now.kind * count ≤ length part.now }
         ensures { IsFirstOther (is_allowed self.now) (part_value entry.now part.now) count result }
     {
         for k in 0..count {
@@ -78,11 +77,12 @@ impl SampleField {
         entry: &Entry,
         buffer: &mut [u8],
         stretch: Stretch,
-    ) -> Result<Option<u32>, DirsError<B::Error>>
+    ) -> Result<Option<u64>, DirsError<B::Error>>
         requires low { B.size b.old < 2 ^ 64 }
         requires shape { IsTrue (is_shaped (B.size b.old) entry.now) }
         requires within { stretch.from + stretch.count ≤ entry.now.count }
-        requires room { type_size entry.now.kind * stretch.count ≤ length buffer.old }
+        requires room { type_size entry.now.form entry.now.kind * stretch.count
+            ≤ length buffer.old }
         ensures told { ForSome (B.bytes b.old) (λ bytes. (place : ℕ)
             → IsEntry bytes place entry.now → Reads (IsFirstOther (is_allowed self.now)
             (λ k. entry_value entry.now.form bytes place (stretch.from + k)) stretch.count)
@@ -101,8 +101,8 @@ impl SampleField {
         alloc: Global,
         b: &mut B,
         entry: &Entry,
-        count: u32,
-    ) -> Result<Option<u32>, DirsError<B::Error>>
+        count: u64,
+    ) -> Result<Option<u64>, DirsError<B::Error>>
         requires low { B.size b.old < 2 ^ 64 }
         requires shape { IsTrue (is_shaped (B.size b.old) entry.now) }
         requires within { count ≤ entry.now.count }
@@ -111,7 +111,7 @@ impl SampleField {
             (entry_value entry.now.form bytes place) count) result) }
         ensures reader { Leaves B.keeps B.refuses b.old b.new result }
     {
-        let most = count.min(MAX_VALUES as u32);
+        let most = count.min(max_values(entry.form));
         let mut buffer = vec![in alloc; 0u8; entry.value_size() as usize * most as usize]?;
         let mut done = 0;
         'blocks: while done < count {
@@ -129,7 +129,7 @@ impl SampleField {
     }
 
     /// The default of the field, where it may not have it and a pixel has samples.
-    fn other_default(&self, samples: u32) -> Option<u32>
+    fn other_default(&self, samples: u64) -> Option<u64>
         ensures { result
             ≡ find (λ v. not (is_allowed self.now v)) (take samples (default_of self.now.tag)) }
     {
@@ -146,8 +146,8 @@ impl SampleField {
         alloc: Global,
         b: &mut B,
         found: &Found,
-        samples: u32,
-    ) -> Result<Option<u32>, DirsError<B::Error>>
+        samples: u64,
+    ) -> Result<Option<u64>, DirsError<B::Error>>
         requires known { IsTrue (is_known self.now.tag) }
         ensures told { ForSome (B.bytes b.old) (λ bytes.
             OfEntries found.now.entries bytes (λ form at.
@@ -172,7 +172,7 @@ impl SampleField {
         alloc: Global,
         b: &mut B,
         found: &Found,
-        samples: u32,
+        samples: u64,
     ) -> Result<(), DirsError<B::Error>>
         requires known { IsTrue (is_known self.now.tag) }
         ensures told { ForSome (B.bytes b.old) (λ bytes.
@@ -202,7 +202,7 @@ pub fn test_bits<B: ByteReader>(
     ensures reader { Leaves B.keeps B.refuses b.old b.new result }
 {
     let bits = numbers.bits;
-    if bits != BYTE_BITS && bits != SHORT_BITS {
+    if bits != u64::from(BYTE_BITS) && bits != SHORT_BITS {
         return Err(DirsError::Fault(unsupported(BITS_PER_SAMPLE, bits)));
     }
     let field = SampleField {

@@ -103,7 +103,7 @@ pub const NUMBERS: [u16; NUMBER_COUNT] = [
 pub const ALL_ROWS: u32 = u32::MAX;
 
 /// The value of a field that is absent, where it has a default.
-pub fn default_value(tag: u16) -> Option<u32>
+pub fn default_value(tag: u16) -> Option<u64>
     ensures { option_to_list result ≡ default_of tag }
 {
     match tag {
@@ -113,7 +113,7 @@ pub fn default_value(tag: u16) -> Option<u32>
         | SAMPLES_PER_PIXEL
         | PLANAR_CONFIGURATION
         | SAMPLE_FORMAT => Some(1),
-        ROWS_PER_STRIP => Some(ALL_ROWS),
+        ROWS_PER_STRIP => Some(u64::from(ALL_ROWS)),
         _ => None,
     }
 }

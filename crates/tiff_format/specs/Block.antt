@@ -107,10 +107,11 @@ abbrev pub offsets_tag : Form → List ℕ → ℕ → ℕ
 offsets_tag form bytes at =
     if is_tiled form bytes at then tile_offsets_tag else strip_offsets_tag
 
--- the rows of a strip
+-- the rows of a strip: RowsPerStrip, and all rows where it says more
 abbrev pub strip_rows : Form → List ℕ → ℕ → ℕ
 strip_rows form bytes at =
-    if is_tiled form bytes at then all_rows else field_value form bytes at rows_per_strip_tag
+    if is_tiled form bytes at then all_rows
+    else min all_rows (field_value form bytes at rows_per_strip_tag)
 
 -- how many planes there are, by PlanarConfiguration and SamplesPerPixel: 2 is planar
 abbrev pub planes_by : ℕ → ℕ → ℕ

@@ -1,7 +1,8 @@
 -- Which numbers stand in the bytes of a file?
 -- (TIFF 6.0, section 2, "Image File Header": the byte order)
-use Rattle.std.specs.Prelude.{◌≡◌, ℕ, ◌+◌, ◌<◌, Bool, ◌==◌, ◌&&◌, List, length, slice_index}
-use Rattle.std.specs.Prelude.{if◌then◌else◌}
+-- Numbers of two and four bytes stand in every file, and of eight where its offsets are wide.
+use Rattle.std.specs.Prelude.{◌≡◌, ℕ, ◌+◌, ◌<◌, Bool, ◌==◌, ◌&&◌, ◌||◌, List, length}
+use Rattle.std.specs.Prelude.{slice_index, if◌then◌else◌}
 use Rattle.byteorder.specs.Endian.{big_from, little_from}
 
 -- the number that n bytes from a place on spell, the highest byte first where `big`
@@ -24,10 +25,22 @@ is_little bytes = has_mark 73 bytes
 abbrev pub is_big : List ℕ → Bool
 is_big bytes = has_mark 77 bytes
 
+-- the file begins with one of the two
+abbrev pub is_marked : List ℕ → Bool
+is_marked bytes = is_little bytes || is_big bytes
+
 -- the number behind the mark in a TIFF file
 abbrev pub tiff_version : ℕ
 tiff_version = 42
 
+-- and in one whose offsets are wide
+abbrev pub wide_version : ℕ
+wide_version = 43
+
 -- the number behind the mark
 abbrev pub version : List ℕ → ℕ
 version bytes = number_at (is_big bytes) 2 bytes 2
+
+-- the offsets of the file are wide
+abbrev pub has_wide_offsets : List ℕ → Bool
+has_wide_offsets bytes = version bytes == wide_version

@@ -1,6 +1,7 @@
 -- Which fault does a file show first, and which number does it have?
 -- (the profile of docs/FORMAT.md, "Faults")
-use Rattle.std.specs.Prelude.{ℕ, ◌==◌, ◌||◌, not, nat_lt, List, [], ◌∷◌, length, map, Option}
+use Rattle.std.specs.Prelude.{ℕ, Bool, ◌==◌, ◌&&◌, ◌||◌, not, nat_lt, List, [], ◌∷◌, length, map}
+use Rattle.std.specs.Prelude.{Option}
 use Rattle.std.specs.Bool.{then_some}
 use Rattle.std.specs.List.{range_with_len}
 use Rattle.tiff_format.specs.declared.fault.TiffFault.{TiffFault}
@@ -9,7 +10,7 @@ use Rattle.tiff_format.specs.declared.fault.TiffFault.TheVariants.{DirOutside, F
 use Rattle.tiff_format.specs.declared.fault.TiffFault.TheVariants.{FieldShape, Unsupported}
 use Rattle.tiff_format.specs.declared.fault.TiffFault.TheVariants.{ZeroSize, TooLarge, TileShape}
 use Rattle.tiff_format.specs.declared.fault.TiffFault.TheVariants.{OffsetCount, DataOutside}
-use Rattle.tiff_format.specs.Bytes.{is_little, is_big, version, tiff_version}
+use Rattle.tiff_format.specs.Bytes.{number_at, is_big, is_marked, version, tiff_version, has_wide_offsets}
 use Rattle.tiff_format.specs.Form.{form_of, header_bytes}
 use Rattle.tiff_format.specs.DirectoryFault.{first_of, directory_fault, data_fault}
 use Rattle.tiff_format.specs.Level.{level_place, directory_level, stored_levels}
@@ -29,12 +30,32 @@ code_of TileShape = 10
 code_of OffsetCount = 11
 code_of (DataOutside level index) = 12
 
+-- the bytes of the shortest header
+abbrev pub least_bytes : ℕ
+least_bytes = 8
+
+-- the header is cut short: the file has fewer bytes than any header, or it has a mark and fewer
+-- bytes than a header of its form
+abbrev pub is_short : List ℕ → Bool
+is_short bytes =
+    nat_lt (length bytes) least_bytes
+    || (is_marked bytes && nat_lt (length bytes) (header_bytes (form_of bytes)))
+
+-- behind the number of wide offsets stand the bytes of an offset, 8, and 0
+abbrev pub says_wide : List ℕ → Bool
+says_wide bytes =
+    (number_at (is_big bytes) 2 bytes 4 == 8) && (number_at (is_big bytes) 2 bytes 6 == 0)
+
+-- the number behind the mark is one that is read
+abbrev pub has_version : List ℕ → Bool
+has_version bytes = (version bytes == tiff_version) || (has_wide_offsets bytes && says_wide bytes)
+
 -- 1 to 3: the header is cut short, has neither mark, or another version
 unfoldable pub header_fault : List ℕ → Option TiffFault
 header_fault bytes = first_of
-    (then_some (nat_lt (length bytes) (header_bytes (form_of bytes))) Short
-    ∷ then_some (not (is_little bytes || is_big bytes)) BadMark
-    ∷ then_some (not (version bytes == tiff_version)) BadVersion ∷ [])
+    (then_some (is_short bytes) Short
+    ∷ then_some (not (is_marked bytes)) BadMark
+    ∷ then_some (not (has_version bytes)) BadVersion ∷ [])
 
 -- 12: the first block outside the file, level 0 first
 unfoldable pub data_faults : List ℕ → Option TiffFault

@@ -1,7 +1,8 @@
 -- Which values does a field of a directory have?
 -- (TIFF 6.0, section 2, "IFD Entry", "Types" and "Value/Offset")
 -- An entry is its tag, its type, its count of values, and its values or their offset.
--- Type 3 is SHORT (2 bytes) and type 4 is LONG (4 bytes). No other type is read.
+-- Type 3 is SHORT (2 bytes) and type 4 is LONG (4 bytes). Where offsets are wide, type 16 is LONG8
+-- (8 bytes). No other type is read.
 use Rattle.std.specs.Prelude.{ℕ, zero, suc, ◌+◌, ◌-◌, ◌*◌, ◌^◌, Bool, ◌==◌, ◌&&◌, ◌||◌, nat_le}
 use Rattle.std.specs.Prelude.{nat_lt, List, [], ◌∷◌, length, map, slice_index, Option, Some, None}
 use Rattle.std.specs.Prelude.{is_some, if◌then◌else◌}
@@ -49,13 +50,27 @@ short_type = 3
 abbrev pub long_type : ℕ
 long_type = 4
 
+-- where offsets are wide
+abbrev pub long8_type : ℕ
+long8_type = 16
+
+-- the type is LONG8, and it is read
+abbrev pub is_long8 : Form → ℕ → Bool
+is_long8 form kind = form.wide && (kind == long8_type)
+
+-- the type is read
+abbrev pub is_read : Form → ℕ → Bool
+is_read form kind = (kind == short_type) || ((kind == long_type) || is_long8 form kind)
+
 -- how many bytes a value of a type takes, and 0 for a type that is not read
-abbrev pub type_size : ℕ → ℕ
-type_size kind = if kind == short_type then 2 else (if kind == long_type then 4 else 0)
+abbrev pub type_size : Form → ℕ → ℕ
+type_size form kind =
+    if kind == short_type then 2
+    else (if kind == long_type then 4 else (if is_long8 form kind then 8 else 0))
 
 -- how many bytes one of its values takes
 abbrev pub value_size : Form → List ℕ → ℕ → ℕ
-value_size form bytes place = type_size (type_of form bytes place)
+value_size form bytes place = type_size form (type_of form bytes place)
 
 -- where its values stand: left-justified in the entry's last bytes, as many as an offset has,
 -- where they fit, else at the offset there
@@ -74,7 +89,7 @@ entry_value form bytes place i =
 -- its values are of a type that is read, there is one at least, and they lie in the file
 unfoldable pub has_shape : Form → List ℕ → ℕ → Bool
 has_shape form bytes place =
-    ((type_of form bytes place == short_type) || (type_of form bytes place == long_type))
+    is_read form (type_of form bytes place)
     && (nat_lt 0 (count_of form bytes place)
     && nat_le (values_place form bytes place
     + count_of form bytes place * value_size form bytes place) (length bytes))
@@ -88,7 +103,8 @@ entry_values form bytes place =
 
 -- ---- a field of the directory at a place
 
--- RowsPerStrip of a directory that does not say it: all rows are one strip
+-- RowsPerStrip of a directory that does not say it: all rows are one strip.
+-- A greater number is kept as this one: either makes one strip.
 abbrev pub all_rows : ℕ
 all_rows = 2 ^ 32 - 1
 

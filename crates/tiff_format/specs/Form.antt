@@ -1,29 +1,30 @@
 -- In which form does a file stand: the order of its bytes, and how wide its parts are?
--- (TIFF 6.0, section 2, "Image File Header" and "Image File Directory")
--- The sizes are words of the form, so that a form with wider offsets changes them here alone.
-use Rattle.std.specs.Prelude.{ℕ, ◌-◌, ◌+◌, List}
+-- (TIFF 6.0, section 2, "Image File Header" and "Image File Directory", and for wide offsets
+-- docs/FORMAT.md, "Wide offsets")
+-- The sizes of the parts are words of the form: they stand here alone.
+use Rattle.std.specs.Prelude.{ℕ, ◌-◌, ◌+◌, List, if◌then◌else◌}
 use Rattle.tiff_format.specs.declared.form.Form.{Form}
-use Rattle.tiff_format.specs.Bytes.{number_at, is_big}
+use Rattle.tiff_format.specs.Bytes.{number_at, is_big, has_wide_offsets}
 
 -- the form of a file with these bytes
 abbrev pub form_of : List ℕ → Form
-form_of bytes = record { big = is_big bytes }
+form_of bytes = record { big = is_big bytes; wide = has_wide_offsets bytes }
 
 -- the bytes of the header
 abbrev pub header_bytes : Form → ℕ
-header_bytes form = 8
+header_bytes form = if form.wide then 16 else 8
 
 -- the bytes of a directory's count of entries
 abbrev pub count_bytes : Form → ℕ
-count_bytes form = 2
+count_bytes form = if form.wide then 8 else 2
 
 -- the bytes of an entry
 abbrev pub entry_bytes : Form → ℕ
-entry_bytes form = 12
+entry_bytes form = if form.wide then 20 else 12
 
 -- the bytes of an offset, and of an entry's count of values
 abbrev pub offset_bytes : Form → ℕ
-offset_bytes form = 4
+offset_bytes form = if form.wide then 8 else 4
 
 -- the bytes of an entry's tag, and those of its type
 abbrev pub tag_bytes : ℕ

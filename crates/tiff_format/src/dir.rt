@@ -20,7 +20,8 @@ pub struct Dir {
     /// TileWidth and TileLength, multiples of 16 up to 131072,
     /// where the directory is tiled (section 15).
     pub tile: Option<(u32, u32)>,
-    /// RowsPerStrip, at least 1, where it is stripped. 2^32 - 1 where it is tiled.
+    /// RowsPerStrip, at least 1, where it is stripped: 2^32 - 1 where it says more.
+    /// 2^32 - 1 where it is tiled.
     pub rows_per_strip: u32,
     /// The offset of each strip or tile, as many as there are: those of the first plane, then those
     /// of the next.

@@ -5,17 +5,17 @@ ghost use Rattle.tiff_format.specs.Fault.{code_of};
 /// The faults stand in the order in which they are looked for.
 #[derive(Clone, Copy, Debug, PartialEq, Eq)]
 pub enum TiffFault {
-    /// The file has fewer than 8 bytes.
+    /// The file has fewer than 8 bytes, or its offsets are wide and it has fewer than 16.
     Short,
     /// The first two bytes are neither `II` nor `MM`.
     BadMark,
-    /// The number behind the mark is not 42.
+    /// The number behind the mark is neither 42 nor 43, or it is 43 and 8 and 0 do not follow it.
     BadVersion,
     /// A directory does not lie in the file behind the header.
     DirOutside,
     /// A field that must be there is absent.
     FieldMissing { tag: u32 },
-    /// A field has a type other than SHORT and LONG, no value,
+    /// A field has a type other than SHORT, LONG and, where offsets are wide, LONG8, no value,
     /// or values that do not lie in the file.
     FieldShape { tag: u32 },
     /// A field has a value that is not read.

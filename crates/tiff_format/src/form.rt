@@ -7,52 +7,59 @@ ghost use Rattle.tiff_format.specs.Form.{offset_at};
 
 use byteorder::{BigEndian, ByteOrder, LittleEndian};
 
-/// The bytes of the header.
+/// The bytes of the shortest header. Those of one with wide offsets go on behind them.
 pub const HEADER_BYTES: usize = 8;
 
-/// The bytes of a directory's count of entries.
-pub const COUNT_BYTES: usize = 2;
+/// The most bytes of a directory's count of entries.
+pub const MAX_COUNT_BYTES: usize = 8;
 
-/// The bytes of an entry.
-pub const ENTRY_BYTES: usize = 12;
+/// The most bytes of an offset.
+pub const MAX_OFFSET_BYTES: usize = 8;
 
-/// The bytes of an offset, and of an entry's count of values.
-pub const OFFSET_BYTES: usize = 4;
-
-/// The form of a file: the order of its bytes.
+/// The form of a file: the order of its bytes, and the width of its offsets.
 #[derive(Clone, Copy, Debug, PartialEq, Eq)]
 pub struct Form {
     /// Numbers stand highest byte first (`MM`).
     pub big: bool,
+    /// Offsets have 64 bits.
+    pub wide: bool,
 }
 
 impl Form {
     /// The bytes of the header.
     pub fn header_bytes(self) -> u64
         ensures value { result ≡ header_bytes self }
+        ensures some { 8 ≤ result }
+        ensures few { result ≤ 16 }
     {
-        HEADER_BYTES as u64
+        if self.wide { 16 } else { 8 }
     }
 
     /// The bytes of a directory's count of entries.
     pub fn count_bytes(self) -> u64
         ensures value { result ≡ count_bytes self }
+        ensures some { 2 ≤ result }
+        ensures few { result ≤ 8 }
     {
-        COUNT_BYTES as u64
+        if self.wide { 8 } else { 2 }
     }
 
     /// The bytes of an entry.
     pub fn entry_bytes(self) -> u64
         ensures value { result ≡ entry_bytes self }
+        ensures some { 12 ≤ result }
+        ensures few { result ≤ 20 }
     {
-        ENTRY_BYTES as u64
+        if self.wide { 20 } else { 12 }
     }
 
-    /// The bytes of an offset.
+    /// The bytes of an offset, and of an entry's count of values.
     pub fn offset_bytes(self) -> u64
         ensures value { result ≡ offset_bytes self }
+        ensures some { 4 ≤ result }
+        ensures few { result ≤ 8 }
     {
-        OFFSET_BYTES as u64
+        if self.wide { 8 } else { 4 }
     }
 
     /// The number in the two bytes from a place on.
@@ -81,11 +88,40 @@ impl Form {
         }
     }
 
+    /// The number in the eight bytes from a place on.
+    pub fn long8_at(self, bytes: &[u8], at: usize) -> u64
+        requires { at + 8 ≤ length bytes.now }
+        ensures value { result ≡ number_at self.big 8 bytes.now at }
+    {
+        let from = &bytes[at..];
+        if self.big {
+            BigEndian::read_u64(from)
+        } else {
+            LittleEndian::read_u64(from)
+        }
+    }
+
+    /// The count of a directory's entries in the bytes from a place on.
+    pub fn count_at(self, bytes: &[u8], at: usize) -> u64
+        requires { at + count_bytes self ≤ length bytes.now }
+        ensures value { result ≡ number_at self.big (count_bytes self) bytes.now at }
+    {
+        if self.wide {
+            self.long8_at(bytes, at)
+        } else {
+            u64::from(self.short_at(bytes, at))
+        }
+    }
+
     /// The offset in the bytes from a place on.
     pub fn offset_at(self, bytes: &[u8], at: usize) -> u64
         requires { at + offset_bytes self ≤ length bytes.now }
         ensures value { result ≡ offset_at self bytes.now at }
     {
-        u64::from(self.long_at(bytes, at))
+        if self.wide {
+            self.long8_at(bytes, at)
+        } else {
+            u64::from(self.long_at(bytes, at))
+        }
     }
 }

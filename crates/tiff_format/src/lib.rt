@@ -16,7 +16,7 @@ pub use cut::{AUTOTILE_STEP, Cut, MAX_AUTOTILE};
 pub use dir::Dir;
 pub use dirs::Dirs;
 pub use fault::TiffFault;
-pub use form::{COUNT_BYTES, ENTRY_BYTES, Form, HEADER_BYTES, OFFSET_BYTES};
+pub use form::{Form, HEADER_BYTES, MAX_COUNT_BYTES, MAX_OFFSET_BYTES};
 pub use info::Info;
 pub use limits::{MAX_CHANNELS, MAX_SIDE, TILE_STEP};
 pub use rect::Rect;

@@ -1,38 +1,23 @@
--- What a good file's levels have: they show no fault, and their samples have 8 or 16 bits.
-use Rattle.std.proofs.Common.{◌≡◌, ℕ, zero, suc, ◌+◌, ◌<◌, Bool, true, false, not, ◌&&◌, ◌||◌, ◌==◌}
-use Rattle.std.proofs.Common.{cond, List, [], ◌∷◌, take, ◌⊎◌, inl, inr, add-zero, zero-add, Option}
+-- What a good file's levels have: they show no fault, and have the shape of a level.
+use Rattle.std.proofs.Common.{◌≡◌, ℕ, zero, suc, ◌+◌, ◌<◌, Bool, true, false, ◌&&◌}
+use Rattle.std.proofs.Common.{List, ◌⊎◌, inl, inr, add-zero, zero-add, Option}
 use Rattle.std.proofs.Common.{None, Some, refl, sym, ◌∙◌, arith}
-use Rattle.std.specs.Option.{option_or, option_and_then, option_map, option_map_or, unwrap_or}
+use Rattle.std.specs.Option.{option_and_then, option_map_or, unwrap_or}
 use Rattle.std.specs.Option.{is_none}
-use Rattle.std.specs.List.{find}
-use Rattle.std.proofs.lemmas.Bool.{cases_Bool, false≢true}
+use Rattle.std.proofs.lemmas.Bool.{cases_Bool, false≢true, lt-leb}
 use Rattle.std.proofs.lemmas.Option.{none-some}
-use Rattle.tiff_format.specs.declared.fault.TiffFault.TheVariants.{Unsupported}
 use Rattle.tiff_format.specs.declared.form.Form.{Form}
-use Rattle.tiff_format.specs.Form.{form_of}
-use Rattle.tiff_format.specs.Tag.{bits_per_sample_tag}
+use Rattle.tiff_format.specs.Form.{form_of, header_bytes}
+use Rattle.tiff_format.proofs.Sizes.{sizes}
 use Rattle.tiff_format.specs.Directory.{lies_inside, next_directory, directory_place}
-use Rattle.tiff_format.specs.Field.{field_value, field_values}
 use Rattle.tiff_format.specs.Block.{shape_at}
-use Rattle.tiff_format.specs.Facts.{IsDepth}
-use Rattle.tiff_format.specs.DirectoryFault.{first_of, samples, outside_fault, missing_fault}
-use Rattle.tiff_format.specs.DirectoryFault.{shape_fault, unsupported_fault, bits_fault}
-use Rattle.tiff_format.specs.DirectoryFault.{compression_fault, photometric_fault, planar_fault}
-use Rattle.tiff_format.specs.DirectoryFault.{format_fault, zero_fault, large_fault, tile_fault}
-use Rattle.tiff_format.specs.DirectoryFault.{count_fault, directory_fault}
+use Rattle.tiff_format.specs.Facts.{IsLevelShape}
+use Rattle.tiff_format.proofs.FirstFault.{none_of_two}
+use Rattle.tiff_plain.proofs.ShapeLemmas.{shape_of_good}
+use Rattle.tiff_format.specs.DirectoryFault.{directory_fault}
 use Rattle.tiff_format.specs.Fault.{first_fault}
 use Rattle.tiff_format.specs.Level.{is_level, is_next_level, leading, stored_levels, level_place}
 use Rattle.tiff_format.specs.Level.{max_levels}
-
--- where neither of two is there, the first is not, nor the second
-none_of_or : {A : Type 0} (a b : Option A) → option_or a b ≡ None → (a ≡ None) × (b ≡ None)
-none_of_or None b h = (refl, h)
-none_of_or (Some x) b h = (h, cc)
-
--- none is chosen only by a test that passes
-none_of_cond : {A : Type 0} (b : Bool) (x : Option A) (y : A) → cond b x (Some y) ≡ None → b ≡ true
-none_of_cond true x y h = refl
-none_of_cond false x y h = cc
 
 -- none is none
 none_of_is_none : {A : Type 0} (o : Option A) → is_none o ≡ true → o ≡ None
@@ -44,28 +29,6 @@ passing : {A : Type 0} (o : Option A) (test : A → Bool) → option_map_or test
     → (x : A) × (o ≡ Some x) × (test x ≡ true)
 passing None test h = absurd (false≢true h)
 passing (Some x) test h = (x, refl, h)
-
--- a directory without a fault has samples of 8 or 16 bits
-pub depth_is : (form : Form) (bytes : List ℕ) (at : ℕ) → directory_fault form bytes at ≡ None
-    → IsDepth (shape_at form bytes at).depth
-unfolding directory_fault unsupported_fault
-depth_is form bytes at h =
-    let missing = none_of_or (outside_fault form bytes at) _ h in
-    let shape = none_of_or (missing_fault form bytes at) _ missing.1 in
-    let unsupported = none_of_or (shape_fault form bytes at) _ shape.1 in
-    let after = zero_fault form bytes at ∷ large_fault form bytes at ∷ tile_fault form bytes at
-    ∷ count_fault form bytes at ∷ [] in
-    let cases = none_of_or (unsupported_fault form bytes at) (first_of after) unsupported.1 in
-    let others =
-    compression_fault form bytes at ∷ photometric_fault form bytes at ∷ planar_fault form bytes at
-    ∷ format_fault form bytes at ∷ [] in
-    let bits = none_of_or (bits_fault form bytes at) (first_of others) cases.0 in
-    let depth : ℕ = field_value form bytes at bits_per_sample_tag in
-    let other = find (λ v. not (v == depth))
-    (take (samples form bytes at) (field_values form bytes at bits_per_sample_tag)) in
-    none_of_cond ((depth == 8) || (depth == 16))
-    (option_map (Unsupported bits_per_sample_tag) other)
-    (Unsupported bits_per_sample_tag depth) bits.0
 
 -- one more, which passes or does not
 leading_passes_step : (test : ℕ → Bool) (k n i : ℕ) → i < leading test k (suc n)
@@ -91,8 +54,8 @@ first_is_good : (bytes : List ℕ) → first_fault bytes ≡ None
     → directory_fault (form_of bytes) bytes (level_place bytes 0) ≡ None
 unfolding first_fault
 first_is_good bytes h =
-    let rest = none_of_or _ _ h in
-    (none_of_or _ _ rest.1).0
+    let rest = none_of_two _ _ h in
+    (none_of_two _ _ rest.1).0
 
 -- both parts of a test that passes do
 and_left : (a b : Bool) → (a && b) ≡ true → a ≡ true
@@ -114,7 +77,9 @@ next_is_good form bytes first at next h =
 -- a directory stands at 0 only where there is none
 next_of_zero : (form : Form) (bytes : List ℕ) → next_directory form bytes 0 ≡ None
 unfolding next_directory lies_inside
-next_of_zero form bytes = refl
+next_of_zero form bytes =
+    let low = lt-leb (header_bytes form) 0 (omega (arith, (sizes form).low_header)) in
+    rw low refl
 
 -- the place after a place that is there
 place_step : (form : Form) (bytes : List ℕ) (place : Option ℕ) (next : ℕ)
@@ -142,14 +107,27 @@ next_of_level bytes k h =
     passing (next_directory form bytes at) (is_next_level form bytes (level_place bytes 0) at)
     (and_right (is_level bytes k) _ h)
 
--- no stored level of a good file shows a fault
-pub level_is_good : (bytes : List ℕ) (l : ℕ) → first_fault bytes ≡ None → l < stored_levels bytes
+-- no stored level shows a fault, where directory 0 shows none
+pub stored_is_good : (bytes : List ℕ) (l : ℕ)
+    → directory_fault (form_of bytes) bytes (level_place bytes 0) ≡ None → l < stored_levels bytes
     → directory_fault (form_of bytes) bytes (level_place bytes l) ≡ None
 unfolding stored_levels
-level_is_good bytes zero good l = first_is_good bytes good
-level_is_good bytes (suc k) good l =
+stored_is_good bytes zero good l = good
+stored_is_good bytes (suc k) good l =
     let level : is_level bytes (suc k) ≡ true =
     rw zero-add at (leading_passes (is_level bytes) 0 max_levels (suc k) l) in
     let next = next_of_level bytes k level in
     rw (place_after bytes k next.0 next.1)
     (next_is_good (form_of bytes) bytes (level_place bytes 0) (level_place bytes k) next.0 next.2)
+
+-- so it has the shape of a level
+pub stored_has_shape : (bytes : List ℕ) (l : ℕ)
+    → directory_fault (form_of bytes) bytes (level_place bytes 0) ≡ None → l < stored_levels bytes
+    → IsLevelShape (shape_at (form_of bytes) bytes (level_place bytes l))
+stored_has_shape bytes l good lt =
+    shape_of_good (form_of bytes) bytes (level_place bytes l) (stored_is_good bytes l good lt)
+
+-- and in a good file
+pub level_has_shape : (bytes : List ℕ) (l : ℕ) → first_fault bytes ≡ None → l < stored_levels bytes
+    → IsLevelShape (shape_at (form_of bytes) bytes (level_place bytes l))
+level_has_shape bytes l good lt = stored_has_shape bytes l (first_is_good bytes good) lt

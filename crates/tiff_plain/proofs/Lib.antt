@@ -1,4 +1,4 @@
 pub mod FieldLemmas
 pub mod FindLemmas
-pub mod BlockLemmas
+pub mod ShapeLemmas
 pub mod LevelLemmas

@@ -1,1 +1,2 @@
 pub mod PlainLevel
+pub mod Fault

@@ -8,14 +8,14 @@ use crate::numbers::number_at;
 use tiff_format::Form;
 
 /// How many entries the directory at a place has.
-pub fn entry_count(form: Form, bytes: &[u8], at: u32) -> u32
+pub fn entry_count(form: Form, bytes: &[u8], at: u64) -> u64
     ensures { result ≡ spec.entry_count form bytes.now at }
 {
     number_at(form.big, count_bytes(form), bytes, u128::from(at))
 }
 
 /// The place of its entry i.
-pub fn entry_place(form: Form, at: u32, i: u32) -> u128
+pub fn entry_place(form: Form, at: u64, i: u64) -> u128
     ensures value { result ≡ spec.entry_place form at i }
     ensures fits { result < 2 ^ 100 }
 {
@@ -23,7 +23,7 @@ pub fn entry_place(form: Form, at: u32, i: u32) -> u128
 }
 
 /// The place of its offset of the next directory.
-fn next_place(form: Form, bytes: &[u8], at: u32) -> u128
+fn next_place(form: Form, bytes: &[u8], at: u64) -> u128
     ensures value { result ≡ spec.next_place form bytes.now at }
     ensures fits { result < 2 ^ 100 }
 {
@@ -32,16 +32,16 @@ fn next_place(form: Form, bytes: &[u8], at: u32) -> u128
 
 /// The directory lies in the file, behind the header.
 #[tactic(auto, unfolding(tiff_format::specs::Directory::lies_inside))]
-pub fn lies_inside(form: Form, bytes: &[u8], at: u32) -> bool
+pub fn lies_inside(form: Form, bytes: &[u8], at: u64) -> bool
     ensures value { result ≡ spec.lies_inside form bytes.now at }
 {
     let end = next_place(form, bytes, at) + u128::from(offset_bytes(form));
-    header_bytes(form) <= at && end <= bytes.len() as u128
+    u64::from(header_bytes(form)) <= at && end <= bytes.len() as u128
 }
 
 /// The place of the directory after the one at a place.
 #[tactic(auto, unfolding(tiff_format::specs::Directory::next_directory))]
-pub fn next_directory(form: Form, bytes: &[u8], at: u32) -> Option<u32>
+pub fn next_directory(form: Form, bytes: &[u8], at: u64) -> Option<u64>
     ensures value { result ≡ spec.next_directory form bytes.now at }
 {
     if !lies_inside(form, bytes, at) {
@@ -53,7 +53,7 @@ pub fn next_directory(form: Form, bytes: &[u8], at: u32) -> Option<u32>
 
 /// The place of directory k.
 #[tactic(auto, unfolding(tiff_format::specs::Directory::directory_place))]
-pub fn directory_place(form: Form, bytes: &[u8], k: u32) -> Option<u32>
+pub fn directory_place(form: Form, bytes: &[u8], k: u32) -> Option<u64>
     ensures value { result ≡ spec.directory_place form bytes.now k }
 {
     if k == 0 {

@@ -4,8 +4,10 @@ ghost use Rattle.std.specs.Prelude.{◌≡◌, ◌==◌, ◌||◌, not, take, fi
 ghost use Rattle.std.specs.List.{range_with_len};
 ghost use Rattle.tiff_format.specs.Block as block;
 ghost use Rattle.tiff_format.specs.DirectoryFault as spec;
+ghost use Rattle.tiff_format.specs.Facts.{IsLevelShape};
 ghost use Rattle.tiff_format.specs.Field as field;
 ghost use Rattle.tiff_format.specs.Tag.{bits_per_sample_tag, sample_format_tag};
+ghost use Rattle.tiff_plain.specs.Fault.{fields_fault};
 
 use crate::directories::lies_inside;
 use crate::fields::{field_length, field_number, field_place, field_value, has_field, has_shape};
@@ -20,13 +22,13 @@ use crate::tags::{
 use tiff_format::{Form, TiffFault};
 
 /// The largest side of an image and of a tile.
-const MAX_SIDE: u32 = 131_072;
+const MAX_SIDE: u64 = 131_072;
 
 /// The most samples of a pixel.
-const MAX_CHANNELS: u32 = 8;
+const MAX_CHANNELS: u64 = 8;
 
 /// The sides of a tile are multiples of this.
-const TILE_STEP: u32 = 16;
+const TILE_STEP: u64 = 16;
 
 /// The first of the faults that is shown.
 pub fn first_of(faults: &[Option<TiffFault>]) -> Option<TiffFault>
@@ -39,14 +41,14 @@ pub fn first_of(faults: &[Option<TiffFault>]) -> Option<TiffFault>
 }
 
 #[tactic(auto, unfolding(tiff_format::specs::DirectoryFault::outside_fault))]
-fn outside_fault(form: Form, bytes: &[u8], at: u32) -> Option<TiffFault>
+fn outside_fault(form: Form, bytes: &[u8], at: u64) -> Option<TiffFault>
     ensures { result ≡ spec.outside_fault form bytes.now at }
 {
     (!lies_inside(form, bytes, at)).then_some(TiffFault::DirOutside)
 }
 
 /// The fields that a directory must have.
-fn required_tags(form: Form, bytes: &[u8], at: u32) -> &'static [u32]
+fn required_tags(form: Form, bytes: &[u8], at: u64) -> &'static [u32]
     ensures { result.now ≡ spec.required_tags form bytes.now at }
 {
     if is_tiled(form, bytes, at) {
@@ -57,7 +59,7 @@ fn required_tags(form: Form, bytes: &[u8], at: u32) -> &'static [u32]
 }
 
 /// The first of these fields that is absent.
-fn first_absent(form: Form, bytes: &[u8], at: u32, tags: &[u32]) -> Option<u32>
+fn first_absent(form: Form, bytes: &[u8], at: u64, tags: &[u32]) -> Option<u32>
     ensures { result ≡ find (λ tag. not (field.has_field form bytes.now at tag)) tags.now }
 {
     tags.iter()
@@ -66,7 +68,7 @@ fn first_absent(form: Form, bytes: &[u8], at: u32, tags: &[u32]) -> Option<u32>
 }
 
 #[tactic(auto, unfolding(tiff_format::specs::DirectoryFault::missing_fault))]
-fn missing_fault(form: Form, bytes: &[u8], at: u32) -> Option<TiffFault>
+fn missing_fault(form: Form, bytes: &[u8], at: u64) -> Option<TiffFault>
     ensures { result ≡ spec.missing_fault form bytes.now at }
 {
     match first_absent(form, bytes, at, required_tags(form, bytes, at)) {
@@ -76,7 +78,7 @@ fn missing_fault(form: Form, bytes: &[u8], at: u32) -> Option<TiffFault>
 }
 
 /// The fields that a directory reads, by their tags.
-fn read_tags(form: Form, bytes: &[u8], at: u32) -> &'static [u32]
+fn read_tags(form: Form, bytes: &[u8], at: u64) -> &'static [u32]
     ensures { result.now ≡ spec.read_tags form bytes.now at }
 {
     if is_tiled(form, bytes, at) {
@@ -110,7 +112,7 @@ fn read_tags(form: Form, bytes: &[u8], at: u32) -> &'static [u32]
 }
 
 /// The field is there and has a bad shape.
-fn is_misshapen(form: Form, bytes: &[u8], at: u32, tag: u32) -> bool
+fn is_misshapen(form: Form, bytes: &[u8], at: u64, tag: u32) -> bool
     ensures { result ≡ spec.is_misshapen form bytes.now at tag }
 {
     match field_place(form, bytes, at, tag) {
@@ -120,7 +122,7 @@ fn is_misshapen(form: Form, bytes: &[u8], at: u32, tag: u32) -> bool
 }
 
 /// The first of these fields that is there and has a bad shape.
-fn first_misshapen(form: Form, bytes: &[u8], at: u32, tags: &[u32]) -> Option<u32>
+fn first_misshapen(form: Form, bytes: &[u8], at: u64, tags: &[u32]) -> Option<u32>
     ensures { result ≡ find (spec.is_misshapen form bytes.now at) tags.now }
 {
     tags.iter()
@@ -129,7 +131,7 @@ fn first_misshapen(form: Form, bytes: &[u8], at: u32, tags: &[u32]) -> Option<u3
 }
 
 #[tactic(auto, unfolding(tiff_format::specs::DirectoryFault::shape_fault))]
-fn shape_fault(form: Form, bytes: &[u8], at: u32) -> Option<TiffFault>
+fn shape_fault(form: Form, bytes: &[u8], at: u64) -> Option<TiffFault>
     ensures { result ≡ spec.shape_fault form bytes.now at }
 {
     match first_misshapen(form, bytes, at, read_tags(form, bytes, at)) {
@@ -139,7 +141,7 @@ fn shape_fault(form: Form, bytes: &[u8], at: u32) -> Option<TiffFault>
 }
 
 /// The first BitsPerSample, of those of the samples of a pixel, that is another than these bits.
-fn first_other_bits(form: Form, bytes: &[u8], at: u32, bits: u32) -> Option<u32>
+fn first_other_bits(form: Form, bytes: &[u8], at: u64, bits: u64) -> Option<u64>
     ensures { result ≡ find (λ v. not (v == bits)) (take (spec.samples form bytes.now at)
         (field.field_values form bytes.now at bits_per_sample_tag)) }
 {
@@ -154,7 +156,7 @@ fn first_other_bits(form: Form, bytes: &[u8], at: u32, bits: u32) -> Option<u32>
     None
 }
 
-fn bits_fault(form: Form, bytes: &[u8], at: u32) -> Option<TiffFault>
+fn bits_fault(form: Form, bytes: &[u8], at: u64) -> Option<TiffFault>
     ensures { result ≡ spec.bits_fault form bytes.now at }
 {
     let bits = field_value(form, bytes, at, BITS_PER_SAMPLE);
@@ -166,44 +168,44 @@ fn bits_fault(form: Form, bytes: &[u8], at: u32) -> Option<TiffFault>
     match wrong {
         Some(value) => Some(TiffFault::Unsupported {
             tag: BITS_PER_SAMPLE,
-            value: u64::from(value),
+            value,
         }),
         None => None,
     }
 }
 
-fn compression_fault(form: Form, bytes: &[u8], at: u32) -> Option<TiffFault>
+fn compression_fault(form: Form, bytes: &[u8], at: u64) -> Option<TiffFault>
     ensures { result ≡ spec.compression_fault form bytes.now at }
 {
     let value = field_value(form, bytes, at, COMPRESSION);
     (value != 1).then_some(TiffFault::Unsupported {
         tag: COMPRESSION,
-        value: u64::from(value),
+        value,
     })
 }
 
-fn photometric_fault(form: Form, bytes: &[u8], at: u32) -> Option<TiffFault>
+fn photometric_fault(form: Form, bytes: &[u8], at: u64) -> Option<TiffFault>
     ensures { result ≡ spec.photometric_fault form bytes.now at }
 {
     let value = field_value(form, bytes, at, PHOTOMETRIC);
     (value > 2).then_some(TiffFault::Unsupported {
         tag: PHOTOMETRIC,
-        value: u64::from(value),
+        value,
     })
 }
 
-fn planar_fault(form: Form, bytes: &[u8], at: u32) -> Option<TiffFault>
+fn planar_fault(form: Form, bytes: &[u8], at: u64) -> Option<TiffFault>
     ensures { result ≡ spec.planar_fault form bytes.now at }
 {
     let value = field_value(form, bytes, at, PLANAR_CONFIGURATION);
     (value != 1 && value != 2).then_some(TiffFault::Unsupported {
         tag: PLANAR_CONFIGURATION,
-        value: u64::from(value),
+        value,
     })
 }
 
 /// The first SampleFormat, of those of the samples of a pixel, that is neither 1 nor 4.
-fn first_other_format(form: Form, bytes: &[u8], at: u32) -> Option<u32>
+fn first_other_format(form: Form, bytes: &[u8], at: u64) -> Option<u64>
     ensures { result ≡ find (λ v. not ((v == 1) || (v == 4))) (take (spec.samples form bytes.now at)
         (field.field_values form bytes.now at sample_format_tag)) }
 {
@@ -218,20 +220,20 @@ fn first_other_format(form: Form, bytes: &[u8], at: u32) -> Option<u32>
     None
 }
 
-fn format_fault(form: Form, bytes: &[u8], at: u32) -> Option<TiffFault>
+fn format_fault(form: Form, bytes: &[u8], at: u64) -> Option<TiffFault>
     ensures { result ≡ spec.format_fault form bytes.now at }
 {
     match first_other_format(form, bytes, at) {
         Some(value) => Some(TiffFault::Unsupported {
             tag: SAMPLE_FORMAT,
-            value: u64::from(value),
+            value,
         }),
         None => None,
     }
 }
 
 #[tactic(auto, unfolding(tiff_format::specs::DirectoryFault::unsupported_fault))]
-fn unsupported_fault(form: Form, bytes: &[u8], at: u32) -> Option<TiffFault>
+fn unsupported_fault(form: Form, bytes: &[u8], at: u64) -> Option<TiffFault>
     ensures { result ≡ spec.unsupported_fault form bytes.now at }
 {
     first_of(&[
@@ -244,7 +246,7 @@ fn unsupported_fault(form: Form, bytes: &[u8], at: u32) -> Option<TiffFault>
 }
 
 #[tactic(auto, unfolding(tiff_format::specs::DirectoryFault::zero_fault))]
-fn zero_fault(form: Form, bytes: &[u8], at: u32) -> Option<TiffFault>
+fn zero_fault(form: Form, bytes: &[u8], at: u64) -> Option<TiffFault>
     ensures { result ≡ spec.zero_fault form bytes.now at }
 {
     let is_zero = field_value(form, bytes, at, IMAGE_WIDTH) == 0
@@ -255,7 +257,7 @@ fn zero_fault(form: Form, bytes: &[u8], at: u32) -> Option<TiffFault>
 }
 
 #[tactic(auto, unfolding(tiff_format::specs::DirectoryFault::large_fault))]
-fn large_fault(form: Form, bytes: &[u8], at: u32) -> Option<TiffFault>
+fn large_fault(form: Form, bytes: &[u8], at: u64) -> Option<TiffFault>
     ensures { result ≡ spec.large_fault form bytes.now at }
 {
     let is_large = field_value(form, bytes, at, IMAGE_WIDTH) > MAX_SIDE
@@ -265,14 +267,14 @@ fn large_fault(form: Form, bytes: &[u8], at: u32) -> Option<TiffFault>
 }
 
 /// A side that a tile may have.
-fn is_tile_side(side: u32) -> bool
+fn is_tile_side(side: u64) -> bool
     ensures { result ≡ spec.is_tile_side side }
 {
     0 < side && side <= MAX_SIDE && side % TILE_STEP == 0
 }
 
 #[tactic(auto, unfolding(tiff_format::specs::DirectoryFault::tile_fault))]
-fn tile_fault(form: Form, bytes: &[u8], at: u32) -> Option<TiffFault>
+fn tile_fault(form: Form, bytes: &[u8], at: u64) -> Option<TiffFault>
     ensures { result ≡ spec.tile_fault form bytes.now at }
 {
     let fits = is_tile_side(field_value(form, bytes, at, TILE_WIDTH))
@@ -281,50 +283,62 @@ fn tile_fault(form: Form, bytes: &[u8], at: u32) -> Option<TiffFault>
 }
 
 #[tactic(auto, unfolding(tiff_format::specs::DirectoryFault::count_fault))]
-fn count_fault(form: Form, bytes: &[u8], at: u32) -> Option<TiffFault>
+fn count_fault(form: Form, bytes: &[u8], at: u64) -> Option<TiffFault>
+    requires { IsLevelShape (block.shape_at form bytes.now at) }
     ensures { result ≡ spec.count_fault form bytes.now at }
 {
     let count = field_length(form, bytes, at, offsets_tag(form, bytes, at));
-    (u128::from(count) < blocks_at(form, bytes, at)).then_some(TiffFault::OffsetCount)
+    (count < blocks_at(form, bytes, at)).then_some(TiffFault::OffsetCount)
 }
 
-/// The first fault that the directory at a place shows.
-#[tactic(auto, unfolding(tiff_format::specs::DirectoryFault::directory_fault))]
-pub fn directory_fault(form: Form, bytes: &[u8], at: u32) -> Option<TiffFault>
-    ensures value { result ≡ spec.directory_fault form bytes.now at }
+/// The first fault of the fields of a directory, but for the number of its offsets.
+fn fields_fault(form: Form, bytes: &[u8], at: u64) -> Option<TiffFault>
+    ensures { result ≡ fields_fault form bytes.now at }
 {
     first_of(&[
-        outside_fault(form, bytes, at),
         missing_fault(form, bytes, at),
         shape_fault(form, bytes, at),
         unsupported_fault(form, bytes, at),
         zero_fault(form, bytes, at),
         large_fault(form, bytes, at),
         tile_fault(form, bytes, at),
-        count_fault(form, bytes, at),
     ])
+}
+
+/// The first fault that the directory at a place shows. Nothing is looked up of one that does not
+/// lie in the file, and no blocks are counted of one whose fields show a fault.
+pub fn directory_fault(form: Form, bytes: &[u8], at: u64) -> Option<TiffFault>
+    ensures value { result ≡ spec.directory_fault form bytes.now at }
+{
+    if let Some(fault) = outside_fault(form, bytes, at) {
+        return Some(fault);
+    }
+    if let Some(fault) = fields_fault(form, bytes, at) {
+        return Some(fault);
+    }
+    count_fault(form, bytes, at)
 }
 
 /// Block i of the level at a place lies in the file, behind the header.
 #[tactic(auto, unfolding(tiff_format::specs::Block::level_at))]
-fn block_inside(form: Form, bytes: &[u8], at: u32, i: u32) -> bool
+fn block_inside(form: Form, bytes: &[u8], at: u64, i: u64) -> bool
+    requires { IsLevelShape (block.shape_at form bytes.now at) }
     ensures { result ≡ spec.block_inside form bytes.now (block.level_at form bytes.now at) i }
 {
-    let offset = u128::from(offset_of(form, bytes, at, u128::from(i)));
-    let end = offset + block_bytes(shape_at(form, bytes, at), i);
-    u128::from(header_bytes(form)) <= offset && end <= bytes.len() as u128
+    let offset = offset_of(form, bytes, at, u128::from(i));
+    let end = u128::from(offset) + u128::from(block_bytes(shape_at(form, bytes, at), i));
+    u64::from(header_bytes(form)) <= offset && end <= bytes.len() as u128
 }
 
 /// The first block of the level at a place that does not lie in the file.
-fn first_outside(form: Form, bytes: &[u8], at: u32) -> Option<u32>
+fn first_outside(form: Form, bytes: &[u8], at: u64) -> Option<u32>
+    requires { IsLevelShape (block.shape_at form bytes.now at) }
     ensures { result ≡ (let level = block.level_at form bytes.now at in
         find (λ i. not (spec.block_inside form bytes.now level i))
         (range_with_len 0 (block.blocks_of level.shape))) }
 {
-    let length = field_length(form, bytes, at, offsets_tag(form, bytes, at));
     for i in 0..blocks_at(form, bytes, at) {
-        // A block without an offset is outside.
-        if i >= u128::from(length) || !block_inside(form, bytes, at, i as u32) {
+        if !block_inside(form, bytes, at, i) {
             return Some(i as u32);
         }
     }
@@ -333,7 +347,8 @@ fn first_outside(form: Form, bytes: &[u8], at: u32) -> Option<u32>
 
 /// The first fault of the blocks of the level at a place, which has this number.
 #[tactic(auto, unfolding(tiff_format::specs::DirectoryFault::data_fault))]
-pub fn data_fault(form: Form, bytes: &[u8], number: u32, at: u32) -> Option<TiffFault>
+pub fn data_fault(form: Form, bytes: &[u8], number: u32, at: u64) -> Option<TiffFault>
+    requires { IsLevelShape (block.shape_at form bytes.now at) }
     ensures value { result
         ≡ spec.data_fault form bytes.now number (block.level_at form bytes.now at) }
 {

@@ -1,6 +1,7 @@
 //! Which values the fields of a directory have. A place of an entry is below 2^101.
 
-ghost use Rattle.std.specs.Prelude.{◌≡◌, ◌≤◌, ◌<◌, ◌*◌, ◌^◌, length, slice_index, IfSome, IfOk};
+ghost use Rattle.std.specs.Prelude.{◌≡◌, ◌<◌, ◌*◌, ◌^◌, ◌==◌, ◌||◌, nat_le, length, slice_index};
+ghost use Rattle.std.specs.Prelude.{IfSome, IfOk, IsTrue};
 ghost use Rattle.std.specs.Option.{option_to_list};
 ghost use Rattle.tiff_format.specs.Field as spec;
 
@@ -17,22 +18,25 @@ use std::alloc::{AllocError, Global};
 use tiff_format::Form;
 
 /// The types that are read.
-const SHORT: u32 = 3;
+const SHORT: u64 = 3;
 
-const LONG: u32 = 4;
+const LONG: u64 = 4;
+
+/// It is read where offsets are wide.
+const LONG8: u64 = 16;
 
 /// RowsPerStrip of a directory that does not say it: all rows are one strip.
-pub const ALL_ROWS: u32 = u32::MAX;
+pub const ALL_ROWS: u64 = 0xffff_ffff;
 
 /// The place of the first entry of a tag among n entries.
-fn first_entry(form: Form, tag: u32, bytes: &[u8], place: u128, n: u32) -> Option<u128>
+fn first_entry(form: Form, tag: u32, bytes: &[u8], place: u128, n: u64) -> Option<u128>
     requires { place < 2 ^ 100 }
     ensures value { result ≡ spec.first_entry form tag bytes.now place n }
     ensures fits { IfSome result (λ p. p < 2 ^ 101) }
 {
     for i in 0..n {
         let entry = place + u128::from(entry_bytes(form)) * u128::from(i);
-        if number_at(form.big, TAG_BYTES, bytes, entry) == tag {
+        if number_at(form.big, TAG_BYTES, bytes, entry) == u64::from(tag) {
             return Some(entry);
         }
     }
@@ -41,7 +45,7 @@ fn first_entry(form: Form, tag: u32, bytes: &[u8], place: u128, n: u32) -> Optio
 
 /// The place of the first entry of a tag in the directory at a place.
 #[tactic(auto, unfolding(tiff_format::specs::Field::field_place))]
-pub fn field_place(form: Form, bytes: &[u8], at: u32, tag: u32) -> Option<u128>
+pub fn field_place(form: Form, bytes: &[u8], at: u64, tag: u32) -> Option<u128>
     ensures value { result ≡ spec.field_place form bytes.now at tag }
     ensures fits { IfSome result (λ p. p < 2 ^ 101) }
 {
@@ -55,14 +59,14 @@ pub fn field_place(form: Form, bytes: &[u8], at: u32, tag: u32) -> Option<u128>
 }
 
 /// The directory has an entry of that tag.
-pub fn has_field(form: Form, bytes: &[u8], at: u32, tag: u32) -> bool
+pub fn has_field(form: Form, bytes: &[u8], at: u64, tag: u32) -> bool
     ensures value { result ≡ spec.has_field form bytes.now at tag }
 {
     field_place(form, bytes, at, tag).is_some()
 }
 
 /// The type of the entry at a place.
-fn type_of(form: Form, bytes: &[u8], place: u128) -> u32
+fn type_of(form: Form, bytes: &[u8], place: u128) -> u64
     requires { place < 2 ^ 101 }
     ensures { result ≡ spec.type_of form bytes.now place }
 {
@@ -70,7 +74,7 @@ fn type_of(form: Form, bytes: &[u8], place: u128) -> u32
 }
 
 /// How many values it has.
-fn count_of(form: Form, bytes: &[u8], place: u128) -> u32
+fn count_of(form: Form, bytes: &[u8], place: u128) -> u64
     requires { place < 2 ^ 101 }
     ensures { result ≡ spec.count_of form bytes.now place }
 {
@@ -81,13 +85,15 @@ fn count_of(form: Form, bytes: &[u8], place: u128) -> u32
 fn value_size(form: Form, bytes: &[u8], place: u128) -> u32
     requires { place < 2 ^ 101 }
     ensures value { result ≡ spec.value_size form bytes.now place }
-    ensures small { result ≤ 4 }
+    ensures few { IsTrue (nat_le result 4 || (result == 8)) }
 {
     let kind = type_of(form, bytes, place);
     if kind == SHORT {
         2
     } else if kind == LONG {
         4
+    } else if form.wide && kind == LONG8 {
+        8
     } else {
         0
     }
@@ -98,7 +104,7 @@ fn values_size(form: Form, bytes: &[u8], place: u128) -> u128
     requires { place < 2 ^ 101 }
     ensures value { result
         ≡ spec.count_of form bytes.now place * spec.value_size form bytes.now place }
-    ensures small { result < 2 ^ 40 }
+    ensures small { result < 2 ^ 70 }
 {
     u128::from(count_of(form, bytes, place)) * u128::from(value_size(form, bytes, place))
 }
@@ -120,7 +126,7 @@ fn values_place(form: Form, bytes: &[u8], place: u128) -> u128
 
 /// Its value i.
 #[tactic(auto, unfolding(tiff_format::specs::Field::entry_value))]
-fn entry_value(form: Form, bytes: &[u8], place: u128, i: u32) -> u32
+fn entry_value(form: Form, bytes: &[u8], place: u128, i: u64) -> u64
     requires { place < 2 ^ 101 }
     ensures { result ≡ spec.entry_value form bytes.now place i }
 {
@@ -142,14 +148,14 @@ pub fn has_shape(form: Form, bytes: &[u8], place: u128) -> bool
 {
     let kind = type_of(form, bytes, place);
     let end = values_place(form, bytes, place) + values_size(form, bytes, place);
-    (kind == SHORT || kind == LONG)
+    (kind == SHORT || kind == LONG || (form.wide && kind == LONG8))
         && 0 < count_of(form, bytes, place)
         && end <= bytes.len() as u128
 }
 
 /// The number of its values, 0 where it has a bad shape.
 #[tactic(auto, using(crate::proofs::FieldLemmas::entry_lengths))]
-fn entry_length(form: Form, bytes: &[u8], place: u128) -> u32
+fn entry_length(form: Form, bytes: &[u8], place: u128) -> u64
     requires { place < 2 ^ 101 }
     ensures { result ≡ length (spec.entry_values form bytes.now place) }
 {
@@ -162,19 +168,19 @@ fn entry_length(form: Form, bytes: &[u8], place: u128) -> u32
 
 /// Its value i, 0 where it has a bad shape or no such value.
 #[tactic(auto, using(crate::proofs::FieldLemmas::entry_lists))]
-fn entry_number(form: Form, bytes: &[u8], place: u128, i: u128) -> u32
+fn entry_number(form: Form, bytes: &[u8], place: u128, i: u128) -> u64
     requires { place < 2 ^ 101 }
     ensures { result ≡ slice_index (spec.entry_values form bytes.now place) i }
 {
     if i < u128::from(entry_length(form, bytes, place)) {
-        entry_value(form, bytes, place, i as u32)
+        entry_value(form, bytes, place, i as u64)
     } else {
         0
     }
 }
 
 /// The default of a tag, if it has one.
-fn default_of(tag: u32) -> Option<u32>
+fn default_of(tag: u32) -> Option<u64>
     ensures { option_to_list result ≡ spec.default_of tag }
 {
     match tag {
@@ -191,7 +197,7 @@ fn default_of(tag: u32) -> Option<u32>
 
 /// The number of values of a field: those of its first entry, or its default.
 #[tactic(auto, unfolding(tiff_format::specs::Field::field_values))]
-pub fn field_length(form: Form, bytes: &[u8], at: u32, tag: u32) -> u32
+pub fn field_length(form: Form, bytes: &[u8], at: u64, tag: u32) -> u64
     ensures { result ≡ length (spec.field_values form bytes.now at tag) }
 {
     match field_place(form, bytes, at, tag) {
@@ -203,7 +209,7 @@ pub fn field_length(form: Form, bytes: &[u8], at: u32, tag: u32) -> u32
 
 /// Value i of a field, 0 where it has no such value.
 #[tactic(auto, unfolding(tiff_format::specs::Field::field_values))]
-pub fn field_number(form: Form, bytes: &[u8], at: u32, tag: u32, i: u128) -> u32
+pub fn field_number(form: Form, bytes: &[u8], at: u64, tag: u32, i: u128) -> u64
     ensures { result ≡ slice_index (spec.field_values form bytes.now at tag) i }
 {
     match field_place(form, bytes, at, tag) {
@@ -214,7 +220,7 @@ pub fn field_number(form: Form, bytes: &[u8], at: u32, tag: u32, i: u128) -> u32
 }
 
 /// The value of a field that holds one number, the first.
-pub fn field_value(form: Form, bytes: &[u8], at: u32, tag: u32) -> u32
+pub fn field_value(form: Form, bytes: &[u8], at: u64, tag: u32) -> u64
     ensures value { result ≡ spec.field_value form bytes.now at tag }
 {
     field_number(form, bytes, at, tag, 0)
@@ -225,9 +231,9 @@ pub fn field_values(
     alloc: Global,
     form: Form,
     bytes: &[u8],
-    at: u32,
+    at: u64,
     tag: u32,
-) -> Result<Vec<u32>, AllocError>
+) -> Result<Vec<u64>, AllocError>
     ensures ok { IfOk result (λ v. v.items ≡ spec.field_values form bytes.now at tag) }
 {
     let mut values = Vec::new(alloc);

@@ -3,7 +3,7 @@
 ghost use Rattle.std.specs.Prelude.{◌≡◌, ◌<◌, ◌^◌};
 ghost use Rattle.tiff_format.specs.Form as spec;
 
-use crate::numbers::{is_big, number_at};
+use crate::numbers::{has_wide_offsets, is_big, number_at};
 use tiff_format::Form;
 
 /// The bytes of an entry's tag.
@@ -19,35 +19,38 @@ pub const VALUES_COUNT_AT: u32 = TAG_BYTES + TYPE_BYTES;
 pub fn form_of(bytes: &[u8]) -> Form
     ensures value { result ≡ spec.form_of bytes.now }
 {
-    Form { big: is_big(bytes) }
+    Form {
+        big: is_big(bytes),
+        wide: has_wide_offsets(bytes),
+    }
 }
 
 /// The bytes of the header.
 pub fn header_bytes(form: Form) -> u32
     ensures { result ≡ spec.header_bytes form }
 {
-    8
+    if form.wide { 16 } else { 8 }
 }
 
 /// The bytes of a directory's count of entries.
 pub fn count_bytes(form: Form) -> u32
     ensures { result ≡ spec.count_bytes form }
 {
-    2
+    if form.wide { 8 } else { 2 }
 }
 
 /// The bytes of an entry.
 pub fn entry_bytes(form: Form) -> u32
     ensures { result ≡ spec.entry_bytes form }
 {
-    12
+    if form.wide { 20 } else { 12 }
 }
 
 /// The bytes of an offset, and of an entry's count of values.
 pub fn offset_bytes(form: Form) -> u32
     ensures { result ≡ spec.offset_bytes form }
 {
-    4
+    if form.wide { 8 } else { 4 }
 }
 
 /// Where in an entry its values or their offset stand.
@@ -58,15 +61,15 @@ pub fn value_field_at(form: Form) -> u32
 }
 
 /// The number that the bytes of an offset spell.
-pub fn offset_at(form: Form, bytes: &[u8], at: u128) -> u32
-    requires { at < 2 ^ 120 }
+pub fn offset_at(form: Form, bytes: &[u8], at: u128) -> u64
+    requires { at < 2 ^ 110 }
     ensures { result ≡ spec.offset_at form bytes.now at }
 {
     number_at(form.big, offset_bytes(form), bytes, at)
 }
 
 /// The place of the first directory.
-pub fn first_place(form: Form, bytes: &[u8]) -> u32
+pub fn first_place(form: Form, bytes: &[u8]) -> u64
     ensures { result ≡ spec.first_place form bytes.now }
 {
     let at = header_bytes(form) - offset_bytes(form);

@@ -1,7 +1,9 @@
 //! What is kept of a directory.
 
-ghost use Rattle.std.specs.Prelude.{◌≡◌, IfOk, slice_index, take};
+ghost use Rattle.std.specs.Prelude.{◌≡◌, ◌<◌, None, IfOk, slice_index, take};
 ghost use Rattle.tiff_format.specs.Block as spec;
+ghost use Rattle.tiff_format.specs.Facts.{IsLevelShape};
+ghost use Rattle.tiff_format.specs.Fault as fault;
 ghost use Rattle.tiff_format.specs.Field as field;
 ghost use Rattle.tiff_format.specs.Level as level;
 ghost use Rattle.tiff_plain.specs.PlainLevel.{shown};
@@ -17,15 +19,16 @@ use tiff_format::Form;
 #[derive(Debug, Drop)]
 pub struct PlainLevel {
     pub shape: PlainShape,
-    pub offsets: Vec<u32>,
+    pub offsets: Vec<u64>,
 }
 
 /// The offset of block i of the directory at a place, 0 where there is no such block.
 #[tactic(auto, unfolding(tiff_format::specs::Block::level_at))]
-pub fn offset_of(form: Form, bytes: &[u8], at: u32, i: u128) -> u32
+pub fn offset_of(form: Form, bytes: &[u8], at: u64, i: u128) -> u64
+    requires { IsLevelShape (spec.shape_at form bytes.now at) }
     ensures { result ≡ slice_index (spec.level_at form bytes.now at).offsets i }
 {
-    if i < blocks_at(form, bytes, at) {
+    if i < u128::from(blocks_at(form, bytes, at)) {
         field_number(form, bytes, at, offsets_tag(form, bytes, at), i)
     } else {
         0
@@ -33,14 +36,15 @@ pub fn offset_of(form: Form, bytes: &[u8], at: u32, i: u128) -> u32
 }
 
 /// The offsets of the blocks. Those beyond the number of blocks are passed over.
-fn block_offsets(alloc: Global, form: Form, bytes: &[u8], at: u32) -> Result<Vec<u32>, AllocError>
+fn block_offsets(alloc: Global, form: Form, bytes: &[u8], at: u64) -> Result<Vec<u64>, AllocError>
+    requires { IsLevelShape (spec.shape_at form bytes.now at) }
     ensures { IfOk result (λ v. v.items
         ≡ take (spec.blocks_of (spec.shape_at form bytes.now at))
         (field.field_values form bytes.now at (spec.offsets_tag form bytes.now at))) }
 {
     let mut offsets = field_values(alloc, form, bytes, at, offsets_tag(form, bytes, at))?;
     let blocks = blocks_at(form, bytes, at);
-    if blocks < offsets.len() as u128 {
+    if blocks < offsets.len() as u64 {
         offsets.truncate(blocks as usize);
         return Ok(offsets);
     }
@@ -49,7 +53,8 @@ fn block_offsets(alloc: Global, form: Form, bytes: &[u8], at: u32) -> Result<Vec
 
 /// What is kept of the directory at a place.
 #[tactic(auto, unfolding(tiff_format::specs::Block::level_at))]
-pub fn level_at(alloc: Global, form: Form, bytes: &[u8], at: u32) -> Result<PlainLevel, AllocError>
+pub fn level_at(alloc: Global, form: Form, bytes: &[u8], at: u64) -> Result<PlainLevel, AllocError>
+    requires { IsLevelShape (spec.shape_at form bytes.now at) }
     ensures ok { IfOk result (λ l. shown l ≡ spec.level_at form bytes.now at) }
 {
     Ok(PlainLevel {
@@ -58,9 +63,11 @@ pub fn level_at(alloc: Global, form: Form, bytes: &[u8], at: u32) -> Result<Plai
     })
 }
 
-/// What is kept of directory k.
+/// What is kept of stored level k of a good file.
 #[tactic(auto, unfolding(tiff_format::specs::Level::directory_level))]
 pub fn directory_level(alloc: Global, bytes: &[u8], k: u32) -> Result<PlainLevel, AllocError>
+    requires good { fault.first_fault bytes.now ≡ None }
+    requires stored { k < level.stored_levels bytes.now }
     ensures ok { IfOk result (λ l. shown l ≡ level.directory_level bytes.now k) }
 {
     level_at(alloc, form_of(bytes), bytes, level_place(bytes, k))

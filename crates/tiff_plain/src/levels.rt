@@ -1,6 +1,6 @@
 //! Which levels a file has, and its first fault.
 
-ghost use Rattle.std.specs.Prelude.{◌≡◌, ◌≤◌, ◌+◌, false, not, map};
+ghost use Rattle.std.specs.Prelude.{◌≡◌, ◌≤◌, ◌+◌, None, false, not, map};
 ghost use Rattle.std.specs.Option.{option_map_or};
 ghost use Rattle.std.specs.List.{range_with_len};
 ghost use Rattle.tiff_format.specs.Directory as directory;
@@ -12,7 +12,7 @@ ghost use Rattle.tiff_format.specs.Level as spec;
 use crate::directories::{directory_place, next_directory};
 use crate::faults::{data_fault, directory_fault, first_of};
 use crate::form::{form_of, header_bytes};
-use crate::numbers::{is_big, is_little, version};
+use crate::numbers::{has_wide_offsets, is_big, is_marked, number_at, version};
 use crate::shape::{has_half_size, has_samples_of, is_single, shape_at};
 use tiff_format::{Form, TiffFault};
 
@@ -20,10 +20,13 @@ use tiff_format::{Form, TiffFault};
 const MAX_LEVELS: u32 = 18;
 
 /// The number behind the mark in a TIFF file.
-const TIFF_VERSION: u32 = 42;
+const TIFF_VERSION: u64 = 42;
+
+/// The bytes of the shortest header.
+const LEAST_BYTES: usize = 8;
 
 /// The place of directory k, 0 where there is none.
-pub fn level_place(bytes: &[u8], k: u32) -> u32
+pub fn level_place(bytes: &[u8], k: u32) -> u64
     ensures value { result ≡ spec.level_place bytes.now k }
 {
     directory_place(form_of(bytes), bytes, k).unwrap_or(0)
@@ -32,15 +35,15 @@ pub fn level_place(bytes: &[u8], k: u32) -> u32
 /// The directory at `next` is the half-size picture of the one at `at`, with the samples of the one
 /// at `first`.
 #[tactic(auto, unfolding(tiff_format::specs::Level::is_next_level))]
-fn is_next_level(form: Form, bytes: &[u8], first: u32, at: u32, next: u32) -> bool
+fn is_next_level(form: Form, bytes: &[u8], first: u64, at: u64, next: u64) -> bool
     ensures { result ≡ spec.is_next_level form bytes.now first at next }
 {
     let last = shape_at(form, bytes, at);
+    if is_single(last) || directory_fault(form, bytes, next).is_some() {
+        return false;
+    }
     let shape = shape_at(form, bytes, next);
-    !is_single(last)
-        && directory_fault(form, bytes, next).is_none()
-        && has_half_size(last, shape)
-        && has_samples_of(shape_at(form, bytes, first), shape)
+    has_half_size(last, shape) && has_samples_of(shape_at(form, bytes, first), shape)
 }
 
 /// A directory follows directory k, and it is the next level.
@@ -95,21 +98,43 @@ pub fn is_whole_chain(bytes: &[u8]) -> bool
     !is_level(bytes, stored_levels(bytes))
 }
 
+/// The header is cut short.
+fn is_short(bytes: &[u8]) -> bool
+    ensures { result ≡ file.is_short bytes.now }
+{
+    bytes.len() < LEAST_BYTES
+        || (is_marked(bytes) && bytes.len() < header_bytes(form_of(bytes)) as usize)
+}
+
+/// The number behind the mark is one that is read.
+fn has_version(bytes: &[u8]) -> bool
+    ensures { result ≡ file.has_version bytes.now }
+{
+    let big = is_big(bytes);
+    version(bytes) == TIFF_VERSION
+        || (has_wide_offsets(bytes)
+            && number_at(big, 2, bytes, 4) == 8
+            && number_at(big, 2, bytes, 6) == 0)
+}
+
 /// The fault of the header: it is cut short, has neither mark, or another version.
 #[tactic(auto, unfolding(tiff_format::specs::Fault::header_fault))]
 pub fn header_fault(bytes: &[u8]) -> Option<TiffFault>
     ensures value { result ≡ file.header_fault bytes.now }
 {
     first_of(&[
-        (bytes.len() < header_bytes(form_of(bytes)) as usize).then_some(TiffFault::Short),
-        (!(is_little(bytes) || is_big(bytes))).then_some(TiffFault::BadMark),
-        (version(bytes) != TIFF_VERSION).then_some(TiffFault::BadVersion),
+        is_short(bytes).then_some(TiffFault::Short),
+        (!is_marked(bytes)).then_some(TiffFault::BadMark),
+        (!has_version(bytes)).then_some(TiffFault::BadVersion),
     ])
 }
 
 /// The first fault of the blocks of n levels, from level k on.
 fn first_data_fault(bytes: &[u8], k: u32, n: u32) -> Option<TiffFault>
-    requires { k + n ≤ spec.max_levels }
+    requires good { fault.directory_fault (form.form_of bytes.now) bytes.now
+        (spec.level_place bytes.now 0) ≡ None }
+    requires stored { k + n ≤ spec.stored_levels bytes.now }
+    requires few { k + n ≤ spec.max_levels }
     ensures { result ≡ fault.first_of
         (map (λ k. fault.data_fault (form.form_of bytes.now) bytes.now k
         (spec.directory_level bytes.now k)) (range_with_len k n)) }
@@ -125,19 +150,24 @@ fn first_data_fault(bytes: &[u8], k: u32, n: u32) -> Option<TiffFault>
 /// The first block outside the file, level 0 first.
 #[tactic(auto, unfolding(tiff_format::specs::Fault::data_faults))]
 fn data_faults(bytes: &[u8]) -> Option<TiffFault>
+    requires { fault.directory_fault (form.form_of bytes.now) bytes.now
+        (spec.level_place bytes.now 0) ≡ None }
     ensures { result ≡ file.data_faults bytes.now }
 {
     first_data_fault(bytes, 0, stored_levels(bytes))
 }
 
-/// The first fault that a file shows, none where it is good.
+/// The first fault that a file shows, none where it is good. Of a file whose header or whose first
+/// directory shows a fault no level is looked for.
 #[tactic(auto, unfolding(tiff_format::specs::Fault::first_fault))]
 pub fn first_fault(bytes: &[u8]) -> Option<TiffFault>
     ensures value { result ≡ file.first_fault bytes.now }
 {
-    first_of(&[
-        header_fault(bytes),
-        directory_fault(form_of(bytes), bytes, level_place(bytes, 0)),
-        data_faults(bytes),
-    ])
+    if let Some(fault) = header_fault(bytes) {
+        return Some(fault);
+    }
+    if let Some(fault) = directory_fault(form_of(bytes), bytes, level_place(bytes, 0)) {
+        return Some(fault);
+    }
+    data_faults(bytes)
 }

@@ -1,15 +1,19 @@
 //! Numbers in the bytes of a file.
 
-ghost use Rattle.std.specs.Prelude.{◌≡◌, ◌≤◌, ◌<◌, ◌^◌, true, false, slice_index};
+ghost use Rattle.std.specs.Prelude.{◌≡◌, ◌≤◌, ◌<◌, ◌^◌, ◌==◌, ◌||◌, true, false, nat_le};
+ghost use Rattle.std.specs.Prelude.{slice_index, IsTrue};
 ghost use Rattle.tiff_format.specs.Bytes as spec;
 
+/// The number behind the mark of a file with wide offsets.
+const WIDE_VERSION: u64 = 43;
+
 /// The byte at a place, 0 past the end.
-fn byte_at(bytes: &[u8], at: u128) -> u32
+fn byte_at(bytes: &[u8], at: u128) -> u64
     ensures value { result ≡ slice_index bytes.now at }
     ensures fits { result < 256 }
 {
     if at < bytes.len() as u128 {
-        u32::from(bytes[at as usize])
+        u64::from(bytes[at as usize])
     } else {
         0
     }
@@ -17,7 +21,7 @@ fn byte_at(bytes: &[u8], at: u128) -> u32
 
 /// The number that up to four bytes spell, the highest first.
 #[tactic(auto, unfolding(tiff_format::specs::Bytes::number_at))]
-fn big_number(n: u32, bytes: &[u8], at: u128) -> u32
+fn big_number(n: u32, bytes: &[u8], at: u128) -> u64
     requires size { n ≤ 4 }
     requires place { at < 2 ^ 120 }
     ensures value { result ≡ spec.number_at true n bytes.now at }
@@ -38,7 +42,7 @@ fn big_number(n: u32, bytes: &[u8], at: u128) -> u32
 
 /// The number that up to four bytes spell, the lowest first.
 #[tactic(auto, unfolding(tiff_format::specs::Bytes::number_at))]
-fn little_number(n: u32, bytes: &[u8], at: u128) -> u32
+fn little_number(n: u32, bytes: &[u8], at: u128) -> u64
     requires size { n ≤ 4 }
     requires place { at < 2 ^ 120 }
     ensures value { result ≡ spec.number_at false n bytes.now at }
@@ -57,9 +61,9 @@ fn little_number(n: u32, bytes: &[u8], at: u128) -> u32
     }
 }
 
-/// The number that n bytes from a place on spell. A byte past the end counts as 0.
+/// The number that up to four bytes spell.
 #[tactic(auto, unfolding(tiff_format::specs::Bytes::number_at))]
-pub fn number_at(big: bool, n: u32, bytes: &[u8], at: u128) -> u32
+fn short_number(big: bool, n: u32, bytes: &[u8], at: u128) -> u64
     requires size { n ≤ 4 }
     requires place { at < 2 ^ 120 }
     ensures value { result ≡ spec.number_at big n bytes.now at }
@@ -72,11 +76,39 @@ pub fn number_at(big: bool, n: u32, bytes: &[u8], at: u128) -> u32
     }
 }
 
+/// The number that eight bytes spell: two of four bytes.
+fn long8_number(big: bool, bytes: &[u8], at: u128) -> u64
+    requires place { at < 2 ^ 110 }
+    ensures value { result ≡ spec.number_at big 8 bytes.now at }
+{
+    let first = short_number(big, 4, bytes, at);
+    let second = short_number(big, 4, bytes, at + 4);
+    if big {
+        first * 4294967296 + second
+    } else {
+        first + second * 4294967296
+    }
+}
+
+/// The number that n bytes from a place on spell. A byte past the end counts as 0.
+pub fn number_at(big: bool, n: u32, bytes: &[u8], at: u128) -> u64
+    requires size { IsTrue (nat_le n 4 || (n == 8)) }
+    requires place { at < 2 ^ 110 }
+    ensures value { result ≡ spec.number_at big n bytes.now at }
+    ensures fits { result < 256 ^ n }
+{
+    if n == 8 {
+        long8_number(big, bytes, at)
+    } else {
+        short_number(big, n, bytes, at)
+    }
+}
+
 #[tactic(auto, unfolding(tiff_format::specs::Bytes::has_mark))]
 fn has_mark(letter: u8, bytes: &[u8]) -> bool
     ensures { result ≡ spec.has_mark letter bytes.now }
 {
-    byte_at(bytes, 0) == u32::from(letter) && byte_at(bytes, 1) == u32::from(letter)
+    byte_at(bytes, 0) == u64::from(letter) && byte_at(bytes, 1) == u64::from(letter)
 }
 
 /// The file begins with `II`.
@@ -93,9 +125,23 @@ pub fn is_big(bytes: &[u8]) -> bool
     has_mark(b'M', bytes)
 }
 
+/// The file begins with one of the two.
+pub fn is_marked(bytes: &[u8]) -> bool
+    ensures { result ≡ spec.is_marked bytes.now }
+{
+    is_little(bytes) || is_big(bytes)
+}
+
 /// The number behind the mark.
-pub fn version(bytes: &[u8]) -> u32
+pub fn version(bytes: &[u8]) -> u64
     ensures { result ≡ spec.version bytes.now }
 {
     number_at(is_big(bytes), 2, bytes, 2)
+}
+
+/// The offsets of the file are wide.
+pub fn has_wide_offsets(bytes: &[u8]) -> bool
+    ensures { result ≡ spec.has_wide_offsets bytes.now }
+{
+    version(bytes) == WIDE_VERSION
 }

@@ -1,7 +1,9 @@
 //! What is known of a level without the offsets of its blocks.
 
-ghost use Rattle.std.specs.Prelude.{◌≡◌, ◌≤◌, ◌<◌, ◌-◌, ◌*◌, ◌%◌, ◌^◌, min};
+ghost use Rattle.std.specs.Prelude.{◌≡◌, ◌≤◌, ◌-◌, ◌*◌, ◌%◌, min};
 ghost use Rattle.tiff_format.specs.Block as spec;
+ghost use Rattle.tiff_format.specs.Facts.{IsSide, IsLevelShape};
+ghost use Rattle.tiff_format.specs.Limits.{max_side, max_channels};
 ghost use Rattle.tiff_format.specs.Level as level;
 ghost use Rattle.tiff_plain.specs.PlainLevel.{shown_shape};
 
@@ -15,32 +17,32 @@ use tiff_format::Form;
 /// The fields of a directory that its samples are read by, but for the offsets.
 #[derive(Clone, Copy, Debug, PartialEq, Eq)]
 pub struct PlainShape {
-    pub width: u32,
-    pub height: u32,
-    pub channels: u32,
+    pub width: u64,
+    pub height: u64,
+    pub channels: u64,
     /// 1 where the samples of a pixel stand side by side, else one for each channel.
-    pub planes: u32,
+    pub planes: u64,
     /// Bits of a sample.
-    pub depth: u32,
+    pub depth: u64,
     /// WhiteIsZero.
     pub white: bool,
     /// Width and height of a tile, if it is tiled.
-    pub tile: Option<(u32, u32)>,
+    pub tile: Option<(u64, u64)>,
     /// 2^32 - 1 where it is tiled.
-    pub rows_per_strip: u32,
+    pub rows_per_strip: u64,
 }
 
 // ---- of a directory
 
 /// The directory is tiled.
-pub fn is_tiled(form: Form, bytes: &[u8], at: u32) -> bool
+pub fn is_tiled(form: Form, bytes: &[u8], at: u64) -> bool
     ensures value { result ≡ spec.is_tiled form bytes.now at }
 {
     has_field(form, bytes, at, TILE_WIDTH)
 }
 
 /// Width and height of its tiles, if it is tiled.
-fn tile_of(form: Form, bytes: &[u8], at: u32) -> Option<(u32, u32)>
+fn tile_of(form: Form, bytes: &[u8], at: u64) -> Option<(u64, u64)>
     ensures { result ≡ spec.tile_of form bytes.now at }
 {
     if is_tiled(form, bytes, at) {
@@ -54,7 +56,7 @@ fn tile_of(form: Form, bytes: &[u8], at: u32) -> Option<(u32, u32)>
 }
 
 /// The field that holds the offsets of its blocks.
-pub fn offsets_tag(form: Form, bytes: &[u8], at: u32) -> u32
+pub fn offsets_tag(form: Form, bytes: &[u8], at: u64) -> u32
     ensures { result ≡ spec.offsets_tag form bytes.now at }
 {
     if is_tiled(form, bytes, at) {
@@ -64,19 +66,19 @@ pub fn offsets_tag(form: Form, bytes: &[u8], at: u32) -> u32
     }
 }
 
-/// The rows of a strip.
-fn strip_rows(form: Form, bytes: &[u8], at: u32) -> u32
+/// The rows of a strip: all rows where the file says more.
+fn strip_rows(form: Form, bytes: &[u8], at: u64) -> u64
     ensures { result ≡ spec.strip_rows form bytes.now at }
 {
     if is_tiled(form, bytes, at) {
         ALL_ROWS
     } else {
-        field_value(form, bytes, at, ROWS_PER_STRIP)
+        ALL_ROWS.min(field_value(form, bytes, at, ROWS_PER_STRIP))
     }
 }
 
 /// Its planes.
-fn planes_at(form: Form, bytes: &[u8], at: u32) -> u32
+fn planes_at(form: Form, bytes: &[u8], at: u64) -> u64
     ensures { result ≡ spec.planes_at form bytes.now at }
 {
     if field_value(form, bytes, at, PLANAR_CONFIGURATION) == 2 {
@@ -87,7 +89,7 @@ fn planes_at(form: Form, bytes: &[u8], at: u32) -> u32
 }
 
 /// What is known of the directory at a place without its offsets.
-pub fn shape_at(form: Form, bytes: &[u8], at: u32) -> PlainShape
+pub fn shape_at(form: Form, bytes: &[u8], at: u64) -> PlainShape
     ensures value { shown_shape result ≡ spec.shape_at form bytes.now at }
 {
     PlainShape {
@@ -104,48 +106,50 @@ pub fn shape_at(form: Form, bytes: &[u8], at: u32) -> PlainShape
 
 // ---- of its blocks
 
-/// As many as it takes to cover n places by pieces of that many, 0 where a piece is 0.
-pub fn pieces_over(n: u32, piece: u32) -> u64
-    ensures value { result ≡ spec.pieces_over n piece }
-    ensures fits { result < 2 ^ 33 }
+/// As many as it takes to cover a side by pieces of that many.
+pub fn pieces_over(side: u64, piece: u64) -> u64
+    requires side { IsSide side }
+    requires piece { 1 ≤ piece }
+    ensures value { result ≡ spec.pieces_over side piece }
+    ensures some { 1 ≤ result }
+    ensures fits { result ≤ max_side }
 {
-    if piece == 0 {
-        0
-    } else {
-        (u64::from(n) + u64::from(piece) - 1) / u64::from(piece)
-    }
+    let pieces = (u128::from(side) + u128::from(piece) - 1) / u128::from(piece);
+    pieces as u64
 }
 
 /// How many blocks a level has.
-pub fn blocks_of(shape: PlainShape) -> u128
+pub fn blocks_of(shape: PlainShape) -> u64
+    requires { IsLevelShape (shown_shape shape) }
     ensures value { result ≡ spec.blocks_of (shown_shape shape) }
 {
-    u128::from(shape.planes) * plane_blocks(shape)
+    shape.planes * plane_blocks(shape)
 }
 
 /// How many blocks a plane has.
-pub fn plane_blocks(shape: PlainShape) -> u128
+pub fn plane_blocks(shape: PlainShape) -> u64
+    requires { IsLevelShape (shown_shape shape) }
     ensures value { result ≡ spec.plane_blocks (shown_shape shape) }
-    ensures fits { result < 2 ^ 68 }
+    ensures fits { result ≤ max_side * max_side }
 {
     match shape.tile {
         Some((tile_width, tile_height)) => {
-            u128::from(pieces_over(shape.width, tile_width))
-                * u128::from(pieces_over(shape.height, tile_height))
+            pieces_over(shape.width, tile_width) * pieces_over(shape.height, tile_height)
         }
-        None => u128::from(pieces_over(shape.height, shape.rows_per_strip)),
+        None => pieces_over(shape.height, shape.rows_per_strip),
     }
 }
 
 /// How many blocks the directory at a place has.
-pub fn blocks_at(form: Form, bytes: &[u8], at: u32) -> u128
+pub fn blocks_at(form: Form, bytes: &[u8], at: u64) -> u64
+    requires { IsLevelShape (spec.shape_at form bytes.now at) }
     ensures { result ≡ spec.blocks_of (spec.shape_at form bytes.now at) }
 {
     blocks_of(shape_at(form, bytes, at))
 }
 
 /// The bytes of a sample.
-pub fn sample_bytes(depth: u32) -> u32
+pub fn sample_bytes(depth: u64) -> u32
     ensures value { result ≡ spec.sample_bytes depth }
     ensures small { result ≤ 2 }
 {
@@ -153,62 +157,61 @@ pub fn sample_bytes(depth: u32) -> u32
 }
 
 /// How many samples of a texel stand side by side.
-pub fn samples_aside(shape: PlainShape) -> u32
-    ensures { result ≡ spec.samples_aside (shown_shape shape) }
+pub fn samples_aside(shape: PlainShape) -> u64
+    requires { IsLevelShape (shown_shape shape) }
+    ensures value { result ≡ spec.samples_aside (shown_shape shape) }
+    ensures fits { result ≤ max_channels }
 {
     if shape.planes == 1 { shape.channels } else { 1 }
 }
 
 /// The bytes of a texel.
 fn texel_bytes(shape: PlainShape) -> u64
-    ensures { result ≡ spec.texel_bytes (shown_shape shape) }
+    requires { IsLevelShape (shown_shape shape) }
+    ensures value { result ≡ spec.texel_bytes (shown_shape shape) }
+    ensures fits { result ≤ max_channels * 2 }
 {
-    u64::from(samples_aside(shape)) * u64::from(sample_bytes(shape.depth))
-}
-
-/// The strip of its plane that strip i is.
-fn strip_of_plane(shape: PlainShape, i: u32) -> u32
-    ensures { result ≡ i % spec.pieces_over shape.height shape.rows_per_strip }
-{
-    let strips = pieces_over(shape.height, shape.rows_per_strip);
-    if strips == 0 {
-        i
-    } else {
-        (u64::from(i) % strips) as u32
-    }
+    samples_aside(shape) * u64::from(sample_bytes(shape.depth))
 }
 
 /// The rows of strip i, of which the last of a plane may have fewer.
-fn rows_left(shape: PlainShape, i: u32) -> u32
-    ensures { result ≡ min shape.rows_per_strip (shape.height
+fn rows_left(shape: PlainShape, i: u64) -> u64
+    requires { IsLevelShape (shown_shape shape) }
+    ensures value { result ≡ min shape.rows_per_strip (shape.height
         - shape.rows_per_strip * (i % spec.pieces_over shape.height shape.rows_per_strip)) }
+    ensures fits { result ≤ max_side }
 {
-    let before = u64::from(shape.rows_per_strip) * u64::from(strip_of_plane(shape, i));
-    u64::from(shape.rows_per_strip).min(u64::from(shape.height).saturating_sub(before)) as u32
+    let strip = i % pieces_over(shape.height, shape.rows_per_strip);
+    let before = u128::from(shape.rows_per_strip) * u128::from(strip);
+    let left = u128::from(shape.height).saturating_sub(before);
+    u128::from(shape.rows_per_strip).min(left) as u64
 }
 
 /// How many texels block i has.
-fn block_texels(shape: PlainShape, i: u32) -> u64
-    ensures { result ≡ (let shape = shown_shape shape in spec.block_texels_by shape shape.tile i) }
+fn block_texels(shape: PlainShape, i: u64) -> u64
+    requires { IsLevelShape (shown_shape shape) }
+    ensures value { result
+        ≡ (let shape = shown_shape shape in spec.block_texels_by shape shape.tile i) }
+    ensures fits { result ≤ max_side * max_side }
 {
     match shape.tile {
-        Some((tile_width, tile_height)) => u64::from(tile_width) * u64::from(tile_height),
-        None => u64::from(rows_left(shape, i)) * u64::from(shape.width),
+        Some((tile_width, tile_height)) => tile_width * tile_height,
+        None => rows_left(shape, i) * shape.width,
     }
 }
 
 /// The bytes of block i.
-pub fn block_bytes(shape: PlainShape, i: u32) -> u128
+pub fn block_bytes(shape: PlainShape, i: u64) -> u64
+    requires { IsLevelShape (shown_shape shape) }
     ensures value { result ≡ spec.block_bytes (shown_shape shape) i }
-    ensures fits { result < 2 ^ 100 }
 {
-    u128::from(block_texels(shape, i)) * u128::from(texel_bytes(shape))
+    block_texels(shape, i) * texel_bytes(shape)
 }
 
 // ---- beside another level
 
 /// Half of a side, rounded down, and 1 at least.
-fn halved(side: u32) -> u32
+fn halved(side: u64) -> u64
     ensures { result ≡ level.halved side }
 {
     (side / 2).max(1)

@@ -1,11 +1,12 @@
 //! Which sample stands in a level at a texel, and which value it is answered as.
 
-ghost use Rattle.std.specs.Prelude.{◌≡◌, ◌<◌, ◌+◌, ◌*◌, ◌/◌, ◌%◌, ◌^◌, None, slice_index};
+ghost use Rattle.std.specs.Prelude.{◌≡◌, ◌≤◌, ◌<◌, ◌+◌, ◌*◌, ◌%◌, ◌^◌, None, slice_index};
 ghost use Rattle.tiff_format.specs.Block as block;
 ghost use Rattle.tiff_format.specs.Bytes as number;
-ghost use Rattle.tiff_format.specs.Facts.{IsDepth};
+ghost use Rattle.tiff_format.specs.Facts.{IsDepth, IsLevelShape};
 ghost use Rattle.tiff_format.specs.Fault as fault;
 ghost use Rattle.tiff_format.specs.Level as level;
+ghost use Rattle.tiff_format.specs.Limits.{max_side};
 ghost use Rattle.tiff_format.specs.Texel as spec;
 ghost use Rattle.tiff_plain.specs.PlainLevel.{shown_shape};
 
@@ -15,56 +16,53 @@ use crate::levels::level_place;
 use crate::numbers::{is_big, number_at};
 use crate::shape::{PlainShape, pieces_over, plane_blocks, sample_bytes, samples_aside, shape_at};
 
-/// The quotient, 0 over 0.
-fn quotient(a: u32, b: u32) -> u32
-    ensures { result ≡ a / b }
-{
-    if b == 0 { 0 } else { a / b }
-}
-
-/// The remainder, the number itself over 0.
-fn remainder(a: u32, b: u32) -> u32
-    ensures { result ≡ a % b }
-{
-    if b == 0 { a } else { a % b }
-}
-
-/// A place in rows of a width.
-fn place_in_rows(row: u32, width: u32, column: u32) -> u128
-    ensures value { result ≡ row * width + column }
-    ensures fits { result < 2 ^ 65 }
-{
-    u128::from(row) * u128::from(width) + u128::from(column)
-}
-
 /// The block of a plane that holds texel (x, y).
-fn block_index(shape: PlainShape, x: u32, y: u32) -> u128
+fn block_index(shape: PlainShape, x: u32, y: u32) -> u64
+    requires { IsLevelShape (shown_shape shape) }
     ensures value { result ≡ spec.block_index (shown_shape shape) x y }
-    ensures fits { result < 2 ^ 66 }
+    ensures fits { result < 2 ^ 50 }
 {
     match shape.tile {
         Some((tile_width, tile_height)) => {
             let across = pieces_over(shape.width, tile_width);
-            u128::from(quotient(y, tile_height)) * u128::from(across)
-                + u128::from(quotient(x, tile_width))
+            u64::from(y) / tile_height * across + u64::from(x) / tile_width
         }
-        None => u128::from(quotient(y, shape.rows_per_strip)),
+        None => u64::from(y) / shape.rows_per_strip,
     }
 }
 
 /// The block that holds the sample of channel c of texel (x, y).
 fn block_of_sample(shape: PlainShape, x: u32, y: u32, c: u32) -> u128
+    requires { IsLevelShape (shown_shape shape) }
     ensures { result ≡ spec.plane_of (shown_shape shape) c
         * block.plane_blocks (shown_shape shape) + spec.block_index (shown_shape shape) x y }
 {
     let plane = if shape.planes == 1 { 0 } else { c };
-    u128::from(plane) * plane_blocks(shape) + block_index(shape, x, y)
+    u128::from(plane) * u128::from(plane_blocks(shape)) + u128::from(block_index(shape, x, y))
+}
+
+/// A place in rows of a width.
+fn place_in_rows(row: u32, width: u64, column: u32) -> u64
+    requires { width ≤ max_side }
+    ensures value { result ≡ row * width + column }
+    ensures fits { result < 2 ^ 50 }
+{
+    u64::from(row) * width + u64::from(column)
+}
+
+/// What is left of a number over another.
+fn remainder(a: u32, b: u64) -> u32
+    requires { 1 ≤ b }
+    ensures { result ≡ a % b }
+{
+    (u64::from(a) % b) as u32
 }
 
 /// The number of texels before texel (x, y) in its block.
-fn texels_before(shape: PlainShape, x: u32, y: u32) -> u128
+fn texels_before(shape: PlainShape, x: u32, y: u32) -> u64
+    requires { IsLevelShape (shown_shape shape) }
     ensures value { result ≡ spec.texels_before (shown_shape shape) x y }
-    ensures fits { result < 2 ^ 65 }
+    ensures fits { result < 2 ^ 50 }
 {
     match shape.tile {
         Some((tile_width, tile_height)) => {
@@ -80,18 +78,19 @@ fn texels_before(shape: PlainShape, x: u32, y: u32) -> u128
 
 /// The place in its block of the sample of channel c of texel (x, y).
 fn place_in_block(shape: PlainShape, x: u32, y: u32, c: u32) -> u128
+    requires { IsLevelShape (shown_shape shape) }
     ensures value { result ≡ (spec.texels_before (shown_shape shape) x y
         * block.samples_aside (shown_shape shape) + spec.samples_before (shown_shape shape) c)
         * block.sample_bytes shape.depth }
     ensures fits { result < 2 ^ 100 }
 {
     let before = if shape.planes == 1 { c } else { 0 };
-    (texels_before(shape, x, y) * u128::from(samples_aside(shape)) + u128::from(before))
+    (u128::from(texels_before(shape, x, y)) * u128::from(samples_aside(shape)) + u128::from(before))
         * u128::from(sample_bytes(shape.depth))
 }
 
 /// The greatest sample of a depth.
-fn greatest_sample(depth: u32) -> u32
+fn greatest_sample(depth: u64) -> u32
     requires { IsDepth depth }
     ensures { result ≡ spec.greatest_sample depth }
 {
@@ -103,7 +102,7 @@ fn greatest_sample(depth: u32) -> u32
 }
 
 /// What is read where a number is stored: the white rule.
-fn unwhite(is_white: bool, depth: u32, stored: u32) -> u32
+fn unwhite(is_white: bool, depth: u64, stored: u32) -> u32
     requires depth { IsDepth depth }
     requires stored { stored < 2 ^ depth }
     ensures value { result ≡ spec.unwhite is_white depth stored }
@@ -122,14 +121,16 @@ fn stored_shape(bytes: &[u8], l: u32) -> PlainShape
     requires good { fault.first_fault bytes.now ≡ None }
     requires stored { l < level.stored_levels bytes.now }
     ensures value { shown_shape result ≡ (level.directory_level bytes.now l).shape }
-    ensures depth { IsDepth result.depth }
+    ensures shape { IsLevelShape (shown_shape result) }
 {
     shape_at(form_of(bytes), bytes, level_place(bytes, l))
 }
 
 /// The offset of block i of level l.
 #[tactic(auto, unfolding(tiff_format::specs::Level::directory_level))]
-fn stored_offset(bytes: &[u8], l: u32, i: u128) -> u32
+fn stored_offset(bytes: &[u8], l: u32, i: u128) -> u64
+    requires good { fault.first_fault bytes.now ≡ None }
+    requires stored { l < level.stored_levels bytes.now }
     ensures { result ≡ slice_index (level.directory_level bytes.now l).offsets i }
 {
     offset_of(form_of(bytes), bytes, level_place(bytes, l), i)
@@ -149,13 +150,13 @@ fn sample_place(bytes: &[u8], l: u32, x: u32, y: u32, c: u32) -> u128
 }
 
 /// The sample that is stored at a place.
-fn number_stored(big: bool, depth: u32, bytes: &[u8], place: u128) -> u32
+fn number_stored(big: bool, depth: u64, bytes: &[u8], place: u128) -> u32
     requires depth { IsDepth depth }
-    requires place { place < 2 ^ 120 }
+    requires place { place < 2 ^ 110 }
     ensures value { result ≡ number.number_at big (block.sample_bytes depth) bytes.now place }
     ensures fits { result < 2 ^ depth }
 {
-    number_at(big, sample_bytes(depth), bytes, place)
+    number_at(big, sample_bytes(depth), bytes, place) as u32
 }
 
 /// The sample of channel c of texel (x, y) of stored level l of a good file.
@@ -173,7 +174,7 @@ pub fn sample_at(bytes: &[u8], l: u32, x: u32, y: u32, c: u32) -> u32
 }
 
 /// The value of a sample: it is 16-bit, and an 8-bit sample v counts as 257 * v.
-fn value_of(depth: u32, sample: u32) -> u16
+fn value_of(depth: u64, sample: u32) -> u16
     requires depth { IsDepth depth }
     requires sample { sample < 2 ^ depth }
     ensures { result ≡ spec.value_of depth sample }

@@ -16,7 +16,11 @@ fn stored<const WIDE: bool, const BIG: bool>(src: &[u8], k: usize) -> u16
     ensures low { result ≤ greatest_sample (depth_of WIDE) }
 {
     if WIDE {
-        Form { big: BIG }.short_at(src, 2 * k)
+        Form {
+            big: BIG,
+            wide: false,
+        }
+        .short_at(src, 2 * k)
     } else {
         u16::from(src[k])
     }

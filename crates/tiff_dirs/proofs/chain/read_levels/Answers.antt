@@ -13,7 +13,7 @@ use Rattle.tiff_dirs.specs.ReadLevel.{IsLevelAt}
 use Rattle.tiff_dirs.specs.Chain.{AreAll}
 use Rattle.tiff_format.specs.Shown.{shown}
 use Rattle.tiff_dirs.proofs.Saying.{finds_err, leaves_err}
-use Rattle.tiff_dirs.proofs.Order.{or_none}
+use Rattle.tiff_format.proofs.FirstFault.{or_none}
 use Rattle.tiff_dirs.proofs.LevelFaults.{tested_is, faults_at_first}
 use Rattle.tiff_dirs.proofs.FirstLevel.{fault_there, first_there, end_there}
 use Rattle.tiff_dirs.proofs.chain.read_levels.Goals as goal

@@ -1,5 +1,6 @@
-use Rattle.std.proofs.Common.{◌≡◌, ◌*◌, arith, ◌∙◌, add-zero, refl}
-use Rattle.tiff_format.proofs.BytesOfParts.{number_of_part}
+use Rattle.std.proofs.Common.{◌+◌, ◌-◌, ◌*◌, ◌≤◌, arith, ◌∙◌, sym}
+use Rattle.std.proofs.lemmas.Bool.{leb-true, le-leb, false≢true}
+use Rattle.tiff_format.specs.Form.{entry_bytes, offset_bytes}
 use Rattle.tiff_dirs.proofs.Parts.{IsInside, inside_parts}
 use Rattle.tiff_dirs.proofs.Shown.{outside_is, inside_is}
 use Rattle.tiff_dirs.proofs.directory.count_of_entries.Goals as goal
@@ -9,15 +10,16 @@ returns-clause-told g c = λ bytes is.
     let form = c.args.place.form in
     let at = c.args.place.at in
     let l = g.met.B.ByteReader.lawful.told c.args.b.now bytes is in
-    let part = (c.in_ok-read_at.ensures.told bytes is).1 in
-    let count = rw add-zero at
-    (number_of_part form.big 2 0 at bytes c.read_at.new.buf part (omega arith)) in
-    let count-is = c.short_at-count.ensures.value ∙ count in
-    let entries : c.entry_bytes.result * c.from.result ≡ 12 * c.short_at-count.result =
-    rw (c.entry_bytes.ensures.value, c.from.ensures) refl in
-    let inside : IsInside form bytes at =
-    record { low = omega arith; high = omega (arith, l, count-is) } in
-    (inside_is form bytes at inside, count-is)
+    let count = (c.in_ok-count.ensures.told bytes is).1 in
+    let left = c.len-file.result - c.count_bytes-size.result - at in
+    let room = rw count at (leb-true
+    (entry_bytes form * c.in_ok-count.count + offset_bytes form) left
+    (sym c.has_room.ensures ∙ c.if-not-has_room.false)) in
+    let inside : IsInside form bytes at = record {
+      low = omega (arith, c.header_bytes.ensures.value);
+      high = omega (arith, l, room, c.count_bytes-size.ensures.value);
+    } in
+    (inside_is form bytes at inside, count)
 
 pub returns-then-place-header_bytes-clause-told : goal.returns-then-place-header_bytes-clause-told
 returns-then-place-header_bytes-clause-told g c = λ bytes is.
@@ -32,17 +34,16 @@ returns-then-place-header_bytes-clause-told g c = λ bytes is.
           omega (arith, h.high, l)
     ])
 
-pub returns-then-left-entry_bytes-clause-told : goal.returns-then-left-entry_bytes-clause-told
-returns-then-left-entry_bytes-clause-told g c = λ bytes is.
+pub returns-then-not-has_room-clause-told : goal.returns-then-not-has_room-clause-told
+returns-then-not-has_room-clause-told g c = λ bytes is.
     let form = c.args.place.form in
     let at = c.args.place.at in
     let l = g.met.B.ByteReader.lawful.told c.args.b.now bytes is in
-    let part = (c.in_ok-read_at.ensures.told bytes is).1 in
-    let count = rw add-zero at
-    (number_of_part form.big 2 0 at bytes c.read_at.new.buf part (omega arith)) in
-    let count-is = c.short_at-count.ensures.value ∙ count in
-    let entries : c.entry_bytes.result * c.from.result ≡ 12 * c.short_at-count.result =
-    rw (c.entry_bytes.ensures.value, c.from.ensures) refl in
+    let count = (c.in_ok-count.ensures.told bytes is).1 in
+    let left = c.len-file.result - c.count_bytes-size.result - at in
     outside_is form bytes at (λ yes.
     let h = inside_parts form bytes at yes in
-    omega (arith, h.high, l, count-is))
+    let fits : entry_bytes form * c.in_ok-count.count + offset_bytes form ≤ left =
+    rw count (omega (arith, h.high, l, c.count_bytes-size.ensures.value)) in
+    absurd (false≢true (sym (sym c.has_room.ensures ∙ c.if-not-has_room.true)
+    ∙ le-leb (entry_bytes form * c.in_ok-count.count + offset_bytes form) left fits)))

@@ -9,15 +9,15 @@ use Rattle.tiff_dirs.proofs.offsets.read_more.Goals as goal
 pub returns-clause-told : goal.returns-clause-told
 returns-clause-told g c = λ bytes is place entry first.
     let e = c.args.entry.now in
-    let size = type_size e.kind in
+    let size = type_size e.form e.kind in
     let old = c.args.values.now.items in
     let values = (c.in_ok-read_part.ensures.told bytes is place entry).1 in
     let room : c.args.more * c.value_size.result ≤ length c.args.buffer.now =
-    rw c.value_size.ensures (omega (arith, c.requires.room)) in
+    rw c.value_size.ensures.value (omega (arith, c.requires.room)) in
     let taken : c.args.more * c.value_size.result ≤ length c.read_part.new.part =
     omega (arith, c.read_part.auto.part, length-take {A = ℕ}, room) in
     let read : c.args.more * size ≤ length c.read_part.new.part =
-    rw (← c.value_size.ensures) taken in
+    rw (← c.value_size.ensures.value) taken in
     let from-is : c.len.result ≡ length old =
     omega (arith, c.len.ensures, c.args.values.now.ok.0) in (
       refl,

@@ -45,12 +45,12 @@ returns-then-not-has_shape-clause-told g c = λ bytes is form at has shape.
           let zero : length (field_values form bytes at (offsets_tag form bytes at)) ≡ 0 =
           rw (← tag) (ap length none) in
           too_few form bytes at (omega (arith, zero, blocks, c.blocks-blocks.ensures.some))
-      | goal.then-not-has_shape-via-else-not-has_shape+then-from-blocks w ↦
+      | goal.then-not-has_shape-via-else-not-has_shape+then-entry-blocks w ↦
           let v = shaped_values form bytes at c.offsets_tag.result entry kept
           (shaped true w.if-not-has_shape.false) in
           let few : length (field_values form bytes at (offsets_tag form bytes at)) ≡ entry.count =
           rw (← tag) v.long in
-          too_few form bytes at (omega (arith, few, blocks, w.from.ensures, w.if-from-blocks.true))
+          too_few form bytes at (omega (arith, few, blocks, w.if-entry-blocks.true))
     ]
 
 pub returns-clause-told : goal.returns-clause-told
@@ -71,7 +71,7 @@ returns-clause-told g c = λ bytes is form at has shape.
     ∙ blocks_are form bytes at (seen_shape c.args.shape.now) shape in
     let all-long : length all ≡ entry.count = rw (← tag) v.long in
     let le : n ≤ length all =
-    omega (arith, all-long, blocks, c.from.ensures, c.if-from-blocks.false) in
+    omega (arith, all-long, blocks, c.if-entry-blocks.false) in
     let are = λ (i : ℕ) (lt : i < n).
     let there : get_or all i 0 ≡ value i = rw (← tag) (v.each i
     (omega (arith, all-long))) in there in

@@ -16,7 +16,7 @@ returns-clause-told g c = λ bytes is form at has are.
     let field : SampleField =
     record { tag = bits_per_sample_tag; one = n.bits; other = n.bits } in
     let fits : (eqb n.bits 8 || eqb n.bits 16) ≡ true =
-    is_depth n.bits c.else-bits-ne-BYTE_BITS.either in
+    is_depth n.bits (rw c.from.ensures at c.else-bits-from.either) in
     finds_so (option_map (Unsupported field.tag) (first_other form bytes at field n.samples))
     (bits_fault form bytes at) (λ (x : Unit {0}). Unit {0}) (λ (x : Unit {0}). Unit {0})
     c.test.result (c.test.ensures.told bytes is form at has)

@@ -3,8 +3,8 @@ use Rattle.std.proofs.lemmas.Bool.Decides.{nat_tests}
 use Rattle.tiff_plain.proofs.FieldLemmas.{first_entry_found, first_entry_more, first_entry_none}
 use Rattle.tiff_plain.proofs.fields.first_entry.Goals as goal
 
-pub returns-then-number_at-tag-clause-value : goal.returns-then-number_at-tag-clause-value
-returns-then-number_at-tag-clause-value c = grind (arith, first_entry_found, c.loop-i.invariant)
+pub returns-then-number_at-from-clause-value : goal.returns-then-number_at-from-clause-value
+returns-then-number_at-from-clause-value c = grind (arith, first_entry_found, c.loop-i.invariant)
 
 pub loop-i-preserved : goal.loop-i-preserved
 loop-i-preserved c = grind (arith, nat_tests, first_entry_more, c.loop-i.invariant)

@@ -5,6 +5,7 @@ use Rattle.tiff_format.specs.DirectoryFault.{data_fault}
 use Rattle.tiff_format.specs.Form.{form_of}
 use Rattle.tiff_format.specs.Level.{directory_level}
 use Rattle.tiff_plain.proofs.FindLemmas.{first_of_more}
+use Rattle.tiff_plain.proofs.LevelLemmas.{stored_has_shape}
 use Rattle.tiff_plain.proofs.levels.+first_data_fault.Goals as goal
 
 pub returns-else-n-eq0 : goal.returns-else-n-eq0
@@ -20,3 +21,9 @@ returns-else-n-eq0 t c =
       c.form_of.ensures.value,
       c.level_place.ensures.value,
     ) refl
+
+pub data_fault-fault-requires : goal.data_fault-fault-requires
+data_fault-fault-requires t c =
+    rw (c.form_of.ensures.value, c.level_place.ensures.value)
+    (stored_has_shape c.args.bytes.now c.args.k c.requires.good
+    (omega (arith, c.requires.stored, c.if-n-eq0.false)))

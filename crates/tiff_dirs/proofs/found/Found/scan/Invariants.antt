@@ -6,7 +6,7 @@ use Rattle.tiff_dirs.proofs.found.Found.scan.Given as goal
 
 abbrev pub invariant-loop-i : goal.invariant-loop-i
 invariant-loop-i l =
-    (bytes : List ℕ) (first done : ℕ) → l.place ≡ first + entry_bytes l.form * done
-    → IsPartAt bytes l.place l.part
-    → Covers l.form bytes first done l.fn.self.entries
-    → Covers l.form bytes first (done + l.i) l.self.entries
+    (bytes : List ℕ) (first done : ℕ)
+    → l.place.at ≡ first + entry_bytes l.place.form * done → IsPartAt bytes l.place.at l.part
+    → Covers l.place.form bytes first done l.fn.self.entries
+    → Covers l.place.form bytes first (done + l.i) l.self.entries

@@ -8,7 +8,7 @@ use Rattle.tiff_dirs.proofs.sample_fields.SampleField.other_of_entry.Given as go
 abbrev pub invariant-blocks-2 : goal.invariant-blocks-2
 invariant-blocks-2 g l = record {
   within : l.done ≤ l.count;
-  room : vec_len l.buffer ≡ type_size l.entry.kind * l.most;
+  room : vec_len l.buffer ≡ type_size l.entry.form l.entry.kind * l.most;
   keeps : g.B.ByteReader.keeps l.fn.b l.b;
   told : ForSome (g.B.ByteReader.bytes l.fn.b)
       (λ bytes. (place : ℕ) → IsEntry bytes place l.entry → (k : ℕ) → k < l.done

@@ -1,5 +1,4 @@
 use Rattle.std.proofs.Common.{arith}
-use Rattle.std.proofs.Math.Nat.{mul-le-mul}
 use Rattle.tiff_dirs.proofs.shape.LevelShape.plane_blocks.Goals as goal
 
 pub pieces-requires-in-Some-clause-piece : goal.pieces-requires-in-Some-clause-piece
