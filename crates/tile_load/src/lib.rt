@@ -8,6 +8,7 @@ mod loading;
 mod part_place;
 mod part_span;
 mod place;
+mod places;
 mod planes;
 mod quarters;
 mod reading;
