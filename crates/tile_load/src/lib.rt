@@ -1,6 +1,7 @@
 //! The one place that reads texels: a rectangle of a level, from the bytes of its file.
 #![tactic(auto)]
 
+mod bands;
 mod halve_part;
 mod halving;
 mod load_error;
