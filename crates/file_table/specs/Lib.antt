@@ -2,3 +2,4 @@ pub mod Record
 pub mod Files
 pub mod Calls
 pub mod Idle
+pub mod Aheads

@@ -26,9 +26,9 @@ pub enum LendError<B> {
     Busy(B),
 }
 
-/// A `settle` gave up. The handle comes back, and dropping it closes it.
+/// A `settle` gave up. The file comes back, and dropping it closes its handle.
 #[derive(Drop)]
-pub struct NotSettled<H: Drop, B: Drop> {
-    pub handle: H,
+pub struct NotSettled<F: Drop, B: Drop> {
+    pub file: F,
     pub busy: B,
 }

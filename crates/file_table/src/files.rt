@@ -8,7 +8,7 @@ ghost use Rattle.file_table.specs.Calls.{GivesRecord, IsAsSeen, OpensIfAtAll, Re
 
 use crate::error::RecordError;
 use crate::home::put_back;
-use crate::idle::{IdleHandles, SoMany};
+use crate::idle_files::{IdleFiles, SoMany};
 use crate::known::{KnownRecord, OfFile};
 use crate::open::open_record;
 use crate::record::Record;
@@ -24,8 +24,9 @@ use waiter::Waiter;
 /// The lock of a file's record. Its tag is the number of the file.
 type RecordLock<W> = TagLock<KnownRecord<W>, OfFile<W>>;
 
-/// The lock of the handles that lie idle. Its tag is the most that there may be.
-type IdleLock<H> = TagLock<Box<IdleHandles<H>>, SoMany>;
+/// The lock of the handles that lie idle, with what was read ahead of their files. Its tag is the
+/// most handles that there may be.
+type IdleLock<T> = TagLock<Box<IdleFiles<T>>, SoMany>;
 
 /// The files of a folder as many workers use them. In a clause it is its board, the most handles
 /// that lie idle in it, and the cut that its files are used under. It holds no tap: `T` names the
@@ -35,7 +36,7 @@ pub struct Files<T: Tap> {
     pub(crate) alloc: Global,
     board: Board<T::W>,
     records: Vec<RecordLock<T::W>>,
-    pub(crate) idle: IdleLock<T::Handle>,
+    pub(crate) idle: IdleLock<T>,
     cut: Cut,
 }
 
@@ -80,7 +81,7 @@ impl<T: Tap> Files<T> {
         let Ok(records) = record_locks(alloc, files) else {
             return Err(NoMemory);
         };
-        let Ok(idle) = Box::new(alloc, IdleHandles::new(alloc, cap)?) else {
+        let Ok(idle) = Box::new(alloc, IdleFiles::new(alloc, cap)?) else {
             return Err(NoMemory);
         };
         let table = Files {
@@ -104,8 +105,8 @@ impl<T: Tap> Files<T> {
     ///
     /// The board is looked at once. A record that is kept and at least as new as what the view has
     /// then seen is answered without a call of the tap. Else the file is opened and read, and its
-    /// record is kept, unless the waiter then gives up. The lock of the file's record is held for no
-    /// read and for no growth of memory.
+    /// record is kept, unless the waiter then gives up. The lock of the file's record is held for
+    /// no read and for no growth of memory.
     pub fn record<V: Waiter>(
         &self,
         waiter: &V,

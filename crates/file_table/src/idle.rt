@@ -8,7 +8,6 @@ use lru::LruCache;
 use std::alloc::{AllocFailed, Global};
 use std::marker::Model;
 use std::num::NonZeroUsize;
-use tag_lock::TagRule;
 use tex_world::{NoMemory, TapHandle};
 
 /// Open handles that nobody uses, at most one for each file and so many in all. In a clause it is
@@ -117,11 +116,4 @@ impl<H: TapHandle + Drop> IdleHandles<H> {
             ) => Some(handle),
         }
     }
-}
-
-/// The handles that may lie idle are as many as the tag says.
-pub(crate) struct SoMany;
-
-impl<H: TapHandle + Drop> TagRule<Box<IdleHandles<H>>> for SoMany {
-    ghost fits = { λ tag idle. idle.value.cap ≡ tag };
 }

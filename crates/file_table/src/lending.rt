@@ -1,18 +1,22 @@
-//! Handles that are lent, settle and lie idle.
+//! Files that are lent, with their handles, and settle and lie idle.
 ghost use Rattle.std.specs.Prelude.{◌≡◌, ◌<◌, ◌≤◌, IfOk, IfErr, IfSome, OnOk};
 ghost use Rattle.tex_world.specs.World.{IsFile, IsReal};
 ghost use Rattle.file_table.specs.Calls.{sighted, RaisesIfAtAll, OpensIfAtAll, OpensOnce};
+ghost use Rattle.file_table.specs.Aheads.{max_aheads};
 ghost use Rattle.file_table.specs.Calls.{IsOfExactly, LendCause, MovesOnlyAgain};
+ghost use Rattle.tap_reader.specs.ReadAhead.{IsOf};
 
 use crate::error::{LendError, NotSettled};
 use crate::files::Files;
 use crate::home::put_back;
 use gen_board::View;
+use tap_reader::{OpenFile, ReadAhead};
 use tex_world::{OpenError, Tap, TapHandle};
 use waiter::Waiter;
 
 impl<T: Tap> Files<T> {
-    /// A handle of a file at a generation: the one that lies idle, or one that is opened.
+    /// A file open at a generation: its handle is the one that lies idle, or one that is opened.
+    /// With it comes what was read ahead of that generation and is kept.
     ///
     /// An idle handle that is older is closed, and one that is newer stays. No file is opened, read
     /// or closed while the lock of the idle handles is held.
@@ -23,12 +27,13 @@ impl<T: Tap> Files<T> {
         tap: &mut T,
         file: u32,
         generation: u32,
-    ) -> Result<T::Handle, LendError<V::Busy>>
+    ) -> Result<OpenFile<T>, LendError<V::Busy>>
         requires board { view.old.board ≡ self.now.board }
         requires file { file < self.now.board.files }
         requires told { IsFile T.W.files file }
         requires real { IsReal T.W.files file generation }
-        ensures ok { IfOk result (λ h. IsOfExactly file generation (T.Handle.named h)) }
+        ensures ok { IfOk result (λ f. IsOfExactly file generation (T.Handle.named f.handle)) }
+        ensures ahead { IfOk result (λ f. IsOf file generation f.ahead) }
         ensures cause { IfErr result (LendCause T.W.files file generation
             (sighted view.old (T.state tap.old)) (sighted view.new (T.state tap.new))) }
 
@@ -38,40 +43,50 @@ impl<T: Tap> Files<T> {
         ensures moves { MovesOnlyAgain (T.state tap.old) (T.state tap.new) result }
         ensures once { OpensIfAtAll (T.state tap.old) (T.state tap.new) }
     {
-        let idle = match self.take_idle(waiter, file, generation) {
-            Ok(idle) => idle,
+        let (idle, kept) = match self.take_idle(waiter, file, generation) {
+            Ok(taken) => taken,
             Err(busy) => return Err(LendError::Busy(busy)),
+        };
+        let ahead = match kept {
+            Some(ahead) => ahead,
+            None => ReadAhead::none(self.alloc, file, generation),
         };
         if let Some(handle) = idle {
             if handle.generation() == generation {
-                return Ok(handle);
+                return Ok(OpenFile { handle, ahead });
             }
         }
-        self.open_at(view, tap, file, generation)
+        match self.open_at(view, tap, file, generation) {
+            Ok(handle) => Ok(OpenFile { handle, ahead }),
+            Err(error) => Err(error),
+        }
     }
 
-    /// Makes a handle the one that lies idle of its file, in the place of one that is not newer.
+    /// Makes a handle the one that lies idle of its file, in the place of one that is not newer,
+    /// and keeps what was read ahead.
     ///
     /// The handle whose place it takes is closed, and so is the handle itself where the idle one is
-    /// newer or no memory is found. Where the waiter gives up the handle comes back, and the idle
-    /// ones are as they were.
+    /// newer or no memory is found. Where the waiter gives up the file comes back, and the idle
+    /// handles are as they were.
     pub fn settle<V: Waiter>(
         &self,
         waiter: &V,
-        handle: T::Handle,
-    ) -> Result<(), NotSettled<T::Handle, V::Busy>>
-        ensures err { IfErr result (λ e. e.handle ≡ handle) }
+        file: OpenFile<T>,
+    ) -> Result<(), NotSettled<OpenFile<T>, V::Busy>>
+        ensures err { IfErr result (λ e. e.file ≡ file) }
     {
         let mut idle = match self.idle.take(waiter) {
             Ok(idle) => idle,
-            Err(busy) => return Err(NotSettled { handle, busy }),
+            Err(busy) => return Err(NotSettled { file, busy }),
         };
-        let _closed = idle.settle(handle);
+        let OpenFile { handle, ahead } = file;
+        let _closed = idle.handles.settle(handle);
+        let _left = idle.aheads.keep(ahead);
         put_back(&self.idle, waiter, idle);
         Ok(())
     }
 
-    /// Forgets the record of a file and closes its idle handle.
+    /// Forgets the record of a file and what was read ahead of it, and closes its idle handle.
     ///
     /// Where the waiter gives up at one of the two, that one stays, and the other is gone.
     pub fn drop_idle<V: Waiter>(&self, waiter: &V, file: u32) -> Result<(), V::Busy>
@@ -79,7 +94,8 @@ impl<T: Tap> Files<T> {
     {
         let forgotten = self.forget(waiter, file);
         let mut idle = self.idle.take(waiter)?;
-        let _closed = idle.take(file);
+        let _closed = idle.handles.take(file);
+        let _forgotten = idle.aheads.forget(file);
         put_back(&self.idle, waiter, idle);
         forgotten
     }
@@ -89,25 +105,38 @@ impl<T: Tap> Files<T> {
         ensures { IfOk result (λ n. n ≤ self.now.cap) }
     {
         let idle = self.idle.take(waiter)?;
-        let count = idle.len();
+        let count = idle.handles.len();
         put_back(&self.idle, waiter, idle);
         Ok(count)
     }
 
-    /// The idle handle of a file, unless it is of a generation above this one.
+    /// Of how many files what was read ahead is kept: never of more than four.
+    pub fn aheads<V: Waiter>(&self, waiter: &V) -> Result<usize, V::Busy>
+        ensures { IfOk result (λ n. n ≤ max_aheads) }
+    {
+        let idle = self.idle.take(waiter)?;
+        let count = idle.aheads.len();
+        put_back(&self.idle, waiter, idle);
+        Ok(count)
+    }
+
+    /// The idle handle of a file, unless it is of a generation above this one, and what was read
+    /// ahead of this one.
     fn take_idle<V: Waiter>(
         &self,
         waiter: &V,
         file: u32,
         generation: u32,
-    ) -> Result<Option<T::Handle>, V::Busy>
-        ensures { IfOk result (λ taken. IfSome taken (λ h. ((T.Handle.named h).file ≡ file)
-            × ((T.Handle.named h).generation ≤ generation))) }
+    ) -> Result<(Option<T::Handle>, Option<ReadAhead<T::W>>), V::Busy>
+        ensures handle { IfOk result (λ taken. IfSome taken.0 (λ h.
+            ((T.Handle.named h).file ≡ file) × ((T.Handle.named h).generation ≤ generation))) }
+        ensures ahead { IfOk result (λ taken. IfSome taken.1 (IsOf file generation)) }
     {
         let mut idle = self.idle.take(waiter)?;
-        let taken = idle.take_until(file, generation);
+        let handle = idle.handles.take_until(file, generation);
+        let ahead = idle.aheads.take(file, generation);
         put_back(&self.idle, waiter, idle);
-        Ok(taken)
+        Ok((handle, ahead))
     }
 
     /// Opens a file at exactly a generation.

@@ -2,16 +2,19 @@
 //! generation, which is read once and shared, and open handles that lie idle until they are lent.
 #![tactic(auto)]
 
+mod aheads;
 mod error;
 mod files;
 mod home;
 mod idle;
+mod idle_files;
 mod known;
 mod known_level;
 mod lending;
 mod open;
 mod record;
 
+pub use aheads::Aheads;
 pub use error::{LendError, NotSettled, RecordError};
 pub use files::Files;
 pub use idle::IdleHandles;

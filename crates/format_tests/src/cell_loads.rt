@@ -8,7 +8,7 @@ use crate::shard_calls::{counts, find, insert, release};
 use crate::tiled::Tiled;
 use std::alloc::Global;
 use std::test::Fail;
-use tap_reader::TapReader;
+use tap_reader::{OpenFile, ReadAhead, TapReader};
 use tex_world::{
     FailByte, Folder, MemFolder, MemTap, Plan, Rise, TableWorld, Tap, TapHandle, World,
 };
@@ -37,13 +37,13 @@ fn layout_of<T: Tap>(alloc: Global, tap: &mut T, handle: &mut T::Handle) -> Resu
 fn load_cell<T: Tap>(
     alloc: Global,
     tap: &mut T,
-    handle: &mut T::Handle,
+    open: &mut OpenFile<T>,
     (x, y): (u32, u32),
 ) -> Result<Result<Tile<T::W>, LoadError>, Fail> {
-    let layout = layout_of(alloc, tap, handle)?;
+    let layout = layout_of(alloc, tap, &mut open.handle)?;
     let cut = cut_of(16, false).ok_or("no such cut")?;
     let (width, height) = layout.size(0);
-    let (file, generation) = (handle.file(), handle.generation());
+    let (file, generation) = (open.handle.file(), open.handle.generation());
     if x >= width || y >= height || file > 4095 || generation < 1 || generation > 1_048_575 {
         return Err("no such texel".into());
     }
@@ -51,7 +51,7 @@ fn load_cell<T: Tap>(
         return Err("a large cell".into());
     }
     let key = TileKey::new(generation, file, 0, layout.cell_at(0, cut, x, y));
-    Ok(load_at(alloc, tap, handle, &layout, key, cut))
+    Ok(load_at(alloc, tap, open, &layout, key, cut))
 }
 
 /// What loading is to answer.
@@ -111,6 +111,13 @@ fn tap_of(alloc: Global, number: u32) -> Result<MemTap<Tiled>, Fail> {
     Ok(folder.tap(alloc)?)
 }
 
+/// The file, open at its first generation.
+fn open_at_first(alloc: Global, tap: &mut MemTap<Tiled>) -> Result<OpenFile<MemTap<Tiled>>, Fail> {
+    let handle = tap.open(alloc, 0, 1).map_err(|_e| "not open")?;
+    let ahead = ReadAhead::none(alloc, 0, handle.generation());
+    Ok(OpenFile { handle, ahead })
+}
+
 /// The cell 0, which two taps load.
 const FIRST: Wanted = Wanted::Cell(
     0,
@@ -162,8 +169,8 @@ static ROWS: &[(u32, (u32, u32), Wanted)] = &[
 fn loads_cells_as_each_row_says(rt: HostRuntime) -> Result<(), Fail> {
     for (number, texel, wanted) in ROWS {
         let mut tap = tap_of(rt.alloc(), *number)?;
-        let mut handle = tap.open(rt.alloc(), 0, 1).map_err(|_e| "not open")?;
-        let answer = load_cell(rt.alloc(), &mut tap, &mut handle, *texel)?;
+        let mut open = open_at_first(rt.alloc(), &mut tap)?;
+        let answer = load_cell(rt.alloc(), &mut tap, &mut open, *texel)?;
         let (x, y) = texel;
         assert!(rt; is_wanted(answer, *wanted), "tap {number}, texel {x} {y}");
         assert!(rt; tap.calls() == 8, "tap {number}, texel {x} {y}");
@@ -179,10 +186,10 @@ const SLOTS: u32 = 1031;
 #[test]
 fn keeps_what_fits_the_share(rt: HostRuntime) -> Result<(), Fail> {
     let mut tap = tap_of(rt.alloc(), 0)?;
-    let mut handle = tap.open(rt.alloc(), 0, 1).map_err(|_e| "not open")?;
+    let mut open = open_at_first(rt.alloc(), &mut tap)?;
     let mut shard: Shard<TableWorld<Tiled>> = Shard::new(rt.alloc());
     for texel in [(0, 0), (64, 0)] {
-        let tile = load_cell(rt.alloc(), &mut tap, &mut handle, texel)?;
+        let tile = load_cell(rt.alloc(), &mut tap, &mut open, texel)?;
         let tile = tile.map_err(|_e| "not loaded")?;
         assert!(rt; insert(&mut shard, tile, SLOTS));
     }

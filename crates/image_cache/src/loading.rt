@@ -16,6 +16,7 @@ use crate::error::CacheError;
 use file_table::{LendError, Record};
 use gen_board::View;
 use pinned_tiles::CellAt;
+use tap_reader::OpenFile;
 use tex_world::Tap;
 use tile_load::{LoadError, load};
 use tile_store::Tile;
@@ -23,7 +24,7 @@ use waiter::Waiter;
 
 impl<T: Tap> Cache<T> {
     /// The tile of a cell of a stored level, read under a handle of exactly the record's
-    /// generation, which then lies idle unless it failed.
+    /// generation, which then lies idle unless it failed, with what was read ahead.
     pub(crate) fn load_cell<V: Waiter>(
         &self,
         waiter: &V,
@@ -51,15 +52,15 @@ impl<T: Tap> Cache<T> {
     {
         // the record's layout is that of its bytes
         let _known = known.generation();
-        let mut handle = self.lend(waiter, view, tap, known)?;
-        match load(self.alloc, tap, &mut handle, known, cell.key, self.cut) {
+        let mut file = self.lend(waiter, view, tap, known)?;
+        match load(self.alloc, tap, &mut file, known, cell.key, self.cut) {
             Ok(tile) => {
                 // where the waiter gives up the handle is closed
-                let _settled = self.files.settle(waiter, handle);
+                let _settled = self.files.settle(waiter, file);
                 Ok(tile)
             }
             Err(LoadError::NoMemory) => {
-                let _settled = self.files.settle(waiter, handle);
+                let _settled = self.files.settle(waiter, file);
                 Err(CacheError::NoMemory)
             }
             Err(LoadError::ReadFault) => Err(CacheError::ReadFault),
@@ -73,17 +74,17 @@ impl<T: Tap> Cache<T> {
         }
     }
 
-    /// A handle of the file and generation of a record.
+    /// The file of a record, open at its generation.
     fn lend<V: Waiter>(
         &self,
         waiter: &V,
         view: &mut View<T::W>,
         tap: &mut T,
         known: &Record<T::W>,
-    ) -> Result<T::Handle, CacheError<V::Busy>>
+    ) -> Result<OpenFile<T>, CacheError<V::Busy>>
         requires view { view.old.board ≡ self.now.files.board }
         requires known { IsRecordOf T.W.files self.now known.now }
-        ensures ok { IfOk result (λ h. IsReadBy (T.Handle.named h) known.now) }
+        ensures ok { IfOk result (λ f. IsReadBy (T.Handle.named f.handle) known.now) }
         ensures cause { IfErr result (FetchCause T.W.files known.now view.new
             (T.state tap.old) (T.state tap.new)) }
         ensures moves { MovesOnlyAgain (T.state tap.old) (T.state tap.new) result }
@@ -96,7 +97,7 @@ impl<T: Tap> Cache<T> {
             .files
             .lend(waiter, view, tap, known.file(), known.generation())
         {
-            Ok(handle) => Ok(handle),
+            Ok(file) => Ok(file),
             Err(LendError::ReadFault) => Err(CacheError::ReadFault),
             Err(LendError::Again { from, to }) => Err(CacheError::Again { from, to }),
             Err(LendError::NoMemory) => Err(CacheError::NoMemory),

@@ -19,6 +19,8 @@ mod locks;
 #[cfg(test)]
 mod pictures;
 #[cfg(test)]
+mod read_ahead;
+#[cfg(test)]
 mod real_folder;
 #[cfg(test)]
 mod real_taps;
@@ -30,6 +32,8 @@ mod script;
 mod seat;
 #[cfg(test)]
 mod shared_table;
+#[cfg(test)]
+mod strips;
 #[cfg(test)]
 mod tile_loads;
 #[cfg(test)]

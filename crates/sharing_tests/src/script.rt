@@ -2,14 +2,14 @@
 ghost use Rattle.std.specs.Prelude.{ℕ, ◌<◌};
 ghost use Rattle.tex_world.specs.World.{IsFile};
 
-use crate::pictures::Pictures;
 use crate::seat::Seat;
 use file_table::{LendError, Record, RecordError};
 use host_folder::RealTap;
 use std::alloc::Global;
 use std::sync::Arc;
 use std::test::Fail;
-use tex_world::{MemTap, ReadError, Tap, TapHandle};
+use tap_reader::OpenFile;
+use tex_world::{FileTable, MemTap, ReadError, Tap, TapHandle};
 use waiter::{GaveUp, Tries};
 
 /// Two counts that a tap shows.
@@ -21,7 +21,7 @@ pub(crate) trait Shows {
 }
 
 /// Its calls, and those of them that failed.
-impl Shows for MemTap<Pictures> {
+impl<F: FileTable> Shows for MemTap<F> {
     fn shown(&self) -> Counts {
         [self.calls(), self.faults()]
     }
@@ -95,7 +95,7 @@ pub(crate) struct Script<'a, T: Tap + Drop> {
     seat: Seat<'a, T>,
     taps: Vec<T>,
     record: Option<Arc<Record<T::W>>>,
-    handles: Vec<T::Handle>,
+    lent: Vec<OpenFile<T>>,
 }
 
 impl<'a, T: Tap + Drop> Script<'a, T> {
@@ -104,7 +104,7 @@ impl<'a, T: Tap + Drop> Script<'a, T> {
             seat,
             taps,
             record: None,
-            handles: Vec::new(alloc),
+            lent: Vec::new(alloc),
         }
     }
 }
@@ -224,9 +224,9 @@ impl<T: Tap + Drop + Shows> Script<'_, T> {
             return Answer::Nothing;
         };
         match self.seat.lend(&Tries::new(9), tap, file, record) {
-            Ok(handle) => {
-                let generation = handle.generation();
-                match self.handles.push(handle) {
+            Ok(open) => {
+                let generation = open.handle.generation();
+                match self.lent.push(open) {
                     Ok(()) => Answer::Is(generation),
                     Err(_full) => Answer::NoMemory,
                 }
@@ -236,14 +236,14 @@ impl<T: Tap + Drop + Shows> Script<'_, T> {
     }
 
     fn read(&mut self, tap: usize) -> Answer {
-        let (Some(tap), Some(handle)) = (self.taps.get_mut(tap), self.handles.last_mut()) else {
+        let (Some(tap), Some(open)) = (self.taps.get_mut(tap), self.lent.last_mut()) else {
             return Answer::Nothing;
         };
-        if handle.len() == 0 {
+        if open.handle.len() == 0 {
             return Answer::Nothing;
         }
         let mut first = [0u8; 1];
-        match tap.read_at(handle, 0, &mut first) {
+        match tap.read_at(&mut open.handle, 0, &mut first) {
             Ok(()) => Answer::Is(u32::from(first[0])),
             Err(ReadError::Failed) => Answer::Fault,
             Err(ReadError::Gone(to)) => Answer::Gone(to),
@@ -251,8 +251,8 @@ impl<T: Tap + Drop + Shows> Script<'_, T> {
     }
 
     fn settle(&mut self) -> Answer {
-        match self.handles.pop() {
-            Some(handle) => match self.seat.files.settle(&Tries::new(9), handle) {
+        match self.lent.pop() {
+            Some(open) => match self.seat.files.settle(&Tries::new(9), open) {
                 Ok(()) => Answer::Done,
                 Err(_busy) => Answer::Busy,
             },

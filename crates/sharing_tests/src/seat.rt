@@ -5,7 +5,8 @@ ghost use Rattle.tex_world.specs.World.{IsFile};
 use file_table::{Files, LendError, Record, RecordError};
 use gen_board::View;
 use std::sync::Arc;
-use tex_world::{Tap, TapHandle};
+use tap_reader::OpenFile;
+use tex_world::Tap;
 use waiter::{GaveUp, Waiter};
 
 /// A table and a view of its board. A file that the table has not is answered as a lock that is
@@ -32,14 +33,14 @@ impl<T: Tap> Seat<'_, T> {
         self.files.record(waiter, &mut self.view, tap, file)
     }
 
-    /// A handle of the generation of a record, which is one of this file.
+    /// The file of a record, open at its generation.
     pub(crate) fn lend<V: Waiter<Busy = GaveUp>>(
         &mut self,
         waiter: &V,
         tap: &mut T,
         file: u32,
         record: &Record<T::W>,
-    ) -> Result<T::Handle, LendError<GaveUp>>
+    ) -> Result<OpenFile<T>, LendError<GaveUp>>
         requires { IsFile T.W.files file }
     {
         if file >= self.files.board().files() || record.file() != file {

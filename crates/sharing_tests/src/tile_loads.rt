@@ -5,6 +5,7 @@ use crate::seat::Seat;
 use file_table::{Files, Record};
 use std::alloc::Global;
 use std::test::Fail;
+use tap_reader::OpenFile;
 use tex_world::{
     FailByte, FileTable, Folder, MemFolder, MemTap, Newest, Plan, Rise, TableWorld, Tap, TapHandle,
     World,
@@ -54,7 +55,7 @@ fn taps_of(alloc: Global) -> Result<Vec<Source>, Fail> {
 fn loaded<T: Tap>(
     alloc: Global,
     tap: &mut T,
-    handle: &mut T::Handle,
+    open: &mut OpenFile<T>,
     known: &Record<T::W>,
     x: u32,
 ) -> Result<Result<Tile<T::W>, LoadError>, Fail> {
@@ -63,7 +64,7 @@ fn loaded<T: Tap>(
     };
     let generation = known.generation();
     let cut = known.cut();
-    if known.file() != B || handle.file() != B || handle.generation() != generation {
+    if known.file() != B || open.handle.file() != B || open.handle.generation() != generation {
         return Err("another file".into());
     }
     if cut.autotile != 16 || !known.fits() {
@@ -77,7 +78,7 @@ fn loaded<T: Tap>(
         return Err("no such texel".into());
     }
     let key = TileKey::new(generation, B, 0, layout.cell_at(0, cut, x, 0));
-    Ok(load(alloc, tap, handle, known, key, cut))
+    Ok(load(alloc, tap, open, known, key, cut))
 }
 
 /// What loading is to answer.
@@ -148,10 +149,10 @@ fn answer(alloc: Global, tap: &mut Source, x: u32) -> Result<Result<Tile<Told>, 
     let Ok(known) = seat.record(&waiter, tap, B) else {
         return Err("no record".into());
     };
-    let Ok(mut handle) = seat.lend(&waiter, tap, B, &known) else {
+    let Ok(mut open) = seat.lend(&waiter, tap, B, &known) else {
         return Err("no handle".into());
     };
-    loaded(alloc, tap, &mut handle, &known, x)
+    loaded(alloc, tap, &mut open, &known, x)
 }
 
 /// What a row shows, a tap, a column, and what loading the cell there answers.

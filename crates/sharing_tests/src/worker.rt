@@ -31,14 +31,14 @@ impl<T: Tap> Worker<'_, T> {
             return false;
         };
         let g = record.generation();
-        let Ok(handle) = self
+        let Ok(open) = self
             .files
             .lend(waiter, &mut self.view, &mut self.tap, file, g)
         else {
             return false;
         };
-        let exact = handle.generation() == g;
-        self.files.settle(waiter, handle).is_ok() && exact
+        let exact = open.handle.generation() == g;
+        self.files.settle(waiter, open).is_ok() && exact
     }
 
     /// Visits all of so many files so often, and answers how many visits went well.

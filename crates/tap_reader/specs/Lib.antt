@@ -1,2 +1,3 @@
 pub mod TapReader
 pub mod TapReaderLaws
+pub mod ReadAhead

@@ -18,5 +18,6 @@ pub mod CellParts
 pub mod HalfTexels
 pub mod HalfMade
 pub mod GeneratedCells
-pub mod Placing
+pub mod TakenSamples
+pub mod PlaneWrites
 pub mod PlanarSamples

@@ -1,6 +1,7 @@
 -- The samples of planes among each other.
-use Rattle.std.proofs.Common.{◌≡◌, ◌≢◌, ℕ, ◌+◌, ◌*◌, ◌<◌, ◌≤◌, Bool, true, false, eqb, List, length}
+use Rattle.std.proofs.Common.{◌≡◌, ◌≢◌, ℕ, ◌+◌, ◌*◌, ◌<◌, ◌≤◌, Bool, true, false, List, length}
 use Rattle.std.proofs.Common.{get_or, ap, sym, ◌∙◌, arith, inl, inr, refl, zero-add}
+use Rattle.std.specs.Prelude.{if◌then◌else◌}
 use Rattle.std.proofs.lemmas.Bool.{cases_lt, eqb-true, ne_eqb}
 use Rattle.std.proofs.lemmas.List.{get_or_past}
 use Rattle.std.proofs.lemmas.List.Elements.{All-get_or, All-from_get_or}
@@ -12,7 +13,7 @@ use Rattle.tiff_format.specs.declared.rect.Rect.{Rect}
 use Rattle.tile_layout.specs.Plane.{plane_level}
 use Rattle.tile_layout.specs.Texel.{AreTexelsOn, FitDepth}
 use Rattle.tile_layout.proofs.PlaneBlocks.{plane_sample}
-use Rattle.tile_load.specs.Beyond.{IsBeyond, CountAsZero}
+use Rattle.tile_load.specs.Beyond.{CountAsZero}
 use Rattle.tile_load.specs.Planes.{OfPlanes, ArePlaneZeros, ArePlaneSamples}
 use Rattle.tile_load.specs.Zeros.{AreZerosBeyond}
 
@@ -91,6 +92,12 @@ module _ (level : Level) (rect : Rect) (samples : List ℕ) (many : level.shape.
       let there : c < level.shape.planes = omega (arith, all, some) in
       ap (λ (n : ℕ). get_or samples ((j * rect.w + i) * n + c) 0) (sym all)
       ∙ are c i j there across down (rw (own_plane level c many) at beyond)
+
+-- the white rule of one of several planes
+pub white_low : (white : Bool) (channels : ℕ) → channels ≡ 1
+    → (if white then channels else 0) ≤ 1
+white_low true channels one = omega (arith, one)
+white_low false channels one = omega arith
 
 -- ---- a level of one plane
 

@@ -6,6 +6,7 @@ pub mod RectRead
 pub mod Beyond
 pub mod Zeros
 pub mod Planes
+pub mod Taken
 pub mod Load
 pub mod LoadError
 pub mod CellTile

@@ -1,6 +1,7 @@
 //! The one place that reads texels: a rectangle of a level, from the bytes of its file.
 #![tactic(auto)]
 
+mod bands;
 mod halve_part;
 mod halving;
 mod load_error;
@@ -8,6 +9,7 @@ mod loading;
 mod part_place;
 mod part_span;
 mod place;
+mod places;
 mod planes;
 mod quarters;
 mod reading;

@@ -13,12 +13,13 @@ ghost use Rattle.tile_load.specs.CellTile.{IsCellTile, HasZeros, IsCellBeyond};
 ghost use Rattle.tile_load.specs.LoadError.{LeavesTap};
 ghost use Rattle.tile_store.specs.Told.{IsTold};
 
+use crate::bands::next_bands;
 use crate::load_error::{LoadError, load_error};
 use crate::place::Place;
 use crate::rect::read_rect;
 use file_table::Record;
 use std::alloc::Global;
-use tap_reader::TapReader;
+use tap_reader::{AheadReader, OpenFile};
 use tex_world::Tap;
 use tiff_format::Cut;
 use tile_layout::{Layout, TileKey};
@@ -33,30 +34,30 @@ use tile_store::Tile;
 pub fn load<T: Tap>(
     alloc: Global,
     tap: &mut T,
-    handle: &mut T::Handle,
+    file: &mut OpenFile<T>,
     known: &Record<T::W>,
     key: TileKey,
     cut: Cut,
 ) -> Result<Tile<T::W>, LoadError>
-    requires reads { IsReadBy (T.Handle.named handle.old) known.now }
+    requires reads { IsReadBy (T.Handle.named file.old.handle) known.now }
     requires cut { IsCut cut }
     requires cell { IsOkAnd known.now.layout (λ layout.
-        NamesCell (T.Handle.named handle.old) layout cut key) }
+        NamesCell (T.Handle.named file.old.handle) layout cut key) }
     requires fits { IsOkAnd known.now.layout (λ layout. CellsFit layout cut) }
     ensures tile { IsOkAnd known.now.layout (λ layout.
         IfOk result (IsCellTile layout cut key)) }
     ensures told { IfOk result (IsTold T.W.files) }
     ensures zeros { IsOkAnd known.now.layout (λ layout.
-        IfOk result (HasZeros layout (T.Handle.named handle.old).len)) }
+        IfOk result (HasZeros layout (T.Handle.named file.old.handle).len)) }
     ensures unread { IfOk known.now.layout (λ layout.
-        IsCellBeyond layout cut key (T.Handle.named handle.old).len
+        IsCellBeyond layout cut key (T.Handle.named file.old.handle).len
         → T.state tap.new ≡ T.state tap.old) }
     ensures tap { LeavesTap T.W.files
-        (lent_of (T.Handle.named handle.old) (T.state tap.old))
-        (lent_of (T.Handle.named handle.new) (T.state tap.new)) result }
+        (lent_of (T.Handle.named file.old.handle) (T.state tap.old))
+        (lent_of (T.Handle.named file.new.handle) (T.state tap.new)) result }
 {
     match known.layout() {
-        Ok(layout) => load_at(alloc, tap, handle, layout, key, cut),
+        Ok(layout) => load_at(alloc, tap, file, layout, key, cut),
         Err(_) => unreachable!(),
     }
 }
@@ -71,24 +72,24 @@ pub fn load<T: Tap>(
 pub fn load_at<T: Tap>(
     alloc: Global,
     tap: &mut T,
-    handle: &mut T::Handle,
+    file: &mut OpenFile<T>,
     layout: &Layout,
     key: TileKey,
     cut: Cut,
 ) -> Result<Tile<T::W>, LoadError>
-    requires cell { NamesCell (T.Handle.named handle.old) layout.now cut key }
+    requires cell { NamesCell (T.Handle.named file.old.handle) layout.now cut key }
     requires cut { IsCut cut }
     requires fits { CellsFit layout.now cut }
-    requires layout { ForSome (T.W.files.held (T.Handle.named handle.old).file
-        (T.Handle.named handle.old).generation) (λ bytes. IsLayoutOf bytes layout.now) }
+    requires layout { ForSome (T.W.files.held (T.Handle.named file.old.handle).file
+        (T.Handle.named file.old.handle).generation) (λ bytes. IsLayoutOf bytes layout.now) }
     ensures tile { IfOk result (IsCellTile layout.now cut key) }
     ensures told { IfOk result (IsTold T.W.files) }
-    ensures zeros { IfOk result (HasZeros layout.now (T.Handle.named handle.old).len) }
-    ensures unread { IsCellBeyond layout.now cut key (T.Handle.named handle.old).len
+    ensures zeros { IfOk result (HasZeros layout.now (T.Handle.named file.old.handle).len) }
+    ensures unread { IsCellBeyond layout.now cut key (T.Handle.named file.old.handle).len
         → T.state tap.new ≡ T.state tap.old }
     ensures tap { LeavesTap T.W.files
-        (lent_of (T.Handle.named handle.old) (T.state tap.old))
-        (lent_of (T.Handle.named handle.new) (T.state tap.new)) result }
+        (lent_of (T.Handle.named file.old.handle) (T.state tap.old))
+        (lent_of (T.Handle.named file.new.handle) (T.state tap.new)) result }
 {
     // each stored level is one of the levels whose cells fit
     let _levels = layout.levels(cut);
@@ -102,7 +103,7 @@ pub fn load_at<T: Tap>(
         plane: 0,
         rect,
     };
-    match read_place(alloc, tap, handle, &place) {
+    match read_place(alloc, tap, file, &place) {
         Ok(texels) => Ok(Tile::new(key, rect, layout.channels(), texels)),
         Err(error) => Err(error),
     }
@@ -112,32 +113,38 @@ pub fn load_at<T: Tap>(
 fn read_place<T: Tap>(
     alloc: Global,
     tap: &mut T,
-    handle: &mut T::Handle,
+    file: &mut OpenFile<T>,
     place: &Place<'_>,
 ) -> Result<Vec<u16>, LoadError>
-    requires layout { ForSome (T.W.files.held (T.Handle.named handle.old).file
-        (T.Handle.named handle.old).generation)
+    requires layout { ForSome (T.W.files.held (T.Handle.named file.old.handle).file
+        (T.Handle.named file.old.handle).generation)
         (λ bytes. IsLayoutOf bytes place.now.layout.now) }
     ensures count { IfOk result (λ texels. length texels.items ≡ place.now.rect.w
         * place.now.rect.h * (level_in place.now.layout.now place.now.level).shape.channels) }
     ensures low { IfOk result (λ texels.
         FitDepth (bit_depth_in place.now.layout.now) texels.items) }
-    ensures told { ForSome (T.W.files.held (T.Handle.named handle.old).file
-        (T.Handle.named handle.old).generation) (λ bytes. IfOk result (λ texels.
+    ensures told { ForSome (T.W.files.held (T.Handle.named file.old.handle).file
+        (T.Handle.named file.old.handle).generation) (λ bytes. IfOk result (λ texels.
         AreTexelsOn (texel_at bytes place.now.level)
         (level_in place.now.layout.now place.now.level).shape.channels
         place.now.rect texels.items)) }
     ensures zeros { IfOk result (λ texels. CountAsZero
-        (level_in place.now.layout.now place.now.level) (T.Handle.named handle.old).len
+        (level_in place.now.layout.now place.now.level) (T.Handle.named file.old.handle).len
         place.now.rect texels.items) }
     ensures unread { IsFilled place.now.rect → IsAllBeyond
-        (level_in place.now.layout.now place.now.level) (T.Handle.named handle.old).len
+        (level_in place.now.layout.now place.now.level) (T.Handle.named file.old.handle).len
         place.now.rect → T.state tap.new ≡ T.state tap.old }
     ensures tap { LeavesTap T.W.files
-        (lent_of (T.Handle.named handle.old) (T.state tap.old))
-        (lent_of (T.Handle.named handle.new) (T.state tap.new)) result }
+        (lent_of (T.Handle.named file.old.handle) (T.state tap.old))
+        (lent_of (T.Handle.named file.new.handle) (T.state tap.new)) result }
 {
-    let mut reader = TapReader { tap, handle };
+    let bands = next_bands(alloc, &mut file.ahead, place);
+    let mut reader = AheadReader {
+        tap,
+        handle: &mut file.handle,
+        ahead: &mut file.ahead,
+        bands: &bands,
+    };
     match read_rect(alloc, &mut reader, place.layout, place.level, place.rect) {
         Ok(texels) => Ok(texels),
         Err(error) => Err(load_error(error)),

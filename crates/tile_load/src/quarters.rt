@@ -86,6 +86,7 @@ pub(crate) fn halve_row(rows: &TwoRows<'_>, width: usize, channels: usize, out: 
     let count = width / 2;
     match channels {
         1 => halve_texels(rows, count, 1, out),
+        2 => halve_texels(rows, count, 2, out),
         3 => halve_texels(rows, count, 3, out),
         4 => halve_texels(rows, count, 4, out),
         _ => halve_texels(rows, count, channels, out),

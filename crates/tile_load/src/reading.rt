@@ -1,4 +1,4 @@
-//! A reading of the pieces of a level: the values so far, and what was read ahead.
+//! A reading of the pieces of a level: the samples so far, and what was read ahead.
 
 ghost use Rattle.std.specs.Prelude.{◌≡◌, ◌+◌, ◌*◌, ◌≤◌, ◌<◌, ◌++◌, ℕ, [], length, replicate, OnOk};
 ghost use Rattle.std.specs.List.{All};
@@ -10,6 +10,7 @@ ghost use Rattle.tile_layout.specs.Pieces.{LiesSideBySide, row_texels, rect_texe
 ghost use Rattle.tile_layout.specs.FormatOf.{IsFormatOf};
 ghost use Rattle.tile_layout.specs.Blocks.{HoldsBlocks};
 ghost use Rattle.tile_load.specs.Samples.{samples_at};
+ghost use Rattle.tile_load.specs.Taken.{taken, FitsPlaces, KeepsOthers};
 ghost use Rattle.tile_load.specs.Unpacked.{KeepsDepth};
 ghost use Rattle.tile_load.specs.Window.{AreWindows};
 ghost use Rattle.tile_load.specs.RectRead.{LeavesReader};
@@ -20,7 +21,7 @@ use crate::place::Place;
 use crate::rect_error::RectError;
 use crate::rows::Rows;
 use crate::run::{Run, read_run};
-use crate::samples::push_samples;
+use crate::samples::Samples;
 use crate::span::Span;
 use crate::window::{Window, ready};
 use std::alloc::{AllocError, Global};
@@ -31,10 +32,10 @@ use tile_layout::{Piece, Pieces, TexelFormat};
 /// The most bytes that the windows of a row read ahead, all together.
 pub(crate) const MAX_AHEAD: u64 = 256 * 1024;
 
-/// The values that were read, and a window for each piece of a row.
+/// The samples that were read, and a window for each piece of a row.
 #[derive(Drop)]
 pub(crate) struct Reading {
-    pub(crate) values: Vec<u16>,
+    pub(crate) samples: Samples,
     pub(crate) windows: Vec<Window>,
     /// The rows that are to be read.
     rows: Rows,
@@ -64,13 +65,13 @@ fn span_of(piece: &Piece, format: &TexelFormat) -> Span
 }
 
 impl Reading {
-    /// A reading that has no values yet.
-    pub(crate) fn new(alloc: Global, rows: Rows) -> Reading
-        ensures values { result.values.items ≡ [] }
+    /// A reading behind the samples that were taken.
+    pub(crate) fn new(alloc: Global, samples: Samples, rows: Rows) -> Reading
+        ensures samples { result.samples ≡ samples }
         ensures windows { result.windows.items ≡ [] }
     {
         Reading {
-            values: Vec::new(alloc),
+            samples,
             windows: Vec::new(alloc),
             rows,
         }
@@ -78,24 +79,15 @@ impl Reading {
 
     /// Finds memory for the samples of a rectangle, so many of a texel.
     pub(crate) fn reserve(&mut self, rect: Rect, channels: usize) -> Result<(), AllocError>
-        ensures values { self.new.values.items ≡ self.old.values.items }
+        ensures taken { taken self.new.samples ≡ taken self.old.samples }
+        ensures values { self.new.samples.values.items ≡ self.old.samples.values.items }
+        ensures places { self.new.samples.places ≡ self.old.samples.places }
+        ensures others { KeepsOthers self.old.samples self.new.samples }
         ensures windows { self.new.windows.items ≡ self.old.windows.items }
     {
         let texels = u64::from(rect.w) * u64::from(rect.h);
         let count = texels.checked_mul(channels as u64).ok_or(AllocError)?;
-        self.values.reserve(count as usize)?;
-        Ok(())
-    }
-
-    /// Appends n values of 0.
-    pub(crate) fn push_zeros(&mut self, n: u64) -> Result<(), AllocError>
-        ensures values { OnOk result
-            (self.new.values.items ≡ self.old.values.items ++ replicate n 0) }
-        ensures same { self.new.windows ≡ self.old.windows }
-    {
-        for _ in 0..n {
-            self.values.push(0)?;
-        }
+        self.samples.reserve(count as usize)?;
         Ok(())
     }
 
@@ -107,6 +99,7 @@ impl Reading {
         piece: &Piece,
         k: usize,
     ) -> Result<(), RectError<B::Error>>
+        requires places { FitsPlaces self.old.samples.places format.now }
         requires there { k < length self.old.windows.items }
         requires below { piece.now.at + piece.now.n * format.now.texel_bytes
             ≤ B.size reader.old }
@@ -114,17 +107,18 @@ impl Reading {
             ≡ length self.old.windows.items) }
         ensures count { OnOk result (AddsTexel ⊥
             (piece.now.n * format.now.channels)
-            self.old.values.items self.new.values.items) }
+            (taken self.old.samples) (taken self.new.samples)) }
         ensures low { OnOk result (KeepsDepth format.now
-            self.old.values.items self.new.values.items) }
+            self.old.samples.values.items self.new.samples.values.items) }
         ensures told { ForSome (B.bytes reader.old) (λ bytes. (level : Level) → (right : ℕ)
             → AreWindows bytes self.old.windows.items
             → IsFormatOf format.now.big level.shape format.now
             → LiesSideBySide level right piece.now
             → OnOk result (AreWindows bytes self.new.windows.items
-            × (self.new.values.items ≡ self.old.values.items
+            × (taken self.new.samples ≡ taken self.old.samples
             ++ flat_map (samples_at format.now.big bytes level)
             (row_texels piece.now.x piece.now.y piece.now.n)))) }
+        ensures others { OnOk result (KeepsOthers self.old.samples self.new.samples) }
         ensures reader { LeavesReader B.keeps B.refuses reader.old reader.new result }
     {
         let most = MAX_AHEAD / self.windows.len() as u64;
@@ -133,7 +127,7 @@ impl Reading {
         let span = span_of(piece, format);
         window.fill(reader, &span, &behind, most)?;
         let count = piece.n as usize * format.channels;
-        push_samples(&mut self.values, format, window.piece(&span), count)?;
+        self.samples.push(format, window.piece(&span), count)?;
         Ok(())
     }
 
@@ -146,25 +140,27 @@ impl Reading {
         piece: &Piece,
         k: usize,
     ) -> Result<(), RectError<B::Error>>
-        requires { k ≤ length self.old.windows.items }
+        requires places { FitsPlaces self.old.samples.places format.now }
+        requires window { k ≤ length self.old.windows.items }
         ensures next { OnOk result (k < length self.new.windows.items) }
         ensures count { OnOk result (AddsTexel
             (B.size reader.old < piece.now.at + piece.now.n * format.now.texel_bytes)
             (piece.now.n * format.now.channels)
-            self.old.values.items self.new.values.items) }
+            (taken self.old.samples) (taken self.new.samples)) }
         ensures unread { B.size reader.old
             < piece.now.at + piece.now.n * format.now.texel_bytes
             → reader.new ≡ reader.old }
         ensures low { OnOk result (KeepsDepth format.now
-            self.old.values.items self.new.values.items) }
+            self.old.samples.values.items self.new.samples.values.items) }
         ensures told { ForSome (B.bytes reader.old) (λ bytes. (level : Level) → (right : ℕ)
             → AreWindows bytes self.old.windows.items
             → IsFormatOf format.now.big level.shape format.now
             → LiesSideBySide level right piece.now → HoldsBlocks bytes level
             → OnOk result (AreWindows bytes self.new.windows.items
-            × (self.new.values.items ≡ self.old.values.items
+            × (taken self.new.samples ≡ taken self.old.samples
             ++ flat_map (samples_at format.now.big bytes level)
             (row_texels piece.now.x piece.now.y piece.now.n)))) }
+        ensures others { OnOk result (KeepsOthers self.old.samples self.new.samples) }
         ensures reader { LeavesReader B.keeps B.refuses reader.old reader.new result }
     {
         ready(&mut self.windows, k)?;
@@ -172,7 +168,8 @@ impl Reading {
         if span.lies_below(reader.len()) {
             return self.read_span(reader, format, piece, k);
         }
-        self.push_zeros(u64::from(piece.n) * format.channels as u64)?;
+        let count = u64::from(piece.n) * format.channels as u64;
+        self.samples.push_zeros(count)?;
         Ok(())
     }
 
@@ -184,26 +181,28 @@ impl Reading {
         format: &TexelFormat,
         pieces: &mut Pieces<'_>,
     ) -> Result<(), RectError<B::Error>>
-        ensures count { OnOk result (length self.new.values.items ≡ length self.old.values.items
+        requires places { FitsPlaces self.old.samples.places format.now }
+        ensures count { OnOk result (length (taken self.new.samples) ≡ length (taken self.old.samples)
             + length pieces.old.texels * format.now.channels) }
         ensures zeros { IsFormatOf format.now.big pieces.old.level.shape
             format.now → OnOk result (AddsTexels
             (LiesBeyond pieces.old.level pieces.old.right (B.size reader.old))
             format.now.channels pieces.old.texels
-            self.old.values.items self.new.values.items) }
+            (taken self.old.samples) (taken self.new.samples)) }
         ensures unread { IsFormatOf format.now.big pieces.old.level.shape
             format.now
             → All (LiesBeyond pieces.old.level pieces.old.right (B.size reader.old))
             pieces.old.texels → reader.new ≡ reader.old }
         ensures low { OnOk result (KeepsDepth format.now
-            self.old.values.items self.new.values.items) }
+            self.old.samples.values.items self.new.samples.values.items) }
         ensures told { ForSome (B.bytes reader.old) (λ bytes.
             AreWindows bytes self.old.windows.items
             → IsFormatOf format.now.big pieces.old.level.shape format.now
             → HoldsBlocks bytes pieces.old.level
             → OnOk result (AreWindows bytes self.new.windows.items
-            × (self.new.values.items ≡ self.old.values.items
+            × (taken self.new.samples ≡ taken self.old.samples
             ++ flat_map (samples_at format.now.big bytes pieces.old.level) pieces.old.texels))) }
+        ensures others { OnOk result (KeepsOthers self.old.samples self.new.samples) }
         ensures reader { LeavesReader B.keeps B.refuses reader.old reader.new result }
     {
         let mut k = 0usize;
@@ -224,31 +223,33 @@ impl Reading {
         format: &TexelFormat,
         place: &Place<'_>,
     ) -> Result<(), RectError<B::Error>>
-        requires { IsFormatOf place.now.layout.now.big
+        requires places { FitsPlaces self.old.samples.places format.now }
+        requires format { IsFormatOf place.now.layout.now.big
             (plane_in place.now.layout.now place.now.level place.now.plane).shape format.now }
-        ensures count { OnOk result (length self.new.values.items
-            ≡ length self.old.values.items
+        ensures count { OnOk result (length (taken self.new.samples)
+            ≡ length (taken self.old.samples)
             + place.now.rect.w * place.now.rect.h * format.now.channels) }
         ensures zeros { OnOk result (AddsZeros
             (plane_in place.now.layout.now place.now.level place.now.plane) (B.size reader.old) place.now.rect
-            self.old.values.items self.new.values.items) }
+            (taken self.old.samples) (taken self.new.samples)) }
         ensures unread { IsFilled place.now.rect → IsPlaneBeyond
             (plane_in place.now.layout.now place.now.level place.now.plane) (B.size reader.old) place.now.rect
             → reader.new ≡ reader.old }
         ensures low { OnOk result (KeepsDepth format.now
-            self.old.values.items self.new.values.items) }
+            self.old.samples.values.items self.new.samples.values.items) }
         ensures told { ForSome (B.bytes reader.old) (λ bytes.
             AreWindows bytes self.old.windows.items
             → HoldsBlocks bytes (plane_in place.now.layout.now place.now.level place.now.plane)
             → OnOk result (AreWindows bytes self.new.windows.items
-            × (self.new.values.items ≡ self.old.values.items
+            × (taken self.new.samples ≡ taken self.old.samples
             ++ flat_map (samples_at place.now.layout.now.big bytes
             (plane_in place.now.layout.now place.now.level place.now.plane))
             (rect_texels place.now.rect)))) }
+        ensures others { OnOk result (KeepsOthers self.old.samples self.new.samples) }
         ensures reader { LeavesReader B.keeps B.refuses reader.old reader.new result }
     {
         match Run::of(place, format, reader.len()) {
-            Some(run) => read_run(reader, format, &run, &mut self.values),
+            Some(run) => read_run(reader, format, &run, &mut self.samples),
             None => {
                 let mut pieces = place
                     .layout

@@ -12,7 +12,7 @@ ghost use Rattle.tile_load.specs.RectRead.{LeavesReader};
 ghost use Rattle.tile_load.specs.Beyond.{CountAsZero, IsFilled, IsAllBeyond};
 
 use crate::place::Place;
-use crate::planes::{read_plane, read_planes};
+use crate::planes::{read_chunky, read_planes};
 use crate::rect_error::RectError;
 use std::alloc::Global;
 use tiff_dirs::ByteReader;
@@ -23,8 +23,7 @@ use tile_layout::Layout;
 /// texel side by side. A piece of a row of a plane that does not lie below the reader's length is
 /// not read, and its samples count as 0: over told bytes there is none.
 ///
-/// Besides them it takes the bytes of a row and at most 256 KiB that are read ahead, and where the
-/// channels have planes of their own the samples of one.
+/// Besides them it takes the bytes of a row and at most 256 KiB that are read ahead.
 pub fn read_rect<B: ByteReader>(
     alloc: Global,
     reader: &mut B,
@@ -57,7 +56,7 @@ pub fn read_rect<B: ByteReader>(
         rect,
     };
     if planes == 1 {
-        read_plane(alloc, reader, &place)
+        read_chunky(alloc, reader, &place)
     } else {
         read_planes(alloc, reader, &place)
     }

@@ -9,6 +9,7 @@ ghost use Rattle.tile_layout.specs.Plane.{plane_in};
 ghost use Rattle.tile_layout.specs.WholeRows.{StandsWhole};
 ghost use Rattle.tile_load.specs.RectRead.{LeavesReader};
 ghost use Rattle.tile_load.specs.Run.{AppendsRun, AppendsValues, StandSideBySide};
+ghost use Rattle.tile_load.specs.Taken.{taken, FitsPlaces, KeepsOthers};
 ghost use Rattle.tile_load.specs.Unpacked.{KeepsDepth};
 ghost use Rattle.tile_load.specs.Window.{IsWindow};
 
@@ -16,7 +17,7 @@ use crate::place::Place;
 use crate::reading::MAX_AHEAD;
 use crate::rect_error::RectError;
 use crate::rows::RowsBehind;
-use crate::samples::push_samples;
+use crate::samples::Samples;
 use crate::span::Span;
 use crate::window::Window;
 use std::alloc::AllocError;
@@ -81,17 +82,20 @@ fn read_part<B: ByteReader>(
     format: &TexelFormat,
     part: &Run,
     window: &mut Window,
-    values: &mut Vec<u16>,
+    samples: &mut Samples,
 ) -> Result<(), RectError<B::Error>>
+    requires places { FitsPlaces samples.old.places format.now }
     requires fits { part.now.at + part.now.texels * format.now.texel_bytes < 2 ^ 64 }
     requires below { part.now.at + part.now.texels * format.now.texel_bytes
         ≤ B.size reader.old }
-    ensures count { OnOk result (length values.new.items
-        ≡ length values.old.items + part.now.texels * format.now.channels) }
-    ensures low { OnOk result (KeepsDepth format.now values.old.items values.new.items) }
+    ensures count { OnOk result (length (taken samples.new)
+        ≡ length (taken samples.old) + part.now.texels * format.now.channels) }
+    ensures low { OnOk result (KeepsDepth format.now
+        samples.old.values.items samples.new.values.items) }
     ensures told { ForSome (B.bytes reader.old) (λ bytes.
         IsWindow bytes window.old → OnOk result (IsWindow bytes window.new
-        × AppendsRun bytes format.now part.now values.old.items values.new.items)) }
+        × AppendsRun bytes format.now part.now (taken samples.old) (taken samples.new))) }
+    ensures others { OnOk result (KeepsOthers samples.old samples.new) }
     ensures reader { LeavesReader B.keeps B.refuses reader.old reader.new result }
 {
     let span = Span {
@@ -100,16 +104,19 @@ fn read_part<B: ByteReader>(
     };
     window.fill(reader, &span, &NO_ROWS, 0)?;
     let count = part.texels * format.channels;
-    push_samples(values, format, window.piece(&span), count)?;
+    samples.push(format, window.piece(&span), count)?;
     Ok(())
 }
 
 /// Finds memory for the values of the texels of a run.
-fn reserve(values: &mut Vec<u16>, format: &TexelFormat, run: &Run) -> Result<(), AllocError>
-    ensures { values.new.items ≡ values.old.items }
+fn reserve(samples: &mut Samples, format: &TexelFormat, run: &Run) -> Result<(), AllocError>
+    ensures taken { taken samples.new ≡ taken samples.old }
+    ensures values { samples.new.values.items ≡ samples.old.values.items }
+    ensures places { samples.new.places ≡ samples.old.places }
+    ensures others { KeepsOthers samples.old samples.new }
 {
     let count = run.texels.checked_mul(format.channels).ok_or(AllocError)?;
-    values.reserve(count)?;
+    samples.reserve(count)?;
     Ok(())
 }
 
@@ -120,33 +127,36 @@ pub(crate) fn read_run<B: ByteReader>(
     reader: &mut B,
     format: &TexelFormat,
     run: &Run,
-    values: &mut Vec<u16>,
+    samples: &mut Samples,
 ) -> Result<(), RectError<B::Error>>
+    requires places { FitsPlaces samples.old.places format.now }
     requires fits { run.now.at + run.now.texels * format.now.texel_bytes < 2 ^ 64 }
     requires below { run.now.at + run.now.texels * format.now.texel_bytes
         ≤ B.size reader.old }
-    ensures count { OnOk result (length values.new.items
-        ≡ length values.old.items + run.now.texels * format.now.channels) }
-    ensures low { OnOk result (KeepsDepth format.now values.old.items values.new.items) }
+    ensures count { OnOk result (length (taken samples.new)
+        ≡ length (taken samples.old) + run.now.texels * format.now.channels) }
+    ensures low { OnOk result (KeepsDepth format.now
+        samples.old.values.items samples.new.values.items) }
     ensures told { ForSome (B.bytes reader.old) (λ bytes.
         (level : Level) → (x_of y_of : ℕ → ℕ)
         → IsFormatOf format.now.big level.shape format.now
         → StandSideBySide level run.now x_of y_of
         → OnOk result (AppendsValues bytes level format.now run.now.texels x_of y_of
-        values.old.items values.new.items)) }
+        (taken samples.old) (taken samples.new))) }
+    ensures others { OnOk result (KeepsOthers samples.old samples.new) }
     ensures reader { LeavesReader B.keeps B.refuses reader.old reader.new result }
 {
     let size = format.texel_bytes;
     let most = texels_at_once(format);
-    reserve(values, format, run)?;
-    let mut window = Window::new(*values.allocator());
+    reserve(samples, format, run)?;
+    let mut window = Window::new(*samples.values.allocator());
     let mut done = 0usize;
     'parts: while done < run.texels {
         let part = Run {
             at: run.at + (done * size) as u64,
             texels: most.min(run.texels - done),
         };
-        read_part(reader, format, &part, &mut window, values)?;
+        read_part(reader, format, &part, &mut window, samples)?;
         done += part.texels;
     }
     Ok(())

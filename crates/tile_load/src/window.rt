@@ -14,7 +14,7 @@ use tiff_dirs::ByteReader;
 
 /// The most bytes between the pieces of two rows that are read with them: reading them costs about
 /// what another call costs.
-const MAX_GAP: u64 = 4096;
+pub(crate) const MAX_GAP: u64 = 4096;
 
 /// The place of no piece: none stands behind it.
 const NO_PLACE: u64 = u64::MAX;

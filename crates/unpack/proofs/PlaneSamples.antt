@@ -6,9 +6,11 @@ use Rattle.std.proofs.lemmas.List.{get_or-set_other, get_or-set_same}
 use Rattle.std.proofs.lemmas.Nat.{div-mul-add, mod-mul-add, le-div}
 use Rattle.std.proofs.Math.Nat.{mul-le-mul_right, mul-div-le}
 
--- the first n samples stand at their places, and all other places are as they were
-pub record StandTo (value : ℕ → ℕ) (first step n : ℕ) (old new : List ℕ) : Type 0 where
+-- the first n samples stand at their places, none is above the greatest, and all other places are as
+-- they were
+pub record StandTo (value : ℕ → ℕ) (most first step n : ℕ) (old new : List ℕ) : Type 0 where
   pub samples : (k : ℕ) → k < n → get_or new (k * step + first) 0 ≡ value k
+  pub range : (k : ℕ) → k < n → get_or new (k * step + first) 0 ≤ most
   pub others : (k : ℕ) → k % step ≢ first → get_or new k 0 ≡ get_or old k 0
 
 -- two samples have two places
@@ -16,14 +18,14 @@ same_sample : (k n step first : ℕ) → first < step → k * step + first ≡ n
 same_sample k n step first low is =
     sym (div-mul-add k step first low) ∙ ap (λ p. p / step) is ∙ div-mul-add n step first low
 
-module _ (value : ℕ → ℕ) (first step n v : ℕ) (old new : List ℕ) (low : first < step)
-    (inside : n * step + first < length new) (is : v ≡ value n)
-    (before : StandTo value first step n old new) where
+module _ (value : ℕ → ℕ) (most first step n v : ℕ) (old new : List ℕ) (low : first < step)
+    (inside : n * step + first < length new) (is : v ≡ value n) (fits : v ≤ most)
+    (before : StandTo value most first step n old new) where
   abbrev at : ℕ
   at = n * step + first
 
   -- one sample more
-  pub stand_more : StandTo value first step (n + 1) old (set new at v)
+  pub stand_more : StandTo value most first step (n + 1) old (set new at v)
   stand_more = record {
     samples = λ k lt. elim (cases_order k n) [
       | inl here ↦ rw here (get_or-set_same new at v 0 inside ∙ is)
@@ -31,6 +33,14 @@ module _ (value : ℕ → ℕ) (first step n v : ℕ) (old new : List ℕ) (low 
           get_or-set_other new at (k * step + first) v 0
           (λ e. let same = same_sample k n step first low e in omega (arith, same, lower))
           ∙ before.samples k lower
+      | inr (inr higher) ↦ absurd (omega arith)
+    ];
+    range = λ k lt. elim (cases_order k n) [
+      | inl here ↦ rw (here, get_or-set_same new at v 0 inside) fits
+      | inr (inl lower) ↦
+          rw (get_or-set_other new at (k * step + first) v 0
+          (λ e. let same = same_sample k n step first low e in omega (arith, same, lower)))
+          (before.range k lower)
       | inr (inr higher) ↦ absurd (omega arith)
     ];
     others = λ k other.

@@ -29,7 +29,8 @@ fn stored<const WIDE: bool, const BIG: bool>(src: &[u8], k: usize) -> u16
 /// Sample k, where `flip` the greatest value minus what is stored.
 fn sample<const WIDE: bool, const BIG: bool>(src: &[u8], flip: bool, k: usize) -> u16
     requires { sample_size WIDE * k + sample_size WIDE ≤ length src.now }
-    ensures { result ≡ plane_sample WIDE BIG flip src.now k }
+    ensures value { result ≡ plane_sample WIDE BIG flip src.now k }
+    ensures low { result ≤ greatest_sample (depth_of WIDE) }
 {
     let stored = stored::<WIDE, BIG>(src, k);
     if flip {
@@ -56,6 +57,8 @@ pub fn unpack_plane<const WIDE: bool, const BIG: bool, const STEP: usize>(
     ensures long { length dst.new ≡ length dst.old }
     ensures samples { (k : ℕ) → k * STEP + first < length dst.old
         → slice_index dst.new (k * STEP + first) ≡ plane_sample WIDE BIG flip src.now k }
+    ensures range { (k : ℕ) → k * STEP + first < length dst.old
+        → slice_index dst.new (k * STEP + first) ≤ greatest_sample (depth_of WIDE) }
     ensures others { (k : ℕ) → k % STEP ≢ first
         → slice_index dst.new k ≡ slice_index dst.old k }
 {
@@ -96,6 +99,8 @@ pub fn unpack_plane_as(
     ensures long { length dst.new ≡ length dst.old }
     ensures samples { (k : ℕ) → k * step + first < length dst.old
         → slice_index dst.new (k * step + first) ≡ plane_sample wide big flip src.now k }
+    ensures range { (k : ℕ) → k * step + first < length dst.old
+        → slice_index dst.new (k * step + first) ≤ greatest_sample (depth_of wide) }
     ensures others { (k : ℕ) → k % step ≢ first
         → slice_index dst.new k ≡ slice_index dst.old k }
 {

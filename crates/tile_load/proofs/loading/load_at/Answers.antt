@@ -45,9 +45,9 @@ new-requires-clause-tile g c =
 
 pub new-requires-clause-told : goal.new-requires-clause-told
 new-requires-clause-told g c =
-    let handle = g.T.Handle.TapHandle.named c.args.handle.now in
+    let handle = g.T.Handle.TapHandle.named c.args.file.now.handle in
     tile_told g.T.W.World.files handle c.args.layout.now c.args.cut c.args.key c.requires.cell
     c.cell_rect-rect.result c.channels.result c.in-Ok.texels.items c.channels.ensures.first
     c.channels.ensures.value c.in-Ok.ensures.low
-    (g.met.T.Handle.TapHandle.honest c.args.handle.now).real c.requires.layout
+    (g.met.T.Handle.TapHandle.honest c.args.file.now.handle).real c.requires.layout
     (rw c.level-level.ensures.value at c.in-Ok.ensures.told)

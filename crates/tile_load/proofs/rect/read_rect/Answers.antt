@@ -21,6 +21,6 @@ returns-then-planes-eq1-clause-told g c = λ bytes told holds.
     c.args.rect samples.items)
     (λ (samples : Vec ℕ Global). AreTexelsOn (sample_in big bytes level) level.shape.channels
     c.args.rect samples.items)
-    c.read_plane.result
+    c.read_chunky.result
     (λ samples are. alone_texels level c.args.rect samples.items one big bytes are)
-    (c.read_plane.ensures.told bytes told (plane_held level 0 bytes there holds))
+    (c.read_chunky.ensures.told bytes told (plane_held level 0 bytes there holds))

@@ -4,6 +4,8 @@ use Rattle.tiff_format.specs.Block.{texel_bytes}
 use Rattle.tile_load.specs.declared.run.Run.{Run}
 use Rattle.tile_load.proofs.Leaves.{leaves_after}
 use Rattle.tile_load.proofs.RunValues.{bytes_within, part_stands, appends_none, appends_more}
+use Rattle.tile_load.specs.Taken.{taken}
+use Rattle.tile_load.proofs.TakenSamples.{keeps_itself, keeps_after}
 use Rattle.tile_load.proofs.run.read_run.Goals as goal
 
 pub read_part-requires-clause-fits : goal.read_part-requires-clause-fits
@@ -42,10 +44,11 @@ parts-init g c = record {
   within = omega arith;
   count = omega arith;
   low = λ fit. fit;
+  others = keeps_itself c.reserve.new.samples;
   told = λ bytes told. (
     c.new-window.ensures bytes,
     λ level x_of y_of is stand.
-        appends_none bytes level c.args.format.now x_of y_of c.reserve.new.values.items,
+        appends_none bytes level c.args.format.now x_of y_of (taken c.reserve.new.samples),
   );
 }
 
@@ -65,6 +68,8 @@ parts-preserved g c =
       within = within;
       count = omega (arith, before.count, c.in_ok-read_part.ensures.count);
       low = λ fit. c.in_ok-read_part.ensures.low (before.low fit);
+      others = keeps_after c.reserve.new.samples c.parts.samples c.read_part.new.samples before.others
+          c.in_ok-read_part.ensures.others;
       told = λ bytes told.
           let so_far = before.told bytes told in
           let still = g.met.B.ByteReader.lawful.same_bytes _ _ before.keeps ∙ told in
@@ -74,9 +79,16 @@ parts-preserved g c =
                 let unit : format.texel_bytes ≡ texel_bytes level.shape =
                 rw (is.one, ← is.channels, ← is.depth) format.in_range.bytes in
                 appends_more bytes level c.args.format.now part x_of y_of c.parts.done
-                c.reserve.new.values.items c.parts.values.items c.read_part.new.values.items is unit
+                (taken c.reserve.new.samples) (taken c.parts.samples) (taken c.read_part.new.samples) is unit
                 (part_stands level run part x_of y_of c.parts.done stand within
                 (ap (λ (u : ℕ). run.at + c.parts.done * u) unit))
                 (so_far.1 level x_of y_of is stand) read.1,
           );
     }
+
+pub returns-clause-told : goal.returns-clause-told
+returns-clause-told g c = λ bytes told level x_of y_of is stand.
+    let all : c.parts.done ≡ c.args.run.now.texels =
+    omega (arith, c.parts-test.false, c.parts.invariant.within) in
+    let so_far = (c.parts.invariant.told bytes told).1 level x_of y_of is stand in
+    rw (c.reserve.ensures.taken, all) at so_far

@@ -3,6 +3,7 @@ use Rattle.std.specs.Option.{ForSome}
 use Rattle.tiff_format.specs.Block.{Level}
 use Rattle.tile_layout.specs.FormatOf.{IsFormatOf}
 use Rattle.tile_load.specs.Run.{AppendsValues, StandSideBySide}
+use Rattle.tile_load.specs.Taken.{taken, KeepsOthers}
 use Rattle.tile_load.specs.Unpacked.{KeepsDepth}
 use Rattle.tile_load.specs.Window.{IsWindow}
 use Rattle.tile_load.proofs.run.read_run.Given as goal
@@ -12,15 +13,16 @@ abbrev pub invariant-parts : goal.invariant-parts
 invariant-parts g l = record {
   keeps : g.B.ByteReader.keeps l.initial.reader l.reader;
   within : l.done ≤ l.run.texels;
-  count : length l.values.items
-      ≡ length l.initial.values.items + l.done * l.format.channels;
-  low : KeepsDepth l.format l.initial.values.items l.values.items;
+  count : length (taken l.samples)
+      ≡ length (taken l.initial.samples) + l.done * l.format.channels;
+  low : KeepsDepth l.format l.initial.samples.values.items l.samples.values.items;
+  others : KeepsOthers l.initial.samples l.samples;
   told : ForSome (g.B.ByteReader.bytes l.initial.reader) (λ bytes.
       IsWindow bytes l.window × ((level : Level) → (x_of y_of : ℕ → ℕ)
       → IsFormatOf l.format.big level.shape l.format
       → StandSideBySide level l.run x_of y_of
       → AppendsValues bytes level l.format l.done x_of y_of
-      l.initial.values.items l.values.items));
+      (taken l.initial.samples) (taken l.samples)));
 }
 
 abbrev pub decreases-parts : goal.decreases-parts

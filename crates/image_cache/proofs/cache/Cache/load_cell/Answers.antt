@@ -12,8 +12,8 @@ load-requires-clause-cut g c =
 
 pub load-requires-clause-cell : goal.load-requires-clause-cell
 load-requires-clause-cell g c =
-    names_cell c.args.known.now c.args.cell.now (g.T.Handle.TapHandle.named c.in_ok-handle.handle)
-    c.self.inside.cut c.requires.cell c.in_ok-handle.ensures.ok
+    names_cell c.args.known.now c.args.cell.now (g.T.Handle.TapHandle.named c.in_ok-file.file.handle)
+    c.self.inside.cut c.requires.cell c.in_ok-file.ensures.ok
     (c.requires.known.cut ∙ (ap (λ (s : CacheState). s.gate.cut) (sym c.self.view_is)
     ∙ sym c.self.invariant.1))
     c.requires.stored

@@ -7,6 +7,8 @@ use Rattle.tiff_format.specs.Block.{Level, texel_bytes}
 use Rattle.tile_layout.specs.FormatOf.{IsFormatOf}
 use Rattle.tile_layout.specs.Pieces.{row_texels}
 use Rattle.tile_layout.specs.declared.texel_format.TexelFormat.{TexelFormat}
+use Rattle.tile_load.specs.Taken.{taken}
+use Rattle.tile_load.proofs.TakenSamples.{keeps_itself, keeps_after}
 use Rattle.tile_load.specs.Zeros.{AddsTexels, LiesBeyond}
 use Rattle.tile_load.proofs.ZeroTexels.{adds_then, adds_long}
 use Rattle.tile_load.proofs.PieceEnds.{piece_adds, taken_far}
@@ -43,6 +45,7 @@ pieces-init g c = record {
   unread = λ format far. (far, refl);
   count = refl;
   low = λ fit. fit;
+  others = keeps_itself c.args.self.now.samples;
   told = λ bytes told windows format holds. (windows, refl);
 }
 
@@ -62,12 +65,12 @@ pieces-preserved g c =
           let far = LiesBeyond level right (g.B.ByteReader.size c.args.reader.now) in
           let row = row_texels c.in-Some.piece.x c.in-Some.piece.y c.in-Some.piece.n in
           let rest = c.next.new.self.texels in
-          let old = c.pieces.self.values.items in
+          let old = taken c.pieces.self.samples in
           before.zeros format last
           (subst (λ (ts : List (ℕ × ℕ)). AddsTexels far n ts old last) (sym takes.texels)
-          (adds_then far n row rest old c.read_piece.new.self.values.items last
+          (adds_then far n row rest old (taken c.read_piece.new.self.samples) last
           (piece_adds level right (g.B.ByteReader.size c.args.reader.now) c.in-Some.piece
-          (rw (before.level, before.right) at takes.lies) n old c.read_piece.new.self.values.items
+          (rw (before.level, before.right) at takes.lies) n old (taken c.read_piece.new.self.samples)
           (rw (
             g.met.B.ByteReader.lawful.same_size _ _ before.keeps,
             unit_of c.args.format.now level format,
@@ -89,12 +92,14 @@ pieces-preserved g c =
         arith,
         before.count,
         adds_long (c.in-Some.piece.n * c.args.format.now.channels)
-            c.pieces.self.values.items c.read_piece.new.self.values.items
+            (taken c.pieces.self.samples) (taken c.read_piece.new.self.samples)
             c.in_ok-read_piece.ensures.count,
         ap (λ n. n * c.args.format.now.channels)
             (length_taken c.pieces.pieces c.in-Some.piece c.next.new.self takes),
       );
       low = λ fit. c.in_ok-read_piece.ensures.low (before.low fit);
+      others = keeps_after c.args.self.now.samples c.pieces.self.samples c.read_piece.new.self.samples
+          before.others c.in_ok-read_piece.ensures.others;
       told = λ bytes told windows format holds.
           let so_far = before.told bytes told windows format holds in
           let still = g.met.B.ByteReader.lawful.same_bytes _ _ before.keeps ∙ told in
@@ -104,8 +109,8 @@ pieces-preserved g c =
           so_far.0 format lies holds in
           let values = samples_at c.args.format.now.big bytes level in (
             read.0,
-            values_taken values c.args.self.now.values.items c.pieces.self.values.items
-                c.read_piece.new.self.values.items c.args.pieces.now.texels
+            values_taken values (taken c.args.self.now.samples) (taken c.pieces.self.samples)
+                (taken c.read_piece.new.self.samples) c.args.pieces.now.texels
                 c.pieces.pieces.texels
                 (row_texels c.in-Some.piece.x c.in-Some.piece.y c.in-Some.piece.n)
                 c.next.new.self.texels takes.texels so_far.1 read.1,
@@ -117,8 +122,8 @@ returns-clause-told g c = λ bytes told windows format holds.
     let so_far = c.pieces.invariant.told bytes told windows format holds in
     let values = samples_at c.args.format.now.big bytes c.args.pieces.now.level in (
       so_far.0,
-      sym (append-nil c.pieces.self.values.items)
-          ∙ ap (λ (t : List (ℕ × ℕ)). c.pieces.self.values.items ++ flat_map values t)
+      sym (append-nil (taken c.pieces.self.samples))
+          ∙ ap (λ (t : List (ℕ × ℕ)). (taken c.pieces.self.samples) ++ flat_map values t)
           (sym c.in_default.ensures.steps.0)
           ∙ so_far.1,
     )
@@ -134,7 +139,7 @@ returns-in_err-read_piece-clause-reader g c =
 
 pub returns-clause-zeros : goal.returns-clause-zeros
 returns-clause-zeros g c = λ format.
-    let old = c.pieces.self.values.items in
+    let old = taken c.pieces.self.samples in
     let far = LiesBeyond c.args.pieces.now.level c.args.pieces.now.right
     (g.B.ByteReader.size c.args.reader.now) in
     c.pieces.invariant.zeros format old

@@ -5,6 +5,7 @@ use Rattle.tile_layout.specs.FormatOf.{IsFormatOf}
 use Rattle.tile_layout.specs.Blocks.{HoldsBlocks}
 use Rattle.tile_load.specs.Samples.{samples_at}
 use Rattle.tile_load.specs.Zeros.{AddsTexels, LiesBeyond}
+use Rattle.tile_load.specs.Taken.{taken, KeepsOthers}
 use Rattle.tile_load.specs.Unpacked.{KeepsDepth}
 use Rattle.tile_load.specs.Window.{AreWindows}
 use Rattle.tile_load.proofs.reading.Reading.read_pieces.Given as goal
@@ -20,27 +21,28 @@ invariant-pieces g l = record {
       → (last : List ℕ)
       → AddsTexels (LiesBeyond l.initial.pieces.level l.initial.pieces.right
       (g.B.ByteReader.size l.initial.reader)) l.format.channels
-      l.pieces.texels l.self.values.items last
+      l.pieces.texels (taken l.self.samples) last
       → AddsTexels (LiesBeyond l.initial.pieces.level l.initial.pieces.right
       (g.B.ByteReader.size l.initial.reader)) l.format.channels
-      l.initial.pieces.texels l.initial.self.values.items last;
+      l.initial.pieces.texels (taken l.initial.self.samples) last;
   unread : IsFormatOf l.format.big l.initial.pieces.level.shape l.format
       → All (LiesBeyond l.initial.pieces.level l.initial.pieces.right
       (g.B.ByteReader.size l.initial.reader)) l.initial.pieces.texels
       → All (LiesBeyond l.initial.pieces.level l.initial.pieces.right
       (g.B.ByteReader.size l.initial.reader)) l.pieces.texels
       × (l.reader ≡ l.initial.reader);
-  count : length l.self.values.items + length l.pieces.texels * l.format.channels
-      ≡ length l.initial.self.values.items
+  count : length (taken l.self.samples) + length l.pieces.texels * l.format.channels
+      ≡ length (taken l.initial.self.samples)
       + length l.initial.pieces.texels * l.format.channels;
-  low : KeepsDepth l.format l.initial.self.values.items l.self.values.items;
+  low : KeepsDepth l.format l.initial.self.samples.values.items l.self.samples.values.items;
+  others : KeepsOthers l.initial.self.samples l.self.samples;
   told : ForSome (g.B.ByteReader.bytes l.initial.reader) (λ bytes.
       AreWindows bytes l.initial.self.windows.items
       → IsFormatOf l.format.big l.initial.pieces.level.shape l.format
       → HoldsBlocks bytes l.initial.pieces.level
-      → AreWindows bytes l.self.windows.items × (l.self.values.items
+      → AreWindows bytes l.self.windows.items × (taken l.self.samples
       ++ flat_map (samples_at l.format.big bytes l.initial.pieces.level) l.pieces.texels
-      ≡ l.initial.self.values.items
+      ≡ taken l.initial.self.samples
       ++ flat_map (samples_at l.format.big bytes l.initial.pieces.level) l.initial.pieces.texels));
 }
 

@@ -8,13 +8,14 @@ use Rattle.tile_layout.proofs.TexelLemmas.{length-rect_texels}
 use Rattle.tile_load.proofs.SampleValues.{own_order}
 use Rattle.tile_load.proofs.WholeRows.{column_of, row_of, run_stands, rect_appended, on_ok, any_ok}
 use Rattle.tile_load.proofs.RectZeros.{below_of_run, rect_adds, rect_far}
+use Rattle.tile_load.specs.Taken.{taken}
 use Rattle.tile_load.specs.Zeros.{AddsZeros, LiesBeyond}
 use Rattle.tile_load.proofs.reading.Reading.read_place.Goals as goal
 
 pub returns-in-Some-clause-count : goal.returns-in-Some-clause-count
 returns-in-Some-clause-count g c =
-    let read : OnOk c.read_run.result (length c.read_run.new.values.items
-    ≡ length c.args.self.now.values.items
+    let read : OnOk c.read_run.result (length (taken c.read_run.new.samples)
+    ≡ length (taken c.args.self.now.samples)
     + c.in-Some.run'.texels * c.args.format.now.channels) =
     c.read_run.ensures.count in
     rw c.in-Some.ensures.texels at read
@@ -28,12 +29,12 @@ returns-in-Some-clause-told g c = λ bytes told windows holds.
     let run = c.in-Some.run' in
     let whole = c.in-Some.ensures.whole in
     let count : run.texels ≡ rect.w * rect.h = c.in-Some.ensures.texels in
-    let own = own_order place.layout.now.big level.shape format c.requires in
+    let own = own_order place.layout.now.big level.shape format c.requires.format in
     on_ok c.read_run.result
     (λ more. (
       windows,
-      rw c.requires.order at (rect_appended bytes level format rect
-          c.args.self.now.values.items c.read_run.new.values.items (rw count at more)),
+      rw c.requires.format.order at (rect_appended bytes level format rect
+          (taken c.args.self.now.samples) (taken c.read_run.new.samples) (rw count at more)),
     ))
     (c.read_run.ensures.told bytes told level (column_of rect) (row_of rect) own
     (run_stands level rect run whole count))
@@ -43,8 +44,8 @@ returns-in-None-clause-count g c =
     let rect = c.args.place.now.rect in
     let texels : length c.plane_pieces-pieces.result.texels ≡ rect.w * rect.h =
     ap (λ (w : Walk). length w.texels) c.plane_pieces-pieces.ensures.value ∙ length-rect_texels rect in
-    let read : OnOk c.read_pieces.result (length c.read_pieces.new.self.values.items
-    ≡ length c.args.self.now.values.items
+    let read : OnOk c.read_pieces.result (length (taken c.read_pieces.new.self.samples)
+    ≡ length (taken c.args.self.now.samples)
     + length c.plane_pieces-pieces.result.texels * c.args.format.now.channels) =
     c.read_pieces.ensures.count in
     rw texels at read
@@ -53,12 +54,12 @@ pub returns-in-None-clause-told : goal.returns-in-None-clause-told
 returns-in-None-clause-told g c = λ bytes told windows holds.
     let place = c.args.place.now in
     let level = plane_in place.layout.now place.level place.plane in
-    let format = own_order place.layout.now.big level.shape c.args.format.now c.requires in
+    let format = own_order place.layout.now.big level.shape c.args.format.now c.requires.format in
     let walk = c.plane_pieces-pieces.ensures.value in
     let level_is = ap (λ (w : Walk). w.level) walk in
     let read = c.read_pieces.ensures.told bytes told windows (rw level_is format)
     (subst (λ (l : Level). HoldsBlocks bytes l) (sym level_is) holds) in
-    rw (walk, c.requires.order) at read
+    rw (walk, c.requires.format.order) at read
 
 -- each piece of a run lies below the length
 pub returns-in-Some-clause-zeros : goal.returns-in-Some-clause-zeros
@@ -68,9 +69,9 @@ returns-in-Some-clause-zeros g c =
     let len = g.B.ByteReader.size c.args.reader.now in
     let run = c.in-Some.run' in
     let low = below_of_run c.args.format.now place.layout.now.big level place.rect run len
-    c.requires c.in-Some.ensures.whole c.in-Some.ensures.texels
+    c.requires.format c.in-Some.ensures.whole c.in-Some.ensures.texels
     (rw c.len.ensures at c.in-Some.ensures.below) in
-    let none : AddsZeros level len place.rect c.args.self.now.values.items c.read_run.new.values.items =
+    let none : AddsZeros level len place.rect (taken c.args.self.now.samples) (taken c.read_run.new.samples) =
     λ i j channel across down some far. absurd (omega (arith, low i j across down, far)) in
     any_ok c.read_run.result none
 
@@ -81,7 +82,7 @@ returns-in-Some-clause-unread g c = λ filled far.
     let len = g.B.ByteReader.size c.args.reader.now in
     let run = c.in-Some.run' in
     let low = below_of_run c.args.format.now place.layout.now.big level place.rect run len
-    c.requires c.in-Some.ensures.whole c.in-Some.ensures.texels
+    c.requires.format c.in-Some.ensures.whole c.in-Some.ensures.texels
     (rw c.len.ensures at c.in-Some.ensures.below) in
     absurd (omega (arith, low 0 0 filled.wide filled.high, far 0 0 filled.wide filled.high))
 
@@ -89,22 +90,22 @@ pub returns-in-None-clause-zeros : goal.returns-in-None-clause-zeros
 returns-in-None-clause-zeros g c =
     let place = c.args.place.now in
     let level = plane_in place.layout.now place.level place.plane in
-    let format = own_order place.layout.now.big level.shape c.args.format.now c.requires in
+    let format = own_order place.layout.now.big level.shape c.args.format.now c.requires.format in
     let walk = c.plane_pieces-pieces.ensures.value in
     let level_is = ap (λ (w : Walk). w.level) walk in
     let read = c.read_pieces.ensures.zeros (rw level_is format) in
     let adds = rw walk at read in
     on_ok c.read_pieces.result
     (λ more. rect_adds level (g.B.ByteReader.size c.args.reader.now) place.rect
-    c.args.format.now.channels c.args.self.now.values.items
-    c.read_pieces.new.self.values.items c.requires.channels more) adds
+    c.args.format.now.channels (taken c.args.self.now.samples)
+    (taken c.read_pieces.new.self.samples) c.requires.format.channels more) adds
 
 pub returns-in-None-clause-unread : goal.returns-in-None-clause-unread
 returns-in-None-clause-unread g c = λ filled beyond.
     let place = c.args.place.now in
     let level = plane_in place.layout.now place.level place.plane in
     let len = g.B.ByteReader.size c.args.reader.now in
-    let format = own_order place.layout.now.big level.shape c.args.format.now c.requires in
+    let format = own_order place.layout.now.big level.shape c.args.format.now c.requires.format in
     let walk = c.plane_pieces-pieces.ensures.value in
     let level_is = ap (λ (w : Walk). w.level) walk in
     c.read_pieces.ensures.unread (rw level_is format)

@@ -2,6 +2,7 @@ use Rattle.std.proofs.Common.{◌≡◌, ℕ, ◌*◌, List, ◌++◌, length, m
 use Rattle.std.specs.List.{range_with_len}
 use Rattle.std.proofs.lemmas.List.FromFn.{length-map-range_with_len}
 use Rattle.tiff_format.specs.Block.{sample_bytes, texel_bytes}
+use Rattle.tile_load.specs.Taken.{taken}
 use Rattle.tile_load.specs.Unpacked.{unpacked}
 use Rattle.tile_layout.proofs.PlaceLemmas.{bytes_by}
 use Rattle.tile_load.proofs.PieceValues.{piece_values}
@@ -30,8 +31,8 @@ returns-clause-told g c = λ bytes told level right windows is lies.
     (unit ∙ bytes_by level.shape is.one) in
     let values : ℕ → ℕ = unpacked c.args.format.now span in (
       window_set bytes list c.args.k c.fill.new.self windows new,
-      c.in_ok-push_samples.ensures.values
-          ∙ ap (λ (v : List ℕ). c.args.self.now.values.items ++ v)
+      c.in_ok-push.ensures.values
+          ∙ ap (λ (v : List ℕ). taken c.args.self.now.samples ++ v)
           (ap (λ (n : ℕ). map values (range_with_len 0 (piece.n * n))) is.channels
           ∙ piece_values format.big bytes level c.args.format.now is right piece lies span
           (rw c.span_of-span.ensures.at at (c.piece.ensures.told bytes new)) long),
@@ -43,7 +44,7 @@ returns-clause-count g c =
     let value : ℕ → ℕ = unpacked c.args.format.now c.piece.result.now in
     record {
       added = map value (range_with_len 0 count);
-      behind = c.in_ok-push_samples.ensures.values;
+      behind = c.in_ok-push.ensures.values;
       count = length-map-range_with_len value 0 count;
       zeros = λ none. absurd none;
     }

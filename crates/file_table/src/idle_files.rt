@@ -1,0 +1,35 @@
+//! The files that nobody reads.
+ghost use Rattle.std.specs.Prelude.{◌≡◌, ◌<◌, IfOk};
+
+use crate::aheads::Aheads;
+use crate::idle::IdleHandles;
+use std::alloc::Global;
+use tag_lock::TagRule;
+use tex_world::{NoMemory, Tap};
+
+/// The handles that lie idle, and what was read ahead of their files.
+#[derive(Drop)]
+pub(crate) struct IdleFiles<T: Tap> {
+    pub(crate) handles: IdleHandles<T::Handle>,
+    pub(crate) aheads: Aheads<T::W>,
+}
+
+impl<T: Tap> IdleFiles<T> {
+    /// None, and room for so many handles.
+    pub(crate) fn new(alloc: Global, cap: usize) -> Result<IdleFiles<T>, NoMemory>
+        requires { 0 < cap }
+        ensures { IfOk result (λ idle. idle.handles.cap ≡ cap) }
+    {
+        Ok(IdleFiles {
+            handles: IdleHandles::new(alloc, cap)?,
+            aheads: Aheads::new(alloc)?,
+        })
+    }
+}
+
+/// The handles that may lie idle are as many as the tag says.
+pub(crate) struct SoMany;
+
+impl<T: Tap> TagRule<Box<IdleFiles<T>>> for SoMany {
+    ghost fits = { λ tag idle. idle.value.handles.cap ≡ tag };
+}

@@ -1,0 +1,37 @@
+-- What is known of bytes that were read ahead?
+use Rattle.std.specs.Prelude.{◌≡◌, ℕ, ◌≤◌, List, length, sum_by}
+use Rattle.std.specs.List.{All}
+use Rattle.std.specs.Option.{ForSome}
+use Rattle.tex_world.specs.World.{Files}
+use Rattle.tiff_format.specs.Bytes.{IsPartAt}
+use Rattle.tap_reader.specs.declared.stretch.Stretch.{Stretch}
+
+-- the most bytes that are kept of those that were read ahead of one file: 4 MiB
+abbrev pub max_ahead_bytes : ℕ
+max_ahead_bytes = 4194304
+
+-- of which generation of a file they are, and how many
+pub record AheadState : Type 0 where
+  pub file : ℕ
+  pub generation : ℕ
+  pub count : ℕ
+
+-- they are of this generation of this file
+pub record IsOf (file generation : ℕ) (ahead : AheadState) : Type 0 where
+  pub of_file : ahead.file ≡ file
+  pub of_generation : ahead.generation ≡ generation
+
+-- where the world tells, these bytes stand at this place of a generation of a file
+abbrev pub StandAt : Files → ℕ → ℕ → ℕ → List ℕ → Type 0
+StandAt files file generation at part =
+    ForSome (files.held file generation) (λ bytes. IsPartAt bytes at part)
+
+-- how many bytes stretches have
+abbrev pub bytes_of : List Stretch → ℕ
+bytes_of stretches = sum_by (λ s. length s.bytes.items) stretches
+
+-- All together they are no more than may be kept, and where the world tells they are those of the
+-- file.
+pub record AreAhead (files : Files) (file generation : ℕ) (stretches : List Stretch) : Type 0 where
+  pub few : bytes_of stretches ≤ max_ahead_bytes
+  pub told : All (λ s. StandAt files file generation s.at s.bytes.items) stretches
