@@ -37,14 +37,14 @@ impl<W: World> Aheads<W> {
         self.aheads.len()
     }
 
-    /// Takes out what was read ahead of a file, where it is of this generation. That of another one
-    /// is forgotten.
-    pub fn take(&mut self, file: u32, generation: u32) -> Option<ReadAhead<W>>
+    /// What was read ahead of a file, where it is of this generation. It stays here too, and takes
+    /// memory for its places alone.
+    pub fn get(&self, file: u32, generation: u32) -> Option<ReadAhead<W>>
         ensures { IfSome result (IsOf file generation) }
     {
-        let ahead = self.aheads.pop(&file)?;
-        if ahead.is_of(file, generation) {
-            Some(ahead)
+        let kept = self.aheads.peek(&file)?;
+        if kept.is_of(file, generation) {
+            kept.share()
         } else {
             None
         }
@@ -55,13 +55,25 @@ impl<W: World> Aheads<W> {
         self.aheads.pop(&file)
     }
 
-    /// Keeps what was read ahead of a file in the place of what there was, unless that is of a
-    /// newer generation, or has bytes of the same one and this has none. What is not kept comes
-    /// back.
+    /// Keeps what was read ahead of a file over what there was (`ReadAhead::over`). What is not kept
+    /// comes back.
     pub fn keep(&mut self, ahead: ReadAhead<W>) -> Option<ReadAhead<W>> {
-        if ahead.is_blank() || self.has_better(&ahead) {
+        if ahead.is_blank() {
             return Some(ahead);
         }
+        match self.aheads.pop(&ahead.file()) {
+            Some(kept) => {
+                let (stays, left) = ahead.over(kept);
+                let _out = self.put(stays);
+                Some(left)
+            }
+            None => self.put(ahead),
+        }
+    }
+
+    /// Puts what was read ahead of a file before that of all others. What leaves for it comes back,
+    /// or it itself where no memory is found.
+    fn put(&mut self, ahead: ReadAhead<W>) -> Option<ReadAhead<W>> {
         match self.aheads.push(ahead.file(), ahead) {
             Ok(None) => None,
             Ok(Some((_file, out))) => Some(out),
@@ -70,14 +82,6 @@ impl<W: World> Aheads<W> {
                     value: (_file, ahead),
                 },
             ) => Some(ahead),
-        }
-    }
-
-    /// What is kept of its file stays in its place.
-    fn has_better(&self, ahead: &ReadAhead<W>) -> bool {
-        match self.aheads.peek(&ahead.file()) {
-            Some(kept) => ahead.gives_way_to(kept),
-            None => false,
         }
     }
 }

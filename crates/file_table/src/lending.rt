@@ -120,8 +120,8 @@ impl<T: Tap> Files<T> {
         Ok(count)
     }
 
-    /// The idle handle of a file, unless it is of a generation above this one, and what was read
-    /// ahead of this one.
+    /// The idle handle of a file, unless it is of a generation above this one, and what is kept of
+    /// what was read ahead of this one.
     fn take_idle<V: Waiter>(
         &self,
         waiter: &V,
@@ -134,7 +134,7 @@ impl<T: Tap> Files<T> {
     {
         let mut idle = self.idle.take(waiter)?;
         let handle = idle.handles.take_until(file, generation);
-        let ahead = idle.aheads.take(file, generation);
+        let ahead = idle.aheads.get(file, generation);
         put_back(&self.idle, waiter, idle);
         Ok((handle, ahead))
     }

@@ -1,7 +1,9 @@
 -- What is known of bytes that were read ahead?
-use Rattle.std.specs.Prelude.{◌≡◌, ℕ, ◌≤◌, List, length, sum_by}
+use Rattle.std.specs.Prelude.{◌≡◌, ℕ, ◌≤◌, List, [], length, sum_by, Vec}
+use Rattle.std.specs.Global.{Global}
+use Rattle.std.specs.Arc.{arc_value}
 use Rattle.std.specs.List.{All}
-use Rattle.std.specs.Option.{ForSome}
+use Rattle.std.specs.Option.{ForSome, option_map_or}
 use Rattle.tex_world.specs.World.{Files}
 use Rattle.tiff_format.specs.Bytes.{IsPartAt}
 use Rattle.tap_reader.specs.declared.stretch.Stretch.{Stretch}
@@ -26,12 +28,16 @@ abbrev pub StandAt : Files → ℕ → ℕ → ℕ → List ℕ → Type 0
 StandAt files file generation at part =
     ForSome (files.held file generation) (λ bytes. IsPartAt bytes at part)
 
+-- the bytes of a stretch, which others may share
+abbrev pub held_in : Stretch → List ℕ
+held_in stretch = option_map_or (λ b. (arc_value {X = Vec ℕ Global} b).items) stretch.bytes []
+
 -- how many bytes stretches have
 abbrev pub bytes_of : List Stretch → ℕ
-bytes_of stretches = sum_by (λ s. length s.bytes.items) stretches
+bytes_of stretches = sum_by (λ s. length (held_in s)) stretches
 
 -- All together they are no more than may be kept, and where the world tells they are those of the
 -- file.
 pub record AreAhead (files : Files) (file generation : ℕ) (stretches : List Stretch) : Type 0 where
   pub few : bytes_of stretches ≤ max_ahead_bytes
-  pub told : All (λ s. StandAt files file generation s.at s.bytes.items) stretches
+  pub told : All (λ s. StandAt files file generation s.at (held_in s)) stretches

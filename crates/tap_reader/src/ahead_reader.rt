@@ -96,7 +96,7 @@ impl<'t, 'h, 'a, 'b, T: Tap> ByteReader for AheadReader<'t, 'h, 'a, 'b, T> {
         let Some(band) = band_at(self.bands, at, buf.len(), self.handle.len()) else {
             return self.tap.read_at(self.handle, at, buf);
         };
-        let Some(mut room) = self.ahead.room(band.plane, band.size as usize) else {
+        let Some(mut room) = self.ahead.room(band.size as usize) else {
             return self.tap.read_at(self.handle, at, buf);
         };
         self.tap.read_at(self.handle, at, &mut room)?;

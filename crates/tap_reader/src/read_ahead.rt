@@ -1,10 +1,10 @@
-ghost use Rattle.std.specs.Prelude.{◌≡◌, ◌≤◌, ◌↔◌, length, IsTrue, IfOk, IfSome};
+ghost use Rattle.std.specs.Prelude.{◌≡◌, ◌≤◌, ◌↔◌, length, IsTrue, IfSome};
 ghost use Rattle.tap_reader.specs.ReadAhead.{max_ahead_bytes, bytes_of, IsOf, StandAt};
 
 use crate::stretch::Stretch;
-use std::alloc::{AllocError, Global};
+use std::alloc::Global;
 use std::marker::{Model, PhantomData};
-use std::mem;
+use std::sync::Arc;
 use tex_world::World;
 
 /// The most bytes that are kept of those that were read ahead of one file: 4 MiB.
@@ -19,6 +19,8 @@ pub struct ReadAhead<W: World> {
     file: u32,
     generation: u32,
     stretches: Vec<Stretch>,
+    /// Bytes were put since it was shared.
+    is_fresh: bool,
     world: PhantomData<W>,
 }
 
@@ -42,27 +44,13 @@ fn are_few(stretches: &[Stretch]) -> bool
 {
     let mut left = MAX_AHEAD_BYTES;
     for stretch in stretches {
-        if stretch.bytes.len() > left {
+        let len = stretch.bytes().len();
+        if len > left {
             return false;
         }
-        left -= stretch.bytes.len();
+        left -= len;
     }
     true
-}
-
-/// So many bytes, in the room of these where it is enough, and else in room that is no larger.
-/// Their values are open.
-fn resized(alloc: Global, room: Vec<u8>, size: usize) -> Result<Vec<u8>, AllocError>
-    ensures { IfOk result (λ room. length room.items ≡ size) }
-{
-    let mut room = if room.capacity() < size {
-        drop(room);
-        Vec::with_capacity(alloc, size)?
-    } else {
-        room
-    };
-    room.resize(size, 0)?;
-    Ok(room)
 }
 
 impl<W: World> ReadAhead<W> {
@@ -76,8 +64,30 @@ impl<W: World> ReadAhead<W> {
             file,
             generation,
             stretches: Vec::new(alloc),
+            is_fresh: false,
             world: PhantomData,
         }
+    }
+
+    /// The same bytes once more, unless no memory is found.
+    pub fn share(&self) -> Option<ReadAhead<W>>
+        ensures { IfSome result (IsOf self.now.file self.now.generation) }
+    {
+        let mut shared = Vec::with_capacity(self.alloc, self.stretches.len()).ok()?;
+        for stretch in &self.stretches {
+            shared.push(stretch.share().ok()?).ok()?;
+        }
+        if !are_few(&shared) {
+            return None;
+        }
+        Some(ReadAhead {
+            alloc: self.alloc,
+            file: self.file,
+            generation: self.generation,
+            stretches: shared,
+            is_fresh: false,
+            world: PhantomData,
+        })
     }
 
     /// The number of the file.
@@ -101,7 +111,7 @@ impl<W: World> ReadAhead<W> {
     {
         self.stretches
             .iter()
-            .map(|stretch| stretch.bytes.len())
+            .map(|stretch| stretch.bytes().len())
             .sum()
     }
 
@@ -110,11 +120,27 @@ impl<W: World> ReadAhead<W> {
         self.stretches.is_empty()
     }
 
-    /// The other one is of a newer generation, or has bytes of the same one, of which this has
-    /// none.
-    pub fn gives_way_to(&self, other: &ReadAhead<W>) -> bool {
-        let has_less = self.len() == 0 && other.len() > 0;
-        self.generation < other.generation || (self.generation == other.generation && has_less)
+    /// Which of two of a file stays, and the other one: the one of the newer generation; of one
+    /// generation this one, unless no bytes were put to it and the other one has some. That then
+    /// remembers where readings stopped.
+    pub fn over(self, mut kept: ReadAhead<W>) -> (ReadAhead<W>, ReadAhead<W>) {
+        if self.generation < kept.generation {
+            return (kept, self);
+        }
+        if self.generation == kept.generation && !self.is_fresh && kept.len() > 0 {
+            kept.stop_as(&self);
+            return (kept, self);
+        }
+        (self, kept)
+    }
+
+    /// Remembers that readings stopped where they did for another one.
+    fn stop_as(&mut self, other: &ReadAhead<W>)
+        ensures { self.new ≡ self.old }
+    {
+        for k in 0..other.stretches.len() {
+            self.stop_at(k, other.stretches[k].next);
+        }
     }
 
     /// A reading of plane k from this place on goes on where the latest one stopped, or behind what
@@ -132,7 +158,7 @@ impl<W: World> ReadAhead<W> {
         ensures { self.new ≡ self.old }
     {
         if k == self.stretches.len() {
-            let _full = self.stretches.push(Stretch::blank(self.alloc));
+            let _full = self.stretches.push(Stretch::blank());
         }
     }
 
@@ -161,34 +187,29 @@ impl<W: World> ReadAhead<W> {
         None
     }
 
-    /// Room for so many bytes of plane k: that of the bytes that there were, where it is enough.
-    pub fn room(&mut self, k: usize, size: usize) -> Option<Vec<u8>>
-        ensures room { IfSome result (λ room. length room.items ≡ size) }
-        ensures file { self.new.file ≡ self.old.file }
-        ensures generation { self.new.generation ≡ self.old.generation }
+    /// Room for so many bytes.
+    pub fn room(&self, size: usize) -> Option<Vec<u8>>
+        ensures { IfSome result (λ room. length room.items ≡ size) }
     {
-        if k >= self.stretches.len() {
-            return None;
-        }
-        let none = Vec::new(self.alloc);
-        let room = mem::replace(&mut self.stretches[k].bytes, none);
-        match resized(self.alloc, room, size) {
-            Ok(room) => Some(room),
-            Err(_) => None,
-        }
+        vec![in self.alloc; 0u8; size].ok()
     }
 
     /// These bytes of plane k were read from this place on. They take the place of those that there
-    /// were; where all together are more than may be kept, none is.
+    /// were; where all together are more than may be kept, none is. Where no memory is found it stays
+    /// as it was.
     pub fn put(&mut self, k: usize, at: u64, bytes: Vec<u8>)
         requires { StandAt W.files self.old.file self.old.generation at bytes.items }
         ensures file { self.new.file ≡ self.old.file }
         ensures generation { self.new.generation ≡ self.old.generation }
     {
+        let Ok(bytes) = Arc::new(self.alloc, bytes) else {
+            return;
+        };
         if k < self.stretches.len() {
             let stretch = &mut self.stretches[k];
             stretch.at = at;
-            stretch.bytes = bytes;
+            stretch.bytes = Some(bytes);
+            self.is_fresh = true;
         }
         if !are_few(&self.stretches) {
             self.stretches.clear();
