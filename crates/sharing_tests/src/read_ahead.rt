@@ -297,9 +297,20 @@ static ROWS: &[(&str, &[Step])] = &[
         &[
             (Load(1, 0, (0, 0)), Cell(1), 21),
             (Load(1, 0, (16, 0)), Fault, 1),
-            (Load(1, 0, (16, 0)), Cell(1), 17),
-            (Load(1, 0, (32, 0)), Cell(1), 1),
+            (Load(1, 0, (16, 0)), Cell(1), 2),
+            (Load(1, 0, (32, 0)), Cell(1), 0),
             (Load(1, 0, (96, 0)), Cell(1), 0),
+        ],
+    ),
+    (
+        "callers cut from one band while one has the idle handle",
+        &[
+            (Load(0, 0, (0, 0)), Cell(1), 21),
+            (Load(0, 0, (16, 0)), Cell(1), 1),
+            (Hold(0, 0), Done, 0),
+            (Load(2, 0, (32, 0)), Cell(1), 1),
+            (Hold(0, 0), Done, 0),
+            (Load(2, 0, (48, 0)), Cell(1), 1),
         ],
     ),
     (
