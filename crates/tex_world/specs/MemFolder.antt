@@ -6,7 +6,7 @@ use Rattle.tex_world.specs.Folder.{FolderState}
 use Rattle.tex_world.specs.Number.{number_in}
 use Rattle.tex_world.specs.Table.{table_names}
 use Rattle.tex_world.specs.TapPlan.{TapPlan}
-use Rattle.tex_world.specs.Plan.{plan_of_tap, IsUnnamed}
+use Rattle.tex_world.specs.Plan.{share_of, IsUnnamed}
 use Rattle.tex_world.specs.declared.fault.EnterError.{EnterError}
 use Rattle.tex_world.specs.declared.fault.EnterError.TheVariants.{Failed}
 use Rattle.tex_world.specs.declared.plan.Plan.{Plan}
@@ -50,7 +50,7 @@ folder_plan folder = folder.plan
 
 -- what the plan says of the tap that is made next
 abbrev pub next_share : {T : Type 0} → MemFolder T → TapPlan
-next_share folder = plan_of_tap (folder_plan folder) folder.made
+next_share folder = share_of (folder_plan folder) folder.made
 
 -- the plan says nothing of the tap that is made next
 abbrev pub IsNextUnnamed : {T : Type 0} → MemFolder T → Type 0

@@ -9,8 +9,8 @@ abbrev pub entries_of : {E : Type 0} → (E → ℕ) → List E → ℕ → List
 entries_of tap_of entries tap = filter (λ e. tap_of e == tap) entries
 
 -- A new tap's share of a plan: the entries that name it. None of its rises has come.
-abbrev pub plan_of_tap : Plan → ℕ → TapPlan
-plan_of_tap plan tap = record {
+abbrev pub share_of : Plan → ℕ → TapPlan
+share_of plan tap = record {
   fail_calls = entries_of (λ e. e.tap) plan.fail_calls.items tap;
   fail_bytes = entries_of (λ e. e.tap) plan.fail_bytes.items tap;
   newest = entries_of (λ e. e.tap) plan.newest.items tap;
