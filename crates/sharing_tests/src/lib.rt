@@ -1,7 +1,7 @@
 //! Tests of what threads share: a lock and the board of generations; tiles in their shards, step by
 //! step and by four threads; the table of files, its records and idle handles, over files in memory
-//! and over a real folder whose files change between two calls; two taps of one real folder; and
-//! tiles loaded over records.
+//! and over a real folder whose files change between two calls; two taps of one real folder; tiles
+//! loaded over records; and what is read ahead of stripped files.
 #![tactic(auto)]
 
 #[cfg(test)]
