@@ -1,8 +1,5 @@
 //! A waiter that makes a call of the cache in the middle of another one: what it finds taken, it
 //! gives up at. The next try is answered.
-ghost use Rattle.std.specs.Prelude.{ℕ, ◌≡◌, ◌<◌};
-ghost use Rattle.tex_world.specs.World.{IsFile};
-
 use crate::asks::Ask::{Hold, Info, Invalidate, InvalidateAll, Pixels, Texture};
 use crate::asks::{Answer, Ask, Look};
 use crate::folder::{cache_of, second_of};
@@ -12,7 +9,7 @@ use crate::worker::Worker;
 use std::alloc::Global;
 use std::cell::Cell;
 use std::test::Fail;
-use tex_world::{MemTap, Tap};
+use tex_world::MemTap;
 use texel_filter::Filter::Bilinear;
 use texel_filter::Wrap::Clamp;
 use waiter::{GaveUp, Tries, Waiter};
@@ -25,15 +22,14 @@ const LAST_TRY: u32 = 16;
 
 // At the k-th time that it is asked for its tries, another caller makes a call by one try.
 #[derive(Drop)]
-struct Nosy<'a, T: Tap> {
-    caller: Cell<Option<Worker<'a, T>>>,
+struct Nosy<'a> {
+    caller: Cell<Option<Worker<'a, MemTap<SmallFiles>>>>,
     ask: (usize, Ask),
     left: Cell<u32>,
     answer: Cell<Answer>,
-    ghost told: { (file : ℕ) → file < 5 → IsFile T.W.files file },
 }
 
-impl<'a, T: Tap + Drop> Nosy<'a, T> {
+impl<'a> Nosy<'a> {
     // Makes the call, if it is time.
     fn look_in(&self) {
         let left = self.left.get();
@@ -47,9 +43,15 @@ impl<'a, T: Tap + Drop> Nosy<'a, T> {
             self.caller.set(Some(caller));
         }
     }
+
+    // What the call answered, and the other caller.
+    fn into_parts(self) -> (Answer, Option<Worker<'a, MemTap<SmallFiles>>>) {
+        let Nosy { caller, answer, .. } = self;
+        (answer.into_inner(), caller.into_inner())
+    }
 }
 
-impl<T: Tap + Drop> Waiter for Nosy<'_, T> {
+impl Waiter for Nosy<'_> {
     type Busy = GaveUp;
 
     ghost tries_of = { λ _. 1 };
@@ -138,14 +140,7 @@ static ROWS: &[Row] = &[
 
 // What a call answers that is made inside another one at the k-th time that this one asks its waiter
 // for its tries, and the same call behind it.
-fn answers<T: Tap + Drop>(
-    alloc: Global,
-    taps: (Vec<T>, Vec<T>),
-    row: &Row,
-    k: u32,
-) -> Result<(Answer, Answer), Fail>
-    requires { (file : ℕ) → file < 5 → IsFile T.W.files file }
-{
+fn answers(alloc: Global, row: &Row, k: u32) -> Result<(Answer, Answer), Fail> {
     let (_what, before, outer, inner, _answer) = *row;
     let (cache, mut pass) = cache_of(alloc, ONE_SHARD, 5)?;
     let second = second_of(&cache, &mut pass)?;
@@ -153,26 +148,26 @@ fn answers<T: Tap + Drop>(
         cache: &cache,
         shards: ONE_SHARD.shards,
         pass: second,
-        taps: taps.1,
+        taps: taps_of(alloc)?,
         out: Vec::new(alloc),
     };
     let _known = caller.answer(&Tries::new(1), PLAIN, before);
+    let mut worker = Worker {
+        cache: &cache,
+        shards: ONE_SHARD.shards,
+        pass,
+        taps: taps_of(alloc)?,
+        out: Vec::new(alloc),
+    };
     let nosy = Nosy {
         caller: Cell::new(Some(caller)),
         ask: inner,
         left: Cell::new(k),
         answer: Cell::new(Answer::Nothing),
     };
-    let mut worker = Worker {
-        cache: &cache,
-        shards: ONE_SHARD.shards,
-        pass,
-        taps: taps.0,
-        out: Vec::new(alloc),
-    };
     let _outer = worker.answer(&nosy, PLAIN, outer);
-    let inside = nosy.answer.get();
-    let behind = match nosy.caller.replace(None) {
+    let (inside, caller) = nosy.into_parts();
+    let behind = match caller {
         Some(mut caller) => caller.answer(&Tries::new(1), inner.0, inner.1),
         None => Answer::Other,
     };
@@ -181,16 +176,15 @@ fn answers<T: Tap + Drop>(
 
 // Whether the call of a row is once busy inside the other, and is then answered.
 fn is_met(alloc: Global, row: &Row) -> Result<bool, Fail> {
-    let mut busy = 0;
+    let mut busy = false;
     for k in 1..=LAST_TRY {
-        let taps: (Vec<MemTap<SmallFiles>>, _) = (taps_of(alloc)?, taps_of(alloc)?);
-        let (inside, behind) = answers(alloc, taps, row, k)?;
+        let (inside, behind) = answers(alloc, row, k)?;
         if behind != row.4 {
             return Ok(false);
         }
-        busy += u32::from(inside == Answer::Busy);
+        busy = busy || inside == Answer::Busy;
     }
-    Ok(busy > 0)
+    Ok(busy)
 }
 
 #[test]
