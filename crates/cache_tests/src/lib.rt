@@ -1,7 +1,7 @@
 //! Tests of the cache and of lookups through it. Over a real folder: values and counts of fetches.
 //! Over files in memory: regions, holds, records and lookups, files that are made invalid, generated
-//! levels, the refusals of each call, a pass that ends in another, and two threads. Options, and
-//! what refusals are called.
+//! levels, the refusals of each call, a pass that ends in another, two threads, and a shard that is
+//! taken. Options, and what refusals are called.
 #![tactic(auto)]
 
 #[cfg(test)]
@@ -42,6 +42,8 @@ mod rows;
 mod small_files;
 #[cfg(test)]
 mod steps;
+#[cfg(test)]
+mod taken;
 #[cfg(test)]
 mod threads;
 #[cfg(test)]
