@@ -111,10 +111,8 @@ impl<T: Tap> Cache<T> {
             return Ok(());
         }
         let asked = Invalid { file, force: false };
-        match self.renew(waiter, pass, tap, asked, looked) {
-            Ok(_newest) => Ok(()),
-            Err(e) => Err(e),
-        }
+        self.renew(waiter, pass, tap, asked, looked)?;
+        Ok(())
     }
 
     /// The newest generation of a file, of which this one was just looked at. It is made known, and
