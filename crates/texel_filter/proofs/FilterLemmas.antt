@@ -1,19 +1,19 @@
 -- From a level's texels to the value of a lookup.
 use Rattle.std.proofs.Common.{◌≡◌, ℕ, ◌+◌, ◌-◌, ◌*◌, ◌/◌, ◌^◌, ◌<◌, ◌≢◌, pos, Option, Some}
 use Rattle.std.proofs.Common.{List, [], ◌∷◌}
-use Rattle.std.proofs.Common.{sym, ◌∙◌, arith}
+use Rattle.std.proofs.Common.{sym, ap, ◌∙◌, arith}
 use Rattle.std.proofs.Math.Nat.{mul-div-mul_left}
 use Rattle.std.proofs.lemmas.Bool.{ne_eqb}
 use Rattle.texel_filter.specs.declared.request.TexRequest.{TexRequest}
 use Rattle.texel_filter.specs.declared.coordinate.LevelPair.{LevelPair}
 use Rattle.texel_filter.specs.Image.{Sizes, Values, Image, AreValues, image_of, texel_of}
-use Rattle.texel_filter.specs.Coordinate.{index_at, level_before, share_of_next_level}
+use Rattle.texel_filter.specs.Coordinate.{unit, index_at, level_before, share_of_next_level}
 use Rattle.texel_filter.specs.WrapMode.{wrapped_index}
-use Rattle.texel_filter.specs.Filter.{value_in, closest_in_level, blended, bilinear_in_level}
-use Rattle.texel_filter.specs.Filter.{trilinear_value}
+use Rattle.texel_filter.specs.Filter.{value_in, closest_in_level, bilinear_sum, bilinear_in_level}
+use Rattle.texel_filter.specs.Filter.{blended_sum, rounded_sum, trilinear_sum, trilinear_value}
 use Rattle.texel_filter.specs.Visits.{square_visits, trilinear_visits, texel_visits}
 use Rattle.texel_filter.proofs.WrapLemmas.{wrapped_there}
-use Rattle.texel_filter.specs.LevelPair.{between_value, between_visits}
+use Rattle.texel_filter.specs.LevelPair.{alone_sum, between_sum, between_value, between_visits}
 
 pub closest_at : (image : Image) (r : TexRequest) (l : ℕ) (x y : Option ℕ) (c : ℕ)
     → x ≡ wrapped_index r.swrap (index_at r.s (image.sizes.width l)) (image.sizes.width l)
@@ -41,10 +41,21 @@ module _ (sizes : Sizes) (r : TexRequest) (l x y : ℕ)
   visits_inside = rw (column, row)
 
 -- where the next level has no share
-pub blended_alone : (first next : ℕ) → blended 0 first next ≡ (first + 2 ^ 31) / 2 ^ 32
-blended_alone first next =
-    let e : (65536 - 0) * first + 0 * next + 2 ^ 47 ≡ 65536 * (first + 2 ^ 31) = omega arith in
-    rw e (mul-div-mul_left {m = 65536} (first + 2 ^ 31) (2 ^ 32) (omega arith))
+pub sum_alone : (first next : ℕ) → unit * first ≡ blended_sum 0 first next
+sum_alone first next = omega arith
+
+pub rounded_alone : (sum : ℕ) → (sum + 2 ^ 31) / 2 ^ 32 ≡ rounded_sum (unit * sum)
+rounded_alone sum =
+    let e : 65536 * sum + 2 ^ 47 ≡ 65536 * (sum + 2 ^ 31) = omega arith in
+    rw e (sym (mul-div-mul_left {m = 65536} (sum + 2 ^ 31) (2 ^ 32) (omega arith)))
+
+pub trisum_alone : (image : Image) (r : TexRequest) (l q c : ℕ)
+    → l ≡ level_before r.lod image.sizes.levels
+    → q ≡ share_of_next_level r.lod image.sizes.levels → q ≡ 0
+    → alone_sum image r l c ≡ trilinear_sum image r c
+unfolding trilinear_sum
+trisum_alone image r l q c first share none =
+    rw (← share, none, ← first) (sum_alone _ _)
 
 pub trilinear_alone : (image : Image) (r : TexRequest) (l q c : ℕ)
     → l ≡ level_before r.lod image.sizes.levels
@@ -52,14 +63,23 @@ pub trilinear_alone : (image : Image) (r : TexRequest) (l q c : ℕ)
     → bilinear_in_level image r l c ≡ trilinear_value image r c
 unfolding trilinear_value
 trilinear_alone image r l q c first share none =
-    rw (← share, none, ← first) (sym (blended_alone _ _))
+    rounded_alone (bilinear_sum image r l c)
+    ∙ ap rounded_sum (trisum_alone image r l q c first share none)
+
+pub trisum_between : (image : Image) (r : TexRequest) (levels : LevelPair) (c : ℕ)
+    → levels.first ≡ level_before r.lod image.sizes.levels
+    → levels.share ≡ share_of_next_level r.lod image.sizes.levels
+    → between_sum image r levels c ≡ trilinear_sum image r c
+unfolding trilinear_sum
+trisum_between image r levels c first share = rw (← share, ← first)
 
 pub trilinear_between : (image : Image) (r : TexRequest) (levels : LevelPair) (c : ℕ)
     → levels.first ≡ level_before r.lod image.sizes.levels
     → levels.share ≡ share_of_next_level r.lod image.sizes.levels
     → between_value image r levels c ≡ trilinear_value image r c
 unfolding trilinear_value
-trilinear_between image r levels c first share = rw (← share, ← first)
+trilinear_between image r levels c first share =
+    ap rounded_sum (trisum_between image r levels c first share)
 
 pub visits_alone : (sizes : Sizes) (r : TexRequest) (l q : ℕ) → l ≡ level_before r.lod sizes.levels
     → q ≡ share_of_next_level r.lod sizes.levels → q ≡ 0

@@ -1,5 +1,6 @@
 -- Which value does a lookup have? (docs/FILTERING.md, "Filters")
-use Rattle.std.specs.Prelude.{ℕ, ◌+◌, ◌-◌, ◌*◌, ◌/◌, ◌^◌, ℤ, pos, ◌+ℤ◌, Option, Some, None}
+use Rattle.std.specs.Prelude.{ℕ, ◌+◌, ◌-◌, ◌*◌, ◌/◌, ◌^◌, ◌<◌, ◌≤◌, ℤ, pos, ◌+ℤ◌}
+use Rattle.std.specs.Prelude.{Option, Some, None, List, length, slice_index}
 use Rattle.texel_filter.specs.declared.request.TexRequest.{TexRequest}
 use Rattle.texel_filter.specs.declared.request.Filter.{Filter}
 use Rattle.texel_filter.specs.declared.request.Filter.TheVariants.{Closest, Bilinear, Trilinear}
@@ -62,16 +63,32 @@ bilinear_value image r c = bilinear_in_level image r (nearest_level r.lod image.
 
 -- ---- trilinear
 
--- two sums by their weights, where q is the share of the second; the nearest value, a half up
-abbrev pub blended : ℕ → ℕ → ℕ → ℕ
-blended q first second = ((unit - q) * first + q * second + 2 ^ 47) / 2 ^ 48
+-- two sums by their weights, where q is the share of the second
+abbrev pub blended_sum : ℕ → ℕ → ℕ → ℕ
+blended_sum q first second = (unit - q) * first + q * second
 
--- The sums of the two levels about the LOD. Where q is 0 the second has no part in it.
-unfoldable pub trilinear_value : Image → TexRequest → ℕ → ℕ
-trilinear_value image r c =
+-- a sum over two levels as a value, rounded to the nearest, a half up
+abbrev pub rounded_sum : ℕ → ℕ
+rounded_sum sum = (sum + 2 ^ 47) / 2 ^ 48
+
+-- the sums of the two levels about the LOD, by their weights; where q is 0 the second has no part
+unfoldable pub trilinear_sum : Image → TexRequest → ℕ → ℕ
+trilinear_sum image r c =
     let l = level_before r.lod image.sizes.levels in
     let q = share_of_next_level r.lod image.sizes.levels in
-    blended q (bilinear_sum image r l c) (bilinear_sum image r (l + 1) c)
+    blended_sum q (bilinear_sum image r l c) (bilinear_sum image r (l + 1) c)
+
+-- the greatest such sum, where each of the values is 65535
+abbrev pub max_trilinear_sum : ℕ
+max_trilinear_sum = 65535 * 2 ^ 48
+
+-- none of these numbers is above it
+abbrev pub AreSums : List ℕ → Type 0
+AreSums listed = (c : ℕ) → c < length listed → slice_index listed c ≤ max_trilinear_sum
+
+-- the sum as a value
+unfoldable pub trilinear_value : Image → TexRequest → ℕ → ℕ
+trilinear_value image r c = rounded_sum (trilinear_sum image r c)
 
 -- ---- by the filter of the request
 

@@ -1,10 +1,10 @@
 -- Between which two levels does an LOD lie, and what is a lookup between them?
-use Rattle.std.specs.Prelude.{◌≡◌, ℕ, ◌+◌, ◌<◌, ◌≤◌, List, ◌++◌}
+use Rattle.std.specs.Prelude.{◌≡◌, ℕ, ◌+◌, ◌*◌, ◌<◌, ◌≤◌, List, ◌++◌}
 use Rattle.texel_filter.specs.declared.request.TexRequest.{TexRequest}
 use Rattle.texel_filter.specs.declared.coordinate.LevelPair.{LevelPair}
 use Rattle.texel_filter.specs.Image.{Sizes, Image, Texel}
 use Rattle.texel_filter.specs.Coordinate.{unit, level_before, share_of_next_level}
-use Rattle.texel_filter.specs.Filter.{bilinear_sum, blended}
+use Rattle.texel_filter.specs.Filter.{bilinear_sum, blended_sum, rounded_sum}
 use Rattle.texel_filter.specs.Visits.{square_visits}
 
 -- the levels about an LOD, and its share of the second
@@ -15,11 +15,19 @@ pub record AreLevelsAt (lod levels : ℕ) (pair : LevelPair) : Type 0 where
   pub next_inside : 1 ≤ pair.share → pair.first + 1 < levels
   pub below : pair.share < unit
 
+-- the sum of a channel where the first level has the whole weight
+abbrev pub alone_sum : Image → TexRequest → ℕ → ℕ → ℕ
+alone_sum image r l c = unit * bilinear_sum image r l c
+
+-- the sum of a channel over two levels
+abbrev pub between_sum : Image → TexRequest → LevelPair → ℕ → ℕ
+between_sum image r levels c =
+    blended_sum levels.share (bilinear_sum image r levels.first c)
+    (bilinear_sum image r (levels.first + 1) c)
+
 -- a channel of the lookup between two levels
 abbrev pub between_value : Image → TexRequest → LevelPair → ℕ → ℕ
-between_value image r levels c =
-    blended levels.share (bilinear_sum image r levels.first c)
-    (bilinear_sum image r (levels.first + 1) c)
+between_value image r levels c = rounded_sum (between_sum image r levels c)
 
 -- its visits
 abbrev pub between_visits : Sizes → TexRequest → LevelPair → List Texel

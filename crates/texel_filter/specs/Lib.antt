@@ -8,3 +8,4 @@ pub mod Calls
 pub mod Round
 pub mod LevelPair
 pub mod Weighted
+pub mod Deriv

@@ -3,6 +3,7 @@ ghost use Rattle.std.specs.Option.{ForSome};
 ghost use Rattle.texel_filter.specs.Image.{IsChannelCount, AreValues, image_of};
 ghost use Rattle.texel_filter.specs.Filter.{closest_value, bilinear_value, trilinear_value};
 ghost use Rattle.texel_filter.specs.Filter.{lookup_value, closest_in_level};
+ghost use Rattle.texel_filter.specs.Filter.{trilinear_sum, AreSums};
 ghost use Rattle.texel_filter.specs.Visits.{closest_visits, bilinear_visits, trilinear_visits};
 ghost use Rattle.texel_filter.specs.Visits.{lookup_visits, texel_visits};
 ghost use Rattle.texel_filter.specs.Calls.{LeftBy};
@@ -10,6 +11,7 @@ ghost use Rattle.texel_filter.specs.Calls.{LeftBy};
 use crate::coordinate::{LevelPair, level_near, place_inside, place_of};
 use crate::fetch::Fetch;
 use crate::request::{Filter, TexRequest};
+use crate::summing::{sum_between, sum_level};
 use crate::writing::{write_between, write_level, write_one, write_texel};
 
 // The share of a level that has no part in a lookup.
@@ -90,6 +92,27 @@ pub fn trilinear<F: Fetch>(f: &mut F, r: &TexRequest, out: &mut [u16]) -> Result
         write_level(f, r, levels.first, out)
     } else {
         write_between(f, r, levels, out)
+    }
+}
+
+/// Writes the sums of which `trilinear` writes the values, each of 48 bits below the value. No sum
+/// is above 65535 * 2^48, whatever the fetch answers.
+#[inline]
+pub fn trisum<F: Fetch>(f: &mut F, r: &TexRequest, out: &mut [u64]) -> Result<(), F::Error>
+    requires count { length out.old ≡ r.now.nch }
+    requires channels { IsChannelCount r.now.nch }
+    ensures told { ForSome (F.values f.old) (λ v.
+        OnOk result (AreValues (trilinear_sum (image_of (F.sizes f.old) v) r.now) out.new)) }
+    ensures high { OnOk result (AreSums out.new) }
+    ensures left { LeftBy F.leaves F.refuses f.old (trilinear_visits (F.sizes f.old) r.now)
+        f.new result }
+    ensures same { OnErr result (out.new ≡ out.old) }
+{
+    let levels = LevelPair::at(r.lod, f.levels());
+    if levels.share == NO_SHARE {
+        sum_level(f, r, levels.first, out)
+    } else {
+        sum_between(f, r, levels, out)
     }
 }
 

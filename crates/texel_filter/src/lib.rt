@@ -10,13 +10,14 @@ mod mode;
 mod request;
 mod round;
 mod square;
+mod summing;
 mod weighted;
 mod weights;
 mod writing;
 
 pub use fetch::Fetch;
-pub use filters::{bilinear, closest, lookup, trilinear};
+pub use filters::{bilinear, closest, lookup, trilinear, trisum};
 pub use index::wrap;
 pub use mode::Wrap;
-pub use request::{Filter, TexRequest};
+pub use request::{DerivRequest, Filter, TexRequest};
 pub use square::{Corners, Square};

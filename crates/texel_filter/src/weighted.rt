@@ -3,7 +3,8 @@ ghost use Rattle.std.specs.Option.{ForSome};
 ghost use Rattle.texel_filter.specs.Image.{IsChannelCount, AreValues, image_of};
 ghost use Rattle.tiff_format.specs.Limits.{max_channels};
 ghost use Rattle.texel_filter.specs.Coordinate.{unit};
-ghost use Rattle.texel_filter.specs.Filter.{blended};
+ghost use Rattle.texel_filter.specs.Filter.{blended_sum, rounded_sum, max_trilinear_sum};
+ghost use Rattle.texel_filter.specs.Filter.{AreSums};
 ghost use Rattle.texel_filter.specs.Visits.{square_visits};
 ghost use Rattle.texel_filter.specs.Calls.{LeftBy};
 ghost use Rattle.texel_filter.specs.Weighted.{sum_of, max_sum, HasSums};
@@ -109,12 +110,39 @@ impl Weighted {
         requires share { share < unit }
         requires channels { IsChannelCount n }
         requires count { length out.old ≡ n }
-        ensures { AreValues (λ c. blended share (sum_of self.now c) (sum_of next.now c)) out.new }
+        ensures { AreValues (λ c.
+            rounded_sum (blended_sum share (sum_of self.now c) (sum_of next.now c))) out.new }
     {
-        let (of_next, of_first) = (u64::from(share), UNIT - u64::from(share));
         for c in 0..n {
-            let sum = of_first * self.sum(c) + of_next * next.sum(c);
+            let sum = self.sum_with(next, share, c);
             out[c] = ((sum + HALF_BLEND) >> BLEND_BITS) as u16;
         }
+    }
+
+    /// Writes those sums as they are.
+    #[inline(always)]
+    pub fn sums(&self, next: &Weighted, share: u32, n: usize, out: &mut [u64])
+        requires share { share < unit }
+        requires channels { IsChannelCount n }
+        requires count { length out.old ≡ n }
+        ensures value { AreValues (λ c.
+            blended_sum share (sum_of self.now c) (sum_of next.now c)) out.new }
+        ensures high { AreSums out.new }
+    {
+        for c in 0..n {
+            out[c] = self.sum_with(next, share, c);
+        }
+    }
+
+    // The sum over two levels of a channel, by the share of the next one.
+    #[inline(always)]
+    fn sum_with(&self, next: &Weighted, share: u32, c: usize) -> u64
+        requires share { share < unit }
+        requires channel { c < max_channels }
+        ensures value { result ≡ blended_sum share (sum_of self.now c) (sum_of next.now c) }
+        ensures high { result ≤ max_trilinear_sum }
+    {
+        let (of_next, of_first) = (u64::from(share), UNIT - u64::from(share));
+        of_first * self.sum(c) + of_next * next.sum(c)
     }
 }
