@@ -1,0 +1,5 @@
+pub mod LevelLemmas
+pub mod NumberLemmas
+pub mod PlanLemmas
+pub mod PlaceLemmas
+pub mod MeanLemmas

@@ -1,0 +1,4 @@
+pub mod Footprint
+pub mod Probe
+pub mod Mean
+pub mod Sums
