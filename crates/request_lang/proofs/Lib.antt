@@ -7,4 +7,6 @@ mod LineLemmas
 mod TextLemmas
 pub mod AppendLemmas
 mod PaddedTextLemmas
+mod FormLemmas
 pub mod ChannelLemmas
+pub mod FootprintLemmas

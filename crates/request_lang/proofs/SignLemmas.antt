@@ -5,7 +5,7 @@ use Rattle.std.proofs.Common.{Result, Ok, Err, refl, sym, ap, ◌∙◌, arith, 
 use Rattle.std.specs.Prelude.{ℤ, pos, neg_ℤ}
 use Rattle.std.proofs.lemmas.Bool.{eqb-true}
 use Rattle.request_lang.specs.LineField.{before_space, from_space}
-use Rattle.request_lang.specs.LineField.{cut, spelled, mapped, signed, number_within, max_below, max_above}
+use Rattle.request_lang.specs.LineField.{cut, spelled, mapped, signed_within, number_within}
 use Rattle.request_lang.specs.declared.cause.Cause.{Cause}
 use Rattle.request_lang.proofs.SpaceLemmas.{space_at-is, space_at_cons}
 
@@ -40,36 +40,35 @@ regroup : {A : Type 0} (f : ℕ → A) (r : Result ℕ Cause) (rest : List ℕ)
 regroup f (Ok n) rest = refl
 regroup f (Err cause) rest = refl
 
-minus_parts : (field rest more after : List ℕ) → (get_or field 0 0 == 45) ≡ true
-    → drop 1 field ≡ more → rest ≡ after
-    → mapped {B = ℤ × List ℕ} (λ v. (v, rest)) (signed field)
-    ≡ mapped {B = ℤ × List ℕ} (λ g. (neg_ℤ (pos g.0), g.1))
-    (mapped {B = ℕ × List ℕ} (λ v. (v, after)) (number_within 0 max_below more))
-unfolding signed
-minus_parts field rest more after e p q =
-    rw (e, p, q) (regroup (λ n. neg_ℤ (pos n)) (number_within 0 max_below more) after)
+module _ (below above : ℕ) where
+  minus_parts : (field rest more after : List ℕ) → (get_or field 0 0 == 45) ≡ true
+      → drop 1 field ≡ more → rest ≡ after
+      → mapped {B = ℤ × List ℕ} (λ v. (v, rest)) (signed_within below above field)
+      ≡ mapped {B = ℤ × List ℕ} (λ g. (neg_ℤ (pos g.0), g.1))
+      (mapped {B = ℕ × List ℕ} (λ v. (v, after)) (number_within 0 below more))
+  minus_parts field rest more after e p q =
+      rw (e, p, q) (regroup (λ n. neg_ℤ (pos n)) (number_within 0 below more) after)
 
-plain_parts : (field rest : List ℕ) → (get_or field 0 0 == 45) ≡ false
-    → mapped {B = ℤ × List ℕ} (λ v. (v, rest)) (signed field)
-    ≡ mapped {B = ℤ × List ℕ} (λ g. (pos g.0, g.1))
-    (mapped {B = ℕ × List ℕ} (λ v. (v, rest)) (number_within 0 max_above field))
-unfolding signed
-plain_parts field rest e = rw e (regroup (λ n. pos n) (number_within 0 max_above field) rest)
+  plain_parts : (field rest : List ℕ) → (get_or field 0 0 == 45) ≡ false
+      → mapped {B = ℤ × List ℕ} (λ v. (v, rest)) (signed_within below above field)
+      ≡ mapped {B = ℤ × List ℕ} (λ g. (pos g.0, g.1))
+      (mapped {B = ℕ × List ℕ} (λ v. (v, rest)) (number_within 0 above field))
+  plain_parts field rest e = rw e (regroup (λ n. pos n) (number_within 0 above field) rest)
 
--- what a text spells up to its first space, where a `-` stands first and where none does
-pub signed_minus : (text : List ℕ) → (get_or text 0 0 == 45) ≡ true
-    → spelled signed (Ok (cut text))
-    ≡ mapped {B = ℤ × List ℕ} (λ g. (neg_ℤ (pos g.0), g.1))
-    (spelled (number_within 0 max_below) (Ok (cut (drop 1 text))))
-signed_minus text e =
-    let behind = behind_minus text e in
-    minus_parts (before_space text) (from_space text) _ _ (first_minus text ∙ e) behind.0 behind.1
+  -- what a text spells up to its first space, where a `-` stands first and where none does
+  pub signed_minus : (text : List ℕ) → (get_or text 0 0 == 45) ≡ true
+      → spelled (signed_within below above) (Ok (cut text))
+      ≡ mapped {B = ℤ × List ℕ} (λ g. (neg_ℤ (pos g.0), g.1))
+      (spelled (number_within 0 below) (Ok (cut (drop 1 text))))
+  signed_minus text e =
+      let behind = behind_minus text e in
+      minus_parts (before_space text) (from_space text) _ _ (first_minus text ∙ e) behind.0 behind.1
 
-pub signed_plain : (text : List ℕ) → (get_or text 0 0 == 45) ≡ false
-    → spelled signed (Ok (cut text))
-    ≡ mapped {B = ℤ × List ℕ} (λ g. (pos g.0, g.1))
-    (spelled (number_within 0 max_above) (Ok (cut text)))
-signed_plain text e = plain_parts (before_space text) (from_space text) (first_minus text ∙ e)
+  pub signed_plain : (text : List ℕ) → (get_or text 0 0 == 45) ≡ false
+      → spelled (signed_within below above) (Ok (cut text))
+      ≡ mapped {B = ℤ × List ℕ} (λ g. (pos g.0, g.1))
+      (spelled (number_within 0 above) (Ok (cut text)))
+  signed_plain text e = plain_parts (before_space text) (from_space text) (first_minus text ∙ e)
 
 -- a text that begins with a byte is not empty
 pub some_text : (text : List ℕ) → get_or text 0 0 ≡ 45 → 0 < length text

@@ -1,8 +1,8 @@
 -- What does an answer rest on, is it a refusal, and which generations does it print?
 use Rattle.std.specs.Prelude.{ℕ, Bool, true, false, Option, Some, None}
 use Rattle.request_lang.specs.declared.answer.Answer.{Answer}
-use Rattle.request_lang.specs.declared.answer.Answer.TheVariants.{Tex, Pixels, Info, Held, Dropped}
-use Rattle.request_lang.specs.declared.answer.Answer.TheVariants.{Invalidated, Renewed}
+use Rattle.request_lang.specs.declared.answer.Answer.TheVariants.{Tex, Texd, Pixels, Info, Held}
+use Rattle.request_lang.specs.declared.answer.Answer.TheVariants.{Dropped, Invalidated, Renewed}
 use Rattle.request_lang.specs.declared.answer.Answer.TheVariants.{InvalidatedAll, Stat, Synced}
 use Rattle.request_lang.specs.declared.answer.Answer.TheVariants.{NoSuchFile, BadFile, TileTooLarge}
 use Rattle.request_lang.specs.declared.answer.Answer.TheVariants.{NoLevel, Outside, RegionTooLarge}
@@ -40,6 +40,7 @@ refusal_on basis = record { refusal = true; basis = basis }
 -- The table of the answers. All else that tells them apart is a function of it.
 abbrev pub kind_of : Answer → Kind
 kind_of (Tex generation values) = answer_on (OnBytes generation)
+kind_of (Texd generation values) = answer_on (OnBytes generation)
 kind_of (Pixels generation channels values) = answer_on (OnBytes generation)
 kind_of (Info info) = answer_on (OnBytes info.generation)
 kind_of (Held generation rect) = answer_on (OnBytes generation)

@@ -13,8 +13,8 @@ use Rattle.request_lang.specs.declared.cause.BadList.{BadList}
 use Rattle.request_lang.specs.LineField.{space}
 use Rattle.request_lang.specs.Grammar.{line_feed}
 use Rattle.request_lang.specs.declared.answer.Answer.{Answer}
-use Rattle.request_lang.specs.declared.answer.Answer.TheVariants.{Tex, Pixels, Info, Held, Dropped}
-use Rattle.request_lang.specs.declared.answer.Answer.TheVariants.{Invalidated, Renewed}
+use Rattle.request_lang.specs.declared.answer.Answer.TheVariants.{Tex, Texd, Pixels, Info, Held}
+use Rattle.request_lang.specs.declared.answer.Answer.TheVariants.{Dropped, Invalidated, Renewed}
 use Rattle.request_lang.specs.declared.answer.Answer.TheVariants.{InvalidatedAll, Stat, Synced}
 use Rattle.request_lang.specs.declared.answer.Answer.TheVariants.{NoSuchFile, BadFile, TileTooLarge}
 use Rattle.request_lang.specs.declared.answer.Answer.TheVariants.{NoLevel, Outside, RegionTooLarge}
@@ -72,12 +72,14 @@ shard_text shard =
 -- the 16-bit values that end a line, if it has some
 abbrev pub values_in : Answer → List ℕ
 values_in (Tex generation values) = values
+values_in (Texd generation values) = values
 values_in (Pixels generation channels values) = values
 values_in _ = []
 
 -- The line of an answer up to these values.
 unfoldable pub head_of : Answer → List ℕ
 head_of (Tex generation values) = codes "tex" ++ fields (generation ∷ [])
+head_of (Texd generation values) = codes "texd" ++ fields (generation ∷ [])
 head_of (Pixels generation channels values) =
     codes "pixels" ++ fields (generation ∷ channels ∷ [])
 head_of (Info info) = codes "info" ++ fields (info_numbers info)

@@ -82,6 +82,14 @@ max_above = 2 ^ 31 - 1
 abbrev pub max_below : ℕ
 max_below = 2 ^ 31
 
+-- the largest number of a footprint that has no `-`
+abbrev pub max_footprint_above : ℕ
+max_footprint_above = 2 ^ 30 - 1
+
+-- the largest one behind a `-`
+abbrev pub max_footprint_below : ℕ
+max_footprint_below = 2 ^ 30
+
 -- the fewest channels that a lookup asks for
 abbrev pub min_channels : ℕ
 min_channels = 1
@@ -109,12 +117,20 @@ unsigned text = number_within 0 max_unsigned text
 abbrev pub channel_count : List ℕ → Result ℕ Cause
 channel_count text = number_within min_channels max_channels text
 
--- S, T, and X and Y of a region: the same where one `-` may stand first
-unfoldable pub signed : List ℕ → Result ℤ Cause
-signed text =
+-- a number where one `-` may stand first, with the largest one behind it and the largest without it
+abbrev pub signed_within : ℕ → ℕ → List ℕ → Result ℤ Cause
+signed_within below above text =
     if slice_index text 0 == minus
-    then mapped (λ n. neg_ℤ (pos n)) (number_within 0 max_below (drop 1 text))
-    else mapped pos (number_within 0 max_above text)
+    then mapped (λ n. neg_ℤ (pos n)) (number_within 0 below (drop 1 text))
+    else mapped pos (number_within 0 above text)
+
+-- S, T, and X and Y of a region: a number of 32 bits where one `-` may stand first
+unfoldable pub signed : List ℕ → Result ℤ Cause
+signed text = signed_within max_below max_above text
+
+-- S, T and the four derivatives of a footprint: the same of 31 bits
+unfoldable pub footprint_number : List ℕ → Result ℤ Cause
+footprint_number text = signed_within max_footprint_below max_footprint_above text
 
 -- ---- words
 

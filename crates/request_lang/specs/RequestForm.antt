@@ -1,17 +1,20 @@
--- Which request is a line? (docs/REQUESTS.md, "The ten forms")
+-- Which request is a line? (docs/REQUESTS.md, "The forms")
 use Rattle.std.specs.Prelude.{ℕ, ◌==◌, codes, List, [], ◌∷◌, length, Option, Some, None}
-use Rattle.std.specs.Prelude.{Result, Ok, Err, if◌then◌else◌, Bool, true, nat_le, ◌&&◌}
+use Rattle.std.specs.Prelude.{Result, Ok, Err, if◌then◌else◌, Bool, true, nat_le, ◌&&◌, ⊤}
 use Rattle.std.specs.Str.{is_utf8}
 use Rattle.request_lang.specs.declared.request.Request.{Request}
-use Rattle.request_lang.specs.declared.request.Request.TheVariants.{Tex, Pixels, Info, Hold, Drop}
+use Rattle.request_lang.specs.declared.request.Request.TheVariants.{Tex, Texd, Pixels, Info, Hold}
+use Rattle.request_lang.specs.declared.request.Request.TheVariants.{Drop}
 use Rattle.request_lang.specs.declared.request.Request.TheVariants.{Invalidate, Renew}
 use Rattle.request_lang.specs.declared.request.Request.TheVariants.{InvalidateAll, Stat, Sync}
 use Rattle.request_lang.specs.declared.cause.Cause.{Cause}
 use Rattle.request_lang.specs.declared.cause.Cause.TheVariants.{UnknownWord, TrailingText, NotUtf8}
 use Rattle.request_lang.specs.LineField.{before_space, from_space, field, name_field, mapped}
 use Rattle.request_lang.specs.LineField.{meaning}
-use Rattle.tiff_format.specs.Limits.{max_channels}
 use Rattle.request_lang.specs.LineField.{min_channels, signed, unsigned, channel_count, wrap_mode, filter_mode}
+use Rattle.request_lang.specs.LineField.{footprint_number}
+use Rattle.tiff_format.specs.Limits.{max_channels}
+use Rattle.texel_filter.specs.Deriv.{IsDerivRequest}
 
 -- a form: what the bytes behind the word of a line ask for, or the first cause for which they are
 -- none of that form
@@ -59,6 +62,30 @@ tex = do
     nch = nch;
   }))
 
+-- texd S T DSDX DTDX DSDY DTDY SWRAP TWRAP NCH NAME
+unfoldable pub texd : RequestForm
+texd = do
+  s ← footprint_number
+  t ← footprint_number
+  dsdx ← footprint_number
+  dtdx ← footprint_number
+  dsdy ← footprint_number
+  dtdy ← footprint_number
+  swrap ← wrap_mode
+  twrap ← wrap_mode
+  nch ← channel_count
+  named (Texd (record {
+    s = s;
+    t = t;
+    dsdx = dsdx;
+    dtdx = dtdx;
+    dsdy = dsdy;
+    dtdy = dtdy;
+    swrap = swrap;
+    twrap = twrap;
+    nch = nch;
+  }))
+
 -- pixels LEVEL X Y W H NAME
 unfoldable pub pixels : RequestForm
 pixels = do
@@ -80,14 +107,21 @@ hold = do
 -- a lookup asks for a number of channels that it may ask for
 abbrev pub has_channels : Request → Bool
 has_channels (Tex r name) = nat_le min_channels r.nch && nat_le r.nch max_channels
+has_channels (Texd r name) = nat_le min_channels r.nch && nat_le r.nch max_channels
 has_channels _ = true
 
--- ---- the ten forms
+-- a lookup along a footprint asks for numbers that it may ask for
+abbrev pub HasFootprint : Request → Type 0
+HasFootprint (Texd r name) = IsDerivRequest r
+HasFootprint _ = ⊤
+
+-- ---- the forms
 
 -- the form that each word begins
 abbrev pub forms : List (List ℕ × RequestForm)
 forms =
     (codes "tex", tex)
+    ∷ (codes "texd", texd)
     ∷ (codes "pixels", pixels)
     ∷ (codes "info", named Info)
     ∷ (codes "hold", hold)

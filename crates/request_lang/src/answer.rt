@@ -107,6 +107,11 @@ pub enum Answer {
         generation: u32,
         values: Values,
     },
+    /// The value of each channel that a lookup along a footprint asked for.
+    Texd {
+        generation: u32,
+        values: Values,
+    },
     /// The values of a region: row by row, channels side by side.
     Pixels {
         generation: u32,
@@ -184,7 +189,9 @@ impl Answer {
         ensures { result.now ≡ values_in self.now }
     {
         match self {
-            Answer::Tex { values, .. } | Answer::Pixels { values, .. } => values.as_slice(),
+            Answer::Tex { values, .. }
+            | Answer::Texd { values, .. }
+            | Answer::Pixels { values, .. } => values.as_slice(),
             _ => &[],
         }
     }
@@ -195,6 +202,7 @@ impl Answer {
     {
         match self {
             Answer::Tex { .. }
+            | Answer::Texd { .. }
             | Answer::Pixels { .. }
             | Answer::Info(_)
             | Answer::Held { .. }

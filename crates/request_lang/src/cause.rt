@@ -8,7 +8,7 @@ use std::alloc::{AllocError, AllocFailed};
 /// Why a line is no request, or a list is none.
 #[derive(Clone, Copy, Debug, PartialEq, Eq)]
 pub(crate) enum Cause {
-    /// The word of the line is none of the ten.
+    /// The word of the line is none of those that begin a form.
     UnknownWord,
     /// The line ended in front of a field, or its name is empty.
     MissingField,

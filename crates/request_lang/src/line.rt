@@ -121,6 +121,7 @@ fn push_head(out: &mut Vec<u8>, answer: &Answer) -> Result<(), AllocError>
 {
     match answer {
         Answer::Tex { generation, .. } => push_line(out, "tex", &[u64::from(*generation)]),
+        Answer::Texd { generation, .. } => push_line(out, "texd", &[u64::from(*generation)]),
         Answer::Pixels {
             generation,
             channels,

@@ -23,6 +23,12 @@ const MAX_ABOVE: u32 = i32::MAX as u32;
 /// The largest number behind a `-`.
 const MAX_BELOW: u32 = 1 << 31;
 
+/// The largest number of a footprint that has no `-`.
+const MAX_FOOTPRINT_ABOVE: u32 = (1 << 30) - 1;
+
+/// The largest one behind a `-`.
+const MAX_FOOTPRINT_BELOW: u32 = 1 << 30;
+
 /// The fewest channels that a lookup asks for.
 const MIN_CHANNELS: u32 = 1;
 
@@ -138,24 +144,26 @@ fn above_zero(number: u32) -> i32
 }
 
 /// The number that a text behind a `-` spells, and what stands from its first space on.
-fn negative(text: &str) -> Result<(i32, &str), Cause>
+fn negative(most: u32, text: &str) -> Result<(i32, &str), Cause>
+    requires { most ≤ spec.max_below }
     ensures { spec.mapped (λ f. (f.0, f.1.now)) result
         ≡ spec.mapped {B = ℤ × List ℕ} (λ f. (neg_ℤ (pos f.0), f.1))
-        (spec.spelled (spec.number_within 0 spec.max_below) (Ok (spec.cut text.now))) }
+        (spec.spelled (spec.number_within 0 most) (Ok (spec.cut text.now))) }
 {
-    match number_within(0, MAX_BELOW, text) {
+    match number_within(0, most, text) {
         Ok((number, rest)) => Ok((below_zero(number), rest)),
         Err(cause) => Err(cause),
     }
 }
 
 /// The number that a text without a `-` spells, and what stands from its first space on.
-fn positive(text: &str) -> Result<(i32, &str), Cause>
+fn positive(most: u32, text: &str) -> Result<(i32, &str), Cause>
+    requires { most ≤ spec.max_above }
     ensures { spec.mapped (λ f. (f.0, f.1.now)) result
         ≡ spec.mapped {B = ℤ × List ℕ} (λ f. (pos f.0, f.1))
-        (spec.spelled (spec.number_within 0 spec.max_above) (Ok (spec.cut text.now))) }
+        (spec.spelled (spec.number_within 0 most) (Ok (spec.cut text.now))) }
 {
-    match number_within(0, MAX_ABOVE, text) {
+    match number_within(0, most, text) {
         Ok((number, rest)) => Ok((above_zero(number), rest)),
         Err(cause) => Err(cause),
     }
@@ -169,25 +177,38 @@ fn begins_with_minus(text: &str) -> bool
     0 < bytes.len() && bytes[0] == b'-'
 }
 
-/// The number that a text spells before its first space, where one `-` may stand first, and what
-/// stands from there on.
-fn signed_field(text: &str) -> Result<(i32, &str), Cause>
+/// The number that a text spells before its first space, where one `-` may stand first, with the
+/// largest one behind it and the largest without it, and what stands from there on.
+fn signed_field(below: u32, above: u32, text: &str) -> Result<(i32, &str), Cause>
+    requires below { below ≤ spec.max_below }
+    requires above { above ≤ spec.max_above }
     ensures { spec.mapped (λ f. (f.0, f.1.now)) result
-        ≡ spec.spelled spec.signed (Ok (spec.cut text.now)) }
+        ≡ spec.spelled (spec.signed_within below above) (Ok (spec.cut text.now)) }
 {
     if begins_with_minus(text) {
-        return negative(&text[1..]);
+        return negative(below, &text[1..]);
     }
-    positive(text)
+    positive(above, text)
 }
 
 /// The next field as a number that may have a `-`, and what stands behind it.
-#[tactic(auto, unfolding(crate::specs::LineField::next_field))]
+#[tactic(auto, unfolding(crate::specs::LineField::next_field, crate::specs::LineField::signed))]
 pub(crate) fn signed(rest: &str) -> Result<(i32, &str), Cause>
     ensures { spec.mapped (λ f. (f.0, f.1.now)) result ≡ spec.field spec.signed rest.now }
 {
     match behind_space(rest) {
-        Some(text) => signed_field(text),
+        Some(text) => signed_field(MAX_BELOW, MAX_ABOVE, text),
+        None => Err(Cause::MissingField),
+    }
+}
+
+/// The next field as a number of a footprint, and what stands behind it.
+#[tactic(auto, unfolding(crate::specs::LineField::next_field, crate::specs::LineField::footprint_number))]
+pub(crate) fn footprint_number(rest: &str) -> Result<(i32, &str), Cause>
+    ensures { spec.mapped (λ f. (f.0, f.1.now)) result ≡ spec.field spec.footprint_number rest.now }
+{
+    match behind_space(rest) {
+        Some(text) => signed_field(MAX_FOOTPRINT_BELOW, MAX_FOOTPRINT_ABOVE, text),
         None => Err(Cause::MissingField),
     }
 }

@@ -6,7 +6,7 @@ ghost use Rattle.std.specs.String.{string_bytes};
 use crate::short_text::{MAX_SHORT, ShortText};
 use std::alloc::{AllocError, Global};
 use std::marker::Model;
-use texel_filter::TexRequest;
+use texel_filter::{DerivRequest, TexRequest};
 
 /// The text of a name.
 #[derive(Drop)]
@@ -71,6 +71,11 @@ pub enum Request {
     /// A lookup in a file.
     Tex {
         request: TexRequest,
+        name: Name,
+    },
+    /// A lookup in a file along a footprint.
+    Texd {
+        request: DerivRequest,
         name: Name,
     },
     /// A region of a level: w by h texels from (x, y) on.

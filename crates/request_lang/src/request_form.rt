@@ -1,4 +1,4 @@
-//! The ten forms of a line.
+//! The forms of a line.
 
 ghost use Rattle.std.specs.Prelude.{◌≡◌, true, false, drop};
 ghost use Rattle.std.specs.Option.{IfNone, IfSome};
@@ -9,12 +9,12 @@ ghost use Rattle.request_lang.specs.Parsing.{Gives};
 
 use crate::cause::{Cause, Refusal};
 use crate::line_field::{
-    behind_word, channel_count, filter_mode, name, signed, unsigned, wrap_mode,
+    behind_word, channel_count, filter_mode, footprint_number, name, signed, unsigned, wrap_mode,
 };
 use crate::request::Request;
 use std::alloc::Global;
 use std::str::{from_utf8, from_utf8_unchecked};
-use texel_filter::TexRequest;
+use texel_filter::{DerivRequest, TexRequest};
 
 /// `tex S T LOD SWRAP TWRAP FILTER NCH NAME`, behind its word.
 #[tactic(auto, unfolding(crate::specs::RequestForm::tex))]
@@ -39,6 +39,35 @@ fn tex(alloc: Global, rest: &str) -> Result<Request, Refusal>
         nch,
     };
     Ok(Request::Tex { request, name })
+}
+
+/// `texd S T DSDX DTDX DSDY DTDY SWRAP TWRAP NCH NAME`, behind its word.
+#[tactic(auto, unfolding(crate::specs::RequestForm::texd))]
+fn texd(alloc: Global, rest: &str) -> Result<Request, Refusal>
+    ensures { Gives result (spec.texd rest.now) }
+{
+    let (s, rest) = footprint_number(rest)?;
+    let (t, rest) = footprint_number(rest)?;
+    let (dsdx, rest) = footprint_number(rest)?;
+    let (dtdx, rest) = footprint_number(rest)?;
+    let (dsdy, rest) = footprint_number(rest)?;
+    let (dtdy, rest) = footprint_number(rest)?;
+    let (swrap, rest) = wrap_mode(rest)?;
+    let (twrap, rest) = wrap_mode(rest)?;
+    let (nch, rest) = channel_count(rest)?;
+    let name = name(alloc, rest)?;
+    let request = DerivRequest {
+        s,
+        t,
+        dsdx,
+        dtdx,
+        dsdy,
+        dtdy,
+        swrap,
+        twrap,
+        nch,
+    };
+    Ok(Request::Texd { request, name })
 }
 
 /// `pixels LEVEL X Y W H NAME`, behind its word.
@@ -84,10 +113,10 @@ fn alone(request: Request, rest: &str) -> Result<Request, Refusal>
     Ok(request)
 }
 
-/// The request of a text whose word is none of the first four.
+/// The request of a text whose word is none of the first five.
 fn of_later_word(alloc: Global, text: &str) -> Result<Request, Refusal>
     ensures { Gives result
-        (spec.formed (meaning (drop 4 spec.forms) (before_space text.now)) (from_space text.now)) }
+        (spec.formed (meaning (drop 5 spec.forms) (before_space text.now)) (from_space text.now)) }
 {
     if let Some(rest) = behind_word(text, "drop") {
         return alone(Request::Drop, rest);
@@ -119,6 +148,9 @@ fn of_text(alloc: Global, text: &str) -> Result<Request, Refusal>
 {
     if let Some(rest) = behind_word(text, "tex") {
         return tex(alloc, rest);
+    }
+    if let Some(rest) = behind_word(text, "texd") {
+        return texd(alloc, rest);
     }
     if let Some(rest) = behind_word(text, "pixels") {
         return pixels(alloc, rest);
