@@ -1,0 +1,2 @@
+pub mod Udim
+pub mod Parts
