@@ -14,9 +14,9 @@ use Rattle.tile_layout.specs.Kept.{Kept, kept_of}
 use Rattle.tile_layout.specs.Cell.{CellsFit}
 use Rattle.tile_layout.specs.Value.{channel_value_of}
 use Rattle.file_table.specs.Record.{RecordState, IsRecord, layout_of}
-use Rattle.texel_filter.specs.declared.request.TexRequest.{TexRequest}
+use Rattle.texture_sys.specs.declared.lookup_request.LookupRequest.{LookupRequest}
 use Rattle.texel_filter.specs.Image.{AreValues, image_of}
-use Rattle.texel_filter.specs.Filter.{lookup_value}
+use Rattle.texture_sys.specs.Asked.{channels_asked, asked_value}
 use Rattle.texture_sys.specs.Look.{sizes_known, sizes_by, picture_of}
 use Rattle.texture_sys.specs.Call.{IsLookOn}
 use Rattle.std.proofs.lemmas.Option.{none-some, same_Some}
@@ -68,10 +68,10 @@ module _ (bytes : List ℕ) where
   bad_layout layout shown is bad = bad_by (first_fault bytes) layout shown is bad
 
 -- the values of a lookup on a record are those of the lookup on its bytes
-pub look_told : (files : Files) (state : RecordState) (r : TexRequest) (out bytes : List ℕ)
+pub look_told : (files : Files) (state : RecordState) (r : LookupRequest) (out bytes : List ℕ)
     → IsRecord files state → IsOkAnd state.layout (λ kept. CellsFit kept state.cut)
-    → length out ≡ r.nch → files.held state.file state.generation ≡ Some bytes
-    → AreValues (lookup_value (image_of (sizes_known state) (channel_value_of bytes)) r) out
+    → length out ≡ (channels_asked r) → files.held state.file state.generation ≡ Some bytes
+    → AreValues (asked_value (image_of (sizes_known state) (channel_value_of bytes)) r) out
     → IsLookOn state.cut bytes r out
 look_told files state r out bytes honest fits long held are =
     let good = good_layout bytes state.layout (λ kept. CellsFit kept state.cut)
@@ -79,8 +79,8 @@ look_told files state r out bytes honest fits long held are =
     record {
       good = good.0;
       fits = good.2;
-      values = listed (lookup_value (picture_of state.cut bytes) r) r.nch out long
-          (subst (λ (l : Result Kept TiffFault). AreValues (lookup_value
+      values = listed (asked_value (picture_of state.cut bytes) r) (channels_asked r) out long
+          (subst (λ (l : Result Kept TiffFault). AreValues (asked_value
           (image_of (sizes_by state.cut l) (channel_value_of bytes)) r) out) good.1 are);
     }
 

@@ -11,7 +11,7 @@ use Rattle.tile_layout.specs.Kept.{kept_of}
 use Rattle.tile_layout.specs.Cell.{CellsFit}
 use Rattle.file_table.specs.Record.{RecordState}
 use Rattle.file_table.specs.Calls.{sighted, GivesRecord, KeepsView}
-use Rattle.texel_filter.specs.declared.request.TexRequest.{TexRequest}
+use Rattle.texture_sys.specs.declared.lookup_request.LookupRequest.{LookupRequest}
 use Rattle.image_cache.specs.declared.error.CacheError.{CacheError}
 use Rattle.image_cache.specs.declared.error.CacheError.TheVariants as refused
 use Rattle.image_cache.specs.Call.{NoneFalls}
@@ -43,7 +43,7 @@ module _ (files : Files) (file : ℕ) (cut : Cut) (old mid new : ViewState) (k :
   held_as g bytes is held = ap (λ (n : ℕ). files.held n k.generation) given.of_file
       ∙ (ap (λ (n : ℕ). files.held file n) (sym is) ∙ held)
 
-  pub texture_value : {E : Type 0} (r : TexRequest) (out : List ℕ) (result : Result ℕ E)
+  pub texture_value : {E : Type 0} (r : LookupRequest) (out : List ℕ) (result : Result ℕ E)
       → IfOk result (λ g. g ≡ k.generation)
       → ForSome (files.held k.file k.generation) (λ bytes. OnOk result (IsLookOn k.cut bytes r out))
       → IfOk result (Answers files file cut r old new out)

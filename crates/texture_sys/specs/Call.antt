@@ -11,7 +11,7 @@ use Rattle.tile_layout.specs.Kept.{kept_of}
 use Rattle.tile_layout.specs.Cell.{CellsFit}
 use Rattle.file_table.specs.Record.{RecordState}
 use Rattle.file_table.specs.Calls.{Sighted, MeetsNewer, GivesRecord, KeepsView}
-use Rattle.texel_filter.specs.declared.request.TexRequest.{TexRequest}
+use Rattle.texture_sys.specs.declared.lookup_request.LookupRequest.{LookupRequest}
 use Rattle.image_cache.specs.declared.error.CacheError.{CacheError}
 use Rattle.image_cache.specs.declared.error.CacheError.TheVariants as refused
 use Rattle.image_cache.specs.Pass.{PassState, SamePlace}
@@ -31,13 +31,13 @@ pub record IsOfGeneration (files : Files) (file : ℕ) (old new : ViewState) (ge
 
 -- The bytes show no fault, each cell takes no more memory than a cell may, and the values are those
 -- of the lookup on them.
-pub record IsLookOn (cut : Cut) (bytes : List ℕ) (r : TexRequest) (out : List ℕ) : Type 0 where
+pub record IsLookOn (cut : Cut) (bytes : List ℕ) (r : LookupRequest) (out : List ℕ) : Type 0 where
   pub good : first_fault bytes ≡ None
   pub fits : CellsFit (kept_of bytes) cut
   pub values : out ≡ look_on cut bytes r
 
 -- The values are those of a lookup on the bytes of one generation of a file, where the world tells.
-pub record Answers (files : Files) (file : ℕ) (cut : Cut) (r : TexRequest) (old new : ViewState)
+pub record Answers (files : Files) (file : ℕ) (cut : Cut) (r : LookupRequest) (old new : ViewState)
     (out : List ℕ) (generation : ℕ) : Type 0 where
   pub of : IsOfGeneration files file old new generation
   pub value : ForSome (files.held file generation) (λ bytes. IsLookOn cut bytes r out)
@@ -94,7 +94,7 @@ pub record AfterLookup (file : ℕ) (old new : PassState) : Type 0 where
 
 -- The record is that of the generation that was answered, and the cells that the lookup needed of
 -- it were asked for, one after another.
-pub record IsLookedUp (files : Files) (file : ℕ) (cut : Cut) (r : TexRequest) (old new : PassState)
+pub record IsLookedUp (files : Files) (file : ℕ) (cut : Cut) (r : LookupRequest) (old new : PassState)
     (generation : ℕ) (state : RecordState) : Type 0 where
   pub given : GivesRecord files file cut old.view new.view state
   pub of : state.generation ≡ generation
@@ -122,7 +122,7 @@ KeepsAfter files file cut old new e =
 
 -- Which record the pass then keeps: the one that was looked at. Where the file was not opened it is
 -- as before.
-abbrev pub KeepsRecord : {B : Type 0} → Files → ℕ → Cut → TexRequest → PassState → PassState
+abbrev pub KeepsRecord : {B : Type 0} → Files → ℕ → Cut → LookupRequest → PassState → PassState
     → Result ℕ (CacheError B) → Type 0
 KeepsRecord files file cut r old new (Ok generation) =
     IsSomeAnd new.latest (IsLookedUp files file cut r old new generation)
@@ -138,7 +138,7 @@ pub record IsReady (file : ℕ) (pass : PassState) (state : RecordState) : Type 
   pub newest : slice_index pass.view.seen file ≤ state.generation
 
 -- And the microcache has each cell that the lookup needs.
-pub record IsWarm (file : ℕ) (r : TexRequest) (pass : PassState) (state : RecordState)
+pub record IsWarm (file : ℕ) (r : LookupRequest) (pass : PassState) (state : RecordState)
     : Type 0 where
   pub ready : IsReady file pass state
   pub cells : HasCells state pass.pinned.recent (visits_on state r)
@@ -153,7 +153,7 @@ AnswersWarm file generation old new result =
 
 -- The record is of this file, of the number that was just seen, and fits its cut, and the
 -- microcache has each cell that the lookup needs.
-pub record ServesLocally (file : ℕ) (r : TexRequest) (old new : PassState) (state : RecordState)
+pub record ServesLocally (file : ℕ) (r : LookupRequest) (old new : PassState) (state : RecordState)
     : Type 0 where
   pub serves : Serves file new.view state
   pub cells : HasCells state old.pinned.recent (visits_on state r)

@@ -1,3 +1,4 @@
+pub mod Asked
 pub mod Look
 pub mod Needs
 pub mod Fetches

@@ -8,9 +8,9 @@ use Rattle.tile_layout.specs.Kept.{Kept, kept_of}
 use Rattle.tile_layout.specs.Level.{width_in, height_in, level_count_in}
 use Rattle.tile_layout.specs.Value.{channel_value_in}
 use Rattle.file_table.specs.Record.{RecordState}
-use Rattle.texel_filter.specs.declared.request.TexRequest.{TexRequest}
+use Rattle.texture_sys.specs.declared.lookup_request.LookupRequest.{LookupRequest}
 use Rattle.texel_filter.specs.Image.{Sizes, Image, image_of}
-use Rattle.texel_filter.specs.Filter.{lookup_value}
+use Rattle.texture_sys.specs.Asked.{channels_asked, asked_value}
 
 -- ---- of what is kept of a file
 
@@ -33,8 +33,8 @@ abbrev pub picture_of : Cut → List ℕ → Image
 picture_of cut bytes = picture_in (kept_of bytes) cut bytes
 
 -- what a lookup on it answers, channel by channel
-abbrev pub look_on : Cut → List ℕ → TexRequest → List ℕ
-look_on cut bytes r = map (lookup_value (picture_of cut bytes) r) (range_with_len 0 r.nch)
+abbrev pub look_on : Cut → List ℕ → LookupRequest → List ℕ
+look_on cut bytes r = map (asked_value (picture_of cut bytes) r) (range_with_len 0 (channels_asked r))
 
 -- ---- of a record
 

@@ -6,9 +6,9 @@ use Rattle.tiff_format.specs.declared.cut.Cut.{Cut}
 use Rattle.tile_layout.specs.Kept.{Kept}
 use Rattle.tile_store.specs.Tile.{CachedTile}
 use Rattle.file_table.specs.Record.{RecordState}
-use Rattle.texel_filter.specs.declared.request.TexRequest.{TexRequest}
+use Rattle.texture_sys.specs.declared.lookup_request.LookupRequest.{LookupRequest}
 use Rattle.texel_filter.specs.Image.{Texel}
-use Rattle.texel_filter.specs.Visits.{lookup_visits}
+use Rattle.texture_sys.specs.Asked.{asked_visits}
 use Rattle.texel_values.specs.declared.texel_at.TexelAt.{TexelAt}
 use Rattle.image_cache.specs.Pass.{PassState, SameCounts, counted_together}
 use Rattle.image_cache.specs.Texel.{has_cell_at, cell_of}
@@ -20,8 +20,8 @@ abbrev pub at_of : Texel → TexelAt
 at_of texel = record { level = texel.level; x = texel.x; y = texel.y }
 
 -- the texels that a lookup on a record visits, one after another
-abbrev pub visits_on : RecordState → TexRequest → List Texel
-visits_on state r = lookup_visits (sizes_known state) r
+abbrev pub visits_on : RecordState → LookupRequest → List Texel
+visits_on state r = asked_visits (sizes_known state) r
 
 -- ---- the microcache has them
 

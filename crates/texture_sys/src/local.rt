@@ -6,21 +6,23 @@ ghost use Rattle.std.specs.Option.{ForSome};
 ghost use Rattle.tex_world.specs.World.{IsFile};
 ghost use Rattle.gen_board.specs.View.{AfterStep};
 ghost use Rattle.texel_filter.specs.Image.{IsChannelCount, AreValues, image_of};
-ghost use Rattle.texel_filter.specs.Filter.{lookup_value};
 ghost use Rattle.texel_filter.specs.Calls.{LeftBy};
 ghost use Rattle.image_cache.specs.Pass.{IsPassOf, KeepsAllButView};
 ghost use Rattle.image_cache.specs.Call.{CountsOn, KeepsAllButRecent};
+ghost use Rattle.texture_sys.specs.Asked.{channels_asked, MayBeLookedUp, asked_value};
 ghost use Rattle.texture_sys.specs.Look.{sizes_known};
 ghost use Rattle.texture_sys.specs.Needs.{visits_on, HasCells, AsksForCells};
 ghost use Rattle.texture_sys.specs.Fetches.{IsUnder, FetchesKept, Lacks, values_known};
 ghost use Rattle.texture_sys.specs.Call.{Answers, IsLookOn, IsLookedUp, AfterLookup};
 ghost use Rattle.texture_sys.specs.Call.{ServesLocally};
 
+use crate::asking::look_for;
 use crate::kept::{KeptCells, KeptTexels, Lacking};
 use crate::known::Known;
+use crate::lookup_request::LookupRequest;
 use image_cache::{Cache, Pass};
 use tex_world::Tap;
-use texel_filter::{TexRequest, lookup};
+use texel_filter::TexRequest;
 use tiff_format::MAX_CHANNELS;
 
 /// Writes the values of a lookup, where the record that the pass keeps is of the newest known
@@ -39,9 +41,9 @@ pub fn texture_local<T: Tap>(
     requires count { length out.old ≡ r.now.nch }
     requires channels { IsChannelCount r.now.nch }
     ensures some { IsSome result
-        ↔ IsSomeAnd pass.old.latest (ServesLocally file r.now pass.old pass.new) }
-    ensures value { IfSome result (Answers T.W.files file cache.now.gate.cut r.now
-        pass.old.view pass.new.view out.new) }
+        ↔ IsSomeAnd pass.old.latest (ServesLocally file (LookupRequest.Point r.now) pass.old pass.new) }
+    ensures value { IfSome result (Answers T.W.files file cache.now.gate.cut
+        (LookupRequest.Point r.now) pass.old.view pass.new.view out.new) }
     ensures none { IsNone result
         → (out.new ≡ out.old) × KeepsAllButView pass.old pass.new }
     // What the call leaves.
@@ -49,7 +51,7 @@ pub fn texture_local<T: Tap>(
     ensures look { AfterStep file (slice_index pass.new.view.seen file)
         pass.old.view pass.new.view }
     ensures kept { IfSome result (λ generation. IsSomeAnd pass.new.latest (IsLookedUp T.W.files
-        file cache.now.gate.cut r.now pass.old pass.new generation)) }
+        file cache.now.gate.cut (LookupRequest.Point r.now) pass.old pass.new generation)) }
     ensures latest { pass.new.latest ≡ pass.old.latest }
 {
     let Some(read) = cache.local(pass, file) else {
@@ -57,7 +59,8 @@ pub fn texture_local<T: Tap>(
     };
     let known = Known::of(read);
     let generation = known.read().generation();
-    let looked = look_local(cache, pass, &known, r, out);
+    let r = LookupRequest::Point(*r);
+    let looked = look_local(cache, pass, &known, &r, out);
     cache.keep(pass, known.into_read());
     if looked { Some(generation) } else { None }
 }
@@ -67,14 +70,14 @@ fn look_local<T: Tap>(
     cache: &Cache<T>,
     pass: &mut Pass<T::W>,
     known: &Known<T::W>,
-    r: &TexRequest,
+    r: &LookupRequest,
     out: &mut [u16],
 ) -> bool
     requires pass { IsPassOf cache.now pass.old }
     requires few { length pass.old.pinned.recent ≤ 2 }
     requires under { IsUnder cache.now known.now }
-    requires count { length out.old ≡ r.now.nch }
-    requires channels { IsChannelCount r.now.nch }
+    requires count { length out.old ≡ channels_asked r.now }
+    requires asked { MayBeLookedUp r.now }
     ensures has { IsTrue result
         ↔ HasCells known.now pass.old.pinned.recent (visits_on known.now r.now) }
     ensures value { IsTrue result →
@@ -99,17 +102,17 @@ fn has_cells<T: Tap>(
     cache: &Cache<T>,
     pass: &Pass<T::W>,
     known: &Known<T::W>,
-    r: &TexRequest,
+    r: &LookupRequest,
 ) -> bool
     requires pass { IsPassOf cache.now pass.now }
     requires under { IsUnder cache.now known.now }
-    requires channels { IsChannelCount r.now.nch }
+    requires asked { MayBeLookedUp r.now }
     ensures { IsTrue result
         ↔ HasCells known.now pass.now.pinned.recent (visits_on known.now r.now) }
 {
     let mut cells = KeptCells { cache, pass, known };
     let mut no_values = [0; MAX_CHANNELS];
-    lookup(&mut cells, r, &mut no_values[..r.nch as usize]).is_ok()
+    look_for(&mut cells, r, &mut no_values[..r.channels() as usize]).is_ok()
 }
 
 /// Writes the values of a lookup on a record. The microcache has all cells that it needs.
@@ -117,15 +120,15 @@ fn write_kept<T: Tap>(
     cache: &Cache<T>,
     pass: &mut Pass<T::W>,
     known: &Known<T::W>,
-    r: &TexRequest,
+    r: &LookupRequest,
     out: &mut [u16],
 )
     requires pass { IsPassOf cache.now pass.old }
     requires few { length pass.old.pinned.recent ≤ 2 }
     requires under { IsUnder cache.now known.now }
     requires cells { HasCells known.now pass.old.pinned.recent (visits_on known.now r.now) }
-    requires count { length out.old ≡ r.now.nch }
-    requires channels { IsChannelCount r.now.nch }
+    requires count { length out.old ≡ channels_asked r.now }
+    requires asked { MayBeLookedUp r.now }
     ensures value { ForSome (T.W.files.held known.now.file known.now.generation) (λ bytes.
         IsLookOn known.now.cut bytes r.now out.new) }
     ensures asks { AsksForCells T.W.files known.now (visits_on known.now r.now)
@@ -148,19 +151,19 @@ fn fetch_kept<T: Tap>(
     cache: &Cache<T>,
     pass: &mut Pass<T::W>,
     known: &Known<T::W>,
-    r: &TexRequest,
+    r: &LookupRequest,
     out: &mut [u16],
 ) -> Result<(), Lacking>
     requires pass { IsPassOf cache.now pass.old }
     requires under { IsUnder cache.now known.now }
-    requires count { length out.old ≡ r.now.nch }
-    requires channels { IsChannelCount r.now.nch }
+    requires count { length out.old ≡ channels_asked r.now }
+    requires asked { MayBeLookedUp r.now }
     ensures told { ForSome (values_known T.W.files known.now) (λ v. OnOk result
-        (AreValues (lookup_value (image_of (sizes_known known.now) v) r.now) out.new)) }
+        (AreValues (asked_value (image_of (sizes_known known.now) v) r.now) out.new)) }
     ensures left { LeftBy (FetchesKept T.W.files known.now) (Lacks known.now)
         pass.old (visits_on known.now r.now) pass.new result }
     ensures err { OnErr result (out.new ≡ out.old) }
 {
     let mut texels = KeptTexels { cache, pass, known };
-    lookup(&mut texels, r, out)
+    look_for(&mut texels, r, out)
 }

@@ -5,13 +5,13 @@ ghost use Rattle.std.specs.Option.{ForSome};
 ghost use Rattle.tex_world.specs.World.{IsFile};
 ghost use Rattle.tile_layout.specs.Cell.{CellsFit};
 ghost use Rattle.file_table.specs.Calls.{sighted, GivesRecord};
-ghost use Rattle.texel_filter.specs.Image.{IsChannelCount, AreValues, image_of};
-ghost use Rattle.texel_filter.specs.Filter.{lookup_value};
+ghost use Rattle.texel_filter.specs.Image.{AreValues, image_of};
 ghost use Rattle.texel_filter.specs.Calls.{LeftBy};
 ghost use Rattle.shard_gate.specs.Since.{PurgesNone};
 ghost use Rattle.image_cache.specs.Pass.{IsPassOf};
 ghost use Rattle.image_cache.specs.Call.{AfterNeed, CountsOn, NoneFalls};
 ghost use Rattle.image_cache.specs.Cause.{OpeningCause, FetchCause, KeepsRecentAt};
+ghost use Rattle.texture_sys.specs.Asked.{channels_asked, MayBeLookedUp, asked_value};
 ghost use Rattle.texture_sys.specs.Look.{sizes_known};
 ghost use Rattle.texture_sys.specs.Needs.{visits_on, HasCells, AsksForCells};
 ghost use Rattle.texture_sys.specs.Fetches.{IsUnder, Fetches, Refuses, pass_tap, values_known};
@@ -20,31 +20,32 @@ ghost use Rattle.texture_sys.specs.Call.{AfterLookup, KeepsRecord};
 ghost use Rattle.texture_sys.specs.Call.{IsReady, IsWarm, AnswersWarm};
 ghost use Rattle.texture_sys.specs.Steps.{LookCause, AfterOpening, AfterLook};
 
+use crate::asking::look_for;
 use crate::cached::CachedTexels;
 use crate::known::Known;
+use crate::lookup_request::LookupRequest;
 use file_table::Record;
 use image_cache::{Cache, CacheError, Pass};
 use std::sync::Arc;
 use tex_world::{Tap, World};
-use texel_filter::{TexRequest, lookup};
 use waiter::Waiter;
 
-/// Writes the values of a lookup on the newest known generation of a file, and answers which that
-/// is.
-pub fn texture<V: Waiter, T: Tap>(
+/// Writes the values of a lookup of either kind on the newest known generation of a file, and answers
+/// which that is.
+pub(crate) fn texture_of<V: Waiter, T: Tap>(
     cache: &Cache<T>,
     waiter: &V,
     pass: &mut Pass<T::W>,
     tap: &mut T,
     file: u32,
-    r: &TexRequest,
+    r: &LookupRequest,
     out: &mut [u16],
 ) -> Result<u32, CacheError<V::Busy>>
     requires pass { IsPassOf cache.now pass.old }
     requires file { file < cache.now.files.board.files }
     requires told { IsFile T.W.files file }
-    requires count { length out.old ≡ r.now.nch }
-    requires channels { IsChannelCount r.now.nch }
+    requires count { length out.old ≡ channels_asked r.now }
+    requires asked { MayBeLookedUp r.now }
     ensures value { IfOk result (Answers T.W.files file cache.now.gate.cut r.now
         pass.old.view pass.new.view out.new) }
     ensures cause { IfErr result (TextureCause T.W.files file cache.now.gate.cut
@@ -111,7 +112,7 @@ fn look_at<V: Waiter, T: Tap>(
     pass: &mut Pass<T::W>,
     tap: &mut T,
     read: Arc<Record<T::W>>,
-    r: &TexRequest,
+    r: &LookupRequest,
     out: &mut [u16],
 ) -> Result<u32, CacheError<V::Busy>>
     requires pass { IsPassOf cache.now pass.old }
@@ -119,8 +120,8 @@ fn look_at<V: Waiter, T: Tap>(
     requires under { IsUnder cache.now read.value }
     requires told { IsFile T.W.files read.value.file }
     requires seen { read.value.generation ≤ slice_index pass.old.view.seen read.value.file }
-    requires count { length out.old ≡ r.now.nch }
-    requires channels { IsChannelCount r.now.nch }
+    requires count { length out.old ≡ channels_asked r.now }
+    requires asked { MayBeLookedUp r.now }
     ensures ok { IfOk result (λ generation. generation ≡ read.value.generation) }
     ensures value { ForSome (T.W.files.held read.value.file read.value.generation) (λ bytes.
         OnOk result (IsLookOn read.value.cut bytes r.now out.new)) }
@@ -178,14 +179,14 @@ fn look_up<V: Waiter, T: Tap>(
     pass: &mut Pass<T::W>,
     tap: &mut T,
     known: &Known<T::W>,
-    r: &TexRequest,
+    r: &LookupRequest,
     out: &mut [u16],
 ) -> Result<(), CacheError<V::Busy>>
     requires pass { IsPassOf cache.now pass.old }
     requires few { length pass.old.pinned.recent ≤ 2 }
     requires under { IsUnder cache.now known.now }
-    requires count { length out.old ≡ r.now.nch }
-    requires channels { IsChannelCount r.now.nch }
+    requires count { length out.old ≡ channels_asked r.now }
+    requires asked { MayBeLookedUp r.now }
     ensures value { ForSome (T.W.files.held known.now.file known.now.generation) (λ bytes.
         OnOk result (IsLookOn known.now.cut bytes r.now out.new)) }
     ensures cause { IfErr result (FetchCause T.W.files known.now pass.new.view
@@ -215,15 +216,15 @@ fn fetch_all<V: Waiter, T: Tap>(
     pass: &mut Pass<T::W>,
     tap: &mut T,
     known: &Known<T::W>,
-    r: &TexRequest,
+    r: &LookupRequest,
     out: &mut [u16],
 ) -> Result<(), CacheError<V::Busy>>
     requires pass { IsPassOf cache.now pass.old }
     requires under { IsUnder cache.now known.now }
-    requires count { length out.old ≡ r.now.nch }
-    requires channels { IsChannelCount r.now.nch }
+    requires count { length out.old ≡ channels_asked r.now }
+    requires asked { MayBeLookedUp r.now }
     ensures told { ForSome (values_known T.W.files known.now) (λ v. OnOk result
-        (AreValues (lookup_value (image_of (sizes_known known.now) v) r.now) out.new)) }
+        (AreValues (asked_value (image_of (sizes_known known.now) v) r.now) out.new)) }
     ensures left { LeftBy (Fetches T.W.files known.now) (Refuses T.W.files known.now)
         (pass_tap pass.old (T.state tap.old)) (visits_on known.now r.now)
         (pass_tap pass.new (T.state tap.new)) result }
@@ -237,5 +238,5 @@ fn fetch_all<V: Waiter, T: Tap>(
         tap,
         known,
     };
-    lookup(&mut texels, r, out)
+    look_for(&mut texels, r, out)
 }

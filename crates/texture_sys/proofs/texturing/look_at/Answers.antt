@@ -1,9 +1,10 @@
 -- The cells were asked for before the record was kept.
-use Rattle.std.proofs.Common.{subst}
+use Rattle.std.proofs.Common.{◌≡◌, List, ℕ, Option, Some, ap, refl, subst, sym, ◌∙◌}
 use Rattle.file_table.specs.Record.{RecordState}
 use Rattle.image_cache.specs.Pass.{PassState}
 use Rattle.image_cache.proofs.UnreadLemmas.{recent_of, recent_same, at_kept, at_fetch, at_between}
-use Rattle.texture_sys.specs.Needs.{visits_on, AsksForCells}
+use Rattle.texture_sys.specs.Call.{IsLookOn}
+use Rattle.texture_sys.specs.Needs.{visits_on, HasCells, AsksForCells}
 use Rattle.texture_sys.proofs.Asked.{asks_to}
 use Rattle.texture_sys.proofs.Visits.{visits_none, visits_before}
 use Rattle.texture_sys.proofs.texturing.look_at.Goals as goal
@@ -41,3 +42,19 @@ returns-in-Err-looked-clause-unread g c =
     (recent_of looked new c.keep-2.ensures.same)
     (at_fetch c.in-Err-looked.e old looked _ c.of-known.result _ _ _
     c.in-Err-looked.ensures.cause)
+
+pub returns-in-Ok-clause-value : goal.returns-in-Ok-clause-value
+returns-in-Ok-clause-value g c = λ bytes held.
+    subst (λ (k : RecordState). g.T.W.World.files.held k.file k.generation ≡ Some bytes
+    → IsLookOn k.cut bytes c.args.r.now c.look_up-looked.new.out) c.of-known.ensures
+    (c.in-Ok.ensures.value bytes) held
+
+pub returns-in-Ok-clause-warm : goal.returns-in-Ok-clause-warm
+returns-in-Ok-clause-warm g c = λ fits cells.
+    let generation : c.generation-generation.result ≡ c.args.read.value.generation =
+    c.generation-generation.ensures.value ∙ ap (λ (k : RecordState). k.generation)
+    (c.read.ensures.value ∙ c.of-known.ensures) in
+    let warm = c.in-Ok.ensures.warm (subst (λ (k : RecordState).
+    HasCells k c.args.pass.now.pinned.recent (visits_on k c.args.r.now)) (sym c.of-known.ensures)
+    cells) in
+    (rw generation refl, warm.1)

@@ -7,7 +7,7 @@ use Rattle.texture_sys.proofs.KeptRecord.{texture_kept, opening_cause, opening_k
 use Rattle.texture_sys.proofs.Warm.{texture_warm}
 use Rattle.texture_sys.proofs.LookLemmas.{by_error}
 use Rattle.texture_sys.proofs.Visits.{visits_none, visits_after}
-use Rattle.texture_sys.proofs.texturing.texture.Goals as goal
+use Rattle.texture_sys.proofs.texturing.texture_of.Goals as goal
 
 pub returns-clause-value : goal.returns-clause-value
 returns-clause-value g c =
