@@ -11,7 +11,9 @@ mod Sums
 mod CrewLemmas
 mod PassLemmas
 mod TallyLemmas
+mod VisitCounts
 mod NeedLemmas
+mod Naming
 mod OneMore
 mod Rounds
 mod Folders

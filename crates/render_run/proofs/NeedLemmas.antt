@@ -1,10 +1,11 @@
 -- What a call of the cache leaves of what a worker has counted.
 use Rattle.std.proofs.Common.{◌≡◌, ℕ, zero, suc, ◌+◌, ◌-◌, ◌*◌, ◌/◌, ◌<◌, ◌≤◌, ◌==◌, Bool, true, false, List, [], ◌++◌}
-use Rattle.std.proofs.Common.{length, refl, sym, ap, subst, ◌∙◌, Option, Some, None, Result, Ok, Err}
+use Rattle.std.proofs.Common.{length, take, refl, sym, ap, subst, ◌∙◌, Option, Some, None, Result, Ok, Err}
 use Rattle.std.proofs.Common.{if◌then◌else◌, ℤ, pos, ◌+ℤ◌, arith}
 use Rattle.std.specs.Prelude.{IsSomeAnd, IsSome, IfOk}
 use Rattle.std.specs.Option.{ForSome}
 use Rattle.std.proofs.lemmas.List.{length-map, length-append}
+use Rattle.std.proofs.Math.Seq.{take-append_seam}
 use Rattle.std.proofs.lemmas.List.FromFn.{length-map-range_with_len}
 use Rattle.std.proofs.Math.Nat.{mul-le-mul, mul-le-mul_left, add-mul, mul_comm}
 use native.Mathlib.Nat.{lt-div-mul-add, div-lt_iff_lt-mul, div-zero}
@@ -18,15 +19,8 @@ use Rattle.tile_layout.specs.Cell.{CutLevel, cut_level_in, cut_level_of}
 use Rattle.tile_layout.specs.Grid.{shown_grid}
 use Rattle.file_table.specs.Record.{RecordState}
 use Rattle.file_table.specs.Calls.{GivesRecord}
-use Rattle.texel_filter.specs.declared.request.TexRequest.{TexRequest}
-use Rattle.texel_filter.specs.declared.request.Filter.{Filter}
-use Rattle.texel_filter.specs.declared.request.Filter.TheVariants.{Closest, Bilinear, Trilinear}
-use Rattle.texel_filter.specs.Image.{Sizes, Texel}
-use Rattle.texel_filter.specs.Coordinate.{share_of_next_level, level_before, nearest_level, index_at}
-use Rattle.texel_filter.specs.Coordinate.{index_before}
-use Rattle.texel_filter.specs.WrapMode.{wrapped_index}
-use Rattle.texel_filter.specs.Visits.{visit_in, square_visits, trilinear_visits, lookup_visits}
-use Rattle.texel_filter.specs.Visits.{visits_by, wrapped_visit}
+use Rattle.texture_sys.specs.declared.lookup_request.LookupRequest.{LookupRequest}
+use Rattle.texture_sys.specs.Asked.{asked_visits}
 use Rattle.texel_values.specs.declared.overlap.Overlap.{Overlap}
 use Rattle.texel_values.specs.declared.region.Region.{Region}
 use Rattle.texel_values.specs.Region.{max_texels}
@@ -46,14 +40,16 @@ use Rattle.texture_sys.specs.Call.{IsLookedUp}
 use Rattle.request_lang.specs.declared.answer.Answer.{Answer}
 use Rattle.request_lang.specs.declared.answer.Answer.TheVariants as line
 use Rattle.request_lang.specs.Basis.{basis_of}
+use Rattle.render_run.specs.declared.question.Question.{Question}
 use Rattle.render_run.specs.declared.question.Question.TheVariants.{Look, Values}
 use Rattle.render_run.specs.declared.question.Task.{Task}
-use Rattle.render_run.specs.declared.question.Task.TheVariants.{Ask}
+use Rattle.render_run.specs.declared.question.Task.TheVariants.{Ask, Tile}
 use Rattle.render_run.specs.Around.{Tally, tally_of}
-use Rattle.render_run.specs.Needed.{AreNeeded, met_keys, empties, is_calm}
+use Rattle.render_run.specs.Needed.{AreNeeded, look_keys, met_keys, empties, is_calm}
 use Rattle.render_run.specs.Refusal.{refusal_of}
 use Rattle.render_run.specs.Tallied.{TalliesAs, TalliesAnswer}
 use Rattle.render_run.proofs.GivenLemmas.{kept_told}
+use Rattle.render_run.proofs.VisitCounts.{visits_few}
 
 -- ---- nothing was needed
 
@@ -100,6 +96,18 @@ module _ (files : Files) (cut : Cut) (task : Task) (old new : Tally) (line : Ans
     counts = λ tells calm low. absurd (cc (fails, calm));
   }
 
+-- a question to the file of a tile counts as one to any file
+pub tile_tally : (files : Files) (cut : Cut) (n : ℕ) (q : Question) (old new : Tally) (line : Answer)
+    → TalliesAnswer files cut (Ask (Some n) q) old new line
+    → TalliesAnswer files cut (Tile (Some n) q) old new line
+tile_tally files cut n q old new line t = record {
+  needed = t.needed;
+  are = t.are;
+  few = t.few;
+  least = t.least;
+  counts = t.counts;
+}
+
 -- a refusal empties nothing
 pub refusal_keeps : {B : Type 0} → (e : CacheError B) → empties (refusal_of e) ≡ false
 refusal_keeps (refused.BadFile generation fault) = refl
@@ -115,7 +123,7 @@ refusal_keeps (refused.Busy b) = refl
 
 module _ (files : Files) (cut : Cut) (file : ℕ) (old new : PassState) where
   -- a refused lookup needs nothing that is counted in its line
-  look_refused : {B : Type 0} → (r : TexRequest) (e : CacheError B)
+  look_refused : {B : Type 0} → (r : LookupRequest) (e : CacheError B)
       → AreNeeded files cut (Ask (Some file) (Look r)) (refusal_of e) []
   look_refused r (refused.BadFile generation fault) = refl
   look_refused r (refused.TileTooLarge generation) = refl
@@ -173,7 +181,7 @@ module _ (files : Files) (cut : Cut) (file : ℕ) (old new : PassState) where
   refused_by {B = B} task refused.HoldsFull none kept on =
       refused_kept {B = B} task refused.HoldsFull none kept
 
-  pub look_fails : {B : Type 0} → (r : TexRequest) (e : CacheError B) → KeepsRecentAt old new e
+  pub look_fails : {B : Type 0} → (r : LookupRequest) (e : CacheError B) → KeepsRecentAt old new e
       → CountsOn old new
       → TalliesAnswer files cut (Ask (Some file) (Look r)) (tally_of old) (tally_of new)
       (refusal_of e)
@@ -207,72 +215,6 @@ needs_tally files cut task line keys old new are few needs kept = record {
         hits = needs.hits tells;
       });
 }
-
--- ---- how many a lookup needs
-
-visit_few : (l : ℕ) (x y : Option ℕ) → length (visit_in l x y) ≤ 1
-visit_few l (Some x) (Some y) = omega arith
-visit_few l (Some x) None = omega arith
-visit_few l None y = omega arith
-
-four_few : (a b c d : List Texel) → length a ≤ 1 → length b ≤ 1 → length c ≤ 1 → length d ≤ 1
-    → length (a ++ b ++ c ++ d) ≤ 4
-four_few a b c d la lb lc ld =
-    omega (
-      arith,
-      length-append (a ++ b ++ c) d,
-      length-append (a ++ b) c,
-      length-append a b,
-      la,
-      lb,
-      lc,
-      ld,
-    )
-
-module _ (sizes : Sizes) (r : TexRequest) where
-  wrapped_few : (l : ℕ) (i j : ℤ) → length (wrapped_visit sizes r l i j) ≤ 1
-  wrapped_few l i j =
-      visit_few l (wrapped_index r.swrap i (sizes.width l)) (wrapped_index r.twrap j (sizes.height l))
-
-  square_few : (l : ℕ) → length (square_visits sizes r l) ≤ 4
-  unfolding square_visits
-  square_few l =
-      let i = index_before r.s (sizes.width l) in
-      let j = index_before r.t (sizes.height l) in
-      four_few (wrapped_visit sizes r l i j) (wrapped_visit sizes r l (i +ℤ pos 1) j)
-      (wrapped_visit sizes r l i (j +ℤ pos 1)) (wrapped_visit sizes r l (i +ℤ pos 1) (j +ℤ pos 1))
-      (wrapped_few l i j) (wrapped_few l (i +ℤ pos 1) j) (wrapped_few l i (j +ℤ pos 1))
-      (wrapped_few l (i +ℤ pos 1) (j +ℤ pos 1))
-
-  pair_few : (b : Bool) (l m : ℕ) → length (if b then square_visits sizes r l
-      else square_visits sizes r l ++ square_visits sizes r m) ≤ 8
-  pair_few true l m = omega (arith, square_few l)
-  pair_few false l m =
-      omega (
-        arith,
-        length-append (square_visits sizes r l) (square_visits sizes r m),
-        square_few l,
-        square_few m,
-      )
-
-  trilinear_few : length (trilinear_visits sizes r) ≤ 8
-  unfolding trilinear_visits
-  trilinear_few =
-      pair_few (share_of_next_level r.lod sizes.levels == 0) (level_before r.lod sizes.levels)
-      (level_before r.lod sizes.levels + 1)
-
-  by_filter : (f : Filter) → length (visits_by f sizes r) ≤ 8
-  by_filter Closest =
-      let l = nearest_level r.lod sizes.levels in
-      omega (
-        arith,
-        wrapped_few l (index_at r.s (sizes.width l)) (index_at r.t (sizes.height l)),
-      )
-  by_filter Bilinear = omega (arith, square_few (nearest_level r.lod sizes.levels))
-  by_filter Trilinear = trilinear_few
-
-  pub visits_few : length (lookup_visits sizes r) ≤ 8
-  visits_few = by_filter r.filter
 
 -- ---- how many a region needs
 
@@ -373,9 +315,13 @@ module _ (files : Files) (cut : Cut) (file generation : ℕ) (old new : PassStat
     region_tally given = region_at new.latest given
 
   -- by a lookup
-  module _ (r : TexRequest) (values : List ℕ) (on : CountsOn old new)
+  module _ (r : LookupRequest) (answer : Answer) (on : CountsOn old new)
       (real : IsReal files file generation)
-      (good : ForSome (files.held file generation) (λ bytes. first_fault bytes ≡ None)) where
+      (good : ForSome (files.held file generation) (λ bytes. first_fault bytes ≡ None))
+      (told : (keys : List ℕ) → ForSome (files.held file generation)
+      (λ bytes. keys ≡ look_keys cut bytes generation file r)
+      → AreNeeded files cut (Ask (Some file) (Look r)) answer keys)
+      (full : empties answer ≡ false) where
     -- a record of bytes that show no fault has a layout
     no_fault : (state : RecordState) → GivesRecord files file cut old.view new.view state
         → state.generation ≡ generation → (fault : TiffFault) → state.layout ≡ Err fault
@@ -392,33 +338,33 @@ module _ (files : Files) (cut : Cut) (file generation : ℕ) (old new : PassStat
     none_held (Some bytes) some none = none bytes refl
 
     abbrev keys_by : ℕ → ℕ → Cut → Kept → List ℕ
-    keys_by g f u k = look_keys_on g f u k (lookup_visits (sizes_in k u) r)
+    keys_by g f u k = look_keys_on g f u k (asked_visits (sizes_in k u) r)
 
     look_at : (state : RecordState) → GivesRecord files file cut old.view new.view state
         → state.generation ≡ generation → NeedsCells files state (visits_on state r) old new
         → (layout : Result Kept TiffFault) → state.layout ≡ layout
         → TalliesAnswer files cut (Ask (Some file) (Look r)) (tally_of old) (tally_of new)
-        (line.Tex generation values)
+        answer
     look_at state gives of needs (Ok kept) is =
         let visits = visits_on state r in
-        needs_tally files cut (Ask (Some file) (Look r)) (line.Tex generation values)
+        needs_tally files cut (Ask (Some file) (Look r)) answer
         (look_keys_on state.generation state.file state.cut kept visits) old new
-        (λ bytes held.
-        let told = kept_told files file cut old.view new.view state generation (sym of) gives
+        (told (look_keys_on state.generation state.file state.cut kept visits) (λ bytes held.
+        let layout = kept_told files file cut old.view new.view state generation (sym of) gives
         (λ (k : Kept). k ≡ kept) (rw is refl) bytes held in
         ap (λ (l : Result Kept TiffFault). look_keys_on state.generation state.file state.cut kept
-        (lookup_visits (sizes_by state.cut l) r)) is
+        (asked_visits (sizes_by state.cut l) r)) is
         ∙ ap (λ (g : ℕ). keys_by g state.file state.cut kept) of
         ∙ ap (λ (f : ℕ). keys_by generation f state.cut kept) gives.of_file
         ∙ ap (λ (u : Cut). keys_by generation file u kept) gives.under
-        ∙ ap (λ (k : Kept). keys_by generation file cut k) (sym told.1))
+        ∙ ap (λ (k : Kept). keys_by generation file cut k) (sym layout.1)))
         (rw length-map (let few = visits_few (sizes_by state.cut state.layout) r in
         omega (arith, few)))
         (subst (λ (l : Result Kept TiffFault). IfOk l (λ (k : Kept). Needs files
-        (look_keys_on state.generation state.file state.cut k visits) old new)) is needs) refl
+        (look_keys_on state.generation state.file state.cut k visits) old new)) is needs) full
     look_at state gives of needs (Err fault) is = record {
       needed = [];
-      are = λ bytes held. absurd (no_fault state gives of fault is bytes held);
+      are = told [] (λ bytes held. absurd (no_fault state gives of fault is bytes held));
       few = omega arith;
       least = omega (arith, on.needs);
       counts = λ tells calm low.
@@ -429,12 +375,19 @@ module _ (files : Files) (cut : Cut) (file generation : ℕ) (old new : PassStat
     look_by : (kept : Option RecordState)
         → IsSomeAnd kept (IsLookedUp files file cut r old new generation)
         → TalliesAnswer files cut (Ask (Some file) (Look r)) (tally_of old) (tally_of new)
-        (line.Tex generation values)
+        answer
     look_by None looked = absurd looked
     look_by (Some state) looked =
         look_at state looked.given looked.of looked.needs state.layout refl
 
     pub look_tally : IsSomeAnd new.latest (IsLookedUp files file cut r old new generation)
         → TalliesAnswer files cut (Ask (Some file) (Look r)) (tally_of old) (tally_of new)
-        (line.Tex generation values)
+        answer
     look_tally looked = look_by new.latest looked
+
+-- ---- the values of a lookup
+
+-- the first of two lists, taken from both by its length
+pub first_of : (n : ℕ) (front back : List ℕ) → n ≡ length front → take n (front ++ back) ≡ front
+first_of n front back is =
+    ap (λ (k : ℕ). take k (front ++ back)) is ∙ take-append_seam front back

@@ -15,7 +15,7 @@ use Rattle.request_lang.specs.Basis.{Basis, OnNewer, OnFault, basis_of, latest}
 use Rattle.render_run.specs.declared.question.Task.{Task}
 use Rattle.render_run.specs.Around.{SourceState, Sight, Terms, Progress, Setup, sight_at}
 use Rattle.render_run.specs.Around.{source_of_crew}
-use Rattle.render_run.specs.Question.{may_be_given, file_in}
+use Rattle.render_run.specs.Question.{AsksWell, file_in}
 use Rattle.render_run.specs.Dealing.{fresh_round, places_from, places_of}
 use Rattle.render_run.specs.Reply.{Line, MeetsTask, MeetsAll}
 use Rattle.render_run.specs.Fresh.{IsFresher, KeepsFresh}
@@ -65,7 +65,7 @@ pub record AnswersTask (files : Files) (terms : Terms) (task : Task) (old new : 
 pub record MayBeGiven (files : Files) (count : ℕ) (task : Task) : Type 0 where
   pub number : ForSome (file_in task) (λ n. n < count)
   pub file : ForSome (file_in task) (IsFile files)
-  pub asked : IsTrue (may_be_given task)
+  pub asked : AsksWell task
 
 -- each of so many files is one of the world's
 abbrev pub AreFiles : Files → ℕ → Type 0

@@ -8,31 +8,33 @@ use Rattle.tiff_format.specs.declared.cut.Cut.{Cut}
 use Rattle.tile_layout.specs.Kept.{kept_of}
 use Rattle.tile_layout.specs.Key.{key_of}
 use Rattle.tile_layout.specs.Cell.{CutLevel, cut_level_of}
-use Rattle.texel_filter.specs.declared.request.TexRequest.{TexRequest}
-use Rattle.texel_filter.specs.Visits.{lookup_visits}
 use Rattle.texel_values.specs.declared.overlap.Overlap.{Overlap}
 use Rattle.texel_values.specs.declared.region.Region.{Region}
 use Rattle.texel_values.specs.Overlap.{IsOverlap}
 use Rattle.texel_values.specs.Met.{cell_met, count_met}
 use Rattle.image_cache.specs.Texel.{cell_of}
+use Rattle.texture_sys.specs.declared.lookup_request.LookupRequest.{LookupRequest}
+use Rattle.texture_sys.specs.declared.lookup_request.LookupRequest.TheVariants.{Point, Footprint}
+use Rattle.texture_sys.specs.Asked.{asked_visits}
 use Rattle.texture_sys.specs.Look.{sizes_in}
 use Rattle.texture_sys.specs.Needs.{at_of}
 use Rattle.request_lang.specs.declared.answer.Answer.{Answer}
-use Rattle.request_lang.specs.declared.answer.Answer.TheVariants.{Tex, Pixels}
+use Rattle.request_lang.specs.declared.answer.Answer.TheVariants.{Tex, Texd, Pixels}
 use Rattle.request_lang.specs.declared.answer.Answer.TheVariants.{Invalidated, Renewed}
 use Rattle.request_lang.specs.declared.answer.Answer.TheVariants.{InvalidatedAll}
 use Rattle.request_lang.specs.Basis.{Basis, OnNewer, OnFault, OnMemory}
+use Rattle.render_run.specs.declared.question.Question.{Question}
 use Rattle.render_run.specs.declared.question.Question.TheVariants.{Values, Look}
 use Rattle.render_run.specs.declared.question.Task.{Task}
-use Rattle.render_run.specs.declared.question.Task.TheVariants.{Ask}
+use Rattle.render_run.specs.declared.question.Task.TheVariants.{Ask, Tile}
 
 -- ---- on the bytes of a generation of a file
 
 -- of a lookup: the cell of each texel that it visits
-abbrev pub look_keys : Cut → List ℕ → ℕ → ℕ → TexRequest → List ℕ
+abbrev pub look_keys : Cut → List ℕ → ℕ → ℕ → LookupRequest → List ℕ
 look_keys cut bytes generation file r =
     map (λ texel. (cell_of generation file cut (kept_of bytes) (at_of texel)).key)
-    (lookup_visits (sizes_in (kept_of bytes) cut) r)
+    (asked_visits (sizes_in (kept_of bytes) cut) r)
 
 -- the cells of a level that its places in these columns and rows meet, row by row
 abbrev pub met_keys : ℕ → ℕ → ℕ → CutLevel → Overlap → Overlap → List ℕ
@@ -51,13 +53,26 @@ pub record AreRegionKeys (cut : Cut) (bytes : List ℕ) (generation file : ℕ) 
 
 -- ---- of an answer
 
--- What an answer needed: a lookup and a region their cells, where the world tells the bytes of the
--- generation that is answered, and all else none.
-abbrev pub AreNeeded : Files → Cut → Task → Answer → List ℕ → Type 0
-AreNeeded files cut (Ask (Some n) (Look r)) (Tex generation values) keys =
-    ForSome (files.held n generation) (λ bytes. keys ≡ look_keys cut bytes generation n r)
-AreNeeded files cut (Ask (Some n) (Values r)) (Pixels generation channels values) keys =
+-- what an answer to a lookup needed: its cells, where the world tells the bytes of the generation that
+-- is answered
+abbrev pub AreLookKeys : Files → Cut → ℕ → Answer → LookupRequest → List ℕ → Type 0
+AreLookKeys files cut n (Tex generation values) (Point r) keys = ForSome
+    (files.held n generation) (λ bytes. keys ≡ look_keys cut bytes generation n (Point r))
+AreLookKeys files cut n (Texd generation values) (Footprint r) keys = ForSome
+    (files.held n generation) (λ bytes. keys ≡ look_keys cut bytes generation n (Footprint r))
+AreLookKeys files cut n line r keys = keys ≡ []
+
+-- What an answer to a question to a file needed: a lookup and a region their cells, and all else none.
+abbrev pub AreNeededOn : Files → Cut → ℕ → Question → Answer → List ℕ → Type 0
+AreNeededOn files cut n (Look r) line keys = AreLookKeys files cut n line r keys
+AreNeededOn files cut n (Values r) (Pixels generation channels values) keys =
     ForSome (files.held n generation) (λ bytes. AreRegionKeys cut bytes generation n r keys)
+AreNeededOn files cut n q line keys = keys ≡ []
+
+-- what an answer needed: where no file was asked, nothing
+abbrev pub AreNeeded : Files → Cut → Task → Answer → List ℕ → Type 0
+AreNeeded files cut (Ask (Some n) q) line keys = AreNeededOn files cut n q line keys
+AreNeeded files cut (Tile (Some n) q) line keys = AreNeededOn files cut n q line keys
 AreNeeded files cut task line keys = keys ≡ []
 
 -- The answer is that a file was made invalid, or each: it empties the worker's microcache.

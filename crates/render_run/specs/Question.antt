@@ -1,26 +1,42 @@
--- What does a request ask of its worker? (docs/REQUESTS.md, "The ten forms")
-use Rattle.std.specs.Prelude.{ℕ, ◌*◌, ◌==◌, nat_lt, nat_le, ◌&&◌, Bool, true, false, List, Option}
-use Rattle.std.specs.Prelude.{None}
-use Rattle.texel_filter.specs.declared.request.TexRequest.{TexRequest}
-use Rattle.tiff_format.specs.Limits.{max_channels}
+-- What does a request ask of its worker? (docs/REQUESTS.md, "The forms")
+use Rattle.std.specs.Prelude.{◌≡◌, ◌⊎◌, ℕ, ◌*◌, ◌==◌, nat_lt, Bool, true, false}
+use Rattle.std.specs.Prelude.{IsTrue, List, [], ◌∷◌, Option, None, ⊤}
 use Rattle.texel_values.specs.Region.{max_texels}
 use Rattle.pinned_tiles.specs.Pinned.{max_holds}
 use Rattle.request_lang.specs.declared.request.Request.{Request}
 use Rattle.request_lang.specs.declared.request.Request.TheVariants as request
+use Rattle.request_lang.specs.RequestForm.{has_channels, HasFootprint}
+use Rattle.texture_sys.specs.declared.lookup_request.LookupRequest.{LookupRequest}
+use Rattle.texture_sys.specs.declared.lookup_request.LookupRequest.TheVariants.{Point, Footprint}
+use Rattle.texture_sys.specs.Asked.{moved_to, MayBeLookedUp}
+use Rattle.udim.specs.Udim.{udim_of, is_tile}
+use Rattle.udim.specs.declared.file.Udim.{Udim}
+use Rattle.udim.specs.declared.file.Udim.TheVariants.{Plain, Outside, Tile}
 use Rattle.render_run.specs.declared.question.Question.{Question}
 use Rattle.render_run.specs.declared.question.Question.TheVariants.{Facts, Values, Look, Hold}
 use Rattle.render_run.specs.declared.question.Question.TheVariants.{Renewal}
 use Rattle.render_run.specs.declared.question.Task.{Task}
 use Rattle.render_run.specs.declared.question.Task.TheVariants as task
 
--- the lookup asks for a number of channels that it may ask for, as each in a list does
-abbrev pub has_channels : TexRequest → Bool
-has_channels r = nat_le 1 r.nch && nat_le r.nch max_channels
+-- what holds of each request of a list: a lookup asks for what it may ask for
+pub record MayAsk (r : Request) : Type 0 where
+  pub channels : IsTrue (has_channels r)
+  pub footprint : HasFootprint r
+
+-- What a worker is given of a lookup: in the file of its name; in no file, where the coordinates lie
+-- in no tile; or in the file of the tile in which they lie, at their place there.
+abbrev pub look_task : (List ℕ → Option ℕ) → LookupRequest → List ℕ → Udim → Task
+look_task number_of r name Plain = task.Ask (number_of name) (Look r)
+look_task number_of r name Outside = task.Ask None (Look r)
+look_task number_of r name (Tile own s t) = task.Tile (number_of own) (Look (moved_to r s t))
 
 -- what a worker is given of a request: what is asked of the file of its name, which has this number
 -- in the folder, if any, or what is asked of no file
 abbrev pub task_of : (List ℕ → Option ℕ) → Request → Task
-task_of number_of (request.Tex r name) = task.Ask (number_of name) (Look r)
+task_of number_of (request.Tex r name) =
+    look_task number_of (Point r) name (udim_of name r.s r.t)
+task_of number_of (request.Texd r name) =
+    look_task number_of (Footprint r) name (udim_of name r.s r.t)
 task_of number_of (request.Pixels level x y w h name) =
     task.Ask (number_of name) (Values (record { level = level; x = x; y = y; w = w; h = h }))
 task_of number_of (request.Info name) = task.Ask (number_of name) Facts
@@ -33,29 +49,55 @@ task_of number_of request.InvalidateAll = task.RenewAll
 task_of number_of request.Stat = task.Count
 task_of number_of request.Sync = task.Sync
 
+-- What a worker was given of a lookup: what it is to be given, or that no memory was found for the
+-- name of a tile.
+abbrev pub IsLookOf : (List ℕ → Option ℕ) → LookupRequest → List ℕ → Udim → Task → Type 0
+IsLookOf number_of r name means given = (given ≡ look_task number_of r name means)
+    ⊎ ((given ≡ task.Unnamed) × IsTrue (is_tile means))
+
+-- what a worker was given of a request
+abbrev pub IsGivenOf : (List ℕ → Option ℕ) → Request → Task → Type 0
+IsGivenOf number_of (request.Tex r name) given =
+    IsLookOf number_of (Point r) name (udim_of name r.s r.t) given
+IsGivenOf number_of (request.Texd r name) given =
+    IsLookOf number_of (Footprint r) name (udim_of name r.s r.t) given
+IsGivenOf number_of r given = given ≡ task_of number_of r
+
+-- so it is of each request, in order
+abbrev pub AreGivenOf : (List ℕ → Option ℕ) → List Request → List Task → Type 0
+AreGivenOf number_of [] [] = ⊤
+AreGivenOf number_of [] (t ∷ tasks) = ⊥
+AreGivenOf number_of (r ∷ requests) [] = ⊥
+AreGivenOf number_of (r ∷ requests) (t ∷ tasks) =
+    IsGivenOf number_of r t × AreGivenOf number_of requests tasks
+
 -- the file that is asked, if one is
 abbrev pub file_in : Task → Option ℕ
 file_in (task.Ask file q) = file
+file_in (task.Tile file q) = file
+file_in task.Unnamed = None
 file_in task.Release = None
 file_in task.RenewAll = None
 file_in task.Count = None
 file_in task.Sync = None
 
--- a lookup asks for a number of channels that it may ask for
-abbrev pub may_be_asked : Question → Bool
-may_be_asked (Look r) = has_channels r
-may_be_asked Facts = true
-may_be_asked (Values region) = true
-may_be_asked (Hold at) = true
-may_be_asked (Renewal force) = true
+-- a lookup asks for what it may ask for
+abbrev pub MayBeAsked : Question → Type 0
+MayBeAsked (Look r) = MayBeLookedUp r
+MayBeAsked Facts = ⊤
+MayBeAsked (Values region) = ⊤
+MayBeAsked (Hold at) = ⊤
+MayBeAsked (Renewal force) = ⊤
 
 -- so it does, where a file is asked
-abbrev pub may_be_given : Task → Bool
-may_be_given (task.Ask file q) = may_be_asked q
-may_be_given task.Release = true
-may_be_given task.RenewAll = true
-may_be_given task.Count = true
-may_be_given task.Sync = true
+abbrev pub AsksWell : Task → Type 0
+AsksWell (task.Ask file q) = MayBeAsked q
+AsksWell (task.Tile file q) = MayBeAsked q
+AsksWell task.Unnamed = ⊤
+AsksWell task.Release = ⊤
+AsksWell task.RenewAll = ⊤
+AsksWell task.Count = ⊤
+AsksWell task.Sync = ⊤
 
 -- a region of more texels is asked for than a region may have
 abbrev pub is_too_large : Question → Bool

@@ -17,10 +17,11 @@ use Rattle.texel_values.specs.declared.region.Region.{Region}
 use Rattle.texel_values.specs.Region.{AreRegionValues}
 use Rattle.image_cache.specs.Facts.{info_of}
 use Rattle.image_cache.specs.Texel.{IsTexelOf}
+use Rattle.texture_sys.specs.declared.lookup_request.LookupRequest.TheVariants.{Point, Footprint}
 use Rattle.texture_sys.specs.Call.{IsLookOn}
 use Rattle.request_lang.specs.declared.request.Request.{Request}
 use Rattle.request_lang.specs.declared.answer.Answer.{Answer}
-use Rattle.request_lang.specs.declared.answer.Answer.TheVariants.{Tex, Pixels, Info, Synced}
+use Rattle.request_lang.specs.declared.answer.Answer.TheVariants.{Tex, Texd, Pixels, Info, Synced}
 use Rattle.request_lang.specs.declared.answer.Answer.TheVariants.{NoSuchFile, BadFile, NoLevel}
 use Rattle.request_lang.specs.declared.answer.Answer.TheVariants.{RegionTooLarge, TileTooLarge}
 use Rattle.request_lang.specs.declared.answer.Answer.TheVariants.{Held, Dropped, Invalidated}
@@ -33,7 +34,8 @@ use Rattle.render_run.specs.declared.question.Question.{Question}
 use Rattle.render_run.specs.declared.question.Question.TheVariants.{Facts, Values, Look, Hold}
 use Rattle.render_run.specs.declared.question.Question.TheVariants.{Renewal}
 use Rattle.render_run.specs.declared.question.Task.{Task}
-use Rattle.render_run.specs.declared.question.Task.TheVariants.{Ask, Release, RenewAll, Count, Sync}
+use Rattle.render_run.specs.declared.question.Task.TheVariants.{Ask, Tile, Unnamed}
+use Rattle.render_run.specs.declared.question.Task.TheVariants.{Release, RenewAll, Count, Sync}
 use Rattle.render_run.specs.Around.{Setup, Terms}
 use Rattle.render_run.specs.Needed.{AreNeeded}
 use Rattle.render_run.specs.Dealing.{Place}
@@ -90,7 +92,9 @@ IsReplyOn cut bytes q (BadFile generation fault) = first_fault bytes ≡ Some fa
 IsReplyOn cut bytes Facts (Info info) =
     (first_fault bytes ≡ None) × (info ≡ info_of info.generation (kept_of bytes) cut)
 IsReplyOn cut bytes (Look r) (TileTooLarge generation) = HasLargeCell cut bytes
-IsReplyOn cut bytes (Look r) (Tex generation values) = IsLookOn cut bytes r values
+IsReplyOn cut bytes (Look (Point r)) (Tex generation values) = IsLookOn cut bytes (Point r) values
+IsReplyOn cut bytes (Look (Footprint r)) (Texd generation values) =
+    IsLookOn cut bytes (Footprint r) values
 IsReplyOn cut bytes (Values r) (TileTooLarge generation) = HasLargeCell cut bytes
 IsReplyOn cut bytes (Values r) (NoLevel generation levels) =
     LacksLevelOn cut bytes r.level levels
@@ -112,7 +116,8 @@ abbrev pub HasForm : Question → Answer → Type 0
 HasForm q (BadFile generation fault) = ⊤
 HasForm Facts (Info info) = ⊤
 HasForm (Look r) (TileTooLarge generation) = ⊤
-HasForm (Look r) (Tex generation values) = length values ≡ r.nch
+HasForm (Look (Point r)) (Tex generation values) = length values ≡ r.nch
+HasForm (Look (Footprint r)) (Texd generation values) = length values ≡ r.nch
 HasForm (Values r) (TileTooLarge generation) = ⊤
 HasForm (Values r) (NoLevel generation levels) = levels ≤ r.level
 HasForm (Values r) (Pixels generation channels values) = length values ≡ r.h * (r.w * channels)
@@ -193,7 +198,8 @@ TellsShards terms NoMemory = ⊤
 TellsShards terms _ = ⊥
 
 -- The line meets what a worker is given of a request, which holds so many tiles: `no such file`
--- exactly where the folder has none of the name, before all else.
+-- exactly where the folder has none of the name, before all else. Of the file of a tile its name may
+-- want memory before it is looked for.
 abbrev pub MeetsTask : Files → Terms → ℕ → Task → Answer → Type 0
 MeetsTask files terms held Sync line = line ≡ Synced
 MeetsTask files terms held Release line = line ≡ released held
@@ -201,6 +207,9 @@ MeetsTask files terms held RenewAll line = (line ≡ InvalidatedAll) ⊎ (line �
 MeetsTask files terms held Count line = TellsShards terms line
 MeetsTask files terms held (Ask None q) line = line ≡ NoSuchFile
 MeetsTask files terms held (Ask (Some n) q) line = MeetsOn files terms.cut held n q line
+MeetsTask files terms held (Tile None q) line = (line ≡ NoSuchFile) ⊎ (line ≡ NoMemory)
+MeetsTask files terms held (Tile (Some n) q) line = MeetsOn files terms.cut held n q line
+MeetsTask files terms held Unnamed line = line ≡ NoMemory
 
 -- A line, its place, the file that the name of its request has in the folder, if any, how many
 -- tiles its worker held before, and the keys of the cells that it needed.

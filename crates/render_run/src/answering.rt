@@ -2,13 +2,12 @@
 
 ghost use Rattle.std.specs.Prelude.{◌≡◌, ◌*◌, ◌<◌, ◌≤◌, [], length, map};
 ghost use Rattle.std.specs.Prelude.{IfOk, IfErr, OnOk, IsSome, vec_capacity};
-ghost use Rattle.std.specs.List.{All, AllPass};
+ghost use Rattle.std.specs.List.{All};
 ghost use Rattle.image_cache.specs.Pass.{IsPassOf};
 ghost use Rattle.request_lang.specs.Grammar.{max_requests};
 ghost use Rattle.render_run.specs.Around.{sink_state, progress_of, setup_of};
 ghost use Rattle.render_run.specs.Around.{sight_of, source_of_crew, terms_of};
-ghost use Rattle.render_run.specs.Question.{task_of};
-ghost use Rattle.request_lang.specs.RequestForm.{has_channels};
+ghost use Rattle.render_run.specs.Question.{AreGivenOf, MayAsk};
 ghost use Rattle.render_run.specs.Answering.{MayBeGiven, SoFar};
 ghost use Rattle.render_run.specs.Crew.{max_workers, AreCarried, SeeNoLess, AreIdle};
 ghost use Rattle.render_run.specs.Written.{Finishes, LeavesUnfinished, EndsEarly};
@@ -59,7 +58,7 @@ where
     requires idle { AreIdle (map (λ p. sight_of p.worker.pass (F.Tap.state p.worker.tap))
         posts.old) }
     requires files { cache.now.files.board.files ≡ (F.state folder.now).size }
-    requires channels { AllPass has_channels requests.now }
+    requires asked { All MayAsk requests.now }
     requires few { length requests.now ≤ max_requests }
     requires empty { page.old ≡ [] }
     ensures ok { IfOk result (Finishes (setup_of F.W.files (F.state folder.now)
@@ -111,7 +110,7 @@ where
     requires idle { AreIdle (map (λ p. sight_of p.worker.pass (F.Tap.state p.worker.tap))
         posts.old) }
     requires files { cache.now.files.board.files ≡ (F.state folder.now).size }
-    requires channels { AllPass has_channels requests.now }
+    requires asked { All MayAsk requests.now }
     requires few { length requests.now ≤ max_requests }
     requires empty { page.old ≡ [] }
     ensures ok { IfOk result (SoFar (setup_of F.W.files (F.state folder.now)
@@ -166,12 +165,12 @@ fn begin<F: Folder>(
     requires entered { IsSome (F.state folder.now).entered }
     requires pass { All (λ p. IsPassOf cache.now p.worker.pass) posts.old }
     requires some { 0 < length posts.old }
-    requires channels { AllPass has_channels requests.now }
+    requires asked { All MayAsk requests.now }
     requires few { length requests.now ≤ max_requests }
     ensures given { OnOk result
         (All (MayBeGiven F.W.files (F.state folder.now).size) tasks.new.items) }
     ensures tasks { OnOk result
-        (tasks.new.items ≡ map (task_of (F.state folder.now).number_of) requests.now) }
+        (AreGivenOf (F.state folder.now).number_of requests.now tasks.new.items) }
     ensures room { OnOk result (All (λ p. (p.answers.items ≡ [])
         × (length requests.now ≤ length posts.old * vec_capacity p.answers)) posts.new) }
     ensures ok { OnOk result (AreCarried

@@ -2,9 +2,9 @@
 
 ghost use Rattle.std.specs.Prelude.{◌≡◌, ◌≤◌, length, IfOk, IfErr, OnOk, Ok};
 ghost use Rattle.request_lang.specs.Grammar.{max_requests};
-ghost use Rattle.std.specs.List.{AllPass};
+ghost use Rattle.std.specs.List.{All};
+ghost use Rattle.render_run.specs.Question.{MayAsk};
 ghost use Rattle.render_run.specs.Around.{feed_state, inputs_of};
-ghost use Rattle.request_lang.specs.RequestForm.{has_channels};
 ghost use Rattle.render_run.specs.ListRead.{FeedSays};
 ghost use Rattle.command_line.specs.Options.{IsInRange};
 ghost use Rattle.render_run.specs.Ending.{asked_by, path_in, HasOptions, WordsCause};
@@ -86,7 +86,7 @@ fn enter_folder<F: Folder>(
 
 /// The requests of the list that the feed has.
 fn read_requests<I: Feed>(alloc: Global, feed: &mut I) -> Result<Vec<Request>, Ending>
-    ensures channels { IfOk result (λ requests. AllPass has_channels requests.items) }
+    ensures asked { IfOk result (λ requests. All MayAsk requests.items) }
     ensures few { IfOk result (λ requests. length requests.items ≤ max_requests) }
     ensures listed { IfOk result (λ requests. FeedSays (Ok requests.items)
         (feed_state I.faults I.left feed.old) (feed_state I.faults I.left feed.new)) }
@@ -117,7 +117,7 @@ pub(crate) fn prepare<F: Folder, I: Feed>(
         (inputs_of (F.state folder.new) (feed_state I.faults I.left feed.new)) p.requests.items) }
     ensures options { IfOk result (λ p. HasOptions (asked_by words.now) p.options) }
     ensures in_range { IfOk result (λ p. IsInRange p.options) }
-    ensures channels { IfOk result (λ p. AllPass has_channels p.requests.items) }
+    ensures asked { IfOk result (λ p. All MayAsk p.requests.items) }
     ensures few { IfOk result (λ p. length p.requests.items ≤ max_requests) }
     ensures ended { IfErr result (IsEnded F.W.files (path_in (asked_by words.now))
         (inputs_of (F.state folder.old) (feed_state I.faults I.left feed.old))

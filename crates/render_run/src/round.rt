@@ -3,14 +3,13 @@
 
 ghost use Rattle.std.specs.Prelude.{◌≡◌, ◌+◌, ◌*◌, ◌<◌, ◌≤◌, [], length, map, vec_capacity};
 ghost use Rattle.std.specs.Prelude.{IfOk, OnOk, OnErr, IsSome};
-ghost use Rattle.std.specs.List.{All, AllPass, count_by};
+ghost use Rattle.std.specs.List.{All, count_by};
 ghost use Rattle.tex_world.specs.Counts.{Rises};
 ghost use Rattle.image_cache.specs.Pass.{IsPassOf};
 ghost use Rattle.request_lang.specs.Basis.{is_refusal};
 ghost use Rattle.request_lang.specs.Grammar.{max_requests};
 ghost use Rattle.render_run.specs.Around.{sight_of, sink_state, terms_of};
-ghost use Rattle.render_run.specs.Question.{task_of};
-ghost use Rattle.request_lang.specs.RequestForm.{has_channels};
+ghost use Rattle.render_run.specs.Question.{AreGivenOf, MayAsk};
 ghost use Rattle.render_run.specs.Answering.{AnswersEach, MayBeGiven, AreFiles, share_of};
 ghost use Rattle.render_run.specs.Answering.{answers_text, in_turn, AreInTurn};
 ghost use Rattle.render_run.specs.Crew.{max_workers, AnswersShares};
@@ -51,16 +50,17 @@ pub(crate) fn deal<F: Folder>(
     tasks: &mut Vec<Task>,
 ) -> Result<(), AllocError>
     requires entered { IsSome (F.state folder.now).entered }
-    requires channels { AllPass has_channels requests.now }
+    requires asked { All MayAsk requests.now }
     ensures given { OnOk result
         (All (MayBeGiven F.W.files (F.state folder.now).size) tasks.new.items) }
     ensures tasks { OnOk result
-        (tasks.new.items ≡ map (task_of (F.state folder.now).number_of) requests.now) }
+        (AreGivenOf (F.state folder.now).number_of requests.now tasks.new.items) }
 {
+    let alloc = *tasks.allocator();
     tasks.clear();
     tasks.reserve(requests.len())?;
     for request in requests {
-        tasks.push(Task::of(folder, request))?;
+        tasks.push(Task::of(alloc, folder, request))?;
     }
     Ok(())
 }

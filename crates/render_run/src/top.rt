@@ -2,7 +2,8 @@
 
 ghost use Rattle.std.specs.Prelude.{◌≡◌, ◌⊎◌, ◌≤◌, [], length, map, IfOk, IfErr, OnOk, IsSome, IsTrue};
 ghost use Rattle.request_lang.specs.Grammar.{max_requests};
-ghost use Rattle.std.specs.List.{AllPass};
+ghost use Rattle.std.specs.List.{All};
+ghost use Rattle.render_run.specs.Question.{MayAsk};
 ghost use Rattle.tex_world.specs.World.{max_files};
 ghost use Rattle.command_line.specs.Options.{IsInRange};
 ghost use Rattle.image_cache.specs.Pass.{IsFirstPass};
@@ -11,7 +12,6 @@ ghost use Rattle.render_run.specs.Around.{feed_state, sink_state, around_of, pro
 ghost use Rattle.render_run.specs.Around.{source_of_folder, setup_of, sight_of, no_sight};
 ghost use Rattle.render_run.specs.Around.{source_of_crew, terms_for, terms_of};
 ghost use Rattle.render_run.specs.Crew.{MakesMore};
-ghost use Rattle.request_lang.specs.RequestForm.{has_channels};
 ghost use Rattle.render_run.specs.Ending.{asked_by};
 ghost use Rattle.render_run.specs.Run.{GivesTapsBack, MakesTaps, Runs};
 ghost use Rattle.render_run.specs.Complete.{HasAList, IsCalm, Completes};
@@ -135,7 +135,7 @@ where
     F::W: Send + Sync,
     requires entered { IsSome (F.state folder.old).entered }
     requires options { IsInRange asked.now.options }
-    requires channels { AllPass has_channels asked.now.requests.items }
+    requires may { All MayAsk asked.now.requests.items }
     requires few { length asked.now.requests.items ≤ max_requests }
     ensures answered { result ≤ with_refusals → AnswersAll (setup_of F.W.files
         (F.state folder.new) (terms_for asked.now.options) asked.now.options.workers)
@@ -193,7 +193,7 @@ where
     F::W: Send + Sync,
     requires entered { IsSome (F.state folder.old).entered }
     requires options { IsInRange asked.now.options }
-    requires channels { AllPass has_channels asked.now.requests.items }
+    requires may { All MayAsk asked.now.requests.items }
     requires few { length asked.now.requests.items ≤ max_requests }
     requires pass { IsFirstPass cache.now pass }
     requires files { cache.now.files.board.files ≡ (F.state folder.old).size }

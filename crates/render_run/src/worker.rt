@@ -5,7 +5,9 @@ ghost use Rattle.tex_world.specs.World.{IsFile};
 ghost use Rattle.image_cache.specs.Pass.{IsPassOf, IsSamePass};
 ghost use Rattle.request_lang.specs.Appending.{max_shards};
 ghost use Rattle.render_run.specs.Around.{sight_of, tally_of, terms_of};
-ghost use Rattle.render_run.specs.Question.{has_channels, may_be_asked, file_in};
+ghost use Rattle.texel_filter.specs.Image.{IsChannelCount};
+ghost use Rattle.texel_filter.specs.Deriv.{IsDerivRequest};
+ghost use Rattle.render_run.specs.Question.{MayBeAsked, file_in};
 ghost use Rattle.render_run.specs.Refusal.{refusal_of};
 ghost use Rattle.render_run.specs.Reply.{released, AreShardsOf, TellsShards, MeetsOn, MeetsTask};
 ghost use Rattle.render_run.specs.Answering.{AfterAnswer, AreFiles, MayBeGiven};
@@ -18,9 +20,9 @@ use std::alloc::{AllocError, Global};
 use std::convert::Infallible;
 use std::sync::Wait;
 use tex_world::{Tap, World};
-use texel_filter::TexRequest;
+use texel_filter::{DerivRequest, TexRequest};
 use texel_values::{Region, TexelAt};
-use texture_sys::texture;
+use texture_sys::{LookupRequest, texture, texture_d};
 use tiff_format::{MAX_CHANNELS, Rect, ShardCount};
 use waiter::Forever;
 
@@ -54,6 +56,11 @@ pub(crate) fn answer_of<R: Wait, T: Tap>(
     match task {
         Task::Ask(Some(file), question) => answer_on(alloc, cache, waiter, worker, *file, question),
         Task::Ask(None, _) => Answer::NoSuchFile,
+        Task::Tile(Some(file), question) => answer_on(
+            alloc, cache, waiter, worker, *file, question,
+        ),
+        Task::Tile(None, _) => Answer::NoSuchFile,
+        Task::Unnamed => Answer::NoMemory,
         Task::Release => release(cache, waiter, worker),
         Task::RenewAll => renewal_of_all(cache, waiter, worker),
         Task::Count => shards_of(alloc, cache, waiter, worker),
@@ -73,7 +80,7 @@ fn answer_on<R: Wait, T: Tap>(
     requires pass { IsPassOf cache.now worker.old.pass }
     requires file { file < cache.now.files.board.files }
     requires told { IsFile T.W.files file }
-    requires asked { IsTrue (may_be_asked question.now) }
+    requires asked { MayBeAsked question.now }
     ensures meets { MeetsOn T.W.files cache.now.gate.cut
         (length worker.old.pass.pinned.holds) file question.now result }
     ensures after { AfterAnswer (Some file)
@@ -86,7 +93,12 @@ fn answer_on<R: Wait, T: Tap>(
     match question {
         Question::Facts => facts(cache, waiter, worker, file),
         Question::Values(region) => values(alloc, cache, waiter, worker, file, region),
-        Question::Look(request) => look(cache, waiter, worker, file, request),
+        Question::Look(LookupRequest::Point(request)) => {
+            look(cache, waiter, worker, file, request)
+        }
+        Question::Look(LookupRequest::Footprint(request)) => {
+            look_along(cache, waiter, worker, file, request)
+        }
         Question::Hold(at) => hold(cache, waiter, worker, file, *at),
         Question::Renewal(force) => renewal(cache, waiter, worker, file, *force),
     }
@@ -168,14 +180,14 @@ fn look<R: Wait, T: Tap>(
     requires pass { IsPassOf cache.now worker.old.pass }
     requires file { file < cache.now.files.board.files }
     requires told { IsFile T.W.files file }
-    requires channels { IsTrue (has_channels request.now) }
+    requires channels { IsChannelCount request.now.nch }
     ensures meets { MeetsOn T.W.files cache.now.gate.cut
-        (length worker.old.pass.pinned.holds) file (Question.Look request.now) result }
+        (length worker.old.pass.pinned.holds) file (Question.Look (LookupRequest.Point request.now)) result }
     ensures after { AfterAnswer (Some file)
         (sight_of worker.old.pass (T.state worker.old.tap))
         (sight_of worker.new.pass (T.state worker.new.tap)) result }
     ensures tallies { TalliesAnswer T.W.files cache.now.gate.cut
-        (Task.Ask (Some file) (Question.Look request.now))
+        (Task.Ask (Some file) (Question.Look (LookupRequest.Point request.now)))
         (tally_of worker.old.pass) (tally_of worker.new.pass) result }
     ensures pass { IsPassOf cache.now worker.new.pass }
 {
@@ -191,6 +203,47 @@ fn look<R: Wait, T: Tap>(
         &mut places[..count],
     ) {
         Ok(generation) => Answer::Tex {
+            generation,
+            values: Values::few(places, count),
+        },
+        Err(e) => refusal(e),
+    }
+}
+
+/// The values of a lookup along a footprint.
+fn look_along<R: Wait, T: Tap>(
+    cache: &Cache<T>,
+    waiter: &Forever<R>,
+    worker: &mut Worker<T>,
+    file: u32,
+    request: &DerivRequest,
+) -> Answer
+    requires pass { IsPassOf cache.now worker.old.pass }
+    requires file { file < cache.now.files.board.files }
+    requires told { IsFile T.W.files file }
+    requires asked { IsDerivRequest request.now }
+    ensures meets { MeetsOn T.W.files cache.now.gate.cut
+        (length worker.old.pass.pinned.holds) file (Question.Look (LookupRequest.Footprint request.now)) result }
+    ensures after { AfterAnswer (Some file)
+        (sight_of worker.old.pass (T.state worker.old.tap))
+        (sight_of worker.new.pass (T.state worker.new.tap)) result }
+    ensures tallies { TalliesAnswer T.W.files cache.now.gate.cut
+        (Task.Ask (Some file) (Question.Look (LookupRequest.Footprint request.now)))
+        (tally_of worker.old.pass) (tally_of worker.new.pass) result }
+    ensures pass { IsPassOf cache.now worker.new.pass }
+{
+    let count = request.nch as usize;
+    let mut places = [0u16; MAX_CHANNELS];
+    match texture_d(
+        cache,
+        waiter,
+        &mut worker.pass,
+        &mut worker.tap,
+        file,
+        request,
+        &mut places[..count],
+    ) {
+        Ok(generation) => Answer::Texd {
             generation,
             values: Values::few(places, count),
         },

@@ -1,12 +1,13 @@
-use Rattle.std.proofs.Common.{◌≡◌, ◌+◌, ◌-◌, ℕ, length, map, take, drop, refl, ap, ◌∙◌, arith}
+use Rattle.std.proofs.Common.{◌≡◌, ◌+◌, ◌-◌, ℕ, List, length, map, take, drop, refl, sym, ap, subst, ◌∙◌}
+use Rattle.std.proofs.Common.{arith}
 use Rattle.std.proofs.lemmas.List.{take_all, length-drop, length-take, length-map}
-use Rattle.request_lang.specs.declared.request.Request.{Request}
 use Rattle.render_run.specs.declared.question.Task.{Task}
 use Rattle.render_run.specs.Around.{source_of_crew, sink_state, progress_of, setup_of, sight_of, terms_of}
-use Rattle.render_run.specs.Question.{task_of}
+use Rattle.render_run.specs.Question.{AreGivenOf}
 use Rattle.render_run.specs.Answering.{AnswersInTurn, in_turn}
 use Rattle.render_run.proofs.Rounds.{none_yet, rounds_more, rounds_part, rounds_kept, rises_from}
 use Rattle.render_run.proofs.Shares.{turns_taken, turns_there}
+use Rattle.render_run.proofs.Naming.{given_length, turns_named}
 use Rattle.render_run.proofs.answering.answer_rounds.Goals as goal
 
 pub rounds-init : goal.rounds-init
@@ -41,7 +42,32 @@ pub answer_round-requires-clause-room : goal.answer_round-requires-clause-room
 answer_round-requires-clause-room g c κs within = λ k d lt.
     let room = c.in_default.ensures.room k d lt in (
       room.0,
-      rw (c.deref.ensures.value, c.in_default.ensures.tasks, length-map, c.begin.auto.posts) room.1,
+      rw (
+        c.deref.ensures.value,
+        given_length _ _ c.begin.new.tasks.items c.in_default.ensures.tasks,
+        c.begin.auto.posts,
+      ) room.1,
+    )
+
+pub answer_round-requires-clause-few : goal.answer_round-requires-clause-few
+answer_round-requires-clause-few g c κs within =
+    let rs = c.args.requests.now in
+    let done = c.rounds.done in
+    let count = c.round_len-count.result in
+    let number_of = (g.F.Folder.state c.args.folder.now).number_of in
+    let asked = take (done + count - done) (drop done rs) in
+    let long : length c.begin.new.tasks.items ≡ length asked =
+    given_length number_of asked c.begin.new.tasks.items c.in_default.ensures.tasks in
+    let same : length c.deref.result.now ≡ length c.begin.new.tasks.items =
+    ap length c.deref.ensures.value in
+    omega (
+      arith,
+      long,
+      same,
+      length-take (done + count - done) (drop done rs),
+      length-drop done rs,
+      c.round_len-count.ensures.within,
+      c.requires.few,
     )
 
 pub write_round-requires-clause-there : goal.write_round-requires-clause-there
@@ -50,15 +76,17 @@ write_round-requires-clause-there g c =
     let done = c.rounds.done in
     let count = c.round_len-count.result in
     let n = length c.args.posts.now in
-    let f : Request → Task = task_of (g.F.Folder.state c.args.folder.now).number_of in
+    let number_of = (g.F.Folder.state c.args.folder.now).number_of in
     let rest : take (length rs - done) (drop done rs) ≡ drop done rs =
     take_all (length rs - done) (drop done rs) (omega (arith, length-drop done rs)) in
     let size : done + count - done ≡ count = omega arith in
-    let tasks : c.deref.result.now ≡ map f (take count (drop done rs)) =
-    c.deref.ensures.value ∙ c.in_default.ensures.tasks
-    ∙ ap (λ (n : ℕ). map f (take n (drop done rs))) size in
+    let given : AreGivenOf number_of (take count (drop done rs)) c.deref.result.now =
+    subst (λ (ts : List Task). AreGivenOf number_of (take count (drop done rs)) ts)
+    (sym c.deref.ensures.value)
+    (subst (λ (n : ℕ). AreGivenOf number_of (take n (drop done rs)) c.begin.new.tasks.items) size
+    c.in_default.ensures.tasks) in
     let long : length c.deref.result.now ≡ count =
-    ap length tasks ∙ length-map (take count (drop done rs)) f
+    given_length number_of (take count (drop done rs)) c.deref.result.now given
     ∙ omega (
       arith,
       length-take count (drop done rs),
@@ -78,15 +106,17 @@ rounds-preserved g c =
     let done = c.rounds.done in
     let count = c.round_len-count.result in
     let n = length c.args.posts.now in
-    let f : Request → Task = task_of (g.F.Folder.state c.args.folder.now).number_of in
+    let number_of = (g.F.Folder.state c.args.folder.now).number_of in
     let rest : take (length rs - done) (drop done rs) ≡ drop done rs =
     take_all (length rs - done) (drop done rs) (omega (arith, length-drop done rs)) in
     let size : done + count - done ≡ count = omega arith in
-    let tasks : c.deref.result.now ≡ map f (take count (drop done rs)) =
-    c.deref.ensures.value ∙ c.in_default.ensures.tasks
-    ∙ ap (λ (n : ℕ). map f (take n (drop done rs))) size in
+    let given : AreGivenOf number_of (take count (drop done rs)) c.deref.result.now =
+    subst (λ (ts : List Task). AreGivenOf number_of (take count (drop done rs)) ts)
+    (sym c.deref.ensures.value)
+    (subst (λ (n : ℕ). AreGivenOf number_of (take n (drop done rs)) c.begin.new.tasks.items) size
+    c.in_default.ensures.tasks) in
     let long : length c.deref.result.now ≡ count =
-    ap length tasks ∙ length-map (take count (drop done rs)) f
+    given_length number_of (take count (drop done rs)) c.deref.result.now given
     ∙ omega (
       arith,
       length-take count (drop done rs),
@@ -125,7 +155,8 @@ rounds-preserved g c =
           c.in_default.ensures.ok c.rounds.invariant.so_far
           (rw rest at c.round_len-count.ensures.round)
           (omega (arith, c.round_len-count.ensures.within))
-          (rw tasks at turns)
+          (turns_named g.F.W.World.files (terms_of c.args.cache.now.gate) number_of n 0
+          (take count (drop done rs)) c.deref.result.now _ _ _ given turns)
           c.in-Ok.ensures.ok c.in-Ok.ensures.refusal refl;
       within = omega (arith, c.round_len-count.ensures.within);
       few = omega (arith, c.rounds.invariant.few, c.in-Ok.ensures.few);
@@ -139,15 +170,17 @@ returns-in-Err-write_round-clause-err g c =
     let done = c.rounds.done in
     let count = c.round_len-count.result in
     let n = length c.args.posts.now in
-    let f : Request → Task = task_of (g.F.Folder.state c.args.folder.now).number_of in
+    let number_of = (g.F.Folder.state c.args.folder.now).number_of in
     let rest : take (length rs - done) (drop done rs) ≡ drop done rs =
     take_all (length rs - done) (drop done rs) (omega (arith, length-drop done rs)) in
     let size : done + count - done ≡ count = omega arith in
-    let tasks : c.deref.result.now ≡ map f (take count (drop done rs)) =
-    c.deref.ensures.value ∙ c.in_default.ensures.tasks
-    ∙ ap (λ (n : ℕ). map f (take n (drop done rs))) size in
+    let given : AreGivenOf number_of (take count (drop done rs)) c.deref.result.now =
+    subst (λ (ts : List Task). AreGivenOf number_of (take count (drop done rs)) ts)
+    (sym c.deref.ensures.value)
+    (subst (λ (n : ℕ). AreGivenOf number_of (take n (drop done rs)) c.begin.new.tasks.items) size
+    c.in_default.ensures.tasks) in
     let long : length c.deref.result.now ≡ count =
-    ap length tasks ∙ length-map (take count (drop done rs)) f
+    given_length number_of (take count (drop done rs)) c.deref.result.now given
     ∙ omega (
       arith,
       length-take count (drop done rs),
@@ -180,7 +213,8 @@ returns-in-Err-write_round-clause-err g c =
     (map (λ p. p.answers.items) c.answer_round.new.posts)) c.requires.crew.0
     c.in_default.ensures.ok c.rounds.invariant.so_far (rw rest at c.round_len-count.ensures.round)
     (omega (arith, c.round_len-count.ensures.within))
-    (rw tasks at turns)
+    (turns_named g.F.W.World.files (terms_of c.args.cache.now.gate) number_of n 0
+    (take count (drop done rs)) c.deref.result.now _ _ _ given turns)
     c.in-Err-write_round.ensures.part
     (rises_from (g.O.Sink.faults c.args.out.now) (g.O.Sink.faults c.rounds.out)
     (g.O.Sink.faults c.write_round.new.out) c.rounds.invariant.faults
