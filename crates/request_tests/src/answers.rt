@@ -63,6 +63,30 @@ fn prints_values(rt: HostRuntime) -> Result<(), Fail> {
     Ok(())
 }
 
+/// The same of a lookup along a footprint.
+static FOOTPRINTS: &[(u32, &[u16], &str)] = &[
+    (1, &[386], "texd 1 386"),
+    (
+        4294967295,
+        &[0, 65535, 7, 80, 900, 1000, 20000, 3],
+        "texd 4294967295 0 65535 7 80 900 1000 20000 3",
+    ),
+];
+
+#[test]
+fn prints_footprints(rt: HostRuntime) -> Result<(), Fail> {
+    let alloc = rt.alloc();
+    let texts = ValueTexts::new(alloc)?;
+    for (generation, items, line) in FOOTPRINTS {
+        let answer = Answer::Texd {
+            generation: *generation,
+            values: values(alloc, items)?,
+        };
+        is_line(&rt, alloc, &texts, answer, line)?;
+    }
+    Ok(())
+}
+
 /// The generation, the channels and the values of a region, and its line.
 static REGIONS: &[(u32, u32, &[u16], &str)] = &[
     (

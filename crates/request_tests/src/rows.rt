@@ -1,7 +1,7 @@
 //! Single lines, by hand from docs/REQUESTS.md.
 
 /// Lines that are requests, and what they ask for with each number spelled shortest.
-pub(crate) static RIGHT: [(&str, &str); 47] = [
+pub(crate) static RIGHT: [(&str, &str); 55] = [
     (
         "tex 0 0 0 black black closest 1 a",
         "tex 0 0 0 black black closest 1 a",
@@ -67,6 +67,38 @@ pub(crate) static RIGHT: [(&str, &str); 47] = [
         "tex 0 0 0 clamp clamp trilinear 7 sync",
     ),
     (
+        "texd 0 0 0 0 0 0 black black 1 a",
+        "texd 0 0 0 0 0 0 black black 1 a",
+    ),
+    (
+        "texd 32768 8192 65536 0 0 0 clamp clamp 1 A.tif",
+        "texd 32768 8192 65536 0 0 0 clamp clamp 1 A.tif",
+    ),
+    (
+        "texd -1 -2 -3 -4 -5 -6 periodic mirror 8 a b",
+        "texd -1 -2 -3 -4 -5 -6 periodic mirror 8 a b",
+    ),
+    (
+        "texd 1 2 3 4 5 6 mirror black 4 t",
+        "texd 1 2 3 4 5 6 mirror black 4 t",
+    ),
+    (
+        "texd -1073741824 1073741823 -1073741824 1073741823 -1073741824 1073741823 clamp periodic 1 x",
+        "texd -1073741824 1073741823 -1073741824 1073741823 -1073741824 1073741823 clamp periodic 1 x",
+    ),
+    (
+        "texd 1073741823 -1073741824 1073741823 -1073741824 1073741823 -1073741824 black clamp 1 x",
+        "texd 1073741823 -1073741824 1073741823 -1073741824 1073741823 -1073741824 black clamp 1 x",
+    ),
+    (
+        "texd -0 0000000000 0000000007 -0000000001 00 -00 clamp clamp 0000000008 x",
+        "texd 0 0 7 -1 0 0 clamp clamp 8 x",
+    ),
+    (
+        "texd 0 0 0 0 0 0 clamp clamp 2  x ",
+        "texd 0 0 0 0 0 0 clamp clamp 2  x ",
+    ),
+    (
         "pixels 0 2 3 4 2 squares.tif",
         "pixels 0 2 3 4 2 squares.tif",
     ),
@@ -120,8 +152,8 @@ pub(crate) static RIGHT: [(&str, &str); 47] = [
     ("sync", "sync"),
 ];
 
-/// The word is none of the ten.
-pub(crate) static UNKNOWN_WORDS: [&str; 42] = [
+/// The word begins no form.
+pub(crate) static UNKNOWN_WORDS: [&str; 45] = [
     " ",
     "  ",
     " tex 0 0 0 clamp clamp closest 1 x",
@@ -133,6 +165,9 @@ pub(crate) static UNKNOWN_WORDS: [&str; 42] = [
     "te 0",
     "text 0 0",
     "tex\t0 0",
+    "Texd 0 0 0 0 0 0 clamp clamp 1 x",
+    "texdd 0",
+    "texd\t0",
     "pixel 0 0 0 1 1 n",
     "pixelss 0",
     "infos a",
@@ -167,7 +202,7 @@ pub(crate) static UNKNOWN_WORDS: [&str; 42] = [
 ];
 
 /// The line ends in front of a field, or the name is empty.
-pub(crate) static MISSING_FIELDS: [&str; 27] = [
+pub(crate) static MISSING_FIELDS: [&str; 38] = [
     "tex",
     "tex 0",
     "tex 0 0",
@@ -177,6 +212,17 @@ pub(crate) static MISSING_FIELDS: [&str; 27] = [
     "tex 0 0 0 clamp clamp closest",
     "tex 0 0 0 clamp clamp closest 1",
     "tex 0 0 0 clamp clamp closest 1 ",
+    "texd",
+    "texd 0",
+    "texd 0 0",
+    "texd 0 0 0",
+    "texd 0 0 0 0",
+    "texd 0 0 0 0 0",
+    "texd 0 0 0 0 0 0",
+    "texd 0 0 0 0 0 0 clamp",
+    "texd 0 0 0 0 0 0 clamp clamp",
+    "texd 0 0 0 0 0 0 clamp clamp 1",
+    "texd 0 0 0 0 0 0 clamp clamp 1 ",
     "pixels",
     "pixels 0",
     "pixels 0 0",
@@ -198,7 +244,7 @@ pub(crate) static MISSING_FIELDS: [&str; 27] = [
 ];
 
 /// A number is not spelled as one.
-pub(crate) static NO_NUMBERS: [&str; 47] = [
+pub(crate) static NO_NUMBERS: [&str; 57] = [
     "tex ",
     "tex  0 0 clamp clamp closest 1 x",
     "tex x",
@@ -225,6 +271,16 @@ pub(crate) static NO_NUMBERS: [&str; 47] = [
     "tex 0 0 0 clamp clamp closest 00000000001 x",
     "tex 1\t2 0",
     "tex ٣ 0 0 clamp clamp closest 1 x",
+    "texd ",
+    "texd --1 0",
+    "texd 0 +1 0 0 0 0 clamp clamp 1 x",
+    "texd 0 0 - 0 0 0 clamp clamp 1 x",
+    "texd 0 0 0 x",
+    "texd 0 0 0 0  0 clamp clamp 1 x",
+    "texd 0 0 0 0 0 clamp clamp 1 x",
+    "texd 0 0 0 0 0 -00000000001 clamp clamp 1 x",
+    "texd 0 0 0 0 0 0 clamp clamp closest 1 x",
+    "texd 0 0 0 0 0 0 clamp clamp -1 x",
     "pixels ",
     "pixels -1 0 0 1 1 n",
     "pixels 0 x 0 1 1 n",
@@ -249,7 +305,7 @@ pub(crate) static NO_NUMBERS: [&str; 47] = [
 ];
 
 /// A number is spelled as one and out of its range.
-pub(crate) static OUT_OF_RANGE: [&str; 25] = [
+pub(crate) static OUT_OF_RANGE: [&str; 41] = [
     "tex 2147483648 0 0 clamp clamp closest 1 x",
     "tex -2147483649 0 0 clamp clamp closest 1 x",
     "tex 9999999999 0 0 clamp clamp closest 1 x",
@@ -263,6 +319,22 @@ pub(crate) static OUT_OF_RANGE: [&str; 25] = [
     "tex 0 0 0 clamp clamp closest 4294967297 x",
     "tex 0 0 0 clamp clamp closest 0000000000 x",
     "tex 2147483648",
+    "texd 1073741824 0 0 0 0 0 clamp clamp 1 x",
+    "texd -1073741825 0 0 0 0 0 clamp clamp 1 x",
+    "texd 0 1073741824 0 0 0 0 clamp clamp 1 x",
+    "texd 0 -1073741825 0 0 0 0 clamp clamp 1 x",
+    "texd 0 0 1073741824 0 0 0 clamp clamp 1 x",
+    "texd 0 0 -1073741825 0 0 0 clamp clamp 1 x",
+    "texd 0 0 0 1073741824 0 0 clamp clamp 1 x",
+    "texd 0 0 0 -1073741825 0 0 clamp clamp 1 x",
+    "texd 0 0 0 0 1073741824 0 clamp clamp 1 x",
+    "texd 0 0 0 0 -1073741825 0 clamp clamp 1 x",
+    "texd 0 0 0 0 0 1073741824 clamp clamp 1 x",
+    "texd 0 0 0 0 0 -1073741825 clamp clamp 1 x",
+    "texd 2147483647 0",
+    "texd -9999999999 0",
+    "texd 0 0 0 0 0 0 clamp clamp 0 x",
+    "texd 0 0 0 0 0 0 clamp clamp 9 x",
     "pixels 4294967296 0 0 1 1 n",
     "pixels 0 2147483648 0 1 1 n",
     "pixels 0 -2147483649 0 1 1 n",
@@ -278,7 +350,7 @@ pub(crate) static OUT_OF_RANGE: [&str; 25] = [
 ];
 
 /// A wrap or a filter is none of its words.
-pub(crate) static UNKNOWN_CHOICES: [&str; 21] = [
+pub(crate) static UNKNOWN_CHOICES: [&str; 26] = [
     "tex 0 0 0 ",
     "tex 0 0 0  clamp closest 1 x",
     "tex 0 0 0 Clamp clamp closest 1 x",
@@ -300,6 +372,11 @@ pub(crate) static UNKNOWN_CHOICES: [&str; 21] = [
     "tex 0 0 0 clamp clamp trilinearly 1 x",
     "tex 0 0 0 clamp clamp 1 x",
     "tex 0 0 0 clamp clamp  1 x",
+    "texd 0 0 0 0 0 0 0 clamp clamp 1 x",
+    "texd 0 0 0 0 0 0  clamp 1 x",
+    "texd 0 0 0 0 0 0 closest clamp 1 x",
+    "texd 0 0 0 0 0 0 clamp linear 1 x",
+    "texd 0 0 0 0 0 0 clamp 1 x",
 ];
 
 /// Something stands behind a word that has no fields.
@@ -319,13 +396,17 @@ pub(crate) static TRAILING_TEXT: [&str; 12] = [
 ];
 
 /// Lines with several causes, and the first from left to right.
-pub(crate) static SEVERAL: [(&str, u32); 12] = [
+pub(crate) static SEVERAL: [(&str, u32); 16] = [
     ("tex x 2147483648 0 nowrap clamp closest 9 ", 3),
     ("tex 2147483648 x 0 nowrap clamp closest 9 ", 4),
     ("tex 0 0 0 nowrap clamp nofilter 9 ", 5),
     ("tex 0 0 0 clamp clamp closest 9 ", 4),
     ("tex 0 0 0 clamp clamp closest x", 3),
     ("tex 0 0 0 clamp clamp nofilter", 5),
+    ("texd x 1073741824 0 0 0 0 nowrap clamp 9 ", 3),
+    ("texd 1073741824 x 0 0 0 0 nowrap clamp 9 ", 4),
+    ("texd 0 0 0 0 0 0 nowrap clamp 9 ", 5),
+    ("texd 0 0 0 0 0 0 clamp clamp 9 ", 4),
     ("pixels x 2147483648 0 1 1 ", 3),
     ("pixels 0 2147483648 x 1 1 ", 4),
     ("pixels 0 0 0 4294967296", 4),

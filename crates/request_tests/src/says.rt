@@ -2,7 +2,7 @@
 
 use request_lang::{BadList, ParseError, Request, bad_list_text, parse};
 use std::alloc::{AllocError, Global};
-use texel_filter::{Filter, TexRequest, Wrap};
+use texel_filter::{DerivRequest, Filter, TexRequest, Wrap};
 
 fn wrap_word(wrap: Wrap) -> &'static str {
     match wrap {
@@ -29,10 +29,25 @@ fn tex_line(alloc: Global, request: &TexRequest, name: &str) -> Result<String, A
     format!(in alloc; "tex {s} {t} {lod} {swrap} {twrap} {filter} {nch} {name}\n")
 }
 
+fn texd_line(alloc: Global, request: &DerivRequest, name: &str) -> Result<String, AllocError> {
+    let DerivRequest { s, t, nch, .. } = *request;
+    let DerivRequest {
+        dsdx,
+        dtdx,
+        dsdy,
+        dtdy,
+        ..
+    } = *request;
+    let swrap = wrap_word(request.swrap);
+    let twrap = wrap_word(request.twrap);
+    format!(in alloc; "texd {s} {t} {dsdx} {dtdx} {dsdy} {dtdy} {swrap} {twrap} {nch} {name}\n")
+}
+
 /// The line of a request, each number spelled shortest.
 fn line_of(alloc: Global, request: &Request) -> Result<String, AllocError> {
     match request {
         Request::Tex { request, name } => tex_line(alloc, request, name.as_str()),
+        Request::Texd { request, name } => texd_line(alloc, request, name.as_str()),
         Request::Pixels {
             level,
             x,
