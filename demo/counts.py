@@ -62,7 +62,7 @@ def closing(requests, lines, workers, keys):
     for request, line, worker in zip(requests, lines, dealt(requests, workers)):
         for key in keys(request, line):
             counts[worker] = asked(counts[worker], key)
-    answers = ("tex", "pixels", "info", "held", "dropped", "invalidated", "renewed", "stat", "sync")
+    answers = ("tex", "texd", "pixels", "info", "held", "dropped", "invalidated", "renewed", "stat", "sync")
     refused = sum(line[0] not in answers for line in lines)
     of_workers = [["worker", i, "needs", it.needs, "hits", it.hits] for i, it in enumerate(counts)]
     return [*of_workers, ["total", len(lines), "refused", refused]]

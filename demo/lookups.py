@@ -73,12 +73,37 @@ class Lookup:
         page = self.levels[level]
         return self.texel(level, self.s * page.width // ONE, self.t * page.height // ONE, channel)
 
-    def trilinear(self, channel):
+    def trilinear_sum(self, channel):
         level, q = divmod(min(self.lod, ONE * (len(self.levels) - 1)), ONE)
         both = (ONE - q) * self.bilinear_sum(level, channel)
-        if q:
-            both += q * self.bilinear_sum(level + 1, channel)
-        return (both + 2 ** 47) // 2 ** 48
+        return both + q * self.bilinear_sum(level + 1, channel) if q else both
+
+    def trilinear(self, channel):
+        return (self.trilinear_sum(channel) + 2 ** 47) // 2 ** 48
 
     def answer(self, channel):
         return self.trilinear(channel) if self.kind == "trilinear" else self.one_level(channel)
+
+
+class Footprint:
+    """A request `texd S T DSDX DTDX DSDY DTDY SWRAP TWRAP NCH NAME` over the levels of a picture: trilinear
+    lookups along the longer of two steps, and their mean."""
+
+    def __init__(self, levels, value, s, t, right, below, swrap, twrap):
+        across, down = (max(abs(ds) * levels[0].width, abs(dt) * levels[0].height) for ds, dt in (right, below))
+        ds, dt = right if across >= down else below
+        longer, shorter = max(across, down), max(min(across, down), ONE)
+        n = min(8, max(1, -(-longer // shorter)))
+        part = max(ONE, -(-longer // n))
+        level = (part // ONE).bit_length() - 1
+        lod = ONE * level + (part - (ONE << level) >> level)
+        places = [(s + (2 * j + 1 - n) * ds // (2 * n), t + (2 * j + 1 - n) * dt // (2 * n)) for j in range(n)]
+        self.probes = [Lookup(levels, value, *place, lod, swrap, twrap, "trilinear") for place in places]
+
+    def visits(self):
+        """The texels that its probes visit, probe 0 first."""
+        return [it for probe in self.probes for it in probe.visits()]
+
+    def answer(self, channel):
+        n = len(self.probes)
+        return (sum(it.trilinear_sum(channel) for it in self.probes) + n * 2 ** 47) // (n * 2 ** 48)

@@ -5,7 +5,7 @@ from functools import cache
 from pathlib import Path
 
 from counts import cell, closing, region_cells
-from lookups import Lookup
+from lookups import Footprint, Lookup
 from make_pictures import BLACK_IS_ZERO, CUT, PICTURES, WHITE_IS_ZERO
 
 # each file is in the first generation that the program meets
@@ -79,19 +79,27 @@ def on_pages(word, numbers, pages):
         s, t, lod = map(int, numbers[:3])
         lookup = Lookup(levels, value, s, t, lod, *numbers[3:6])
         return ["tex", GENERATION, *map(lookup.answer, range(int(numbers[6])))]
+    if word == "texd":
+        return ["texd", GENERATION, *map(footprint(levels, numbers).answer, range(int(numbers[8])))]
     level, x, y, w, h = map(int, numbers)
     if level >= len(levels):
         return ["no level", GENERATION, len(levels)]
     return ["pixels", GENERATION, *region(levels[level], x, y, w, h)]
 
 
+def footprint(levels, numbers):
+    """The lookup that the fields of a `texd` ask for."""
+    s, t, *steps = map(int, numbers[:6])
+    return Footprint(levels, value, s, t, steps[:2], steps[2:], *numbers[6:8])
+
+
 def keys_on(word, numbers, pages, name):
     """The cells that an answer on the pages of a picture needed, in their order."""
     levels = with_generated(pages)
-    if word == "tex":
+    if word in ("tex", "texd"):
         s, t, lod = map(int, numbers[:3])
-        visits = Lookup(levels, value, s, t, lod, *numbers[3:6]).visits()
-        return [(name, level, *cell(levels[level], x, y)) for level, x, y in visits]
+        asked = Lookup(levels, value, s, t, lod, *numbers[3:6]) if word == "tex" else footprint(levels, numbers)
+        return [(name, level, *cell(levels[level], x, y)) for level, x, y in asked.visits()]
     if word == "pixels":
         level, x, y, w, h = map(int, numbers)
         return [(name, level, *it) for it in region_cells(levels[level], x, y, w, h)]
@@ -99,9 +107,9 @@ def keys_on(word, numbers, pages, name):
 
 
 def keys(request, line, pages_of):
-    """The cells that a request and its line needed: none of a refusal, and none but of `tex` and
+    """The cells that a request and its line needed: none of a refusal, and none but of `tex`, `texd` and
     `pixels`."""
-    if line[0] not in ("tex", "pixels"):
+    if line[0] not in ("tex", "texd", "pixels"):
         return []
     word, rest = request.split(" ", 1)
     *numbers, name = rest.split(" ", FIELDS[word])
@@ -109,7 +117,7 @@ def keys(request, line, pages_of):
 
 
 # how many fields stand between the word of a request and its name
-FIELDS = {"tex": 7, "pixels": 5, "info": 0}
+FIELDS = {"tex": 7, "texd": 9, "pixels": 5, "info": 0}
 
 
 def answer(request):

@@ -100,6 +100,19 @@ EXAMPLES = [
      ["worker 0 needs 0 hits 0", "total 4 refused 4"], 1),
     (ALONE, ["tex 0 0 0 clamp clamp closest 1 A.tif", "renew A.tif", "tex 0 0 0 clamp clamp closest 1 A.tif"],
      ["tex 1 0", "renewed 1", "tex 1 0"], ["worker 0 needs 2 hits 0", "total 3 refused 0"], 0),
+    # a texture in tiles: the first one, its neighbour one to the right and one up, and places in no tile
+    (ALONE, ["tex 32768 8192 0 clamp clamp closest 1 t.<UDIM>.tif", "tex 98304 73728 0 clamp clamp closest 1 t.<UDIM>.tif",
+             "tex 65536 0 0 clamp clamp closest 1 t.<UDIM>.tif", "tex -1 0 0 clamp clamp closest 1 t.<UDIM>.tif",
+             "tex 655360 0 0 clamp clamp closest 1 t.<UDIM>.tif", "info t.<UDIM>.tif"],
+     ["tex 1 514", "tex 1 26214", "no such file", "no such file", "no such file", "no such file"],
+     ["worker 0 needs 2 hits 0", "total 6 refused 4"], 1),
+    # along a footprint: one probe, four of level 0 on one row, one of the last level
+    (ALONE, ["texd 32768 32768 0 0 0 0 clamp clamp 1 A.tif"], ["texd 1 6554"],
+     ["worker 0 needs 4 hits 3", "total 1 refused 0"], 0),
+    (ALONE, ["texd 32768 8192 65536 0 0 0 clamp clamp 1 A.tif"], ["texd 1 386"],
+     ["worker 0 needs 16 hits 15", "total 1 refused 0"], 0),
+    (ALONE, ["texd 32768 32768 32768 0 0 32768 clamp clamp 1 A.tif"], ["texd 1 6682"],
+     ["worker 0 needs 4 hits 3", "total 1 refused 0"], 0),
     (ALONE, [], [], ["worker 0 needs 0 hits 0", "total 0 refused 0"], 0),
 ]
 

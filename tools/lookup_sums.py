@@ -1,14 +1,17 @@
 #!/usr/bin/env python3
-"""Prints the sums that crates/request_tests/src/many_lookups.rt has: of many lookups in four pictures.
+"""Prints the sums that crates/request_tests/src/many_lookups.rt has, of many lookups in four pictures,
+and behind them that of many_footprints.rt, of many lookups along footprints.
 
 Written after the formulas of docs/FILTERING.md alone, with Python's whole numbers, which have no bound
-and whose division rounds down. It shares nothing with texel_filter.
+and whose division rounds down. It shares nothing with texel_filter
+and tex_aniso.
 """
 
 UNIT, HALF = 65536, 32768
 WRAPS = ["black", "clamp", "periodic", "mirror"]
 PICTURES = [(1, 1, 1), (5, 3, 3), (64, 33, 7), (131072, 3, 18)]
 DRAWN, EACH, ENDS = 256, 16, 128
+ALONG, EACH_ALONG = 512, 32
 LEAST, MOST, LAST_LOD = -(2**31), 2**31 - 1, 2**32 - 1
 
 
@@ -66,13 +69,51 @@ class Lookup:
     def bilinear(self, c):
         return (self.bilinear_sum(self.nearest(), c) + 2**31) // 2**32
 
-    def trilinear(self, c):
+    def trilinear_sum(self, c):
         lod = min(self.lod, UNIT * (self.levels - 1))
         level, q = divmod(lod, UNIT)
         both = (UNIT - q) * self.bilinear_sum(level, c)
         if q:
             both += q * self.bilinear_sum(level + 1, c)
-        return (both + 2**47) // 2**48
+        return both
+
+    def trilinear(self, c):
+        return (self.trilinear_sum(c) + 2**47) // 2**48
+
+
+def rounded_up(a, b):
+    return -(-a // b)
+
+
+class Footprint:
+    """A lookup along a footprint: its trilinear probes."""
+
+    def __init__(self, picture, s, t, right, below, swrap, twrap):
+        w, h, _ = picture
+        lengths = [max(abs(ds) * w, abs(dt) * h) for ds, dt in (right, below)]
+        ds, dt = right if lengths[0] >= lengths[1] else below
+        major, minor = max(lengths), min(lengths)
+        n = min(8, max(1, rounded_up(major, max(minor, UNIT))))
+        e = max(UNIT, rounded_up(major, n))
+        k = 0
+        while UNIT * 2 ** (k + 1) <= e:
+            k += 1
+        lod = UNIT * k + (e - UNIT * 2**k) // 2**k
+        self.probes = [
+            Lookup(
+                picture,
+                s + (2 * j + 1 - n) * ds // (2 * n),
+                t + (2 * j + 1 - n) * dt // (2 * n),
+                lod,
+                swrap,
+                twrap,
+            )
+            for j in range(n)
+        ]
+
+    def mean(self, c):
+        n = len(self.probes)
+        return (sum(it.trilinear_sum(c) for it in self.probes) + n * 2**47) // (n * 2**48)
 
 
 class Draws:
@@ -87,6 +128,9 @@ class Draws:
 
     def coordinate(self, k):
         return (self.next() - 2**31) >> (7 * (k % 3))
+
+    def number(self, size):
+        return (self.next() - 2**31) >> (1 + size % 24)
 
 
 def lookups(picture):
@@ -103,14 +147,27 @@ def lookups(picture):
         yield Lookup(picture, s, t, [0, LAST_LOD][k // 4 % 2], *wraps), 1 + k % 8
 
 
-def checksum(picture, by):
+def footprints(picture):
+    """The lookups along footprints, with the number of channels of each."""
+    draws = Draws()
+    for k in range(ALONG):
+        s, t = draws.number(7 * (k % 3)), draws.number(7 * (k % 3))
+        right = draws.number(k), draws.number(k // 2)
+        below = draws.number(k // 3), draws.number(k // 5)
+        wraps = WRAPS[k // (4 * EACH_ALONG) % 4], WRAPS[k // EACH_ALONG % 4]
+        yield Footprint(picture, s, t, right, below, *wraps), 1 + k % 8
+
+
+def checksum(asked, by):
     """The values, each times 31 to the power of how many come after it, modulo 2^64."""
     total = 0
-    for lookup, channels in lookups(picture):
+    for lookup, channels in asked:
         for c in range(channels):
             total = (total * 31 + by(lookup, c)) % 2**64
     return total
 
 
 for picture in PICTURES:
-    print(picture, *(checksum(picture, by) for by in (Lookup.closest, Lookup.bilinear, Lookup.trilinear)))
+    filters = (Lookup.closest, Lookup.bilinear, Lookup.trilinear)
+    sums = [checksum(lookups(picture), by) for by in filters]
+    print(picture, *sums, checksum(footprints(picture), Footprint.mean))

@@ -199,6 +199,13 @@ PICTURES |= {
                               photometric=WHITE_IS_ZERO, offset_type=LONG, planar=True)], WIDE[BIG]),
 }
 
+# And a texture in two tiles, A.tif and the same with greater samples: the first one, and its neighbour one to
+# the right and one up.
+PICTURES |= {
+    "t.1001.tif": (LITTLE, [Level(4, 4, grid, rows=4)]),
+    "t.1012.tif": (LITTLE, [Level(4, 4, lambda x, y: [16 * y + x + 100], rows=4)]),
+}
+
 # Files that are another one with some bytes changed, and the fault that this makes.
 CHANGED = {
     "loop.tif": ("A.tif", 118, b"\x08", None),
@@ -268,10 +275,30 @@ MOST_TEXELS = 2 ** 20
 WORKERS = 4
 
 
+MARK = "<UDIM>"
+
+
+def meant(request):
+    """The request that a lookup stands for whose name has the mark of a tile: by the rule of docs/REQUESTS.md,
+    "UDIM names". None where it lies in no tile."""
+    word = request.split(" ", 1)[0]
+    if word not in ("tex", "texd") or MARK not in request:
+        return request
+    _, s, t, *fields, name = request.split(" ", FIELDS[word] + 1)
+    (column, s), (row, t) = divmod(int(s), 65536), divmod(int(t), 65536)
+    number = 1001 + column + 10 * row
+    if not 0 <= column <= 9 or row < 0 or number > 9999:
+        return None
+    return " ".join([word, str(s), str(t), *fields, name.replace(MARK, str(number), 1)])
+
+
 def answer(request):
     """What a request is answered: each file is met in its first generation."""
     if request == "sync":
         return ["sync"]
+    request = meant(request)
+    if request is None:
+        return ["no such file"]
     word = request.split(" ", 1)[0]
     _, *numbers, name = request.split(" ", FIELDS[word] + 1)
     if name not in PICTURES and name not in CHANGED and name not in FAULTS:
@@ -293,7 +320,7 @@ def written():
     """What it writes, by the path in the folder of the crate."""
     asked = requests()
     lines = [answer(it) for it in asked]
-    lines += closing(asked, lines, WORKERS, lambda request, line: keys(request, line, levels_of))
+    lines += closing(asked, lines, WORKERS, lambda request, line: keys(meant(request) or "", line, levels_of))
     text = "".join(" ".join(map(str, it)) + "\n" for it in lines)
     return {f"data/{name}": data for name, data in files().items()} | {"stdout": text.encode()}
 
