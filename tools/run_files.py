@@ -221,6 +221,25 @@ CHANGED = {
     "nine.tif": ("A.tif", 90, b"\x09", "9"),
     "few.tif": ("A.tif", 102, b"\x02", "11"),
     "end.tif": ("A.tif", 78, b"\x7b", "12 0 0"),
+    # each fault of a directory once more: its place, its count; fields that lack, that have another type, no
+    # value, values outside the file; depth, colour; sides, samples and rows of 0; counts; tiles; blocks
+    "front.tif": ("A.tif", 4, b"\x04", "4"),
+    "many.tif": ("A.tif", 8, b"\xff\xff", "4"),
+    "lacks.tif": ("A.tif", 22, b"\xe8\xfd", "5 257"),
+    "tiled.tif": ("A.tif", 94, b"\x42\x01", "5 323"),
+    "kind.tif": ("A.tif", 12, b"\x05", "6 256"),
+    "void.tif": ("A.tif", 26, b"\0", "6 257"),
+    "apart.tif": ("A.tif", 74, b"\xff" * 4, "6 273"),
+    "bits.tif": ("A.tif", 42, b"\x04", "7 258 4"),
+    "tone.tif": ("A.tif", 66, b"\x03", "7 262 3"),
+    "norows.tif": ("A.tif", 90, b"\0", "8"),
+    "nobytes.tif": ("A.tif", 102, b"\0", "8"),
+    "sixty.tif": ("B.tif", 103, b"\x3c", "10"),
+    "onebyte.tif": ("A.tif", 102, b"\x01", "11"),
+    "start.tif": ("A.tif", 78, b"\0", "12 0 0"),
+    "beyond.tif": ("A.tif", 78, b"\xff" * 4, "12 0 0"),
+    # a second ImageWidth, of which the first counts
+    "twice.tif": ("A.tif", 106, b"\0\x01", None),
     # with wide offsets: sums and products that 64 bits do not hold, and numbers above 2^32
     "four.tif": ("big.tif", 4, b"\x04", "3"),
     "places.tif": ("big.tif", 8, b"\xf8" + b"\xff" * 7, "4"),
@@ -238,6 +257,7 @@ CHANGED = {
 
 # Files that are another one cut short by so many bytes, and their faults.
 CUT = {"short.tif": ("A.tif", 131, "1"), "cut.tif": ("B.tif", 1, "12 0 3"),
+       "torn4.tif": ("A.tif", 17, "4"), "last.tif": ("A.tif", 1, "12 0 0"),
        "torn.tif": ("planar.tif", 1, "12 0 5"),
        "head.tif": ("big.tif", 213, "1"), "cut8.tif": ("big.tif", 1, "12 0 0")}
 
