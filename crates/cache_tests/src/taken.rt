@@ -237,14 +237,29 @@ fn tries<R: Wait, T: Tap + Drop>(
     rounds(&Forever::new(rt), &mut worker)
 }
 
-// Takes the shard again and again, until the other caller has ended.
-fn takes<R: Wait, T: Tap>(rt: &R, cache: &Cache<T>, mut pass: Pass<T::W>, ended: &AtomicBool)
+// Takes the shard again and again, until the other caller has ended. It reads no file.
+fn takes<R: Wait, T: Tap + Drop>(
+    rt: &R,
+    alloc: Global,
+    cache: &Cache<T>,
+    pass: Pass<T::W>,
+    ended: &AtomicBool,
+)
     requires pass { IsPassOf cache.now pass }
+    requires files { cache.now.files.board.files ≡ 5 }
     requires shards { length cache.now.gate.id ≡ 1 }
+    requires told { (file : ℕ) → file < 5 → IsFile T.W.files file }
 {
     let waiter = Forever::new(rt);
+    let mut worker = Worker {
+        cache,
+        shards: 1,
+        pass,
+        taps: Vec::new(alloc),
+        out: Vec::new(alloc),
+    };
     for _ in 0..TAKES {
-        let _numbers = cache.count(&waiter, &mut pass, 0);
+        let _numbers = worker.answer(&waiter, 0, Count(0));
         if ended.load(Ordering::Acquire) {
             return;
         }
@@ -271,7 +286,7 @@ where
     let flag = &ended;
     let ((), met) = thread::join(
         rt,
-        move || takes(rt, cache, pass, flag),
+        move || takes(rt, alloc, cache, pass, flag),
         move || {
             let met = tries(rt, alloc, cache, caller);
             flag.store(true, Ordering::Release);
