@@ -12,11 +12,7 @@ mod changing_file;
 #[cfg(test)]
 mod closings;
 #[cfg(test)]
-mod each_in_turn;
-#[cfg(test)]
 mod failures;
-#[cfg(test)]
-mod footprints;
 #[cfg(test)]
 mod huge_file;
 #[cfg(test)]
@@ -27,8 +23,6 @@ mod lines;
 mod lists;
 #[cfg(test)]
 mod lookups;
-#[cfg(test)]
-mod many_footprints;
 #[cfg(test)]
 mod many_lookups;
 #[cfg(test)]
@@ -59,8 +53,6 @@ mod small_files;
 mod streams;
 #[cfg(test)]
 mod stress;
-#[cfg(test)]
-mod tiles;
 #[cfg(test)]
 mod visits;
 #[cfg(test)]

@@ -42,28 +42,14 @@ pub(crate) struct Ran {
 }
 
 impl Ran {
-    /// What it wrote.
-    pub(crate) fn text(&self) -> &str {
-        from_utf8(self.written.bytes()).unwrap_or("no text")
-    }
-
-    pub(crate) fn status(&self) -> u8 {
-        self.status
-    }
-
-    /// How many calls failed.
-    pub(crate) fn faults(&self) -> u64 {
-        self.faults
-    }
-
     fn wrote(&self, rt: &impl Abort, written: &str, message: &str) {
-        let text = self.text();
+        let text = from_utf8(self.written.bytes()).unwrap_or("no text");
         assert!(rt; text == written, "in {message}: {text}");
     }
 
     /// It wrote one of these and ended with this status, and each tap that was made was given back.
     pub(crate) fn is_one_of(&self, rt: &impl Abort, written: &[&str], status: u8, message: &str) {
-        let text = self.text();
+        let text = from_utf8(self.written.bytes()).unwrap_or("no text");
         assert!(rt; written.contains(&text), "in {message}: {text}");
         self.is(rt, text, status, message);
     }
@@ -85,7 +71,7 @@ impl Ran {
         status: u8,
         message: &str,
     ) {
-        let text = self.text();
+        let text = from_utf8(self.written.bytes()).unwrap_or("no text");
         let counts = text
             .strip_prefix(written)
             .and_then(|closing| closing.strip_suffix(last))
