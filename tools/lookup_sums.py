@@ -1,6 +1,6 @@
 #!/usr/bin/env python3
 """Prints the sums that crates/request_tests/src/many_lookups.rt has, of many lookups in four pictures,
-and behind them those of many lookups along footprints.
+and behind them that of many_footprints.rt, of many lookups along footprints.
 
 Written after the formulas of docs/FILTERING.md alone, with Python's whole numbers, which have no bound
 and whose division rounds down. It shares nothing with texel_filter

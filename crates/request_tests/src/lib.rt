@@ -12,7 +12,11 @@ mod changing_file;
 #[cfg(test)]
 mod closings;
 #[cfg(test)]
+mod each_in_turn;
+#[cfg(test)]
 mod failures;
+#[cfg(test)]
+mod footprints;
 #[cfg(test)]
 mod huge_file;
 #[cfg(test)]
@@ -23,6 +27,8 @@ mod lines;
 mod lists;
 #[cfg(test)]
 mod lookups;
+#[cfg(test)]
+mod many_footprints;
 #[cfg(test)]
 mod many_lookups;
 #[cfg(test)]
@@ -53,6 +59,8 @@ mod small_files;
 mod streams;
 #[cfg(test)]
 mod stress;
+#[cfg(test)]
+mod tiles;
 #[cfg(test)]
 mod visits;
 #[cfg(test)]

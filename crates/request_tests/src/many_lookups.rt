@@ -8,7 +8,7 @@ use std::alloc::Global;
 use texel_filter::{Filter, TexRequest, Wrap, lookup};
 use tiff_format::MAX_CHANNELS;
 
-const WRAPS: [Wrap; 4] = [Wrap::Black, Wrap::Clamp, Wrap::Periodic, Wrap::Mirror];
+pub(crate) const WRAPS: [Wrap; 4] = [Wrap::Black, Wrap::Clamp, Wrap::Periodic, Wrap::Mirror];
 
 // The lookups of a picture and a filter that are drawn, and of each pair of wraps among them.
 const DRAWN: u32 = 256;
@@ -20,10 +20,10 @@ const ENDS: u32 = 128;
 
 // Numbers that show no order.
 #[derive(Drop)]
-struct Draws(u32);
+pub(crate) struct Draws(pub u32);
 
 impl Draws {
-    fn next(&mut self) -> u32 {
+    pub(crate) fn next(&mut self) -> u32 {
         self.0 = self.0.wrapping_mul(1664525).wrapping_add(1013904223);
         self.0
     }
@@ -95,7 +95,7 @@ fn checksum(alloc: Global, picture: &Picture, filter: Filter) -> Result<u64, Ref
     Ok(sum)
 }
 
-fn noise(width: u32, height: u32, levels: u32) -> Picture
+pub(crate) fn noise(width: u32, height: u32, levels: u32) -> Picture
     requires wide { IsSide width }
     requires high { IsSide height }
     requires some { 1 ≤ levels }
