@@ -70,7 +70,7 @@ class Directory:
 
     def __init__(self, file, at):
         self.file = file
-        entries = self.entries(at)
+        entries, self.following = self.entries_and_next(at)
         self.is_tiled = 322 in entries
         for tag in (256, 257, 323, 324) if self.is_tiled else (256, 257, 273):
             if tag not in entries:
@@ -82,8 +82,8 @@ class Directory:
         if len(self.fields[self.blocks_tag()]) < self.planes() * self.blocks_of_plane():
             raise Fault(11)
 
-    def entries(self, at):
-        """The place of the first entry of each tag; keeps the place of the next directory."""
+    def entries_and_next(self, at):
+        """The place of the first entry of each tag, and the place of the next directory."""
         form = self.file.form
         size = 4 + 2 * form.offset
         if at < form.header or not self.file.holds(at, form.count):
@@ -91,11 +91,10 @@ class Directory:
         first, count = at + form.count, self.file.number(at, form.count)
         if not self.file.holds(first, count * size + form.offset):
             raise Fault(4)
-        self.following = self.file.number(first + count * size, form.offset)
         found = {}
         for k in range(count):
             found.setdefault(self.file.number(first + k * size, 2), first + k * size)
-        return found
+        return found, self.file.number(first + count * size, form.offset)
 
     def one(self, tag):
         """A field that holds one number."""

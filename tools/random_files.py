@@ -1,6 +1,6 @@
 #!/usr/bin/env python3
-"""Makes pictures at random, breaks many of them, and compares what the program answers of them, and the lines
-that close the run, with what the formulas give.
+"""Makes pictures at random, breaks many of them, and compares what the program answers of them, the lines
+that close the run, and its status, with what the formulas give.
 
     python3 tools/random_files.py [--program FILE] [--seed N] [--rounds N]
 
@@ -30,6 +30,7 @@ FILES_OF_ROUND = 60
 # a file of the stored run that is larger takes its time, and a byte of it tells less
 MOST_BYTES = 13000
 WRAPS, FILTERS = ("black", "clamp", "periodic", "mirror"), ("closest", "bilinear", "trilinear")
+SECONDS_OF_ROUND = 60
 # bytes that mean something in a header, an entry or a count, and those beside them
 TELLING = (0, 1, 2, 3, 4, 7, 8, 9, 15, 16, 17, 42, 43, 127, 128, 254, 255)
 
@@ -46,8 +47,8 @@ def some_level(dice, width, height, channels, depth, kinds):
     types = {tag: dice.choice([SHORT, *kinds]) for tag in (256, 257, 258, 277, 278, 284, 322, 323)
              if dice.random() < 0.2}
     return Level(width, height, noise(dice.randrange(2 ** 16), depth, channels), depth,
-                 dice.choice([BLACK_IS_ZERO, WHITE_IS_ZERO, RGB]), tile, None if tile else dice.randint(1, height + 3),
-                 dice.choice(kinds), spoken=dice.random() < 0.3, planar=dice.random() < 0.4, types=types)
+                 dice.choice([BLACK_IS_ZERO, WHITE_IS_ZERO, RGB]), tile,
+                 None if tile else dice.randint(1, height + 3), dice.choice(kinds), spoken=dice.random() < 0.3, planar=dice.random() < 0.4, types=types)
 
 
 def some_picture(dice):
@@ -140,13 +141,14 @@ class Round:
         return [" ".join(map(str, it)) for it in answers]
 
     def written(self, program, words):
-        """What it writes."""
+        """What it writes, and its status."""
         with tempfile.TemporaryDirectory() as folder:
             for name, data in self.files.items():
                 (Path(folder) / name).write_bytes(data)
             asked = "".join(f"{it}\n" for it in self.requests)
-            done = subprocess.run([program, folder, *words], input=asked, capture_output=True, text=True, check=False)
-        return done.stdout.splitlines()
+            done = subprocess.run([program, folder, *words], input=asked, capture_output=True, text=True,
+                                  timeout=SECONDS_OF_ROUND, check=False)
+        return done.stdout.splitlines(), done.returncode
 
     def keep(self, request):
         """Where the file of a request is kept."""
@@ -174,13 +176,13 @@ def main():
     for _ in range(asked.rounds):
         one = Round(dice, seeds)
         words, workers = some_words(dice)
-        wanted, written = one.lines(workers), one.written(asked.program, words)
+        wanted, (written, status) = one.lines(workers), one.written(asked.program, words)
         for request, line, want in zip(one.requests, written, wanted):
             if line != want:
                 sys.exit(f"random_files.py: {' '.join(words)}: {request}\n  {line}\n  {want}\n  {one.keep(request)}")
-        if written != wanted:
-            sys.exit(f"random_files.py: {' '.join(words)}: {written[len(one.requests):]}, "
-                     f"and not {wanted[len(one.requests):]}")
+        if (written, status) != (wanted, 0 if wanted[-1].endswith("refused 0") else 1):
+            sys.exit(f"random_files.py: {' '.join(words)}: status {status}, {len(written)} lines of {len(wanted)}, "
+                     f"at the end {written[len(one.requests):]} and not {wanted[len(one.requests):]}")
         compared += len(one.requests)
         faults += sum(isinstance(it, Fault) for it in one.read.values())
     print(f"random_files.py: {compared} answers on {FILES_OF_ROUND * asked.rounds} files, of which {faults} are bad, "
