@@ -272,11 +272,14 @@ class Reach:
 
 
 def tests():
-    """The names of the test functions of the repository."""
+    """The names of the test functions of the repository, and of the tables and checks of the scripts that run it."""
     found = set()
     for file in CRATES.glob("*/src/**/*.rt"):
         text = file.read_text(encoding="utf-8")
         found.update(re.findall(r"#\[test\]\s*(?:#\[[^\]]*\]\s*)*(?:pub )?fn (\w+)", text))
+    for script in ("check_examples", "check_lists", "file_rows", "list_rows", "many_lookups"):
+        text = (TOP / "tools" / f"{script}.py").read_text(encoding="utf-8")
+        found.update(re.findall(r"^(?:def )?(\w+)(?:\(| = )", text, re.M))
     return found
 
 

@@ -113,8 +113,96 @@ EXAMPLES = [
      ["worker 0 needs 16 hits 15", "total 1 refused 0"], 0),
     (ALONE, ["texd 32768 32768 32768 0 0 32768 clamp clamp 1 A.tif"], ["texd 1 6682"],
      ["worker 0 needs 4 hits 3", "total 1 refused 0"], 0),
+    (ALONE, ["tex 32768 32768 65536 clamp clamp closest 1 A.tif"],
+     ["tex 1 11051"],
+     ["worker 0 needs 1 hits 0", "total 1 refused 0"], 0),
+    # two texels of four, which a black wrap leaves
+    (ALONE, ["tex 0 8192 0 black clamp bilinear 1 A.tif"],
+     ["tex 1 0"],
+     ["worker 0 needs 2 hits 1", "total 1 refused 0"], 0),
+    (ALONE, ["tex 32768 32768 0 clamp clamp bilinear 1 A.tif", "tex 32768 32768 0 clamp clamp bilinear 1 A.tif"],
+     ["tex 1 6554", "tex 1 6554"],
+     ["worker 0 needs 8 hits 7", "total 2 refused 0"], 0),
+    # the microcache is the third latest's no more
+    (ALONE, ["pixels 0 0 0 1 1 A.tif", "pixels 0 0 0 1 1 B.tif", "pixels 0 1 0 1 1 A.tif",
+             "pixels 0 79 0 1 1 B.tif", "pixels 0 2 0 1 1 A.tif", "pixels 0 1 0 1 1 B.tif"],
+     ["pixels 1 1 0", "pixels 1 3 0 20000 40000", "pixels 1 1 257", "pixels 1 3 79 20079 40079",
+      "pixels 1 1 514", "pixels 1 3 1 20001 40001"],
+     ["worker 0 needs 6 hits 2", "total 6 refused 0"], 0),
+    # what is refused needs nothing, and what is invalid under no name stays
+    (ALONE, ["pixels 0 0 0 1 1 A.tif", "pixels 9 0 0 1 1 A.tif", "invalidate none.tif", "hold 0 4 0 A.tif",
+             "pixels 0 0 0 1025 1024 A.tif", "pixels 0 3 3 1 1 A.tif"],
+     ["pixels 1 1 0", "no level 1 3", "no such file", "outside 1", "region too large", "pixels 1 1 13107"],
+     ["worker 0 needs 2 hits 1", "total 6 refused 4"], 1),
+    # each of these empties the microcache
+    (ALONE, ["pixels 0 0 0 1 1 A.tif", "invalidate A.tif", "pixels 0 0 0 1 1 A.tif", "invalidate_all",
+             "pixels 0 0 0 1 1 A.tif", "pixels 0 0 0 1 1 A.tif"],
+     ["pixels 1 1 0", "invalidated 1", "pixels 1 1 0", "invalidated all", "pixels 1 1 0", "pixels 1 1 0"],
+     ["worker 0 needs 4 hits 1", "total 6 refused 0"], 0),
+    # a worker counts its own requests alone
+    (["--workers", "2"], ["pixels 0 0 0 1 1 A.tif", "pixels 0 63 31 2 2 B.tif", "pixels 0 1 0 1 1 A.tif", "drop",
+                         "pixels 0 0 0 0 5 A.tif"],
+     ["pixels 1 1 0", "pixels 1 3 3163 23163 43163 3164 23164 43164 3263 23263 43263 3264 23264 43264",
+      "pixels 1 1 257", "nothing held", "pixels 1 1"],
+     ["worker 0 needs 2 hits 1", "worker 1 needs 4 hits 0", "total 5 refused 1"], 1),
+    # the microcache pins two of four tiles: the others take 12288 and 3072 bytes
+    (ALONE + ["--shards", "1"], ["pixels 0 63 31 2 2 B.tif", "stat"],
+     ["pixels 1 3 3163 23163 43163 3164 23164 43164 3263 23263 43263 3264 23264 43264",
+      "stat 4,2,15360,268435456"],
+     ["worker 0 needs 4 hits 0", "total 2 refused 0"], 0),
+    # three shards share the budget, of which a byte is left
+    (ALONE + ["--shards", "3", "--budget", "100"], ["stat", "stat"],
+     ["stat 0,0,0,33 0,0,0,33 0,0,0,33", "stat 0,0,0,33 0,0,0,33 0,0,0,33"],
+     ["worker 0 needs 0 hits 0", "total 2 refused 0"], 0),
     (ALONE, [], [], ["worker 0 needs 0 hits 0", "total 0 refused 0"], 0),
 ]
+
+# A file, the words behind the folder, for how many channels, and lookups with the values of their first channels;
+# those behind them are 0.
+LOOKUPS = [
+    # an exact half rounds up; texels beside the left and the right edge by each wrap; a black wrap leaves texels
+    # out; the LOD at both ends, and between two levels
+    ("A.tif", [], (1, 2), [
+        ("32768 32768 0 clamp clamp bilinear", [6554]), ("0 8192 0 periodic clamp bilinear", [386]),
+        ("0 8192 0 black clamp bilinear", [0]), ("0 8192 0 clamp clamp bilinear", [0]),
+        ("0 8192 0 mirror clamp bilinear", [0]), ("65536 8192 0 black clamp bilinear", [386]),
+        ("65536 8192 0 clamp clamp bilinear", [771]), ("65536 8192 0 mirror clamp bilinear", [771]),
+        ("65536 8192 0 periodic clamp bilinear", [386]), ("32768 32768 32768 clamp clamp trilinear", [6618]),
+        ("0 0 4294967295 mirror mirror trilinear", [6682]), ("8192 8192 0 black black trilinear", [0]),
+        ("24576 8192 0 black black trilinear", [257]), ("32768 32768 65536 clamp clamp closest", [11051]),
+        ("32768 32768 32767 clamp clamp closest", [8738]), ("32768 32768 32768 clamp clamp closest", [11051]),
+        ("32768 32768 4294967295 clamp clamp bilinear", [6682]), ("-1 0 0 black black closest", [0]),
+    ]),
+    # the same picture with one level
+    ("A.tif", ["--no-automip"], (2,), [("0 0 4294967295 mirror mirror trilinear", [0])]),
+    # S at both ends, over a picture as wide as one may be
+    ("wide.tif", [], (1,), [("-2147483648 0 0 periodic clamp closest", [65535]),
+                            ("2147483647 0 0 periodic clamp closest", [53199])]),
+    # two channels, and the others lack
+    ("W.tif", [], (3,), [("16384 32768 0 clamp clamp closest", [62965, 5140]),
+                         ("32768 32768 0 clamp clamp bilinear", [32125, 10280])]),
+    # three channels, and levels that each have one value
+    ("wall.tif", [], (3, 8), [("9000 70000 163840 periodic mirror trilinear", [12850, 13107, 13364]),
+                              ("5 5 0 clamp clamp bilinear", [0, 257, 514]),
+                              ("1 1 4294967295 clamp clamp closest", [51400, 51657, 51914])]),
+    # which of four texels an index means, from 9 before the first to 8: black, clamp, periodic, mirror. In row 1
+    # column x has 257 * (16 + x)
+    *(("A.tif", [], (1,), [
+        (f"{(2 * i + 1) * 8192} 24576 0 {wrap} clamp closest", [0 if x is None else 257 * (16 + x)])
+        for wrap, x in zip(("black", "clamp", "periodic", "mirror"), meant)])
+      for i, meant in [(-9, (None, 0, 3, 0)), (-8, (None, 0, 0, 0)), (-5, (None, 0, 3, 3)), (-4, (None, 0, 0, 3)),
+                       (-2, (None, 0, 2, 1)), (-1, (None, 0, 3, 0)), (0, (0, 0, 0, 0)), (3, (3, 3, 3, 3)),
+                       (4, (None, 3, 0, 3)), (5, (None, 3, 1, 2)), (7, (None, 3, 3, 0)), (8, (None, 3, 0, 0))]),
+]
+
+
+def examples_of(lookups):
+    """A list for each file, and what it is answered, with no word of what the workers count."""
+    for name, words, channels, rows in lookups:
+        requests = [f"tex {fields} {many} {name}" for many in channels for fields, _ in rows]
+        lines = [" ".join(map(str, ["tex", 1, *values, *[0] * (many - len(values))]))
+                 for many in channels for _, values in rows]
+        yield words, requests, lines, None, 0
 
 
 def main():
@@ -123,16 +211,17 @@ def main():
     if not Path(program).is_file():
         print("check_examples.py: the program is not built, so no list was run; ./build builds it")
         return
-    wrong = 0
-    for words, requests, lines, closing, status in EXAMPLES:
+    wrong, examples = 0, [*EXAMPLES, *examples_of(LOOKUPS)]
+    for words, requests, lines, closing, status in examples:
         ran = subprocess.run([program, str(FILES), *words], input="".join(it + "\n" for it in requests),
                              text=True, stdout=subprocess.PIPE, check=False)
-        if (ran.stdout.splitlines(), ran.returncode) != (lines + closing, status):
+        found = ran.stdout.splitlines()[:None if closing else len(lines)]
+        if (found, ran.returncode) != (lines + (closing or []), status):
             wrong += 1
             print(f"{words} {requests}: status {ran.returncode}\n{ran.stdout}", file=sys.stderr)
     if wrong:
-        sys.exit(f"check_examples.py: {wrong} of {len(EXAMPLES)} lists are answered otherwise")
-    print(f"check_examples.py: {len(EXAMPLES)} lists have the lines that were worked out for them")
+        sys.exit(f"check_examples.py: {wrong} of {len(examples)} lists are answered otherwise")
+    print(f"check_examples.py: {len(examples)} lists have the lines that were worked out for them")
 
 
 if __name__ == "__main__":

@@ -1,23 +1,37 @@
 #!/usr/bin/env python3
-"""Prints the sums that crates/request_tests/src/many_lookups.rt has, of many lookups in four pictures,
-and behind them that of many_footprints.rt, of many lookups along footprints.
+"""Many lookups over four pictures, and many along footprints, with what each is to be answered: 4608 and 2048
+requests of the program's stored run.
 
-Written after the formulas of docs/FILTERING.md alone, with Python's whole numbers, which have no bound
-and whose division rounds down. It shares nothing with texel_filter
-and tex_aniso.
+    python3 tools/many_lookups.py   # prints each request, and its answer behind it
+
+Written after the formulas of docs/FILTERING.md alone, with Python's whole numbers, which have no bound and
+whose division rounds down. It shares nothing with demo/lookups.py, by which tools/run_files.py answers the
+stored run: the two have to agree.
 """
+from collections import namedtuple
 
 UNIT, HALF = 65536, 32768
 WRAPS = ["black", "clamp", "periodic", "mirror"]
-PICTURES = [(1, 1, 1), (5, 3, 3), (64, 33, 7), (131072, 3, 18)]
+# A picture's name, sides, number of levels, bits of a sample, and channels.
+Picture = namedtuple("Picture", "name width height levels depth channels")
+PICTURES = [Picture("dot.tif", 1, 1, 1, 16, 8), Picture("tiny.tif", 5, 3, 3, 16, 8),
+            Picture("odd.tif", 64, 33, 7, 16, 8), Picture("long.tif", 131072, 3, 18, 8, 1)]
 DRAWN, EACH, ENDS = 256, 16, 128
 ALONG, EACH_ALONG = 512, 32
 LEAST, MOST, LAST_LOD = -(2**31), 2**31 - 1, 2**32 - 1
 
 
-def noise(level, x, y, c):
+def noise(picture, level, x, y, c):
+    """The stored sample of a channel of a texel, which shows no order."""
     place = x * 40503 + y * 30011 + level * 20011 + c * 10007 + 12345
-    return (place * 2654435761 % 2**32) >> 16
+    return place * 2654435761 % 2**32 >> 32 - picture.depth
+
+
+def value_of(picture, level, x, y, c):
+    """The 16-bit value of a channel, 0 where the picture lacks it."""
+    if c >= picture.channels:
+        return 0
+    return noise(picture, level, x, y, c) * (257 if picture.depth == 8 else 1)
 
 
 def wrapped(mode, i, n):
@@ -36,16 +50,16 @@ class Lookup:
     """A lookup in a picture of `levels` levels, each half of the one before."""
 
     def __init__(self, picture, s, t, lod, swrap, twrap):
-        self.width, self.height, self.levels = picture
+        self.picture, self.levels = picture, picture.levels
         self.s, self.t, self.lod, self.swrap, self.twrap = s, t, lod, swrap, twrap
 
     def size(self, level):
-        return max(self.width >> level, 1), max(self.height >> level, 1)
+        return max(self.picture.width >> level, 1), max(self.picture.height >> level, 1)
 
     def value(self, level, i, j, c):
         w, h = self.size(level)
         x, y = wrapped(self.swrap, i, w), wrapped(self.twrap, j, h)
-        return 0 if x is None or y is None else noise(level, x, y, c)
+        return 0 if x is None or y is None else value_of(self.picture, level, x, y, c)
 
     def nearest(self):
         return min(self.levels - 1, (self.lod + HALF) // UNIT)
@@ -89,8 +103,7 @@ class Footprint:
     """A lookup along a footprint: its trilinear probes."""
 
     def __init__(self, picture, s, t, right, below, swrap, twrap):
-        w, h, _ = picture
-        lengths = [max(abs(ds) * w, abs(dt) * h) for ds, dt in (right, below)]
+        lengths = [max(abs(ds) * picture.width, abs(dt) * picture.height) for ds, dt in (right, below)]
         ds, dt = right if lengths[0] >= lengths[1] else below
         major, minor = max(lengths), min(lengths)
         n = min(8, max(1, rounded_up(major, max(minor, UNIT))))
@@ -133,41 +146,51 @@ class Draws:
         return (self.next() - 2**31) >> (1 + size % 24)
 
 
-def lookups(picture):
-    """The lookups of a picture, with the number of channels of each."""
+def lookups():
+    """The lookups by each filter, with the number of channels of each: drawn ones, and those with the
+    coordinates and the LOD at their ends."""
     draws = Draws()
     for k in range(DRAWN):
         s, t = draws.coordinate(k), draws.coordinate(k)
         lod = draws.next() >> (10 + k % 6)
-        wraps = WRAPS[k // (4 * EACH) % 4], WRAPS[k // EACH % 4]
-        yield Lookup(picture, s, t, lod, *wraps), 1 + k % 8
+        yield (s, t, lod), (WRAPS[k // (4 * EACH) % 4], WRAPS[k // EACH % 4]), 1 + k % 8
     for k in range(ENDS):
-        s, t = [LEAST, MOST][k % 2], [LEAST, MOST][k // 2 % 2]
-        wraps = WRAPS[k // 32 % 4], WRAPS[k // 8 % 4]
-        yield Lookup(picture, s, t, [0, LAST_LOD][k // 4 % 2], *wraps), 1 + k % 8
+        place = [LEAST, MOST][k % 2], [LEAST, MOST][k // 2 % 2], [0, LAST_LOD][k // 4 % 2]
+        yield place, (WRAPS[k // 32 % 4], WRAPS[k // 8 % 4]), 1 + k % 8
 
 
-def footprints(picture):
+def footprints():
     """The lookups along footprints, with the number of channels of each."""
     draws = Draws()
     for k in range(ALONG):
-        s, t = draws.number(7 * (k % 3)), draws.number(7 * (k % 3))
+        place = draws.number(7 * (k % 3)), draws.number(7 * (k % 3))
         right = draws.number(k), draws.number(k // 2)
         below = draws.number(k // 3), draws.number(k // 5)
         wraps = WRAPS[k // (4 * EACH_ALONG) % 4], WRAPS[k // EACH_ALONG % 4]
-        yield Footprint(picture, s, t, right, below, *wraps), 1 + k % 8
+        yield place, right, below, wraps, 1 + k % 8
 
 
-def checksum(asked, by):
-    """The values, each times 31 to the power of how many come after it, modulo 2^64."""
-    total = 0
-    for lookup, channels in asked:
-        for c in range(channels):
-            total = (total * 31 + by(lookup, c)) % 2**64
-    return total
+FILTERS = {"closest": Lookup.closest, "bilinear": Lookup.bilinear, "trilinear": Lookup.trilinear}
 
 
-for picture in PICTURES:
-    filters = (Lookup.closest, Lookup.bilinear, Lookup.trilinear)
-    sums = [checksum(lookups(picture), by) for by in filters]
-    print(picture, *sums, checksum(footprints(picture), Footprint.mean))
+def asked():
+    """Each request, and the values of its answer."""
+    for picture in PICTURES:
+        for word, by in FILTERS.items():
+            for place, wraps, channels in lookups():
+                lookup = Lookup(picture, *place, *wraps)
+                yield (" ".join(map(str, ["tex", *place, *wraps, word, channels, picture.name])),
+                       [by(lookup, c) for c in range(channels)])
+        for place, right, below, wraps, channels in footprints():
+            footprint = Footprint(picture, *place, right, below, *wraps)
+            yield (" ".join(map(str, ["texd", *place, *right, *below, *wraps, channels, picture.name])),
+                   [footprint.mean(c) for c in range(channels)])
+
+
+def main():
+    for request, values in asked():
+        print(request, "->", *values)
+
+
+if __name__ == "__main__":
+    main()

@@ -1,12 +1,14 @@
 #!/usr/bin/env python3
 """Writes the files of the program's stored run, and what its requests are to be answered.
 
-    python3 tools/run_files.py          # writes crates/texcache/data and crates/texcache/stdout
+    python3 tools/run_files.py          # writes crates/texcache/data, stdin and stdout
     python3 tools/run_files.py --check  # says whether they are what it would write
 
-The requests are those of crates/texcache/stdin. The answers follow from the formulas of the pictures, of
-docs/FORMAT.md and of docs/FILTERING.md, and not from the program. Those above the line that says so were
-worked out by hand before.
+The requests are those of crates/texcache/stdin, which are written by hand down to the line MADE. Behind it
+stand those of tools/file_rows.py, of the regions below and of tools/many_lookups.py. The answers follow from
+the formulas of the pictures, of docs/FORMAT.md and of docs/FILTERING.md, and not from the program. Those
+above the line that says so were worked out by hand before, as were the levels and faults of tools/file_rows.py;
+tools/many_lookups.py answers its lookups a second time.
 """
 import struct
 import sys
@@ -19,6 +21,9 @@ from counts import closing  # noqa: E402
 from make_expected import FIELDS, GENERATION, keys, on_pages  # noqa: E402
 from make_pictures import BIG, LITTLE, LONG, RGB, SHORT, BLACK_IS_ZERO, WHITE_IS_ZERO  # noqa: E402
 from make_pictures import blocks  # noqa: E402
+
+import file_rows  # noqa: E402
+import many_lookups  # noqa: E402
 
 RUN = TOP / "crates" / "texcache"
 MARKS = {LITTLE: b"II", BIG: b"MM"}
@@ -206,6 +211,14 @@ PICTURES |= {
     "t.1012.tif": (LITTLE, [Level(4, 4, lambda x, y: [16 * y + x + 100], rows=4)]),
 }
 
+# And those of many lookups: every level is stored, and shows no order.
+PICTURES |= {
+    it.name: (BIG, [Level(max(1, it.width >> n), max(1, it.height >> n),
+                          lambda x, y, it=it, n=n: [many_lookups.noise(it, n, x, y, c) for c in range(it.channels)],
+                          it.depth, tile=(16, 16) if it.width == 64 else None, rows=2) for n in range(it.levels)])
+    for it in many_lookups.PICTURES
+}
+
 # Files that are another one with some bytes changed, and the fault that this makes.
 CHANGED = {
     "loop.tif": ("A.tif", 118, b"\x08", None),
@@ -264,6 +277,18 @@ CUT = {"short.tif": ("A.tif", 131, "1"), "cut.tif": ("B.tif", 1, "12 0 3"),
 TEXTS = {"note.txt": (b"hello, reader", "2")}
 
 FAULTS = {name: it[-1] for them in (CHANGED, CUT, TEXTS) for name, it in them.items() if it[-1]}
+FAULTS |= {it.name: it.fault for it in file_rows.ROWS if it.fault}
+
+
+def as_level(data, read):
+    """A level as a row of tools/file_rows.py has it."""
+    def texel(x, y):
+        return [file_rows.sample_of(data, read, x, y, c) for c in range(read.channels)]
+    return Level(read.width, read.height, texel, read.depth, WHITE_IS_ZERO if read.white else BLACK_IS_ZERO,
+                 read.tile, read.rows)
+
+
+READ = {it.name: [as_level(it.data, level) for level in it.levels] for it in file_rows.ROWS if it.levels}
 
 
 def files():
@@ -273,11 +298,13 @@ def files():
         made[name] = made[whole][:at] + changed + made[whole][at + len(changed):]
     for name, (whole, less, _) in CUT.items():
         made[name] = made[whole][:-less]
-    return made | {name: text for name, (text, _) in TEXTS.items()}
+    return made | {name: text for name, (text, _) in TEXTS.items()} | {it.name: it.data for it in file_rows.ROWS}
 
 
 def levels_of(name):
     """The levels that the file of a name stores: a page that is no half of the one before is none."""
+    if name in READ:
+        return READ[name]
     whole = CHANGED[name][0] if name in CHANGED else name
     found = PICTURES[whole][1]
     stored = found[:1]
@@ -321,7 +348,7 @@ def answer(request):
         return ["no such file"]
     word = request.split(" ", 1)[0]
     _, *numbers, name = request.split(" ", FIELDS[word] + 1)
-    if name not in PICTURES and name not in CHANGED and name not in FAULTS:
+    if not any(name in them for them in (PICTURES, CHANGED, FAULTS, READ)):
         return ["no such file"]
     if word == "pixels" and int(numbers[3]) * int(numbers[4]) > MOST_TEXELS:
         return ["region too large"]
@@ -330,27 +357,65 @@ def answer(request):
     return on_pages(word, numbers, levels_of(name))
 
 
-def requests():
-    """The requests of the list: its lines without those that are passed over."""
-    lines = (RUN / "stdin").read_text(encoding="utf-8").splitlines()
-    return [line for line in lines if line and not line.startswith("#")]
+MADE = "# From here on the list is made by tools/run_files.py."
+
+# how many values stand in a line: around 8 and 256, and many
+MANY = (7, 8, 9, 255, 256, 257, 600)
+
+
+def regions_of_many():
+    """Lines of few values and of many, of 8 bits and of 16."""
+    return [f"pixels 0 1 2 {many} 1 {name}" for name in ("long.tif", "odd.tif", "noise.tif") for many in MANY]
+
+
+def made_requests():
+    """The part of the list that is made."""
+    yield from file_rows.requests()
+    yield "# as many values as there are"
+    yield from regions_of_many()
+    yield "# many lookups, and many along footprints"
+    yield from (request for request, _ in many_lookups.asked())
+
+
+def list_text():
+    """The list: its part that is written by hand, and that which is made."""
+    by_hand = (RUN / "stdin").read_text(encoding="utf-8").split(MADE)[0]
+    return by_hand + "".join(line + "\n" for line in [MADE, *made_requests()])
+
+
+def requests(text):
+    """The requests of a list: its lines without those that are passed over."""
+    return [line for line in text.splitlines() if line and not line.startswith("#")]
+
+
+def test_many(answers):
+    """The two programs that look up agree on what is asked of both."""
+    other = [request for request, values in many_lookups.asked() if answers[request][2:] != values]
+    if other:
+        sys.exit(f"run_files.py: demo/lookups.py and tools/many_lookups.py differ, first at {other[0]}")
 
 
 def written():
     """What it writes, by the path in the folder of the crate."""
-    asked = requests()
+    text = list_text()
+    asked = requests(text)
     lines = [answer(it) for it in asked]
+    test_many(dict(zip(asked, lines)))
     lines += closing(asked, lines, WORKERS, lambda request, line: keys(meant(request) or "", line, levels_of))
-    text = "".join(" ".join(map(str, it)) + "\n" for it in lines)
-    return {f"data/{name}": data for name, data in files().items()} | {"stdout": text.encode()}
+    answers = "".join(" ".join(map(str, it)) + "\n" for it in lines)
+    made = {f"data/{name}": data for name, data in files().items()}
+    return made | {"stdin": text.encode(), "stdout": answers.encode()}
 
 
 def main():
     if sys.argv[1:] == ["--check"]:
-        wrong = [path for path, data in written().items() if (RUN / path).read_bytes() != data]
+        made = written()
+        wrong = [path for path, data in made.items()
+                 if not (RUN / path).is_file() or (RUN / path).read_bytes() != data]
         if wrong:
             sys.exit(f"run_files.py would write otherwise: {' '.join(wrong)}")
-        print(f"run_files.py: the {len(requests())} answers of the stored run are those of the formulas")
+        answers = len(requests(made["stdin"].decode()))
+        print(f"run_files.py: the {answers} answers of the stored run are those of the formulas")
         return
     for path, data in written().items():
         (RUN / path).write_bytes(data)

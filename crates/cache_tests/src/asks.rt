@@ -24,6 +24,18 @@ pub(crate) enum Ask {
     /// A file that is made invalid, with force or without.
     Invalidate(u32, bool),
     InvalidateAll,
+    /// A file whose record is that of the fetches behind it.
+    Open(u32),
+    /// Column and row of a texel of level 0, and how many channels are asked for.
+    Fetch((u32, u32), usize),
+    /// The same where the microcache has its cell.
+    FetchLocal((u32, u32), usize),
+    /// Column and row of a texel of level 0.
+    HasLocal((u32, u32)),
+    /// The record is kept.
+    Keep,
+    /// The record that is kept of a file is handed out.
+    Local(u32),
 }
 
 /// What a call answers.
@@ -42,7 +54,9 @@ pub(crate) enum Answer {
     Released,
     /// All files that are known were asked for.
     Known,
-    /// No generation, or no tile at that place.
+    /// The texel was fetched, or the microcache has it.
+    There,
+    /// No generation, no tile at that place, or no record.
     Nothing,
     /// Generation and number of the fault.
     BadFile(u32, u32),

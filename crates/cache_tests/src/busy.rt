@@ -150,6 +150,7 @@ fn answers(alloc: Global, row: &Row, k: u32) -> Result<(Answer, Answer), Fail> {
         pass: second,
         taps: taps_of(alloc)?,
         out: Vec::new(alloc),
+        known: None,
     };
     let _known = caller.answer(&Tries::new(1), PLAIN, before);
     let mut worker = Worker {
@@ -158,6 +159,7 @@ fn answers(alloc: Global, row: &Row, k: u32) -> Result<(Answer, Answer), Fail> {
         pass,
         taps: taps_of(alloc)?,
         out: Vec::new(alloc),
+        known: None,
     };
     let nosy = Nosy {
         caller: Cell::new(Some(caller)),

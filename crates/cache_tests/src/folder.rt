@@ -1,49 +1,12 @@
-//! A folder of the system, and caches over its files.
-ghost use Rattle.std.specs.Prelude.{◌≡◌, ◌≤◌, false, length, IfOk};
+//! Caches and their passes.
+ghost use Rattle.std.specs.Prelude.{◌≡◌, ◌≤◌, length, IfOk};
 ghost use Rattle.tex_world.specs.World.{max_files};
 ghost use Rattle.image_cache.specs.Pass.{IsPassOf};
 
 use image_cache::{Cache, Options, Pass};
 use std::alloc::Global;
 use std::test::Fail;
-use tex_world::{Folder, Tap};
-use tiff_format::Cut;
-
-/// Cells of 16 by 16, and no generated level.
-pub(crate) const CUT: Cut = Cut {
-    autotile: 16,
-    automip: false,
-};
-
-/// All tiles of the files find room.
-pub(crate) const ROOMY: Options = Options {
-    budget: 1 << 20,
-    shards: 4,
-    passes: 4,
-    handles: 4,
-    cut: CUT,
-};
-
-/// No tile stays that nobody has pinned.
-pub(crate) const STINGY: Options = Options {
-    budget: 0,
-    shards: 1,
-    passes: 4,
-    handles: 1,
-    cut: CUT,
-};
-
-/// A folder that is entered.
-pub(crate) fn entered<F: Folder + Drop>(
-    mut folder: F,
-    alloc: Global,
-    path: &str,
-) -> Result<F, Fail> {
-    match folder.enter(alloc, path) {
-        Ok(()) => Ok(folder),
-        Err(_refused) => Err("not entered".into()),
-    }
-}
+use tex_world::Tap;
 
 /// A cache of so many files and its first pass.
 pub(crate) fn cache_of<T: Tap>(

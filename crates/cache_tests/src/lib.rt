@@ -1,7 +1,6 @@
-//! Tests of the cache and of lookups through it. Over a real folder: values and counts of fetches.
-//! Over files in memory: regions, holds, records and lookups, files that are made invalid, generated
-//! levels, the refusals of each call, a pass that ends in another, two threads, and a shard that is
-//! taken. Options, and what refusals are called.
+//! Tests of the cache and of lookups through it, over files in memory: regions, holds, records, fetches
+//! and lookups, files that are made invalid, generated levels, the refusals of each call, a pass that
+//! ends in another, two threads, and a shard that is taken. Options, and what refusals are called.
 #![tactic(auto)]
 
 #[cfg(test)]
@@ -12,8 +11,6 @@ mod busy;
 mod caller;
 #[cfg(test)]
 mod calls;
-#[cfg(test)]
-mod fetches;
 #[cfg(test)]
 mod folder;
 #[cfg(test)]
@@ -27,8 +24,6 @@ mod opened;
 #[cfg(test)]
 mod passes;
 #[cfg(test)]
-mod pictures;
-#[cfg(test)]
 mod planned;
 #[cfg(test)]
 mod records;
@@ -36,8 +31,6 @@ mod records;
 mod refusals;
 #[cfg(test)]
 mod refused;
-#[cfg(test)]
-mod rows;
 #[cfg(test)]
 mod small_files;
 #[cfg(test)]
@@ -48,7 +41,5 @@ mod taken;
 mod threads;
 #[cfg(test)]
 mod unread;
-#[cfg(test)]
-mod white;
 #[cfg(test)]
 mod worker;

@@ -1,47 +1,40 @@
-//! A file of a cache that was opened, and the calls on it as the tests make them.
-ghost use Rattle.std.specs.Prelude.{◌≡◌, ◌<◌, IfOk, IfSome, IsSome, IsOkAnd};
+//! A file of a cache that was opened, and fetches by its record.
+ghost use Rattle.std.specs.Prelude.{ℕ, ◌≡◌, ◌<◌, IfSome, IsSome};
+ghost use Rattle.std.specs.Bool.{OnTrue};
 ghost use Rattle.tex_world.specs.World.{IsFile};
-ghost use Rattle.image_cache.specs.Pass.{IsPassOf};
-ghost use Rattle.tile_layout.specs.Cell.{CellsFit};
-ghost use Rattle.image_cache.specs.Texel.{IsTexelIn};
+ghost use Rattle.image_cache.specs.Texel.{IsTexelIn, IsRecordOf};
 
-use crate::caller::Caller;
+use crate::asks::{Answer, refusal};
+use crate::planned::ONE_SHARD;
+use crate::worker::{BEFORE, FILES, Worker};
 use file_table::Record;
-use image_cache::{Cache, CacheError, TexelAt};
-use std::sync::Arc;
-use tex_world::{Tap, World};
+use image_cache::{Cache, TexelAt};
+use tex_world::Tap;
+use tiff_format::MAX_CHANNELS;
 use waiter::Waiter;
 
-/// A cache, and the record of one of its files.
-#[derive(Drop)]
-pub(crate) struct Opened<'a, T: Tap> {
-    pub(crate) cache: &'a Cache<T>,
-    pub(crate) known: Arc<Record<T::W>>,
-    ghost number: { known.value.file < cache.now.files.board.files },
-    ghost cut: { known.value.cut ≡ cache.now.gate.cut },
-}
-
-/// Why a texel was not given.
-#[derive(Clone, Copy, PartialEq, Eq)]
-pub(crate) enum Refused {
-    Again(u32, u32),
-    ReadFault,
-    /// Level 0 has no such texel, memory is wanting, or the waiter gave up.
-    Other,
-}
-
-/// A texel of level 0, where the file shows no fault and has it.
-fn texel<W: World>(known: &Record<W>, place: (u32, u32)) -> Option<TexelAt>
-    ensures inside { IfSome result (IsTexelIn known.now) }
-    ensures fits { IsSome result → IsOkAnd known.now.layout (λ kept. CellsFit kept known.now.cut) }
+/// The record is one of the files of the cache, used under its cut.
+fn is_of<T: Tap>(cache: &Cache<T>, known: &Record<T::W>) -> bool
+    ensures file { OnTrue result (known.now.file < 5) }
+    ensures cut { OnTrue result (known.now.cut ≡ cache.now.gate.cut) }
 {
+    known.file() < FILES && known.cut() == cache.cut()
+}
+
+/// A texel of level 0 of a record of the cache, where the file shows no fault and has it.
+fn texel<T: Tap>(cache: &Cache<T>, known: &Record<T::W>, place: (u32, u32)) -> Option<TexelAt>
+    requires count { cache.now.files.board.files ≡ 5 }
+    requires told { (file : ℕ) → file < 5 → IsFile T.W.files file }
+    ensures inside { IfSome result (IsTexelIn known.now) }
+    ensures known { IsSome result → IsRecordOf T.W.files cache.now known.now }
+{
+    let cut = known.cut();
+    if !is_of(cache, known) || cut.autotile != ONE_SHARD.cut.autotile || !known.fits() {
+        return None;
+    }
     let Ok(layout) = known.layout() else {
         return None;
     };
-    let cut = known.cut();
-    if cut.autotile != 16 || !known.fits() {
-        return None;
-    }
     // level 0 is one of the levels
     let _levels = layout.levels(cut);
     let (width, height) = layout.size(0);
@@ -52,112 +45,142 @@ fn texel<W: World>(known: &Record<W>, place: (u32, u32)) -> Option<TexelAt>
     Some(TexelAt { level: 0, x, y })
 }
 
-fn refusal_of<B: Drop>(e: CacheError<B>) -> Refused {
-    match e {
-        CacheError::Again { from, to } => Refused::Again(from, to),
-        CacheError::ReadFault => Refused::ReadFault,
-        _ => Refused::Other,
+// The answer of a record of this generation, or of none.
+fn of_record(generation: u32) -> Answer {
+    if generation == 0 {
+        Answer::Nothing
+    } else {
+        Answer::Of(generation)
     }
 }
 
-impl<'a, T: Tap> Opened<'a, T> {
-    /// Opens a file, where it shows no fault.
-    pub(crate) fn of<V: Waiter>(
-        waiter: &V,
-        cache: &'a Cache<T>,
-        caller: &mut Caller<T>,
-        file: u32,
-    ) -> Result<Opened<'a, T>, Refused>
-        requires pass { IsPassOf cache.now caller.old.pass }
-        requires file { file < cache.now.files.board.files }
-        requires told { IsFile T.W.files file }
-        ensures cache { IfOk result (λ opened. opened.cache.now ≡ cache.now) }
-        ensures told { IfOk result (λ opened. IsFile T.W.files opened.known.value.file) }
-        ensures pass { IsPassOf cache.now caller.new.pass }
+impl<T: Tap> Worker<'_, T> {
+    /// Opens a file.
+    pub(crate) fn open<V: Waiter>(&mut self, waiter: &V, tap: usize, file: u32) -> Answer
+        requires file { file < 5 }
+        requires told { (file : ℕ) → file < 5 → IsFile T.W.files file }
+        ensures { self.new.cache.now ≡ self.old.cache.now }
     {
-        match cache.open(waiter, &mut caller.pass, &mut caller.tap, file) {
-            Ok(known) if known.fits() => Ok(Opened { cache, known }),
-            Ok(_unfit) => Err(Refused::Other),
-            Err(e) => Err(refusal_of(e)),
-        }
-    }
-
-    /// Keeps the record. It answers its generation, or 0 where the pass has not seen it.
-    pub(crate) fn keep(&self, caller: &mut Caller<T>) -> u32
-        requires { IsPassOf self.now.cache.now caller.old.pass }
-        ensures { IsPassOf self.now.cache.now caller.new.pass }
-    {
-        let Ok(known) = self.known.clone() else {
-            return 0;
+        let Some(tap) = self.taps.get_mut(tap) else {
+            return Answer::Other;
         };
-        let generation = known.generation();
-        if generation > caller.pass.seen(known.file()) {
-            return 0;
-        }
-        self.cache.keep(&mut caller.pass, known);
-        generation
-    }
-
-    /// The generation of the record that is found of the file, or 0.
-    pub(crate) fn local(&self, caller: &mut Caller<T>) -> u32
-        requires { IsPassOf self.now.cache.now caller.old.pass }
-        ensures { IsPassOf self.now.cache.now caller.new.pass }
-    {
-        match self.cache.local(&mut caller.pass, self.known.file()) {
-            Some(known) => known.generation(),
-            None => 0,
+        match self.cache.open(waiter, &mut self.pass, tap, file) {
+            Ok(known) => {
+                let generation = known.generation();
+                self.known = Some(known);
+                Answer::Of(generation)
+            }
+            Err(e) => refusal(e),
         }
     }
 
-    /// Writes the values of a texel of level 0.
+    /// The values of a texel of level 0.
     pub(crate) fn fetch<V: Waiter>(
-        &self,
+        &mut self,
         waiter: &V,
-        caller: &mut Caller<T>,
+        tap: usize,
         place: (u32, u32),
-        out: &mut [u16],
-    ) -> Result<(), Refused>
-        requires pass { IsPassOf self.now.cache.now caller.old.pass }
-        requires told { IsFile T.W.files self.now.known.value.file }
-        ensures { IsPassOf self.now.cache.now caller.new.pass }
+        channels: usize,
+    ) -> Answer
+        requires { (file : ℕ) → file < 5 → IsFile T.W.files file }
+        ensures { self.new.cache.now ≡ self.old.cache.now }
     {
-        let Some(at) = texel(&self.known, place) else {
-            return Err(Refused::Other);
+        let Some(known) = &self.known else {
+            return Answer::Other;
         };
-        let Caller { pass, tap } = caller;
-        match self.cache.fetch(waiter, pass, tap, &self.known, at, out) {
-            Ok(()) => Ok(()),
-            Err(e) => Err(refusal_of(e)),
+        let known: &Record<T::W> = known;
+        let Some(at) = texel(self.cache, known, place) else {
+            return Answer::Other;
+        };
+        let Some(tap) = self.taps.get_mut(tap) else {
+            return Answer::Other;
+        };
+        if channels > MAX_CHANNELS {
+            return Answer::Other;
         }
+        let mut out = [BEFORE; MAX_CHANNELS];
+        let values = &mut out[..channels];
+        let answer = match self
+            .cache
+            .fetch(waiter, &mut self.pass, tap, known, at, values)
+        {
+            Ok(()) => Answer::There,
+            Err(e) => refusal(e),
+        };
+        self.left(answer, &out[..channels])
     }
 
     /// The same where the microcache has its cell.
-    pub(crate) fn fetch_local(
-        &self,
-        caller: &mut Caller<T>,
-        place: (u32, u32),
-        out: &mut [u16],
-    ) -> bool
-        requires pass { IsPassOf self.now.cache.now caller.old.pass }
-        requires told { IsFile T.W.files self.now.known.value.file }
-        ensures { IsPassOf self.now.cache.now caller.new.pass }
+    pub(crate) fn fetch_local(&mut self, place: (u32, u32), channels: usize) -> Answer
+        requires { (file : ℕ) → file < 5 → IsFile T.W.files file }
+        ensures { self.new.cache.now ≡ self.old.cache.now }
     {
-        match texel(&self.known, place) {
-            Some(at) => self
-                .cache
-                .fetch_local(&mut caller.pass, &self.known, at, out),
-            None => false,
+        let Some(known) = &self.known else {
+            return Answer::Other;
+        };
+        let known: &Record<T::W> = known;
+        let Some(at) = texel(self.cache, known, place) else {
+            return Answer::Other;
+        };
+        if channels > MAX_CHANNELS {
+            return Answer::Other;
         }
+        let mut out = [BEFORE; MAX_CHANNELS];
+        let values = &mut out[..channels];
+        let is_there = self.cache.fetch_local(&mut self.pass, known, at, values);
+        self.left(there(is_there), &out[..channels])
     }
 
     /// Whether the microcache has the cell of a texel of level 0.
-    pub(crate) fn has_local(&self, caller: &Caller<T>, place: (u32, u32)) -> bool
-        requires pass { IsPassOf self.now.cache.now caller.now.pass }
-        requires told { IsFile T.W.files self.now.known.value.file }
+    pub(crate) fn has_local(&self, place: (u32, u32)) -> Answer
+        requires { (file : ℕ) → file < 5 → IsFile T.W.files file }
     {
-        match texel(&self.known, place) {
-            Some(at) => self.cache.has_local(&caller.pass, &self.known, at),
-            None => false,
+        let Some(known) = &self.known else {
+            return Answer::Other;
+        };
+        let known: &Record<T::W> = known;
+        match texel(self.cache, known, place) {
+            Some(at) => there(self.cache.has_local(&self.pass, known, at)),
+            None => Answer::Other,
         }
+    }
+
+    /// Keeps the record, where its generation is none that the pass has not seen.
+    pub(crate) fn keep(&mut self) -> Answer
+        ensures { self.new.cache.now ≡ self.old.cache.now }
+    {
+        let Some(known) = &self.known else {
+            return Answer::Other;
+        };
+        let generation = known.generation();
+        if !is_of(self.cache, known) || generation > self.pass.seen(known.file()) {
+            return Answer::Other;
+        }
+        match known.clone() {
+            Ok(kept) => {
+                self.cache.keep(&mut self.pass, kept);
+                of_record(generation)
+            }
+            Err(_full) => Answer::Other,
+        }
+    }
+
+    /// The record that is found of a file, which is no longer kept then.
+    pub(crate) fn local(&mut self, file: u32) -> Answer
+        requires { file < 5 }
+        ensures { self.new.cache.now ≡ self.old.cache.now }
+    {
+        match self.cache.local(&mut self.pass, file) {
+            Some(known) => of_record(known.generation()),
+            None => Answer::Nothing,
+        }
+    }
+}
+
+fn there(is_there: bool) -> Answer {
+    if is_there {
+        Answer::There
+    } else {
+        Answer::Nothing
     }
 }

@@ -120,6 +120,7 @@ fn walked<T: Tap + Drop + Shows>(
         pass,
         taps,
         out: Vec::new(alloc),
+        known: None,
     };
     let met = worker.steps_met(&Tries::new(1), steps);
     (met, worker.into_pass())

@@ -146,6 +146,7 @@ fn met_by<T: Tap + Drop + Shows>(
         pass,
         taps,
         out: Vec::new(alloc),
+        known: None,
     };
     Ok(worker.steps_met(&Tries::new(1), steps))
 }

@@ -1,151 +1,288 @@
-//! The record of a file in memory, and fetches by it where calls of the tap fail and the file
-//! changes.
-ghost use Rattle.std.specs.Prelude.{◌<◌};
-ghost use Rattle.tex_world.specs.World.{IsFile};
-ghost use Rattle.image_cache.specs.Pass.{IsPassOf};
-
-use crate::caller::Caller;
-use crate::folder::{ROOMY, cache_of};
-use crate::opened::{Opened, Refused};
-use crate::planned::{CHANGED, CHANGING, FAILING, FAULTY, PLAIN, taps_of};
-use crate::rows::Answer::{Again, Fault, No, Other, Record, Sample, Yes};
-use crate::rows::Ask::{Fetch, FetchLocal, HasLocal, Keep, Local};
-use crate::rows::{Row, rows_met};
-use image_cache::Cache;
-use std::alloc::Global;
+//! The record of a file, and fetches by it: what its microcache has, and where calls of the tap fail
+//! and the file changes.
+use crate::asks::Answer::{Again, Nothing, Of, Other, ReadFault, There};
+use crate::asks::Ask::{Fetch, FetchLocal, HasLocal, Keep, Local, Open};
+use crate::planned::{CHANGED, CHANGING, FAILING, FAULTY, ONE_SHARD, PLAIN, steps_met};
+use crate::small_files::{A, B};
+use crate::steps::{CALLS, QUIET, Step};
 use std::test::Fail;
-use tex_world::Tap;
-use waiter::Tries;
 
-/// What a row shows, its tap, why it does not open `A` if so, the calls by the record, and those by
-/// the record of the next opening.
-type Opening = (
-    &'static str,
-    usize,
-    Option<Refused>,
-    &'static [Row],
-    &'static [Row],
-);
-
-// The texel in column x of row y is 16 * y + x, and greater by 100 in the second generation.
-static ROWS: &[Opening] = &[
+/// What each row shows, and its steps. The texel in column x of row y of `A` is 257 times
+/// 16 * y + x, and of 100 more in the second generation.
+static ROWS: &[(&str, &[Step])] = &[
     (
-        "a record is kept, found and handed out",
-        PLAIN,
-        None,
+        "a record is kept, found and handed out, and opening gives it up",
         &[
-            (Local, (0, 0), No, (0, 0)),
-            (Keep, (0, 0), Record(1), (0, 0)),
-            (Local, (0, 0), Record(1), (0, 0)),
-            (Local, (0, 0), No, (0, 0)),
-            (HasLocal, (0, 0), No, (0, 0)),
-            (Fetch, (1, 2), Sample(33), (1, 0)),
-            (HasLocal, (3, 3), Yes, (1, 0)),
-            (FetchLocal, (3, 3), Sample(51), (2, 1)),
-            (Fetch, (4, 0), Other, (2, 1)),
-            (Keep, (0, 0), Record(1), (2, 1)),
-        ],
-        // opening gives up the record that was kept
-        &[
-            (Local, (0, 0), No, (2, 1)),
-            (Fetch, (2, 0), Sample(2), (3, 2)),
+            (PLAIN, Open(A), Of(1), &[], [0, 0, 1, 0], CALLS),
+            (PLAIN, Local(A), Nothing, &[], [0, 0, 1, 0], QUIET),
+            (PLAIN, Keep, Of(1), &[], [0, 0, 1, 0], QUIET),
+            (PLAIN, Local(A), Of(1), &[], [0, 0, 1, 0], QUIET),
+            (PLAIN, Local(A), Nothing, &[], [0, 0, 1, 0], QUIET),
+            (PLAIN, HasLocal((0, 0)), Nothing, &[], [0, 0, 1, 0], QUIET),
+            (PLAIN, Fetch((1, 2), 1), There, &[8481], [1, 0, 1, 0], CALLS),
+            (PLAIN, HasLocal((3, 3)), There, &[], [1, 0, 1, 0], QUIET),
+            (
+                PLAIN,
+                FetchLocal((3, 3), 1),
+                There,
+                &[13107],
+                [2, 1, 1, 0],
+                QUIET,
+            ),
+            (PLAIN, Fetch((4, 0), 1), Other, &[], [2, 1, 1, 0], QUIET),
+            (PLAIN, Keep, Of(1), &[], [2, 1, 1, 0], QUIET),
+            (PLAIN, Open(A), Of(1), &[], [2, 1, 1, 0], QUIET),
+            (PLAIN, Local(A), Nothing, &[], [2, 1, 1, 0], QUIET),
+            (PLAIN, Fetch((2, 0), 1), There, &[514], [3, 2, 1, 0], QUIET),
         ],
     ),
     (
         "a file is not opened",
-        FAILING,
-        Some(Refused::ReadFault),
-        &[],
-        &[(Fetch, (3, 0), Sample(3), (1, 0))],
+        &[
+            (FAILING, Open(A), ReadFault, &[], [0, 0, 0, 0], CALLS),
+            (FAILING, Open(A), Of(1), &[], [0, 0, 1, 0], CALLS),
+            (
+                FAILING,
+                Fetch((3, 0), 1),
+                There,
+                &[771],
+                [1, 0, 1, 0],
+                CALLS,
+            ),
+        ],
     ),
     (
         "its directory changes",
-        CHANGED,
-        Some(Refused::Again(1, 2)),
-        &[],
         &[
-            (Fetch, (3, 0), Sample(103), (1, 0)),
-            (Keep, (0, 0), Record(2), (1, 0)),
-            (Local, (0, 0), Record(2), (1, 0)),
+            (CHANGED, Open(A), Again(1, 2), &[], [0, 0, 2, 0], CALLS),
+            (CHANGED, Open(A), Of(2), &[], [0, 0, 2, 0], CALLS),
+            (
+                CHANGED,
+                Fetch((3, 0), 1),
+                There,
+                &[26471],
+                [1, 0, 2, 0],
+                CALLS,
+            ),
+            (CHANGED, Keep, Of(2), &[], [1, 0, 2, 0], QUIET),
+            (CHANGED, Local(A), Of(2), &[], [1, 0, 2, 0], QUIET),
         ],
     ),
     (
         "its samples are not read",
-        FAULTY,
-        None,
         &[
-            (Fetch, (0, 0), Fault, (1, 0)),
-            (HasLocal, (0, 0), No, (1, 0)),
-            (FetchLocal, (0, 0), No, (1, 0)),
-            (Fetch, (1, 1), Sample(17), (2, 0)),
-            (FetchLocal, (0, 1), Sample(16), (3, 1)),
+            (FAULTY, Open(A), Of(1), &[], [0, 0, 1, 0], CALLS),
+            (
+                FAULTY,
+                Fetch((0, 0), 1),
+                ReadFault,
+                &[7],
+                [1, 0, 1, 0],
+                CALLS,
+            ),
+            (FAULTY, HasLocal((0, 0)), Nothing, &[], [1, 0, 1, 0], QUIET),
+            (
+                FAULTY,
+                FetchLocal((0, 0), 1),
+                Nothing,
+                &[7],
+                [1, 0, 1, 0],
+                QUIET,
+            ),
+            (
+                FAULTY,
+                Fetch((1, 1), 1),
+                There,
+                &[4369],
+                [2, 0, 1, 0],
+                CALLS,
+            ),
+            (
+                FAULTY,
+                FetchLocal((0, 1), 1),
+                There,
+                &[4112],
+                [3, 1, 1, 0],
+                QUIET,
+            ),
+            (FAULTY, Open(A), Of(1), &[], [3, 1, 1, 0], QUIET),
+            (
+                FAULTY,
+                FetchLocal((0, 1), 1),
+                There,
+                &[4112],
+                [4, 2, 1, 0],
+                QUIET,
+            ),
         ],
-        &[(FetchLocal, (0, 1), Sample(16), (4, 2))],
     ),
-    // the record that is kept is found no more once a newer generation is known
     (
-        "its samples change",
-        CHANGING,
-        None,
+        "its samples change, and its record is found no more once a newer generation is known",
         &[
-            (Fetch, (0, 0), Again(1, 2), (1, 0)),
-            (Keep, (0, 0), Record(1), (1, 0)),
-            (Local, (0, 0), No, (1, 0)),
-            (FetchLocal, (0, 0), No, (1, 0)),
-            (Fetch, (0, 0), Again(1, 2), (2, 0)),
+            (CHANGING, Open(A), Of(1), &[], [0, 0, 1, 0], CALLS),
+            (
+                CHANGING,
+                Fetch((0, 0), 1),
+                Again(1, 2),
+                &[7],
+                [1, 0, 2, 0],
+                CALLS,
+            ),
+            (CHANGING, Keep, Of(1), &[], [1, 0, 2, 0], QUIET),
+            (CHANGING, Local(A), Nothing, &[], [1, 0, 2, 0], QUIET),
+            (
+                CHANGING,
+                FetchLocal((0, 0), 1),
+                Nothing,
+                &[7],
+                [1, 0, 2, 0],
+                QUIET,
+            ),
+            (
+                CHANGING,
+                Fetch((0, 0), 1),
+                Again(1, 2),
+                &[7],
+                [2, 0, 2, 0],
+                CALLS,
+            ),
+            (CHANGING, Open(A), Of(2), &[], [2, 0, 2, 0], CALLS),
+            (
+                CHANGING,
+                Fetch((0, 0), 1),
+                There,
+                &[25700],
+                [3, 0, 2, 0],
+                CALLS,
+            ),
+            (
+                CHANGING,
+                Fetch((3, 3), 1),
+                There,
+                &[38807],
+                [4, 1, 2, 0],
+                QUIET,
+            ),
+            (CHANGING, Keep, Of(2), &[], [4, 1, 2, 0], QUIET),
+            (CHANGING, Local(A), Of(2), &[], [4, 1, 2, 0], QUIET),
         ],
+    ),
+    // Cells of 64 by 32 of a level of 80 by 48: 0 and 1 stand over 2 and 3. Channel c of texel (x, y) is
+    // 20000 * c + 100 * y + x. A comment names the cells of the microcache then, the latest first.
+    (
+        "a look changes nothing, and a local fetch asks for its cell as any other or changes nothing",
         &[
-            (Fetch, (0, 0), Sample(100), (3, 0)),
-            (Fetch, (3, 3), Sample(151), (4, 1)),
-            (Keep, (0, 0), Record(2), (4, 1)),
-            (Local, (0, 0), Record(2), (4, 1)),
+            (PLAIN, Open(B), Of(1), &[], [0, 0, 1, 0], CALLS),
+            (PLAIN, HasLocal((0, 0)), Nothing, &[], [0, 0, 0, 0], QUIET),
+            (
+                PLAIN,
+                FetchLocal((0, 0), 3),
+                Nothing,
+                &[7, 7, 7],
+                [0, 0, 0, 0],
+                QUIET,
+            ),
+            (
+                PLAIN,
+                Fetch((0, 0), 3),
+                There,
+                &[0, 20000, 40000],
+                [1, 0, 0, 0],
+                CALLS,
+            ), // 0
+            (PLAIN, HasLocal((63, 31)), There, &[], [1, 0, 0, 0], QUIET),
+            (PLAIN, HasLocal((64, 0)), Nothing, &[], [1, 0, 0, 0], QUIET),
+            (PLAIN, HasLocal((0, 32)), Nothing, &[], [1, 0, 0, 0], QUIET),
+            (
+                PLAIN,
+                FetchLocal((63, 31), 2),
+                There,
+                &[3163, 23163],
+                [2, 1, 0, 0],
+                QUIET,
+            ), // 0
+            (
+                PLAIN,
+                FetchLocal((64, 31), 1),
+                Nothing,
+                &[7],
+                [2, 1, 0, 0],
+                QUIET,
+            ),
+            (PLAIN, Fetch((64, 0), 1), There, &[64], [3, 1, 0, 0], CALLS), // 1 0
+            (PLAIN, HasLocal((0, 0)), There, &[], [3, 1, 0, 0], QUIET),
+            (PLAIN, Fetch((0, 32), 0), There, &[], [4, 1, 0, 0], CALLS), // 2 1
+            (PLAIN, HasLocal((0, 0)), Nothing, &[], [4, 1, 0, 0], QUIET),
+            (PLAIN, HasLocal((64, 0)), There, &[], [4, 1, 0, 0], QUIET),
+            (
+                PLAIN,
+                FetchLocal((79, 31), 1),
+                There,
+                &[3179],
+                [5, 2, 0, 0],
+                QUIET,
+            ), // 1 2
+            (
+                PLAIN,
+                Fetch((0, 0), 4),
+                There,
+                &[0, 20000, 40000, 0],
+                [6, 2, 0, 0],
+                QUIET,
+            ), // 0 1
+            (PLAIN, HasLocal((64, 0)), There, &[], [6, 2, 0, 0], QUIET),
+            (PLAIN, HasLocal((0, 32)), Nothing, &[], [6, 2, 0, 0], QUIET),
+            (
+                PLAIN,
+                FetchLocal((0, 32), 1),
+                Nothing,
+                &[7],
+                [6, 2, 0, 0],
+                QUIET,
+            ),
+            (
+                PLAIN,
+                FetchLocal((2, 0), 1),
+                There,
+                &[2],
+                [7, 3, 0, 0],
+                QUIET,
+            ), // 0 1
+            // the cell that was asked for least lately leaves
+            (
+                PLAIN,
+                Fetch((79, 47), 1),
+                There,
+                &[4779],
+                [8, 3, 0, 0],
+                CALLS,
+            ), // 3 0
+            (PLAIN, HasLocal((64, 0)), Nothing, &[], [8, 3, 0, 0], QUIET),
+            (PLAIN, Fetch((80, 0), 1), Other, &[], [8, 3, 0, 0], QUIET),
+            (PLAIN, Fetch((0, 48), 1), Other, &[], [8, 3, 0, 0], QUIET),
+            // the first cell of another file, and then this one again
+            (PLAIN, Open(A), Of(1), &[], [8, 3, 1, 0], CALLS),
+            (PLAIN, HasLocal((0, 0)), Nothing, &[], [8, 3, 1, 0], QUIET),
+            (PLAIN, Fetch((0, 0), 2), There, &[0, 0], [9, 3, 1, 0], CALLS), // A 3
+            (PLAIN, Open(B), Of(1), &[], [9, 3, 1, 0], QUIET),
+            (
+                PLAIN,
+                Fetch((64, 32), 1),
+                There,
+                &[3264],
+                [10, 4, 1, 0],
+                QUIET,
+            ), // 3 A
+            (PLAIN, HasLocal((0, 0)), Nothing, &[], [10, 4, 1, 0], QUIET),
         ],
     ),
 ];
 
-// Whether the file is refused so, or opened, and the calls by its record are then as the rows say.
-fn is_opened_so<T: Tap>(
-    cache: &Cache<T>,
-    caller: &mut Caller<T>,
-    refused: Option<Refused>,
-    rows: &[Row],
-) -> bool
-    requires pass { IsPassOf cache.now caller.old.pass }
-    requires file { 0 < cache.now.files.board.files }
-    requires told { IsFile T.W.files 0 }
-    ensures { IsPassOf cache.now caller.new.pass }
-{
-    let waiter = Tries::new(1);
-    match Opened::of(&waiter, cache, caller, 0) {
-        Ok(opened) => {
-            let met = rows_met(&waiter, &opened, caller, rows);
-            refused.is_none() && met == rows.len()
-        }
-        Err(e) => refused == Some(e),
-    }
-}
-
-// Whether a new cache of five files answers as the row says.
-fn is_so<T: Tap + Drop>(alloc: Global, tap: T, row: &Opening) -> Result<bool, Fail>
-    requires { IsFile T.W.files 0 }
-{
-    let (_, _, refused, first_rows, second_rows) = row;
-    let (cache, pass) = cache_of(alloc, ROOMY, 5)?;
-    let mut caller = Caller { pass, tap };
-    let first = is_opened_so(&cache, &mut caller, *refused, first_rows);
-    let second = is_opened_so(&cache, &mut caller, None, second_rows);
-    Ok(first && second)
-}
-
 #[test]
 fn fetches_by_a_record(rt: HostRuntime) -> Result<(), Fail> {
-    for row in ROWS {
-        let mut taps = taps_of(rt.alloc())?;
-        if row.1 >= taps.len() {
-            return Err("no such tap".into());
-        }
-        let tap = taps.remove(row.1);
-        assert!(rt; is_so(rt.alloc(), tap, row)?, "{}", row.0);
+    for (shows, steps) in ROWS {
+        let met = steps_met(rt.alloc(), ONE_SHARD, steps)?;
+        assert_eq!(rt; met, steps.len(), "{shows}");
     }
     Ok(())
 }

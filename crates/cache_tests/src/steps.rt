@@ -39,6 +39,8 @@ fn file_of(ask: Ask) -> u32 {
         Ask::Texture(file, _) => file,
         Ask::TextureLocal(file, _) => file,
         Ask::Invalidate(file, _) => file,
+        Ask::Open(file) => file,
+        Ask::Local(file) => file,
         _ => 0,
     }
 }

@@ -233,6 +233,7 @@ fn tries<R: Wait, T: Tap + Drop>(
         pass,
         taps,
         out: Vec::new(alloc),
+        known: None,
     };
     rounds(&Forever::new(rt), &mut worker)
 }
@@ -257,6 +258,7 @@ fn takes<R: Wait, T: Tap + Drop>(
         pass,
         taps: Vec::new(alloc),
         out: Vec::new(alloc),
+        known: None,
     };
     for _ in 0..TAKES {
         let _numbers = worker.answer(&waiter, 0, Count(0));

@@ -157,6 +157,7 @@ fn rounds<R: Wait, T: Tap + Drop>(
         pass,
         taps,
         out: Vec::new(alloc),
+        known: None,
     };
     Some(tally_of(&Forever::new(rt), &mut worker))
 }

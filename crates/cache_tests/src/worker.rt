@@ -4,15 +4,17 @@ ghost use Rattle.tex_world.specs.World.{IsFile};
 ghost use Rattle.image_cache.specs.Pass.{IsPassOf};
 
 use crate::asks::{Answer, Ask, Look, refusal};
+use file_table::Record;
 use image_cache::{Cache, NotReleased, Pass, Region, TexelAt};
+use std::sync::Arc;
 use tex_world::Tap;
 use texel_filter::TexRequest;
 use texture_sys::{texture, texture_local};
 use tiff_format::MAX_CHANNELS;
 use waiter::Waiter;
 
-/// A pass of a cache of five files and so many shards, the taps that it may use, and the values
-/// that its latest call left.
+/// A pass of a cache of five files and so many shards, the taps that it may use, the values that its
+/// latest call left, and the record of the file that was opened last.
 #[derive(Drop)]
 pub(crate) struct Worker<'a, T: Tap> {
     pub(crate) cache: &'a Cache<T>,
@@ -20,15 +22,16 @@ pub(crate) struct Worker<'a, T: Tap> {
     pub(crate) pass: Pass<T::W>,
     pub(crate) taps: Vec<T>,
     pub(crate) out: Vec<u16>,
+    pub(crate) known: Option<Arc<Record<T::W>>>,
     ghost of_cache: { IsPassOf cache.now pass },
     ghost count: { cache.now.files.board.files ≡ 5 },
     ghost parts: { length cache.now.gate.id ≡ shards },
 }
 
-const FILES: u32 = 5;
+pub(crate) const FILES: u32 = 5;
 
-// What is there before a call that writes values.
-const BEFORE: u16 = 7;
+/// What is there before a call that writes values.
+pub(crate) const BEFORE: u16 = 7;
 
 // The lookup of both wraps alike.
 fn request(look: Look) -> TexRequest
@@ -67,6 +70,12 @@ impl<T: Tap> Worker<'_, T> {
                 self.invalidate(waiter, tap, file, force)
             }
             Ask::InvalidateAll => self.invalidate_all(waiter, tap),
+            Ask::Open(file) if file < FILES => self.open(waiter, tap, file),
+            Ask::Fetch(place, channels) => self.fetch(waiter, tap, place, channels),
+            Ask::FetchLocal(place, channels) => self.fetch_local(place, channels),
+            Ask::HasLocal(place) => self.has_local(place),
+            Ask::Keep => self.keep(),
+            Ask::Local(file) if file < FILES => self.local(file),
             Ask::Count(shard) if shard < self.shards => self.count(waiter, shard),
             _ => Answer::Other,
         }
@@ -205,8 +214,8 @@ impl<T: Tap> Worker<'_, T> {
         self.left(answer, &out[..r.nch as usize])
     }
 
-    // The answer of a call that left these values.
-    fn left(&mut self, answer: Answer, values: &[u16]) -> Answer
+    /// The answer of a call that left these values.
+    pub(crate) fn left(&mut self, answer: Answer, values: &[u16]) -> Answer
         ensures { self.new.cache.now ≡ self.old.cache.now }
     {
         match self.out.extend_from_slice(values) {

@@ -6,15 +6,11 @@
 #![tactic(auto)]
 
 #[cfg(test)]
-mod answers;
-#[cfg(test)]
 mod built_files;
 #[cfg(test)]
 mod cell_loads;
 #[cfg(test)]
 mod cells;
-#[cfg(test)]
-mod directory_rows;
 #[cfg(test)]
 mod files;
 #[cfg(test)]
@@ -23,8 +19,6 @@ mod keys;
 mod latest_items;
 #[cfg(test)]
 mod layouts;
-#[cfg(test)]
-mod level_rows;
 #[cfg(test)]
 mod mem_reader;
 #[cfg(test)]
@@ -49,5 +43,3 @@ mod tiles;
 mod unpacking;
 #[cfg(test)]
 mod untold;
-#[cfg(test)]
-mod wide_rows;

@@ -6,7 +6,7 @@ ghost use Rattle.std.specs.Bool.{OnTrue};
 ghost use Rattle.texel_filter.specs.Image.{IsChannelCount};
 ghost use Rattle.texel_filter.specs.Deriv.{IsDerivNumber, IsDerivRequest};
 
-use crate::picture::{Asked, Picture, Refused, Shows};
+use crate::picture::{Asked, Refused};
 use std::alloc::Global;
 use tex_aniso::{ProbePlan, derivs, plan, probe};
 use texel_filter::Wrap::{Black, Clamp, Periodic};
@@ -108,7 +108,7 @@ fn is_number(z: i32) -> bool
 }
 
 /// A lookup, where its numbers are in range.
-pub(crate) fn request(
+fn request(
     place: (i32, i32),
     steps: (i32, i32, i32, i32),
     wraps: (Wrap, Wrap),
@@ -194,16 +194,6 @@ fn places_probes(rt: HostRuntime) {
     }
 }
 
-// 4 by 4 texels with three levels.
-fn picture() -> Picture {
-    Picture {
-        shows: Shows::Steps,
-        width: 4,
-        height: 4,
-        levels: 3,
-    }
-}
-
 // The lookup of a row, and what it answers.
 fn look_up(asked: &mut Asked, row: &Row, out: &mut [u16; 2]) -> Option<Result<(), Refused>> {
     let along = request(row.0, row.1, row.2, 2)?;
@@ -212,7 +202,7 @@ fn look_up(asked: &mut Asked, row: &Row, out: &mut [u16; 2]) -> Option<Result<()
 
 // The lookup goes as its row says, also where visit `fails`, counted from 1, is refused.
 fn is_so(alloc: Global, row: &Row, fails: usize) -> bool {
-    let mut asked = Asked::new(alloc, picture(), fails);
+    let mut asked = Asked::new(alloc, fails);
     let mut out = [7; 2];
     let answer = look_up(&mut asked, row, &mut out);
     let visits = asked.visits.len();
@@ -237,7 +227,7 @@ fn looks_up_footprints(rt: HostRuntime) {
 
 #[test]
 fn visits_probes_in_turn(rt: HostRuntime) {
-    let mut asked = Asked::new(rt.alloc(), picture(), 0);
+    let mut asked = Asked::new(rt.alloc(), 0);
     let along = ((24576, 8192), (32768, 0, 0, 0), (Clamp, Clamp), 257, 8);
     assert_eq!(rt; look_up(&mut asked, &along, &mut [0; 2]), Some(Ok(())));
     assert_eq!(rt;
@@ -274,7 +264,7 @@ fn middle_sum(asked: &mut Asked, lod: u32, out: &mut [u64; 2]) -> Result<(), Ref
 #[test]
 fn sums_two_levels(rt: HostRuntime) {
     for (lod, sum) in [(0, 13107 << 47), (32768, 26471 << 46)] {
-        let mut asked = Asked::new(rt.alloc(), picture(), 0);
+        let mut asked = Asked::new(rt.alloc(), 0);
         let mut out = [7; 2];
         assert_eq!(rt; middle_sum(&mut asked, lod, &mut out), Ok(()));
         assert_eq!(rt; out, [sum, 0], "LOD {lod}");

@@ -192,16 +192,6 @@ pub(crate) fn run_hooked<T: FileTable + Send + Sync>(
     })
 }
 
-/// Runs a list under these words over the small files, and nothing fails.
-pub(crate) fn run_bytes(
-    rt: &(impl Threads + Wait + Sync),
-    alloc: Global,
-    words: &[&str],
-    list: &[u8],
-) -> Result<Ran, AllocError> {
-    run_words::<SmallFiles>(rt, alloc, words, list.to_vec(alloc)?, Failing::Nothing)
-}
-
 /// Runs a list over the small files, with one worker.
 pub(crate) fn run_list(
     rt: &(impl Threads + Wait + Sync),

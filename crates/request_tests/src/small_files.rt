@@ -1,6 +1,5 @@
-//! The files of the tests: pictures in strips and in tiles, two of them in two generations, and files
-//! with odd names.
-ghost use Rattle.std.specs.Prelude.{◌≡◌, ◌<◌, ◌+◌, ◌-◌, ◌&&◌, ◌||◌, ◌==◌, nat_lt, nat_le};
+//! The files of the tests: pictures in strips and in tiles, two of them in two generations.
+ghost use Rattle.std.specs.Prelude.{◌≡◌, ◌<◌, ◌-◌, ◌&&◌, ◌||◌, ◌==◌, nat_lt, nat_le};
 ghost use Rattle.std.specs.Prelude.{slice_index, Some, None, refl, if◌then◌else◌};
 ghost use Rattle.std.proofs.Common.{arith, lit≤};
 ghost use Rattle.tex_world.specs.Names.{name_at, distinct_names};
@@ -195,14 +194,12 @@ fn byte_of_seam(at: u64) -> u8
     }
 }
 
-/// `A.tif` and `B.tif`, each in two generations, `low.tif`, `seam.tif`, `two.tif`, and `A.tif`
-/// three times with another first sample, under names with a space, a carriage return and a letter
-/// that is not ASCII.
+/// `A.tif` and `B.tif`, each in two generations, `low.tif`, `seam.tif` and `two.tif`.
 #[derive(Drop)]
 pub(crate) struct SmallFiles;
 
 impl FileTable for SmallFiles {
-    ghost count_of = { 8 };
+    ghost count_of = { 5 };
 
     ghost name_of = { name_at file_names };
 
@@ -218,7 +215,6 @@ impl FileTable for SmallFiles {
         (if nat_lt at 138 then slice_index SEAM_START at else tiles.seam_byte (at - 138))
         else if n == 4 then slice_index TWO at
         else if g == 2 && nat_le 122 at then slice_index LATER (at - 122)
-        else if nat_le 5 n && at == 122 then n + 2
         else slice_index A at };
 
     ghost few = { lit≤ tt };
@@ -226,7 +222,7 @@ impl FileTable for SmallFiles {
     ghost distinct = { distinct_names file_names refl };
 
     fn count() -> u32 {
-        8
+        5
     }
 
     fn name(n: u32) -> &'static str {
@@ -235,10 +231,7 @@ impl FileTable for SmallFiles {
             1 => "B.tif",
             2 => "low.tif",
             3 => "seam.tif",
-            4 => "two.tif",
-            5 => "1 2",
-            6 => " A\r.tif ",
-            _ => "\u{e4}.tif",
+            _ => "two.tif",
         }
     }
 
@@ -263,7 +256,6 @@ impl FileTable for SmallFiles {
             3 => byte_of_seam(at),
             4 => TWO[at as usize],
             _ if g == 2 && at >= 122 => LATER[(at - 122) as usize],
-            _ if n >= 5 && at == 122 => n as u8 + 2,
             _ => A[at as usize],
         }
     }

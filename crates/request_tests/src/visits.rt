@@ -1,8 +1,8 @@
 //! Which texels a lookup visits, in which order, and what it leaves where one of them is refused.
 
-ghost use Rattle.std.specs.Prelude.{◌≡◌, ◌≤◌};
+ghost use Rattle.std.specs.Prelude.{◌≡◌};
 
-use crate::picture::{Asked, Picture, Refused, Shows};
+use crate::picture::{Asked, Refused};
 use std::alloc::Global;
 use texel_filter::Wrap::{Black, Clamp, Periodic};
 use texel_filter::{Filter, TexRequest, Wrap, lookup};
@@ -83,21 +83,11 @@ fn request(place: (i32, i32, u32), wraps: (Wrap, Wrap), filter: Filter) -> TexRe
     }
 }
 
-// 4 by 4 texels with three levels.
-fn picture() -> Picture {
-    Picture {
-        shows: Shows::Steps,
-        width: 4,
-        height: 4,
-        levels: 3,
-    }
-}
-
 // The lookup goes as its row says where its visit `fails`, counted from 1, is refused: it stops
 // there, and the values that the caller had stay as they were. At 0 none is refused.
 fn is_so(alloc: Global, (place, wraps, filter, visits): &Row, fails: usize) -> bool {
     let request = request(*place, *wraps, *filter);
-    let mut asked = Asked::new(alloc, picture(), fails);
+    let mut asked = Asked::new(alloc, fails);
     let mut out = [7; 2];
     let answer = lookup(&mut asked, &request, &mut out);
     let seen = asked.visits.as_slice();
