@@ -4,13 +4,15 @@
 - No line is longer than 120 columns; README.md has at most 150 lines of at most 100 columns.
 - Each link leads to a file, and to a heading of it where it names one. So does each place that
   points to a heading by its title, in a document, a source or a script: `docs/FORMAT.md`, "Levels".
-- Each crate of crates.txt has a README and is linked in README.md and in crates/README.md; each
+- Each crate of crates.txt has a README and is linked in crates/README.md; each
   crate of tests stands in crates/TESTS.md.
+- Each file that stands in backticks in a document is there: its path ends as it is told.
 - Each clause that a crate's README names, as `read_dirs` (told), is one that a library hands out.
 
 What is wrong is printed, and the status is then 1.
 """
 
+import os
 import re
 import sys
 from pathlib import Path
@@ -22,6 +24,8 @@ README_COLUMNS = 100
 README_LINES = 150
 SOURCES = (".rt", ".antt", ".py", ".sh", ".c", ".cpp")
 
+# a file in backticks, and not one of a command
+FILE = re.compile(r"`([\w./-]+\.(?:rt|antt|md|py|sh|c|cpp))`")
 LINK = re.compile(r"\]\(([^)\s]+)\)")
 # `docs/FORMAT.md`, "Levels" and "Faults"
 TITLES = re.compile(
@@ -86,6 +90,19 @@ def broken_titles(text):
                 yield f"it points to {path}, \"{title}\", which is no heading"
 
 
+def missing_files(text, ends):
+    return (f"it names the file {told}, which is not there" for told in FILE.findall(text) if told not in ends)
+
+
+def ends_of_paths():
+    """All that a path of the repository may be told by: it, and its ends."""
+    for at, folders, files in os.walk(TOP):
+        folders[:] = [it for it in folders if it not in ("out", ".git")]
+        for name in files:
+            parts = (Path(at) / name).relative_to(TOP).parts
+            yield from ("/".join(parts[start:]) for start in range(len(parts)))
+
+
 def crate_names():
     """The crates of crates.txt."""
     for line in (TOP / "crates.txt").read_text(encoding="utf-8").splitlines():
@@ -96,7 +113,7 @@ def crate_names():
 
 def lacking():
     """What the pages lack that show the crates."""
-    pages = {it: it.read_text(encoding="utf-8") for it in (TOP / "README.md", CRATES / "README.md")}
+    crates = (CRATES / "README.md").read_text(encoding="utf-8")
     tests = (CRATES / "TESTS.md").read_text(encoding="utf-8")
     for name in crate_names():
         if name.endswith("_tests"):
@@ -105,9 +122,8 @@ def lacking():
             continue
         if not (CRATES / name / "README.md").exists():
             yield f"crates/{name}/README.md lacks"
-        for page, text in pages.items():
-            if f"{name}/README.md)" not in text:
-                yield f"{page.relative_to(TOP)} lacks a link to {name}"
+        if f"{name}/README.md)" not in crates:
+            yield f"crates/README.md lacks a link to {name}"
 
 
 def unknown_clauses(text, clauses):
@@ -118,11 +134,13 @@ def unknown_clauses(text, clauses):
 
 
 def main():
+    ends = set(ends_of_paths())
     clauses = {(name, it.label) for it in public_clauses() for name in (call_of(it), it.owner)}
     faults = [("", it) for it in lacking()]
     for file in documents():
         text = file.read_text(encoding="utf-8")
-        found = [*too_long(file, text), *broken_links(file, text), *broken_titles(text)]
+        found = [*too_long(file, text), *broken_links(file, text), *broken_titles(text),
+                 *missing_files(text, ends)]
         if file.parent.parent == CRATES:
             found += unknown_clauses(text, clauses)
         faults += [(file.relative_to(TOP), it) for it in found]
