@@ -2,7 +2,8 @@
 """Draws the pictures of the documents: layers.svg, tile_way.svg and turn.svg, beside this script.
 
 The crates of layers.svg are those of crates.txt, heading by heading. With --check nothing is
-written: the script prints which picture is not the one that it draws, and ends with status 1.
+written: the script prints which picture is not the one that it draws, and ends with status 1. So it
+does, and writes nothing, where boxes or words lie over each other or leave their picture.
 """
 
 import sys
@@ -16,13 +17,31 @@ INK, PALE, BLUE, GREEN, AMBER = "#1f2430", "#f4f5f7", "#dbe7f6", "#dff0e0", "#fb
 LETTER = 6.6
 
 
+def text_width(text, size):
+    """How wide words are, with letters of usual width."""
+    return len(text) * LETTER * size / 12 * 0.92
+
+
+def is_over(one, other):
+    return one[0] < other[2] and other[0] < one[2] and one[1] < other[3] and other[1] < one[3]
+
+
+def is_inside(one, other):
+    return other[0] <= one[0] and other[1] <= one[1] and one[2] <= other[2] and one[3] <= other[3]
+
+
 class Picture:
     """A drawing of boxes, arrows and words."""
 
     def __init__(self, width, height):
         self.width, self.height, self.parts = width, height, []
+        self.boxes, self.texts = [], []
 
-    def words(self, x, y, text, size=12, weight="normal", anchor="start"):
+    def words(self, x, y, text, size=12, weight="normal", anchor="start", of_box=False):
+        """Words on a line; those of a box may lie in it."""
+        wide = text_width(text, size)
+        left = x - wide / 2 if anchor == "middle" else x
+        self.texts.append((text, (left, y - 0.8 * size, left + wide, y + 0.2 * size), of_box))
         self.parts.append(
             f'<text x="{x}" y="{y}" font-size="{size}" font-weight="{weight}" '
             f'text-anchor="{anchor}">{escape(text)}</text>'
@@ -30,6 +49,7 @@ class Picture:
 
     def box(self, x, y, width, height, lines, fill=PALE):
         """A box with its title and lines, each in the middle of its row."""
+        self.boxes.append((lines[0], (x, y, x + width, y + height), lines))
         self.parts.append(
             f'<rect x="{x}" y="{y}" width="{width}" height="{height}" rx="5" fill="{fill}" '
             f'stroke="{INK}"/>'
@@ -37,7 +57,7 @@ class Picture:
         top = y + height / 2 - 8 * (len(lines) - 1) + 4
         for row, line in enumerate(lines):
             weight = "normal" if row else "bold"
-            self.words(x + width / 2, top + 16 * row, line, weight=weight, anchor="middle")
+            self.words(x + width / 2, top + 16 * row, line, weight=weight, anchor="middle", of_box=True)
 
     def arrow(self, *places, says="", at=None):
         """A line through places, with a head at the last, and words at a place of their own."""
@@ -47,6 +67,22 @@ class Picture:
         )
         if says:
             self.words(*at, says, size=11)
+
+    def faults(self):
+        """What lies over something else, or leaves the picture."""
+        whole = (0, 0, self.width, self.height)
+        places = [it[:2] for it in self.boxes] + [it[:2] for it in self.texts]
+        yield from (f"{name} leaves the picture" for name, it in places if not is_inside(it, whole))
+        for number, (name, it, lines) in enumerate(self.boxes):
+            yield from (f"{name} and {other[0]} lie over each other" for other in self.boxes[number + 1:]
+                        if is_over(it, other[1]))
+            for text, place, of_box in self.texts:
+                is_its_own = of_box and text in lines
+                if is_over(it, place) and not (is_its_own and is_inside(place, it)):
+                    yield f"{text} lies over the box {name}"
+        for number, (text, it, _) in enumerate(self.texts):
+            yield from (f"{text} and {other[0]} lie over each other" for other in self.texts[number + 1:]
+                        if is_over(it, other[1]))
 
     def text(self):
         head = (
@@ -93,23 +129,29 @@ SHARED = {
 }
 
 
+def box_width(name):
+    return round(len(name) * LETTER * 1.12 + 22)
+
+
 def layers():
     rows = headings()
-    picture = Picture(1036, 56 + 62 * len(rows))
+    # who owns what stands behind the longest row of boxes
+    owners_at = 190 + max(sum(box_width(name) + 8 for name in crates) for _, crates in rows) + 16
+    picture = Picture(owners_at + 320, 60 + 62 * len(rows))
     picture.words(16, 24, "The layers, the program at the top", 14, "bold")
-    picture.words(716, 24, "Who owns what", 14, "bold")
+    picture.words(owners_at, 24, "Who owns what", 14, "bold")
     for row, (title, crates) in enumerate(rows):
         y = 40 + 62 * row
-        picture.parts.append(f'<rect x="8" y="{y}" width="1020" height="54" rx="6" fill="{PALE}"/>')
+        picture.parts.append(f'<rect x="8" y="{y}" width="{picture.width - 16}" height="54" rx="6" fill="{PALE}"/>')
         picture.words(18, y + 31, title)
         x = 190
         for name in crates:
-            width = round(len(name) * LETTER * 1.12 + 22)
+            width = box_width(name)
             picture.box(x, y + 10, width, 34, [name], GREEN if name in SHARED else BLUE)
             x += width + 8
         owners = OWNERS.get(title.split()[0], [])
         for line, text in enumerate(owners):
-            picture.words(716, y + (31 if len(owners) == 1 else 24 + 16 * line), text)
+            picture.words(owners_at, y + (31 if len(owners) == 1 else 24 + 16 * line), text)
     picture.words(16, picture.height - 4, "green: has atomic steps or locks, for threads", 11)
     return picture
 
@@ -173,6 +215,11 @@ def main(words):
     status = 0
     for name, picture in (("layers", layers()), ("tile_way", tile_way()), ("turn", turn())):
         file = HERE / f"{name}.svg"
+        faults = list(picture.faults())
+        if faults:
+            print(f"docs/pictures/{name}.svg:", *faults, sep="\n    ")
+            status = 1
+            continue
         if words != ["--check"]:
             file.write_text(picture.text(), encoding="utf-8")
         elif not file.exists() or file.read_text(encoding="utf-8") != picture.text():

@@ -1,0 +1,110 @@
+#!/usr/bin/env python3
+"""Says in words what the lines mean that texcache answered to a list.
+
+    python3 tools/explain.py LIST ANSWERS
+
+LIST is the list of requests, ANSWERS what the program wrote for it. For each request it prints the line of the
+list, which worker answered it in which round, the request, its answer, what that means, and what helps where it is
+a refusal. It reads the program's own lines alone (docs/REQUESTS.md).
+"""
+import shlex
+import sys
+from pathlib import Path
+
+sys.path[:0] = [str(Path(__file__).resolve().parent), str(Path(__file__).resolve().parent.parent / "demo")]
+from counts import MOST_OF_A_ROUND, texels  # noqa: E402
+from meanings import refusal  # noqa: E402
+
+
+# how many values of a region are shown
+SHOWN = 8
+
+# how many fields stand between the word of a request and its name
+FIELDS = {"tex": 7, "texd": 9, "pixels": 5, "info": 0, "hold": 3, "invalidate": 0, "renew": 0}
+
+
+def name_in(request):
+    word, _, rest = request.partition(" ")
+    return rest.split(" ", FIELDS[word])[-1] if word in FIELDS else ""
+
+
+def requests_of(text):
+    """The requests of a list, each with the number of its line."""
+    for number, line in enumerate(text.split("\n"), 1):
+        line = line.removesuffix("\r")
+        if line and not line.startswith("#"):
+            yield number, line
+
+
+def dealt(requests, workers):
+    """The round and the worker of each request, both counted from 0."""
+    of_round, place, asked = 0, 0, 0
+    for request in requests:
+        if asked + texels(request) > MOST_OF_A_ROUND:
+            of_round, place, asked = of_round + 1, 0, 0
+        yield of_round, place % workers
+        place, asked = place + 1, asked + texels(request)
+        if request == "sync":
+            of_round, place, asked = of_round + 1, 0, 0
+
+
+def fractions(values):
+    return ", ".join(f"{int(it) / 65535:.4f}" for it in values)
+
+
+def answered(line):
+    """What an answer says that is no refusal."""
+    word, *rest = line.split(" ")
+    if word in ("tex", "texd"):
+        return f"generation {rest[0]}; of 1: {fractions(rest[1:])}"
+    if word == "pixels":
+        generation, channels, *values = rest
+        more = " .." if len(values) > SHOWN else ""
+        return (f"generation {generation}; {len(values) // int(channels)} texels of {channels} channels; of 1: "
+                f"{fractions(values[:SHOWN])}{more}")
+    if word == "info":
+        generation, width, height, channels, depth, stored, levels = rest
+        return (f"generation {generation}; {width} by {height} texels, {channels} channels of {depth} bits, "
+                f"{levels} levels, of which {stored} are stored")
+    if word == "held":
+        generation, x, y, width, height = rest
+        return f"generation {generation}; the cell is {width} by {height} texels from ({x}, {y}) on"
+    if word == "stat":
+        filled = ["shard {}: {} tiles, {} pins, {} of {} bytes unpinned".format(k, *it.split(","))
+                  for k, it in enumerate(rest) if not it.startswith("0,")]
+        return "; ".join([*filled, f"{len(rest) - len(filled)} of {len(rest)} shards are empty"])
+    return {"dropped": "the oldest hold is given up", "invalidated": "what is older is answered no more",
+            "renewed": "it is read again", "sync": "the round ended here"}.get(word, "")
+
+
+def explained(requests, lines):
+    """The texts for a list and what was written for it."""
+    closing = [it for it in lines if it.startswith("worker ")]
+    workers = max(1, len(closing))
+    for (number, request), (of_round, worker), line in zip(requests, dealt([it for _, it in requests], workers), lines):
+        yield f"line {number}, round {of_round + 1}, worker {worker}: {request}"
+        yield f"    {line}"
+        found = refusal(line)
+        if not found:
+            yield f"    {answered(line)}"
+            continue
+        means, helps = found
+        yield f"    Refused: {means}."
+        if helps:
+            yield f"    What helps: {helps.replace('{name}', shlex.quote(name_in(request)))}"
+    for line in closing:
+        _, worker, _, needs, _, hits = line.split(" ")
+        yield f"worker {worker} needed {needs} cells, and {hits} of them were among the two that it had needed last"
+
+
+def main():
+    if len(sys.argv) != 3:
+        sys.exit("usage: explain.py LIST ANSWERS")
+    asked, lines = (Path(it).read_text(encoding="utf-8") for it in sys.argv[1:])
+    if lines.startswith("bad ") and lines.count("\n") == 1 and not lines.startswith("bad file"):
+        sys.exit(f"no request was answered: {lines.strip()} (docs/REQUESTS.md, \"Causes\" and \"The command line\")")
+    print(*explained(list(requests_of(asked)), lines.splitlines()), sep="\n")
+
+
+if __name__ == "__main__":
+    main()

@@ -1,0 +1,94 @@
+#!/usr/bin/env python3
+"""Says what each file of a folder is to texcache: a line a file, and what helps where it is refused.
+
+    python3 tools/folder_info.py FOLDER
+
+A line has the sides, channels and bits, the stored levels and all levels, how level 0 is cut in the file, and how
+many bytes the texels of all levels take in the cache, which counts two for each sample. It asks the program itself,
+the proved one where ./build made it (docs/REQUESTS.md).
+"""
+import os
+import shlex
+import subprocess
+import sys
+from pathlib import Path
+
+sys.path.insert(0, str(Path(__file__).resolve().parent))
+from meanings import refusal  # noqa: E402
+
+PROGRAM = Path(__file__).resolve().parent.parent / "texcache"
+MOST_LINES = 1000
+
+
+def asked(program, folder, requests, *words):
+    """The answers to requests, of one worker, and without the lines that close the run."""
+    given = "".join(f"{it}\n" for it in requests)
+    ran = subprocess.run([str(program), *words, "--workers", "1", "--", folder], input=given, text=True,
+                         stdout=subprocess.PIPE, stderr=subprocess.DEVNULL, check=False)
+    if ran.returncode > 1:
+        sys.exit(f"folder_info.py: texcache ended with status {ran.returncode}: {ran.stdout.strip()}")
+    return ran.stdout.splitlines()[:len(requests)]
+
+
+def sides(line):
+    """The sides of the cell that a hold answered."""
+    return tuple(map(int, line.split(" ")[4:])) if line.startswith("held ") else None
+
+
+def kept(width, height, channels, levels):
+    """The bytes that the texels of all levels take in the cache."""
+    return sum(max(1, width >> n) * max(1, height >> n) * channels * 2 for n in range(levels))
+
+
+def size_text(count):
+    for unit, size in (("GiB", 2 ** 30), ("MiB", 2 ** 20), ("KiB", 2 ** 10)):
+        if count >= size:
+            return f"{count / size:.1f} {unit}"
+    return f"{count} bytes"
+
+
+def cut_text(whole, small, large):
+    """How level 0 is cut: cells of stripped files follow --autotile, those of tiled ones are the tiles."""
+    if small is None or large is None:
+        return "cells above 32 MiB"
+    if small == large and small != whole:
+        return f"tiles of {small[0]} by {small[1]}"
+    if small == large:
+        return "one cell"
+    return "strips"
+
+
+def described(name, info, small, large):
+    found = refusal(info)
+    if found:
+        means, helps = found
+        told = f"{name}: {means}"
+        return f"{told}\n    What helps: {helps.replace('{name}', shlex.quote(name))}" if helps else told
+    _, _, width, height, channels, depth, stored, levels = info.split(" ")
+    whole = (int(width), int(height))
+    room = size_text(kept(*whole, int(channels), int(levels)))
+    cut = cut_text(whole, small, large)
+    return (f"{name}: {width} by {height}, {channels} channels of {depth} bits, {stored} of {levels} levels stored, "
+            f"{cut}, {room} in the cache")
+
+
+def lines_of(program, folder):
+    names = sorted(it for it in os.listdir(folder) if (Path(folder) / it).is_file() and "\n" not in it)
+    for first in range(0, len(names), MOST_LINES):
+        some = names[first:first + MOST_LINES]
+        infos = asked(program, folder, [f"info {it}" for it in some])
+        # each hold is given up, since a worker has at most four
+        holds = [line for it in some for line in (f"hold 0 0 0 {it}", "drop")]
+        small, large = (asked(program, folder, holds, "--autotile", side)[::2] for side in ("16", "4096"))
+        for row in zip(some, infos, map(sides, small), map(sides, large)):
+            yield described(*row)
+
+
+def main():
+    if len(sys.argv) not in (2, 3):
+        sys.exit("usage: folder_info.py FOLDER [PROGRAM]")
+    print(*lines_of(sys.argv[2] if len(sys.argv) == 3 else PROGRAM, os.path.abspath(sys.argv[1])), sep="\n")
+
+
+if __name__ == "__main__":
+    main()
