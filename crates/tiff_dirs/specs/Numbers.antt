@@ -38,7 +38,7 @@ pub record AreNumbersAt (form : Form) (bytes : List ℕ) (at : ℕ) (n : Numbers
 -- the shape that they say
 abbrev pub numbers_shape : Numbers → LevelShape
 numbers_shape n = shape_of n.width n.height n.samples (planes_by n.planar n.samples) n.bits
-    (n.photometric == 0) n.tile n.rows_per_strip
+    (n.photometric == 0) (n.photometric == 2) n.tile n.rows_per_strip
 
 -- the field that holds the offsets of the blocks
 abbrev pub tag_of_offsets : Option (ℕ × ℕ) → ℕ

@@ -5,4 +5,4 @@ use Rattle.tiff_format.specs.Block.{LevelShape, shape_of}
 -- its fields as plain data
 abbrev pub seen_shape : ReadShape → LevelShape
 seen_shape shape = shape_of shape.width shape.height shape.channels shape.planes shape.depth
-    shape.white shape.tile shape.rows_per_strip
+    shape.white shape.rgb shape.tile shape.rows_per_strip

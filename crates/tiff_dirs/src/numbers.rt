@@ -140,6 +140,7 @@ impl Numbers {
             planes: self.planes() as u32,
             depth: self.bits as u32,
             white: self.photometric == WHITE_IS_ZERO,
+            rgb: self.photometric == RGB,
             tile: sides_of(self.tile),
             rows_per_strip: self.rows_per_strip,
         })

@@ -19,12 +19,14 @@ pub struct LevelShape {
     pub depth: u32,
     /// WhiteIsZero.
     pub white: bool,
+    /// RGB.
+    pub rgb: bool,
     /// Width and height of a tile, if it is tiled.
     pub tile: Option<(u32, u32)>,
     /// 2^32 - 1 where it is tiled.
     pub rows_per_strip: u32,
     ghost shape_in: { IsLevelShape
-        (shape_of width height channels planes depth white tile rows_per_strip) },
+        (shape_of width height channels planes depth white rgb tile rows_per_strip) },
 }
 
 /// The bits of a sample that takes one byte.
@@ -140,6 +142,7 @@ impl LevelShape {
             planes: self.planes,
             depth: self.depth,
             white: self.white,
+            rgb: self.rgb,
             tile: self.tile,
             rows_per_strip: self.rows_per_strip,
             offsets,

@@ -21,6 +21,8 @@ pub record LevelShape : Type 0 where
   pub depth : ℕ
   -- WhiteIsZero
   pub white : Bool
+  -- RGB
+  pub rgb : Bool
   -- width and height of a tile, if it is tiled
   pub tile : Option (ℕ × ℕ)
   pub rows_per_strip : ℕ
@@ -32,14 +34,15 @@ pub record Level : Type 0 where
   pub offsets : List ℕ
 
 -- the shape with these fields
-abbrev pub shape_of : ℕ → ℕ → ℕ → ℕ → ℕ → Bool → Option (ℕ × ℕ) → ℕ → LevelShape
-shape_of width height channels planes depth white tile rows = record {
+abbrev pub shape_of : ℕ → ℕ → ℕ → ℕ → ℕ → Bool → Bool → Option (ℕ × ℕ) → ℕ → LevelShape
+shape_of width height channels planes depth white rgb tile rows = record {
   width = width;
   height = height;
   channels = channels;
   planes = planes;
   depth = depth;
   white = white;
+  rgb = rgb;
   tile = tile;
   rows_per_strip = rows;
 }
@@ -131,6 +134,7 @@ shape_at form bytes at = shape_of
     (planes_at form bytes at)
     (field_value form bytes at bits_per_sample_tag)
     (field_value form bytes at photometric_tag == 0)
+    (field_value form bytes at photometric_tag == 2)
     (tile_of form bytes at)
     (strip_rows form bytes at)
 

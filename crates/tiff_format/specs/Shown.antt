@@ -5,7 +5,7 @@ use Rattle.tiff_format.specs.Block.{LevelShape, Level, shape_of, level_with}
 -- its fields but for the offsets
 abbrev pub shown_shape : Dir → LevelShape
 shown_shape dir = shape_of dir.width dir.height dir.channels dir.planes dir.depth dir.white
-    dir.tile dir.rows_per_strip
+    dir.rgb dir.tile dir.rows_per_strip
 
 -- its fields as plain data
 abbrev pub shown : Dir → Level

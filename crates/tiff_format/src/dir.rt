@@ -17,6 +17,8 @@ pub struct Dir {
     pub depth: u32,
     /// PhotometricInterpretation is 0, WhiteIsZero.
     pub white: bool,
+    /// PhotometricInterpretation is 2, RGB.
+    pub rgb: bool,
     /// TileWidth and TileLength, multiples of 16 up to 131072,
     /// where the directory is tiled (section 15).
     pub tile: Option<(u32, u32)>,
@@ -27,7 +29,8 @@ pub struct Dir {
     /// of the next.
     pub offsets: Vec<u64>,
     ghost shape_in: { IsLevelShape
-        (shape_of width height channels planes depth white tile rows_per_strip) },
+        (shape_of width height channels planes depth white rgb tile rows_per_strip) },
     ghost offsets_in: { HasOffsets (level_with
-        (shape_of width height channels planes depth white tile rows_per_strip) offsets.items) },
+        (shape_of width height channels planes depth white rgb tile rows_per_strip)
+        offsets.items) },
 }

@@ -6,7 +6,7 @@ use Rattle.tiff_format.specs.Block.{LevelShape, Level, shape_of, level_with}
 -- its shape as plain data
 abbrev pub shown_shape : PlainShape → LevelShape
 shown_shape shape = shape_of shape.width shape.height shape.channels shape.planes shape.depth
-    shape.white shape.tile shape.rows_per_strip
+    shape.white shape.rgb shape.tile shape.rows_per_strip
 
 -- its shape and its offsets as plain data
 abbrev pub shown : PlainLevel → Level

@@ -26,6 +26,8 @@ pub struct PlainShape {
     pub depth: u64,
     /// WhiteIsZero.
     pub white: bool,
+    /// RGB.
+    pub rgb: bool,
     /// Width and height of a tile, if it is tiled.
     pub tile: Option<(u64, u64)>,
     /// 2^32 - 1 where it is tiled.
@@ -99,6 +101,7 @@ pub fn shape_at(form: Form, bytes: &[u8], at: u64) -> PlainShape
         planes: planes_at(form, bytes, at),
         depth: field_value(form, bytes, at, BITS_PER_SAMPLE),
         white: field_value(form, bytes, at, PHOTOMETRIC) == 0,
+        rgb: field_value(form, bytes, at, PHOTOMETRIC) == 2,
         tile: tile_of(form, bytes, at),
         rows_per_strip: strip_rows(form, bytes, at),
     }

@@ -37,6 +37,7 @@ no_shape = record {
   planes = 0;
   depth = 0;
   white = false;
+  rgb = false;
   tile = None;
   rows_per_strip = 0;
 }

@@ -9,7 +9,7 @@ use Rattle.tile_layout.specs.Kept.{Kept, level_in}
 -- the shape of plane p: only the first has channel 0, to which the white rule applies
 abbrev pub plane_shape : LevelShape → ℕ → LevelShape
 plane_shape shape p = shape_of shape.width shape.height (samples_aside shape) 1 shape.depth
-    (shape.white && (p == 0)) shape.tile shape.rows_per_strip
+    (shape.white && (p == 0)) shape.rgb shape.tile shape.rows_per_strip
 
 -- plane p: the blocks of the planes before it come first. Offsets behind its own are passed over.
 abbrev pub plane_level : Level → ℕ → Level
