@@ -1,7 +1,7 @@
 //! Tests of what threads share: a lock and the board of generations; tiles in their shards, step by
 //! step and by four threads; the table of files, its records and idle handles, over files in memory
 //! and over a real folder whose files change between two calls; two taps of one real folder; tiles
-//! loaded over records; and what is read ahead of stripped files.
+//! loaded over records; what is read ahead of stripped files; and texels in fixed slots.
 #![tactic(auto)]
 
 #[cfg(test)]
@@ -32,6 +32,8 @@ mod script;
 mod seat;
 #[cfg(test)]
 mod shared_table;
+#[cfg(test)]
+mod slots;
 #[cfg(test)]
 mod strips;
 #[cfg(test)]

@@ -19,5 +19,4 @@ pub mod HalfTexels
 pub mod HalfMade
 pub mod GeneratedCells
 pub mod TakenSamples
-pub mod PlaneWrites
 pub mod PlanarSamples

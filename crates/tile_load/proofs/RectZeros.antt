@@ -12,7 +12,7 @@ use Rattle.tile_layout.specs.WholeRows.{StandsWhole}
 use Rattle.tile_layout.specs.Pieces.{rect_texels}
 use Rattle.tile_layout.proofs.TexelLemmas.{length-rect_texels}
 use Rattle.tile_load.specs.declared.run.Run.{Run}
-use Rattle.tile_load.specs.Beyond.{IsPlaneBeyond, piece_end}
+use Rattle.piece_samples.specs.Beyond.{IsPlaneBeyond, piece_end}
 use Rattle.tile_load.specs.Zeros.{AddsTexels, AddsZeros, LiesBeyond}
 use Rattle.tile_load.proofs.PieceEnds.{below_of_whole}
 use Rattle.tile_load.proofs.WholeRows.{some_columns, row_below}

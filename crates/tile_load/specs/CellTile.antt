@@ -5,7 +5,7 @@ use Rattle.tile_layout.specs.Key.{level_of, index_of}
 use Rattle.tile_layout.specs.Kept.{Kept, level_in}
 use Rattle.tile_layout.specs.Cell.{cell_rect, cut_level_in, channels_in}
 use Rattle.tile_store.specs.Tile.{CachedTile}
-use Rattle.tile_load.specs.Beyond.{CountAsZero, IsAllBeyond}
+use Rattle.piece_samples.specs.Beyond.{CountAsZero, IsAllBeyond}
 
 -- it has the key, the rectangle of the cell, and the samples of the file
 pub record IsCellTile (layout : Kept) (cut : Cut) (key : ℕ) (tile : CachedTile) : Type 0 where

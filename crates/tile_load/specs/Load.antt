@@ -1,19 +1,14 @@
 -- Which cell is loaded?
-use Rattle.std.specs.Prelude.{◌≡◌, ℕ, ◌<◌, List, None}
-use Rattle.tiff_format.specs.Fault.{first_fault}
+pub use Rattle.piece_samples.specs.LayoutOf.{IsLayoutOf}
+use Rattle.std.specs.Prelude.{◌≡◌, ℕ, ◌<◌}
 use Rattle.tex_world.specs.Tap.{Named}
 use Rattle.file_table.specs.Record.{RecordState}
 use Rattle.tiff_format.specs.declared.cut.Cut.{Cut}
 use Rattle.tiff_format.specs.declared.rect.Rect.{Rect}
 use Rattle.tile_layout.specs.Key.{generation_of, file_of, level_of, index_of}
-use Rattle.tile_layout.specs.Kept.{Kept, kept_of, stored_count, level_in}
+use Rattle.tile_layout.specs.Kept.{Kept, stored_count, level_in}
 use Rattle.tile_layout.specs.Cell.{cell_count, cut_level_in}
 use Rattle.tile_layout.specs.Pieces.{LiesOnLevel}
-
--- the layout is that of these bytes, which show no fault
-pub record IsLayoutOf (bytes : List ℕ) (layout : Kept) : Type 0 where
-  pub good : first_fault bytes ≡ None
-  pub kept : layout ≡ kept_of bytes
 
 -- the record is of the file and the generation that the handle reads
 pub record IsReadBy (handle : Named) (state : RecordState) : Type 0 where

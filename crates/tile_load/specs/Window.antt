@@ -1,7 +1,7 @@
 -- What does a window on a file hold?
 use Rattle.std.specs.Prelude.{ℕ, ◌+◌, ◌≤◌, List, [], ◌∷◌, length, ⊤}
 use Rattle.tiff_format.specs.Bytes.{IsPartAt}
-use Rattle.tile_load.specs.declared.span.Span.{Span}
+use Rattle.piece_samples.specs.declared.span.Span.{Span}
 use Rattle.tile_load.specs.declared.window.Window.{Window}
 
 -- its bytes are those of the file from its place on

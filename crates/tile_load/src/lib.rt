@@ -9,7 +9,6 @@ mod loading;
 mod part_place;
 mod part_span;
 mod place;
-mod places;
 mod planes;
 mod quarters;
 mod reading;
@@ -18,7 +17,6 @@ mod rect_error;
 mod rows;
 mod run;
 mod samples;
-mod span;
 mod window;
 
 pub use halving::Halving;

@@ -8,7 +8,7 @@ ghost use Rattle.tile_load.specs.Window.{IsWindow, AreWindows, HoldsSpan};
 
 use crate::rect_error::RectError;
 use crate::rows::RowsBehind;
-use crate::span::Span;
+use piece_samples::Span;
 use std::alloc::{AllocError, Global};
 use tiff_dirs::ByteReader;
 

@@ -9,10 +9,11 @@ use Rattle.tile_layout.specs.Kept.{level_in}
 use Rattle.tile_layout.specs.Plane.{plane_level}
 use Rattle.tile_layout.proofs.PlaneBlocks.{plane_held}
 use Rattle.tile_load.specs.declared.samples.Samples.{Samples}
-use Rattle.tile_load.specs.Beyond.{IsBeyond}
+use Rattle.piece_samples.specs.Beyond.{IsBeyond}
 use Rattle.tile_load.specs.Taken.{taken}
 use Rattle.tile_load.proofs.Leaves.{leaves_after}
-use Rattle.tile_load.proofs.PlanarSamples.{all_low, one_aside, one_each, planar_texels}
+use Rattle.piece_samples.proofs.LowSamples.{all_low}
+use Rattle.tile_load.proofs.PlanarSamples.{one_aside, one_each, planar_texels}
 use Rattle.tile_load.proofs.PlanarSamples.{planes_more}
 use Rattle.tile_layout.specs.Texel.{FitDepth}
 use Rattle.tile_load.proofs.TakenSamples.{placed_at, length_taken, zero_of}

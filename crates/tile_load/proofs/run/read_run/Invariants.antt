@@ -4,7 +4,7 @@ use Rattle.tiff_format.specs.Block.{Level}
 use Rattle.tile_layout.specs.FormatOf.{IsFormatOf}
 use Rattle.tile_load.specs.Run.{AppendsValues, StandSideBySide}
 use Rattle.tile_load.specs.Taken.{taken, KeepsOthers}
-use Rattle.tile_load.specs.Unpacked.{KeepsDepth}
+use Rattle.piece_samples.specs.Unpacked.{KeepsDepth}
 use Rattle.tile_load.specs.Window.{IsWindow}
 use Rattle.tile_load.proofs.run.read_run.Given as goal
 

@@ -6,7 +6,7 @@ use Rattle.tile_layout.specs.Blocks.{HoldsBlocks}
 use Rattle.tile_load.specs.Samples.{samples_at}
 use Rattle.tile_load.specs.Zeros.{AddsTexels, LiesBeyond}
 use Rattle.tile_load.specs.Taken.{taken, KeepsOthers}
-use Rattle.tile_load.specs.Unpacked.{KeepsDepth}
+use Rattle.piece_samples.specs.Unpacked.{KeepsDepth}
 use Rattle.tile_load.specs.Window.{AreWindows}
 use Rattle.tile_load.proofs.reading.Reading.read_pieces.Given as goal
 

@@ -1,7 +1,7 @@
 use Rattle.std.proofs.Common.{◌≡◌, ℕ, ◌+◌, ◌*◌, ◌++◌, List, length, take, drop, slice_index, ap, ◌∙◌, arith}
 use Rattle.std.proofs.Math.Seq.{take-append_seam}
 use Rattle.tile_load.specs.Taken.{taken_by}
-use Rattle.tile_load.specs.Unpacked.{unpacked}
+use Rattle.piece_samples.specs.Unpacked.{unpacked}
 use Rattle.tile_load.proofs.TakenSamples.{taken_more}
 use Rattle.tile_load.proofs.samples.Samples.place.Goals as goal
 

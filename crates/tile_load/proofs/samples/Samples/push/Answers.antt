@@ -1,6 +1,6 @@
 use Rattle.std.proofs.Common.{ℕ, List, ◌++◌, map, ap, sym, ◌∙◌}
 use Rattle.std.specs.List.{range_with_len}
-use Rattle.tile_load.specs.Unpacked.{unpacked}
+use Rattle.piece_samples.specs.Unpacked.{unpacked}
 use Rattle.tile_load.proofs.TakenSamples.{taken_alone}
 use Rattle.tile_load.proofs.WholeRows.{on_ok}
 use Rattle.tile_load.proofs.samples.Samples.push.Goals as goal

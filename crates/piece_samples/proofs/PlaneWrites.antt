@@ -8,7 +8,7 @@ use Rattle.std.proofs.lemmas.Nat.{div-mul-add, mod-mul-add, mul-add-lt, div-add-
 use Rattle.tile_layout.specs.declared.texel_format.TexelFormat.{TexelFormat}
 use Rattle.unpack.specs.Plane.{plane_sample}
 use Rattle.unpack.specs.Sample.{is_white}
-use Rattle.tile_load.specs.Unpacked.{is_wide, unpacked}
+use Rattle.piece_samples.specs.Unpacked.{is_wide, unpacked}
 use borrow.Rule.Slice.PartMut.{mid_of, put_mid}
 
 pub length_part : (a w : ℕ) (xs : List ℕ) → a + w ≤ length xs → length (mid_of a w xs) ≡ w

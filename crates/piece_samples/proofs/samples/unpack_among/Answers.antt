@@ -4,9 +4,9 @@ use Rattle.std.proofs.Math.Nat.{add-mul-mod_self_right}
 use Rattle.std.proofs.lemmas.Nat.{mul-add-lt, mod-mul-add}
 use Rattle.tiff_format.specs.Texel.{greatest_sample}
 use Rattle.unpack.specs.Plane.{plane_sample}
-use Rattle.tile_load.proofs.PlanarSamples.{each_low, all_low}
-use Rattle.tile_load.proofs.PlaneWrites.{other_stays, sample_stands, all_stay_low, length_part, plane_is}
-use Rattle.tile_load.proofs.samples.unpack_among.Goals as goal
+use Rattle.piece_samples.proofs.LowSamples.{each_low, all_low}
+use Rattle.piece_samples.proofs.PlaneWrites.{other_stays, sample_stands, all_stay_low, length_part, plane_is}
+use Rattle.piece_samples.proofs.samples.unpack_among.Goals as goal
 use borrow.Rule.Slice.PartMut.{mid_of, put_mid}
 
 pub returns-clause-values : goal.returns-clause-values

@@ -6,12 +6,12 @@ use std::alloc::AllocError;
 /// Where the samples of a plane stand among those of the others: sample k at place
 /// `k * step + first`.
 #[derive(Clone, Copy, Debug)]
-pub(crate) struct Places {
+pub struct Places {
     /// How many planes there are. Where there is one, samples are appended.
-    pub(crate) step: usize,
-    pub(crate) first: usize,
+    pub step: usize,
+    pub first: usize,
     /// How many samples of the plane stand there.
-    pub(crate) done: usize,
+    pub done: usize,
     ghost some: { 1 ≤ step },
     ghost few: { step ≤ max_channels },
     ghost own: { first < step },
@@ -19,7 +19,7 @@ pub(crate) struct Places {
 
 impl Places {
     /// The same with so many samples more.
-    pub(crate) fn more(&self, count: usize) -> Result<Places, AllocError>
+    pub fn more(&self, count: usize) -> Result<Places, AllocError>
         ensures step { IfOk result (λ more. more.step ≡ self.now.step) }
         ensures first { IfOk result (λ more. more.first ≡ self.now.first) }
         ensures done { IfOk result (λ more. more.done ≡ self.now.done + count) }

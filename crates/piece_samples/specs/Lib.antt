@@ -1,0 +1,5 @@
+pub mod Unpacked
+pub mod Places
+pub mod Beyond
+pub mod LayoutOf
+pub mod Row

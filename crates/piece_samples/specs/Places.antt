@@ -1,0 +1,8 @@
+-- When do the places of samples fit their format?
+use Rattle.std.specs.Prelude.{◌≢◌, ◌≤◌}
+use Rattle.tile_layout.specs.declared.texel_format.TexelFormat.{TexelFormat}
+use Rattle.piece_samples.specs.declared.places.Places.{Places}
+
+-- where there are several planes, the format is that of one of them
+abbrev pub FitsPlaces : Places → TexelFormat → Type 0
+FitsPlaces places format = places.step ≢ 1 → format.invert ≤ 1

@@ -1,0 +1,323 @@
+//! Texels in fixed slots: call by call over files in memory, and by two threads at the same slots.
+ghost use Rattle.std.specs.Prelude.{◌≡◌, ◌/◌, ◌<◌};
+ghost use Rattle.std.specs.Option.{ForSome};
+ghost use Rattle.tile_load.specs.Load.{IsLayoutOf};
+
+use crate::pictures::Pictures;
+use std::alloc::Global;
+use std::marker::PhantomData;
+use std::test::Fail;
+use std::thread;
+use std::thread::Threads;
+use tap_reader::TapReader;
+use tex_world::{
+    FailByte, Folder, MemFolder, MemTap, Plan, Rise, SampleFolder, Tap, TapHandle, World,
+};
+use tiff_dirs::read_dirs;
+use tile_layout::Layout;
+use tile_slots::{FillError, PartKey, Slots};
+
+/// A file in one generation.
+#[derive(Drop)]
+struct Picture<W: World> {
+    file: u32,
+    generation: u32,
+    layout: Layout,
+    world: PhantomData<W>,
+    ghost told: { ForSome (W.files.held file generation) (λ bytes. IsLayoutOf bytes layout) },
+}
+
+/// What a handle reads.
+fn picture_of<T: Tap>(
+    alloc: Global,
+    tap: &mut T,
+    handle: &mut T::Handle,
+) -> Result<Picture<T::W>, Fail> {
+    let (file, generation) = (handle.file(), handle.generation());
+    let mut reader = TapReader { tap, handle };
+    match read_dirs(alloc, &mut reader) {
+        Ok(dirs) => Ok(Picture {
+            file,
+            generation,
+            layout: Layout::of(dirs),
+            world: PhantomData,
+        }),
+        Err(_) => Err("no picture".into()),
+    }
+}
+
+/// A texel of level 0.
+type Texel = (u32, u32);
+
+/// The part that has a texel.
+fn key_of<W: World>(picture: &Picture<W>, texel: Texel) -> PartKey
+    ensures file { result.file ≡ picture.now.file }
+    ensures generation { result.generation ≡ picture.now.generation }
+    ensures level { result.level ≡ 0 }
+    ensures part { result.part ≡ texel.0 / 64 }
+    ensures row { result.row ≡ texel.1 }
+{
+    PartKey {
+        generation: picture.generation,
+        file: picture.file,
+        level: 0,
+        part: texel.0 / 64,
+        row: texel.1,
+    }
+}
+
+/// What is shown of a texel: one sample for each place of `out`.
+fn show<W: World>(slots: &Slots<W>, picture: &Picture<W>, texel: Texel, out: &mut [u16]) -> bool {
+    let _stored = picture.layout.stored();
+    let (width, height) = picture.layout.size(0);
+    let channels = picture.layout.channels() as usize;
+    if texel.0 >= width || texel.1 >= height || out.len() != channels {
+        return false;
+    }
+    slots.show(key_of(picture, texel), texel.0, out)
+}
+
+/// What filling the slot of a texel answers, none where the handle is that of another picture or
+/// the picture lacks the texel.
+fn fill<T: Tap>(
+    slots: &Slots<T::W>,
+    picture: &Picture<T::W>,
+    (tap, handle): (&mut T, &mut T::Handle),
+    texel: Texel,
+    out: &mut [u16],
+) -> Option<Result<bool, FillError>> {
+    let _stored = picture.layout.stored();
+    let (width, height) = picture.layout.size(0);
+    let channels = picture.layout.channels() as usize;
+    if texel.0 >= width || texel.1 >= height || out.len() != channels {
+        return None;
+    }
+    if handle.file() != picture.file || handle.generation() != picture.generation {
+        return None;
+    }
+    let key = key_of(picture, texel);
+    Some(slots.fill(tap, handle, &picture.layout, key, texel.0, out))
+}
+
+/// A call, and what it answers: the sample that is shown or read of a texel.
+#[derive(Clone, Copy)]
+enum Call {
+    Show(Texel, Option<u16>),
+    Fill(Texel, Result<(bool, u16), FillError>),
+}
+
+/// The call answers so. A call that shows or reads nothing leaves what was there.
+fn is_answered<T: Tap>(
+    slots: &Slots<T::W>,
+    picture: &Picture<T::W>,
+    (tap, handle): (&mut T, &mut T::Handle),
+    call: Call,
+) -> bool {
+    let mut out = [777];
+    match call {
+        Call::Show(texel, wanted) => {
+            let shown = show(slots, picture, texel, &mut out);
+            shown == wanted.is_some() && out[0] == wanted.unwrap_or(777)
+        }
+        Call::Fill(texel, wanted) => {
+            let filled = fill(slots, picture, (tap, handle), texel, &mut out);
+            match wanted {
+                Ok((put, sample)) => filled == Some(Ok(put)) && out[0] == sample,
+                Err(error) => filled == Some(Err(error)) && out[0] == 777,
+            }
+        }
+    }
+}
+
+/// Calls in turn: the texel (x, y) of `A.tif` is 16 * y + x. Reading its row 1 fails the first time
+/// and its row 3 meets generation 2.
+static ONE_SLOT: &[(&str, Call)] = &[
+    ("nothing is there yet", Call::Show((2, 0), None)),
+    ("the first part", Call::Fill((2, 0), Ok((true, 2)))),
+    ("another texel of it", Call::Show((3, 0), Some(3))),
+    ("another row", Call::Show((0, 1), None)),
+    (
+        "a read that fails",
+        Call::Fill((0, 1), Err(FillError::ReadFault)),
+    ),
+    ("the slot holds what it held", Call::Show((3, 0), Some(3))),
+    ("once more", Call::Fill((0, 1), Ok((true, 16)))),
+    ("in place of the other row", Call::Show((3, 0), None)),
+    ("the last texel", Call::Show((3, 1), Some(19))),
+    (
+        "a read that meets a newer generation",
+        Call::Fill((1, 3), Err(FillError::Gone(2))),
+    ),
+    ("the slot holds what it held", Call::Show((2, 1), Some(18))),
+];
+
+/// The same over no slot at all.
+static NO_SLOT: &[(&str, Call)] = &[
+    ("no slot", Call::Show((2, 0), None)),
+    ("read, and put nowhere", Call::Fill((2, 0), Ok((false, 2)))),
+    ("no slot holds it", Call::Show((2, 0), None)),
+];
+
+/// The texel (x, 0) of `B.tif` is x + 5, up to column 15, which stands in the first tile; column 16
+/// is the first byte of the second one.
+static TWO_TILES: &[(&str, Call)] = &[
+    ("of the second tile", Call::Fill((17, 0), Ok((true, 11)))),
+    ("of the first one", Call::Show((15, 0), Some(20))),
+    ("of the second one", Call::Show((16, 0), Some(10))),
+    ("row 1", Call::Fill((0, 1), Ok((true, 21)))),
+    ("row 0 has a slot of its own", Call::Show((0, 0), Some(5))),
+];
+
+/// A tap for which the first read of the byte 126 of `A.tif` fails, and which meets generation 2 at
+/// the byte 134; and another one.
+fn taps_of(alloc: Global) -> Result<(MemTap<Pictures>, MemTap<Pictures>), Fail> {
+    let mut plan = Plan::new(alloc);
+    plan.fail_bytes.push(FailByte {
+        tap: 0,
+        file: 0,
+        at: 126,
+    })?;
+    plan.rises.push(Rise {
+        tap: 0,
+        file: 0,
+        at: 134,
+        to: 2,
+    })?;
+    let mut folder = MemFolder::new(plan);
+    let first = folder.tap(alloc)?;
+    let second = folder.tap(alloc)?;
+    Ok((first, second))
+}
+
+/// The first call over so many slots that answers otherwise. The layout is read through a tap of its
+/// own.
+fn wrong_call(
+    alloc: Global,
+    count: u32,
+    file: u32,
+    calls: &'static [(&'static str, Call)],
+) -> Result<Option<&'static str>, Fail>
+    requires count { count < 9 }
+    requires file { file < 4 }
+{
+    let (mut tap, mut other) = taps_of(alloc)?;
+    let mut handle = tap.open(alloc, file, 1).map_err(|_e| "not open")?;
+    let mut known = other.open(alloc, file, 1).map_err(|_e| "not open")?;
+    let picture = picture_of(alloc, &mut other, &mut known)?;
+    let slots = Slots::new(alloc, count)?;
+    for (name, call) in calls {
+        if !is_answered(&slots, &picture, (&mut tap, &mut handle), *call) {
+            return Ok(Some(*name));
+        }
+    }
+    Ok(None)
+}
+
+#[test]
+fn shows_and_fills_as_each_row_says(rt: HostRuntime) -> Result<(), Fail> {
+    let alloc = rt.alloc();
+    let one = wrong_call(alloc, 1, 0, ONE_SLOT)?;
+    assert!(rt; one.is_none(), "one slot: {one:?}");
+    let none = wrong_call(alloc, 0, 0, NO_SLOT)?;
+    assert!(rt; none.is_none(), "no slot: {none:?}");
+    let two = wrong_call(alloc, 8, 3, TWO_TILES)?;
+    assert!(rt; two.is_none(), "two tiles: {two:?}");
+    Ok(())
+}
+
+/// The rounds of a thread, each of which makes a call or two.
+const ROUNDS: u64 = 1_000_000;
+
+/// The rounds that a thread stays at a part.
+const STAY: u64 = 8;
+
+/// Sample c of texel (x, y) of the first sample file.
+fn sample_of(x: u64, y: u64, c: u64) -> u64
+    requires x { x < 1000 }
+    requires y { y < 1000 }
+    requires c { c < 3 }
+{
+    (7 * x + 13 * y + 29 * c) % 256
+}
+
+/// The samples are those of a texel.
+fn is_texel(out: [u16; 3], (x, y): Texel) -> bool {
+    if x >= 256 || y >= 192 {
+        return false;
+    }
+    let (x, y) = (u64::from(x), u64::from(y));
+    u64::from(out[0]) == sample_of(x, y, 0)
+        && u64::from(out[1]) == sample_of(x, y, 1)
+        && u64::from(out[2]) == sample_of(x, y, 2)
+}
+
+/// The texel of a round: 24 rows of four parts each, one part after another.
+fn texel_at(round: u64) -> Texel
+    requires { round < 2000000 }
+{
+    let part = round / STAY;
+    let x = part % 4 * 64 + round * 5 % 64;
+    (x as u32, (part / 4 * 5 % 24) as u32)
+}
+
+/// Asks the slots for texels of the first sample file, and fills a slot where nothing is shown. How
+/// many were wrong.
+fn wrong_texels<T: Tap + Drop>(
+    slots: &Slots<T::W>,
+    picture: &Picture<T::W>,
+    mut tap: T,
+    mut handle: T::Handle,
+    first: u64,
+) -> u64
+    requires { first < 1000 }
+{
+    let mut wrong = 0u64;
+    for round in 0..ROUNDS {
+        let texel = texel_at(first + round);
+        let mut out = [999; 3];
+        let right = if show(slots, picture, texel, &mut out) {
+            is_texel(out, texel)
+        } else {
+            let filled = fill(slots, picture, (&mut tap, &mut handle), texel, &mut out);
+            matches!(filled, Some(Ok(_))) && is_texel(out, texel)
+        };
+        if !right {
+            wrong = wrong.saturating_add(1);
+        }
+    }
+    wrong
+}
+
+/// How many texels two threads find wrong, the second of which is a row ahead.
+fn wrong_in_two_threads<R: Threads, T: Tap + Send + Drop>(
+    rt: &R,
+    slots: &Slots<T::W>,
+    picture: &Picture<T::W>,
+    (tap, handle): (T, T::Handle),
+    (other, second): (T, T::Handle),
+) -> (u64, u64)
+where
+    T::Handle: Send,
+    T::W: Send + Sync,
+{
+    thread::join(
+        rt,
+        move || wrong_texels(slots, picture, tap, handle, 0),
+        move || wrong_texels(slots, picture, other, second, 32),
+    )
+}
+
+#[test]
+fn two_threads_see_no_wrong_texel(rt: HostRuntime) -> Result<(), Fail> {
+    let alloc = rt.alloc();
+    let mut folder = SampleFolder::new();
+    let mut tap = folder.tap(alloc)?;
+    let mut other = folder.tap(alloc)?;
+    let mut handle = tap.open(alloc, 0, 0).map_err(|_e| "not open")?;
+    let second = other.open(alloc, 0, 0).map_err(|_e| "not open")?;
+    let picture = picture_of(alloc, &mut tap, &mut handle)?;
+    let slots = Slots::new(alloc, 8)?;
+    let wrong = wrong_in_two_threads(&rt, &slots, &picture, (tap, handle), (other, second));
+    assert_eq!(rt; wrong, (0, 0));
+    Ok(())
+}

@@ -1,0 +1,26 @@
+ghost use Rattle.std.specs.Prelude.{◌≤◌, ◌↔◌, IsTrue};
+ghost use Rattle.tiff_format.specs.Limits.{max_channels};
+ghost use Rattle.tile_slots.specs.Part.{part_texels};
+
+use crate::part_key::{PART_TEXELS, PartKey};
+
+/// Which part of a row samples are of, how many texels it has, and how many samples each.
+#[derive(Clone, Copy, Debug)]
+pub(crate) struct Extent {
+    pub(crate) key: PartKey,
+    pub(crate) texels: u32,
+    pub(crate) channels: u32,
+    ghost few: { texels ≤ part_texels },
+    ghost in_range: { channels ≤ max_channels },
+}
+
+impl Extent {
+    ghost use Rattle.tile_slots.specs.Slot.{HasTexel};
+
+    /// The texel in column x of the row of a key is one of the part, and has so many samples.
+    pub(crate) fn has(&self, key: PartKey, x: u32, channels: usize) -> bool
+        ensures { IsTrue result ↔ HasTexel self.now key x channels }
+    {
+        self.key == key && self.channels as usize == channels && x % PART_TEXELS < self.texels
+    }
+}

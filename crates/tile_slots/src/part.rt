@@ -1,0 +1,93 @@
+//! What a slot holds.
+
+ghost use Rattle.std.specs.Prelude.{◌≡◌, ◌+◌, ◌*◌, ◌/◌, ◌%◌, ◌<◌, ◌≤◌, ◌↔◌, ℕ, Some, None};
+ghost use Rattle.std.specs.Prelude.{length, slice_index, IsTrue, IsSomeAnd, IfSome, false};
+ghost use Rattle.std.specs.Bool.{OnTrue};
+ghost use Rattle.std.specs.Option.{ForSome};
+ghost use Rattle.tile_layout.specs.Kept.{kept_of};
+ghost use Rattle.tile_slots.specs.Part.{AreToldAt, IsTexelOf};
+ghost use Rattle.tile_slots.specs.Slot.{HasTexel, IsToldPart};
+
+use crate::extent::Extent;
+use crate::part_key::{PART_TEXELS, PartKey};
+use counted_slot::Fits;
+use std::marker::PhantomData;
+use tex_world::World;
+
+/// The most samples of a part: 64 texels of 8 samples.
+pub(crate) const PART_SAMPLES: usize = 512;
+
+/// The samples of a part of a row, those of a texel side by side, or none yet. Where the world
+/// tells, they are those of the level.
+#[derive(Drop)]
+pub(crate) struct Part<W: World> {
+    extent: Option<Extent>,
+    samples: [u16; PART_SAMPLES],
+    world: PhantomData<W>,
+}
+
+impl<W: World> Fits for Part<W> {
+    type Tag = ();
+
+    ghost fits = { λ _ part. IfSome part.extent (λ e. IsToldPart W.files e part.samples) };
+}
+
+/// Copies the samples of a texel of a row that has so many of each.
+pub(crate) fn copy_texel(samples: &[u16], column: usize, out: &mut [u16])
+    requires { (column + 1) * length out.old ≤ length samples.now }
+    ensures { (c : ℕ) → c < length out.old
+        → slice_index out.new c ≡ slice_index samples.now (column * length out.old + c) }
+{
+    let n = out.len();
+    out.copy_from_slice(&samples[column * n..column * n + n]);
+}
+
+impl<W: World> Part<W> {
+    /// No samples yet.
+    pub(crate) fn none() -> Part<W>
+        ensures { result.extent ≡ None }
+    {
+        Part {
+            extent: None,
+            samples: [0; PART_SAMPLES],
+            world: PhantomData,
+        }
+    }
+
+    /// Those of a part.
+    pub(crate) fn of(extent: Extent, samples: [u16; PART_SAMPLES]) -> Part<W>
+        ensures extent { result.extent ≡ Some extent }
+        ensures samples { result.samples ≡ samples }
+    {
+        Part {
+            extent: Some(extent),
+            samples,
+            world: PhantomData,
+        }
+    }
+
+    /// Shows the samples of the texel in column x of the row of a key, where the part is that one,
+    /// has the texel, and so many samples of each. Where the world tells, the part of the key has
+    /// them.
+    pub(crate) fn show(&self, key: PartKey, x: u32, out: &mut [u16]) -> bool
+        requires part { x / PART_TEXELS ≡ key.part }
+        requires fits { IfSome self.now.extent (λ e. IsToldPart W.files e self.now.samples) }
+        requires texel { ForSome (W.files.held key.file key.generation)
+            (λ bytes. IsTexelOf (kept_of bytes) key x (length out.old)) }
+        ensures found { IsTrue result ↔ IsSomeAnd self.now.extent
+            (λ e. HasTexel e key x (length out.old)) }
+        ensures known { IsTrue W.files.tells → IsSomeAnd self.now.extent (λ e. e.key ≡ key)
+            → IsTrue result }
+        ensures told { OnTrue result (AreToldAt W.files key x out.new) }
+        ensures same { result ≡ false → out.new ≡ out.old }
+    {
+        let Some(extent) = self.extent else {
+            return false;
+        };
+        if !extent.has(key, x, out.len()) {
+            return false;
+        }
+        copy_texel(&self.samples, (x % PART_TEXELS) as usize, out);
+        true
+    }
+}

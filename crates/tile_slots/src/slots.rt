@@ -1,0 +1,178 @@
+//! The slots that callers share.
+
+ghost use Rattle.std.specs.Prelude.{◌≡◌, ◌+◌, ◌*◌, ◌/◌, ◌<◌, ◌≤◌, ℕ, length, true, false, None};
+ghost use Rattle.std.specs.Prelude.{IfOk, IfSome, OnOk, OnErr, slice_index};
+ghost use Rattle.std.specs.Bool.{OnTrue};
+ghost use Rattle.std.specs.Option.{ForSome};
+ghost use Rattle.tap_reader.specs.TapReader.{lent_of};
+ghost use Rattle.tiff_format.specs.Facts.{IsChannelCount};
+ghost use Rattle.tile_layout.specs.Kept.{kept_of, level_in};
+ghost use Rattle.tile_layout.specs.Level.{width_in};
+ghost use Rattle.piece_samples.specs.LayoutOf.{IsLayoutOf};
+ghost use Rattle.tile_slots.specs.FillError.{LeavesTap};
+ghost use Rattle.tile_slots.specs.Part.{AreToldAt, IsTexelOf, IsPartBy};
+ghost use Rattle.tile_slots.specs.Part.{AreTexelZeros, IsPartBeyond};
+ghost use Rattle.tile_slots.specs.Slot.{IsToldPart};
+
+use crate::claims::{claim_to_read, claim_to_write};
+use crate::extent::Extent;
+use crate::fill_error::FillError;
+use crate::part::{PART_SAMPLES, Part, copy_texel};
+use crate::part_key::{PART_TEXELS, PartKey};
+use crate::reading::read_samples;
+use counted_slot::{Counted, PRESENT};
+use piece_samples::Row;
+use std::alloc::{AllocError, Global};
+use std::marker::Model;
+use tex_world::{NoMemory, Tap, World};
+use tile_layout::Layout;
+
+/// The most slots.
+pub const MAX_SLOTS: u32 = 65536;
+
+/// Slots for parts of rows, which threads share. In a clause they are how many there are. Which part
+/// a slot holds is said nowhere: another thread may fill it at any time.
+#[derive(Drop)]
+pub struct Slots<W: World> {
+    slots: Vec<Counted<Part<W>>>,
+}
+
+impl<W: World> Model for Slots<W> {
+    ghost use Rattle.std.specs.Prelude.{ℕ, length};
+
+    ghost Value = { ℕ };
+
+    ghost view = { λ s. length s.slots.items };
+}
+
+/// So many slots that hold nothing.
+fn empty_slots<W: World>(alloc: Global, count: u32) -> Result<Vec<Counted<Part<W>>>, AllocError>
+    ensures { IfOk result (λ slots. length slots.items ≡ count) }
+{
+    let mut slots = Vec::with_capacity(alloc, count as usize)?;
+    for _made in 0..count {
+        slots.push(Counted::new(Part::none(), &()))?;
+    }
+    Ok(slots)
+}
+
+impl<W: World> Slots<W> {
+    /// So many slots, which hold nothing yet. Each takes 1,080 bytes.
+    pub fn new(alloc: Global, count: u32) -> Result<Slots<W>, NoMemory>
+        requires { count ≤ MAX_SLOTS }
+        ensures ok { IfOk result (λ slots. slots ≡ count) }
+    {
+        match empty_slots(alloc, count) {
+            Ok(slots) => Ok(Slots { slots }),
+            Err(AllocError) => Err(NoMemory),
+        }
+    }
+
+    /// The slot of a key, where there are any.
+    fn slot(&self, key: &PartKey) -> Option<&Counted<Part<W>>>
+        ensures none { self.now ≡ 0 → result ≡ None }
+    {
+        let count = self.slots.len() as u64;
+        if count == 0 {
+            return None;
+        }
+        Some(&self.slots[key.slot(count) as usize])
+    }
+
+    /// Shows the samples of the texel in column x of the key's row, in the depth of the file, where
+    /// its slot holds the part. It claims the slot once, waits for nobody and takes no memory. It
+    /// shows nothing where there is no slot, where the claim gave no right to read, since a thread
+    /// fills the slot or meets this one at its word, and where the slot holds another part or none;
+    /// over a world that does not tell also where the part has another number of samples or lacks
+    /// the texel.
+    pub fn show(&self, key: PartKey, x: u32, out: &mut [u16]) -> bool
+        requires part { x / PART_TEXELS ≡ key.part }
+        requires places { IsChannelCount (length out.old) }
+        requires texel { ForSome (W.files.held key.file key.generation)
+            (λ bytes. IsTexelOf (kept_of bytes) key x (length out.old)) }
+        ensures told { OnTrue result (AreToldAt W.files key x out.new) }
+        ensures same { result ≡ false → out.new ≡ out.old }
+        ensures none { self.now ≡ 0 → result ≡ false }
+    {
+        let Some(slot) = self.slot(&key) else {
+            return false;
+        };
+        let Some(claim) = claim_to_read(slot) else {
+            return false;
+        };
+        let shown = claim.get().show(key, x, out);
+        claim.leave();
+        shown
+    }
+
+    /// Reads the part that has the texel in column x of the key's row through the tap, under a
+    /// handle of the key's file and generation, and gives the samples of the texel, in the depth of
+    /// the file. The part is then put into its slot, which is claimed once: true where it was, false
+    /// where there is no slot or the claim gave no right to write. It waits for nobody and takes no
+    /// memory.
+    ///
+    /// A piece of the part that does not lie below the handle's length is not read, and its samples
+    /// count as 0: over told bytes there is none. After a refusal the slots hold what they held.
+    pub fn fill<T: Tap<W = W>>(
+        &self,
+        tap: &mut T,
+        h: &mut T::Handle,
+        layout: &Layout,
+        key: PartKey,
+        x: u32,
+        out: &mut [u16],
+    ) -> Result<bool, FillError>
+        requires part { x / PART_TEXELS ≡ key.part }
+        requires key { IsPartBy (T.Handle.named h.old) key }
+        requires texel { IsTexelOf layout.now key x (length out.old) }
+        requires layout { ForSome (W.files.held key.file key.generation)
+            (λ bytes. IsLayoutOf bytes layout.now) }
+        ensures told { OnOk result (AreToldAt W.files key x out.new) }
+        ensures zeros { OnOk result (AreTexelZeros layout.now key
+            (T.Handle.named h.old).len x out.new) }
+        ensures unread { IsPartBeyond layout.now key (T.Handle.named h.old).len
+            → T.state tap.new ≡ T.state tap.old }
+        ensures same { OnErr result (out.new ≡ out.old) }
+        ensures none { self.now ≡ 0 → IfOk result (λ put. put ≡ false) }
+        ensures tap { LeavesTap W.files (lent_of (T.Handle.named h.old) (T.state tap.old))
+            (lent_of (T.Handle.named h.new) (T.state tap.new)) result }
+    {
+        let channels = layout.channels();
+        let left = key.part * PART_TEXELS;
+        let (width, _height) = layout.size(key.level);
+        let row = Row {
+            layout,
+            level: key.level,
+            x: left,
+            y: key.row,
+            n: PART_TEXELS.min(width - left),
+        };
+        let mut samples = [0; PART_SAMPLES];
+        match read_samples(tap, h, &row, &mut samples) {
+            Ok(()) => {}
+            Err(error) => return Err(error),
+        }
+        copy_texel(&samples, (x % PART_TEXELS) as usize, out);
+        let extent = Extent {
+            key,
+            texels: row.n,
+            channels,
+        };
+        Ok(self.put(key, Part::of(extent, samples)))
+    }
+
+    /// Puts a part into the slot of a key, which it claims once.
+    fn put(&self, key: PartKey, part: Part<W>) -> bool
+        requires { IfSome part.extent (λ e. IsToldPart W.files e part.samples) }
+        ensures none { self.now ≡ 0 → result ≡ false }
+    {
+        let Some(slot) = self.slot(&key) else {
+            return false;
+        };
+        let Some(claim) = claim_to_write(slot) else {
+            return false;
+        };
+        let _before = claim.put(part, PRESENT);
+        true
+    }
+}
