@@ -2,7 +2,6 @@
 
 ghost use Rattle.std.specs.Prelude.{◌≡◌, ◌≢◌, ◌+◌, ◌*◌, ◌≤◌, ◌<◌, ℕ, length, slice_index, OnOk};
 ghost use Rattle.std.specs.Option.{ForSome};
-ghost use Rattle.tiff_format.specs.Block.{samples_aside};
 ghost use Rattle.tiff_format.specs.Texel.{sample_in};
 ghost use Rattle.tile_layout.specs.Blocks.{HoldsBlocks};
 ghost use Rattle.tile_layout.specs.Kept.{level_in};

@@ -1,17 +1,15 @@
 //! The slots that callers share.
 
-ghost use Rattle.std.specs.Prelude.{◌≡◌, ◌+◌, ◌*◌, ◌/◌, ◌<◌, ◌≤◌, ℕ, length, true, false, None};
-ghost use Rattle.std.specs.Prelude.{IfOk, IfSome, OnOk, OnErr, slice_index};
+ghost use Rattle.std.specs.Prelude.{◌≡◌, ◌/◌, ◌≤◌, ℕ, length, false, None};
+ghost use Rattle.std.specs.Prelude.{IfOk, IfSome, OnOk, OnErr};
 ghost use Rattle.std.specs.Bool.{OnTrue};
 ghost use Rattle.std.specs.Option.{ForSome};
 ghost use Rattle.tap_reader.specs.TapReader.{lent_of};
-ghost use Rattle.tiff_format.specs.Facts.{IsChannelCount};
-ghost use Rattle.tile_layout.specs.Kept.{kept_of, level_in};
-ghost use Rattle.tile_layout.specs.Level.{width_in};
+ghost use Rattle.tile_layout.specs.Kept.{kept_of};
 ghost use Rattle.piece_samples.specs.LayoutOf.{IsLayoutOf};
 ghost use Rattle.tile_slots.specs.FillError.{LeavesTap};
-ghost use Rattle.tile_slots.specs.Part.{AreToldAt, IsTexelOf, IsPartBy};
-ghost use Rattle.tile_slots.specs.Part.{AreTexelZeros, IsPartBeyond};
+ghost use Rattle.tile_slots.specs.Part.{AreToldAt, IsTexelOf, IsPartBy, AreTexelZeros};
+ghost use Rattle.tile_slots.specs.Part.{IsPartBeyond};
 ghost use Rattle.tile_slots.specs.Slot.{IsToldPart};
 
 use crate::claims::{claim_to_read, claim_to_write};
@@ -57,7 +55,7 @@ fn empty_slots<W: World>(alloc: Global, count: u32) -> Result<Vec<Counted<Part<W
 }
 
 impl<W: World> Slots<W> {
-    /// So many slots, which hold nothing yet. Each takes 1,080 bytes.
+    /// So many slots, which hold nothing yet. Each takes some 1.1 KB.
     pub fn new(alloc: Global, count: u32) -> Result<Slots<W>, NoMemory>
         requires { count ≤ MAX_SLOTS }
         ensures ok { IfOk result (λ slots. slots ≡ count) }
@@ -87,7 +85,6 @@ impl<W: World> Slots<W> {
     /// the texel.
     pub fn show(&self, key: PartKey, x: u32, out: &mut [u16]) -> bool
         requires part { x / PART_TEXELS ≡ key.part }
-        requires places { IsChannelCount (length out.old) }
         requires texel { ForSome (W.files.held key.file key.generation)
             (λ bytes. IsTexelOf (kept_of bytes) key x (length out.old)) }
         ensures told { OnTrue result (AreToldAt W.files key x out.new) }
@@ -148,10 +145,7 @@ impl<W: World> Slots<W> {
             n: PART_TEXELS.min(width - left),
         };
         let mut samples = [0; PART_SAMPLES];
-        match read_samples(tap, h, &row, &mut samples) {
-            Ok(()) => {}
-            Err(error) => return Err(error),
-        }
+        read_samples(tap, h, &row, &mut samples)?;
         copy_texel(&samples, (x % PART_TEXELS) as usize, out);
         let extent = Extent {
             key,

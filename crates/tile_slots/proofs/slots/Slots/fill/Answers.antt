@@ -29,7 +29,7 @@ returns-clause-told g c = λ tells.
     (λ bytes is. texel_told c.args.x (key.part * 64) c.min.result level.shape.channels column
     c.read_samples.new.samples c.copy_texel.new.out (length c.args.out.now) same
     c.copy_texel.auto.out c.copy_texel.ensures
-    (λ i d. texel_at bytes key.level i key.row d) (c.in-Ok.ensures.told bytes is)))
+    (λ i d. texel_at bytes key.level i key.row d) (c.in_ok-read_samples.ensures.told bytes is)))
 
 pub returns-clause-zeros : goal.returns-clause-zeros
 returns-clause-zeros g c =
@@ -54,4 +54,4 @@ returns-clause-zeros g c =
     (subst (λ (end : ℕ). (i d : ℕ) → i < c.min.result → d < level.shape.channels
     → beyond end (left + i) d
     → get_or c.read_samples.new.samples (i * level.shape.channels + d) 0 ≡ 0) right
-    c.in-Ok.ensures.zeros)
+    c.in_ok-read_samples.ensures.zeros)
