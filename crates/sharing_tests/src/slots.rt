@@ -201,8 +201,8 @@ fn wrong_call(
     requires file { file < 4 }
 {
     let (mut tap, mut other) = taps_of(alloc)?;
-    let mut handle = tap.open(alloc, file, 1).map_err(|_e| "not open")?;
-    let mut known = other.open(alloc, file, 1).map_err(|_e| "not open")?;
+    let mut handle = tap.open(alloc, file, 0).map_err(|_e| "not open")?;
+    let mut known = other.open(alloc, file, 0).map_err(|_e| "not open")?;
     let picture = picture_of(alloc, &mut other, &mut known)?;
     let slots = Slots::new(alloc, count)?;
     for (name, call) in calls {
