@@ -1,0 +1,15 @@
+pub mod Leaves
+pub mod Ranges
+pub mod Appended
+pub mod Windows
+pub mod PieceValues
+pub mod SampleValues
+pub mod RectValues
+pub mod RunValues
+pub mod WholeRows
+pub mod ZeroTexels
+pub mod PieceEnds
+pub mod RectZeros
+pub mod TakenSamples
+pub mod PlaneWrites
+pub mod PlanarSamples

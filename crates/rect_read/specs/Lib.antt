@@ -1,0 +1,10 @@
+pub mod Unpacked
+pub mod Window
+pub mod Run
+pub mod Samples
+pub mod RectRead
+pub mod Beyond
+pub mod Zeros
+pub mod Planes
+pub mod Taken
+pub mod Place

@@ -1,0 +1,38 @@
+-- Which samples were taken so far, and what stays of those of other planes?
+use Rattle.std.specs.Prelude.{◌≡◌, ◌≢◌, ℕ, ◌+◌, ◌*◌, ◌<◌, ◌≤◌, ◌==◌, List, length, map, slice_index}
+use Rattle.std.specs.Prelude.{if◌then◌else◌}
+use Rattle.std.specs.List.{range_with_len}
+use Rattle.tile_layout.specs.declared.texel_format.TexelFormat.{TexelFormat}
+use Rattle.rect_read.specs.declared.places.Places.{Places}
+use Rattle.rect_read.specs.declared.samples.Samples.{Samples}
+
+-- the first n samples of a plane, by their places among those of so many planes
+abbrev pub samples_among : ℕ → ℕ → ℕ → List ℕ → List ℕ
+samples_among step first n values =
+    map (λ k. slice_index values (k * step + first)) (range_with_len 0 n)
+
+-- all of them, or where there are several planes those of one
+unfoldable pub taken_by : Places → List ℕ → List ℕ
+taken_by places values = if places.step == 1 then values
+    else samples_among places.step places.first places.done values
+
+-- the samples so far
+abbrev pub taken : Samples → List ℕ
+taken samples = taken_by samples.places samples.values.items
+
+-- where there are several planes, the format is that of one of them
+abbrev pub FitsPlaces : Places → TexelFormat → Type 0
+FitsPlaces places format = places.step ≢ 1 → format.invert ≤ 1
+
+-- The places are those of the same plane, and the samples of the other planes are as they were. Where
+-- there was room for all that was taken, there is as much as before.
+pub record KeepsOthers (old new : Samples) : Type 0 where
+  pub step : new.places.step ≡ old.places.step
+  pub first : new.places.first ≡ old.places.first
+  pub done : old.places.done ≤ new.places.done
+  pub room : old.places.step ≢ 1
+      → new.places.done * old.places.step ≤ length old.values.items
+      → length new.values.items ≡ length old.values.items
+  pub others : (k c : ℕ) → c < old.places.step → c ≢ old.places.first
+      → slice_index new.values.items (k * old.places.step + c)
+      ≡ slice_index old.values.items (k * old.places.step + c)

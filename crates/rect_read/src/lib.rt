@@ -1,0 +1,17 @@
+//! The one place that reads texels: a rectangle of a stored level, from the bytes of its file.
+#![tactic(auto)]
+
+mod place;
+mod places;
+mod planes;
+mod reading;
+mod rect;
+mod rect_error;
+mod rows;
+mod run;
+mod samples;
+mod span;
+mod window;
+
+pub use rect::read_rect;
+pub use rect_error::RectError;

@@ -1,0 +1,145 @@
+//! The planes of a level, read one after another.
+
+ghost use Rattle.std.specs.Prelude.{◌≡◌, ◌≢◌, ◌*◌, [], length, replicate, IfOk};
+ghost use Rattle.std.specs.Option.{ForSome};
+ghost use Rattle.tiff_format.specs.Texel.{sample_in};
+ghost use Rattle.tile_layout.specs.Blocks.{HoldsBlocks};
+ghost use Rattle.tile_layout.specs.Cell.{bit_depth_in};
+ghost use Rattle.tile_layout.specs.Kept.{level_in};
+ghost use Rattle.tile_layout.specs.Plane.{plane_in};
+ghost use Rattle.tile_layout.specs.Texel.{AreTexelsOn, FitDepth};
+ghost use Rattle.rect_read.specs.RectRead.{LeavesReader};
+ghost use Rattle.rect_read.specs.Beyond.{CountAsZero, IsFilled, IsAllBeyond, IsPlaneBeyond};
+ghost use Rattle.rect_read.specs.Taken.{taken, KeepsOthers};
+ghost use Rattle.rect_read.specs.Zeros.{AreZerosBeyond};
+
+use crate::place::Place;
+use crate::reading::Reading;
+use crate::rect_error::RectError;
+use crate::rows::Rows;
+use crate::samples::Samples;
+use std::alloc::{AllocError, Global};
+use tiff_dirs::ByteReader;
+use tiff_format::Rect;
+
+/// The samples of a rectangle of one plane, taken behind none: row by row, those of a texel that stand
+/// side by side.
+pub(crate) fn read_plane<B: ByteReader>(
+    alloc: Global,
+    reader: &mut B,
+    place: &Place<'_>,
+    samples: Samples,
+) -> Result<Samples, RectError<B::Error>>
+    requires none { taken samples ≡ [] }
+    requires places { samples.places.step ≢ 1
+        → (plane_in place.now.layout.now place.now.level place.now.plane).shape.channels ≡ 1 }
+    ensures count { IfOk result (λ all. length (taken all)
+        ≡ place.now.rect.w * place.now.rect.h
+        * (plane_in place.now.layout.now place.now.level place.now.plane).shape.channels) }
+    ensures low { FitDepth (bit_depth_in place.now.layout.now) samples.values.items
+        → IfOk result (λ all. FitDepth (bit_depth_in place.now.layout.now) all.values.items) }
+    ensures zeros { IfOk result (λ all. AreZerosBeyond
+        (plane_in place.now.layout.now place.now.level place.now.plane)
+        (B.size reader.old) place.now.rect (taken all)) }
+    ensures unread { IsFilled place.now.rect
+        → IsPlaneBeyond (plane_in place.now.layout.now place.now.level place.now.plane)
+        (B.size reader.old) place.now.rect → reader.new ≡ reader.old }
+    ensures told { ForSome (B.bytes reader.old) (λ bytes.
+        HoldsBlocks bytes (plane_in place.now.layout.now place.now.level place.now.plane)
+        → IfOk result (λ all. AreTexelsOn (sample_in place.now.layout.now.big bytes
+        (plane_in place.now.layout.now place.now.level place.now.plane))
+        (plane_in place.now.layout.now place.now.level place.now.plane).shape.channels
+        place.now.rect (taken all))) }
+    ensures others { IfOk result (KeepsOthers samples) }
+    ensures reader { LeavesReader B.keeps B.refuses reader.old reader.new result }
+{
+    let rect = place.rect;
+    let format = place.layout.format(place.level, place.plane);
+    let bottom = rect.y.saturating_add(rect.h);
+    let rows = Rows::of(place.layout, place.level, &format, bottom);
+    let mut reading = Reading::new(alloc, samples, rows);
+    reading.reserve(rect, format.channels)?;
+    reading.read_place(reader, &format, place)?;
+    Ok(reading.samples)
+}
+
+/// The samples of a rectangle of a level of one plane, those of a texel side by side.
+pub(crate) fn read_chunky<B: ByteReader>(
+    alloc: Global,
+    reader: &mut B,
+    place: &Place<'_>,
+) -> Result<Vec<u16>, RectError<B::Error>>
+    ensures count { IfOk result (λ samples. length samples.items
+        ≡ place.now.rect.w * place.now.rect.h
+        * (plane_in place.now.layout.now place.now.level place.now.plane).shape.channels) }
+    ensures low { IfOk result (λ samples.
+        FitDepth (bit_depth_in place.now.layout.now) samples.items) }
+    ensures zeros { IfOk result (λ samples. AreZerosBeyond
+        (plane_in place.now.layout.now place.now.level place.now.plane)
+        (B.size reader.old) place.now.rect samples.items) }
+    ensures unread { IsFilled place.now.rect
+        → IsPlaneBeyond (plane_in place.now.layout.now place.now.level place.now.plane)
+        (B.size reader.old) place.now.rect → reader.new ≡ reader.old }
+    ensures told { ForSome (B.bytes reader.old) (λ bytes.
+        HoldsBlocks bytes (plane_in place.now.layout.now place.now.level place.now.plane)
+        → IfOk result (λ samples. AreTexelsOn (sample_in place.now.layout.now.big bytes
+        (plane_in place.now.layout.now place.now.level place.now.plane))
+        (plane_in place.now.layout.now place.now.level place.now.plane).shape.channels
+        place.now.rect samples.items)) }
+    ensures reader { LeavesReader B.keeps B.refuses reader.old reader.new result }
+{
+    let all = read_plane(alloc, reader, place, Samples::none(alloc))?;
+    Ok(all.values)
+}
+
+/// Samples of 0, so many for each texel of a rectangle.
+fn blank(alloc: Global, rect: Rect, channels: u32) -> Result<Vec<u16>, AllocError>
+    ensures { IfOk result (λ samples.
+        samples.items ≡ replicate (rect.w * rect.h * channels) 0) }
+{
+    let texels = rect.w as usize * rect.h as usize;
+    let count = texels.checked_mul(channels as usize).ok_or(AllocError)?;
+    let samples = vec![in alloc; 0u16; count]?;
+    Ok(samples)
+}
+
+/// The samples of a rectangle of a level of several planes, each plane read alone.
+pub(crate) fn read_planes<B: ByteReader>(
+    alloc: Global,
+    reader: &mut B,
+    place: &Place<'_>,
+) -> Result<Vec<u16>, RectError<B::Error>>
+    requires planar { (level_in place.now.layout.now place.now.level).shape.planes ≢ 1 }
+    ensures count { IfOk result (λ samples. length samples.items ≡ place.now.rect.w
+        * place.now.rect.h * (level_in place.now.layout.now place.now.level).shape.channels) }
+    ensures low { IfOk result (λ samples.
+        FitDepth (bit_depth_in place.now.layout.now) samples.items) }
+    ensures zeros { IfOk result (λ samples. CountAsZero
+        (level_in place.now.layout.now place.now.level) (B.size reader.old) place.now.rect
+        samples.items) }
+    ensures unread { IsFilled place.now.rect
+        → IsAllBeyond (level_in place.now.layout.now place.now.level) (B.size reader.old)
+        place.now.rect → reader.new ≡ reader.old }
+    ensures told { ForSome (B.bytes reader.old) (λ bytes.
+        HoldsBlocks bytes (level_in place.now.layout.now place.now.level)
+        → IfOk result (λ samples. AreTexelsOn (sample_in place.now.layout.now.big bytes
+        (level_in place.now.layout.now place.now.level))
+        (level_in place.now.layout.now place.now.level).shape.channels place.now.rect
+        samples.items)) }
+    ensures reader { LeavesReader B.keeps B.refuses reader.old reader.new result }
+{
+    let planes = place.layout.planes(place.level);
+    let mut values = blank(alloc, place.rect, planes)?;
+    'each: for plane in 0..planes {
+        let alone = Place {
+            layout: place.layout,
+            level: place.level,
+            plane,
+            rect: place.rect,
+        };
+        let samples = Samples::of_plane(values, planes, plane);
+        let own = read_plane(alloc, reader, &alone, samples)?;
+        values = own.values;
+    }
+    Ok(values)
+}

@@ -1,0 +1,261 @@
+//! A reading of the pieces of a level: the samples so far, and what was read ahead.
+
+ghost use Rattle.std.specs.Prelude.{◌≡◌, ◌+◌, ◌*◌, ◌≤◌, ◌<◌, ◌++◌, ℕ, [], length, replicate, OnOk};
+ghost use Rattle.std.specs.List.{All};
+ghost use Rattle.std.specs.Option.{ForSome};
+ghost use Rattle.std.specs.List.{flat_map};
+ghost use Rattle.tiff_format.specs.Block.{Level};
+ghost use Rattle.tile_layout.specs.Plane.{plane_in};
+ghost use Rattle.tile_layout.specs.Pieces.{LiesSideBySide, row_texels, rect_texels};
+ghost use Rattle.tile_layout.specs.FormatOf.{IsFormatOf};
+ghost use Rattle.tile_layout.specs.Blocks.{HoldsBlocks};
+ghost use Rattle.rect_read.specs.Samples.{samples_at};
+ghost use Rattle.rect_read.specs.Taken.{taken, FitsPlaces, KeepsOthers};
+ghost use Rattle.rect_read.specs.Unpacked.{KeepsDepth};
+ghost use Rattle.rect_read.specs.Window.{AreWindows};
+ghost use Rattle.rect_read.specs.RectRead.{LeavesReader};
+ghost use Rattle.rect_read.specs.Beyond.{IsFilled, IsPlaneBeyond};
+ghost use Rattle.rect_read.specs.Zeros.{AddsTexel, AddsTexels, AddsZeros, LiesBeyond};
+
+use crate::place::Place;
+use crate::rect_error::RectError;
+use crate::rows::Rows;
+use crate::run::{Run, read_run};
+use crate::samples::Samples;
+use crate::span::Span;
+use crate::window::{Window, ready};
+use std::alloc::{AllocError, Global};
+use tiff_dirs::ByteReader;
+use tiff_format::Rect;
+use tile_layout::{Piece, Pieces, TexelFormat};
+
+/// The most bytes that the windows of a row read ahead, all together.
+pub(crate) const MAX_AHEAD: u64 = 256 * 1024;
+
+/// The samples that were read, and a window for each piece of a row.
+#[derive(Drop)]
+pub(crate) struct Reading {
+    pub(crate) samples: Samples,
+    pub(crate) windows: Vec<Window>,
+    /// The rows that are to be read.
+    rows: Rows,
+}
+
+/// The window of a piece of row y: the first where the row is a new one, else the next.
+fn window_of(row: &mut u32, y: u32, next: usize) -> usize
+    ensures { result ≤ next }
+{
+    if y == *row {
+        next
+    } else {
+        *row = y;
+        0
+    }
+}
+
+/// The bytes of a piece.
+fn span_of(piece: &Piece, format: &TexelFormat) -> Span
+    ensures at { result.at ≡ piece.now.at }
+    ensures size { result.size ≡ piece.now.n * format.now.texel_bytes }
+{
+    Span {
+        at: piece.at,
+        size: piece.n as usize * format.texel_bytes,
+    }
+}
+
+impl Reading {
+    /// A reading behind the samples that were taken.
+    pub(crate) fn new(alloc: Global, samples: Samples, rows: Rows) -> Reading
+        ensures samples { result.samples ≡ samples }
+        ensures windows { result.windows.items ≡ [] }
+    {
+        Reading {
+            samples,
+            windows: Vec::new(alloc),
+            rows,
+        }
+    }
+
+    /// Finds memory for the samples of a rectangle, so many of a texel.
+    pub(crate) fn reserve(&mut self, rect: Rect, channels: usize) -> Result<(), AllocError>
+        ensures taken { taken self.new.samples ≡ taken self.old.samples }
+        ensures values { self.new.samples.values.items ≡ self.old.samples.values.items }
+        ensures places { self.new.samples.places ≡ self.old.samples.places }
+        ensures others { KeepsOthers self.old.samples self.new.samples }
+        ensures windows { self.new.windows.items ≡ self.old.windows.items }
+    {
+        let texels = u64::from(rect.w) * u64::from(rect.h);
+        let count = texels.checked_mul(channels as u64).ok_or(AllocError)?;
+        self.samples.reserve(count as usize)?;
+        Ok(())
+    }
+
+    /// Appends the numbers of the texels of a piece that lies in the file, read through window k.
+    fn read_span<B: ByteReader>(
+        &mut self,
+        reader: &mut B,
+        format: &TexelFormat,
+        piece: &Piece,
+        k: usize,
+    ) -> Result<(), RectError<B::Error>>
+        requires places { FitsPlaces self.old.samples.places format.now }
+        requires there { k < length self.old.windows.items }
+        requires below { piece.now.at + piece.now.n * format.now.texel_bytes
+            ≤ B.size reader.old }
+        ensures next { OnOk result (length self.new.windows.items
+            ≡ length self.old.windows.items) }
+        ensures count { OnOk result (AddsTexel ⊥
+            (piece.now.n * format.now.channels)
+            (taken self.old.samples) (taken self.new.samples)) }
+        ensures low { OnOk result (KeepsDepth format.now
+            self.old.samples.values.items self.new.samples.values.items) }
+        ensures told { ForSome (B.bytes reader.old) (λ bytes. (level : Level) → (right : ℕ)
+            → AreWindows bytes self.old.windows.items
+            → IsFormatOf format.now.big level.shape format.now
+            → LiesSideBySide level right piece.now
+            → OnOk result (AreWindows bytes self.new.windows.items
+            × (taken self.new.samples ≡ taken self.old.samples
+            ++ flat_map (samples_at format.now.big bytes level)
+            (row_texels piece.now.x piece.now.y piece.now.n)))) }
+        ensures others { OnOk result (KeepsOthers self.old.samples self.new.samples) }
+        ensures reader { LeavesReader B.keeps B.refuses reader.old reader.new result }
+    {
+        let most = MAX_AHEAD / self.windows.len() as u64;
+        let behind = self.rows.behind(piece.y);
+        let window = &mut self.windows[k];
+        let span = span_of(piece, format);
+        window.fill(reader, &span, &behind, most)?;
+        let count = piece.n as usize * format.channels;
+        self.samples.push(format, window.piece(&span), count)?;
+        Ok(())
+    }
+
+    /// Appends the numbers of the texels of a piece, read through window k: 0 where it does not lie
+    /// in the file.
+    fn read_piece<B: ByteReader>(
+        &mut self,
+        reader: &mut B,
+        format: &TexelFormat,
+        piece: &Piece,
+        k: usize,
+    ) -> Result<(), RectError<B::Error>>
+        requires places { FitsPlaces self.old.samples.places format.now }
+        requires window { k ≤ length self.old.windows.items }
+        ensures next { OnOk result (k < length self.new.windows.items) }
+        ensures count { OnOk result (AddsTexel
+            (B.size reader.old < piece.now.at + piece.now.n * format.now.texel_bytes)
+            (piece.now.n * format.now.channels)
+            (taken self.old.samples) (taken self.new.samples)) }
+        ensures unread { B.size reader.old
+            < piece.now.at + piece.now.n * format.now.texel_bytes
+            → reader.new ≡ reader.old }
+        ensures low { OnOk result (KeepsDepth format.now
+            self.old.samples.values.items self.new.samples.values.items) }
+        ensures told { ForSome (B.bytes reader.old) (λ bytes. (level : Level) → (right : ℕ)
+            → AreWindows bytes self.old.windows.items
+            → IsFormatOf format.now.big level.shape format.now
+            → LiesSideBySide level right piece.now → HoldsBlocks bytes level
+            → OnOk result (AreWindows bytes self.new.windows.items
+            × (taken self.new.samples ≡ taken self.old.samples
+            ++ flat_map (samples_at format.now.big bytes level)
+            (row_texels piece.now.x piece.now.y piece.now.n)))) }
+        ensures others { OnOk result (KeepsOthers self.old.samples self.new.samples) }
+        ensures reader { LeavesReader B.keeps B.refuses reader.old reader.new result }
+    {
+        ready(&mut self.windows, k)?;
+        let span = span_of(piece, format);
+        if span.lies_below(reader.len()) {
+            return self.read_span(reader, format, piece, k);
+        }
+        let count = u64::from(piece.n) * format.channels as u64;
+        self.samples.push_zeros(count)?;
+        Ok(())
+    }
+
+    /// Appends the numbers of the texels of the pieces of rows. Of each row the k-th is read
+    /// through window k.
+    pub(crate) fn read_pieces<B: ByteReader>(
+        &mut self,
+        reader: &mut B,
+        format: &TexelFormat,
+        pieces: &mut Pieces<'_>,
+    ) -> Result<(), RectError<B::Error>>
+        requires places { FitsPlaces self.old.samples.places format.now }
+        ensures count { OnOk result (length (taken self.new.samples) ≡ length (taken self.old.samples)
+            + length pieces.old.texels * format.now.channels) }
+        ensures zeros { IsFormatOf format.now.big pieces.old.level.shape
+            format.now → OnOk result (AddsTexels
+            (LiesBeyond pieces.old.level pieces.old.right (B.size reader.old))
+            format.now.channels pieces.old.texels
+            (taken self.old.samples) (taken self.new.samples)) }
+        ensures unread { IsFormatOf format.now.big pieces.old.level.shape
+            format.now
+            → All (LiesBeyond pieces.old.level pieces.old.right (B.size reader.old))
+            pieces.old.texels → reader.new ≡ reader.old }
+        ensures low { OnOk result (KeepsDepth format.now
+            self.old.samples.values.items self.new.samples.values.items) }
+        ensures told { ForSome (B.bytes reader.old) (λ bytes.
+            AreWindows bytes self.old.windows.items
+            → IsFormatOf format.now.big pieces.old.level.shape format.now
+            → HoldsBlocks bytes pieces.old.level
+            → OnOk result (AreWindows bytes self.new.windows.items
+            × (taken self.new.samples ≡ taken self.old.samples
+            ++ flat_map (samples_at format.now.big bytes pieces.old.level) pieces.old.texels))) }
+        ensures others { OnOk result (KeepsOthers self.old.samples self.new.samples) }
+        ensures reader { LeavesReader B.keeps B.refuses reader.old reader.new result }
+    {
+        let mut k = 0usize;
+        let mut row = 0;
+        'pieces: while let Some(piece) = pieces.next() {
+            let own = window_of(&mut row, piece.y, k);
+            self.read_piece(reader, format, &piece, own)?;
+            k = own + 1;
+        }
+        Ok(())
+    }
+
+    /// Appends the numbers of the texels of a place, row by row: at once where they stand side by
+    /// side in the file.
+    pub(crate) fn read_place<B: ByteReader>(
+        &mut self,
+        reader: &mut B,
+        format: &TexelFormat,
+        place: &Place<'_>,
+    ) -> Result<(), RectError<B::Error>>
+        requires places { FitsPlaces self.old.samples.places format.now }
+        requires format { IsFormatOf place.now.layout.now.big
+            (plane_in place.now.layout.now place.now.level place.now.plane).shape format.now }
+        ensures count { OnOk result (length (taken self.new.samples)
+            ≡ length (taken self.old.samples)
+            + place.now.rect.w * place.now.rect.h * format.now.channels) }
+        ensures zeros { OnOk result (AddsZeros
+            (plane_in place.now.layout.now place.now.level place.now.plane) (B.size reader.old) place.now.rect
+            (taken self.old.samples) (taken self.new.samples)) }
+        ensures unread { IsFilled place.now.rect → IsPlaneBeyond
+            (plane_in place.now.layout.now place.now.level place.now.plane) (B.size reader.old) place.now.rect
+            → reader.new ≡ reader.old }
+        ensures low { OnOk result (KeepsDepth format.now
+            self.old.samples.values.items self.new.samples.values.items) }
+        ensures told { ForSome (B.bytes reader.old) (λ bytes.
+            AreWindows bytes self.old.windows.items
+            → HoldsBlocks bytes (plane_in place.now.layout.now place.now.level place.now.plane)
+            → OnOk result (AreWindows bytes self.new.windows.items
+            × (taken self.new.samples ≡ taken self.old.samples
+            ++ flat_map (samples_at place.now.layout.now.big bytes
+            (plane_in place.now.layout.now place.now.level place.now.plane))
+            (rect_texels place.now.rect)))) }
+        ensures others { OnOk result (KeepsOthers self.old.samples self.new.samples) }
+        ensures reader { LeavesReader B.keeps B.refuses reader.old reader.new result }
+    {
+        match Run::of(place, format, reader.len()) {
+            Some(run) => read_run(reader, format, &run, &mut self.samples),
+            None => {
+                let mut pieces = place
+                    .layout
+                    .plane_pieces(place.level, place.rect, place.plane);
+                self.read_pieces(reader, format, &mut pieces)
+            }
+        }
+    }
+}

@@ -1,0 +1,53 @@
+//! The rows that are to be read.
+
+ghost use Rattle.std.specs.Prelude.{◌≤◌, ◌<◌};
+ghost use Rattle.tile_layout.specs.Kept.{stored_count};
+
+use tile_layout::{Layout, TexelFormat};
+
+/// The rows that are to be read, and how they stand in their strips or tiles.
+#[derive(Clone, Copy, Debug)]
+pub(crate) struct Rows {
+    /// The row behind the last.
+    bottom: u32,
+    /// The rows of a strip or tile.
+    in_block: u32,
+    /// The bytes from a row of a strip or tile to the next.
+    stride: u64,
+    ghost some: { 1 ≤ in_block },
+}
+
+/// The rows behind the one that is read.
+#[derive(Clone, Copy, Debug)]
+pub(crate) struct RowsBehind {
+    /// How many there are.
+    pub(crate) all: u32,
+    /// How many of them are rows of the same strip or tile.
+    pub(crate) in_block: u32,
+    /// The bytes from a row of the strip or tile to the next.
+    pub(crate) stride: u64,
+}
+
+impl Rows {
+    /// Those before row `bottom` of a stored level.
+    pub(crate) fn of(layout: &Layout, level: u32, format: &TexelFormat, bottom: u32) -> Rows
+        requires { level < stored_count layout.now }
+    {
+        let width = u64::from(layout.block_width(level));
+        Rows {
+            bottom,
+            in_block: layout.block_rows(level),
+            stride: width.saturating_mul(format.texel_bytes as u64),
+        }
+    }
+
+    /// Those behind row y.
+    pub(crate) fn behind(&self, y: u32) -> RowsBehind {
+        let all = self.bottom.saturating_sub(y).saturating_sub(1);
+        RowsBehind {
+            all,
+            in_block: all.min(self.in_block - 1 - y % self.in_block),
+            stride: self.stride,
+        }
+    }
+}

@@ -1,0 +1,163 @@
+//! Texels that stand side by side in the file: read window by window, straight to their samples.
+
+ghost use Rattle.std.specs.Prelude.{◌≡◌, ◌+◌, ◌*◌, ◌^◌, ◌<◌, ◌≤◌, ℕ, List, length, IfOk, IfSome};
+ghost use Rattle.std.specs.Prelude.{OnOk};
+ghost use Rattle.std.specs.Option.{ForSome};
+ghost use Rattle.tiff_format.specs.Block.{Level};
+ghost use Rattle.tile_layout.specs.FormatOf.{IsFormatOf};
+ghost use Rattle.tile_layout.specs.Plane.{plane_in};
+ghost use Rattle.tile_layout.specs.WholeRows.{StandsWhole};
+ghost use Rattle.rect_read.specs.RectRead.{LeavesReader};
+ghost use Rattle.rect_read.specs.Run.{AppendsRun, AppendsValues, StandSideBySide};
+ghost use Rattle.rect_read.specs.Taken.{taken, FitsPlaces, KeepsOthers};
+ghost use Rattle.rect_read.specs.Unpacked.{KeepsDepth};
+ghost use Rattle.rect_read.specs.Window.{IsWindow};
+
+use crate::place::Place;
+use crate::reading::MAX_AHEAD;
+use crate::rect_error::RectError;
+use crate::rows::RowsBehind;
+use crate::samples::Samples;
+use crate::span::Span;
+use crate::window::Window;
+use std::alloc::AllocError;
+use tiff_dirs::ByteReader;
+use tile_layout::TexelFormat;
+
+/// Texels that stand side by side in the file: so many from a place on.
+#[derive(Clone, Copy, Debug)]
+pub(crate) struct Run {
+    pub(crate) at: u64,
+    pub(crate) texels: usize,
+}
+
+impl Run {
+    /// The texels of a rectangle of a stored level, where they stand side by side, row behind row,
+    /// below a length of the file.
+    pub(crate) fn of(place: &Place<'_>, format: &TexelFormat, len: u64) -> Option<Run>
+        requires { IsFormatOf place.now.layout.now.big
+            (plane_in place.now.layout.now place.now.level place.now.plane).shape format.now }
+        ensures texels { IfSome result (λ run.
+            run.texels ≡ place.now.rect.w * place.now.rect.h) }
+        ensures whole { IfSome result (λ run. StandsWhole
+            (plane_in place.now.layout.now place.now.level place.now.plane) place.now.rect run.at) }
+        ensures below { IfSome result (λ run.
+            run.at + run.texels * format.now.texel_bytes ≤ len) }
+    {
+        let rect = place.rect;
+        if rect.h == 0 {
+            return None;
+        }
+        let at = place.layout.whole_rows(place.level, place.plane, rect)?;
+        let texels = rect.w as usize * rect.h as usize;
+        let span = Span {
+            at,
+            size: texels * format.texel_bytes,
+        };
+        if span.lies_below(len) {
+            Some(Run { at, texels })
+        } else {
+            None
+        }
+    }
+}
+
+/// The rows that are read ahead of a run: none.
+const NO_ROWS: RowsBehind = RowsBehind {
+    all: 0,
+    in_block: 0,
+    stride: 0,
+};
+
+/// How many texels a window holds.
+fn texels_at_once(format: &TexelFormat) -> usize
+    ensures { 1 ≤ result }
+{
+    (MAX_AHEAD as usize / format.texel_bytes.max(1)).max(1)
+}
+
+/// Appends the numbers of the texels of a part of a run, read through a window.
+fn read_part<B: ByteReader>(
+    reader: &mut B,
+    format: &TexelFormat,
+    part: &Run,
+    window: &mut Window,
+    samples: &mut Samples,
+) -> Result<(), RectError<B::Error>>
+    requires places { FitsPlaces samples.old.places format.now }
+    requires fits { part.now.at + part.now.texels * format.now.texel_bytes < 2 ^ 64 }
+    requires below { part.now.at + part.now.texels * format.now.texel_bytes
+        ≤ B.size reader.old }
+    ensures count { OnOk result (length (taken samples.new)
+        ≡ length (taken samples.old) + part.now.texels * format.now.channels) }
+    ensures low { OnOk result (KeepsDepth format.now
+        samples.old.values.items samples.new.values.items) }
+    ensures told { ForSome (B.bytes reader.old) (λ bytes.
+        IsWindow bytes window.old → OnOk result (IsWindow bytes window.new
+        × AppendsRun bytes format.now part.now (taken samples.old) (taken samples.new))) }
+    ensures others { OnOk result (KeepsOthers samples.old samples.new) }
+    ensures reader { LeavesReader B.keeps B.refuses reader.old reader.new result }
+{
+    let span = Span {
+        at: part.at,
+        size: part.texels * format.texel_bytes,
+    };
+    window.fill(reader, &span, &NO_ROWS, 0)?;
+    let count = part.texels * format.channels;
+    samples.push(format, window.piece(&span), count)?;
+    Ok(())
+}
+
+/// Finds memory for the values of the texels of a run.
+fn reserve(samples: &mut Samples, format: &TexelFormat, run: &Run) -> Result<(), AllocError>
+    ensures taken { taken samples.new ≡ taken samples.old }
+    ensures values { samples.new.values.items ≡ samples.old.values.items }
+    ensures places { samples.new.places ≡ samples.old.places }
+    ensures others { KeepsOthers samples.old samples.new }
+{
+    let count = run.texels.checked_mul(format.channels).ok_or(AllocError)?;
+    samples.reserve(count)?;
+    Ok(())
+}
+
+/// Appends the numbers of the texels of a run, channels side by side.
+///
+/// Besides them it takes 256 KiB at most.
+pub(crate) fn read_run<B: ByteReader>(
+    reader: &mut B,
+    format: &TexelFormat,
+    run: &Run,
+    samples: &mut Samples,
+) -> Result<(), RectError<B::Error>>
+    requires places { FitsPlaces samples.old.places format.now }
+    requires fits { run.now.at + run.now.texels * format.now.texel_bytes < 2 ^ 64 }
+    requires below { run.now.at + run.now.texels * format.now.texel_bytes
+        ≤ B.size reader.old }
+    ensures count { OnOk result (length (taken samples.new)
+        ≡ length (taken samples.old) + run.now.texels * format.now.channels) }
+    ensures low { OnOk result (KeepsDepth format.now
+        samples.old.values.items samples.new.values.items) }
+    ensures told { ForSome (B.bytes reader.old) (λ bytes.
+        (level : Level) → (x_of y_of : ℕ → ℕ)
+        → IsFormatOf format.now.big level.shape format.now
+        → StandSideBySide level run.now x_of y_of
+        → OnOk result (AppendsValues bytes level format.now run.now.texels x_of y_of
+        (taken samples.old) (taken samples.new))) }
+    ensures others { OnOk result (KeepsOthers samples.old samples.new) }
+    ensures reader { LeavesReader B.keeps B.refuses reader.old reader.new result }
+{
+    let size = format.texel_bytes;
+    let most = texels_at_once(format);
+    reserve(samples, format, run)?;
+    let mut window = Window::new(*samples.values.allocator());
+    let mut done = 0usize;
+    'parts: while done < run.texels {
+        let part = Run {
+            at: run.at + (done * size) as u64,
+            texels: most.min(run.texels - done),
+        };
+        read_part(reader, format, &part, &mut window, samples)?;
+        done += part.texels;
+    }
+    Ok(())
+}

@@ -1,0 +1,257 @@
+//! The samples of a level, from their bytes.
+
+ghost use Rattle.std.specs.Prelude.{◌≡◌, ◌≢◌, ◌+◌, ◌-◌, ◌*◌, ◌≤◌, ◌<◌, ◌++◌, ℕ, length, map, []};
+ghost use Rattle.std.specs.Prelude.{◌∷◌, slice_index, replicate, OnOk};
+ghost use Rattle.std.specs.List.{range_with_len};
+ghost use Rattle.tiff_format.specs.Block.{sample_bytes};
+ghost use Rattle.tiff_format.specs.Limits.{max_channels};
+ghost use Rattle.tiff_format.specs.Texel.{greatest_sample};
+ghost use Rattle.unpack.specs.Sample.{depth_of};
+ghost use Rattle.tile_layout.specs.Texel.{FitDepth};
+ghost use Rattle.rect_read.specs.Taken.{taken, FitsPlaces, KeepsOthers};
+ghost use Rattle.rect_read.specs.Unpacked.{is_wide, unpacked, KeepsDepth};
+
+use crate::places::Places;
+use std::alloc::{AllocError, Global};
+use tile_layout::TexelFormat;
+use unpack::{unpack_as, unpack_plane_as};
+
+/// The samples that are read: those of a texel side by side, or those of one plane, each at its place
+/// among those of the other planes.
+#[derive(Drop)]
+pub(crate) struct Samples {
+    pub(crate) values: Vec<u16>,
+    pub(crate) places: Places,
+}
+
+/// The bits of a wide sample.
+const WIDE_DEPTH: u32 = 16;
+
+/// Samples of the format are wide.
+fn is_wide(format: &TexelFormat) -> bool
+    ensures value { result ≡ is_wide format.now.depth }
+    ensures depth { format.now.depth ≡ depth_of result }
+{
+    format.depth == WIDE_DEPTH
+}
+
+/// Writes each sample.
+fn unpack_samples(format: &TexelFormat, bytes: &[u8], samples: &mut [u16])
+    requires { length bytes.now ≡ sample_bytes format.now.depth * length samples.old }
+    ensures long { length samples.new ≡ length samples.old }
+    ensures values { (k : ℕ) → k < length samples.new
+        → slice_index samples.new k ≡ unpacked format.now bytes.now k }
+    ensures low { (k : ℕ) → k < length samples.new
+        → slice_index samples.new k ≤ greatest_sample format.now.depth }
+{
+    unpack_as(is_wide(format), format.big, bytes, format.invert, samples);
+}
+
+/// Writes each sample behind the first `from` ones.
+fn unpack_behind(format: &TexelFormat, bytes: &[u8], from: usize, samples: &mut [u16])
+    requires before { from ≤ length samples.old }
+    requires size { length bytes.now
+        ≡ sample_bytes format.now.depth * (length samples.old - from) }
+    ensures long { length samples.new ≡ length samples.old }
+    ensures before { (k : ℕ) → k < from → slice_index samples.new k ≡ slice_index samples.old k }
+    ensures values { (k : ℕ) → from + k < length samples.new
+        → slice_index samples.new (from + k) ≡ unpacked format.now bytes.now k }
+    ensures low { (k : ℕ) → from + k < length samples.new
+        → slice_index samples.new (from + k) ≤ greatest_sample format.now.depth }
+{
+    unpack_samples(format, bytes, &mut samples[from..]);
+}
+
+/// Appends so many samples.
+fn push_samples(
+    samples: &mut Vec<u16>,
+    format: &TexelFormat,
+    bytes: &[u8],
+    count: usize,
+) -> Result<(), AllocError>
+    requires { length bytes.now ≡ sample_bytes format.now.depth * count }
+    ensures values { OnOk result (samples.new.items ≡ samples.old.items
+        ++ map (unpacked format.now bytes.now) (range_with_len 0 count)) }
+    ensures low { OnOk result (KeepsDepth format.now samples.old.items samples.new.items) }
+{
+    let old = samples.len();
+    samples.reserve(count)?;
+    samples.resize(old + count, 0)?;
+    unpack_behind(format, bytes, old, samples);
+    Ok(())
+}
+
+/// Writes so many samples to their places, behind those that stand there.
+fn unpack_among(
+    format: &TexelFormat,
+    bytes: &[u8],
+    count: usize,
+    places: &Places,
+    samples: &mut [u16],
+)
+    requires size { length bytes.now ≡ sample_bytes format.now.depth * count }
+    requires planar { places.now.step ≢ 1 }
+    requires one { format.now.invert ≤ 1 }
+    requires room { (places.now.done + count) * places.now.step ≤ length samples.old }
+    ensures long { length samples.new ≡ length samples.old }
+    ensures before { (k : ℕ) → k < places.now.done
+        → slice_index samples.new (k * places.now.step + places.now.first)
+        ≡ slice_index samples.old (k * places.now.step + places.now.first) }
+    ensures values { (k : ℕ) → k < count
+        → slice_index samples.new ((places.now.done + k) * places.now.step + places.now.first)
+        ≡ unpacked format.now bytes.now k }
+    ensures others { (k c : ℕ) → c < places.now.step → c ≢ places.now.first
+        → slice_index samples.new (k * places.now.step + c)
+        ≡ slice_index samples.old (k * places.now.step + c) }
+    ensures low { KeepsDepth format.now samples.old samples.new }
+{
+    let from = places.done * places.step;
+    let to = from + count * places.step;
+    unpack_plane_as(
+        is_wide(format),
+        format.big,
+        places.step,
+        bytes,
+        format.invert == 1,
+        places.first,
+        &mut samples[from..to],
+    );
+}
+
+/// Has so many values be there: 0 where there are none yet.
+fn ready(values: &mut Vec<u16>, count: usize) -> Result<(), AllocError>
+    ensures room { OnOk result (count ≤ length values.new.items) }
+    ensures there { OnOk result (count ≤ length values.old.items
+        → values.new.items ≡ values.old.items) }
+    ensures same { OnOk result ((k : ℕ)
+        → slice_index values.new.items k ≡ slice_index values.old.items k) }
+    ensures low { OnOk result ((depth : ℕ) → FitDepth depth values.old.items
+        → FitDepth depth values.new.items) }
+{
+    if values.len() < count {
+        values.resize(count, 0)?;
+    }
+    Ok(())
+}
+
+impl Samples {
+    /// None yet: those of a texel are to stand side by side.
+    pub(crate) fn none(alloc: Global) -> Samples
+        ensures none { result.values.items ≡ [] }
+        ensures taken { taken result ≡ [] }
+        ensures one { result.places.step ≡ 1 }
+    {
+        Samples {
+            values: Vec::new(alloc),
+            places: Places {
+                step: 1,
+                first: 0,
+                done: 0,
+            },
+        }
+    }
+
+    /// Those of so many planes, where none of this plane stands at its place yet.
+    pub(crate) fn of_plane(values: Vec<u16>, planes: u32, plane: u32) -> Samples
+        requires several { planes ≢ 1 }
+        requires few { planes ≤ max_channels }
+        requires one { plane < planes }
+        ensures same { result.values ≡ values }
+        ensures taken { taken result ≡ [] }
+        ensures step { result.places.step ≡ planes }
+        ensures first { result.places.first ≡ plane }
+    {
+        Samples {
+            values,
+            places: Places {
+                step: planes as usize,
+                first: plane as usize,
+                done: 0,
+            },
+        }
+    }
+
+    /// Finds memory for so many more samples, where they are appended.
+    pub(crate) fn reserve(&mut self, count: usize) -> Result<(), AllocError>
+        ensures taken { taken self.new ≡ taken self.old }
+        ensures values { self.new.values.items ≡ self.old.values.items }
+        ensures places { self.new.places ≡ self.old.places }
+        ensures others { KeepsOthers self.old self.new }
+    {
+        if self.places.step == 1 {
+            self.values.reserve(count)?;
+        }
+        Ok(())
+    }
+
+    /// Writes so many samples to their places.
+    fn place(&mut self, format: &TexelFormat, bytes: &[u8], count: usize) -> Result<(), AllocError>
+        requires size { length bytes.now ≡ sample_bytes format.now.depth * count }
+        requires planar { self.old.places.step ≢ 1 }
+        requires one { format.now.invert ≤ 1 }
+        ensures values { OnOk result (taken self.new ≡ taken self.old
+            ++ map (unpacked format.now bytes.now) (range_with_len 0 count)) }
+        ensures low { OnOk result (KeepsDepth format.now
+            self.old.values.items self.new.values.items) }
+        ensures others { OnOk result (KeepsOthers self.old self.new) }
+    {
+        let places = self.places.more(count)?;
+        ready(&mut self.values, places.done * places.step)?;
+        unpack_among(format, bytes, count, &self.places, &mut self.values);
+        self.places = places;
+        Ok(())
+    }
+
+    /// Takes so many samples behind those that were taken.
+    pub(crate) fn push(
+        &mut self,
+        format: &TexelFormat,
+        bytes: &[u8],
+        count: usize,
+    ) -> Result<(), AllocError>
+        requires size { length bytes.now ≡ sample_bytes format.now.depth * count }
+        requires places { FitsPlaces self.old.places format.now }
+        ensures values { OnOk result (taken self.new ≡ taken self.old
+            ++ map (unpacked format.now bytes.now) (range_with_len 0 count)) }
+        ensures low { OnOk result (KeepsDepth format.now
+            self.old.values.items self.new.values.items) }
+        ensures others { OnOk result (KeepsOthers self.old self.new) }
+    {
+        if self.places.step == 1 {
+            push_samples(&mut self.values, format, bytes, count)
+        } else {
+            self.place(format, bytes, count)
+        }
+    }
+
+    /// Takes a 0.
+    fn push_zero(&mut self) -> Result<(), AllocError>
+        ensures values { OnOk result (taken self.new ≡ taken self.old ++ 0 ∷ []) }
+        ensures low { OnOk result ((depth : ℕ) → FitDepth depth self.old.values.items
+            → FitDepth depth self.new.values.items) }
+        ensures others { OnOk result (KeepsOthers self.old self.new) }
+    {
+        if self.places.step == 1 {
+            self.values.push(0)?;
+            return Ok(());
+        }
+        let places = self.places.more(1)?;
+        ready(&mut self.values, places.done * places.step)?;
+        self.values[self.places.done * self.places.step + self.places.first] = 0;
+        self.places = places;
+        Ok(())
+    }
+
+    /// Takes n samples of 0.
+    pub(crate) fn push_zeros(&mut self, n: u64) -> Result<(), AllocError>
+        ensures values { OnOk result (taken self.new ≡ taken self.old ++ replicate n 0) }
+        ensures low { OnOk result ((depth : ℕ) → FitDepth depth self.old.values.items
+            → FitDepth depth self.new.values.items) }
+        ensures others { OnOk result (KeepsOthers self.old self.new) }
+    {
+        for _ in 0..n {
+            self.push_zero()?;
+        }
+        Ok(())
+    }
+}

@@ -1,0 +1,13 @@
+pub mod Places
+pub mod HalfLevel
+pub mod Fields
+pub mod Directories
+pub mod TileBytes
+pub mod Sinks
+pub mod Joins
+pub mod Sizes
+pub mod Digits
+pub mod Chains
+pub mod Pictures
+pub mod Alike
+pub mod Complete

@@ -1,0 +1,12 @@
+use Rattle.std.proofs.Common.{◌≡◌, ℕ, ◌+◌, ◌*◌, ◌<◌, length, slice_index}
+use Rattle.tex_make.specs.Quarters.{row_sample, row_average}
+use Rattle.tex_make.proofs.quarters.halve_texel.Given as goal
+
+abbrev pub invariant-loop-c : goal.invariant-loop-c
+invariant-loop-c l =
+    record {
+      long : length l.out ≡ length l.fn.out;
+      each : (c : ℕ) → c < l.c → row_sample l.channels l.out l.i c
+          ≡ row_average l.channels l.rows.top.now l.rows.bottom.now (2 * l.i) (2 * l.i + 1) c;
+      before : (k : ℕ) → k < l.i * l.channels → slice_index l.out k ≡ slice_index l.fn.out k;
+    }

@@ -1,0 +1,33 @@
+-- What does reading a file through a tap say of it, and what does it leave of the tap?
+use Rattle.std.specs.Prelude.{◌≡◌, ℕ, ◌≤◌, List, Result, Ok, Err, ⊤}
+use Rattle.std.specs.Option.{ForSome}
+use Rattle.tex_world.specs.Counts.{Rises}
+use Rattle.tex_world.specs.World.{Files, IsReal}
+use Rattle.tex_world.specs.Tap.{TapState}
+use Rattle.tex_make.specs.declared.ending.Ending.{Ending}
+use Rattle.tex_make.specs.declared.ending.Ending.TheVariants.{Failed, NoMemory, NoSuchFile}
+use Rattle.tex_make.specs.declared.ending.Ending.TheVariants.{BadFile, TooLarge, Gone, TooMany}
+use Rattle.tex_make.specs.declared.picture.Pyramid.{Pyramid}
+use Rattle.tex_make.specs.Reading.{IsLargeSource, IsBadSource, IsPictureOf}
+
+-- a real generation of the file was read, and where the world tells its bytes, they are so
+pub record IsReadOf (files : Files) (file : ℕ) (fact : List ℕ → Type 0) : Type 0 where
+  pub generation : ℕ
+  pub real : IsReal files file generation
+  pub told : ForSome (files.held file generation) fact
+
+-- a picture is that of the file, or there is a cause for none
+abbrev pub ReadsFile : Files → ℕ → TapState → TapState → Result Pyramid Ending → Type 0
+ReadsFile files file old new (Ok pyramid) = IsReadOf files file (λ bytes. IsPictureOf bytes pyramid)
+ReadsFile files file old new (Err Failed) = Rises old.faults new.faults
+ReadsFile files file old new (Err NoMemory) = ⊤
+ReadsFile files file old new (Err BadFile) = IsReadOf files file IsBadSource
+ReadsFile files file old new (Err TooLarge) = IsReadOf files file IsLargeSource
+ReadsFile files file old new (Err Gone) = Rises old.moves new.moves
+ReadsFile files file old new (Err NoSuchFile) = ⊥
+ReadsFile files file old new (Err TooMany) = ⊥
+
+-- none of its counts that a folder takes over has fallen
+pub record LeavesTap (old new : TapState) : Type 0 where
+  pub faults : old.faults ≤ new.faults
+  pub moves : old.moves ≤ new.moves

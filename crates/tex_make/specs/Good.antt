@@ -1,0 +1,22 @@
+-- Which file is a texture of a picture? One of the profile that stores every level of it down to one
+-- texel, with its samples.
+use Rattle.std.specs.Prelude.{◌≡◌, ℕ, ◌<◌, List, None}
+use Rattle.tiff_format.specs.Fault.{first_fault}
+use Rattle.tiff_format.specs.Level.{stored_levels}
+use Rattle.tile_layout.specs.Level.{width_of, height_of}
+use Rattle.tile_layout.specs.Cell.{channels_of, bit_depth_of}
+use Rattle.tile_layout.specs.Texel.{texel_at}
+use Rattle.tex_make.specs.Picture.{Picture}
+
+pub record IsTextureOf (p : Picture) (texture : List ℕ) : Type 0 where
+  -- it shows no fault
+  pub good : first_fault texture ≡ None
+  -- it stores all levels of the picture
+  pub stored : stored_levels texture ≡ p.levels
+  pub width : (l : ℕ) → l < p.levels → width_of texture l ≡ p.width l
+  pub height : (l : ℕ) → l < p.levels → height_of texture l ≡ p.height l
+  pub channels : channels_of texture ≡ p.channels
+  pub depth : bit_depth_of texture ≡ p.depth
+  -- and each sample of them is the picture's
+  pub samples : (l x y c : ℕ) → l < p.levels → x < p.width l → y < p.height l → c < p.channels
+      → texel_at texture l x y c ≡ p.sample l x y c

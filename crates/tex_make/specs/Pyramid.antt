@@ -1,0 +1,10 @@
+-- What does a picture in memory show?
+use Rattle.std.specs.Prelude.{◌≡◌, ℕ, ◌<◌, List, map, length}
+use Rattle.tex_make.specs.declared.picture.Pyramid.{Pyramid}
+use Rattle.tex_make.specs.Picture.{Picture}
+use Rattle.tex_make.specs.PlainLevel.{PlainLevel, IsPlainLevel, level_at, picture_in}
+use Rattle.tex_make.specs.Level.{shown}
+
+-- the picture of its levels
+abbrev pub seen : Pyramid → Picture
+seen pyramid = picture_in (map shown pyramid.levels.items) pyramid.rgb

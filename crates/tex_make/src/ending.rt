@@ -1,0 +1,53 @@
+//! Why no texture was made, and the status that tells it.
+
+ghost use Rattle.std.specs.Prelude.{◌≡◌};
+
+/// The whole file was written.
+pub(crate) const MADE: u8 = 0;
+
+/// The words are not of the form.
+pub(crate) const BAD_WORDS: u8 = 2;
+
+/// The sink failed.
+pub const NOT_WRITTEN: u8 = 5;
+
+/// No memory was found, and nothing was written.
+pub const NO_MEMORY: u8 = 6;
+
+/// Why nothing was written.
+#[derive(Clone, Copy, Debug, PartialEq, Eq)]
+pub(crate) enum Ending {
+    /// The folder or its tap failed.
+    Failed,
+    /// No memory was found.
+    NoMemory,
+    /// No file has the name.
+    NoSuchFile,
+    /// The bytes of the file show a fault.
+    BadFile,
+    /// Level 0 has too many samples.
+    TooLarge,
+    /// The file was changed while it was read.
+    Gone,
+    /// The folder has too many files.
+    TooMany,
+}
+
+impl Ending {
+    ghost use Rattle.tex_make.specs.Ending.{status_of};
+
+    /// Its status.
+    pub(crate) fn status(self) -> u8
+        ensures { result ≡ status_of self }
+    {
+        match self {
+            Ending::Failed => 4,
+            Ending::NoMemory => NO_MEMORY,
+            Ending::NoSuchFile => 7,
+            Ending::BadFile => 8,
+            Ending::TooLarge => 9,
+            Ending::Gone => 10,
+            Ending::TooMany => 11,
+        }
+    }
+}

@@ -1,0 +1,222 @@
+//! The texture of a picture: its tiles, and the fields of its directories.
+
+ghost use Rattle.std.specs.Prelude.{◌≡◌, ◌≤◌, ◌++◌, [], ◌∷◌, OnOk};
+ghost use Rattle.tiff_format.specs.Block.{pieces_over};
+ghost use Rattle.tiff_format.specs.Facts.{IsSide};
+ghost use Rattle.tex_make.specs.Texture as spec;
+ghost use Rattle.tex_make.specs.Pyramid.{seen};
+ghost use Rattle.tex_make.specs.Side.{IsMadeSide, IsShort};
+
+use crate::field::{Field, FieldKind};
+use crate::level::Level;
+use crate::picture::{Pyramid, RGB_COLOURS};
+use std::alloc::{AllocError, Global};
+
+const NEW_SUBFILE_TYPE: u16 = 254;
+const IMAGE_WIDTH: u16 = 256;
+const IMAGE_LENGTH: u16 = 257;
+const BITS_PER_SAMPLE: u16 = 258;
+const COMPRESSION: u16 = 259;
+const PHOTOMETRIC: u16 = 262;
+const SAMPLES_PER_PIXEL: u16 = 277;
+const PLANAR_CONFIGURATION: u16 = 284;
+const TILE_WIDTH: u16 = 322;
+const TILE_LENGTH: u16 = 323;
+const TILE_OFFSETS: u16 = 324;
+const TILE_BYTE_COUNTS: u16 = 325;
+const EXTRA_SAMPLES: u16 = 338;
+
+/// Compression: the samples stand as they are.
+const UNCOMPRESSED: u32 = 1;
+
+/// PhotometricInterpretation.
+const BLACK_IS_ZERO: u32 = 1;
+const RGB: u32 = 2;
+
+/// PlanarConfiguration: the samples of a pixel stand side by side.
+const CHUNKY: u32 = 1;
+
+/// The texture of a picture, in tiles of so many texels aside.
+#[derive(Drop)]
+pub(crate) struct Texture<'a> {
+    pub(crate) picture: &'a Pyramid,
+    pub(crate) side: u32,
+    ghost side_in: { IsMadeSide side },
+    ghost short: { IsShort (seen picture.now) side },
+}
+
+impl<'a> Texture<'a> {
+    ghost use Rattle.std.specs.Prelude.{◌*◌, ◌<◌, map};
+    ghost use Rattle.tiff_format.specs.Block.{sample_bytes};
+    ghost use Rattle.tex_make.specs.Level.{shown};
+    ghost use Rattle.tex_make.specs.PlainLevel.{level_at};
+
+    /// A level of the picture.
+    pub(crate) fn level(&self, level: usize) -> &Level
+        requires { level < (seen self.now.picture.now).levels }
+        ensures value { shown result.now
+            ≡ level_at (map shown self.now.picture.now.levels.items) level }
+        ensures depth { result.now.depth ≡ (seen self.now.picture.now).depth }
+        ensures channels { result.now.channels ≡ (seen self.now.picture.now).channels }
+    {
+        &self.picture.levels[level]
+    }
+
+    /// The tiles of a level across.
+    pub(crate) fn tiles_across(&self, level: usize) -> u32
+        requires { level < (seen self.now.picture.now).levels }
+        ensures value { result ≡ spec.tiles_across (seen self.now.picture.now) self.now.side level }
+        ensures some { 1 ≤ result }
+        ensures few { result ≤ 8192 }
+    {
+        pieces(self.level(level).width, self.side)
+    }
+
+    /// And down.
+    fn tiles_down(&self, level: usize) -> u32
+        requires { level < (seen self.now.picture.now).levels }
+        ensures value { result ≡ spec.tiles_down (seen self.now.picture.now) self.now.side level }
+        ensures some { 1 ≤ result }
+        ensures few { result ≤ 8192 }
+    {
+        pieces(self.level(level).height, self.side)
+    }
+
+    /// And in all.
+    pub(crate) fn tile_count(&self, level: usize) -> u32
+        requires { level < (seen self.now.picture.now).levels }
+        ensures value { result ≡ spec.tile_count (seen self.now.picture.now) self.now.side level }
+    {
+        self.tiles_across(level) * self.tiles_down(level)
+    }
+
+    /// The bytes of a row of a tile.
+    pub(crate) fn row_size(&self) -> u32
+        ensures value { result ≡ self.now.side * ((seen self.now.picture.now).channels
+            * sample_bytes (seen self.now.picture.now).depth) }
+        ensures few { result ≤ 4096 }
+    {
+        self.side * (self.picture.channels() * self.picture.sample_size())
+    }
+
+    /// The bytes of a tile.
+    pub(crate) fn tile_size(&self) -> u32
+        ensures value { result ≡ spec.tile_size (seen self.now.picture.now) self.now.side }
+    {
+        self.side * self.row_size()
+    }
+}
+
+impl<'a> Texture<'a> {
+    ghost use Rattle.std.specs.Prelude.{◌<◌, IfOk};
+
+    /// PhotometricInterpretation.
+    fn photometric(&self) -> u32
+        ensures { result ≡ spec.photometric (seen self.now.picture.now) }
+    {
+        if self.picture.colours() == RGB_COLOURS {
+            RGB
+        } else {
+            BLACK_IS_ZERO
+        }
+    }
+
+    /// The fields that say how the samples of a texel are stored, and the sides of the level and of
+    /// its tiles.
+    fn own_fields(&self, level: usize) -> [Field; 10]
+        requires { level < (seen self.now.picture.now).levels }
+        ensures { result ≡ spec.own_fields (seen self.now.picture.now) self.now.side level }
+    {
+        let smaller = if level == 0 { 0 } else { 1 };
+        let channels = self.picture.channels();
+        let from = self.level(level);
+        [
+            equal(FieldKind::Long, NEW_SUBFILE_TYPE, 1, smaller),
+            equal(FieldKind::Long, IMAGE_WIDTH, 1, from.width),
+            equal(FieldKind::Long, IMAGE_LENGTH, 1, from.height),
+            equal(FieldKind::Short, BITS_PER_SAMPLE, channels, self.picture.depth()),
+            equal(FieldKind::Short, COMPRESSION, 1, UNCOMPRESSED),
+            equal(FieldKind::Short, PHOTOMETRIC, 1, self.photometric()),
+            equal(FieldKind::Short, SAMPLES_PER_PIXEL, 1, channels),
+            equal(FieldKind::Short, PLANAR_CONFIGURATION, 1, CHUNKY),
+            equal(FieldKind::Long, TILE_WIDTH, 1, self.side),
+            equal(FieldKind::Long, TILE_LENGTH, 1, self.side),
+        ]
+    }
+
+    /// The fields of the directory of a level, whose tiles stand from a place on.
+    #[tactic(auto, unfolding(crate::specs::Texture::fields_of))]
+    pub(crate) fn fields(
+        &self,
+        alloc: Global,
+        level: usize,
+        first: u32,
+    ) -> Result<Vec<Field>, AllocError>
+        requires { level < (seen self.now.picture.now).levels }
+        ensures { IfOk result (λ fields. fields.items
+            ≡ spec.fields_of (seen self.now.picture.now) self.now.side level first) }
+    {
+        let count = self.tile_count(level);
+        let size = self.tile_size();
+        let mut fields = Vec::from_slice(alloc, &self.own_fields(level))?;
+        push(&mut fields, places(count, first, size))?;
+        push(&mut fields, equal(FieldKind::Long, TILE_BYTE_COUNTS, count, size))?;
+        push_extra(&mut fields, self.picture.channels() - self.picture.colours())?;
+        Ok(fields)
+    }
+}
+
+/// As many as it takes to cover a side by tiles of so many texels aside.
+fn pieces(side: u32, tile: u32) -> u32
+    requires side { IsSide side }
+    requires tile { IsMadeSide tile }
+    ensures value { result ≡ pieces_over side tile }
+    ensures some { 1 ≤ result }
+    ensures few { result ≤ 8192 }
+{
+    (side + tile - 1) / tile
+}
+
+/// A field more.
+fn push(fields: &mut Vec<Field>, field: Field) -> Result<(), AllocError>
+    ensures { OnOk result (fields.new.items ≡ fields.old.items ++ field ∷ []) }
+{
+    fields.push(field)?;
+    Ok(())
+}
+
+/// A field for so many samples that are no colours, where there are some.
+fn push_extra(fields: &mut Vec<Field>, count: u32) -> Result<(), AllocError>
+    ensures { OnOk result (fields.new.items ≡ fields.old.items ++ spec.extra_field count) }
+{
+    if count == 0 {
+        return Ok(());
+    }
+    push(fields, equal(FieldKind::Short, EXTRA_SAMPLES, count, 0))
+}
+
+/// The places of so many tiles, of which the first stands at a place.
+fn places(count: u32, first: u32, size: u32) -> Field
+    ensures { result ≡ spec.places count first size }
+{
+    Field {
+        tag: TILE_OFFSETS,
+        kind: FieldKind::Long,
+        count,
+        first,
+        step: size,
+    }
+}
+
+/// A field whose values are all the same.
+fn equal(kind: FieldKind, tag: u16, count: u32, value: u32) -> Field
+    ensures { result ≡ spec.equal kind tag count value }
+{
+    Field {
+        tag,
+        kind,
+        count,
+        first: value,
+        step: 0,
+    }
+}

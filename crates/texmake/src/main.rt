@@ -1,0 +1,45 @@
+//! The texture maker: it writes a file of a folder to standard output as a texture, which stores all
+//! its levels in tiles.
+#![tactic(auto)]
+
+use host_folder::{RealFolder, RealSink};
+use std::io::ErrorKind;
+use std::process::ExitCode;
+use std::{env, io};
+use tex_make::{NO_MEMORY, NOT_WRITTEN, make};
+
+fn main(rt: HostRuntime) -> ExitCode {
+    ExitCode::from(status(rt))
+}
+
+/// Makes what the words ask for, and gives the status that the program ends with.
+fn status(rt: HostRuntime) -> u8 {
+    let words = match words(&rt) {
+        Ok(words) => words,
+        Err(_) => return NO_MEMORY,
+    };
+    let mut out = match RealSink::new(rt.alloc(), rt.stdout()) {
+        Ok(out) => out,
+        Err(_) => return NO_MEMORY,
+    };
+    let alloc = rt.alloc();
+    let mut folder = RealFolder::new(&rt);
+    let status = make(alloc, words.as_slice(), &mut folder, &mut out);
+    // What the sink still holds back can fail as a put can.
+    match out.flush() {
+        Ok(()) => status,
+        Err(_failed) => NOT_WRITTEN,
+    }
+}
+
+/// The words after the program's name. Where one is not UTF-8 there are none, which are not those of
+/// the command.
+fn words(rt: &HostRuntime) -> io::Result<Vec<String>> {
+    let mut words = match env::args(rt) {
+        Ok(words) => words,
+        Err(e) if e.kind() == ErrorKind::OutOfMemory => return Err(e),
+        Err(_) => return Ok(Vec::new(rt.alloc())),
+    };
+    let _program = words.next();
+    Ok(words.collect(rt.alloc())?)
+}

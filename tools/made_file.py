@@ -1,0 +1,149 @@
+#!/usr/bin/env python3
+"""The texture that is made of a file, by docs/FORMAT.md, "Textures that are made", alone.
+
+    python3 tools/made_file.py FILE [T]                    writes it to standard output
+    python3 tools/made_file.py --check PROGRAM FOLDER [T]  compares what the program makes of each file
+
+The bytes of the file are read by tools/plain_reader.py. Of the program only what it writes and its status are
+looked at: 0 with these bytes, or 8 with none where the file shows a fault. In a check each texture is read
+again too: its levels have to be those of the file.
+"""
+import struct
+import subprocess
+import sys
+from pathlib import Path
+
+from plain_reader import Fault, pages_of
+
+SHORT, LONG = "H", "I"
+TYPES = {SHORT: 3, LONG: 4}
+WHITE_IS_ZERO, RGB = 0, 2
+MOST_SAMPLES = 67108864
+MADE, BAD_FILE, TOO_LARGE = 0, 8, 9
+
+
+def sample_of(page, x, y):
+    """The samples of a texel of a stored level, by the white rule."""
+    found = page.texel(x, y)
+    if page.photometric == WHITE_IS_ZERO:
+        found[0] = 2 ** page.depth - 1 - found[0]
+    return found
+
+
+def halved(level):
+    """The level behind one, whose rows are lists of texels."""
+    wide, high = len(level[0]), len(level)
+
+    def texel(x, y):
+        four = [level[min(2 * y + j, high - 1)][min(2 * x + i, wide - 1)] for j in (0, 1) for i in (0, 1)]
+        return [(sum(samples) + 2) // 4 for samples in zip(*four)]
+
+    return [[texel(x, y) for x in range(max(1, wide // 2))] for y in range(max(1, high // 2))]
+
+
+def levels_of(pages):
+    """All levels down to one texel."""
+    levels = [[[sample_of(page, x, y) for x in range(page.width)] for y in range(page.height)] for page in pages]
+    while (len(levels[-1][0]), len(levels[-1])) != (1, 1):
+        levels.append(halved(levels[-1]))
+    return levels
+
+
+def tiles_of(level, depth, side):
+    """The bytes of each tile, with its padding."""
+    wide, high, none = len(level[0]), len(level), [0] * len(level[0][0])
+    form = "<B" if depth == 8 else "<H"
+    for top in range(0, high, side):
+        for left in range(0, wide, side):
+            texels = [level[y][x] if y < high and x < wide else none
+                      for y in range(top, top + side) for x in range(left, left + side)]
+            yield b"".join(struct.pack(form, sample) for texel in texels for sample in texel)
+
+
+def directory(at, following, fields):
+    """The bytes of a directory at a place, with the values that do not fit."""
+    entries, values = b"", b""
+    behind = at + 2 + 12 * len(fields) + 4
+    for tag, kind, numbers in fields:
+        packed = struct.pack("<%d%s" % (len(numbers), kind), *numbers)
+        if len(packed) <= 4:
+            inner = packed.ljust(4, b"\0")
+        else:
+            inner = struct.pack("<I", behind + len(values))
+            values += packed
+        entries += struct.pack("<HHI", tag, TYPES[kind], len(numbers)) + inner
+    return struct.pack("<H", len(fields)) + entries + struct.pack("<I", following) + values
+
+
+def made(data, side):
+    """The texture of a file with these bytes."""
+    pages = pages_of(data)
+    depth, levels = pages[0].depth, levels_of(pages)
+    channels = len(levels[0][0][0])
+    is_rgb = pages[0].photometric == RGB and channels >= 3
+    extra = channels - (3 if is_rgb else 1)
+    tiles = [list(tiles_of(level, depth, side)) for level in levels]
+
+    def fields(number, places):
+        level, count = levels[number], len(tiles[number])
+        found = [(254, LONG, [min(number, 1)]), (256, LONG, [len(level[0])]), (257, LONG, [len(level)]),
+                 (258, SHORT, [depth] * channels), (259, SHORT, [1]), (262, SHORT, [2 if is_rgb else 1]),
+                 (277, SHORT, [channels]), (284, SHORT, [1]), (322, LONG, [side]), (323, LONG, [side]),
+                 (324, LONG, places), (325, LONG, [len(tiles[number][0])] * count)]
+        return found + ([(338, SHORT, [0] * extra)] if extra else [])
+
+    places, at = [], 8
+    for number, level in enumerate(tiles):
+        places.append(at)
+        at += len(directory(at, 0, fields(number, [0] * len(level))))
+    out = struct.pack("<2sHI", b"II", 42, 8)
+    for number, level in enumerate(tiles):
+        starts = []
+        for tile in level:
+            starts.append(at)
+            at += len(tile)
+        following = places[number + 1] if number + 1 < len(tiles) else 0
+        out += directory(places[number], following, fields(number, starts))
+    return out + b"".join(tile for level in tiles for tile in level)
+
+
+def wanted(data, side):
+    """The status and the bytes that the program is to end with."""
+    try:
+        pages = pages_of(data)
+    except Fault:
+        return BAD_FILE, b""
+    if pages[0].width * pages[0].height * len(pages[0].texel(0, 0)) > MOST_SAMPLES:
+        return TOO_LARGE, b""
+    return MADE, made(data, side)
+
+
+def check(program, folder, side):
+    """How many files of the folder the program makes something else of."""
+    bad = 0
+    for path in sorted(Path(folder).iterdir()):
+        data = path.read_bytes()
+        status, out = wanted(data, side)
+        done = subprocess.run([program, str(folder), path.name, str(side)], stdout=subprocess.PIPE)
+        if (done.returncode, done.stdout) != (status, out):
+            bad += 1
+            print("%s: status %d and %d bytes, wanted %d and %d" % (
+                path.name, done.returncode, len(done.stdout), status, len(out)))
+        elif status == MADE and levels_of(pages_of(out)) != levels_of(pages_of(data)):
+            bad += 1
+            print("%s: its levels are not those of its texture" % path.name)
+    return bad
+
+
+def main():
+    words = sys.argv[1:]
+    if words[:1] == ["--check"]:
+        bad = check(words[1], words[2], int((words[3:] or ["64"])[0]))
+        print("made_file: %d differ" % bad)
+        return 1 if bad else 0
+    sys.stdout.buffer.write(made(Path(words[0]).read_bytes(), int((words[1:] or ["64"])[0])))
+    return 0
+
+
+if __name__ == "__main__":
+    sys.exit(main())
