@@ -7,12 +7,12 @@ use crate::files::file_of;
 use crate::layouts::{Place, layout_in, rect_on};
 use crate::mem_reader::MemReader;
 use crate::rects::{GAP, STRIPS};
+use rect_read::read_rect;
 use std::alloc::Global;
 use std::process::Abort;
 use std::test::Fail;
 use tiff_plain::{PlainShape, directory_level, first_fault, sample_at, stored_levels};
 use tile_layout::Layout;
-use tile_load::read_rect;
 
 /// Strips and tiles of 8 and of 16 bits in both orders, with one channel and with several, with 0 as
 /// white, with edge tiles, with a second level, with planes, and with wide offsets.

@@ -1,4 +1,5 @@
-//! The number of reads of a file's directories, and each of them failing in turn.
+//! The number of reads of a file's directories, each of them failing in turn, and what
+//! PhotometricInterpretation says of a level.
 
 use crate::files::file_of;
 use crate::mem_reader::{Failed, MemReader};
@@ -194,6 +195,35 @@ fn counts_the_reads(rt: HostRuntime) -> Result<(), Fail> {
         assert!(rt; reading.outcome == Some(*wanted), "{what}");
         assert!(rt; reading.reads == *reads, "{what}");
         assert!(rt; reading.filled == *filled, "{what}");
+    }
+    Ok(())
+}
+
+/// A file, and whether in its first level white is 0, and whether the samples of a texel are red, green
+/// and blue.
+static COLOURS: &[(&str, bool, bool)] = &[
+    ("A 66=0", true, false),
+    ("A", false, false),
+    ("A 66=2", false, true),
+    ("B", false, true),
+];
+
+/// The first level of a file says so of its samples.
+fn has_colours(alloc: Global, bytes: &[u8], white: bool, rgb: bool) -> bool {
+    match read_dirs(alloc, &mut MemReader::new(bytes, 0)) {
+        Ok(dirs) => match dirs.levels.first() {
+            Some(level) => level.white == white && level.rgb == rgb,
+            None => false,
+        },
+        Err(_) => false,
+    }
+}
+
+#[test]
+fn tells_the_colours(rt: HostRuntime) -> Result<(), Fail> {
+    for (file, white, rgb) in COLOURS {
+        let bytes = file_of(rt.alloc(), file)?;
+        assert!(rt; has_colours(rt.alloc(), &bytes, *white, *rgb), "{file}");
     }
     Ok(())
 }

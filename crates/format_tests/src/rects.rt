@@ -3,10 +3,10 @@
 use crate::files::file_of;
 use crate::layouts::{Place, layout_in, rect_on};
 use crate::mem_reader::{Failed, MemReader};
+use rect_read::{RectError, read_rect};
 use std::alloc::Global;
 use std::test::Fail;
 use tile_layout::Layout;
-use tile_load::{RectError, read_rect};
 
 /// The samples of a rectangle, or why they were not read.
 type Samples = Result<Vec<u16>, RectError<Failed>>;

@@ -11,5 +11,4 @@ pub mod ZeroTexels
 pub mod PieceEnds
 pub mod RectZeros
 pub mod TakenSamples
-pub mod PlaneWrites
 pub mod PlanarSamples

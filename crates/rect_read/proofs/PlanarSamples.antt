@@ -3,34 +3,17 @@ use Rattle.std.proofs.Common.{◌≡◌, ◌≢◌, ℕ, ◌+◌, ◌*◌, ◌<�
 use Rattle.std.proofs.Common.{get_or, ap, sym, ◌∙◌, arith, inl, inr, refl, zero-add}
 use Rattle.std.specs.Prelude.{if◌then◌else◌}
 use Rattle.std.proofs.lemmas.Bool.{cases_lt, eqb-true, ne_eqb}
-use Rattle.std.proofs.lemmas.List.{get_or_past}
-use Rattle.std.proofs.lemmas.List.Elements.{All-get_or, All-from_get_or}
 use Rattle.std.proofs.lemmas.Nat.{mul-add-lt}
 use Rattle.tiff_format.specs.Block.{Level, samples_aside}
 use Rattle.tiff_format.specs.Facts.{IsPlaneCount}
-use Rattle.tiff_format.specs.Texel.{sample_in, plane_of, greatest_sample}
+use Rattle.tiff_format.specs.Texel.{sample_in, plane_of}
 use Rattle.tiff_format.specs.declared.rect.Rect.{Rect}
 use Rattle.tile_layout.specs.Plane.{plane_level}
-use Rattle.tile_layout.specs.Texel.{AreTexelsOn, FitDepth}
+use Rattle.tile_layout.specs.Texel.{AreTexelsOn}
 use Rattle.tile_layout.proofs.PlaneBlocks.{plane_sample}
-use Rattle.rect_read.specs.Beyond.{CountAsZero}
+use Rattle.piece_samples.specs.Beyond.{CountAsZero}
 use Rattle.rect_read.specs.Planes.{OfPlanes, ArePlaneZeros, ArePlaneSamples}
 use Rattle.rect_read.specs.Zeros.{AreZerosBeyond}
-
--- ---- each sample, by its place
-
--- none is above, also behind the last
-pub each_low : (depth : ℕ) (samples : List ℕ) → FitDepth depth samples → (k : ℕ)
-    → get_or samples k 0 ≤ greatest_sample depth
-each_low depth samples fit k = elim (cases_lt k (length samples)) [
-  | inl lt ↦ All-get_or (λ s. s ≤ greatest_sample depth) samples k 0 lt fit
-  | inr past ↦ rw (get_or_past samples k 0 past) (omega arith)
-]
-
-pub all_low : (depth : ℕ) (samples : List ℕ)
-    → ((k : ℕ) → get_or samples k 0 ≤ greatest_sample depth) → FitDepth depth samples
-all_low depth samples each =
-    All-from_get_or (λ s. s ≤ greatest_sample depth) samples 0 (λ k lt. each k)
 
 -- ---- a level of several planes
 

@@ -12,7 +12,7 @@ use Rattle.tile_layout.specs.WholeRows.{StandsWhole}
 use Rattle.tile_layout.specs.Pieces.{rect_texels}
 use Rattle.tile_layout.proofs.TexelLemmas.{length-rect_texels}
 use Rattle.rect_read.specs.declared.run.Run.{Run}
-use Rattle.rect_read.specs.Beyond.{IsPlaneBeyond, piece_end}
+use Rattle.piece_samples.specs.Beyond.{IsPlaneBeyond, piece_end}
 use Rattle.rect_read.specs.Zeros.{AddsTexels, AddsZeros, LiesBeyond}
 use Rattle.rect_read.proofs.PieceEnds.{below_of_whole}
 use Rattle.rect_read.proofs.WholeRows.{some_columns, row_below}

@@ -15,8 +15,8 @@ use Rattle.tile_layout.proofs.PlaceLemmas.{bytes_by}
 use Rattle.rect_read.specs.declared.run.Run.{Run}
 use Rattle.tile_layout.specs.declared.texel_format.TexelFormat.{TexelFormat}
 use Rattle.rect_read.specs.Run.{AppendsRun, AreValuesOf, AppendsValues, StandSideBySide}
-use Rattle.rect_read.specs.Unpacked.{unpacked}
-use Rattle.rect_read.proofs.PieceValues.{value_is}
+use Rattle.piece_samples.specs.Unpacked.{unpacked}
+use Rattle.piece_samples.proofs.PieceValues.{value_is}
 
 -- the bytes of the first texels are no more than those of all
 pub bytes_within : (n texels size : ℕ) → n ≤ texels → n * size ≤ texels * size

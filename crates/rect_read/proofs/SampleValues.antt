@@ -1,28 +1,14 @@
 -- Samples that were unpacked.
-use Rattle.std.proofs.Common.{◌≡◌, ℕ, ◌<◌, ◌≤◌, Bool, true, false, eqb, refl, List, ◌++◌, map}
+use Rattle.std.proofs.Common.{◌≡◌, ℕ, ◌<◌, ◌≤◌, Bool, refl, List, ◌++◌, map}
 use Rattle.std.proofs.Common.{zero-add, arith}
 use Rattle.std.specs.List.{range_with_len}
-use Rattle.std.proofs.lemmas.Bool.{eqb-true, false≢true}
 use Rattle.std.proofs.lemmas.List.Elements.{All-append, All-from_get_or}
 use Rattle.std.proofs.lemmas.List.FromFn.{length-map-range_with_len, get_or-map-range_with_len}
 use Rattle.tiff_format.specs.Block.{LevelShape}
-use Rattle.tiff_format.specs.Facts.{IsDepth}
 use Rattle.tiff_format.specs.Texel.{greatest_sample}
 use Rattle.tile_layout.specs.FormatOf.{IsFormatOf}
 use Rattle.tile_layout.specs.Texel.{FitDepth}
 use Rattle.tile_layout.specs.declared.texel_format.TexelFormat.{TexelFormat}
-use Rattle.unpack.specs.Sample.{depth_of}
-use Rattle.rect_read.specs.Unpacked.{is_wide}
-
--- a depth is that of wide samples, or that of the others
-by_bits : (depth : ℕ) (narrow wide : Bool) → eqb depth 8 ≡ narrow → eqb depth 16 ≡ wide
-    → IsDepth depth → depth ≡ depth_of wide
-by_bits depth narrow true is8 is16 depths = eqb-true depth 16 is16
-by_bits depth true false is8 is16 depths = eqb-true depth 8 is8
-by_bits depth false false is8 is16 depths = absurd (false≢true (rw (is8, is16) at depths))
-
-pub depth_by : (depth : ℕ) → IsDepth depth → depth ≡ depth_of (is_wide depth)
-depth_by depth depths = by_bits depth (eqb depth 8) (eqb depth 16) refl refl depths
 
 -- the byte order that the format has
 pub own_order : (big : Bool) (shape : LevelShape) (format : TexelFormat) → IsFormatOf big shape format

@@ -7,7 +7,7 @@ use Rattle.std.proofs.lemmas.Bool.{cases_lt, ne_eqb}
 use Rattle.std.proofs.lemmas.List.{get_or_append_left, get_or-append_right, get_or_past}
 use Rattle.std.proofs.Math.Nat.{mul-le-mul_right}
 use Rattle.std.proofs.lemmas.List.FromFn.{length-map-range_with_len, get_or-map-range_with_len}
-use Rattle.rect_read.specs.declared.places.Places.{Places}
+use Rattle.piece_samples.specs.declared.places.Places.{Places}
 use Rattle.rect_read.specs.declared.samples.Samples.{Samples}
 use Rattle.rect_read.specs.Taken.{taken_by, samples_among, KeepsOthers}
 use Rattle.rect_read.proofs.Appended.{is_appended}

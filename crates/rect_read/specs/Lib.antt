@@ -1,10 +1,9 @@
-pub mod Unpacked
+pub use Rattle.piece_samples.specs.Beyond
+pub mod Place
 pub mod Window
 pub mod Run
 pub mod Samples
 pub mod RectRead
-pub mod Beyond
 pub mod Zeros
 pub mod Planes
 pub mod Taken
-pub mod Place

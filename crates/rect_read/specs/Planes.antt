@@ -4,7 +4,7 @@ use Rattle.tiff_format.specs.Block.{Level}
 use Rattle.tiff_format.specs.Texel.{sample_in}
 use Rattle.tiff_format.specs.declared.rect.Rect.{Rect}
 use Rattle.tile_layout.specs.Plane.{plane_level}
-use Rattle.rect_read.specs.Beyond.{IsBeyond}
+use Rattle.piece_samples.specs.Beyond.{IsBeyond}
 
 -- of the first n planes of so many, each sample of a rectangle: `says` is so of the plane, of the
 -- column and the row in the rectangle, and of the sample

@@ -6,7 +6,7 @@ use Rattle.tiff_format.specs.Bytes.{IsPartAt}
 use Rattle.tiff_format.specs.Texel.{sample_in, sample_place}
 use Rattle.rect_read.specs.declared.run.Run.{Run}
 use Rattle.tile_layout.specs.declared.texel_format.TexelFormat.{TexelFormat}
-use Rattle.rect_read.specs.Unpacked.{unpacked}
+use Rattle.piece_samples.specs.Unpacked.{unpacked}
 
 -- texel j of the run is the one in column x_of j and row y_of j: its samples stand there
 abbrev pub StandSideBySide : Level → Run → (ℕ → ℕ) → (ℕ → ℕ) → Type 0

@@ -2,8 +2,7 @@
 use Rattle.std.specs.Prelude.{◌≡◌, ◌≢◌, ℕ, ◌+◌, ◌*◌, ◌<◌, ◌≤◌, ◌==◌, List, length, map, slice_index}
 use Rattle.std.specs.Prelude.{if◌then◌else◌}
 use Rattle.std.specs.List.{range_with_len}
-use Rattle.tile_layout.specs.declared.texel_format.TexelFormat.{TexelFormat}
-use Rattle.rect_read.specs.declared.places.Places.{Places}
+use Rattle.piece_samples.specs.declared.places.Places.{Places}
 use Rattle.rect_read.specs.declared.samples.Samples.{Samples}
 
 -- the first n samples of a plane, by their places among those of so many planes
@@ -19,10 +18,6 @@ taken_by places values = if places.step == 1 then values
 -- the samples so far
 abbrev pub taken : Samples → List ℕ
 taken samples = taken_by samples.places samples.values.items
-
--- where there are several planes, the format is that of one of them
-abbrev pub FitsPlaces : Places → TexelFormat → Type 0
-FitsPlaces places format = places.step ≢ 1 → format.invert ≤ 1
 
 -- The places are those of the same plane, and the samples of the other planes are as they were. Where
 -- there was room for all that was taken, there is as much as before.

@@ -1,7 +1,7 @@
 -- What does a window on a file hold?
 use Rattle.std.specs.Prelude.{ℕ, ◌+◌, ◌≤◌, List, [], ◌∷◌, length, ⊤}
 use Rattle.tiff_format.specs.Bytes.{IsPartAt}
-use Rattle.rect_read.specs.declared.span.Span.{Span}
+use Rattle.piece_samples.specs.declared.span.Span.{Span}
 use Rattle.rect_read.specs.declared.window.Window.{Window}
 
 -- its bytes are those of the file from its place on

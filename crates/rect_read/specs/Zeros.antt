@@ -2,7 +2,7 @@
 use Rattle.std.specs.Prelude.{◌≡◌, ℕ, ◌+◌, ◌*◌, ◌<◌, List, [], ◌∷◌, ◌++◌, length, slice_index}
 use Rattle.tiff_format.specs.Block.{Level}
 use Rattle.tiff_format.specs.declared.rect.Rect.{Rect}
-use Rattle.rect_read.specs.Beyond.{IsBeyond}
+use Rattle.piece_samples.specs.Beyond.{IsBeyond}
 
 -- each of the numbers is 0
 abbrev pub AreZeros : List ℕ → Type 0

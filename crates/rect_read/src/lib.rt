@@ -2,7 +2,6 @@
 #![tactic(auto)]
 
 mod place;
-mod places;
 mod planes;
 mod reading;
 mod rect;
@@ -10,8 +9,9 @@ mod rect_error;
 mod rows;
 mod run;
 mod samples;
-mod span;
 mod window;
 
+pub use place::Place;
 pub use rect::read_rect;
 pub use rect_error::RectError;
+pub use window::MAX_GAP;

@@ -5,10 +5,10 @@ use tile_layout::Layout;
 
 /// A rectangle of a plane of a stored level.
 #[derive(Drop)]
-pub(crate) struct Place<'a> {
-    pub(crate) layout: &'a Layout,
-    pub(crate) level: u32,
-    pub(crate) plane: u32,
-    pub(crate) rect: Rect,
+pub struct Place<'a> {
+    pub layout: &'a Layout,
+    pub level: u32,
+    pub plane: u32,
+    pub rect: Rect,
     ghost known: { IsPlace layout.now level plane rect },
 }

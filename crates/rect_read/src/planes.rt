@@ -9,7 +9,7 @@ ghost use Rattle.tile_layout.specs.Kept.{level_in};
 ghost use Rattle.tile_layout.specs.Plane.{plane_in};
 ghost use Rattle.tile_layout.specs.Texel.{AreTexelsOn, FitDepth};
 ghost use Rattle.rect_read.specs.RectRead.{LeavesReader};
-ghost use Rattle.rect_read.specs.Beyond.{CountAsZero, IsFilled, IsAllBeyond, IsPlaneBeyond};
+ghost use Rattle.piece_samples.specs.Beyond.{CountAsZero, IsFilled, IsAllBeyond, IsPlaneBeyond};
 ghost use Rattle.rect_read.specs.Taken.{taken, KeepsOthers};
 ghost use Rattle.rect_read.specs.Zeros.{AreZerosBeyond};
 

@@ -10,11 +10,12 @@ ghost use Rattle.tile_layout.specs.Pieces.{LiesSideBySide, row_texels, rect_texe
 ghost use Rattle.tile_layout.specs.FormatOf.{IsFormatOf};
 ghost use Rattle.tile_layout.specs.Blocks.{HoldsBlocks};
 ghost use Rattle.rect_read.specs.Samples.{samples_at};
-ghost use Rattle.rect_read.specs.Taken.{taken, FitsPlaces, KeepsOthers};
-ghost use Rattle.rect_read.specs.Unpacked.{KeepsDepth};
+ghost use Rattle.piece_samples.specs.Places.{FitsPlaces};
+ghost use Rattle.rect_read.specs.Taken.{taken, KeepsOthers};
+ghost use Rattle.piece_samples.specs.Unpacked.{KeepsDepth};
 ghost use Rattle.rect_read.specs.Window.{AreWindows};
 ghost use Rattle.rect_read.specs.RectRead.{LeavesReader};
-ghost use Rattle.rect_read.specs.Beyond.{IsFilled, IsPlaneBeyond};
+ghost use Rattle.piece_samples.specs.Beyond.{IsFilled, IsPlaneBeyond};
 ghost use Rattle.rect_read.specs.Zeros.{AddsTexel, AddsTexels, AddsZeros, LiesBeyond};
 
 use crate::place::Place;
@@ -22,8 +23,8 @@ use crate::rect_error::RectError;
 use crate::rows::Rows;
 use crate::run::{Run, read_run};
 use crate::samples::Samples;
-use crate::span::Span;
 use crate::window::{Window, ready};
+use piece_samples::Span;
 use std::alloc::{AllocError, Global};
 use tiff_dirs::ByteReader;
 use tiff_format::Rect;
@@ -50,17 +51,6 @@ fn window_of(row: &mut u32, y: u32, next: usize) -> usize
     } else {
         *row = y;
         0
-    }
-}
-
-/// The bytes of a piece.
-fn span_of(piece: &Piece, format: &TexelFormat) -> Span
-    ensures at { result.at ≡ piece.now.at }
-    ensures size { result.size ≡ piece.now.n * format.now.texel_bytes }
-{
-    Span {
-        at: piece.at,
-        size: piece.n as usize * format.texel_bytes,
     }
 }
 
@@ -124,7 +114,7 @@ impl Reading {
         let most = MAX_AHEAD / self.windows.len() as u64;
         let behind = self.rows.behind(piece.y);
         let window = &mut self.windows[k];
-        let span = span_of(piece, format);
+        let span = Span::of(piece, format);
         window.fill(reader, &span, &behind, most)?;
         let count = piece.n as usize * format.channels;
         self.samples.push(format, window.piece(&span), count)?;
@@ -164,7 +154,7 @@ impl Reading {
         ensures reader { LeavesReader B.keeps B.refuses reader.old reader.new result }
     {
         ready(&mut self.windows, k)?;
-        let span = span_of(piece, format);
+        let span = Span::of(piece, format);
         if span.lies_below(reader.len()) {
             return self.read_span(reader, format, piece, k);
         }

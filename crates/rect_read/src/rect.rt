@@ -9,7 +9,7 @@ ghost use Rattle.tile_layout.specs.Kept.{stored_count, level_in};
 ghost use Rattle.tile_layout.specs.Pieces.{LiesOnLevel};
 ghost use Rattle.tile_layout.specs.Texel.{AreTexelsOn, FitDepth};
 ghost use Rattle.rect_read.specs.RectRead.{LeavesReader};
-ghost use Rattle.rect_read.specs.Beyond.{CountAsZero, IsFilled, IsAllBeyond};
+ghost use Rattle.piece_samples.specs.Beyond.{CountAsZero, IsFilled, IsAllBeyond};
 
 use crate::place::Place;
 use crate::planes::{read_chunky, read_planes};

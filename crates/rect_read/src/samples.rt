@@ -6,15 +6,14 @@ ghost use Rattle.std.specs.List.{range_with_len};
 ghost use Rattle.tiff_format.specs.Block.{sample_bytes};
 ghost use Rattle.tiff_format.specs.Limits.{max_channels};
 ghost use Rattle.tiff_format.specs.Texel.{greatest_sample};
-ghost use Rattle.unpack.specs.Sample.{depth_of};
 ghost use Rattle.tile_layout.specs.Texel.{FitDepth};
-ghost use Rattle.rect_read.specs.Taken.{taken, FitsPlaces, KeepsOthers};
-ghost use Rattle.rect_read.specs.Unpacked.{is_wide, unpacked, KeepsDepth};
+ghost use Rattle.piece_samples.specs.Places.{FitsPlaces};
+ghost use Rattle.rect_read.specs.Taken.{taken, KeepsOthers};
+ghost use Rattle.piece_samples.specs.Unpacked.{unpacked, KeepsDepth};
 
-use crate::places::Places;
+use piece_samples::{Places, unpack_among, unpack_samples};
 use std::alloc::{AllocError, Global};
 use tile_layout::TexelFormat;
-use unpack::{unpack_as, unpack_plane_as};
 
 /// The samples that are read: those of a texel side by side, or those of one plane, each at its place
 /// among those of the other planes.
@@ -22,29 +21,6 @@ use unpack::{unpack_as, unpack_plane_as};
 pub(crate) struct Samples {
     pub(crate) values: Vec<u16>,
     pub(crate) places: Places,
-}
-
-/// The bits of a wide sample.
-const WIDE_DEPTH: u32 = 16;
-
-/// Samples of the format are wide.
-fn is_wide(format: &TexelFormat) -> bool
-    ensures value { result ≡ is_wide format.now.depth }
-    ensures depth { format.now.depth ≡ depth_of result }
-{
-    format.depth == WIDE_DEPTH
-}
-
-/// Writes each sample.
-fn unpack_samples(format: &TexelFormat, bytes: &[u8], samples: &mut [u16])
-    requires { length bytes.now ≡ sample_bytes format.now.depth * length samples.old }
-    ensures long { length samples.new ≡ length samples.old }
-    ensures values { (k : ℕ) → k < length samples.new
-        → slice_index samples.new k ≡ unpacked format.now bytes.now k }
-    ensures low { (k : ℕ) → k < length samples.new
-        → slice_index samples.new k ≤ greatest_sample format.now.depth }
-{
-    unpack_as(is_wide(format), format.big, bytes, format.invert, samples);
 }
 
 /// Writes each sample behind the first `from` ones.
@@ -79,43 +55,6 @@ fn push_samples(
     samples.resize(old + count, 0)?;
     unpack_behind(format, bytes, old, samples);
     Ok(())
-}
-
-/// Writes so many samples to their places, behind those that stand there.
-fn unpack_among(
-    format: &TexelFormat,
-    bytes: &[u8],
-    count: usize,
-    places: &Places,
-    samples: &mut [u16],
-)
-    requires size { length bytes.now ≡ sample_bytes format.now.depth * count }
-    requires planar { places.now.step ≢ 1 }
-    requires one { format.now.invert ≤ 1 }
-    requires room { (places.now.done + count) * places.now.step ≤ length samples.old }
-    ensures long { length samples.new ≡ length samples.old }
-    ensures before { (k : ℕ) → k < places.now.done
-        → slice_index samples.new (k * places.now.step + places.now.first)
-        ≡ slice_index samples.old (k * places.now.step + places.now.first) }
-    ensures values { (k : ℕ) → k < count
-        → slice_index samples.new ((places.now.done + k) * places.now.step + places.now.first)
-        ≡ unpacked format.now bytes.now k }
-    ensures others { (k c : ℕ) → c < places.now.step → c ≢ places.now.first
-        → slice_index samples.new (k * places.now.step + c)
-        ≡ slice_index samples.old (k * places.now.step + c) }
-    ensures low { KeepsDepth format.now samples.old samples.new }
-{
-    let from = places.done * places.step;
-    let to = from + count * places.step;
-    unpack_plane_as(
-        is_wide(format),
-        format.big,
-        places.step,
-        bytes,
-        format.invert == 1,
-        places.first,
-        &mut samples[from..to],
-    );
 }
 
 /// Has so many values be there: 0 where there are none yet.

@@ -8,13 +8,13 @@ ghost use Rattle.rect_read.specs.Window.{IsWindow, AreWindows, HoldsSpan};
 
 use crate::rect_error::RectError;
 use crate::rows::RowsBehind;
-use crate::span::Span;
+use piece_samples::Span;
 use std::alloc::{AllocError, Global};
 use tiff_dirs::ByteReader;
 
 /// The most bytes between the pieces of two rows that are read with them: reading them costs about
 /// what another call costs.
-pub(crate) const MAX_GAP: u64 = 4096;
+pub const MAX_GAP: u64 = 4096;
 
 /// The place of no piece: none stands behind it.
 const NO_PLACE: u64 = u64::MAX;

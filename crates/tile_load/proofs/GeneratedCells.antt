@@ -26,7 +26,7 @@ use Rattle.tile_load.specs.declared.part_span.PartSpan.{PartSpan}
 use Rattle.tile_load.specs.Halving.{NamesGenerated, level_cut, source_cut, rect_of, source_cell}
 use Rattle.tile_load.specs.Halving.{source_cells}
 use Rattle.tile_load.specs.Halved.{IsHalvedKey, IsHalfMade, AreSpans}
-use Rattle.tile_load.specs.Zeros.{AreZeros}
+use Rattle.rect_read.specs.Zeros.{AreZeros}
 use Rattle.tile_load.proofs.HalfMade.{none_made}
 use Rattle.tile_load.proofs.KnownLayouts.{layout_given}
 use Rattle.tile_load.proofs.ToldTiles.{some_told}

@@ -18,7 +18,7 @@ use Rattle.tile_store.specs.Told.{ToldBy, IsTold, IsOfBytes}
 use Rattle.tile_load.specs.Halving.{rect_of, part_count, part_key}
 use Rattle.tile_load.specs.Halved.{IsHalvedKey, IsHalfMade, part_at}
 use Rattle.tile_load.specs.PartPlace.{HalvesRows, max_cell_samples, sample_on}
-use Rattle.tile_load.specs.Zeros.{AreZeros}
+use Rattle.rect_read.specs.Zeros.{AreZeros}
 use Rattle.tile_load.proofs.CellParts.{part_rect, parts_are, part_place, sources_across}
 use Rattle.tile_load.proofs.CellParts.{sources_down, at_below, held_left, held_right, held_top}
 use Rattle.tile_load.proofs.CellParts.{held_bottom}

@@ -1,16 +1,4 @@
-pub mod Leaves
-pub mod Ranges
-pub mod Appended
-pub mod Windows
-pub mod PieceValues
-pub mod SampleValues
-pub mod RectValues
 pub mod KnownLayouts
-pub mod RunValues
-pub mod WholeRows
-pub mod ZeroTexels
-pub mod PieceEnds
-pub mod RectZeros
 pub mod ToldTiles
 pub mod HalfSides
 pub mod PartRows
@@ -18,5 +6,3 @@ pub mod CellParts
 pub mod HalfTexels
 pub mod HalfMade
 pub mod GeneratedCells
-pub mod TakenSamples
-pub mod PlanarSamples

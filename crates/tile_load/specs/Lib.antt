@@ -1,11 +1,3 @@
-pub use Rattle.piece_samples.specs.Beyond
-pub mod Window
-pub mod Run
-pub mod Samples
-pub mod RectRead
-pub mod Zeros
-pub mod Planes
-pub mod Taken
 pub mod Load
 pub mod LoadError
 pub mod CellTile

@@ -4,11 +4,9 @@ use Rattle.std.specs.Prelude.{◌≡◌, ℕ, ◌<◌}
 use Rattle.tex_world.specs.Tap.{Named}
 use Rattle.file_table.specs.Record.{RecordState}
 use Rattle.tiff_format.specs.declared.cut.Cut.{Cut}
-use Rattle.tiff_format.specs.declared.rect.Rect.{Rect}
 use Rattle.tile_layout.specs.Key.{generation_of, file_of, level_of, index_of}
-use Rattle.tile_layout.specs.Kept.{Kept, stored_count, level_in}
+use Rattle.tile_layout.specs.Kept.{Kept, stored_count}
 use Rattle.tile_layout.specs.Cell.{cell_count, cut_level_in}
-use Rattle.tile_layout.specs.Pieces.{LiesOnLevel}
 
 -- the record is of the file and the generation that the handle reads
 pub record IsReadBy (handle : Named) (state : RecordState) : Type 0 where
@@ -21,9 +19,3 @@ pub record NamesCell (handle : Named) (layout : Kept) (cut : Cut) (key : ℕ) : 
   pub generation : generation_of key ≡ handle.generation
   pub stored : level_of key < stored_count layout
   pub index : index_of key < cell_count (cut_level_in layout cut (level_of key))
-
--- the rectangle is one of a plane of a stored level
-pub record IsPlace (layout : Kept) (level plane : ℕ) (rect : Rect) : Type 0 where
-  pub stored : level < stored_count layout
-  pub there : plane < (level_in layout level).shape.planes
-  pub inside : LiesOnLevel layout level rect

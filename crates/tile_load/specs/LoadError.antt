@@ -6,8 +6,8 @@ use Rattle.tex_world.specs.Tap.{Named, TapState}
 use Rattle.tex_world.specs.declared.fault.ReadError.{ReadError}
 use Rattle.tex_world.specs.declared.fault.ReadError.TheVariants as read
 use Rattle.tap_reader.specs.TapReader.{Lent, OnlyReads}
-use Rattle.tile_load.specs.declared.rect_error.RectError.{RectError}
-use Rattle.tile_load.specs.declared.rect_error.RectError.TheVariants as region
+use Rattle.rect_read.specs.declared.rect_error.RectError.{RectError}
+use Rattle.rect_read.specs.declared.rect_error.RectError.TheVariants as region
 use Rattle.tile_load.specs.declared.load_error.LoadError.{LoadError}
 use Rattle.tile_load.specs.declared.load_error.LoadError.TheVariants as load
 

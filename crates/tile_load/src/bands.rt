@@ -2,8 +2,7 @@
 
 ghost use Rattle.std.specs.Prelude.{◌≡◌, ◌<◌};
 
-use crate::place::Place;
-use crate::window::MAX_GAP;
+use rect_read::{MAX_GAP, Place};
 use std::alloc::Global;
 use tap_reader::{Band, MAX_AHEAD_BYTES, ReadAhead};
 use tex_world::World;

@@ -7,7 +7,7 @@ ghost use Rattle.tile_load.specs.CellTile.{IsCellTile};
 ghost use Rattle.tile_load.specs.Halving.{part_count, part_key, IsPartOf, NamesGenerated};
 ghost use Rattle.tile_load.specs.Halving.{halving_state};
 ghost use Rattle.tile_load.specs.PartPlace.{max_cell_samples};
-ghost use Rattle.tile_load.specs.Zeros.{AreZeros};
+ghost use Rattle.rect_read.specs.Zeros.{AreZeros};
 ghost use Rattle.tile_store.specs.Told.{IsTold};
 
 use crate::halve_part::halve_part;

@@ -1,7 +1,7 @@
 ghost use Rattle.std.specs.Prelude.{◌≡◌};
 ghost use Rattle.tile_load.specs.LoadError.{load_error_of};
 
-use crate::rect_error::RectError;
+use rect_read::RectError;
 use tex_world::ReadError;
 
 /// Why a cell was not loaded.

@@ -15,9 +15,8 @@ ghost use Rattle.tile_store.specs.Told.{IsTold};
 
 use crate::bands::next_bands;
 use crate::load_error::{LoadError, load_error};
-use crate::place::Place;
-use crate::rect::read_rect;
 use file_table::Record;
+use rect_read::{Place, read_rect};
 use std::alloc::Global;
 use tap_reader::{AheadReader, OpenFile};
 use tex_world::Tap;

@@ -9,10 +9,11 @@ use Rattle.tile_layout.specs.Kept.{level_in}
 use Rattle.tile_layout.specs.Plane.{plane_level}
 use Rattle.tile_layout.proofs.PlaneBlocks.{plane_held}
 use Rattle.rect_read.specs.declared.samples.Samples.{Samples}
-use Rattle.rect_read.specs.Beyond.{IsBeyond}
+use Rattle.piece_samples.specs.Beyond.{IsBeyond}
 use Rattle.rect_read.specs.Taken.{taken}
 use Rattle.rect_read.proofs.Leaves.{leaves_after}
-use Rattle.rect_read.proofs.PlanarSamples.{all_low, one_aside, one_each, planar_texels}
+use Rattle.piece_samples.proofs.LowSamples.{all_low}
+use Rattle.rect_read.proofs.PlanarSamples.{one_aside, one_each, planar_texels}
 use Rattle.rect_read.proofs.PlanarSamples.{planes_more}
 use Rattle.tile_layout.specs.Texel.{FitDepth}
 use Rattle.rect_read.proofs.TakenSamples.{placed_at, length_taken, zero_of}

@@ -4,7 +4,7 @@ use Rattle.tile_layout.specs.Blocks.{HoldsBlocks}
 use Rattle.tile_layout.specs.Cell.{bit_depth_in}
 use Rattle.tile_layout.specs.Kept.{level_in}
 use Rattle.tile_layout.specs.Texel.{FitDepth}
-use Rattle.rect_read.specs.Beyond.{IsFilled, IsAllBeyond}
+use Rattle.piece_samples.specs.Beyond.{IsFilled, IsAllBeyond}
 use Rattle.rect_read.specs.Planes.{ArePlaneZeros, ArePlaneSamples}
 use Rattle.rect_read.proofs.planes.read_planes.Given as goal
 

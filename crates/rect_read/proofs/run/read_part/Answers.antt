@@ -3,7 +3,7 @@ use Rattle.std.specs.List.{range_with_len}
 use Rattle.std.proofs.lemmas.List.{length-append}
 use Rattle.std.proofs.lemmas.List.FromFn.{length-map-range_with_len}
 use Rattle.rect_read.specs.Taken.{taken}
-use Rattle.rect_read.specs.Unpacked.{unpacked}
+use Rattle.piece_samples.specs.Unpacked.{unpacked}
 use Rattle.rect_read.proofs.run.read_part.Goals as goal
 
 pub returns-clause-count : goal.returns-clause-count

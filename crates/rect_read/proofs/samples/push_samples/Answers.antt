@@ -4,7 +4,7 @@ use Rattle.std.specs.List.{range_with_len}
 use Rattle.std.proofs.Math.Seq.{take-append_seam}
 use Rattle.std.proofs.lemmas.List.Elements.{All-same}
 use Rattle.tiff_format.specs.Texel.{greatest_sample}
-use Rattle.rect_read.specs.Unpacked.{unpacked}
+use Rattle.piece_samples.specs.Unpacked.{unpacked}
 use Rattle.rect_read.proofs.Appended.{is_appended}
 use Rattle.rect_read.proofs.SampleValues.{fit_appended}
 use Rattle.rect_read.proofs.samples.push_samples.Goals as goal

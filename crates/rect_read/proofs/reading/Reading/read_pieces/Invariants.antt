@@ -6,7 +6,7 @@ use Rattle.tile_layout.specs.Blocks.{HoldsBlocks}
 use Rattle.rect_read.specs.Samples.{samples_at}
 use Rattle.rect_read.specs.Zeros.{AddsTexels, LiesBeyond}
 use Rattle.rect_read.specs.Taken.{taken, KeepsOthers}
-use Rattle.rect_read.specs.Unpacked.{KeepsDepth}
+use Rattle.piece_samples.specs.Unpacked.{KeepsDepth}
 use Rattle.rect_read.specs.Window.{AreWindows}
 use Rattle.rect_read.proofs.reading.Reading.read_pieces.Given as goal
 

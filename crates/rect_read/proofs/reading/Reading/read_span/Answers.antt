@@ -3,7 +3,7 @@ use Rattle.std.specs.List.{range_with_len}
 use Rattle.std.proofs.lemmas.List.FromFn.{length-map-range_with_len}
 use Rattle.tiff_format.specs.Block.{sample_bytes, texel_bytes}
 use Rattle.rect_read.specs.Taken.{taken}
-use Rattle.rect_read.specs.Unpacked.{unpacked}
+use Rattle.piece_samples.specs.Unpacked.{unpacked}
 use Rattle.tile_layout.proofs.PlaceLemmas.{bytes_by}
 use Rattle.rect_read.proofs.PieceValues.{piece_values}
 use Rattle.rect_read.proofs.Windows.{window_at, window_set}
@@ -26,7 +26,7 @@ returns-clause-told g c = λ bytes told level right windows is lies.
     rw (is.one, ← is.channels, ← is.depth) format.in_range.bytes in
     let new = c.in_ok-fill.ensures.told bytes told window in
     let long : length span ≡ sample_bytes level.shape.depth * (piece.n * level.shape.channels) =
-    c.piece.ensures.long ∙ c.span_of-span.ensures.size
+    c.piece.ensures.long ∙ c.of-span.ensures.size
     ∙ samples_of piece.n format.texel_bytes level.shape.channels (sample_bytes level.shape.depth)
     (unit ∙ bytes_by level.shape is.one) in
     let values : ℕ → ℕ = unpacked c.args.format.now span in (
@@ -35,7 +35,7 @@ returns-clause-told g c = λ bytes told level right windows is lies.
           ∙ ap (λ (v : List ℕ). taken c.args.self.now.samples ++ v)
           (ap (λ (n : ℕ). map values (range_with_len 0 (piece.n * n))) is.channels
           ∙ piece_values format.big bytes level c.args.format.now is right piece lies span
-          (rw c.span_of-span.ensures.at at (c.piece.ensures.told bytes new)) long),
+          (rw c.of-span.ensures.at at (c.piece.ensures.told bytes new)) long),
     )
 
 pub returns-clause-count : goal.returns-clause-count

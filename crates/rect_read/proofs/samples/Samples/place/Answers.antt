@@ -1,7 +1,7 @@
 use Rattle.std.proofs.Common.{◌≡◌, ℕ, ◌+◌, ◌*◌, ◌++◌, List, length, take, drop, slice_index, ap, ◌∙◌, arith}
 use Rattle.std.proofs.Math.Seq.{take-append_seam}
 use Rattle.rect_read.specs.Taken.{taken_by}
-use Rattle.rect_read.specs.Unpacked.{unpacked}
+use Rattle.piece_samples.specs.Unpacked.{unpacked}
 use Rattle.rect_read.proofs.TakenSamples.{taken_more}
 use Rattle.rect_read.proofs.samples.Samples.place.Goals as goal
 

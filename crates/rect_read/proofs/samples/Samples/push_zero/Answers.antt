@@ -1,7 +1,7 @@
 use Rattle.std.proofs.Common.{ℕ, ◌+◌, ◌*◌, ◌<◌, List, [], ◌∷◌, ◌++◌, length, set, ap, sym}
 use Rattle.std.proofs.Common.{◌∙◌, arith}
 use Rattle.std.proofs.lemmas.List.{get_or-set_other, get_or-set_same, length-set}
-use Rattle.rect_read.proofs.PlaneWrites.{same_place, place_within}
+use Rattle.piece_samples.proofs.PlaneWrites.{same_place, place_within}
 use Rattle.rect_read.proofs.TakenSamples.{taken_alone, taken_zero, keeps_more}
 use Rattle.rect_read.proofs.samples.Samples.push_zero.Goals as goal
 
