@@ -1,5 +1,5 @@
 -- The values of the texels of a piece.
-use Rattle.std.proofs.Common.{◌≡◌, ℕ, ◌+◌, ◌*◌, ◌<◌, Bool, List, []}
+use Rattle.std.proofs.Common.{◌≡◌, ℕ, ◌+◌, ◌*◌, Bool, List, []}
 use Rattle.std.proofs.Common.{◌∷◌, ◌++◌, length, map, sym, ap, ◌∙◌, arith, zero-add, refl}
 use Rattle.std.specs.List.{range_with_len, flat_map}
 use Rattle.tiff_format.specs.Block.{Level, sample_bytes}

@@ -1,5 +1,5 @@
 -- Samples that were unpacked.
-use Rattle.std.proofs.Common.{◌≡◌, ℕ, ◌<◌, ◌≤◌, Bool, refl, List, ◌++◌, map}
+use Rattle.std.proofs.Common.{ℕ, ◌<◌, ◌≤◌, Bool, refl, List, ◌++◌, map}
 use Rattle.std.proofs.Common.{zero-add, arith}
 use Rattle.std.specs.List.{range_with_len}
 use Rattle.std.proofs.lemmas.List.Elements.{All-append, All-from_get_or}
