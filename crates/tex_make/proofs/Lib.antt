@@ -11,3 +11,6 @@ pub mod Chains
 pub mod Pictures
 pub mod Alike
 pub mod Complete
+pub mod Parts
+pub mod ReadBack
+pub mod DirectoryRead

@@ -9,6 +9,7 @@ ghost use Rattle.tile_layout.specs.Kept.{AreDirsOf, kept_in, stored_count};
 ghost use Rattle.rect_read.specs.RectRead.{LeavesReader as LeavesRect};
 ghost use Rattle.tex_make.specs.Level.{shown};
 ghost use Rattle.tex_make.specs.Picture.{AreAlike, picture_of, samples_of, max_samples};
+ghost use Rattle.tex_make.specs.PlainLevel.{level_at};
 ghost use Rattle.tex_make.specs.Pyramid.{seen};
 ghost use Rattle.tex_make.specs.Reading.{Pictures, LeavesReader};
 ghost use Rattle.tex_make.specs.Stored.{HasShape, HasTexels, AreLevelsOf, AreTexelsOf, EndsSingle};
@@ -75,6 +76,14 @@ fn read_level<B: ByteReader>(
     })
 }
 
+/// The last of these levels.
+fn last_of(levels: &[Level]) -> &Level
+    requires { 1 ≤ length levels.now }
+    ensures { shown result.now ≡ level_at (map shown levels.now) (length levels.now - 1) }
+{
+    &levels[levels.len() - 1]
+}
+
 /// The level behind these: read where it is stored, else half of the last.
 fn next_level<B: ByteReader>(
     alloc: Global,
@@ -94,7 +103,7 @@ fn next_level<B: ByteReader>(
     if number < layout.stored() as usize {
         return read_level(alloc, reader, layout, number as u32);
     }
-    match levels[number - 1].halved(alloc) {
+    match last_of(levels).halved(alloc) {
         Ok(half) => Ok(half),
         Err(_) => Err(RectError::NoMemory),
     }
@@ -125,7 +134,7 @@ fn read_levels<B: ByteReader>(
     let mut levels = Vec::new(alloc);
     let first = read_level(alloc, reader, layout, 0)?;
     push(&mut levels, first)?;
-    'levels: while !levels[levels.len() - 1].is_single() {
+    'down: while !last_of(&levels).is_single() {
         let next = next_level(alloc, reader, layout, &levels)?;
         push(&mut levels, next)?;
     }
