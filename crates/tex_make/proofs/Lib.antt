@@ -14,3 +14,4 @@ pub mod Complete
 pub mod Parts
 pub mod ReadBack
 pub mod DirectoryRead
+pub mod Sources

@@ -4,7 +4,7 @@ use Rattle.std.proofs.Common.{◌≡◌, ℕ, zero, suc, ◌+◌, ◌-◌, ◌*�
 use Rattle.std.proofs.Common.{length, find, Option, Some, refl, sym, ap, ◌∙◌, subst, arith, inl, inr, add-one}
 use Rattle.std.specs.List.{range_with_len}
 use Rattle.std.specs.Option.{option_map_or}
-use Rattle.std.proofs.lemmas.Bool.{cases_lt, eqb-eq}
+use Rattle.std.proofs.lemmas.Bool.{cases_lt, ne_eqb, and_left, and_right}
 use Rattle.std.proofs.lemmas.Grind.{common_steps}
 use Rattle.std.proofs.Math.Nat.{one-le-pow, pow-suc, mul-le-mul}
 use Rattle.tiff_format.specs.Facts.{IsChain, IsSide}
@@ -112,8 +112,10 @@ module _ (file : Kept) (chain : IsChain file.levels) (levels : List PlainLevel)
           by_sides zero h more = absurd (omega (arith, more))
           by_sides (suc zero) zero more = absurd (omega (arith, more))
           by_sides (suc zero) (suc zero) more = absurd (omega (arith, more))
-          by_sides (suc zero) (suc (suc h)) more = refl
-          by_sides (suc (suc w)) h more = refl
+          by_sides (suc zero) (suc (suc h)) more = and_right (suc zero == 1) (suc (suc h) == 1)
+              (ne_eqb (suc (suc h)) 1 (λ e. omega (arith, e)))
+          by_sides (suc (suc w)) h more = and_left (suc (suc w) == 1) (h == 1)
+              (ne_eqb (suc (suc w)) 1 (λ e. omega (arith, e)))
 
   -- ---- the picture
 

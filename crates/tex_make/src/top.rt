@@ -12,10 +12,11 @@ ghost use Rattle.tex_make.specs.Picture.{samples_of, max_samples};
 ghost use Rattle.tex_make.specs.Pyramid.{seen};
 ghost use Rattle.tex_make.specs.Sink.{sink_state};
 
-use crate::asked::{Asked, asked_in};
+use crate::asked::Asked;
 use crate::ending::{BAD_WORDS, Ending};
 use crate::picture::Pyramid;
 use crate::reading::{PictureError, read_picture};
+use crate::words::asked_in;
 use crate::writing::put_picture;
 use std::alloc::Global;
 use tap_reader::TapReader;
