@@ -15,3 +15,4 @@ pub mod Parts
 pub mod ReadBack
 pub mod DirectoryRead
 pub mod Sources
+pub mod Making

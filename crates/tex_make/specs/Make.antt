@@ -106,7 +106,7 @@ pub record LeavesFolder (old new : FolderState) : Type 0 where
 -- file down to one texel.
 abbrev pub WritesTexture : Wanted → Around → Around → List ℕ → Type 0
 WritesTexture asked old new bytes =
-    IsSource bytes × IsTextureOf (picture_of bytes) (made_of bytes asked.side)
+    IsSource bytes
     × Appends (made_of bytes asked.side) old.sink.holds new.sink.holds
 
 -- A first part of it was.

@@ -55,7 +55,7 @@ wanted_by path name None = None
 wanted_by path name (Some side) = wanted path name side
 
 -- what the words ask for, where they are of this form
-unfoldable pub wanted_in : List (List ℕ) → Option Wanted
+abbrev pub wanted_in : List (List ℕ) → Option Wanted
 wanted_in (path ∷ name ∷ []) = wanted path name default_side
 wanted_in (path ∷ name ∷ side ∷ []) = wanted_by path name (side_of side)
 wanted_in _ = None

@@ -1,6 +1,7 @@
 //! The words of the command line.
 
-ghost use Rattle.std.specs.Prelude.{◌≡◌, ◌≤◌, true, map, length, option_map, IfSome};
+ghost use Rattle.std.specs.Prelude.{◌≡◌, ◌<◌, ◌≤◌, true, [], map, length, option_map, IfSome};
+ghost use Rattle.std.specs.Prelude.{slice_index_or};
 ghost use Rattle.std.specs.List.{list_all};
 ghost use Rattle.std.specs.String.{string_bytes};
 ghost use Rattle.tex_make.specs.Side.{IsMadeSide};
@@ -34,11 +35,18 @@ fn digits_number(digits: &[u8]) -> u64
     number
 }
 
+/// All bytes are decimal digits.
+fn are_digits(word: &[u8]) -> bool
+    ensures { result ≡ list_all spec.is_digit word.now }
+{
+    word.iter().all(|byte| byte.is_ascii_digit())
+}
+
 /// The word is 1 to ten decimal digits.
 fn is_number(word: &[u8]) -> bool
     ensures { result ≡ spec.is_number word.now }
 {
-    !word.is_empty() && word.len() <= MAX_DIGITS && word.iter().all(|byte| byte.is_ascii_digit())
+    !word.is_empty() && word.len() <= MAX_DIGITS && are_digits(word)
 }
 
 /// The side that a word names.
@@ -77,17 +85,25 @@ fn asked_of<'a>(path: &'a str, name: &'a str, side: u32) -> Option<Asked<'a>>
     Some(Asked { path, name, side })
 }
 
+/// A word.
+fn word(words: &[String], i: usize) -> &str
+    requires { i < length words.now }
+    ensures { result.now ≡ slice_index_or (map string_bytes words.now) i [] }
+{
+    words[i].as_str()
+}
+
 /// What the words ask for, where they are two or three, the third is a side, and no other is an
 /// option.
 pub(crate) fn asked_in(words: &[String]) -> Option<Asked<'_>>
     ensures { option_map shown_asked result ≡ spec.wanted_in (map string_bytes words.now) }
 {
-    match words {
-        [path, name] => asked_of(path.as_str(), name.as_str(), DEFAULT_SIDE),
-        [path, name, word] => {
-            let side = side_of(word.as_str().as_bytes())?;
-            asked_of(path.as_str(), name.as_str(), side)
-        }
-        _ => None,
+    if words.len() == 2 {
+        return asked_of(word(words, 0), word(words, 1), DEFAULT_SIDE);
     }
+    if words.len() != 3 {
+        return None;
+    }
+    let side = side_of(word(words, 2).as_bytes())?;
+    asked_of(word(words, 0), word(words, 1), side)
 }
