@@ -16,3 +16,4 @@ pub mod ReadBack
 pub mod DirectoryRead
 pub mod Sources
 pub mod Making
+pub mod DirectoryGood
