@@ -17,3 +17,4 @@ pub mod DirectoryRead
 pub mod Sources
 pub mod Making
 pub mod DirectoryGood
+pub mod TextureParts

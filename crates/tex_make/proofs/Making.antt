@@ -16,7 +16,7 @@ use Rattle.tex_make.specs.Texture.{texture_of, made_of}
 use Rattle.tex_make.specs.Words.{Wanted}
 use Rattle.tex_make.specs.Writing.{PutsPicture}
 use Rattle.tex_make.proofs.Alike.{texture_alike}
-use Rattle.tex_make.proofs.DirectoryRead.{has_is}
+use Rattle.tex_make.proofs.TextureParts.{tiled}
 use Rattle.tex_make.proofs.DirectoryGood.{directory_good}
 
 -- what is so of bytes that were read, by what is so of them
