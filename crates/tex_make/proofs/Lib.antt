@@ -18,3 +18,4 @@ pub mod Sources
 pub mod Making
 pub mod DirectoryGood
 pub mod TextureParts
+pub mod TexelRead
