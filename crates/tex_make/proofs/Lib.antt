@@ -19,3 +19,4 @@ pub mod Making
 pub mod DirectoryGood
 pub mod TextureParts
 pub mod TexelRead
+pub mod TextureGood

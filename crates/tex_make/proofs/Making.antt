@@ -17,7 +17,7 @@ use Rattle.tex_make.specs.Words.{Wanted}
 use Rattle.tex_make.specs.Writing.{PutsPicture}
 use Rattle.tex_make.proofs.Alike.{texture_alike}
 use Rattle.tex_make.proofs.TextureParts.{tiled}
-use Rattle.tex_make.proofs.TexelRead.{sample_read}
+use Rattle.tex_make.proofs.TextureGood.{texture_is as good_texture}
 
 -- what is so of bytes that were read, by what is so of them
 reads_so : (files : Files) (asked : Wanted) (old new : Around) (P Q : List ℕ → Type 0)

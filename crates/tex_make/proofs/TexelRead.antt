@@ -157,7 +157,7 @@ module _ (p : Picture) (is : IsPicture p) (side : ℕ) (made : IsMadeSide side) 
         (let long = head_long p is side made short in
         let first = first_tiles p side in omega (arith, long, first)) (holds_all bytes)
 
-    tiles_at_is : (l : ℕ) → tiles_at p side 0 + length (joined (level_tiles p side) l) ≡ tiles_at p side l
+    pub tiles_at_is : (l : ℕ) → tiles_at p side 0 + length (joined (level_tiles p side) l) ≡ tiles_at p side l
     tiles_at_is zero = omega arith
     tiles_at_is (suc l) =
         let before = tiles_at_is l in
