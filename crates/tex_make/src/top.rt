@@ -2,10 +2,10 @@
 
 ghost use Rattle.std.specs.Prelude.{◌≡◌, ◌≤◌, ◌↔◌, IsTrue, IfOk, Err};
 ghost use Rattle.tex_world.specs.World.{IsFile};
-ghost use Rattle.tex_make.specs.declared.ending.Ending.TheVariants.{TooMany};
+ghost use Rattle.tex_make.specs.declared.ending.Ending.TheVariants.{NoSuchFile, TooMany};
 ghost use Rattle.tex_make.specs.Asked.{shown_asked};
 ghost use Rattle.tex_make.specs.FileRead.{ReadsFile, LeavesTap};
-ghost use Rattle.tex_make.specs.Make.{ReadsPicture, LeavesFolder, EndsAs, Completes};
+ghost use Rattle.tex_make.specs.Make.{ReadsPicture, LacksFile, LeavesFolder, EndsAs, Completes};
 ghost use Rattle.tex_make.specs.Make.{asked_by, around_of, ReadsOf};
 ghost use Rattle.tex_world.specs.Folder.{KeepsFiles};
 ghost use Rattle.tex_make.specs.Picture.{samples_of, max_samples};
@@ -74,6 +74,8 @@ fn picture_asked<F: Folder>(
     ensures reads { ReadsPicture F.W.files (shown_asked asked.now)
         (F.state folder.old) (F.state folder.new) result }
     ensures small { IfOk result (λ picture. samples_of (seen picture) ≤ max_samples) }
+    ensures absent { LacksFile (shown_asked asked.now) (F.state folder.new)
+        ↔ (result ≡ Err NoSuchFile) }
     ensures mark { IsTrue (F.state folder.new).over ↔ (result ≡ Err TooMany) }
     ensures folder { LeavesFolder (F.state folder.old) (F.state folder.new) }
 {

@@ -20,7 +20,8 @@ returns-in-Ok-clause-makes g c =
     let is : Some asked ≡ asked_by c.args.words.now = ap (option_map shown_asked) (sym c.in-Some.is) ∙ c.asked_in.ensures in
     subst (λ (o : Option Wanted). EndsAs files o old new c.put_picture.result) is
     (makes_of files asked old new c.put_picture.result c.in-Ok.picture c.in-Ok.ensures.reads
-    c.put_picture.ensures
+    c.in-Some.asked.side_in c.in-Ok.ensures.small c.put_picture.ensures
+    (λ lacks. let fails = c.in-Ok.ensures.absent.0 lacks in cc)
     (λ over. let no = c.in-Ok.ensures.mark.0 over in cc) c.in-Ok.ensures.folder)
 
 pub returns-in-Err-clause-complete : goal.returns-in-Err-clause-complete
