@@ -1,18 +1,16 @@
 -- The levels of a file, stored and made by halving: their sides and their texels.
-use Rattle.std.proofs.Common.{◌≡◌, ℕ, zero, suc, ◌+◌, ◌-◌, ◌*◌, ◌^◌, ◌<◌, ◌≤◌, List, [], ◌∷◌, ◌++◌}
-use Rattle.std.proofs.Common.{length, refl, sym, ap, ◌∙◌, subst, arith, inl, inr, add-one}
-use Rattle.std.proofs.lemmas.Bool.{cases_lt, le-ltb, lt-ltb, and_parts}
+use Rattle.std.proofs.Common.{◌≡◌, ℕ, zero, suc, ◌+◌, ◌*◌, ◌<◌, ◌≤◌, List, [], ◌∷◌, ◌++◌}
+use Rattle.std.proofs.Common.{length, refl, sym, ap, ◌∙◌, subst, arith, inl, inr}
+use Rattle.std.proofs.lemmas.Bool.{cases_lt, le-ltb}
 use Rattle.std.proofs.lemmas.Grind.{common_steps}
 use Rattle.std.proofs.lemmas.List.{get_or_append_left, get_or-append-add, length-append}
-use Rattle.tiff_format.specs.Block.{LevelShape, Level}
 use Rattle.tiff_format.specs.Facts.{IsChain}
-use Rattle.tiff_format.specs.Level.{halved, has_half_size}
-use Rattle.tiff_format.specs.Texel.{sample_in as stored_sample}
+use Rattle.tiff_format.specs.Level.{halved}
 use Rattle.tile_layout.specs.Kept.{Kept, stored_count, level_in, no_level as no_stored}
-use Rattle.tile_layout.specs.Level.{side_in, width_in, height_in}
+use Rattle.tile_layout.specs.Level.{width_in, height_in}
 use Rattle.tile_layout.specs.Texel.{texel_in, quarter, clamped, average}
 use Rattle.tile_layout.proofs.LevelLemmas.{side_stored, side_halved}
-use Rattle.tex_make.specs.PlainLevel.{PlainLevel, IsPlainLevel, IsHalfOf, level_at, no_level, sample_in}
+use Rattle.tex_make.specs.PlainLevel.{PlainLevel, IsPlainLevel, IsHalfOf, level_at, no_level}
 use Rattle.tex_make.specs.Stored.{HasShape, HasTexels, AreLevelsOf, AreTexelsOf}
 
 module _ (file : Kept) where

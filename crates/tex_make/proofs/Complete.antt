@@ -1,19 +1,17 @@
 -- Where nothing failed and the file is one of which a texture is made, it was made.
-use Rattle.std.proofs.Common.{◌≡◌, ◌⊎◌, ℕ, ◌+◌, ◌<◌, ◌≤◌, List, IsTrue, IsSome, Option, Some, None, Ok, Err}
-use Rattle.std.proofs.Common.{refl, sym, ap, ◌∙◌, subst, arith, inl, inr}
+use Rattle.std.proofs.Common.{◌≡◌, ℕ, List, IsSome, Option, Some, None}
+use Rattle.std.proofs.Common.{refl, sym, ◌∙◌, subst, arith}
 use Rattle.std.specs.Option.{ForSome}
-use Rattle.tex_world.specs.Counts.{last_count, Rises}
+use Rattle.tex_world.specs.Counts.{Rises}
 use Rattle.tex_world.specs.World.{Files, IsWorld}
 use Rattle.tex_world.specs.Folder.{FolderState, IsFolder}
-use Rattle.tiff_format.specs.Fault.{first_fault}
 use Rattle.tex_make.specs.declared.ending.Ending.{Ending}
 use Rattle.tex_make.specs.declared.ending.Ending.TheVariants.{Failed, NoMemory, NoSuchFile}
 use Rattle.tex_make.specs.declared.ending.Ending.TheVariants.{BadFile, TooLarge, Gone, TooMany}
 use Rattle.tex_make.specs.Words.{Wanted}
 use Rattle.tex_make.specs.Ending.{status_of}
-use Rattle.tex_make.specs.FileRead.{IsReadOf}
 use Rattle.tex_make.specs.Reading.{IsSource, IsLargeSource, IsBadSource}
-use Rattle.tex_make.specs.Make.{Around, Reads, HasCause, Makes, HasSource, StaysAt, IsCalm}
+use Rattle.tex_make.specs.Make.{Around, Reads, HasCause, HasSource, StaysAt, IsCalm}
 
 -- a count that stays has not risen
 stays : (old new : ℕ) → StaysAt old new → Rises old new → ⊥

@@ -1,20 +1,19 @@
 -- A directory whose fields are those of a tiled level shows no fault, and what is kept of it.
-use Rattle.std.specs.Prelude.{◌==◌, ◌&&◌, ◌||◌, nat_le, nat_lt, not, if◌then◌else◌, find, take}
-use Rattle.std.proofs.Common.{◌≡◌, ◌⊎◌, ℕ, zero, suc, ◌+◌, ◌*◌, ◌%◌, ◌<◌, ◌≤◌, Bool, true, false, List}
-use Rattle.std.proofs.Common.{[], ◌∷◌, length, map, slice_index, Option, Some, None, refl, sym, ap, ◌∙◌, arith, inl, inr}
+use Rattle.std.specs.Prelude.{◌==◌, ◌||◌, nat_lt, not, if◌then◌else◌, find, take}
+use Rattle.std.proofs.Common.{◌≡◌, ◌⊎◌, ℕ, zero, suc, ◌+◌, ◌*◌, ◌≤◌, Bool, true, false, List}
+use Rattle.std.proofs.Common.{[], ◌∷◌, length, map, slice_index, Option, Some, None, refl, ap, ◌∙◌, arith, inl, inr}
 use Rattle.std.specs.Bool.{then_some}
 use Rattle.std.specs.List.{range_with_len}
-use Rattle.std.specs.Option.{option_or, option_map}
+use Rattle.std.specs.Option.{option_map}
 use Rattle.std.proofs.lemmas.Bool.{lt-ltb, le-ltb, le-leb, eq-eqb, ne_eqb}
 use Rattle.std.proofs.lemmas.List.FromFn.{get_or-map-range_with_len}
 use Rattle.std.proofs.Math.Seq.{take-length}
 use Rattle.tiff_format.specs.declared.fault.TiffFault.{TiffFault}
-use Rattle.tiff_format.specs.declared.fault.TiffFault.TheVariants.{DirOutside, FieldMissing}
+use Rattle.tiff_format.specs.declared.fault.TiffFault.TheVariants.{DirOutside}
 use Rattle.tiff_format.specs.declared.fault.TiffFault.TheVariants.{FieldShape, Unsupported}
-use Rattle.tiff_format.specs.declared.fault.TiffFault.TheVariants.{ZeroSize, TooLarge, TileShape}
 use Rattle.tiff_format.specs.declared.fault.TiffFault.TheVariants.{OffsetCount}
-use Rattle.tiff_format.specs.Block.{LevelShape, Level, shape_of, level_with, pieces_over, blocks_of, planes_by}
-use Rattle.tiff_format.specs.Block.{shape_at, level_at, tile_of, strip_rows, planes_at, offsets_tag, is_tiled}
+use Rattle.tiff_format.specs.Block.{LevelShape, shape_of, level_with, pieces_over, blocks_of, planes_by}
+use Rattle.tiff_format.specs.Block.{shape_at, level_at, tile_of, strip_rows, planes_at, offsets_tag}
 use Rattle.tiff_format.specs.Directory.{lies_inside}
 use Rattle.tiff_format.specs.DirectoryFault.{first_of, is_tile_side, is_misshapen, samples, read_tags}
 use Rattle.tiff_format.specs.DirectoryFault.{outside_fault, missing_fault, shape_fault, bits_fault}

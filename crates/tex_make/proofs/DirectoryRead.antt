@@ -1,14 +1,14 @@
 -- A directory that was written is read as it was written.
-use Rattle.std.specs.Prelude.{◌==◌, ◌&&◌, nat_le, not, if◌then◌else◌, is_some}
-use Rattle.std.proofs.Common.{◌≡◌, ℕ, ◌+◌, ◌*◌, ◌^◌, ◌<◌, ◌≤◌, List, ◌++◌, length, Bool, true, false}
-use Rattle.std.proofs.Common.{Option, Some, None, refl, sym, ap, ◌∙◌, subst, arith}
+use Rattle.std.specs.Prelude.{◌==◌, not, if◌then◌else◌, is_some}
+use Rattle.std.proofs.Common.{◌≡◌, ℕ, ◌+◌, ◌*◌, ◌^◌, ◌<◌, ◌≤◌, List, ◌++◌, length, true, false}
+use Rattle.std.proofs.Common.{Option, Some, None, refl, ap, ◌∙◌, arith}
 use Rattle.std.specs.Option.{option_map_or}
 use Rattle.std.specs.Int.{w16, w32, to_le_bytes}
 use Rattle.std.specs.List.{flat_map}
 use Rattle.std.proofs.lemmas.Bool.{le-leb}
 use Rattle.tiff_format.specs.Bytes.{number_at}
 use Rattle.tiff_format.specs.Directory.{entry_count, entry_place, next_place, lies_inside, next_directory}
-use Rattle.tiff_format.specs.Field.{first_entry, field_place, has_field, field_values, entry_values}
+use Rattle.tiff_format.specs.Field.{field_place, has_field, field_values, entry_values}
 use Rattle.tiff_format.specs.Field.{has_shape, default_of}
 use Rattle.tiff_format.specs.DirectoryFault.{is_misshapen}
 use Rattle.tex_make.specs.declared.field.Field.{Field}

@@ -1,11 +1,9 @@
 -- What was made of a picture that was read.
-use Rattle.std.proofs.Common.{◌≡◌, ◌⊎◌, ℕ, ◌<◌, ◌≤◌, List, IsTrue, Ok, sym, ap, ◌∙◌, subst, inl, inr, arith}
-use Rattle.std.specs.Option.{ForSome}
+use Rattle.std.proofs.Common.{◌≡◌, ℕ, ◌<◌, ◌≤◌, List, IsTrue, sym, ap, ◌∙◌, subst, inl, inr, arith}
 use Rattle.tex_world.specs.World.{Files}
 use Rattle.tex_world.specs.Stream.{Appends, AppendsPart}
 use Rattle.tex_make.specs.declared.ending.Ending.TheVariants.{NoMemory}
 use Rattle.tex_make.specs.declared.picture.Pyramid.{Pyramid}
-use Rattle.tex_make.specs.FileRead.{IsReadOf}
 use Rattle.tex_make.specs.Good.{IsTextureOf}
 use Rattle.tex_make.specs.Make.{Around, Reads, Makes, LacksFile, WritesTexture, WritesPart, LeavesFolder}
 use Rattle.tex_make.specs.Picture.{Picture, AreAlike, picture_of, samples_of, max_samples}
@@ -76,24 +74,36 @@ pub makes_of : (files : Files) (asked : Wanted) (old new : Around) (ends : ℕ) 
     → (LacksFile asked new.folder → ⊥) → (IsTrue new.folder.over → ⊥) → LeavesFolder old.folder new.folder
     → Makes files asked old new ends
 makes_of files asked old new ends picture reads side_in small (inl made) there calm folder = record {
-  ends_as = inl (made.0, reads_so files asked old new (λ bytes. IsPictureOf bytes picture)
-      (WritesTexture asked old new)
-      (λ bytes is. (is.source, texture_good picture bytes asked.side is side_in small,
-      subst (λ (t : List ℕ). Appends t old.sink.holds new.sink.holds)
-      (texture_is picture bytes asked.side is) made.1.written)) reads);
+  ends_as = inl (
+    made.0,
+    reads_so files asked old new (λ bytes. IsPictureOf bytes picture)
+        (WritesTexture asked old new)
+        (λ bytes is. (
+          is.source,
+          texture_good picture bytes asked.side is side_in small,
+          subst (λ (t : List ℕ). Appends t old.sink.holds new.sink.holds)
+              (texture_is picture bytes asked.side is) made.1.written,
+        )) reads,
+  );
   absent = (λ lacks. absurd (there lacks), λ seven. absurd (omega (arith, seven, made.0)));
   mark = (λ over. absurd (calm over), λ eleven. absurd (omega (arith, eleven, made.0)));
   folder = folder;
   sink = made.1.faults;
 }
 makes_of files asked old new ends picture reads side_in small (inr (inl cut)) there calm folder = record {
-  ends_as = inr (inl (cut.0, record {
-    failed = cut.1.failed;
-    part = reads_so files asked old new (λ bytes. IsPictureOf bytes picture)
-        (WritesPart asked old new)
-        (λ bytes is. (is.source, subst (λ (t : List ℕ). AppendsPart t old.sink.holds new.sink.holds)
-        (texture_is picture bytes asked.side is) cut.1.part)) reads;
-  }));
+  ends_as = inr (inl (
+    cut.0,
+    record {
+      failed = cut.1.failed;
+      part = reads_so files asked old new (λ bytes. IsPictureOf bytes picture)
+          (WritesPart asked old new)
+          (λ bytes is. (
+            is.source,
+            subst (λ (t : List ℕ). AppendsPart t old.sink.holds new.sink.holds)
+                (texture_is picture bytes asked.side is) cut.1.part,
+          )) reads;
+    },
+  ));
   absent = (λ lacks. absurd (there lacks), λ seven. absurd (omega (arith, seven, cut.0)));
   mark = (λ over. absurd (calm over), λ eleven. absurd (omega (arith, eleven, cut.0)));
   folder = folder;

@@ -1,10 +1,9 @@
 -- The fields of a directory that was written are those that are read.
-use Rattle.std.specs.Prelude.{◌==◌, ◌&&◌, nat_le, nat_lt, not, if◌then◌else◌, replicate, option_map}
-use Rattle.std.proofs.Common.{◌≡◌, ℕ, zero, suc, ◌+◌, ◌-◌, ◌*◌, ◌^◌, ◌<◌, ◌≤◌, List, [], ◌∷◌, ◌++◌}
-use Rattle.std.proofs.Common.{length, map, Bool, true, false, Option, Some, None, slice_index}
+use Rattle.std.specs.Prelude.{◌==◌, nat_le, if◌then◌else◌, replicate}
+use Rattle.std.proofs.Common.{◌≡◌, ℕ, ◌+◌, ◌-◌, ◌*◌, ◌^◌, ◌<◌, ◌≤◌, List, [], ◌∷◌, ◌++◌}
+use Rattle.std.proofs.Common.{length, map, Bool, true, false, Option, Some, None}
 use Rattle.std.proofs.Common.{refl, sym, ap, ◌∙◌, subst, arith}
-use Rattle.std.specs.Prelude.{is_some, ⊤}
-use Rattle.std.specs.Option.{option_map_or}
+use Rattle.std.specs.Prelude.{⊤}
 use Rattle.std.specs.Int.{w16, w32, to_le_bytes}
 use Rattle.std.specs.List.{range_with_len, flat_map}
 use Rattle.std.proofs.lemmas.Bool.{lt-ltb, le-leb}
@@ -20,7 +19,6 @@ use Rattle.tex_make.specs.declared.field.FieldKind.TheVariants.{Short, Long}
 use Rattle.tex_make.specs.Field.{type_number, number_size, number_bytes, FitsKind, number_in, field_size}
 use Rattle.tex_make.specs.Field.{field_bytes, fits_entry, value_part, entry_of, outside_size}
 use Rattle.tex_make.specs.Field.{outside_bytes, all_outside, entries_of, IsField}
-use Rattle.tex_make.specs.Joined.{joined}
 use Rattle.tex_make.proofs.Parts.{Holds, holds_left, holds_right, holds_equal, length_joined}
 use Rattle.tex_make.proofs.Parts.{two_bytes, four_bytes}
 

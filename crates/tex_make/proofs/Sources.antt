@@ -9,7 +9,7 @@ use Rattle.tiff_format.specs.Shown.{shown}
 use Rattle.tiff_format.specs.Bytes.{is_big}
 use Rattle.tile_layout.specs.Blocks.{HoldsBlocks}
 use Rattle.tile_layout.specs.Kept.{Kept, AreDirsOf, kept_in, kept_of, stored_count, level_in}
-use Rattle.tile_layout.specs.Level.{width_in, height_in}
+use Rattle.tile_layout.specs.Level.{height_in}
 use Rattle.tile_layout.proofs.LevelLemmas.{side_stored}
 use Rattle.tile_layout.proofs.StoredTexels.{holds_level}
 use Rattle.tex_make.specs.Stored.{HoldsAll, samples_kept}

@@ -1,24 +1,20 @@
 -- The texture of a picture shows no fault, and stores each of its levels.
-use Rattle.std.specs.Prelude.{◌==◌, ◌&&◌, ◌||◌, nat_lt, nat_le, not, if◌then◌else◌, is_none, find}
-use Rattle.std.proofs.Common.{◌≡◌, ℕ, zero, suc, ◌+◌, ◌-◌, ◌*◌, ◌^◌, ◌<◌, ◌≤◌, Bool, true, false, List}
-use Rattle.std.proofs.Common.{[], ◌∷◌, length, map, slice_index, Option, Some, None, refl, sym, ap, ◌∙◌, subst, arith}
-use Rattle.std.proofs.Common.{inl, inr}
-use Rattle.std.specs.Bool.{then_some}
+use Rattle.std.specs.Prelude.{◌==◌, ◌&&◌, not, if◌then◌else◌, is_none, find}
+use Rattle.std.proofs.Common.{◌≡◌, ℕ, zero, suc, ◌+◌, ◌-◌, ◌*◌, ◌<◌, ◌≤◌, Bool, true, false, List}
+use Rattle.std.proofs.Common.{[], ◌∷◌, length, map, slice_index, Option, Some, None, refl, sym, ap, ◌∙◌, arith}
 use Rattle.std.specs.List.{range_with_len}
-use Rattle.std.specs.Option.{option_map, option_map_or, option_or, option_and_then, unwrap_or}
-use Rattle.std.proofs.lemmas.Bool.{cases_lt, lt-ltb, le-ltb, le-leb, eq-eqb, ne_eqb, and_left, and_right}
+use Rattle.std.specs.Option.{option_map, option_map_or, option_and_then, unwrap_or}
+use Rattle.std.proofs.lemmas.Bool.{lt-ltb, le-ltb, le-leb, eq-eqb, ne_eqb, and_left, and_right}
 use Rattle.std.proofs.lemmas.List.FromFn.{get_or-map-range_with_len}
 use Rattle.tiff_format.specs.declared.fault.TiffFault.{TiffFault}
-use Rattle.tiff_format.specs.declared.fault.TiffFault.TheVariants.{Short as TooShort, BadMark, BadVersion}
 use Rattle.tiff_format.specs.declared.fault.TiffFault.TheVariants.{DataOutside}
 use Rattle.tiff_format.specs.declared.form.Form.{Form}
-use Rattle.tiff_format.specs.Block.{LevelShape, Level, shape_at, level_at, level_with, blocks_of, block_bytes}
-use Rattle.tiff_format.specs.Block.{sample_bytes}
-use Rattle.tiff_format.specs.Bytes.{is_big, is_little, version}
+use Rattle.tiff_format.specs.Block.{LevelShape, Level, shape_at, level_at, level_with, blocks_of}
+use Rattle.tiff_format.specs.Bytes.{is_big}
 use Rattle.tiff_format.specs.Directory.{next_directory, directory_place}
 use Rattle.tiff_format.specs.DirectoryFault.{first_of, directory_fault, data_fault, block_inside}
-use Rattle.tiff_format.specs.Fault.{header_fault, data_faults, first_fault, is_short}
-use Rattle.tiff_format.specs.Form.{form_of, header_bytes}
+use Rattle.tiff_format.specs.Fault.{header_fault, data_faults, first_fault}
+use Rattle.tiff_format.specs.Form.{form_of}
 use Rattle.tiff_format.specs.Level.{halved, max_levels, level_place, directory_level, is_single, has_half_size}
 use Rattle.tiff_format.specs.Level.{has_samples_of, is_next_level, is_level, leading, stored_levels}
 use Rattle.tiff_format.specs.Texel.{sample_in}
@@ -154,8 +150,10 @@ module _ (p : Picture) (is : IsPicture p) (side : ℕ) (made : IsMadeSide side) 
         let more : l + 1 ≡ suc l = omega arith in
         let width = ap p.width (sym more) ∙ is.half_width l (omega (arith, below)) in
         let height = ap p.height (sym more) ∙ is.half_height l (omega (arith, below)) in
-        rw (eq-eqb (p.width (suc l)) (halved (p.width l)) width,
-        eq-eqb (p.height (suc l)) (halved (p.height l)) height) refl
+        rw (
+          eq-eqb (p.width (suc l)) (halved (p.width l)) width,
+          eq-eqb (p.height (suc l)) (halved (p.height l)) height,
+        ) refl
 
     samples_read : (l : ℕ) → has_samples_of (shape 0) (shape l) ≡ true
     samples_read l =
@@ -242,8 +240,11 @@ module _ (p : Picture) (is : IsPicture p) (side : ℕ) (made : IsMadeSide side) 
     unfolding header_fault
     header_none =
         let some = long_bytes in
-        rw (little_is p is side made short, version_is p is side made short,
-        le-ltb (length bytes) 8 some) refl
+        rw (
+          little_is p is side made short,
+          version_is p is side made short,
+          le-ltb (length bytes) 8 some,
+        ) refl
 
     blocks_are : (l : ℕ) → l < p.levels → blocks_of (shape l) ≡ tile_count p side l
     blocks_are l below = omega arith
@@ -265,8 +266,11 @@ module _ (p : Picture) (is : IsPicture p) (side : ℕ) (made : IsMadeSide side) 
         let low_offset : 8 ≤ tiles_at p side l + tile_size p side * i = omega (arith, behind, first, own) in
         let within : tiles_at p side l + tile_size p side * i + tile_size p side ≤ length bytes =
         omega (arith, ends) in
-        rw (offset, le-leb 8 (tiles_at p side l + tile_size p side * i) low_offset,
-        le-leb (tiles_at p side l + tile_size p side * i + tile_size p side) (length bytes) within) refl
+        rw (
+          offset,
+          le-leb 8 (tiles_at p side l + tile_size p side * i) low_offset,
+          le-leb (tiles_at p side l + tile_size p side * i + tile_size p side) (length bytes) within,
+        ) refl
 
     data_none : (l : ℕ) → l < p.levels → data_fault little bytes l (kept_level l) ≡ None
     unfolding data_fault

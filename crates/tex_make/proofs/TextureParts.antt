@@ -1,6 +1,6 @@
 -- Where the parts of a texture stand in its bytes, and what is read of its directories.
 use Rattle.std.specs.Prelude.{◌==◌, nat_lt, is_some, if◌then◌else◌}
-use Rattle.std.proofs.Common.{◌≡◌, ◌⊎◌, ℕ, zero, suc, ◌+◌, ◌-◌, ◌*◌, ◌/◌, ◌^◌, ◌<◌, ◌≤◌, Bool, true, false, List}
+use Rattle.std.proofs.Common.{◌≡◌, ◌⊎◌, ℕ, zero, suc, ◌+◌, ◌-◌, ◌*◌, ◌^◌, ◌<◌, ◌≤◌, Bool, true, false, List}
 use Rattle.std.proofs.Common.{[], ◌∷◌, ◌++◌, length, slice_index, Option, Some, None, refl, sym, ap, ◌∙◌, subst, arith}
 use Rattle.std.proofs.Common.{inl, inr, length-append}
 use Rattle.std.specs.Prelude.{⊤}
@@ -25,19 +25,19 @@ use Rattle.tex_make.specs.Field.{IsField, number_in, directory_size, directory_b
 use Rattle.tex_make.specs.Field.{entries_of, all_outside, outside_bytes}
 use Rattle.tex_make.specs.Joined.{joined}
 use Rattle.tex_make.specs.Picture.{Picture, IsPicture, colours, extra_samples}
-use Rattle.tex_make.specs.Side.{IsMadeSide, IsShort, texture_size}
-use Rattle.tex_make.specs.Texture.{tile_count, tile_size, tiles_across, tiles_down, tile_bytes, level_tiles}
-use Rattle.tex_make.specs.Texture.{single, equal, places, photometric, extra_field, fields_of}
-use Rattle.tex_make.specs.Texture.{directory_at, tiles_at, next_at, header, header_size, directory_of}
+use Rattle.tex_make.specs.Side.{IsMadeSide, IsShort}
+use Rattle.tex_make.specs.Texture.{tile_count, tile_size, tiles_across, tiles_down, level_tiles}
+use Rattle.tex_make.specs.Texture.{single, places, photometric, extra_field, fields_of}
+use Rattle.tex_make.specs.Texture.{directory_at, tiles_at, next_at, header, directory_of}
 use Rattle.tex_make.specs.Texture.{head_of, texture_of}
-use Rattle.tex_make.proofs.Directories.{first_directory, next_directory as next_directory_at, first_tiles}
-use Rattle.tex_make.proofs.Directories.{next_tiles, directory_ends, tiles_end, directory_below, tiles_below}
+use Rattle.tex_make.proofs.Directories.{first_directory, next_directory as next_directory_at}
+use Rattle.tex_make.proofs.Directories.{directory_ends, tiles_end, directory_below}
 use Rattle.tex_make.proofs.DirectoryGood.{IsTiled, first_value}
 use Rattle.tex_make.proofs.DirectoryRead.{has_is, field_values_are, well_shaped, inside, next_is}
 use Rattle.tex_make.proofs.Fields.{fields_fit, fields_few, few_tiles, size_same}
-use Rattle.tex_make.proofs.Parts.{Holds, holds_all, holds_left, holds_right, holds_piece, length_joined}
+use Rattle.tex_make.proofs.Parts.{Holds, holds_all, holds_left, holds_right, holds_piece}
 use Rattle.tex_make.proofs.Parts.{two_bytes, four_bytes}
-use Rattle.tex_make.proofs.ReadBack.{little, values_of, field_of, AreWritten, IsWritten, entries_long}
+use Rattle.tex_make.proofs.ReadBack.{little, values_of, field_of, AreWritten, entries_long}
 use Rattle.tex_make.proofs.ReadBack.{outside_long}
 
 -- ---- fields
@@ -170,8 +170,13 @@ module _ (p : Picture) (is : IsPicture p) (side : ℕ) (made : IsMadeSide side) 
         let here = length_directory l (omega (arith, low)) in
         let more : l + 1 ≡ suc l = omega arith in
         let next = ap (directory_at p side) (sym more) ∙ next_directory_at p side l in
-        omega (arith, before, here, next,
-        length-append (joined (directory_of p side) l) (directory_of p side l))
+        omega (
+          arith,
+          before,
+          here,
+          next,
+          length-append (joined (directory_of p side) l) (directory_of p side l),
+        )
 
     pub head_long : length (head_of p side) ≡ directory_at p side p.levels
     unfolding head_of
@@ -215,18 +220,40 @@ module _ (p : Picture) (is : IsPicture p) (side : ℕ) (made : IsMadeSide side) 
           let one : 1 ≤ 1 = omega arith in
           let one_low : 1 < 2 ^ 32 = omega arith in (
             (omega arith, one, one_low),
-            ((omega arith, one, one_low),
-            ((omega arith, one, one_low),
-            ((omega arith, channels, omega (arith, most)),
-            ((omega arith, one, one_low),
-            ((omega arith, one, one_low),
-            ((omega arith, one, one_low),
-            ((omega arith, one, one_low),
-            ((omega arith, one, one_low),
-            ((omega arith, one, one_low),
-            ((omega arith, some, omega (arith, few)),
-            ((omega arith, some, omega (arith, few)),
-            marked_extra (extra_samples p) (omega (arith, most)))))))))))))
+            (
+              (omega arith, one, one_low),
+              (
+                (omega arith, one, one_low),
+                (
+                  (omega arith, channels, omega (arith, most)),
+                  (
+                    (omega arith, one, one_low),
+                    (
+                      (omega arith, one, one_low),
+                      (
+                        (omega arith, one, one_low),
+                        (
+                          (omega arith, one, one_low),
+                          (
+                            (omega arith, one, one_low),
+                            (
+                              (omega arith, one, one_low),
+                              (
+                                (omega arith, some, omega (arith, few)),
+                                (
+                                  (omega arith, some, omega (arith, few)),
+                                  marked_extra (extra_samples p) (omega (arith, most)),
+                                ),
+                              ),
+                            ),
+                          ),
+                        ),
+                      ),
+                    ),
+                  ),
+                ),
+              ),
+            ),
           )
 
       written : AreWritten fs

@@ -1,5 +1,5 @@
 -- What has the making of a texture done when it ends with a status?
-use Rattle.std.specs.Prelude.{◌≡◌, ◌≢◌, ◌⊎◌, ◌↔◌, ℕ, ◌<◌, ◌≤◌, IsTrue, List, map, IsSome, IsNone}
+use Rattle.std.specs.Prelude.{◌≡◌, ◌⊎◌, ◌↔◌, ℕ, ◌<◌, ◌≤◌, IsTrue, List, map}
 use Rattle.std.specs.Prelude.{Option, Some, None, Result, Ok, Err, ⊤, String}
 use Rattle.std.specs.Option.{ForSome, IsSomeAnd}
 use Rattle.std.specs.String.{string_bytes}

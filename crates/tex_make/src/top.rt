@@ -93,12 +93,7 @@ fn picture_asked<F: Folder>(
 
 /// Makes a texture of a file of a folder, as the words ask for it, and writes it to a sink. All of the
 /// file is read before a byte is written.
-pub fn make<F: Folder, O: Sink>(
-    alloc: Global,
-    words: &[String],
-    folder: &mut F,
-    out: &mut O,
-) -> u8
+pub fn make<F: Folder, O: Sink>(alloc: Global, words: &[String], folder: &mut F, out: &mut O) -> u8
     ensures makes { EndsAs F.W.files (asked_by words.now)
         (around_of (F.state folder.old) (sink_state O.faults O.holds out.old))
         (around_of (F.state folder.new) (sink_state O.faults O.holds out.new)) result }

@@ -2,7 +2,7 @@ use Rattle.std.proofs.Common.{◌≡◌, ℕ, suc, ◌-◌, ◌<◌, ◌≤◌, 
 use Rattle.std.proofs.lemmas.List.{length-map}
 use Rattle.tile_layout.specs.Kept.{stored_count}
 use Rattle.tex_make.specs.Level.{shown}
-use Rattle.tex_make.specs.PlainLevel.{PlainLevel, level_at}
+use Rattle.tex_make.specs.PlainLevel.{PlainLevel}
 use Rattle.tex_make.specs.Stored.{HasShape, HasTexels}
 use Rattle.tex_make.proofs.Chains.{half_shape, half_texels}
 use Rattle.tex_make.proofs.reading.next_level.Goals as goal

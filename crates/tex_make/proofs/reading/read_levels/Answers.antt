@@ -1,4 +1,4 @@
-use Rattle.std.proofs.Common.{◌≡◌, ℕ, suc, ◌+◌, ◌-◌, ◌*◌, ◌<◌, ◌≤◌, List, [], ◌∷◌, ◌++◌, length, map}
+use Rattle.std.proofs.Common.{◌≡◌, ℕ, suc, ◌+◌, ◌-◌, List, [], ◌∷◌, ◌++◌, length, map}
 use Rattle.std.proofs.Common.{Vec, Global, sym, ap, ◌∙◌, subst, arith, length-append}
 use Rattle.std.proofs.lemmas.List.{length-map, map-append}
 use Rattle.std.proofs.lemmas.Result.{err_from_is_err_and}
@@ -6,7 +6,7 @@ use Rattle.tile_layout.specs.Level.{width_in, height_in}
 use Rattle.rect_read.proofs.Leaves.{leaves_after}
 use Rattle.tex_make.specs.declared.level.Level.{Level}
 use Rattle.tex_make.specs.Level.{shown}
-use Rattle.tex_make.specs.PlainLevel.{PlainLevel, level_at}
+use Rattle.tex_make.specs.PlainLevel.{PlainLevel}
 use Rattle.tex_make.specs.Stored.{HasShape, HasTexels, AreLevelsOf, AreTexelsOf}
 use Rattle.tex_make.proofs.Chains.{half_width, half_height, levels_more, texels_more, many_texels}
 use Rattle.tex_make.proofs.Chains.{sides_fall}
@@ -52,8 +52,14 @@ down-smaller g c =
     (omega (arith, shape.known.high.low, shape.height))
     (λ one. let yes = c.is_single.ensures.1 (wide ∙ one.0, high ∙ one.1) in
     cc (yes, c.down-test.true)) in
-    omega (arith, fall, ap (width_in file) next, ap (height_in file) next,
-    half_width file c.requires l, half_height file c.requires l)
+    omega (
+      arith,
+      fall,
+      ap (width_in file) next,
+      ap (height_in file) next,
+      half_width file c.requires l,
+      half_height file c.requires l,
+    )
 
 pub down-preserved : goal.down-preserved
 down-preserved g c =

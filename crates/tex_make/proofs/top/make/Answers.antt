@@ -1,9 +1,8 @@
-use Rattle.std.proofs.Common.{◌≡◌, ◌⊎◌, ℕ, ◌≤◌, List, Some, IsTrue, sym, ap, ◌∙◌, subst, inl, inr, arith}
+use Rattle.std.proofs.Common.{◌≡◌, Some, sym, ap, ◌∙◌, subst, inr}
 use Rattle.std.proofs.Common.{Option, option_map}
 use Rattle.std.specs.Option.{IsSomeAnd}
 use Rattle.tex_make.specs.Asked.{shown_asked}
 use Rattle.tex_make.specs.Make.{asked_by, around_of, EndsAs, HasSource}
-use Rattle.tex_make.specs.Pyramid.{seen}
 use Rattle.tex_make.specs.Sink.{sink_state}
 use Rattle.tex_make.specs.Words.{Wanted}
 use Rattle.tex_make.proofs.Making.{makes_of}
