@@ -3,14 +3,17 @@
 
     python3 tools/made_file.py FILE [T]                    writes it to standard output
     python3 tools/made_file.py --check PROGRAM FOLDER [T]  compares what the program makes of each file
+    python3 tools/made_file.py --answers TEXCACHE PROGRAM FOLDER [T]  asks texcache for both, and compares
 
 The bytes of the file are read by tools/plain_reader.py. Of the program only what it writes and its status are
 looked at: 0 with these bytes, or 8 with none where the file shows a fault. In a check each texture is read
-again too: its levels have to be those of the file.
+again too: its levels have to be those of the file. By --answers texcache answers regions and lookups of each
+texture as it answers those of its file, on each level that it has of the file.
 """
 import struct
 import subprocess
 import sys
+import tempfile
 from pathlib import Path
 
 from plain_reader import Fault, pages_of
@@ -135,8 +138,52 @@ def check(program, folder, side):
     return bad
 
 
+def requests_on(name, pages):
+    """Requests on each level that texcache has of a file: those that it stores, or of one stored level all."""
+    levels = len(pages) if len(pages) > 1 else max(pages[0].width, pages[0].height).bit_length()
+    wide, high = pages[0].width, pages[0].height
+    channels = len(pages[0].texel(0, 0))
+    for level in range(levels):
+        yield "pixels %d 0 0 %d %d %s" % (level, min(wide, 64), min(high, 64), name)
+        yield "pixels %d %d %d 2 2 %s" % (level, wide - 1, high - 1, name)
+        yield "tex 20000 50000 %d mirror periodic bilinear %d %s" % (level * 65536, channels, name)
+        wide, high = max(1, wide // 2), max(1, high // 2)
+    for lod in range(32768, (levels - 1) * 65536, 65536):
+        yield "tex 40000 -3000 %d periodic clamp trilinear %d %s" % (lod, channels, name)
+
+
+def answered(texcache, folder, asked):
+    """The answers of texcache to requests, without the lines that close them."""
+    words = [texcache, str(folder), "--workers", "1"]
+    done = subprocess.run(words, input="".join(it + "\n" for it in asked).encode(), stdout=subprocess.PIPE)
+    return done.stdout.decode().splitlines()[:len(asked)]
+
+
+def compare_answers(texcache, program, folder, side):
+    """How many files of a folder texcache answers otherwise than their textures."""
+    bad = asked_in_all = 0
+    with tempfile.TemporaryDirectory() as made_in:
+        asked = []
+        for path in sorted(Path(folder).iterdir()):
+            with open(Path(made_in) / path.name, "wb") as out:
+                status = subprocess.run([program, str(folder), path.name, str(side)], stdout=out).returncode
+            if status == MADE:
+                asked.append((path.name, list(requests_on(path.name, pages_of(path.read_bytes())))))
+        for name, requests in asked:
+            asked_in_all += len(requests)
+            got, wanted = answered(texcache, made_in, requests), answered(texcache, folder, requests)
+            if got != wanted or len(got) != len(requests):
+                bad += 1
+                print("%s: %s" % (name, next((it for it in zip(requests, wanted, got) if it[1] != it[2]), "lines lack")))
+    print("made_file: %d of %d files are answered otherwise, %d requests" % (bad, len(asked), asked_in_all))
+    return bad
+
+
 def main():
     words = sys.argv[1:]
+    if words[:1] == ["--answers"]:
+        bad = compare_answers(words[1], words[2], words[3], int((words[4:] or ["64"])[0]))
+        return 1 if bad else 0
     if words[:1] == ["--check"]:
         bad = check(words[1], words[2], int((words[3:] or ["64"])[0]))
         print("made_file: %d differ" % bad)

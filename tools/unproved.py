@@ -1,7 +1,7 @@
 #!/usr/bin/env python3
 """Builds the programs without a proof, in the toolchain's checked build, and leaves them in out/unproved.
 
-    python3 tools/unproved.py             # texcache and texsample
+    python3 tools/unproved.py             # texcache, texsample and texmake
     python3 tools/unproved.py texcache    # one of them
 
 `rt try` builds a program, runs it once and keeps nothing. So this runs it on work that takes a while, and copies
@@ -18,8 +18,12 @@ from pathlib import Path
 TOP = Path(__file__).resolve().parent.parent
 OUT = TOP / "out" / "unproved"
 
-# What each program does meanwhile: rounds without a lookup, and lookups.
-WORK = {"texcache": (["."], b"sync\n" * 60000), "texsample": (["200000", "1"], b"")}
+# What each program does meanwhile: rounds without a lookup, lookups, and tiles that are not read from it.
+WORK = {
+    "texcache": (["."], b"sync\n" * 60000),
+    "texsample": (["200000", "1"], b""),
+    "texmake": ([str(TOP / "demo"), "hills.tif", "256"], b""),
+}
 
 
 def newest_source():

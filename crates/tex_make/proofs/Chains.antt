@@ -1,40 +1,20 @@
 -- The levels of a file, stored and made by halving: their sides and their texels.
-use Rattle.std.proofs.Common.{◌≡◌, ℕ, zero, suc, ◌+◌, ◌-◌, ◌*◌, ◌^◌, ◌<◌, ◌≤◌, List, [], ◌∷◌, ◌++◌}
-use Rattle.std.proofs.Common.{length, refl, sym, ap, ◌∙◌, subst, arith, inl, inr, add-one}
-use Rattle.std.proofs.lemmas.Bool.{cases_lt, le-ltb, lt-ltb, and_parts}
+use Rattle.std.proofs.Common.{◌≡◌, ℕ, zero, suc, ◌+◌, ◌*◌, ◌<◌, ◌≤◌, List, [], ◌∷◌, ◌++◌}
+use Rattle.std.proofs.Common.{length, refl, sym, ap, ◌∙◌, subst, arith, inl, inr}
+use Rattle.std.proofs.lemmas.Bool.{cases_lt, le-ltb}
 use Rattle.std.proofs.lemmas.Grind.{common_steps}
 use Rattle.std.proofs.lemmas.List.{get_or_append_left, get_or-append-add, length-append}
-use Rattle.tiff_format.specs.Block.{LevelShape, Level}
 use Rattle.tiff_format.specs.Facts.{IsChain}
-use Rattle.tiff_format.specs.Level.{halved, has_half_size}
-use Rattle.tiff_format.specs.Texel.{sample_in as stored_sample}
+use Rattle.tiff_format.specs.Level.{halved}
 use Rattle.tile_layout.specs.Kept.{Kept, stored_count, level_in, no_level as no_stored}
-use Rattle.tile_layout.specs.Level.{side_in, width_in, height_in}
+use Rattle.tile_layout.specs.Level.{width_in, height_in}
 use Rattle.tile_layout.specs.Texel.{texel_in, quarter, clamped, average}
-use Rattle.tex_make.specs.PlainLevel.{PlainLevel, IsPlainLevel, IsHalfOf, level_at, no_level, sample_in}
+use Rattle.tile_layout.proofs.LevelLemmas.{side_stored, side_halved}
+use Rattle.tex_make.specs.PlainLevel.{PlainLevel, IsPlainLevel, IsHalfOf, level_at, no_level}
 use Rattle.tex_make.specs.Stored.{HasShape, HasTexels, AreLevelsOf, AreTexelsOf}
 
 module _ (file : Kept) where
-  -- ---- sides
-
-  pub side_stored : (f : LevelShape → ℕ) (l : ℕ) → l < stored_count file
-      → side_in f file l ≡ f (level_in file l).shape
-  unfolding side_in
-  side_stored f zero below = refl
-  side_stored f (suc l) below = rw (lt-ltb (suc l) (stored_count file) below) refl
-
-  pub side_generated : (f : LevelShape → ℕ) (l : ℕ) → stored_count file ≤ suc l
-      → side_in f file (suc l) ≡ halved (side_in f file l)
-  unfolding side_in
-  side_generated f l behind = rw (le-ltb (suc l) (stored_count file) behind) refl
-
   -- ---- texels
-
-  pub texel_stored : (bytes : List ℕ) (l x y c : ℕ) → l < stored_count file
-      → texel_in file bytes l x y c ≡ stored_sample file.big bytes (level_in file l) x y c
-  unfolding texel_in
-  texel_stored bytes zero x y c below = refl
-  texel_stored bytes (suc l) x y c below = rw (lt-ltb (suc l) (stored_count file) below) refl
 
   pub texel_generated : (bytes : List ℕ) (l x y c : ℕ) → stored_count file ≤ suc l
       → texel_in file bytes (suc l) x y c
@@ -55,17 +35,17 @@ module _ (file : Kept) where
     pub half_width : (l : ℕ) → width_in file (suc l) ≡ halved (width_in file l)
     half_width l = elim (cases_lt (suc l) (stored_count file)) [
       | inl stored ↦
-          side_stored (λ shape. shape.width) (suc l) stored ∙ (half_stored l stored).0
-          ∙ ap halved (sym (side_stored (λ shape. shape.width) l (omega arith)))
-      | inr generated ↦ side_generated (λ shape. shape.width) l generated
+          side_stored (λ shape. shape.width) file (suc l) stored ∙ (half_stored l stored).0
+          ∙ ap halved (sym (side_stored (λ shape. shape.width) file l (omega arith)))
+      | inr generated ↦ side_halved (λ shape. shape.width) file l generated
     ]
 
     pub half_height : (l : ℕ) → height_in file (suc l) ≡ halved (height_in file l)
     half_height l = elim (cases_lt (suc l) (stored_count file)) [
       | inl stored ↦
-          side_stored (λ shape. shape.height) (suc l) stored ∙ (half_stored l stored).1
-          ∙ ap halved (sym (side_stored (λ shape. shape.height) l (omega arith)))
-      | inr generated ↦ side_generated (λ shape. shape.height) l generated
+          side_stored (λ shape. shape.height) file (suc l) stored ∙ (half_stored l stored).1
+          ∙ ap halved (sym (side_stored (λ shape. shape.height) file l (omega arith)))
+      | inr generated ↦ side_halved (λ shape. shape.height) file l generated
     ]
 
 -- ---- one level more
@@ -116,8 +96,8 @@ module _ (file : Kept) (l : ℕ) (behind : stored_count file ≤ suc l) (last ha
     (is : IsHalfOf last half) (shape : HasShape file l last) (known : IsPlainLevel half) where
   pub half_shape : HasShape file (suc l) half
   half_shape = record {
-    width = is.width ∙ ap halved shape.width ∙ sym (side_generated file (λ s. s.width) l behind);
-    height = is.height ∙ ap halved shape.height ∙ sym (side_generated file (λ s. s.height) l behind);
+    width = is.width ∙ ap halved shape.width ∙ sym (side_halved (λ s. s.width) file l behind);
+    height = is.height ∙ ap halved shape.height ∙ sym (side_halved (λ s. s.height) file l behind);
     channels = is.channels ∙ shape.channels;
     depth = is.depth ∙ shape.depth;
     known = known;
@@ -149,3 +129,38 @@ module _ (file : Kept) (l : ℕ) (behind : stored_count file ≤ suc l) (last ha
       four {a} {b} {d} {e} {p} {q} {r} {s} one two three last =
           ap (λ (v : ℕ). average v b d e) one ∙ ap (λ (v : ℕ). average p v d e) two
           ∙ ap (λ (v : ℕ). average p q v e) three ∙ ap (λ (v : ℕ). average p q r v) last
+
+-- ---- the first level, and where there is more than one texel
+
+pub first_are : (file : Kept) (first : PlainLevel) → HasShape file 0 first
+    → AreLevelsOf file (first ∷ [])
+first_are file first shape = record {
+  some = omega arith;
+  shapes = one;
+  before = λ l below. absurd (omega (arith, below));
+}
+  where
+    one : (l : ℕ) → l < 1 → HasShape file l (level_at (first ∷ []) l)
+    one zero below = shape
+    one (suc l) below = absurd (omega (arith, below))
+
+pub first_texels : (file : Kept) (bytes : List ℕ) (first : PlainLevel)
+    → HasTexels file bytes 0 first → AreTexelsOf file bytes (first ∷ [])
+first_texels file bytes first texels zero below = texels
+first_texels file bytes first texels (suc l) below = absurd (omega (arith, below))
+
+pub many_texels : (w h : ℕ) → 1 ≤ w → 1 ≤ h → ((w ≡ 1) × (h ≡ 1) → ⊥) → 2 ≤ w * h
+many_texels zero h wide high not = absurd (omega (arith, wide))
+many_texels (suc w) zero wide high not = absurd (omega (arith, high))
+many_texels (suc zero) (suc zero) wide high not = absurd (not (refl, refl))
+many_texels (suc zero) (suc (suc h)) wide high not = omega arith
+many_texels (suc (suc w)) (suc h) wide high not = omega arith
+
+-- the sides of the next level are less
+pub sides_fall : (w h : ℕ) → 1 ≤ w → 1 ≤ h → ((w ≡ 1) × (h ≡ 1) → ⊥)
+    → halved w + halved h < w + h
+sides_fall zero h wide high not = absurd (omega (arith, wide))
+sides_fall (suc w) zero wide high not = absurd (omega (arith, high))
+sides_fall (suc zero) (suc zero) wide high not = absurd (not (refl, refl))
+sides_fall (suc zero) (suc (suc h)) wide high not = omega arith
+sides_fall (suc (suc w)) (suc h) wide high not = omega arith

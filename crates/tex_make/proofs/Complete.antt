@@ -1,19 +1,17 @@
 -- Where nothing failed and the file is one of which a texture is made, it was made.
-use Rattle.std.proofs.Common.{◌≡◌, ◌⊎◌, ℕ, ◌+◌, ◌<◌, ◌≤◌, List, IsTrue, IsSome, Option, Some, None, Ok, Err}
-use Rattle.std.proofs.Common.{refl, sym, ap, ◌∙◌, subst, arith, inl, inr}
+use Rattle.std.proofs.Common.{◌≡◌, ℕ, List, IsSome, Option, Some, None}
+use Rattle.std.proofs.Common.{refl, sym, ◌∙◌, subst, arith}
 use Rattle.std.specs.Option.{ForSome}
-use Rattle.tex_world.specs.Counts.{last_count, Rises}
+use Rattle.tex_world.specs.Counts.{Rises}
 use Rattle.tex_world.specs.World.{Files, IsWorld}
 use Rattle.tex_world.specs.Folder.{FolderState, IsFolder}
-use Rattle.tiff_format.specs.Fault.{first_fault}
 use Rattle.tex_make.specs.declared.ending.Ending.{Ending}
 use Rattle.tex_make.specs.declared.ending.Ending.TheVariants.{Failed, NoMemory, NoSuchFile}
 use Rattle.tex_make.specs.declared.ending.Ending.TheVariants.{BadFile, TooLarge, Gone, TooMany}
 use Rattle.tex_make.specs.Words.{Wanted}
 use Rattle.tex_make.specs.Ending.{status_of}
-use Rattle.tex_make.specs.FileRead.{IsReadOf}
 use Rattle.tex_make.specs.Reading.{IsSource, IsLargeSource, IsBadSource}
-use Rattle.tex_make.specs.Make.{Around, Reads, HasCause, Makes, HasSource, StaysAt, IsCalm}
+use Rattle.tex_make.specs.Make.{Around, Reads, HasCause, HasSource, StaysAt, IsCalm}
 
 -- a count that stays has not risen
 stays : (old new : ℕ) → StaysAt old new → Rises old new → ⊥
@@ -34,7 +32,7 @@ module _ (files : Files) (world : IsWorld files) (asked : Wanted) (folder : Fold
   file_is : (fact : List ℕ → Type 0) → (reads : Reads files asked folder fact)
       → reads.file ≡ source.file
   file_is fact reads =
-      let entered : IsSome folder.entered = subst IsSome (sym reads.entered) tt in
+      let entered : IsSome folder.entered = subst IsSome (sym reads.entered) refl in
       let size = lawful.told entered source.tells in
       let low = lawful.numbered asked.name reads.file reads.named in
       world.distinct source.tells reads.file source.file (omega (arith, low, size)) source.there
@@ -54,14 +52,14 @@ module _ (files : Files) (world : IsWorld files) (asked : Wanted) (folder : Fold
       with_bytes (Some bytes) some told good = never bytes (good bytes refl) (told bytes refl)
 
 -- an ending is want of memory
-ending_is : (files : Files) → IsWorld files → (asked : Wanted) (old new : Around)
+pub ending_is : (files : Files) → IsWorld files → (asked : Wanted) (old new : Around)
     → IsFolder files new.folder → HasSource files asked → IsCalm old new → (ending : Ending)
     → HasCause files asked old.folder new.folder ending → status_of ending ≡ 6
 ending_is files world asked old new lawful source calm Failed cause =
     absurd (stays old.folder.faults new.folder.faults calm.faults cause)
 ending_is files world asked old new lawful source calm NoMemory cause = refl
 ending_is files world asked old new lawful source calm NoSuchFile cause =
-    absurd (lawful.unnamed (subst IsSome (sym cause.entered) tt) source.tells asked.name cause.none
+    absurd (lawful.unnamed (subst IsSome (sym cause.entered) refl) source.tells asked.name cause.none
     source.file source.there source.named)
 ending_is files world asked old new lawful source calm BadFile cause =
     absurd (no_other files world asked new.folder lawful source IsBadSource not_bad cause)
@@ -71,16 +69,3 @@ ending_is files world asked old new lawful source calm Gone cause =
     absurd (stays old.folder.moves new.folder.moves calm.moves cause)
 ending_is files world asked old new lawful source calm TooMany cause =
     absurd (cause.untold source.tells)
-
-pub completes : (files : Files) → IsWorld files → (asked : Wanted) (old new : Around) (ends : ℕ)
-    → IsFolder files new.folder → Makes files asked old new ends → HasSource files asked
-    → IsCalm old new → (ends ≡ 0) ⊎ (ends ≡ 6)
-completes files world asked old new ends lawful makes source calm = elim makes.ends_as [
-  | inl made ↦ inl made.0
-  | inr other ↦ elim other [
-    | inl cut ↦ absurd (stays old.sink.faults new.sink.faults calm.sink cut.1.failed)
-    | inr stops ↦
-        inr (sym stops.of_status ∙ ending_is files world asked old new lawful source calm
-        stops.ending stops.cause)
-  ]
-]

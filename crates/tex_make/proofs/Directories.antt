@@ -1,5 +1,5 @@
 -- Where the directories and the tiles of a texture stand: each behind the one before.
-use Rattle.std.proofs.Common.{◌≡◌, ℕ, zero, suc, ◌+◌, ◌-◌, ◌*◌, ◌^◌, ◌<◌, ◌≤◌, refl, ap, ◌∙◌, arith, sym}
+use Rattle.std.proofs.Common.{◌≡◌, ℕ, zero, suc, ◌+◌, ◌-◌, ◌*◌, ◌^◌, ◌<◌, ◌≤◌, refl, ap, arith}
 use Rattle.std.proofs.Common.{add-one}
 use Rattle.tex_make.specs.Field.{directory_size}
 use Rattle.tex_make.specs.Picture.{Picture}

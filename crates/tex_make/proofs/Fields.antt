@@ -1,17 +1,16 @@
 -- The fields of a directory fit their bytes, and how many bytes they take does not rest on where the
 -- tiles stand.
-use Rattle.std.proofs.Common.{◌≡◌, ℕ, zero, suc, ◌+◌, ◌-◌, ◌*◌, ◌^◌, ◌<◌, ◌≤◌, List, [], ◌∷◌, ◌++◌}
+use Rattle.std.proofs.Common.{◌≡◌, ℕ, zero, suc, ◌+◌, ◌*◌, ◌^◌, ◌<◌, ◌≤◌, []}
 use Rattle.std.proofs.Common.{length, refl, arith, Bool, true, false}
-use Rattle.std.specs.Prelude.{◌==◌, ◌||◌, IsTrue, if◌then◌else◌}
+use Rattle.std.specs.Prelude.{◌==◌, if◌then◌else◌}
 use Rattle.std.proofs.Math.Nat.{mul-le-mul, mul-le-mul_left}
 use Rattle.std.proofs.lemmas.Grind.{common_steps}
 use Rattle.std.proofs.lemmas.List.Elements.{All-cons, All-from_recursion, recursion_from_All}
 use Rattle.std.specs.List.{All}
 use Rattle.tiff_format.specs.Block.{pieces_over, sample_bytes}
 use Rattle.tiff_format.specs.Facts.{IsSide, IsDepth}
-use Rattle.tex_make.specs.declared.field.Field.{Field}
 use Rattle.tex_make.specs.declared.field.FieldKind.TheVariants.{Short, Long}
-use Rattle.tex_make.specs.Field.{IsField, directory_size, all_outside, outside_size}
+use Rattle.tex_make.specs.Field.{IsField, directory_size}
 use Rattle.tex_make.specs.Picture.{Picture, IsPicture, colours, extra_samples}
 use Rattle.tex_make.specs.Side.{IsMadeSide}
 use Rattle.tex_make.specs.Texture.{tile_count, tile_size, fields_of, extra_field, equal, places}
@@ -105,21 +104,44 @@ module _ (p : Picture) (is : IsPicture p) (side l : ℕ) (side_is : IsMadeSide s
       let interpretation = one_of (colours p == 3) 2 1 (2 ^ 16) (omega arith) (omega arith) in
       let none : 1 * 4 < 2 ^ 32 = omega arith in
       All-from_recursion IsField (fields_of p side l first) (
-        long_field 254 1 (if l == 0 then 0 else 1) none smaller, (
-        long_field 256 1 (p.width l) none (omega (arith, width)), (
-        long_field 257 1 (p.height l) none (omega (arith, height)), (
-        short_field 258 p.channels p.depth (omega (arith, channels)) (depth_low p.depth is.depth), (
-        short_field 259 1 1 (omega arith) (omega arith), (
-        short_field 262 1 (photometric p) (omega arith) interpretation, (
-        short_field 277 1 p.channels (omega arith) (omega (arith, channels)), (
-        short_field 284 1 1 (omega arith) (omega arith), (
-        long_field 322 1 side none (omega (arith, high)), (
-        long_field 323 1 side none (omega (arith, high)), (
-        places_field (tile_count p side l) first (tile_size p side) (omega (arith, few)) low, (
-        long_field 325 (tile_count p side l) (tile_size p side) (omega (arith, few))
-            (omega (arith, small)),
-        recursion_from_All IsField (extra_field (extra_samples p))
-            (extra_fields (extra_samples p) few_samples)))))))))))))
+        long_field 254 1 (if l == 0 then 0 else 1) none smaller,
+        (
+          long_field 256 1 (p.width l) none (omega (arith, width)),
+          (
+            long_field 257 1 (p.height l) none (omega (arith, height)),
+            (
+              short_field 258 p.channels p.depth (omega (arith, channels)) (depth_low p.depth is.depth),
+              (
+                short_field 259 1 1 (omega arith) (omega arith),
+                (
+                  short_field 262 1 (photometric p) (omega arith) interpretation,
+                  (
+                    short_field 277 1 p.channels (omega arith) (omega (arith, channels)),
+                    (
+                      short_field 284 1 1 (omega arith) (omega arith),
+                      (
+                        long_field 322 1 side none (omega (arith, high)),
+                        (
+                          long_field 323 1 side none (omega (arith, high)),
+                          (
+                            places_field (tile_count p side l) first (tile_size p side) (omega (arith, few)) low,
+                            (
+                              long_field 325 (tile_count p side l) (tile_size p side) (omega (arith, few))
+                                  (omega (arith, small)),
+                              recursion_from_All IsField (extra_field (extra_samples p))
+                                  (extra_fields (extra_samples p) few_samples),
+                            ),
+                          ),
+                        ),
+                      ),
+                    ),
+                  ),
+                ),
+              ),
+            ),
+          ),
+        ),
+      )
 
   -- they are few
   pub fields_few : (first : ℕ) → length (fields_of p side l first) ≤ 13

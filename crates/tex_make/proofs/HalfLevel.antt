@@ -1,6 +1,6 @@
 -- Which level is half of another?
 use Rattle.std.proofs.Common.{◌≡◌, ℕ, ◌+◌, ◌*◌, ◌/◌, ◌%◌, ◌<◌, ◌≤◌, List, ◌++◌, length, take, drop}
-use Rattle.std.proofs.Common.{slice_index, refl, sym, ap, ◌∙◌, subst, arith, inl, inr}
+use Rattle.std.proofs.Common.{slice_index, sym, ap, ◌∙◌, subst, arith, inl, inr}
 use Rattle.std.proofs.lemmas.Bool.{cases_lt}
 use Rattle.std.proofs.lemmas.List.{take-append-le}
 use Rattle.std.proofs.Math.Seq.{take-length}
@@ -11,7 +11,7 @@ use Rattle.tiff_format.specs.Level.{halved}
 use Rattle.tiff_format.specs.Texel.{greatest_sample}
 use Rattle.tile_layout.specs.Texel.{average, clamped, quarter, FitDepth}
 use Rattle.tex_make.specs.PlainLevel.{PlainLevel, IsPlainLevel, plain_level, place_in, sample_in}
-use Rattle.tex_make.specs.HalfRows.{AreHalfRows, half_sample}
+use Rattle.tex_make.specs.HalfRows.{AreHalfRows}
 
 -- ---- bounds
 
@@ -90,8 +90,11 @@ module _ (level : PlainLevel) (is : IsPlainLevel level) where
       → sample_in level x y c ≤ greatest_sample level.depth
   sample_low x y c across down channel =
       All-get_or (λ s. s ≤ greatest_sample level.depth) level.samples (place_in level x y c) 0
-      (omega (arith, is.count,
-      place_below level.width level.height level.channels x y c across down channel)) is.low
+      (omega (
+        arith,
+        is.count,
+        place_below level.width level.height level.channels x y c across down channel,
+      )) is.low
 
   -- nor of those of the level that is half of it
   module _ (out : List ℕ)

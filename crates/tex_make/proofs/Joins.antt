@@ -1,6 +1,6 @@
 -- Pieces one behind another.
-use Rattle.std.proofs.Common.{◌≡◌, ℕ, zero, suc, ◌+◌, ◌-◌, ◌≤◌, ◌<◌, List, [], ◌++◌, length, take, drop}
-use Rattle.std.proofs.Common.{Option, Some, Result, IsErr, refl, sym, subst, ap, ◌∙◌, arith, append_assoc, add-one}
+use Rattle.std.proofs.Common.{◌≡◌, ℕ, zero, suc, ◌+◌, ◌-◌, ◌≤◌, ◌<◌, List, ◌++◌}
+use Rattle.std.proofs.Common.{Option, Result, IsErr, sym, subst, arith, add-one}
 use Rattle.tex_world.specs.Stream.{Appends, AppendsPart}
 use Rattle.tex_make.specs.Joined.{joined}
 use Rattle.tex_world.specs.Counts.{Rises}

@@ -11,3 +11,12 @@ pub mod Chains
 pub mod Pictures
 pub mod Alike
 pub mod Complete
+pub mod Parts
+pub mod ReadBack
+pub mod DirectoryRead
+pub mod Sources
+pub mod Making
+pub mod DirectoryGood
+pub mod TextureParts
+pub mod TexelRead
+pub mod TextureGood

@@ -1,20 +1,18 @@
 -- The picture of the levels of a file.
-use Rattle.std.specs.Prelude.{◌==◌, ◌&&◌, nat_le, if◌then◌else◌}
-use Rattle.std.proofs.Common.{◌≡◌, ℕ, zero, suc, ◌+◌, ◌-◌, ◌*◌, ◌/◌, ◌^◌, ◌<◌, ◌≤◌, Bool, true, false, List}
+use Rattle.std.specs.Prelude.{◌==◌, ◌&&◌}
+use Rattle.std.proofs.Common.{◌≡◌, ℕ, zero, suc, ◌+◌, ◌-◌, ◌*◌, ◌^◌, ◌<◌, ◌≤◌, Bool, true, false, List}
 use Rattle.std.proofs.Common.{length, find, Option, Some, refl, sym, ap, ◌∙◌, subst, arith, inl, inr, add-one}
 use Rattle.std.specs.List.{range_with_len}
 use Rattle.std.specs.Option.{option_map_or}
-use Rattle.std.proofs.lemmas.Bool.{cases_lt, eqb-eq}
-use Rattle.std.proofs.lemmas.Grind.{common_steps}
+use Rattle.std.proofs.lemmas.Bool.{cases_lt, ne_eqb, and_left, and_right}
 use Rattle.std.proofs.Math.Nat.{one-le-pow, pow-suc, mul-le-mul}
-use Rattle.tiff_format.specs.Facts.{IsChain, IsSide}
+use Rattle.tiff_format.specs.Facts.{IsChain}
 use Rattle.tiff_format.specs.Level.{halved, max_levels}
 use Rattle.tiff_format.specs.Texel.{greatest_sample}
-use Rattle.tile_layout.specs.Kept.{Kept, kept_of, stored_count, level_in}
+use Rattle.tile_layout.specs.Kept.{Kept, kept_of, level_in}
 use Rattle.tile_layout.specs.Level.{width_in, height_in, levels_down}
-use Rattle.tile_layout.specs.Cell.{channels_in, bit_depth_in}
-use Rattle.tex_make.specs.PlainLevel.{PlainLevel, IsPlainLevel, AreLevels, level_at, picture_in, sample_in}
-use Rattle.tex_make.specs.Picture.{Picture, IsPicture, AreAlike, picture_of}
+use Rattle.tex_make.specs.PlainLevel.{PlainLevel, AreLevels, level_at, picture_in, sample_in}
+use Rattle.tex_make.specs.Picture.{IsPicture, AreAlike, picture_of}
 use Rattle.tex_make.specs.Stored.{HasShape, AreLevelsOf, AreTexelsOf, EndsSingle}
 use Rattle.tex_make.proofs.Chains.{half_width, half_height}
 use Rattle.tex_make.proofs.HalfLevel.{sample_low}
@@ -102,6 +100,7 @@ module _ (file : Kept) (chain : IsChain file.levels) (levels : List PlainLevel)
       here l wide high =
           let same : 0 + l ≡ l = omega arith in
           rw (same, wide, high) refl
+
       other : (l : ℕ) → 2 ≤ width_in file l * height_in file l
           → ((width_in file (0 + l) == 1) && (height_in file (0 + l) == 1)) ≡ false
       other l more =
@@ -112,8 +111,10 @@ module _ (file : Kept) (chain : IsChain file.levels) (levels : List PlainLevel)
           by_sides zero h more = absurd (omega (arith, more))
           by_sides (suc zero) zero more = absurd (omega (arith, more))
           by_sides (suc zero) (suc zero) more = absurd (omega (arith, more))
-          by_sides (suc zero) (suc (suc h)) more = refl
-          by_sides (suc (suc w)) h more = refl
+          by_sides (suc zero) (suc (suc h)) more = and_right (suc zero == 1) (suc (suc h) == 1)
+              (ne_eqb (suc (suc h)) 1 (λ e. omega (arith, e)))
+          by_sides (suc (suc w)) h more = and_left (suc (suc w) == 1) (h == 1)
+              (ne_eqb (suc (suc w)) 1 (λ e. omega (arith, e)))
 
   -- ---- the picture
 
@@ -151,6 +152,7 @@ module _ (file : Kept) (chain : IsChain file.levels) (levels : List PlainLevel)
     where
       last_is : length levels - 1 ≡ last
       last_is = let all = ends.all in omega arith
+
       product : (l : ℕ) → l < length levels → width_in file l * height_in file l
           ≡ (level_at levels l).width * (level_at levels l).height
       product l below =
@@ -173,6 +175,10 @@ alike_bytes bytes levels chain are last ends texels rgb same = record {
   rgb = same;
   samples = λ l x y c below across down channel.
       texels l below x y c across down
-      (omega (arith, channel, (are.shapes l below).channels,
-      (are.shapes 0 (let some = are.some in omega arith)).channels));
+      (omega (
+        arith,
+        channel,
+        (are.shapes l below).channels,
+        (are.shapes 0 (let some = are.some in omega arith)).channels,
+      ));
 }

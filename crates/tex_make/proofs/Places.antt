@@ -1,7 +1,7 @@
 -- Where do the rows of a level stand among its samples?
 use Rattle.std.proofs.Common.{◌≡◌, ℕ, ◌+◌, ◌-◌, ◌*◌, ◌<◌, ◌≤◌, List, ◌++◌, length, slice_index}
-use Rattle.std.proofs.Common.{take, drop, ap, sym, ◌∙◌, min, arith}
-use Rattle.std.proofs.Math.Nat.{mul-le-mul_right, mul-le-mul}
+use Rattle.std.proofs.Common.{take, drop, ap, sym, ◌∙◌, arith}
+use Rattle.std.proofs.Math.Nat.{mul-le-mul_right}
 use Rattle.std.proofs.lemmas.List.{get_or_append_left, get_or-append-add, get_or-take, get_or-drop}
 use Rattle.std.proofs.lemmas.Nat.{mul-add-lt}
 

@@ -1,10 +1,10 @@
 -- How long is a texture? Each place in it is a number of four bytes.
 use Rattle.std.proofs.Common.{◌≡◌, ℕ, zero, suc, ◌+◌, ◌-◌, ◌*◌, ◌^◌, ◌<◌, ◌≤◌, arith, ap, ◌∙◌}
-use Rattle.std.proofs.Common.{refl, sym, subst, add-one, Bool, true, false, List, [], ◌∷◌}
-use Rattle.std.specs.Prelude.{nat_le, if◌then◌else◌}
-use Rattle.std.proofs.Math.Nat.{mul-le-mul, mul-le-mul_left, mul-le-mul_right, div-mul-le_self}
+use Rattle.std.proofs.Common.{refl, sym, subst, add-one, Bool, true, false}
+use Rattle.std.specs.Prelude.{if◌then◌else◌}
+use Rattle.std.proofs.Math.Nat.{mul-le-mul, mul-le-mul_left, div-mul-le_self}
 use Rattle.tiff_format.specs.Block.{pieces_over, sample_bytes}
-use Rattle.tiff_format.specs.Level.{halved, max_levels}
+use Rattle.tiff_format.specs.Level.{halved}
 use Rattle.tex_make.specs.declared.field.Field.{Field}
 use Rattle.tex_make.specs.declared.field.FieldKind.TheVariants.{Short, Long}
 use Rattle.tex_make.specs.Field.{all_outside, directory_size, field_size, outside_size, fits_entry}
@@ -148,6 +148,7 @@ module _ (p : Picture) (is : IsPicture p) where
       where
         turned : (n t c s : ℕ) → n * (t * t * (c * s)) ≡ (c * s) * (n * (t * t))
         turned n t c s = omega arith
+
         parted : (m a b : ℕ) → m * (a + b) ≡ m * a + m * b
         parted m a b = omega arith
 

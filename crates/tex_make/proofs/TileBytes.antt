@@ -1,18 +1,18 @@
 -- The bytes of the tiles of a texture, row by row.
-use Rattle.std.proofs.Common.{◌≡◌, ℕ, zero, suc, ◌+◌, ◌-◌, ◌*◌, ◌/◌, ◌%◌, ◌<◌, ◌≤◌, List, [], length}
+use Rattle.std.proofs.Common.{◌≡◌, ℕ, ◌+◌, ◌-◌, ◌*◌, ◌/◌, ◌%◌, ◌<◌, ◌≤◌, List, [], length}
 use Rattle.std.proofs.Common.{Bool, true, false, slice_index, min, refl, sym, ap, ◌∙◌, subst, arith, inl, inr}
 use Rattle.std.specs.Prelude.{◌==◌, ◌&&◌, nat_lt as ltb, if◌then◌else◌}
 use Rattle.std.specs.Int.{byte_at}
 use Rattle.std.proofs.lemmas.Bool.{cases_lt, lt-ltb, le-ltb}
 use Rattle.std.proofs.lemmas.List.{get_or_past}
-use Rattle.std.proofs.lemmas.Nat.{mul-add-lt, div-add-mod', mod_below, div_below}
+use Rattle.std.proofs.lemmas.Nat.{div-add-mod', mod_below, div_below}
 use Rattle.std.proofs.Math.Nat.{mul-add-div_right, mul-add-mod_self_right, mul-le-mul_right}
 use Rattle.std.proofs.Math.Nat.{div-eq_of_lt, mod-eq_of_lt}
 use Rattle.tiff_format.specs.Block.{sample_bytes}
 use Rattle.tex_make.specs.Picture.{Picture}
 use Rattle.tex_make.specs.PlainLevel.{PlainLevel, place_in, sample_in}
 use Rattle.tex_make.specs.Row.{byte_of_samples}
-use Rattle.tex_make.specs.Texture.{padded_sample, tile_sample, tile_byte, tiles_across}
+use Rattle.tex_make.specs.Texture.{padded_sample, tile_byte, tiles_across}
 
 -- equal numbers have equal products
 pub product_is : (a b m n : ℕ) → a ≡ m → b ≡ n → a * b ≡ m * n

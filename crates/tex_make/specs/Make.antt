@@ -1,5 +1,5 @@
 -- What has the making of a texture done when it ends with a status?
-use Rattle.std.specs.Prelude.{◌≡◌, ◌≢◌, ◌⊎◌, ◌↔◌, ℕ, ◌<◌, ◌≤◌, IsTrue, List, map, IsSome, IsNone}
+use Rattle.std.specs.Prelude.{◌≡◌, ◌⊎◌, ◌↔◌, ℕ, ◌<◌, ◌≤◌, IsTrue, List, map}
 use Rattle.std.specs.Prelude.{Option, Some, None, Result, Ok, Err, ⊤, String}
 use Rattle.std.specs.Option.{ForSome, IsSomeAnd}
 use Rattle.std.specs.String.{string_bytes}
@@ -126,12 +126,13 @@ pub record Stops (files : Files) (asked : Wanted) (old new : Around) (ends : ℕ
   pub cause : HasCause files asked old.folder new.folder ending
   pub sink : new.sink ≡ old.sink
 
--- What the call has done where the words ask for something. The mark for too many files is set
--- exactly where that is the status.
+-- What the call has done where the words ask for something. No file has the name exactly where that is
+-- the status, and so it is with the mark for too many files.
 pub record Makes (files : Files) (asked : Wanted) (old new : Around) (ends : ℕ) : Type 0 where
   pub ends_as : ((ends ≡ status.made) × Reads files asked new.folder (WritesTexture asked old new))
       ⊎ (((ends ≡ status.not_written) × BreaksOff files asked old new)
       ⊎ Stops files asked old new ends)
+  pub absent : LacksFile asked new.folder ↔ (ends ≡ status.no_such_file)
   pub mark : IsTrue new.folder.over ↔ (ends ≡ status.too_many)
   pub folder : LeavesFolder old.folder new.folder
   pub sink : old.sink.faults ≤ new.sink.faults

@@ -1,5 +1,5 @@
 -- What is a picture, in all its levels down to one texel?
-use Rattle.std.specs.Prelude.{◌≡◌, ℕ, ◌+◌, ◌-◌, ◌*◌, ◌<◌, ◌≤◌, ◌&&◌, Bool, IsTrue, nat_le, List}
+use Rattle.std.specs.Prelude.{◌≡◌, ℕ, ◌+◌, ◌-◌, ◌*◌, ◌<◌, ◌≤◌, ◌&&◌, Bool, nat_le, List}
 use Rattle.std.specs.Prelude.{if◌then◌else◌}
 use Rattle.tiff_format.specs.Facts.{IsSide, IsChannelCount, IsDepth}
 use Rattle.tiff_format.specs.Level.{halved, max_levels}

@@ -1,8 +1,8 @@
 -- What does a picture in memory show?
-use Rattle.std.specs.Prelude.{◌≡◌, ℕ, ◌<◌, List, map, length}
+use Rattle.std.specs.Prelude.{map}
 use Rattle.tex_make.specs.declared.picture.Pyramid.{Pyramid}
 use Rattle.tex_make.specs.Picture.{Picture}
-use Rattle.tex_make.specs.PlainLevel.{PlainLevel, IsPlainLevel, level_at, picture_in}
+use Rattle.tex_make.specs.PlainLevel.{picture_in}
 use Rattle.tex_make.specs.Level.{shown}
 
 -- the picture of its levels

@@ -1,5 +1,5 @@
 -- What does reading a picture say of the bytes of its file, and how does it leave its reader?
-use Rattle.std.specs.Prelude.{◌≡◌, ℕ, ◌≤◌, ◌<◌, List, Option, None, IsSome, Result, Ok, Err, ⊤}
+use Rattle.std.specs.Prelude.{◌≡◌, ℕ, ◌≤◌, ◌<◌, List, None, IsSome, Result, Ok, Err, ⊤}
 use Rattle.tiff_format.specs.Fault.{first_fault}
 use Rattle.tex_make.specs.declared.picture.Pyramid.{Pyramid}
 use Rattle.tex_make.specs.declared.reading.PictureError.{PictureError}

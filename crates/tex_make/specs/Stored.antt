@@ -1,6 +1,7 @@
 -- Which levels in memory are those of a file, stored or made by halving?
-use Rattle.std.specs.Prelude.{◌≡◌, ℕ, suc, ◌+◌, ◌*◌, ◌<◌, ◌≤◌, List, length}
+use Rattle.std.specs.Prelude.{◌≡◌, ℕ, ◌+◌, ◌*◌, ◌<◌, ◌≤◌, List, length}
 use Rattle.tiff_format.specs.Block.{Level}
+use Rattle.tiff_format.specs.declared.rect.Rect.{Rect}
 use Rattle.tile_layout.specs.Blocks.{HoldsBlocks}
 use Rattle.tile_layout.specs.Cell.{channels_in, bit_depth_in}
 use Rattle.tile_layout.specs.Kept.{Kept, stored_count, level_in}
@@ -8,6 +9,10 @@ use Rattle.tile_layout.specs.Level.{width_in, height_in}
 use Rattle.tile_layout.specs.Texel.{texel_in}
 use Rattle.tex_make.specs.PlainLevel.{PlainLevel, IsPlainLevel, level_at, sample_in}
 use Rattle.tex_make.specs.Picture.{max_samples}
+
+-- all of level l of the file
+abbrev pub whole_of : Kept → ℕ → Rect
+whole_of file l = record { x = 0; y = 0; w = width_in file l; h = height_in file l }
 
 -- the level has the sides and the samples of level l of the file
 pub record HasShape (file : Kept) (l : ℕ) (level : PlainLevel) : Type 0 where

@@ -1,8 +1,7 @@
 -- What do the words of the command line ask for?
 -- Two words or three: the folder, the name of the file, and the side of the tiles.
-use Rattle.std.specs.Prelude.{ℕ, ◌+◌, ◌-◌, ◌*◌, ◌%◌, ◌==◌, ◌&&◌, ◌||◌, not, nat_le, Bool, false}
+use Rattle.std.specs.Prelude.{ℕ, ◌+◌, ◌-◌, ◌*◌, ◌%◌, ◌==◌, ◌&&◌, ◌||◌, nat_le, Bool, false}
 use Rattle.std.specs.Prelude.{List, [], ◌∷◌, length, Option, Some, None, if◌then◌else◌}
-use Rattle.std.specs.Prelude.{option_map}
 use Rattle.std.specs.List.{list_all}
 
 -- the path of a folder, the name of a file of it, and the side of tiles
@@ -55,7 +54,7 @@ wanted_by path name None = None
 wanted_by path name (Some side) = wanted path name side
 
 -- what the words ask for, where they are of this form
-unfoldable pub wanted_in : List (List ℕ) → Option Wanted
+abbrev pub wanted_in : List (List ℕ) → Option Wanted
 wanted_in (path ∷ name ∷ []) = wanted path name default_side
 wanted_in (path ∷ name ∷ side ∷ []) = wanted_by path name (side_of side)
 wanted_in _ = None

@@ -1,11 +1,6 @@
-//! What the words ask for.
+//! What is asked for.
 
-ghost use Rattle.std.specs.Prelude.{◌≡◌, ◌≤◌, true, map, length, option_map, IfSome};
-ghost use Rattle.std.specs.List.{list_all};
-ghost use Rattle.std.specs.String.{string_bytes};
 ghost use Rattle.tex_make.specs.Side.{IsMadeSide};
-ghost use Rattle.tex_make.specs.Words as spec;
-ghost use Rattle.tex_make.specs.Asked.{shown_asked};
 
 /// A texture of the file of a name in the folder of a path, in tiles of so many texels aside.
 #[derive(Clone, Copy, Debug)]
@@ -14,87 +9,4 @@ pub(crate) struct Asked<'a> {
     pub(crate) name: &'a str,
     pub(crate) side: u32,
     ghost side_in: { IsMadeSide side },
-}
-
-/// The side of the tiles where no word says it.
-const DEFAULT_SIDE: u32 = 64;
-
-/// The sides of tiles are multiples of it.
-const SIDE_STEP: u64 = 16;
-
-/// The longest side.
-const MAX_SIDE: u64 = 256;
-
-/// The most digits of a number.
-const MAX_DIGITS: usize = 10;
-
-/// The number that digits spell.
-fn digits_number(digits: &[u8]) -> u64
-    requires few { length digits.now ≤ MAX_DIGITS }
-    requires digits { list_all spec.is_digit digits.now ≡ true }
-    ensures { result ≡ spec.digits_behind 0 digits.now }
-{
-    let mut number = 0u64;
-    for digit in digits {
-        number = number * 10 + u64::from(*digit - b'0');
-    }
-    number
-}
-
-/// The word is 1 to ten decimal digits.
-fn is_number(word: &[u8]) -> bool
-    ensures { result ≡ spec.is_number word.now }
-{
-    !word.is_empty() && word.len() <= MAX_DIGITS && word.iter().all(|byte| byte.is_ascii_digit())
-}
-
-/// The side that a word names.
-fn side_of(word: &[u8]) -> Option<u32>
-    ensures value { result ≡ spec.side_of word.now }
-    ensures in_range { IfSome result IsMadeSide }
-{
-    if !is_number(word) {
-        return None;
-    }
-    let side = digits_number(word);
-    if side < SIDE_STEP || side > MAX_SIDE || side % SIDE_STEP != 0 {
-        return None;
-    }
-    Some(side as u32)
-}
-
-/// The word begins as an option does.
-fn is_option(word: &[u8]) -> bool
-    ensures { result ≡ spec.is_option word.now }
-{
-    match word {
-        [first, ..] => *first == b'-',
-        [] => false,
-    }
-}
-
-/// What a path, a name and a side ask for, where neither word is an option.
-fn asked_of<'a>(path: &'a str, name: &'a str, side: u32) -> Option<Asked<'a>>
-    requires { IsMadeSide side }
-    ensures { option_map shown_asked result ≡ spec.wanted path.now name.now side }
-{
-    if is_option(path.as_bytes()) || is_option(name.as_bytes()) {
-        return None;
-    }
-    Some(Asked { path, name, side })
-}
-
-/// What the words ask for, where they are two or three, the third is a side, and no other is an
-/// option.
-pub(crate) fn asked_in(words: &[String]) -> Option<Asked<'_>>
-    ensures { option_map shown_asked result ≡ spec.wanted_in (map string_bytes words.now) }
-{
-    match words {
-        [path, name] => asked_of(path.as_str(), name.as_str(), DEFAULT_SIDE),
-        [path, name, word] => {
-            let side = side_of(word.as_str().as_bytes())?;
-            asked_of(path.as_str(), name.as_str(), side)
-        }
-        _ => None,
-    }
 }

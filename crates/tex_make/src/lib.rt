@@ -14,6 +14,7 @@ mod row;
 mod texture;
 mod tiles;
 mod top;
+mod words;
 mod writing;
 
 pub use ending::{NO_MEMORY, NOT_WRITTEN};

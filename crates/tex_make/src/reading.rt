@@ -1,17 +1,22 @@
 //! The reading of a picture, and the making of the levels that its file does not store.
 
-ghost use Rattle.std.specs.Prelude.{◌≡◌, ◌-◌, ◌≤◌, ◌<◌, ◌++◌, ◌∷◌, ◌↔◌, [], length, map, IfOk, OnOk};
+ghost use Rattle.std.specs.Prelude.{◌≡◌, ◌-◌, ◌*◌, ◌≤◌, ◌<◌, ◌++◌, ◌∷◌, ◌↔◌, [], length, map, IfOk, OnOk};
 ghost use Rattle.std.specs.Prelude.{IsTrue, List, ℕ};
 ghost use Rattle.std.specs.Option.{ForSome};
 ghost use Rattle.tiff_format.specs.Facts.{IsChain};
 ghost use Rattle.tiff_format.specs.Shown.{shown as shown_dir};
-ghost use Rattle.tile_layout.specs.Kept.{AreDirsOf, kept_in, stored_count};
+ghost use Rattle.tiff_format.specs.Texel.{sample_in};
+ghost use Rattle.tile_layout.specs.Blocks.{HoldsBlocks};
+ghost use Rattle.tile_layout.specs.Cell.{bit_depth_in};
+ghost use Rattle.tile_layout.specs.Kept.{AreDirsOf, kept_in, stored_count, level_in};
+ghost use Rattle.tile_layout.specs.Texel.{AreTexelsOn, FitDepth};
 ghost use Rattle.rect_read.specs.RectRead.{LeavesReader as LeavesRect};
 ghost use Rattle.tex_make.specs.Level.{shown};
 ghost use Rattle.tex_make.specs.Picture.{AreAlike, picture_of, samples_of, max_samples};
+ghost use Rattle.tex_make.specs.PlainLevel.{level_at};
 ghost use Rattle.tex_make.specs.Pyramid.{seen};
 ghost use Rattle.tex_make.specs.Reading.{Pictures, LeavesReader};
-ghost use Rattle.tex_make.specs.Stored.{HasShape, HasTexels, AreLevelsOf, AreTexelsOf, EndsSingle};
+ghost use Rattle.tex_make.specs.Stored.{whole_of, HasShape, HasTexels, AreLevelsOf, AreTexelsOf, EndsSingle};
 ghost use Rattle.tex_make.specs.Stored.{HoldsAll, IsLarge, samples_kept};
 
 use crate::level::Level;
@@ -45,6 +50,28 @@ fn is_large(dir: &Dir) -> bool
     u64::from(dir.width) * u64::from(dir.height) * u64::from(dir.channels) > MAX_SAMPLES
 }
 
+/// Reads the samples of a stored level, row by row.
+fn read_samples<B: ByteReader>(
+    alloc: Global,
+    reader: &mut B,
+    layout: &Layout,
+    level: u32,
+) -> Result<Vec<u16>, RectError<B::Error>>
+    requires { level < stored_count layout.now }
+    ensures count { IfOk result (λ samples. length samples.items
+        ≡ (whole_of layout.now level).w * (whole_of layout.now level).h
+        * (level_in layout.now level).shape.channels) }
+    ensures low { IfOk result (λ samples. FitDepth (bit_depth_in layout.now) samples.items) }
+    ensures told { ForSome (B.bytes reader.old) (λ bytes. HoldsBlocks bytes (level_in layout.now level)
+        → IfOk result (λ samples. AreTexelsOn
+        (sample_in layout.now.big bytes (level_in layout.now level))
+        (level_in layout.now level).shape.channels (whole_of layout.now level) samples.items)) }
+    ensures reader { LeavesRect B.keeps B.refuses reader.old reader.new result }
+{
+    let (w, h) = layout.size(level);
+    read_rect(alloc, reader, layout, level, Rect { x: 0, y: 0, w, h })
+}
+
 /// Reads a stored level.
 fn read_level<B: ByteReader>(
     alloc: Global,
@@ -59,13 +86,7 @@ fn read_level<B: ByteReader>(
     ensures reader { LeavesRect B.keeps B.refuses reader.old reader.new result }
 {
     let (width, height) = layout.size(level);
-    let rect = Rect {
-        x: 0,
-        y: 0,
-        w: width,
-        h: height,
-    };
-    let samples = read_rect(alloc, reader, layout, level, rect)?;
+    let samples = read_samples(alloc, reader, layout, level)?;
     Ok(Level {
         width,
         height,
@@ -73,6 +94,14 @@ fn read_level<B: ByteReader>(
         depth: layout.depth(),
         samples,
     })
+}
+
+/// The last of these levels.
+fn last_of(levels: &[Level]) -> &Level
+    requires { 1 ≤ length levels.now }
+    ensures { shown result.now ≡ level_at (map shown levels.now) (length levels.now - 1) }
+{
+    &levels[levels.len() - 1]
 }
 
 /// The level behind these: read where it is stored, else half of the last.
@@ -94,7 +123,7 @@ fn next_level<B: ByteReader>(
     if number < layout.stored() as usize {
         return read_level(alloc, reader, layout, number as u32);
     }
-    match levels[number - 1].halved(alloc) {
+    match last_of(levels).halved(alloc) {
         Ok(half) => Ok(half),
         Err(_) => Err(RectError::NoMemory),
     }
@@ -125,7 +154,7 @@ fn read_levels<B: ByteReader>(
     let mut levels = Vec::new(alloc);
     let first = read_level(alloc, reader, layout, 0)?;
     push(&mut levels, first)?;
-    'levels: while !levels[levels.len() - 1].is_single() {
+    'down: while !last_of(&levels).is_single() {
         let next = next_level(alloc, reader, layout, &levels)?;
         push(&mut levels, next)?;
     }

@@ -13,17 +13,29 @@ use crate::picture::{Pyramid, RGB_COLOURS};
 use std::alloc::{AllocError, Global};
 
 const NEW_SUBFILE_TYPE: u16 = 254;
+
 const IMAGE_WIDTH: u16 = 256;
+
 const IMAGE_LENGTH: u16 = 257;
+
 const BITS_PER_SAMPLE: u16 = 258;
+
 const COMPRESSION: u16 = 259;
+
 const PHOTOMETRIC: u16 = 262;
+
 const SAMPLES_PER_PIXEL: u16 = 277;
+
 const PLANAR_CONFIGURATION: u16 = 284;
+
 const TILE_WIDTH: u16 = 322;
+
 const TILE_LENGTH: u16 = 323;
+
 const TILE_OFFSETS: u16 = 324;
+
 const TILE_BYTE_COUNTS: u16 = 325;
+
 const EXTRA_SAMPLES: u16 = 338;
 
 /// Compression: the samples stand as they are.
@@ -31,6 +43,7 @@ const UNCOMPRESSED: u32 = 1;
 
 /// PhotometricInterpretation.
 const BLACK_IS_ZERO: u32 = 1;
+
 const RGB: u32 = 2;
 
 /// PlanarConfiguration: the samples of a pixel stand side by side.
@@ -134,7 +147,12 @@ impl<'a> Texture<'a> {
             equal(FieldKind::Long, NEW_SUBFILE_TYPE, 1, smaller),
             equal(FieldKind::Long, IMAGE_WIDTH, 1, from.width),
             equal(FieldKind::Long, IMAGE_LENGTH, 1, from.height),
-            equal(FieldKind::Short, BITS_PER_SAMPLE, channels, self.picture.depth()),
+            equal(
+                FieldKind::Short,
+                BITS_PER_SAMPLE,
+                channels,
+                self.picture.depth(),
+            ),
             equal(FieldKind::Short, COMPRESSION, 1, UNCOMPRESSED),
             equal(FieldKind::Short, PHOTOMETRIC, 1, self.photometric()),
             equal(FieldKind::Short, SAMPLES_PER_PIXEL, 1, channels),
@@ -160,8 +178,14 @@ impl<'a> Texture<'a> {
         let size = self.tile_size();
         let mut fields = Vec::from_slice(alloc, &self.own_fields(level))?;
         push(&mut fields, places(count, first, size))?;
-        push(&mut fields, equal(FieldKind::Long, TILE_BYTE_COUNTS, count, size))?;
-        push_extra(&mut fields, self.picture.channels() - self.picture.colours())?;
+        push(
+            &mut fields,
+            equal(FieldKind::Long, TILE_BYTE_COUNTS, count, size),
+        )?;
+        push_extra(
+            &mut fields,
+            self.picture.channels() - self.picture.colours(),
+        )?;
         Ok(fields)
     }
 }

@@ -72,11 +72,7 @@ fn put_bytes<O: Sink>(bytes: &[u8], out: &mut O) -> Result<(), Failed>
 }
 
 /// Writes the tiles of all levels, through a buffer for one.
-fn put_levels<O: Sink>(
-    texture: &Texture<'_>,
-    tile: &mut [u8],
-    out: &mut O,
-) -> Result<(), Failed>
+fn put_levels<O: Sink>(texture: &Texture<'_>, tile: &mut [u8], out: &mut O) -> Result<(), Failed>
     requires { length tile.old
         ≡ spec.tile_size (seen texture.now.picture.now) texture.now.side }
     ensures { Puts (joined

@@ -2,20 +2,21 @@
 
 ghost use Rattle.std.specs.Prelude.{◌≡◌, ◌≤◌, ◌↔◌, IsTrue, IfOk, Err};
 ghost use Rattle.tex_world.specs.World.{IsFile};
-ghost use Rattle.tex_make.specs.declared.ending.Ending.TheVariants.{TooMany};
+ghost use Rattle.tex_make.specs.declared.ending.Ending.TheVariants.{NoSuchFile, TooMany};
 ghost use Rattle.tex_make.specs.Asked.{shown_asked};
 ghost use Rattle.tex_make.specs.FileRead.{ReadsFile, LeavesTap};
-ghost use Rattle.tex_make.specs.Make.{ReadsPicture, LeavesFolder, EndsAs, Completes};
+ghost use Rattle.tex_make.specs.Make.{ReadsPicture, LacksFile, LeavesFolder, EndsAs, Completes};
 ghost use Rattle.tex_make.specs.Make.{asked_by, around_of, ReadsOf};
 ghost use Rattle.tex_world.specs.Folder.{KeepsFiles};
 ghost use Rattle.tex_make.specs.Picture.{samples_of, max_samples};
 ghost use Rattle.tex_make.specs.Pyramid.{seen};
 ghost use Rattle.tex_make.specs.Sink.{sink_state};
 
-use crate::asked::{Asked, asked_in};
+use crate::asked::Asked;
 use crate::ending::{BAD_WORDS, Ending};
 use crate::picture::Pyramid;
 use crate::reading::{PictureError, read_picture};
+use crate::words::asked_in;
 use crate::writing::put_picture;
 use std::alloc::Global;
 use tap_reader::TapReader;
@@ -73,6 +74,8 @@ fn picture_asked<F: Folder>(
     ensures reads { ReadsPicture F.W.files (shown_asked asked.now)
         (F.state folder.old) (F.state folder.new) result }
     ensures small { IfOk result (λ picture. samples_of (seen picture) ≤ max_samples) }
+    ensures absent { LacksFile (shown_asked asked.now) (F.state folder.new)
+        ↔ (result ≡ Err NoSuchFile) }
     ensures mark { IsTrue (F.state folder.new).over ↔ (result ≡ Err TooMany) }
     ensures folder { LeavesFolder (F.state folder.old) (F.state folder.new) }
 {
@@ -90,12 +93,7 @@ fn picture_asked<F: Folder>(
 
 /// Makes a texture of a file of a folder, as the words ask for it, and writes it to a sink. All of the
 /// file is read before a byte is written.
-pub fn make<F: Folder, O: Sink>(
-    alloc: Global,
-    words: &[String],
-    folder: &mut F,
-    out: &mut O,
-) -> u8
+pub fn make<F: Folder, O: Sink>(alloc: Global, words: &[String], folder: &mut F, out: &mut O) -> u8
     ensures makes { EndsAs F.W.files (asked_by words.now)
         (around_of (F.state folder.old) (sink_state O.faults O.holds out.old))
         (around_of (F.state folder.new) (sink_state O.faults O.holds out.new)) result }

@@ -1,12 +1,10 @@
-use Rattle.std.proofs.Common.{◌≡◌, ◌∙◌, ap, sym, subst, List, length, arith}
+use Rattle.std.proofs.Common.{◌∙◌, ap, sym, subst, List, length, arith}
 use Rattle.std.specs.List.{All}
 use Rattle.tex_make.specs.declared.field.Field.{Field}
 use Rattle.tex_make.specs.Field.{IsField, directory_size}
 use Rattle.tex_make.specs.Pyramid.{seen}
-use Rattle.tex_make.specs.Texture.{fields_of}
 use Rattle.tex_make.proofs.Fields.{fields_fit, fields_few}
-use Rattle.tex_make.proofs.Directories.{next_directory, directory_ends, tiles_end, next_tiles}
-use Rattle.tex_make.proofs.Directories.{tiles_below}
+use Rattle.tex_make.proofs.Directories.{next_directory, directory_ends, tiles_end}
 use Rattle.tex_make.proofs.head.behind_directory.Goals as goal
 
 pub directory_size-requires-clause-fields : goal.directory_size-requires-clause-fields
@@ -38,12 +36,22 @@ overflow_add-result c =
     let texture = c.args.texture.now in
     let p = seen texture.picture.now in
     let end = directory_ends p texture.side texture.short c.args.level c.requires.level in
-    omega (arith, end, c.requires.at, c.directory_size.ensures,
-    ap directory_size (c.deref.ensures.value ∙ c.in_ok-fields.ensures))
+    omega (
+      arith,
+      end,
+      c.requires.at,
+      c.directory_size.ensures,
+      ap directory_size (c.deref.ensures.value ∙ c.in_ok-fields.ensures),
+    )
 
 pub returns : goal.returns
 returns c =
     let texture = c.args.texture.now in
     let p = seen texture.picture.now in
-    omega (arith, next_directory p texture.side c.args.level, c.requires.at, c.directory_size.ensures,
-    ap directory_size (c.deref.ensures.value ∙ c.in_ok-fields.ensures))
+    omega (
+      arith,
+      next_directory p texture.side c.args.level,
+      c.requires.at,
+      c.directory_size.ensures,
+      ap directory_size (c.deref.ensures.value ∙ c.in_ok-fields.ensures),
+    )

@@ -1,7 +1,7 @@
-use Rattle.std.proofs.Common.{◌≡◌, ℕ, List, ◌+◌, ◌∙◌, ◌++◌, ap, sym, arith, append_assoc, add-one}
+use Rattle.std.proofs.Common.{◌≡◌, ℕ, List, ◌∙◌, ◌++◌, ap, sym, arith, append_assoc, add-one}
 use Rattle.tex_make.specs.Joined.{joined}
 use Rattle.tex_make.specs.Pyramid.{seen}
-use Rattle.tex_make.specs.Texture.{directory_of, header, head_of, tile_count, tile_size}
+use Rattle.tex_make.specs.Texture.{directory_of, header, head_of}
 use Rattle.tex_make.proofs.Directories.{first_directory, tiles_end, next_tiles}
 use Rattle.tex_make.proofs.TileBytes.{product_is}
 use Rattle.tex_make.proofs.head.head_of.Goals as goal
@@ -27,8 +27,12 @@ overflow_add-tiles c =
     let p = seen texture.picture.now in
     let end = tiles_end p texture.side texture.short c.loop-level.level
     (omega (arith, c.loop-level-test.true, c.len-level-end.ensures)) in
-    omega (arith, end, c.loop-level.invariant.tiles,
-    product_is _ _ _ _ c.tile_count.ensures.value c.tile_size.ensures.value)
+    omega (
+      arith,
+      end,
+      c.loop-level.invariant.tiles,
+      product_is _ _ _ _ c.tile_count.ensures.value c.tile_size.ensures.value,
+    )
 
 pub loop-level-preserved : goal.loop-level-preserved
 loop-level-preserved c =
@@ -42,8 +46,12 @@ loop-level-preserved c =
           (directory_of p texture.side done)
           ∙ ap (λ (n : ℕ). header ++ joined (directory_of p texture.side) n) (sym (add-one done));
       at = c.in_ok-at.ensures.behind;
-      tiles = omega (arith, c.loop-level.invariant.tiles, next_tiles p texture.side done,
-          product_is _ _ _ _ c.tile_count.ensures.value c.tile_size.ensures.value);
+      tiles = omega (
+        arith,
+        c.loop-level.invariant.tiles,
+        next_tiles p texture.side done,
+        product_is _ _ _ _ c.tile_count.ensures.value c.tile_size.ensures.value,
+      );
     }
 
 pub returns : goal.returns

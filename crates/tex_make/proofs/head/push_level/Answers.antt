@@ -1,4 +1,4 @@
-use Rattle.std.proofs.Common.{◌≡◌, ◌∙◌, ap, sym, subst, List, length, arith}
+use Rattle.std.proofs.Common.{◌∙◌, ap, sym, subst, List, length, arith}
 use Rattle.std.specs.List.{All}
 use Rattle.tex_make.specs.declared.field.Field.{Field}
 use Rattle.tex_make.specs.Field.{IsField, directory_size}
@@ -31,5 +31,10 @@ push_directory-requires-clause-short c =
     let end = directory_ends p texture.side texture.short c.args.level c.requires.level in
     let same = size_same p texture.picture.now.known texture.side c.args.level texture.side_in
     c.requires.level c.args.tiles in
-    omega (arith, end, same, c.requires.at,
-    ap directory_size (c.deref.ensures.value ∙ c.in_ok-fields.ensures))
+    omega (
+      arith,
+      end,
+      same,
+      c.requires.at,
+      ap directory_size (c.deref.ensures.value ∙ c.in_ok-fields.ensures),
+    )

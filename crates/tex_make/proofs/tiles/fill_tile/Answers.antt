@@ -1,5 +1,5 @@
-use Rattle.std.proofs.Common.{◌≡◌, ℕ, List, ◌+◌, ◌-◌, ◌*◌, ◌/◌, ◌%◌, ◌<◌, ◌≤◌, length, min, slice_index}
-use Rattle.std.proofs.Common.{ap, sym, ◌∙◌, subst, arith, inl, inr}
+use Rattle.std.proofs.Common.{◌≡◌, ℕ, ◌+◌, ◌-◌, ◌*◌, ◌/◌, ◌%◌, ◌<◌, ◌≤◌, length, min, slice_index}
+use Rattle.std.proofs.Common.{ap, sym, subst, arith, inl, inr}
 use Rattle.std.proofs.Math.Nat.{mul-le-mul_left, mul-le-mul_right, mul-le-mul}
 use Rattle.std.proofs.lemmas.Bool.{cases_lt}
 use Rattle.std.proofs.lemmas.Nat.{div_below}
@@ -84,7 +84,7 @@ loop-row-preserved c =
       sample = λ x y c. ap (λ (m : PlainLevel). sample_in m x y c) (sym value);
     } in
     let own : IsPart (shown from) (i % c.tiles_across-across.result * side)
-        (i / c.tiles_across-across.result * side + r) side samples = record {
+    (i / c.tiles_across-across.result * side + r) side samples = record {
       long = c.part-samples.ensures.long;
       each = c.part-samples.ensures.each;
       none = c.part-samples.ensures.none;

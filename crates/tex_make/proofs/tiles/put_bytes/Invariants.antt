@@ -1,4 +1,4 @@
-use Rattle.std.proofs.Common.{◌≡◌, ◌≤◌, ◌-◌, length, take}
+use Rattle.std.proofs.Common.{◌≤◌, ◌-◌, length, take}
 use Rattle.tex_world.specs.Stream.{Appends}
 use Rattle.tex_make.proofs.tiles.put_bytes.Given as goal
 

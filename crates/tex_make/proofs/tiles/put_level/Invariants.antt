@@ -1,4 +1,4 @@
-use Rattle.std.proofs.Common.{◌≡◌, ◌≤◌, length}
+use Rattle.std.proofs.Common.{◌≤◌}
 use Rattle.tex_world.specs.Stream.{Appends}
 use Rattle.tex_make.specs.Joined.{joined}
 use Rattle.tex_make.specs.Pyramid.{seen}

@@ -1,9 +1,9 @@
-use Rattle.std.proofs.Common.{◌≡◌, List, ℕ, subst, sym}
+use Rattle.std.proofs.Common.{List, ℕ, subst}
 use Rattle.tex_world.specs.Stream.{Appends, AppendsPart}
 use Rattle.tex_make.specs.Joined.{joined}
 use Rattle.tex_make.specs.Pyramid.{seen}
 use Rattle.tex_make.specs.Texture.{head_of, level_tiles, texture_of}
-use Rattle.tex_make.specs.Sink.{sink_state, Puts}
+use Rattle.tex_make.specs.Sink.{sink_state}
 use Rattle.tex_make.proofs.Sinks.{puts_err, puts_then, part_of_more}
 use Rattle.tex_make.proofs.tiles.put_texture.Goals as goal
 

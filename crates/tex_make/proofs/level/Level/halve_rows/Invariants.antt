@@ -1,4 +1,3 @@
-use Rattle.std.proofs.Common.{◌≡◌, length}
 use Rattle.tex_make.specs.Level.{shown}
 use Rattle.tex_make.specs.HalfRows.{AreHalfRows}
 use Rattle.tex_make.proofs.level.Level.halve_rows.Given as goal

@@ -1,4 +1,4 @@
-use Rattle.std.proofs.Common.{◌≡◌, ℕ, List, ◌+◌, ◌*◌, slice_index, ap, ◌∙◌}
+use Rattle.std.proofs.Common.{ℕ, List, ◌+◌, ◌*◌, slice_index, ap, ◌∙◌}
 use Rattle.tex_make.proofs.Places.{row_sample_is}
 use Rattle.tex_make.proofs.level.Level.row.Goals as goal
 

@@ -1,7 +1,7 @@
-use Rattle.std.proofs.Common.{◌≡◌, ◌<◌, ◌∙◌, ap, sym, length, arith, map}
+use Rattle.std.proofs.Common.{◌<◌, ◌∙◌, ap, sym, length, arith}
 use Rattle.std.proofs.lemmas.List.{get_or-map, length-map}
 use Rattle.tex_make.specs.Level.{shown}
-use Rattle.tex_make.specs.PlainLevel.{PlainLevel, level_at, no_level}
+use Rattle.tex_make.specs.PlainLevel.{PlainLevel, no_level}
 use Rattle.tex_make.proofs.texture.Texture.level.Goals as goal
 
 pub returns-clause-depth : goal.returns-clause-depth

@@ -1,6 +1,6 @@
 use Rattle.std.proofs.Common.{◌≡◌, ◌^◌, ◌<◌, drop}
 use Rattle.tex_make.specs.Words.{digits_behind}
-use Rattle.tex_make.proofs.asked.digits_number.Given as goal
+use Rattle.tex_make.proofs.words.digits_number.Given as goal
 
 abbrev pub invariant-loop-digit : goal.invariant-loop-digit
 invariant-loop-digit l = record {
