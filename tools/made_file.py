@@ -7,8 +7,9 @@
 
 The bytes of the file are read by tools/plain_reader.py. Of the program only what it writes and its status are
 looked at: 0 with these bytes, or 8 with none where the file shows a fault. In a check each texture is read
-again too: its levels have to be those of the file. By --answers texcache answers regions and lookups of each
-texture as it answers those of its file, on each level that it has of the file.
+again too: its levels have to be those of the file, and wrong words and a name of no file are refused. By
+--answers texcache answers regions and lookups of each texture as it answers those of its file, on each level
+that it has of the file.
 """
 import struct
 import subprocess
@@ -22,7 +23,10 @@ SHORT, LONG = "H", "I"
 TYPES = {SHORT: 3, LONG: 4}
 WHITE_IS_ZERO, RGB = 0, 2
 MOST_SAMPLES = 67108864
-MADE, BAD_FILE, TOO_LARGE = 0, 8, 9
+MADE, BAD_WORDS, NO_FILE, BAD_FILE, TOO_LARGE = 0, 2, 7, 8, 9
+
+# What stands behind FOLDER, a file and no more, is refused; and a side is 16 to 256, a multiple of 16.
+WRONG_SIDES = ("0", "8", "24", "272", "+16", "-16", " 16", "16.", "", "00000000016")
 
 
 def sample_of(page, x, y):
@@ -138,6 +142,21 @@ def check(program, folder, side):
     return bad
 
 
+def check_refusals(program, folder):
+    """How many words are answered otherwise than docs/TEXTURES.md says, before any file is read."""
+    name = min(path.name for path in Path(folder).iterdir())
+    asked = [(["-" + folder, name], BAD_WORDS), ([folder, name, "16", "16"], BAD_WORDS), ([], BAD_WORDS)]
+    asked += [([folder], BAD_WORDS), ([folder, "no such file"], NO_FILE), ([folder, ""], NO_FILE)]
+    asked += [([folder, name, side], BAD_WORDS) for side in WRONG_SIDES]
+    bad = 0
+    for words, status in asked:
+        done = subprocess.run([program, *words], stdout=subprocess.PIPE)
+        if (done.returncode, done.stdout) != (status, b""):
+            bad += 1
+            print("%s: status %d and %d bytes, wanted %d and 0" % (words, done.returncode, len(done.stdout), status))
+    return bad
+
+
 def requests_on(name, pages):
     """Requests on each level that texcache has of a file: those that it stores, or of one stored level all."""
     levels = len(pages) if len(pages) > 1 else max(pages[0].width, pages[0].height).bit_length()
@@ -174,7 +193,8 @@ def compare_answers(texcache, program, folder, side):
             got, wanted = answered(texcache, made_in, requests), answered(texcache, folder, requests)
             if got != wanted or len(got) != len(requests):
                 bad += 1
-                print("%s: %s" % (name, next((it for it in zip(requests, wanted, got) if it[1] != it[2]), "lines lack")))
+                other = (it for it in zip(requests, wanted, got) if it[1] != it[2])
+                print("%s: %s" % (name, next(other, "lines lack")))
     print("made_file: %d of %d files are answered otherwise, %d requests" % (bad, len(asked), asked_in_all))
     return bad
 
@@ -185,7 +205,7 @@ def main():
         bad = compare_answers(words[1], words[2], words[3], int((words[4:] or ["64"])[0]))
         return 1 if bad else 0
     if words[:1] == ["--check"]:
-        bad = check(words[1], words[2], int((words[3:] or ["64"])[0]))
+        bad = check(words[1], words[2], int((words[3:] or ["64"])[0])) + check_refusals(words[1], words[2])
         print("made_file: %d differ" % bad)
         return 1 if bad else 0
     sys.stdout.buffer.write(made(Path(words[0]).read_bytes(), int((words[1:] or ["64"])[0])))
