@@ -128,7 +128,7 @@ def wanted(data, side):
 def check(program, folder, side):
     """How many files of the folder the program makes something else of."""
     bad = 0
-    for path in sorted(Path(folder).iterdir()):
+    for path in sorted(path for path in Path(folder).iterdir() if path.is_file()):
         data = path.read_bytes()
         status, out = wanted(data, side)
         done = subprocess.run([program, str(folder), path.name, str(side)], stdout=subprocess.PIPE)
@@ -144,7 +144,7 @@ def check(program, folder, side):
 
 def check_refusals(program, folder):
     """How many words are answered otherwise than docs/TEXTURES.md says, before any file is read."""
-    name = min(path.name for path in Path(folder).iterdir())
+    name = min(path.name for path in Path(folder).iterdir() if path.is_file())
     asked = [(["-" + folder, name], BAD_WORDS), ([folder, name, "16", "16"], BAD_WORDS), ([], BAD_WORDS)]
     asked += [([folder], BAD_WORDS), ([folder, "no such file"], NO_FILE), ([folder, ""], NO_FILE)]
     asked += [([folder, name, side], BAD_WORDS) for side in WRONG_SIDES]
