@@ -4,6 +4,7 @@
     python3 tools/made_file.py FILE [T]                    writes it to standard output
     python3 tools/made_file.py --check PROGRAM FOLDER [T]  compares what the program makes of each file
     python3 tools/made_file.py --answers TEXCACHE PROGRAM FOLDER [T]  asks texcache for both, and compares
+    python3 tools/made_file.py --readers PROGRAM FOLDER [T]  has libtiff and OpenImageIO read them, where they are
 
 The bytes of the file are read by tools/plain_reader.py. Of the program only what it writes and its status are
 looked at: 0 with these bytes, or 8 with none where the file shows a fault. In a check each texture is read
@@ -11,6 +12,7 @@ again too: its levels have to be those of the file, and wrong words and a name o
 --answers texcache answers regions and lookups of each texture as it answers those of its file, on each level
 that it has of the file.
 """
+import shutil
 import struct
 import subprocess
 import sys
@@ -27,6 +29,10 @@ MADE, BAD_WORDS, NO_FILE, BAD_FILE, TOO_LARGE = 0, 2, 7, 8, 9
 
 # What stands behind FOLDER, a file and no more, is refused; and a side is 16 to 256, a multiple of 16.
 WRONG_SIDES = ("0", "8", "24", "272", "+16", "-16", " 16", "16.", "", "00000000016")
+
+
+# Programs that read a texture and answer 0 where they can.
+READERS = (("tiffinfo",), ("oiiotool", "--info"))
 
 
 def sample_of(page, x, y):
@@ -157,6 +163,26 @@ def check_refusals(program, folder):
     return bad
 
 
+def read_by_others(program, folder, side):
+    """How many textures of a folder's files a reader that is installed refuses."""
+    readers = [words for words in READERS if shutil.which(words[0])]
+    bad = count = 0
+    with tempfile.TemporaryDirectory() as made_in:
+        texture = str(Path(made_in) / "texture.tif")
+        for path in sorted(path for path in Path(folder).iterdir() if path.is_file()):
+            with open(texture, "wb") as out:
+                status = subprocess.run([program, str(folder), path.name, str(side)], stdout=out).returncode
+            for words in readers if status == MADE else ():
+                count += 1
+                done = subprocess.run([*words, texture], stdout=subprocess.PIPE, stderr=subprocess.STDOUT)
+                if done.returncode != 0:
+                    bad += 1
+                    print("%s: %s: %s" % (path.name, words[0], done.stdout.decode(errors="replace")[:200]))
+    print("made_file: %d of %d readings are refused, by %s" % (
+        bad, count, " and ".join(words[0] for words in readers) or "no reader that is there"))
+    return bad
+
+
 def requests_on(name, pages):
     """Requests on each level that texcache has of a file: those that it stores, or of one stored level all."""
     levels = len(pages) if len(pages) > 1 else max(pages[0].width, pages[0].height).bit_length()
@@ -204,6 +230,8 @@ def main():
     if words[:1] == ["--answers"]:
         bad = compare_answers(words[1], words[2], words[3], int((words[4:] or ["64"])[0]))
         return 1 if bad else 0
+    if words[:1] == ["--readers"]:
+        return 1 if read_by_others(words[1], words[2], int((words[3:] or ["64"])[0])) else 0
     if words[:1] == ["--check"]:
         bad = check(words[1], words[2], int((words[3:] or ["64"])[0])) + check_refusals(words[1], words[2])
         print("made_file: %d differ" % bad)
