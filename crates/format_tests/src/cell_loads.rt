@@ -10,7 +10,7 @@ use std::alloc::Global;
 use std::test::Fail;
 use tap_reader::{OpenFile, ReadAhead, TapReader};
 use tex_world::{
-    FailByte, Folder, MemFolder, MemTap, Plan, Rise, TableWorld, Tap, TapHandle, World,
+    FailByte, Folder, MemFolder, MemTap, NoMemory, Plan, Rise, TableWorld, Tap, TapHandle, World,
 };
 use tiff_dirs::read_dirs;
 use tiff_format::Rect;
@@ -187,7 +187,8 @@ const SLOTS: u32 = 1031;
 fn keeps_what_fits_the_share(rt: HostRuntime) -> Result<(), Fail> {
     let mut tap = tap_of(rt.alloc(), 0)?;
     let mut open = open_at_first(rt.alloc(), &mut tap)?;
-    let mut shard: Shard<TableWorld<Tiled>> = Shard::new(rt.alloc());
+    let shard: Result<Shard<TableWorld<Tiled>>, NoMemory> = Shard::with_slots(rt.alloc(), SLOTS);
+    let mut shard = shard.map_err(|_e| "no shard")?;
     for texel in [(0, 0), (64, 0)] {
         let tile = load_cell(rt.alloc(), &mut tap, &mut open, texel)?;
         let tile = tile.map_err(|_e| "not loaded")?;

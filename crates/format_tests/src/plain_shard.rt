@@ -1,6 +1,6 @@
-//! A few thousand calls of a shard beside a plain list that is walked for each.
+//! Thousands of calls of shards of 1 to 40 slots beside a plain list that is walked for each.
 use crate::shard_calls::{counts, find, insert, release};
-use crate::untold::{OneShard, gray};
+use crate::untold::{OneShard, gray, one_shard};
 use std::alloc::{AllocError, Global};
 use std::test::Fail;
 use tile_layout::TileKey;
@@ -107,8 +107,6 @@ fn next(seed: &mut u64) -> u32 {
     (*seed >> 33) as u32
 }
 
-const SLOTS: u32 = 12;
-
 // Each of these does the same to both, and tells whether they answered alike.
 fn find_both(
     shard: &mut OneShard,
@@ -124,12 +122,13 @@ fn insert_both(
     shard: &mut OneShard,
     list: &mut Vec<Listed>,
     key: TileKey,
+    slots: u32,
 ) -> Result<bool, AllocError> {
     let side = 1 + key.index() % 4;
-    let full = counted(list)[1] >= SLOTS as u64;
-    let kept = insert(shard, gray(alloc, key, side, side)?, SLOTS);
+    let full = counted(list)[1] >= slots as u64;
+    let kept = insert(shard, gray(alloc, key, side, side)?, slots);
     if kept {
-        add(list, key, 6 * (side * side) as u64, SLOTS as usize)?;
+        add(list, key, 6 * (side * side) as u64, slots as usize)?;
     }
     Ok(kept != full)
 }
@@ -165,12 +164,13 @@ fn call_both(
     shard: &mut OneShard,
     list: &mut Vec<Listed>,
     seed: &mut u64,
+    slots: u32,
 ) -> Result<bool, AllocError> {
     let key = one_key(next(seed));
     let number = next(seed);
     match next(seed) % 8 {
         0 | 1 => find_both(shard, list, key),
-        2 | 3 => insert_both(alloc, shard, list, key),
+        2 | 3 => insert_both(alloc, shard, list, key, slots),
         4 => Ok(purge_both(shard, list, number % 2, number / 2 % 5)),
         _ => Ok(release_both(shard, list, key, (number % 200) as u64)),
     }
@@ -178,12 +178,18 @@ fn call_both(
 
 #[test]
 fn keeps_what_a_plain_list_keeps(rt: HostRuntime) -> Result<(), Fail> {
-    let mut shard = OneShard::new(rt.alloc());
-    let mut list = Vec::new(rt.alloc());
     let mut seed = 2026u64;
-    for call in 0..4000 {
-        let alike = call_both(rt.alloc(), &mut shard, &mut list, &mut seed)?;
-        assert!(rt; alike && are_alike(&shard, &list), "at call {call}");
+    // One slot is always taken or free, few are often full, and so many never are.
+    for slots in [1, 5, 12, 40] {
+        let mut shard = one_shard(rt.alloc(), slots)?;
+        let mut list = Vec::new(rt.alloc());
+        for call in 0..3000 {
+            let alike = call_both(rt.alloc(), &mut shard, &mut list, &mut seed, slots)?;
+            assert!(rt;
+                alike && are_alike(&shard, &list),
+                "{slots} slots, at call {call}"
+            );
+        }
     }
     Ok(())
 }

@@ -2,7 +2,7 @@
 ghost use Rattle.std.specs.Prelude.{◌≤◌};
 
 use crate::shard_calls::{counts, find, insert, release};
-use crate::untold::{OneShard, gray};
+use crate::untold::{OneShard, gray, one_shard};
 use std::alloc::{AllocError, Global};
 use std::test::Fail;
 use tile_layout::TileKey;
@@ -29,7 +29,7 @@ fn put(
 #[test]
 fn keeps_the_tile_that_is_there(rt: HostRuntime) -> Result<(), Fail> {
     let key = TileKey::new(1, 1, 0, 0);
-    let mut shard = OneShard::new(rt.alloc());
+    let mut shard = one_shard(rt.alloc(), SLOTS)?;
     assert!(rt; put(rt.alloc(), &mut shard, key, 16, SLOTS)?);
     assert!(rt; put(rt.alloc(), &mut shard, key, 32, SLOTS)?);
     assert!(rt; counts(&shard) == [1, 2, 0]);
@@ -45,7 +45,7 @@ fn keeps_the_tile_that_is_there(rt: HostRuntime) -> Result<(), Fail> {
 fn makes_room_for_one_more(rt: HostRuntime) -> Result<(), Fail> {
     let (a, b) = (TileKey::new(1, 1, 0, 0), TileKey::new(1, 1, 0, 1));
     let (c, d) = (TileKey::new(1, 1, 0, 2), TileKey::new(1, 1, 0, 3));
-    let mut shard = OneShard::new(rt.alloc());
+    let mut shard = one_shard(rt.alloc(), 4)?;
     assert!(rt; put(rt.alloc(), &mut shard, a, 16, 4)?);
     assert!(rt; put(rt.alloc(), &mut shard, b, 16, 4)?);
     assert!(rt; put(rt.alloc(), &mut shard, c, 16, 4)?);
@@ -66,7 +66,7 @@ fn purges_older_generations(rt: HostRuntime) -> Result<(), Fail> {
     let held = TileKey::new(2, 1, 0, 1);
     let new = TileKey::new(3, 1, 0, 0);
     let other = TileKey::new(2, 2, 0, 0);
-    let mut shard = OneShard::new(rt.alloc());
+    let mut shard = one_shard(rt.alloc(), SLOTS)?;
     assert!(rt; put(rt.alloc(), &mut shard, old, 8, SLOTS)?);
     assert!(rt; put(rt.alloc(), &mut shard, held, 8, SLOTS)?);
     assert!(rt; put(rt.alloc(), &mut shard, new, 8, SLOTS)?);

@@ -26,3 +26,8 @@ pub fn gray(alloc: Global, key: TileKey, w: u32, h: u32) -> Result<Tile<Untold>,
     let texels = vec![in alloc; 0u16; (w * h * 3) as usize]?;
     Ok(Tile::new(key, Rect { x: 0, y: 0, w, h }, 3, texels))
 }
+
+// A shard of so many slots.
+pub fn one_shard(alloc: Global, slots: u32) -> Result<OneShard, AllocError> {
+    OneShard::with_slots(alloc, slots).map_err(|_e| AllocError)
+}

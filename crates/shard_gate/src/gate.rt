@@ -2,7 +2,7 @@ ghost use Rattle.std.specs.Prelude.{◌≡◌, ◌-◌, ◌*◌, ◌<◌, ◌≤
 ghost use Rattle.std.specs.Prelude.{IfOk, IfErr, OnOk, OnErr, OnSome, option_map};
 ghost use Rattle.shard_gate.specs.Gate.{max_pins, shard_of, AreLimits, IsNewGate, IsFirstSeat};
 ghost use Rattle.shard_gate.specs.Gate.{IsTileOf, HasCellRect, SamePins, OnePinMore, OnePinLess};
-ghost use Rattle.shard_gate.specs.Gate.{IsSameSeat, slots_of};
+ghost use Rattle.shard_gate.specs.Gate.{IsSameSeat, slots_of, max_passes};
 ghost use Rattle.shard_gate.specs.Given.{Finds, Inserts, Releases, Purges, Counts};
 ghost use Rattle.shard_gate.specs.Given.{AtShard, AtFirst, AtSome};
 ghost use Rattle.shard_gate.specs.Calls.{tile_of, VisitsAt, IfNotPinned, IfNotInserted};
@@ -56,6 +56,14 @@ const PINS: usize = 7;
 /// The tiles that a shard keeps beside as many as all seats may pin.
 const MORE_SLOTS: u32 = 1024;
 
+/// The slots of each shard of a gate with so many permits.
+fn slots_for(passes: u32) -> u32
+    requires { passes ≤ max_passes }
+    ensures { result ≡ slots_of passes }
+{
+    PINS as u32 * passes + MORE_SLOTS
+}
+
 impl<W: World> Gate<W> {
     /// A gate with no tile, whose shards have equal shares of the budget, and its first seat.
     pub fn new(
@@ -71,7 +79,8 @@ impl<W: World> Gate<W> {
     {
         let share = budget / shards as u64;
         let tag = tag_for(share, cut);
-        let Ok((tables, seats)) = laid(alloc, shards as usize, &Terms { tag, passes }) else {
+        let terms = Terms { tag, passes };
+        let Ok((tables, seats)) = laid(alloc, shards as usize, slots_for(passes), &terms) else {
             return Err(NoMemory);
         };
         let Ok(pins) = Vec::with_capacity(alloc, PINS * passes as usize) else {
@@ -331,7 +340,7 @@ impl<W: World> Gate<W> {
         ensures refused { IfErr result (λ e. VisitsAt self.now key (IfNotInserted e) p.old p.new) }
     {
         let shard = self.shard_of(key);
-        let slots = PINS as u32 * self.passes + MORE_SLOTS;
+        let slots = slots_for(self.passes);
         self.tables[shard].insert(waiter, &mut p.seats[shard], tile, slots)
     }
 

@@ -28,10 +28,11 @@ pub(crate) fn tag_for(share: u64, cut: Cut) -> u64
     SHARE_STEP * share + 2 * side + if cut.automip { 1 } else { 0 }
 }
 
-/// So many shards with no tile, and a seat at each, which has all permits.
+/// So many shards with no tile, of so many slots each, and a seat at each, which has all permits.
 pub(crate) fn laid<W: World>(
     alloc: Global,
     shards: usize,
+    slots: u32,
     terms: &Terms,
 ) -> Result<(Vec<ShardTable<W>>, Vec<ShardSeat<W>>), AllocError>
     ensures made { IfOk result (λ made. AreMadeBy terms.now made.0.items) }
@@ -41,8 +42,10 @@ pub(crate) fn laid<W: World>(
     let mut tables = Vec::with_capacity(alloc, shards)?;
     let mut seats = Vec::with_capacity(alloc, shards)?;
     for _shard in 0..shards {
-        let body = CachePadded::new(Shard::new(alloc));
-        let (table, seat) = TurnTable::new(alloc, terms, body)?;
+        let Ok(shard) = Shard::with_slots(alloc, slots) else {
+            return Err(AllocError);
+        };
+        let (table, seat) = TurnTable::new(alloc, terms, CachePadded::new(shard))?;
         tables.push_reserved(table);
         seats.push_reserved(seat);
     }

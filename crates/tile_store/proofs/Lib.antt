@@ -7,3 +7,11 @@ pub mod PurgeLemmas
 pub mod ShardLemmas
 pub mod StayLemmas
 pub mod LawfulLemmas
+pub mod PlaceLemmas
+pub mod RingLemmas
+pub mod LinkLemmas
+pub mod OrderLemmas
+pub mod EndLemmas
+pub mod SlotLemmas
+pub mod WalkLemmas
+pub mod StartLemmas

@@ -1,24 +1,20 @@
 -- What a pin more or less on an entry leaves of the sums over the entries.
-use Rattle.std.proofs.Common.{◌≡◌, ℕ, ◌+◌, ◌-◌, ◌<◌, ◌≤◌, ◌^◌, nat_eq, ◌∷◌, length}
-use Rattle.std.proofs.Common.{Option, Some, None, option_map, IsSomeAnd, IfSome, refl, sym, ap, ◌∙◌, subst, arith}
+use Rattle.std.proofs.Common.{◌≡◌, ℕ, ◌+◌, ◌<◌, ◌≤◌, ◌^◌, nat_eq, ◌∷◌, length}
+use Rattle.std.proofs.Common.{Option, Some, None, option_map, IsSomeAnd, IfSome, refl, sym, subst, arith}
 use Rattle.std.specs.List.{All, sum_by}
-use Rattle.std.specs.Option.{option_map_or}
-use Rattle.std.specs.Map.{values_of, lookup_entry, remove_entry, set_value}
+use Rattle.std.specs.Map.{values_of, remove_entry}
 use Rattle.std.proofs.lemmas.Bool.{eqb-true}
 use Rattle.std.proofs.lemmas.Bool.Decides.{nat_tests}
-use Rattle.std.proofs.lemmas.List.Elements.{All-cons, All-contains}
+use Rattle.std.proofs.lemmas.List.Elements.{All-cons}
 use Rattle.std.proofs.lemmas.List.Sums.{sum_by-cons}
 use Rattle.std.proofs.lemmas.Map.{length-set_value}
 use Rattle.std.proofs.lemmas.Map.Entries.{sum_by-remove_entry, sum_by-set_value}
-use Rattle.std.proofs.lemmas.List.{take_all}
-use Rattle.lru.specs.LruCache.{LruCache, promoted, put_entries}
-use Rattle.lru.proofs.CallerLemmas.{Contains-lookup, Contains-lookup_entry}
-use Rattle.lru.proofs.Pairs.{lookup-lookup_entry}
 use Rattle.tile_store.specs.Tile.{CachedTile}
 use Rattle.tile_store.specs.Entry.{EntryState, Entries, unpinned_bytes, pin_sum, loose_bytes}
 use Rattle.tile_store.specs.Entry.{entry_at, unpinned_at}
 use Rattle.tile_store.specs.Changes.{one_more, one_less, pinned_first, unpinned_once}
-use Rattle.tile_store.specs.Inside.{CanPin, no_bound}
+use Rattle.tile_store.specs.Inside.{CanPin}
+use Rattle.tile_store.proofs.MapLemmas.{found as lookup_found}
 use Rattle.tile_store.proofs.MapLemmas.{length-remove_entry, All-remove_entry, All-set_value, lookup-set_value_same}
 
 -- a pinned entry has no unpinned bytes
@@ -39,9 +35,9 @@ module _ (key : ℕ) (es : Entries) (e : EntryState) (found : entry_at key es �
   -- the entry that is found has what each entry has
   pub All-found : (P : ℕ × EntryState → Type 0) → All P es → P (key, e)
   All-found P all =
-      let on = Contains-lookup (nat_eq key) es e found in
-      let same : key ≡ on.0 = eqb-true key on.0 on.2 in
-      subst (λ k. P (k, e)) (sym same) (All-contains P es (on.0, e) all on.1)
+      let on = lookup_found (nat_eq key) P es e found all in
+      let same : key ≡ on.key = eqb-true key on.key on.passes in
+      subst (λ k. P (k, e)) (sym same) on.so
 
   pub pins-le : e.pins ≤ pin_sum es
   pins-le = omega (arith, sum_rest (λ n. n.pins))
@@ -101,41 +97,6 @@ module _ (key : ℕ) (es : Entries) (e : EntryState) (found : entry_at key es �
   pub All-unpinned_once : (P : ℕ × EntryState → Type 0) → ((k : ℕ) → P (k, e) → P (k, one_less e))
       → All P es → All P (unpinned_once key es)
   All-unpinned_once P less all = rw found (All-set_value (nat_eq key) P es e (one_less e) found less all)
-
--- ---- the order's own words
-
-to_front : (key : ℕ) (es : Entries) (w : EntryState) (o : Option (ℕ × EntryState))
-    → lookup_entry (nat_eq key) es ≡ o → (e : EntryState) → option_map (λ f. f.1) o ≡ Some e
-    → set_value (nat_eq key) (option_map_or (λ f. f ∷ remove_entry (nat_eq key) es) o es) w
-    ≡ (key, w) ∷ remove_entry (nat_eq key) es
-to_front key es w None h e is = absurd cc
-to_front key es w (Some f) h e is =
-    let passes = (Contains-lookup_entry (nat_eq key) es f h).1 in
-    let same : key ≡ f.0 = eqb-true key f.0 passes in
-    rw passes (ap (λ k. (k, w) ∷ remove_entry (nat_eq key) es) (sym same))
-
-pub set_value-promoted : (key : ℕ) (es : Entries) (e w : EntryState) → entry_at key es ≡ Some e
-    → set_value (nat_eq key) (promoted (nat_eq key) es) w ≡ (key, w) ∷ remove_entry (nat_eq key) es
-set_value-promoted key es e w found =
-    to_front key es w (lookup_entry (nat_eq key) es) refl e (lookup-lookup_entry (nat_eq key) es ∙ found)
-
-absent_entry : {A B : Type 0} (f : A → B) (o : Option A) → option_map f o ≡ None → o ≡ None
-absent_entry f None h = refl
-absent_entry f (Some a) h = absurd cc
-
-pub lookup_entry-none : (key : ℕ) (es : Entries) → entry_at key es ≡ None
-    → lookup_entry (nat_eq key) es ≡ None
-lookup_entry-none key es none =
-    absent_entry (λ (f : ℕ × EntryState). f.1) (lookup_entry (nat_eq key) es)
-    (lookup-lookup_entry (nat_eq key) es ∙ none)
-
--- what is put under a key that is not there stands first
-pub put-first : (order : LruCache ℕ EntryState) (key : ℕ) (entry : EntryState)
-    → entry_at key order.entries ≡ None → order.cap ≡ no_bound → length order.entries < 2 ^ 32
-    → put_entries nat_eq order key entry ≡ (key, entry) ∷ order.entries
-put-first order key entry none cap few =
-    rw (lookup_entry-none key order.entries none, cap)
-    (ap (λ l. (key, entry) ∷ l) (take_all (no_bound - 1) order.entries (omega arith)))
 
 -- ---- none or one
 

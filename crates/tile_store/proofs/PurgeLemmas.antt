@@ -6,13 +6,12 @@ use Rattle.std.specs.List.{IsDistinct}
 use Rattle.std.specs.Map.{keys_of, values_of, lookup_entry, remove_entry}
 use Rattle.std.proofs.Math.Seq.{take-append_seam, drop-append_seam, take-length, drop-length}
 use Rattle.std.proofs.lemmas.List.{length-take}
-use Rattle.lru.specs.LruCache.{LruCache, last_entry, promoted}
-use Rattle.lru.proofs.Pairs.{cut_at, cut_end, last_of_push}
 use Rattle.std.proofs.lemmas.Bool.{eq-eqb}
 use Rattle.std.proofs.lemmas.List.Sums.{sum_by-cons}
 use Rattle.tile_store.specs.Entry.{EntryState, Entries, unpinned_bytes, loose_bytes}
 use Rattle.tile_store.specs.Changes.{is_stale, without_stale}
-use Rattle.tile_store.specs.Leaving.{all_but_last, turned}
+use Rattle.tile_store.specs.Leaving.{last_entry, promoted, all_but_last, turned}
+use Rattle.tile_store.proofs.MapLemmas.{cut_at, cut_end, last_of_push}
 use Rattle.tile_store.proofs.EvictLemmas.{sum_at, remove_at, key_at, apart}
 
 module _ (file below : ℕ) where
@@ -65,7 +64,8 @@ module _ (file below : ℕ) where
 -- what its taking and its promotion leave
 pub record LastTurns (e : ℕ × EntryState) (es : Entries) : Type 0 where
   pub taken : loose_bytes (all_but_last es) + unpinned_bytes e.1 ≡ loose_bytes es
-  pub promoted_is : promoted (nat_eq e.0) es ≡ e ∷ all_but_last es
+  pub removed_is : remove_entry (nat_eq e.0) es ≡ all_but_last es
+  pub promoted_is : promoted e.0 es ≡ e ∷ all_but_last es
   pub turned_loose : loose_bytes (e ∷ all_but_last es) ≡ loose_bytes es
 
 lookup_at : (front : Entries) (x : ℕ × EntryState) (back : Entries)
@@ -88,6 +88,7 @@ last_turns_at us x distinct =
     sum_at unpinned_bytes us x [] ∙ ap (λ l. loose_bytes l + unpinned_bytes x.1) (append-nil us) in
     record {
       taken = ap (λ l. loose_bytes l + unpinned_bytes x.1) front ∙ sym sum;
+      removed_is = removed ∙ sym front;
       promoted_is = rw (lookup_at us x [] distinct, removed, front) refl;
       turned_loose = ap (λ l. loose_bytes (x ∷ l)) front
           ∙ (omega (arith, sum, sum_by-cons unpinned_bytes x.1 (values_of us)));
@@ -111,10 +112,9 @@ turned-last file below e es h = rw h refl
 -- ---- the loop
 
 -- so many entries are still to be turned, and the bytes of those that left are these
-pub record Turning (file below k bytes : ℕ) (was now : LruCache ℕ EntryState) : Type 0 where
-  pub entries : now.entries ≡ turned_to file below k was.entries
-  pub bytes_are : loose_bytes now.entries + bytes ≡ loose_bytes was.entries
-  pub cap : now.cap ≡ was.cap
+pub record Turning (file below k bytes : ℕ) (was now : Entries) : Type 0 where
+  pub entries : now ≡ turned_to file below k was
+  pub bytes_are : loose_bytes now + bytes ≡ loose_bytes was
 
 pub turned_to-all : (file below : ℕ) (es : Entries) → turned_to file below (length es) es ≡ es
 turned_to-all file below es =

@@ -1,14 +1,13 @@
 -- What each call leaves of the numbers of a shard.
-use Rattle.std.proofs.Common.{◌≡◌, ℕ, ◌+◌, ◌-◌, ◌*◌, ◌<◌, ◌≤◌, ◌^◌, ◌&&◌, ◌==◌, Bool, true, false, cond, not, nat_lt, nat_le}
+use Rattle.std.proofs.Common.{◌≡◌, ℕ, ◌+◌, ◌-◌, ◌*◌, ◌<◌, ◌≤◌, ◌^◌, ◌&&◌, ◌==◌, Bool, true, false, cond, not, nat_eq, nat_lt, nat_le}
 use Rattle.std.proofs.Common.{[], ◌∷◌, length, Option, Some, None, refl, sym, ap, ◌∙◌, subst, arith}
 use Rattle.std.specs.List.{All, list_any, filter}
 use Rattle.std.specs.Option.{option_map_or}
 use Rattle.std.specs.Map.{values_of}
-use Rattle.std.proofs.lemmas.Bool.{eqb-true, leb-true, leb-false, lt-ltb, le-ltb}
+use Rattle.std.proofs.lemmas.Bool.{eqb-true, leb-true, leb-false}
 use Rattle.std.proofs.lemmas.Bool.Decides.{nat_tests}
 use Rattle.std.proofs.lemmas.List.Elements.{All-cons, All-head, All-tail, All-filter}
 use Rattle.std.proofs.lemmas.List.Sums.{sum_by-cons, length-filter, count_by-le-length}
-use Rattle.lru.specs.LruCache.{LruCache}
 use Rattle.tile_layout.specs.Cell.{max_cell_bytes}
 use Rattle.tile_layout.specs.Key.{generation_of, file_of}
 use Rattle.tile_store.specs.Tile.{CachedTile, tile_bytes}
@@ -17,7 +16,6 @@ use Rattle.tile_store.specs.Entry.{entry_at, unpinned_at, IsEntry, is_unpinned, 
 use Rattle.tile_store.specs.Changes.{pinned_first, unpinned_once, with_first, with_room, kept_within}
 use Rattle.tile_store.specs.Changes.{without_last_unpinned, without_stale, is_stale, one_less, inserted}
 use Rattle.tile_store.specs.Changes.{new_entry}
-use Rattle.tile_store.specs.Leaving.{within_slots}
 use Rattle.tile_store.specs.Inside.{IsShard}
 use Rattle.tile_store.proofs.PinLemmas.{pin_sum-pinned_first, loose-pinned_first, length-pinned_first}
 use Rattle.tile_store.proofs.PinLemmas.{All-pinned_first, pin_sum-unpinned_once, loose-unpinned_once}
@@ -65,13 +63,6 @@ pub any_by_count : (es : Entries) → pinned_count es < length es → list_any i
 any_by_count es h =
     true_by (list_any is_unpinned es) (λ none. let all = pinned_all es none in omega arith)
 
-pinned_count-first : (tile : CachedTile) (es : Entries)
-    → pinned_count (with_first tile es) ≡ pinned_count es + 1
-pinned_count-first tile es = omega (
-  arith,
-  sum_by-cons (λ x. cond (is_pinned x) 1 0) (tile.key, new_entry tile) es,
-)
-
 small_entry : (e : EntryState) → tile_bytes e.tile ≤ max_cell_bytes
     → unpinned_bytes e ≤ max_cell_bytes
 small_entry e h = elim (e.pins == 0) as (λ b. cond b (tile_bytes e.tile) 0 ≤ max_cell_bytes) [
@@ -97,30 +88,37 @@ length-kept_within share (e ∷ es) =
       | false ↦ omega (arith, length-filter is_pinned es, count_by-le-length is_pinned es)
     ]
 
--- ---- the new entry among the slots
-
-pub within_slots-first : (tile : CachedTile) (slots : ℕ) (es : Entries) → pinned_count es < slots
-    → within_slots slots (with_first tile es) ≡ with_first tile (with_room slots es)
-within_slots-first tile slots es few =
-    (elim (nat_le slots (length es)) as (λ full. nat_le slots (length es) ≡ full
-    → within_slots slots (with_first tile es)
-    ≡ with_first tile (cond full (without_last_unpinned es) es)) [
-      | true ↦ λ is.
-          let full = leb-true slots (length es) is in
-          let over : nat_lt slots (length (with_first tile es)) ≡ true =
-          lt-ltb slots (length (with_first tile es)) (omega arith) in
-          rw (over, any_by_count es (omega arith)) refl
-      | false ↦ λ is.
-          let room = leb-false slots (length es) is in
-          let under : nat_lt slots (length (with_first tile es)) ≡ false =
-          le-ltb slots (length (with_first tile es)) (omega arith) in
-          rw under refl
-    ]) refl
-
 -- a tile whose key has no entry
 pub inserted-new : (tile : CachedTile) (slots : ℕ) (es : Entries) → entry_at tile.key es ≡ None
     → inserted tile slots es ≡ with_first tile (with_room slots es)
 inserted-new tile slots es none = rw none refl
+
+-- a key that has no entry has none where one has left
+absent_without_last : (key : ℕ) (es : Entries) → entry_at key es ≡ None
+    → entry_at key (without_last_unpinned es) ≡ None
+absent_without_last key [] none = refl
+absent_without_last key (e ∷ es) none =
+    (elim (nat_eq key e.0) as (λ b. nat_eq key e.0 ≡ b → cond b (Some e.1) (entry_at key es) ≡ None
+    → entry_at key (without_last_unpinned (e ∷ es)) ≡ None) [
+      | true ↦ λ _ some. absurd cc
+      | false ↦ λ other rest.
+          elim (list_any is_unpinned es) as (λ b. entry_at key (cond b (e ∷ without_last_unpinned es)
+          (cond (is_unpinned e) es (e ∷ es))) ≡ None) [
+            | true ↦ rw other (absent_without_last key es rest)
+            | false ↦ elim (is_unpinned e) as (λ u. entry_at key (cond u es (e ∷ es)) ≡ None) [
+              | true ↦ rest
+              | false ↦ rw other rest
+            ]
+          ]
+    ]) refl none
+
+pub absent_with_room : (key slots : ℕ) (es : Entries) → entry_at key es ≡ None
+    → entry_at key (with_room slots es) ≡ None
+absent_with_room key slots es none =
+    elim (nat_le slots (length es)) as (λ full. entry_at key (cond full (without_last_unpinned es) es) ≡ None) [
+      | true ↦ absent_without_last key es none
+      | false ↦ none
+    ]
 
 -- there is room for one more
 record HasRoom (slots : ℕ) (es : Entries) : Type 0 where
@@ -168,91 +166,87 @@ pin_sum-without_stale file below = filter_pins (λ e. not (is_stale file below e
 
 -- ---- the numbers of a shard
 
-module _ (order : LruCache ℕ EntryState) (pins loose : ℕ) (is : IsShard (Some order) pins loose) where
-  pins_are : pins ≡ pin_sum order.entries
+module _ (es : Entries) (pins loose : ℕ) (is : IsShard es pins loose) where
+  pins_are : pins ≡ pin_sum es
   pins_are = is.pins_is
 
-  loose_are : loose ≡ loose_bytes order.entries
+  loose_are : loose ≡ loose_bytes es
   loose_are = is.loose_is
 
-  all_keyed : All IsEntry order.entries
+  all_keyed : All IsEntry es
   all_keyed = is.keyed
 
-  few : length order.entries < 2 ^ 32
+  few : length es < 2 ^ 32
   few = is.few
 
   pub loose_fits : loose < 2 ^ 57
-  loose_fits = omega (arith, loose_are, few, loose-bound order.entries all_keyed)
+  loose_fits = omega (arith, loose_are, few, loose-bound es all_keyed)
 
-  module _ (new : LruCache ℕ EntryState) (same_cap : new.cap ≡ order.cap) where
-    pub shard_pinned : (key : ℕ) (e : EntryState) → entry_at key order.entries ≡ Some e
-        → new.entries ≡ pinned_first key order.entries
-        → IsShard (Some new) (pins + 1) (loose - unpinned_at key order.entries)
+  module _ (new : Entries) where
+    pub shard_pinned : (key : ℕ) (e : EntryState) → entry_at key es ≡ Some e
+        → new ≡ pinned_first key es
+        → IsShard new (pins + 1) (loose - unpinned_at key es)
     shard_pinned key e found entries =
-        let bytes : unpinned_at key order.entries ≡ unpinned_bytes e = rw found refl in
+        let bytes : unpinned_at key es ≡ unpinned_bytes e = rw found refl in
         record {
           pins_is = omega (
             arith,
             pins_are,
             ap pin_sum entries,
-            pin_sum-pinned_first key order.entries e found,
+            pin_sum-pinned_first key es e found,
           );
           loose_is = omega (
             arith,
             loose_are,
             bytes,
             ap loose_bytes entries,
-            loose-pinned_first key order.entries e found,
+            loose-pinned_first key es e found,
           );
-          keyed = subst (All IsEntry) (sym entries) (All-pinned_first key order.entries e found IsEntry
+          keyed = subst (All IsEntry) (sym entries) (All-pinned_first key es e found IsEntry
               (λ p. record { key = p.key; bytes = p.bytes }) all_keyed);
-          few = omega (arith, few, ap length entries, length-pinned_first key order.entries e found);
-          unbounded = same_cap ∙ is.unbounded;
+          few = omega (arith, few, ap length entries, length-pinned_first key es e found);
         }
 
-    pub shard_unpinned : (key : ℕ) (e : EntryState) → entry_at key order.entries ≡ Some e → 1 ≤ e.pins
-        → new.entries ≡ unpinned_once key order.entries
-        → IsShard (Some new) (pins - 1) (loose + unpinned_at key new.entries)
+    pub shard_unpinned : (key : ℕ) (e : EntryState) → entry_at key es ≡ Some e → 1 ≤ e.pins
+        → new ≡ unpinned_once key es
+        → IsShard new (pins - 1) (loose + unpinned_at key new)
     shard_unpinned key e found some entries =
-        let bytes : unpinned_at key new.entries ≡ unpinned_bytes (one_less e) =
-        ap (unpinned_at key) entries ∙ unpinned_at-unpinned_once key order.entries e found in
+        let bytes : unpinned_at key new ≡ unpinned_bytes (one_less e) =
+        ap (unpinned_at key) entries ∙ unpinned_at-unpinned_once key es e found in
         record {
           pins_is = omega (
             arith,
             pins_are,
             ap pin_sum entries,
-            pin_sum-unpinned_once key order.entries e found some,
+            pin_sum-unpinned_once key es e found some,
           );
           loose_is = omega (
             arith,
             loose_are,
             bytes,
             ap loose_bytes entries,
-            loose-unpinned_once key order.entries e found some,
+            loose-unpinned_once key es e found some,
           );
-          keyed = subst (All IsEntry) (sym entries) (All-unpinned_once key order.entries e found IsEntry
+          keyed = subst (All IsEntry) (sym entries) (All-unpinned_once key es e found IsEntry
               (λ k p. record { key = p.key; bytes = p.bytes }) all_keyed);
-          few = omega (arith, few, ap length entries, length-unpinned_once key order.entries e found);
-          unbounded = same_cap ∙ is.unbounded;
+          few = omega (arith, few, ap length entries, length-unpinned_once key es e found);
         }
 
-    pub shard_within : (share left : ℕ) → new.entries ≡ kept_within share order.entries
-        → left ≡ loose_bytes new.entries → IsShard (Some new) pins left
+    pub shard_within : (share left : ℕ) → new ≡ kept_within share es
+        → left ≡ loose_bytes new → IsShard new pins left
     shard_within share left entries sum = record {
-      pins_is = omega (arith, pins_are, ap pin_sum entries, pin_sum-kept_within share order.entries);
+      pins_is = omega (arith, pins_are, ap pin_sum entries, pin_sum-kept_within share es);
       loose_is = sum;
-      keyed = subst (All IsEntry) (sym entries) (All-kept_within IsEntry share order.entries all_keyed);
-      few = omega (arith, few, ap length entries, length-kept_within share order.entries);
-      unbounded = same_cap ∙ is.unbounded;
+      keyed = subst (All IsEntry) (sym entries) (All-kept_within IsEntry share es all_keyed);
+      few = omega (arith, few, ap length entries, length-kept_within share es);
     }
 
     pub shard_inserted : (tile : CachedTile) (slots bytes : ℕ) → tile_bytes tile ≤ max_cell_bytes
-        → pinned_count order.entries < slots → slots < 2 ^ 32
-        → new.entries ≡ with_first tile (with_room slots order.entries)
-        → loose_bytes new.entries + bytes ≡ loose_bytes (with_first tile order.entries)
-        → IsShard (Some new) (pins + 1) (loose - bytes)
+        → pinned_count es < slots → slots < 2 ^ 32
+        → new ≡ with_first tile (with_room slots es)
+        → loose_bytes (with_room slots es) + bytes ≡ loose_bytes es
+        → IsShard new (pins + 1) (loose - bytes)
     shard_inserted tile slots bytes small room fits entries sum =
-        let es = order.entries in
         let roomy = with_room-has slots es (omega arith) room fits in
         record {
           pins_is = omega (
@@ -266,29 +260,28 @@ module _ (order : LruCache ℕ EntryState) (pins loose : ℕ) (is : IsShard (Som
             arith,
             loose_are,
             sum,
-            sum_by-cons unpinned_bytes (new_entry tile) (values_of es),
+            ap loose_bytes entries,
+            sum_by-cons unpinned_bytes (new_entry tile) (values_of (with_room slots es)),
           );
           keyed = subst (All IsEntry) (sym entries) (All-cons IsEntry (tile.key, new_entry tile)
               (with_room slots es) (record { key = refl; bytes = small })
               (All-with_room IsEntry slots es all_keyed));
           few = omega (arith, ap length entries, roomy.few);
-          unbounded = same_cap ∙ is.unbounded;
         }
 
-    pub shard_purged : (file below bytes : ℕ) → new.entries ≡ without_stale file below order.entries
-        → loose_bytes new.entries + bytes ≡ loose_bytes order.entries
-        → IsShard (Some new) pins (loose - bytes)
+    pub shard_purged : (file below bytes : ℕ) → new ≡ without_stale file below es
+        → loose_bytes new + bytes ≡ loose_bytes es
+        → IsShard new pins (loose - bytes)
     shard_purged file below bytes entries sum = record {
-      pins_is = omega (arith, pins_are, ap pin_sum entries, pin_sum-without_stale file below order.entries);
+      pins_is = omega (arith, pins_are, ap pin_sum entries, pin_sum-without_stale file below es);
       loose_is = omega (arith, loose_are, sum);
       keyed = subst (All IsEntry) (sym entries)
-          (All-filter (λ e. not (is_stale file below e)) IsEntry order.entries all_keyed);
+          (All-filter (λ e. not (is_stale file below e)) IsEntry es all_keyed);
       few = omega (
         arith,
         few,
         ap length entries,
-        length-filter (λ e. not (is_stale file below e)) order.entries,
-        count_by-le-length (λ e. not (is_stale file below e)) order.entries,
+        length-filter (λ e. not (is_stale file below e)) es,
+        count_by-le-length (λ e. not (is_stale file below e)) es,
       );
-      unbounded = same_cap ∙ is.unbounded;
     }

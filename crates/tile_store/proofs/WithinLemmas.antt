@@ -6,7 +6,6 @@ use Rattle.std.specs.Map.{values_of}
 use Rattle.std.proofs.lemmas.Bool.{eqb-true, leb-true, leb-false, le-leb, lt-leb}
 use Rattle.std.proofs.lemmas.List.Elements.{All-cons, All-head, All-tail, All-filter}
 use Rattle.std.proofs.lemmas.List.Sums.{sum_by-cons}
-use Rattle.lru.specs.LruCache.{LruCache}
 use Rattle.tile_store.specs.Tile.{tile_bytes}
 use Rattle.tile_store.specs.Entry.{EntryState, Entries, unpinned_bytes, pin_sum, loose_bytes, is_unpinned, is_pinned}
 use Rattle.tile_store.specs.Changes.{without_last_unpinned, kept_within}
@@ -145,7 +144,6 @@ All-kept_within P share (e ∷ es) all =
 -- ---- the last ones leave one after another
 
 -- those that are to stay are still those that were
-pub record Evicting (share loose : ℕ) (was now : LruCache ℕ EntryState) : Type 0 where
-  pub loose_is : loose ≡ loose_bytes now.entries
-  pub kept : kept_within share now.entries ≡ kept_within share was.entries
-  pub cap : now.cap ≡ was.cap
+pub record Evicting (share loose : ℕ) (was now : Entries) : Type 0 where
+  pub loose_is : loose ≡ loose_bytes now
+  pub kept : kept_within share now ≡ kept_within share was

@@ -1,11 +1,12 @@
 -- Which entry is the next to leave?
-use Rattle.std.specs.Prelude.{◌≡◌, ℕ, ◌-◌, nat_lt, false, ◌∷◌, ◌++◌, length, take, if◌then◌else◌}
+use Rattle.std.specs.Prelude.{◌≡◌, ℕ, ◌-◌, nat_eq, false, Option, ◌∷◌, ◌++◌, length, take, if◌then◌else◌}
 use Rattle.std.specs.List.{list_any}
 use Rattle.std.specs.Option.{option_map_or}
-use Rattle.lru.specs.LruCache.{last_entry}
+use Rattle.std.specs.Map.{lookup_entry, remove_entry}
 use Rattle.tile_store.specs.Tile.{tile_bytes}
 use Rattle.tile_store.specs.Entry.{EntryState, Entries, is_unpinned}
-use Rattle.tile_store.specs.Changes.{without_last_unpinned, is_stale}
+use Rattle.tile_store.specs.Changes.{is_stale}
+use Rattle.tile_store.specs.Links.{last_of}
 
 -- the entry of this key is the last unpinned one, with so many bytes
 pub record IsLastUnpinned (key bytes : ℕ) (es : Entries) : Type 0 where
@@ -17,9 +18,14 @@ pub record IsLastUnpinned (key bytes : ℕ) (es : Entries) : Type 0 where
   pub behind : list_any is_unpinned back ≡ false
   pub bytes_are : bytes ≡ tile_bytes entry.tile
 
--- where there are more entries than slots, the last unpinned one has left
-abbrev pub within_slots : ℕ → Entries → Entries
-within_slots slots es = if nat_lt slots (length es) then without_last_unpinned es else es
+-- the last entry
+abbrev pub last_entry : Entries → Option (ℕ × EntryState)
+last_entry es = last_of es
+
+-- the entry of a key goes first
+abbrev pub promoted : ℕ → Entries → Entries
+promoted key es =
+    option_map_or (λ e. e ∷ remove_entry (nat_eq key) es) (lookup_entry (nat_eq key) es) es
 
 -- the entries but for the last
 abbrev pub all_but_last : Entries → Entries

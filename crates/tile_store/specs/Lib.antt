@@ -3,6 +3,8 @@ pub mod Told
 pub mod Kept
 pub mod Entry
 pub mod Inside
+pub mod Links
+pub mod Order
 pub mod Changes
 pub mod Leaving
 pub mod Tag

@@ -42,6 +42,13 @@ impl<W: World> Entry<W> {
         another(&self.tile)
     }
 
+    /// The key of its tile.
+    pub(crate) fn key(&self) -> TileKey
+        ensures { result ≡ self.now.tile.key }
+    {
+        self.tile.key()
+    }
+
     pub(crate) fn is_unpinned(&self) -> bool
         ensures { result ≡ (self.now.pins == 0) }
     {
@@ -62,10 +69,11 @@ impl<W: World> Entry<W> {
         if self.pins == 0 { self.tile.bytes() } else { 0 }
     }
 
-    /// It is unpinned, and of a generation of the file below the bound, where the key is its own.
-    pub(crate) fn is_stale(&self, key: TileKey, file: u32, below: u32) -> bool
-        ensures { result ≡ is_stale file below (key, self.now) }
+    /// It is unpinned, and of a generation of the file below the bound.
+    pub(crate) fn is_stale(&self, file: u32, below: u32) -> bool
+        ensures { result ≡ is_stale file below (self.now.tile.key, self.now) }
     {
+        let key = self.key();
         self.is_unpinned() && key.file() == file && key.generation() < below
     }
 

@@ -4,6 +4,7 @@
 
 mod entry;
 mod evict;
+mod links;
 mod order;
 mod purge;
 mod shard;
@@ -13,6 +14,10 @@ mod two_rows;
 // A clause can name a shard only if the types of its fields are exported.
 #[doc(hidden)]
 pub use entry::Entry;
+#[doc(hidden)]
+pub use links::Links;
+#[doc(hidden)]
+pub use order::Order;
 pub use shard::Shard;
 pub use tile::Tile;
 pub use two_rows::TwoRows;

@@ -12,7 +12,6 @@ use tex_world::World;
 pub(crate) fn purge<W: World>(order: &mut Order<W>, file: u32, below: u32) -> u64
     requires { loose_bytes order.old.entries < 2 ^ 64 }
     ensures entries { order.new.entries ≡ without_stale file below order.old.entries }
-    ensures cap { order.new.cap ≡ order.old.cap }
     ensures bytes { loose_bytes order.new.entries + result ≡ loose_bytes order.old.entries }
 {
     let mut bytes = 0;
@@ -27,21 +26,20 @@ pub(crate) fn purge<W: World>(order: &mut Order<W>, file: u32, below: u32) -> u6
 fn take_or_turn<W: World>(order: &mut Order<W>, file: u32, below: u32) -> u64
     requires { 0 < length order.old.entries }
     ensures entries { order.new.entries ≡ turned file below order.old.entries }
-    ensures cap { order.new.cap ≡ order.old.cap }
     ensures bytes { loose_bytes order.new.entries + result ≡ loose_bytes order.old.entries }
 {
     // Its keys are distinct, so the entry of the last key is the last.
     let _count = order.len();
-    let Some((key, entry)) = order.peek_lru() else {
+    let Some(entry) = order.last() else {
         return 0;
     };
-    let key = *key;
+    let key = entry.key();
     let bytes = entry.unpinned_bytes();
-    if entry.is_stale(key, file, below) {
-        order.pop_lru();
+    if entry.is_stale(file, below) {
+        order.pop(key);
         bytes
     } else {
-        order.promote(&key);
+        order.promote(key);
         0
     }
 }

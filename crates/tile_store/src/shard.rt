@@ -8,12 +8,11 @@ ghost use Rattle.tile_store.specs.Changes.{kept_within, without_stale, with_pin,
 ghost use Rattle.tile_store.specs.Tag.{share_in_tag};
 ghost use Rattle.tile_store.specs.Lawful.{FitsTag, Lawful, KeepsLawful, KeepsLawfulFor};
 
-use crate::entry::{Entry, owned};
-use crate::evict::{evict_past, keep_slots};
-use crate::order::{is_pinned, no_entries, pin, put_first, shared, unpin};
+use crate::entry::{Entry, another, owned};
+use crate::evict::{evict_past, make_room};
+use crate::order::Order;
 use crate::purge::purge;
 use crate::tile::Tile;
-use lru::LruCache;
 use std::alloc::Global;
 use std::marker::Model;
 use std::sync::Arc;
@@ -27,34 +26,34 @@ use tile_layout::TileKey;
 #[derive(Drop)]
 pub struct Shard<W: World> {
     alloc: Global,
-    order: Option<LruCache<TileKey, Entry<W>>>,
+    order: Order<W>,
     pins: u32,
     loose: u64,
 }
 
 impl<W: World> Model for Shard<W> {
     ghost use Rattle.tile_store.specs.Entry.{Entries};
-    ghost use Rattle.tile_store.specs.Inside.{entries_in, IsShard};
+    ghost use Rattle.tile_store.specs.Inside.{IsShard};
 
     ghost Value = { Entries };
 
-    ghost view = { λ s. entries_in s.order };
+    ghost view = { λ s. s.order.entries };
 
-    ghost invariant = { λ s. IsShard s.order s.pins s.loose };
+    ghost invariant = { λ s. IsShard s.order.entries s.pins s.loose };
 }
 
 impl<W: World> Shard<W> {
-    /// A shard with no tile. It takes no memory.
-    pub fn new(alloc: Global) -> Shard<W>
-        ensures value { result ≡ [] }
-        ensures lawful { (tag : ℕ) → Lawful W.files tag result }
+    /// A shard with no tile and so many slots. It takes the memory for all of its entries.
+    pub fn with_slots(alloc: Global, slots: u32) -> Result<Shard<W>, NoMemory>
+        ensures value { IfOk result (λ shard. shard ≡ []) }
+        ensures lawful { IfOk result (λ shard. (tag : ℕ) → Lawful W.files tag shard) }
     {
-        Shard {
+        Ok(Shard {
             alloc,
-            order: None,
+            order: Order::with_slots(alloc, slots)?,
             pins: 0,
             loose: 0,
-        }
+        })
     }
 
     /// The tile of a key, with a pin more on its entry, which then stands first. Else None, and
@@ -69,16 +68,14 @@ impl<W: World> Shard<W> {
         ensures err { OnErr result (self.new ≡ self.old) }
         ensures lawful { KeepsLawful W.files self.old self.new }
     {
-        let Some(order) = &mut self.order else {
+        let Some(entry) = self.order.peek(key) else {
             return Ok(None);
         };
-        let Some(tile) = shared(order, key)? else {
-            return Ok(None);
-        };
-        self.loose -= pin(order, key);
+        let tile = entry.shared()?;
+        self.loose -= self.order.pin(key);
         self.pins += 1;
         // The order's keys are distinct.
-        let _count = order.len();
+        let _count = self.order.len();
         Ok(Some(tile))
     }
 
@@ -114,27 +111,16 @@ impl<W: World> Shard<W> {
         ensures err { OnErr result (self.new ≡ self.old) }
         ensures lawful { KeepsLawfulFor W.files (FitsTag W.files tile) self.old self.new }
     {
+        // Its bytes are few.
+        let _key = tile.key();
         let kept = owned(self.alloc, tile)?;
-        self.make_order()?;
-        let Some(order) = &mut self.order else {
-            return Err(NoMemory);
-        };
-        put_first(order, &kept)?;
+        let entry = Entry::pinned(another(&kept)?);
+        self.loose -= make_room(&mut self.order, slots)?;
+        self.order.put(entry);
         self.pins += 1;
-        self.loose -= keep_slots(order, slots);
         // The order's keys are distinct.
-        let _count = order.len();
+        let _count = self.order.len();
         Ok(kept)
-    }
-
-    /// Makes an order where there is none yet.
-    fn make_order(&mut self) -> Result<(), NoMemory>
-        ensures same { self.new ≡ self.old }
-    {
-        if self.order.is_none() {
-            self.order = Some(no_entries(self.alloc)?);
-        }
-        Ok(())
     }
 
     /// Takes a pin from the entry of a key. Then, while the unpinned tiles take more bytes than the
@@ -146,13 +132,11 @@ impl<W: World> Shard<W> {
         ensures within { loose_bytes self.new ≤ share }
         ensures lawful { KeepsLawfulFor W.files (λ tag. share_in_tag tag ≡ share) self.old self.new }
     {
-        if let Some(order) = &mut self.order {
-            let loose = self.loose + unpin(order, key);
-            self.pins -= 1;
-            self.loose = evict_past(order, loose, share);
-            // The order's keys are distinct.
-            let _count = order.len();
-        }
+        let loose = self.loose + self.order.unpin(key);
+        self.pins -= 1;
+        self.loose = evict_past(&mut self.order, loose, share);
+        // The order's keys are distinct.
+        let _count = self.order.len();
     }
 
     /// The unpinned tiles of a file leave whose generation is below the bound, and no others.
@@ -161,19 +145,17 @@ impl<W: World> Shard<W> {
         ensures pinned { KeepsPinned self.old self.new }
         ensures lawful { KeepsLawful W.files self.old self.new }
     {
-        if let Some(order) = &mut self.order {
-            self.loose -= purge(order, file, below);
-            // The order's keys are distinct.
-            let _count = order.len();
-        }
+        self.loose -= purge(&mut self.order, file, below);
+        // The order's keys are distinct.
+        let _count = self.order.len();
     }
 
     /// The tile of a key is there and pinned.
     pub fn is_pinned(&self, key: TileKey) -> bool
         ensures value { IsTrue result ↔ HasPin key self.now }
     {
-        match &self.order {
-            Some(order) => is_pinned(order, key),
+        match self.order.peek(key) {
+            Some(entry) => entry.is_pinned(),
             None => false,
         }
     }
@@ -183,10 +165,7 @@ impl<W: World> Shard<W> {
         ensures value { result ≡ length self.now }
         ensures valid { AreEntries self.now }
     {
-        match &self.order {
-            Some(order) => order.len() as u32,
-            None => 0,
-        }
+        self.order.len() as u32
     }
 
     /// The sum of the pins. No more tiles than that are pinned.

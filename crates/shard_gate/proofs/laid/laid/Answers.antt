@@ -11,7 +11,7 @@ use Rattle.shard_gate.proofs.laid.laid.Goals as goal
 pub new-requires-in-loop-shard : goal.new-requires-in-loop-shard
 new-requires-in-loop-shard g c =
     subst (λ (es : Entries). Lawful g.W.World.files c.args.terms.now.tag es)
-    (sym c.new-body.ensures) (c.new.ensures.lawful c.args.terms.now.tag)
+    (sym c.new.ensures) (c.in-Ok.ensures.lawful c.args.terms.now.tag)
 
 pub loop-shard-preserved : goal.loop-shard-preserved
 loop-shard-preserved g c =

@@ -29,7 +29,6 @@ evicting-preserved g c =
       kept = ap (kept_within c.args.share) c.evict-left.ensures.entries
           ∙ kept_within-without_last c.args.share c.evicting.order.entries past
           ∙ c.evicting.invariant.kept;
-      cap = c.evict-left.ensures.cap ∙ c.evicting.invariant.cap;
     }
 
 pub returns-clause-entries : goal.returns-clause-entries

@@ -30,5 +30,4 @@ around-preserved g c =
           ∙ ap (turned c.args.file c.args.below) was
           ∙ turned-turned_to c.args.file c.args.below k es (omega arith);
       bytes_are = omega arith;
-      cap = c.take_or_turn-bytes.ensures.cap ∙ c.around.invariant.cap;
     }

@@ -26,7 +26,9 @@ returns-clause-visits g c = if_ok c.insert.result _ _
     (subst (λ (n : ℕ). Inserts (slots_of n) c.args.tile (arc_value kept)
     c.index_mut.result.now.visits c.insert.new.seat.visits)
     (ap (λ (a : GateState). a.passes) c.self.view_is) inserted))
-    c.insert.ensures.ok
+    (subst (λ (n : ℕ). IfOk c.insert.result (λ kept. Inserts n c.args.tile (arc_value kept)
+    c.index_mut.result.now.visits c.insert.new.seat.visits)) c.slots_for-slots.ensures
+    c.insert.ensures.ok)
 
 pub returns-clause-refused : goal.returns-clause-refused
 returns-clause-refused g c = if_err c.insert.result _ _

@@ -1,0 +1,57 @@
+-- What is known of the entries of a shard in their slots?
+use Rattle.std.specs.Prelude.{◌≡◌, ℕ, zero, suc, ◌+◌, ◌<◌, ◌≤◌, true, nat_eq, List, [], ◌∷◌, ◌++◌, length}
+use Rattle.std.specs.Prelude.{Option, Some, None, slice_index_or, IsSomeAnd}
+use Rattle.std.specs.Option.{option_map_or}
+use Rattle.std.specs.List.{IsDistinct}
+use Rattle.std.specs.Map.{lookup}
+use Rattle.tile_store.specs.Entry.{EntryState, Entries}
+use Rattle.tile_store.specs.Links.{Linked, is_in}
+
+-- the entries, the most recently used first, how many slots there are, and how many keys more the
+-- index takes without memory
+pub record OrderState : Type 0 where
+  pub entries : Entries
+  pub cap : ℕ
+  pub spare : ℕ
+
+-- the entry in a slot, if it has one
+abbrev pub entry_in : List (Option EntryState) → ℕ → Option EntryState
+entry_in slots slot = slice_index_or slots slot None
+
+-- an entry before others, under the key of its tile
+abbrev pub in_front : Option EntryState → Entries → Entries
+in_front entry es = option_map_or (λ e. (e.tile.key, e) ∷ es) entry es
+
+-- the entries in these slots
+abbrev pub entries_of : List (Option EntryState) → List ℕ → Entries
+entries_of slots [] = []
+entries_of slots (p ∷ ps) = in_front (entry_in slots p) (entries_of slots ps)
+
+-- the slot of a key by the index
+abbrev pub slot_by : ℕ → List (ℕ × ℕ) → Option ℕ
+slot_by key index = lookup (nat_eq key) index
+
+-- The slots in the order have entries, and the index finds each by its key and no others. The other
+-- slots are free: they have no entry, and there is room to note each of them.
+pub record IsOrder (slots : List (Option EntryState)) (free : List ℕ) (room : ℕ) (index : List (ℕ × ℕ)) (links : Linked) : Type 0 where
+  pub places : length slots ≡ links.places
+  pub shared : length free + length links.order ≡ links.places
+  pub noted : links.places ≤ room
+  pub low : (p : ℕ) → is_in p free ≡ true → p < links.places
+  pub empty : (p : ℕ) → is_in p free ≡ true → entry_in slots p ≡ None
+  pub apart : IsDistinct nat_eq free
+  pub indexed : (key p : ℕ) → slot_by key index ≡ Some p → is_in p links.order ≡ true
+  pub keyed : (key p : ℕ) → slot_by key index ≡ Some p
+      → IsSomeAnd (entry_in slots p) (λ e. e.tile.key ≡ key)
+  pub held : (p : ℕ) → is_in p links.order ≡ true
+      → IsSomeAnd (entry_in slots p) (λ e. slot_by e.tile.key index ≡ Some p)
+
+-- the numbers below a bound, from 0 on
+abbrev pub below : ℕ → List ℕ
+below zero = []
+below (suc n) = below n ++ n ∷ []
+
+-- as many slots, and no less room
+pub record KeepsRoom (old new : OrderState) : Type 0 where
+  pub cap : new.cap ≡ old.cap
+  pub spare : old.spare ≤ new.spare
