@@ -3,7 +3,7 @@
 use crate::asks::Answer::{Facts, Known, Of, ReadFault, Rectangle, Released, Shard, Texels};
 use crate::asks::Ask;
 use crate::asks::Ask::{Count, Held, Hold, Info, Invalidate, InvalidateAll, Pixels, Release};
-use crate::planned::{FAILING, NEWER, ONE_SHARD, PLAIN, steps_met};
+use crate::planned::{FAILING, HALTING, NEWER, ONE_SHARD, PLAIN, steps_met};
 use crate::small_files::{A, B};
 use crate::steps::{CALLS, QUIET, Step};
 use std::test::Fail;
@@ -167,6 +167,52 @@ static ROWS: &[(&str, &[Step])] = &[
                 &[],
                 [2, 0, 2, 0],
                 CALLS,
+            ),
+        ],
+    ),
+    (
+        "all files, and the tap fails at the second that is known: the first is done",
+        &[
+            (
+                PLAIN,
+                OTHER,
+                Texels(1, 3),
+                &[7, 100, 20100, 40100],
+                [1, 0, 1, 0],
+                CALLS,
+            ),
+            (PLAIN, ONE, Texels(1, 1), &[7, 8481], [2, 0, 1, 0], CALLS),
+            (HALTING, InvalidateAll, ReadFault, &[], [2, 0, 2, 0], CALLS),
+            (
+                PLAIN,
+                Count(0),
+                Shard([1, 0, 12288, SHARE]),
+                &[],
+                [2, 0, 2, 0],
+                QUIET,
+            ),
+        ],
+    ),
+    (
+        "all files, and the tap fails at the first that is known: no tile leaves",
+        &[
+            (
+                PLAIN,
+                OTHER,
+                Texels(1, 3),
+                &[7, 100, 20100, 40100],
+                [1, 0, 1, 0],
+                CALLS,
+            ),
+            (PLAIN, ONE, Texels(1, 1), &[7, 8481], [2, 0, 1, 0], CALLS),
+            (FAILING, InvalidateAll, ReadFault, &[], [2, 0, 1, 0], CALLS),
+            (
+                PLAIN,
+                Count(0),
+                Shard([2, 0, 12320, SHARE]),
+                &[],
+                [2, 0, 1, 0],
+                QUIET,
             ),
         ],
     ),

@@ -37,6 +37,9 @@ pub(crate) const RISING: usize = 6;
 /// Its first read of the second tile of `B` fails.
 pub(crate) const BROKEN: usize = 7;
 
+/// The newest generation of `A` is 2, and its second call fails.
+pub(crate) const HALTING: usize = 8;
+
 // The byte at which the samples of `A` begin, and two tiles of `B`.
 const SAMPLES: u64 = 122;
 
@@ -101,14 +104,20 @@ fn folder_of(alloc: Global) -> Result<MemFolder<SmallFiles>, Fail> {
         file: B,
         at: SECOND_TILE,
     })?;
+    plan.newest.push(Newest {
+        tap: 8,
+        file: A,
+        generation: 2,
+    })?;
+    plan.fail_calls.push(FailCall { tap: 8, call: 2 })?;
     Ok(MemFolder::new(plan))
 }
 
-/// The eight taps.
+/// The nine taps.
 pub(crate) fn taps_of(alloc: Global) -> Result<Vec<MemTap<SmallFiles>>, Fail> {
     let mut folder = folder_of(alloc)?;
     let mut taps = Vec::new(alloc);
-    for _ in 0..8 {
+    for _ in 0..9 {
         taps.push(folder.tap(alloc)?)?;
     }
     Ok(taps)

@@ -8,10 +8,10 @@ use Rattle.tex_world.specs.Tap.{Named, TapState}
 use Rattle.gen_board.specs.View.{ViewState, IsLater}
 use Rattle.tiff_format.specs.declared.cut.Cut.{Cut}
 use Rattle.file_table.specs.Record.{RecordState, IsRecord}
-use Rattle.file_table.specs.declared.error.RecordError.{RecordError}
-use Rattle.file_table.specs.declared.error.RecordError.TheVariants as reading
-use Rattle.file_table.specs.declared.error.LendError.{LendError}
-use Rattle.file_table.specs.declared.error.LendError.TheVariants as lending
+use Rattle.tex_world.specs.declared.fault.OpenError.{OpenError}
+use Rattle.tex_world.specs.declared.fault.OpenError.TheVariants as opening
+use Rattle.file_table.specs.declared.error.FileError.{FileError}
+use Rattle.file_table.specs.declared.error.FileError.TheVariants as refused
 
 -- what is known of a view and of a tap
 pub record Sighted : Type 0 where
@@ -20,6 +20,13 @@ pub record Sighted : Type 0 where
 
 abbrev pub sighted : ViewState → TapState → Sighted
 sighted view tap = record { view = view; tap = tap }
+
+-- ---- refusals
+
+-- what a refused opening of the tap is answered as
+abbrev pub of_open : {B : Type 0} → OpenError → FileError B
+of_open opening.Failed = refused.ReadFault
+of_open opening.NoMemory = refused.NoMemory
 
 -- ---- what a call leaves
 
@@ -93,23 +100,23 @@ pub record MeetsNewer (files : Files) (file least from to : ℕ) (old new : TapS
   pub moves : Rises old.moves new.moves
 
 -- why a file that was opened has no record
-abbrev pub OpenedCause : {B : Type 0} → Files → ℕ → ℕ → TapState → TapState → RecordError B
+abbrev pub OpenedCause : {B : Type 0} → Files → ℕ → ℕ → TapState → TapState → FileError B
     → Type 0
-OpenedCause files file least old new reading.ReadFault = Rises old.faults new.faults
-OpenedCause files file least old new (reading.Again from to) =
+OpenedCause files file least old new refused.ReadFault = Rises old.faults new.faults
+OpenedCause files file least old new (refused.Again from to) =
     MeetsNewer files file least from to old new
-OpenedCause files file least old new reading.NoMemory = ⊤
-OpenedCause files file least old new (reading.Busy b) = ⊥
+OpenedCause files file least old new refused.NoMemory = ⊤
+OpenedCause files file least old new (refused.Busy b) = ⊥
 
 -- Why a file has no record. Where a newer generation was met the view has then seen it, and memory
 -- is wanting only where the file was opened. Where the waiter gave up the tap had no call.
-abbrev pub RecordCause : {B : Type 0} → Files → ℕ → Sighted → Sighted → RecordError B → Type 0
-RecordCause files file old new reading.ReadFault = Rises old.tap.faults new.tap.faults
-RecordCause files file old new (reading.Again from to) =
+abbrev pub RecordCause : {B : Type 0} → Files → ℕ → Sighted → Sighted → FileError B → Type 0
+RecordCause files file old new refused.ReadFault = Rises old.tap.faults new.tap.faults
+RecordCause files file old new (refused.Again from to) =
     MeetsNewer files file (slice_index old.view.seen file) from to old.tap new.tap
     × (to ≤ slice_index new.view.seen file)
-RecordCause files file old new reading.NoMemory = OpensOnce old.tap new.tap
-RecordCause files file old new (reading.Busy b) = new.tap ≡ old.tap
+RecordCause files file old new refused.NoMemory = OpensOnce old.tap new.tap
+RecordCause files file old new (refused.Busy b) = new.tap ≡ old.tap
 
 -- ---- lend
 
@@ -121,24 +128,24 @@ pub record IsOfExactly (file generation : ℕ) (handle : Named) : Type 0 where
 -- Why a handle of a generation is not lent. Where a newer one was met the view has then seen it,
 -- and else the view is as it was. Memory is wanting only where the file was opened, and where the
 -- waiter gave up the tap had no call.
-abbrev pub LendCause : {B : Type 0} → Files → ℕ → ℕ → Sighted → Sighted → LendError B → Type 0
-LendCause files file generation old new lending.ReadFault =
+abbrev pub LendCause : {B : Type 0} → Files → ℕ → ℕ → Sighted → Sighted → FileError B → Type 0
+LendCause files file generation old new refused.ReadFault =
     Rises old.tap.faults new.tap.faults × (new.view ≡ old.view)
-LendCause files file generation old new (lending.Again from to) =
+LendCause files file generation old new (refused.Again from to) =
     (from ≡ generation) × MeetsNewer files file generation from to old.tap new.tap
     × (to ≤ slice_index new.view.seen file)
-LendCause files file generation old new lending.NoMemory =
+LendCause files file generation old new refused.NoMemory =
     OpensOnce old.tap new.tap × (new.view ≡ old.view)
-LendCause files file generation old new (lending.Busy b) =
+LendCause files file generation old new (refused.Busy b) =
     (new.tap ≡ old.tap) × (new.view ≡ old.view)
 
 -- the refusal is that a newer generation was met
-abbrev pub IsAgain : {B : Type 0} → LendError B → Type 0
-IsAgain (lending.Again from to) = ⊤
+abbrev pub IsAgain : {B : Type 0} → FileError B → Type 0
+IsAgain (refused.Again from to) = ⊤
 IsAgain _ = ⊥
 
 -- The tap met a newer generation only where that is the answer.
-pub record MovesOnlyAgain {A B : Type 0} (old new : TapState) (result : Result A (LendError B))
+pub record MovesOnlyAgain {A B : Type 0} (old new : TapState) (result : Result A (FileError B))
     : Type 0 where
   pub ok : OnOk result (new.moves ≡ old.moves)
   pub err : IfErr result (λ e. (IsAgain e → ⊥) → new.moves ≡ old.moves)

@@ -74,10 +74,11 @@ pub record IsLevelOf (file generation : ℕ) (cut : Cut) (kept : Kept) (l : ℕ)
   pub samples : IsChannelCount level.channels
   pub depth : level.depth ≡ bit_depth_in kept
 
--- these are the levels that the file has under the cut
+-- these are the levels that the file has under the cut, one at least
 pub record AreLevelsOf (file generation : ℕ) (cut : Cut) (kept : Kept) (levels : List KnownLevel)
     : Type 0 where
   pub count : length levels ≡ level_count_in kept cut.automip
+  pub some : 1 ≤ length levels
   pub each : (l : ℕ) (d : KnownLevel) → l < length levels
       → IsLevelOf file generation cut kept l (slice_index_or levels l d)
 

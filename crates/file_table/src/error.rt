@@ -1,29 +1,43 @@
 //! Why a call of the table is refused.
+use std::alloc::AllocError;
+use tex_world::OpenError;
 
-/// Why a file has no record.
+/// Why a file has no record, or no handle of it is lent.
 #[derive(Clone, Copy, Debug, PartialEq, Eq)]
-pub enum RecordError<B> {
+pub enum FileError<B> {
     /// The source failed. Its count of faults has risen.
     ReadFault,
-    /// The file was opened in one generation, and a read met a newer one.
+    /// The generation `from` was opened or asked for, and a newer one was met.
     Again { from: u32, to: u32 },
     /// No memory was found.
     NoMemory,
-    /// The waiter gave up before the lock of the file's record was free.
+    /// The waiter gave up before the lock that the call needs was free.
     Busy(B),
 }
 
-/// Why a handle is not lent.
-#[derive(Clone, Copy, Debug, PartialEq, Eq)]
-pub enum LendError<B> {
-    /// The source failed. Its count of faults has risen.
-    ReadFault,
-    /// The generation `from` was asked for, and the file was opened in a newer one.
-    Again { from: u32, to: u32 },
-    /// No memory was found.
-    NoMemory,
-    /// The waiter gave up before the lock of the idle handles was free.
-    Busy(B),
+impl<B> From<OpenError> for FileError<B> {
+    ghost use Rattle.std.specs.Prelude.{◌≡◌};
+    ghost use Rattle.file_table.specs.Calls.{of_open};
+
+    ghost from_gives = { λ e refused. refused ≡ of_open e };
+
+    fn from(e: OpenError) -> FileError<B> {
+        match e {
+            OpenError::Failed => FileError::ReadFault,
+            OpenError::NoMemory => FileError::NoMemory,
+        }
+    }
+}
+
+impl<B> From<AllocError> for FileError<B> {
+    ghost use Rattle.std.specs.Prelude.{◌≡◌};
+    ghost use Rattle.file_table.specs.declared.error.FileError.TheVariants.{NoMemory};
+
+    ghost from_gives = { λ _ e. e ≡ NoMemory };
+
+    fn from(_e: AllocError) -> FileError<B> {
+        FileError::NoMemory
+    }
 }
 
 /// A `settle` gave up. The file comes back, and dropping it closes its handle.

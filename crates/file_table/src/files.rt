@@ -6,7 +6,7 @@ ghost use Rattle.file_table.specs.Calls.{sighted, RaisesIfAtAll, LooksOnce, Open
 ghost use Rattle.file_table.specs.Files.{HasLocks};
 ghost use Rattle.file_table.specs.Calls.{GivesRecord, IsAsSeen, OpensIfAtAll, RecordCause};
 
-use crate::error::RecordError;
+use crate::error::FileError;
 use crate::home::put_back;
 use crate::idle_files::{IdleFiles, SoMany};
 use crate::known::{KnownRecord, OfFile};
@@ -113,7 +113,7 @@ impl<T: Tap> Files<T> {
         view: &mut View<T::W>,
         tap: &mut T,
         file: u32,
-    ) -> Result<Arc<Record<T::W>>, RecordError<V::Busy>>
+    ) -> Result<Arc<Record<T::W>>, FileError<V::Busy>>
         requires board { view.old.board ≡ self.now.board }
         requires file { file < self.now.board.files }
         requires told { IsFile T.W.files file }
@@ -131,7 +131,7 @@ impl<T: Tap> Files<T> {
         let _seen = view.seen(file);
         let known = match self.known(waiter, file, least) {
             Ok(known) => known,
-            Err(busy) => return Err(RecordError::Busy(busy)),
+            Err(busy) => return Err(FileError::Busy(busy)),
         };
         match known {
             Some(found) => {
@@ -196,7 +196,7 @@ impl<T: Tap> Files<T> {
         view: &mut View<T::W>,
         tap: &mut T,
         file: u32,
-    ) -> Result<Arc<Record<T::W>>, RecordError<V::Busy>>
+    ) -> Result<Arc<Record<T::W>>, FileError<V::Busy>>
         requires board { view.old.board ≡ self.now.board }
         requires file { file < self.now.board.files }
         requires told { IsFile T.W.files file }
@@ -212,14 +212,14 @@ impl<T: Tap> Files<T> {
             Ok(read) => {
                 self.see(view, file, read.generation());
                 let Ok(read) = Arc::new(self.alloc, read) else {
-                    return Err(RecordError::NoMemory);
+                    return Err(FileError::NoMemory);
                 };
                 self.keep(waiter, file, &read);
                 Ok(read)
             }
-            Err(RecordError::Again { from, to }) => {
+            Err(FileError::Again { from, to }) => {
                 self.see(view, file, to);
-                Err(RecordError::Again { from, to })
+                Err(FileError::Again { from, to })
             }
             Err(other) => Err(other),
         }

@@ -6,12 +6,12 @@ ghost use Rattle.file_table.specs.Aheads.{max_aheads};
 ghost use Rattle.file_table.specs.Calls.{IsOfExactly, LendCause, MovesOnlyAgain};
 ghost use Rattle.tap_reader.specs.ReadAhead.{IsOf};
 
-use crate::error::{LendError, NotSettled};
+use crate::error::{FileError, NotSettled};
 use crate::files::Files;
 use crate::home::put_back;
 use gen_board::View;
 use tap_reader::{OpenFile, ReadAhead};
-use tex_world::{OpenError, Tap, TapHandle};
+use tex_world::{Tap, TapHandle};
 use waiter::Waiter;
 
 impl<T: Tap> Files<T> {
@@ -27,7 +27,7 @@ impl<T: Tap> Files<T> {
         tap: &mut T,
         file: u32,
         generation: u32,
-    ) -> Result<OpenFile<T>, LendError<V::Busy>>
+    ) -> Result<OpenFile<T>, FileError<V::Busy>>
         requires board { view.old.board ≡ self.now.board }
         requires file { file < self.now.board.files }
         requires told { IsFile T.W.files file }
@@ -45,7 +45,7 @@ impl<T: Tap> Files<T> {
     {
         let (idle, kept) = match self.take_idle(waiter, file, generation) {
             Ok(taken) => taken,
-            Err(busy) => return Err(LendError::Busy(busy)),
+            Err(busy) => return Err(FileError::Busy(busy)),
         };
         let ahead = match kept {
             Some(ahead) => ahead,
@@ -56,10 +56,8 @@ impl<T: Tap> Files<T> {
                 return Ok(OpenFile { handle, ahead });
             }
         }
-        match self.open_at(view, tap, file, generation) {
-            Ok(handle) => Ok(OpenFile { handle, ahead }),
-            Err(error) => Err(error),
-        }
+        let handle = self.open_at(view, tap, file, generation)?;
+        Ok(OpenFile { handle, ahead })
     }
 
     /// Makes a handle the one that lies idle of its file, in the place of one that is not newer,
@@ -146,7 +144,7 @@ impl<T: Tap> Files<T> {
         tap: &mut T,
         file: u32,
         generation: u32,
-    ) -> Result<T::Handle, LendError<B>>
+    ) -> Result<T::Handle, FileError<B>>
         requires board { view.old.board ≡ self.now.board }
         requires file { file < self.now.board.files }
         requires told { IsFile T.W.files file }
@@ -159,17 +157,13 @@ impl<T: Tap> Files<T> {
         ensures moves { MovesOnlyAgain (T.state tap.old) (T.state tap.new) result }
         ensures once { OpensOnce (T.state tap.old) (T.state tap.new) }
     {
-        let handle = match tap.open(self.alloc, file, generation) {
-            Ok(handle) => handle,
-            Err(OpenError::Failed) => return Err(LendError::ReadFault),
-            Err(OpenError::NoMemory) => return Err(LendError::NoMemory),
-        };
+        let handle = tap.open(self.alloc, file, generation)?;
         let newest = handle.generation();
         if newest == generation {
             return Ok(handle);
         }
         self.see(view, file, newest);
-        Err(LendError::Again {
+        Err(FileError::Again {
             from: generation,
             to: newest,
         })

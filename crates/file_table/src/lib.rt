@@ -15,7 +15,7 @@ mod open;
 mod record;
 
 pub use aheads::Aheads;
-pub use error::{LendError, NotSettled, RecordError};
+pub use error::{FileError, NotSettled};
 pub use files::Files;
 pub use idle::IdleHandles;
 pub use known_level::KnownLevel;

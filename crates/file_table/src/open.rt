@@ -5,11 +5,11 @@ ghost use Rattle.tex_world.specs.Tap.{IsLeast};
 ghost use Rattle.tiff_format.specs.Cut.{IsCut};
 ghost use Rattle.file_table.specs.Calls.{OpensOnce, OpenedCause, ReadsOnly};
 
-use crate::error::RecordError;
+use crate::error::FileError;
 use crate::record::Record;
 use std::alloc::Global;
 use tap_reader::TapReader;
-use tex_world::{OpenError, ReadError, Tap, TapHandle};
+use tex_world::{ReadError, Tap, TapHandle};
 use tiff_dirs::{DirsError, read_dirs};
 use tiff_format::Cut;
 use tile_layout::Layout;
@@ -21,7 +21,7 @@ pub(crate) fn open_record<T: Tap, B>(
     file: u32,
     least: u32,
     cut: Cut,
-) -> Result<Record<T::W>, RecordError<B>>
+) -> Result<Record<T::W>, FileError<B>>
     requires file { IsFile T.W.files file }
     requires least { IsLeast T.W.files file least }
     requires cut { IsCut cut }
@@ -30,11 +30,8 @@ pub(crate) fn open_record<T: Tap, B>(
     ensures cause { IfErr result
         (OpenedCause T.W.files file least (T.state tap.old) (T.state tap.new)) }
 {
-    match tap.open(alloc, file, least) {
-        Ok(handle) => read_record(alloc, tap, handle, cut),
-        Err(OpenError::Failed) => Err(RecordError::ReadFault),
-        Err(OpenError::NoMemory) => Err(RecordError::NoMemory),
-    }
+    let handle = tap.open(alloc, file, least)?;
+    read_record(alloc, tap, handle, cut)
 }
 
 /// Reads the record of the generation that a handle names.
@@ -43,7 +40,7 @@ fn read_record<T: Tap, B>(
     tap: &mut T,
     mut handle: T::Handle,
     cut: Cut,
-) -> Result<Record<T::W>, RecordError<B>>
+) -> Result<Record<T::W>, FileError<B>>
     requires { IsCut cut }
     ensures ok { let named = T.Handle.named handle in IfOk result (λ r.
         (r.file ≡ named.file) × (r.generation ≡ named.generation) × (r.cut ≡ cut)) }
@@ -60,17 +57,14 @@ fn read_record<T: Tap, B>(
     let layout = match read_dirs(alloc, &mut reader) {
         Ok(dirs) => Ok(Layout::of(dirs)),
         Err(DirsError::Fault(fault)) => Err(fault),
-        Err(DirsError::Reader(ReadError::Failed)) => return Err(RecordError::ReadFault),
+        Err(DirsError::Reader(ReadError::Failed)) => return Err(FileError::ReadFault),
         Err(DirsError::Reader(ReadError::Gone(to))) => {
-            return Err(RecordError::Again {
+            return Err(FileError::Again {
                 from: generation,
                 to,
             });
         }
-        Err(DirsError::NoMemory) => return Err(RecordError::NoMemory),
+        Err(DirsError::NoMemory) => return Err(FileError::NoMemory),
     };
-    match Record::of(alloc, file, generation, cut, layout) {
-        Ok(read) => Ok(read),
-        Err(_) => Err(RecordError::NoMemory),
-    }
+    Ok(Record::of(alloc, file, generation, cut, layout)?)
 }

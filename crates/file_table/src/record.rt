@@ -156,9 +156,10 @@ impl<W: World> Record<W> {
         self.layout.as_ref()
     }
 
-    /// The number of levels that the file has under the cut.
+    /// The number of levels that the file has under the cut, one at least where it shows no fault.
     pub fn levels(&self) -> u32
-        ensures { CountsLevels self.now result }
+        ensures value { CountsLevels self.now result }
+        ensures some { IfOk self.now.layout (λ _. 1 ≤ result) }
     {
         self.levels.len() as u32
     }

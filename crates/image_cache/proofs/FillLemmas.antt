@@ -29,7 +29,7 @@ use Rattle.image_cache.specs.Pass.{CacheState, PassState, SamePlace, IsPassOf}
 use Rattle.image_cache.specs.Pass.{counted_together, max_count, SameCounts}
 use Rattle.image_cache.specs.Call.{Needs, AfterNeed, LeavesNoHand, NoneFalls}
 use Rattle.image_cache.specs.Call.{KeepsGiven}
-use Rattle.image_cache.specs.Region.{area_keys, ReadsRegion}
+use Rattle.image_cache.specs.Region.{area_keys, HasArea, HasAreaAt, HasAreaOf, ReadsRegion}
 use Rattle.tiff_format.specs.declared.fault.TiffFault.{TiffFault}
 use Rattle.tiff_format.specs.declared.cut.Cut.{Cut}
 use Rattle.tile_layout.specs.declared.grid.Grid.{Grid}
@@ -49,7 +49,7 @@ use Rattle.std.proofs.Common.{◌*◌, Option, Some, Result, Ok, Err, replicate}
 
 -- ---- what is left
 
-keeps_view_chain : (file : ℕ) (a b c : ViewState) → KeepsView file a b → KeepsView file b c
+pub keeps_view_chain : (file : ℕ) (a b c : ViewState) → KeepsView file a b → KeepsView file b c
     → KeepsView file a c
 keeps_view_chain file a b c ab bc = record {
   board = bc.board ∙ ab.board;
@@ -238,64 +238,86 @@ area_is r region area grid channels kept cut same is =
     subst (λ (l : CutLevel). IsAreaOf l region (channels_in kept) area) cut
     (subst (λ (n : ℕ). IsAreaOf (shown_grid grid) region n area) same is)
 
-pub reads_region : (files : Files) (r : RecordState) (region : Region) (area : Area) (grid : Grid)
-    (channels : ℕ) (old new : PassState)
+-- the area is one of the record
+pub has_area : (r : RecordState) (region : Region) (area : Area) (grid : Grid) (channels : ℕ)
     → IsOkAnd r.layout (λ kept. CellsFit kept r.cut
     × (region.level < level_count_in kept r.cut.automip)) → CutsLevel r region.level grid
     → IfOk r.layout (λ kept. channels ≡ channels_in kept)
-    → IsAreaOf (shown_grid grid) region channels area
-    → Needs files (area_keys r area (area_cells area)) old new
-    → ReadsRegion files region area.window.channels old new r
-reads_region files r region area grid channels old new ok cuts same is needs =
-    by r.layout refl ok cuts same
+    → IsAreaOf (shown_grid grid) region channels area → HasAreaOf region area r
+has_area r region area grid channels ok cuts same is = by r.layout refl ok cuts same
   where
     by : (layout : Result Kept TiffFault) → r.layout ≡ layout
         → IsOkAnd layout (λ kept. CellsFit kept r.cut
         × (region.level < level_count_in kept r.cut.automip))
         → IfOk layout (λ kept. shown_grid grid ≡ cut_level_in kept r.cut region.level)
         → IfOk layout (λ kept. channels ≡ channels_in kept)
-        → ReadsRegion files region area.window.channels old new r
+        → IsOkAnd layout (λ kept. HasArea kept region area r)
     by (Ok kept) layout fits cut alike = record {
-      kept = kept;
-      area = area;
-      has = record {
-        layout = layout;
-        fits = fits.0;
-        level = fits.1;
-        is = area_is r region area grid channels kept cut alike is;
-      };
-      channels_are = is.channels_are ∙ alike;
-      needs = needs;
+      layout = layout;
+      fits = fits.0;
+      level = fits.1;
+      is = area_is r region area grid channels kept cut alike is;
     }
     by (Err fault) layout fits cut alike = absurd fits
 
-pub values_of_region : (files : Files) (r : RecordState) (region : Region) (area : Area)
-    (grid : Grid) (channels : ℕ) (bytes values : List ℕ) → IsRecord files r
-    → files.held r.file r.generation ≡ Some bytes
-    → IsOkAnd r.layout (λ kept. CellsFit kept r.cut
-    × (region.level < level_count_in kept r.cut.automip)) → CutsLevel r region.level grid
-    → IfOk r.layout (λ kept. channels ≡ channels_in kept)
-    → IsAreaOf (shown_grid grid) region channels area → IsPainted bytes area values
-    → IsZeroBeside area values
+-- and of its own grid
+pub own_area : (region : Region) (area : Area) (level : CutLevel) (channels : ℕ)
+    → IsAreaOf level region channels area
+    → IsAreaOf (shown_grid area.grid) region area.window.channels area
+own_area region area level channels is =
+    subst (λ (l : CutLevel). IsAreaOf l region area.window.channels area) (sym is.grid)
+    (subst (λ (n : ℕ). IsAreaOf level region n area) (sym is.channels_are) is)
+
+pub area_at : (r : RecordState) (region : Region) (area : Area) → HasAreaOf region area r
+    → HasAreaAt area r
+area_at r region area has = by r.layout has
+  where
+    by : (layout : Result Kept TiffFault) → IsOkAnd layout (λ kept. HasArea kept region area r)
+        → IsOkAnd layout (λ kept. (area.level < level_count_in kept r.cut.automip)
+        × (shown_grid area.grid ≡ cut_level_in kept r.cut area.level)
+        × (area.window.channels ≡ channels_in kept))
+    by (Ok kept) has = (
+      subst (λ (n : ℕ). n < level_count_in kept r.cut.automip) (sym has.is.level_is) has.level,
+      has.is.grid ∙ ap (λ (n : ℕ). cut_level_in kept r.cut n) (sym has.is.level_is),
+      has.is.channels_are,
+    )
+    by (Err fault) has = absurd has
+
+pub reads_area : (files : Files) (r : RecordState) (region : Region) (area : Area)
+    (old new : PassState) → HasAreaOf region area r
+    → Needs files (area_keys r area (area_cells area)) old new
+    → ReadsRegion files region area.window.channels old new r
+reads_area files r region area old new has needs = by r.layout has
+  where
+    by : (layout : Result Kept TiffFault) → IsOkAnd layout (λ kept. HasArea kept region area r)
+        → ReadsRegion files region area.window.channels old new r
+    by (Ok kept) has = record {
+      kept = kept;
+      area = area;
+      has = has;
+      channels_are = has.is.channels_are;
+      needs = needs;
+    }
+    by (Err fault) has = absurd has
+
+pub values_of_area : (files : Files) (r : RecordState) (region : Region) (area : Area)
+    (bytes values : List ℕ) → IsRecord files r → files.held r.file r.generation ≡ Some bytes
+    → HasAreaOf region area r → IsPainted bytes area values → IsZeroBeside area values
     → length values ≡ area.height * (area.window.width * area.window.channels)
     → AreRegionValues bytes region values
-values_of_region files r region area grid channels bytes values honest held ok cuts same is painted
-    zero count = by r.layout refl ok cuts same
+values_of_area files r region area bytes values honest held has painted zero count =
+    by r.layout has
   where
-    by : (layout : Result Kept TiffFault) → r.layout ≡ layout
-        → IsOkAnd layout (λ kept. CellsFit kept r.cut
-        × (region.level < level_count_in kept r.cut.automip))
-        → IfOk layout (λ kept. shown_grid grid ≡ cut_level_in kept r.cut region.level)
-        → IfOk layout (λ kept. channels ≡ channels_in kept)
+    by : (layout : Result Kept TiffFault) → IsOkAnd layout (λ kept. HasArea kept region area r)
         → AreRegionValues bytes region values
-    by (Ok kept) layout fits cut alike =
-        let told : kept ≡ kept_of bytes = (layout_told r kept layout files
+    by (Ok kept) has =
+        let told : kept ≡ kept_of bytes = (layout_told r kept has.layout files
         (record { file = r.file; generation = r.generation; len = 0 }) honest
         (record { file = refl; generation = refl }) bytes held).kept in
         region_values bytes r.cut region area values
         (subst (λ (k : Kept). IsAreaOf (cut_level_in k r.cut region.level) region (channels_in k)
-        area) told (area_is r region area grid channels kept cut alike is)) painted zero count
-    by (Err fault) layout fits cut alike = absurd fits
+        area) told has.is) painted zero count
+    by (Err fault) has = absurd has
 
 -- all values are 0
 pub zeros_beside : (area : Area) (values : List ℕ) (n : ℕ) → values ≡ replicate n 0

@@ -1,4 +1,4 @@
--- Which cells are the parts of a cell that is made, and what is left of a pass?
+-- Which cells are the parts of a cell that is made, and why is a step refused?
 use Rattle.std.proofs.Common.{◌≡◌, ℕ, ◌-◌, ◌<◌, ◌≤◌, ◌∙◌, refl, sym, ap, subst, arith, length, slice_index, Ok}
 use Rattle.std.specs.Prelude.{IsOkAnd, Result}
 use Rattle.std.proofs.Common.{inl, inr}
@@ -6,6 +6,7 @@ use Rattle.std.proofs.lemmas.Bool.{cases_lt}
 use Rattle.tex_world.specs.Counts.{Rises, last_count}
 use Rattle.tex_world.specs.World.{Files}
 use Rattle.tex_world.specs.Tap.{TapState}
+use Rattle.gen_board.specs.View.{ViewState}
 use Rattle.image_cache.specs.declared.error.CacheError.{CacheError}
 use Rattle.image_cache.specs.declared.error.CacheError.TheVariants as refused
 use Rattle.image_cache.specs.Call.{NoneFalls}
@@ -18,17 +19,9 @@ use Rattle.tile_layout.specs.Level.{level_count_in}
 use Rattle.tile_layout.specs.Cell.{cell_count, cut_level_in}
 use Rattle.tile_load.specs.Halving.{HalvingState, IsPartOf, part_count, part_key}
 use Rattle.file_table.specs.Record.{RecordState}
-use Rattle.shard_gate.specs.Gate.{GateState}
-use Rattle.shard_gate.proofs.SinceLemmas.{purges_none_chain}
-use Rattle.gen_board.specs.View.{ViewState}
-use Rattle.file_table.specs.Calls.{KeepsView}
-use Rattle.pinned_tiles.specs.Pinned.{PinnedState}
 use Rattle.pinned_tiles.specs.declared.cell.CellAt.{CellAt}
-use Rattle.image_cache.specs.Pass.{PassState}
 use Rattle.image_cache.specs.Texel.{IsCellOf, IsCellUnder}
-use Rattle.image_cache.specs.Making.{IsKeyOf, Halves, IsNextPart, AddsPart, AfterMaking, AfterPinning}
-use Rattle.image_cache.proofs.FillLemmas.{after_chain, after_none}
-use Rattle.image_cache.proofs.VisitLemmas.{visits_same}
+use Rattle.image_cache.specs.Making.{IsKeyOf, Halves, IsNextPart, AddsPart}
 
 -- what is known of a layout that is there
 of_ok : (r : Result Kept TiffFault) (kept : Kept) (P : Kept → Type 0) → r ≡ Ok kept → IsOkAnd r P
@@ -72,80 +65,6 @@ next_part state halving part of halves next key =
     let here = subst (λ (c : Cut). IsCellUnder halving.layout c part) (sym halves.cut) under in
     record { next = next; key = key; rect = here.rect; channels = here.channels }
 
--- ---- what is left of a pass
-
-view_none : (file : ℕ) (view : ViewState) → KeepsView file view view
-view_none file view = record {
-  board = refl;
-  later = λ f. omega arith;
-  seen_others = λ f other. refl;
-  steps_others = λ f other. refl;
-}
-
-pub making_chain : (gate : GateState) (file : ℕ) (a b c : PassState) → AfterMaking gate file a b
-    → AfterMaking gate file b c → AfterMaking gate file a c
-making_chain gate file a b c ab bc = record {
-  need = after_chain file a b c ab.need bc.need;
-  counts = record {
-    needs = bc.counts.needs ∙ ab.counts.needs;
-    hits = bc.counts.hits ∙ ab.counts.hits;
-  };
-  recent = bc.recent ∙ ab.recent;
-  visits = purges_none_chain gate a.pinned.seat b.pinned.seat c.pinned.seat ab.visits bc.visits;
-}
-
-pub making_none : (gate : GateState) (file : ℕ) (pass : PassState)
-    → length pass.pinned.recent ≤ 2 → AfterMaking gate file pass pass
-making_none gate file pass few = record {
-  need = after_none file pass few;
-  counts = record { needs = refl; hits = refl };
-  recent = refl;
-  visits = visits_same gate pass.pinned.seat pass.pinned.seat refl;
-}
-
--- pinning leaves no more than making a tile does
-pub making_pinned : (gate : GateState) (file : ℕ) (a b : PassState) → AfterPinning gate a b
-    → AfterMaking gate file a b
-making_pinned gate file a b after = record {
-  need = record {
-    place = after.place;
-    view = subst (λ (v : ViewState). KeepsView file a.view v) (sym after.view)
-        (view_none file a.view);
-    steps = subst (λ (v : ViewState). slice_index a.view.steps file ≤ slice_index v.steps file)
-        (sym after.view) (omega arith);
-    few = after.few;
-    holds = after.holds;
-    latest = after.latest;
-  };
-  counts = after.counts;
-  recent = after.recent;
-  visits = after.visits;
-}
-
--- nothing but what was seen of the file is another
-pub making_view : (gate : GateState) (file : ℕ) (a b : PassState) → length b.pinned.recent ≤ 2
-    → b.pinned ≡ a.pinned → b.latest ≡ a.latest → b.needs ≡ a.needs → b.hits ≡ a.hits
-    → KeepsView file a.view b.view
-    → slice_index a.view.steps file ≤ slice_index b.view.steps file → AfterMaking gate file a b
-making_view gate file a b few pinned latest needs hits view steps = record {
-  need = record {
-    place = record {
-      board = view.board;
-      gate = ap (λ (p : PinnedState). p.seat.gate) pinned;
-      cut = ap (λ (p : PinnedState). p.cut) pinned;
-      permits = ap (λ (p : PinnedState). p.seat.permits) pinned;
-    };
-    view = view;
-    steps = steps;
-    few = few;
-    holds = ap (λ (p : PinnedState). p.holds) pinned;
-    latest = latest;
-  };
-  counts = record { needs = needs; hits = hits };
-  recent = ap (λ (p : PinnedState). p.recent) pinned;
-  visits = visits_same gate a.pinned.seat b.pinned.seat (ap (λ (p : PinnedState). p.seat) pinned);
-}
-
 -- ---- a part more
 
 pub adds_halves : (state : RecordState) (old new : HalvingState) → Halves state old
@@ -166,7 +85,7 @@ adds_of_all all old new is adds =
 
 -- ---- causes
 
-rises_before : (a b c : ℕ) → a ≤ b → Rises b c → Rises a c
+pub rises_before : (a b c : ℕ) → a ≤ b → Rises b c → Rises a c
 rises_before a b c before rises = record {
   later = omega (arith, before, rises.later);
   rose = λ short. elim (cases_lt b last_count) [

@@ -21,11 +21,14 @@ use Rattle.tile_load.proofs.KnownLayouts.{layout_told}
 use Rattle.micro.specs.Runs.{IsAsked}
 use Rattle.micro.proofs.HitLemmas.{any_from_Contains, none_from_absent}
 use Rattle.pinned_tiles.specs.declared.cell.CellAt.{CellAt}
-use Rattle.pinned_tiles.specs.Pinned.{key_in, IsAskedFor}
+use Rattle.texel_values.specs.declared.texel_at.TexelAt.{TexelAt}
+use Rattle.pinned_tiles.specs.Pinned.{key_in, AsksFor, IsAskedFor}
 use Rattle.pinned_tiles.specs.Cell.{is_rect, is_tile_of, has_cell}
 use Rattle.image_cache.specs.Pass.{PassState, SameCounts, counted, counted_together, max_count}
-use Rattle.image_cache.specs.Texel.{IsCellOf, IsCellUnder}
+use Rattle.image_cache.specs.Texel.{IsCellOf, IsCellAt, IsCellUnder}
 use Rattle.image_cache.specs.Call.{CountsNeed, Needs}
+use Rattle.image_cache.specs.Reading.{IsNeededAt}
+use Rattle.image_cache.proofs.TexelLemmas.{at_cell}
 
 -- ---- a tile of a cell
 
@@ -224,3 +227,22 @@ module _ (files : Files) (state : RecordState) (cell : CellAt) where
             kept.hits ∙ (counts.hits ∙ (ap (λ (h : Bool). if h then counted old.hits else old.hits)
             answer ∙ hits_of old.hits asked.0 low));
       }
+
+-- so is the cell that holds a texel, which the microcache had not
+pub needed_at : (files : Files) (state : RecordState) (at : TexelAt) (cell : CellAt)
+    (old mid new : PassState) → IsRecord files state → IsCellAt state at cell
+    → All (FitsCut files state.cut) old.pinned.recent → mid.pinned.recent ≡ old.pinned.recent
+    → has_cell cell old.pinned.recent ≡ false → old.hits ≤ max_count → CountsNeed false old mid
+    → SameCounts mid new → AsksFor cell.key mid.pinned.recent new.pinned.recent
+    → IsAskedFor cell.key mid.pinned.recent new.pinned.recent → IsNeededAt files state at old new
+needed_at files state at cell old mid new honest is fits same lacks low counts kept asks asked =
+    record {
+      asked = at_cell (λ key. AsksFor key old.pinned.recent new.pinned.recent) state at cell is.is
+          (subst (λ (tiles : List CachedTile). AsksFor cell.key tiles new.pinned.recent) same asks);
+      turned = at_cell (λ key. IsAskedFor key old.pinned.recent new.pinned.recent) state at cell
+          is.is (subst (λ (tiles : List CachedTile).
+          IsAskedFor cell.key tiles new.pinned.recent) same asked);
+      needs = at_cell (λ key. Needs files (key ∷ []) old new) state at cell is.is
+          (needs_one files state cell old mid new false honest is.of fits same (sym lacks) low counts
+          kept asked);
+    }

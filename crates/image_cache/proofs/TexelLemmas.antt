@@ -111,20 +111,6 @@ at_cell P state at cell is here = by state.layout is
     by (Ok kept) same = subst (λ (c : CellAt). P c.key) same here
     by (Err fault) same = tt
 
--- and so of the key itself
-pub of_cell_at : (P : ℕ → Type 0) (state : RecordState) (at : TexelAt) (cell : CellAt)
-    → IsCellIn state at cell
-    → IfOk state.layout (λ kept. P (cell_of state.generation state.file state.cut kept at).key)
-    → P cell.key
-of_cell_at P state at cell is here = by state.layout is here
-  where
-    by : (layout : Result Kept TiffFault)
-        → IsOkAnd layout (λ kept. cell ≡ cell_of state.generation state.file state.cut kept at)
-        → IfOk layout (λ kept. P (cell_of state.generation state.file state.cut kept at).key)
-        → P cell.key
-    by (Ok kept) same p = subst (λ (c : CellAt). P c.key) (sym same) p
-    by (Err fault) same p = absurd same
-
 pub asks_at : (state : RecordState) (at : TexelAt) (cell : CellAt) (old new : List CachedTile)
     → IsCellIn state at cell → AsksFor cell.key old new → AsksForCellAt state at old new
 asks_at state at cell old new is asks = by state.layout is

@@ -87,16 +87,6 @@ module _ {B : Type 0} where
         by (Ok x) = tt
         by (Err e) = at_kept e old new kept
 
-    pub unread_fetch : (old new : PassState) (files : Files) (r : RecordState) (view : ViewState)
-        (t u : TapState) → IfErr result (FetchCause files r view t u)
-        → IfErr result (KeepsRecentAt old new)
-    unread_fetch old new files r view t u cause = by result cause
-      where
-        by : (answer : Result A (CacheError B)) → IfErr answer (FetchCause files r view t u)
-            → IfErr answer (KeepsRecentAt old new)
-        by (Ok x) cause = tt
-        by (Err e) cause = at_fetch e old new files r view t u cause
-
     pub unread_between : (a b c d : PassState) → KeepsRecent a b → KeepsRecent c d
         → IfErr result (KeepsRecentAt b c) → IfErr result (KeepsRecentAt a d)
     unread_between a b c d first last kept = by result kept

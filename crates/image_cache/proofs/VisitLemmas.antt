@@ -33,21 +33,6 @@ module _ (gate : GateState) (a b c : PinSeatState) where
   pub visits_to : PurgesNone gate a b → c ≡ b → PurgesNone gate a c
   visits_to first same = subst (λ (s : PinSeatState). PurgesNone gate a s) (sym same) first
 
-  pub misses_from : (key : ℕ) → b ≡ a → Misses gate key b c → Misses gate key a c
-  misses_from key same later = subst (λ (s : PinSeatState). Misses gate key s c) same later
-
-  -- further visits after the tap had no call, or one that missed the key
-  pub missed_before : (key : ℕ) (t u : TapState) → (HasNoCall t u ⊎ Misses gate key a b)
-      → PurgesNone gate b c → (HasNoCall t u ⊎ Misses gate key a c)
-  missed_before key t u (inl none) later = inl none
-  missed_before key t u (inr missed) later = inr (misses_before gate key a b c missed later)
-
-  -- and before it
-  pub missed_from : (key : ℕ) (t u : TapState) → b ≡ a → (HasNoCall t u ⊎ Misses gate key b c)
-      → (HasNoCall t u ⊎ Misses gate key a c)
-  missed_from key t u same (inl none) = inl none
-  missed_from key t u same (inr missed) = inr (misses_from key same missed)
-
 -- the key that was missed is that of the cell of a texel
 pub missed_at : (gate : GateState) (state : RecordState) (at : TexelAt) (cell : CellAt)
     (old new : PassState) (t u : TapState) → IsCellIn state at cell
@@ -56,15 +41,6 @@ pub missed_at : (gate : GateState) (state : RecordState) (at : TexelAt) (cell : 
 missed_at gate state at cell old new t u is (inl none) = inl none
 missed_at gate state at cell old new t u is (inr missed) = inr (at_cell
     (λ key. Misses gate key old.pinned.seat new.pinned.seat) state at cell is missed)
-
--- so it is from an earlier moment on at which the seat was the same
-pub missed_since : (gate : GateState) (state : RecordState) (at : TexelAt) (a b c : PassState)
-    (t u : TapState) → b.pinned.seat ≡ a.pinned.seat
-    → (HasNoCall t u ⊎ MissesCellAt gate state at b c)
-    → (HasNoCall t u ⊎ MissesCellAt gate state at a c)
-missed_since gate state at a b c t u same missed = subst (λ (s : PinSeatState).
-    HasNoCall t u ⊎ IfOk state.layout (λ kept. Misses gate
-    (cell_of state.generation state.file state.cut kept at).key s c.pinned.seat)) same missed
 
 -- Where the world tells, the tile of the key that stands first is that of the cell.
 pub told_stands : (files : Files) (state : RecordState) (cell : CellAt) (tiles : List CachedTile)

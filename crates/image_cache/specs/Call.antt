@@ -6,7 +6,7 @@ use Rattle.tex_world.specs.World.{Files}
 use Rattle.tex_world.specs.Tap.{TapState}
 use Rattle.gen_board.specs.View.{ViewState}
 use Rattle.file_table.specs.Record.{RecordState}
-use Rattle.file_table.specs.Calls.{KeepsView, Sighted, GivesRecord}
+use Rattle.file_table.specs.Calls.{KeepsView, Sighted, GivesRecord, OpensIfAtAll}
 use Rattle.micro.specs.Items.{key_first}
 use Rattle.micro.specs.Runs.{AreAsked}
 use Rattle.tiff_format.specs.declared.cut.Cut.{Cut}
@@ -17,7 +17,7 @@ use Rattle.shard_gate.specs.Gate.{GateState}
 use Rattle.shard_gate.specs.Since.{Misses}
 use Rattle.texel_values.specs.declared.texel_at.TexelAt.{TexelAt}
 use Rattle.image_cache.specs.Pass.{PassState, SamePlace, SameCounts, SameView, counted}
-use Rattle.image_cache.specs.Pass.{counted_together}
+use Rattle.image_cache.specs.Pass.{counted_together, KeepsAllButRecord}
 use Rattle.pinned_tiles.specs.Pinned.{key_in, AsksFor, IsAskedFor}
 use Rattle.image_cache.specs.Texel.{IsTexelOf, cell_of}
 
@@ -130,6 +130,7 @@ pub record AfterCall (file : ℕ) (old new : PassState) : Type 0 where
 pub record AfterStep (file : ℕ) (old new : PassState) : Type 0 where
   pub place : SamePlace old new
   pub view : KeepsView file old.view new.view
+  pub steps : slice_index old.view.steps file ≤ slice_index new.view.steps file
   pub latest : new.latest ≡ old.latest
 
 -- Its microcache and its counts are as they were.
@@ -144,9 +145,16 @@ abbrev pub KeepsGiven : Files → ℕ → Cut → PassState → PassState → �
 KeepsGiven files file cut old new generation P = IsSomeAnd new.latest (λ r.
     GivesRecord files file cut old.view new.view r × (r.generation ≡ generation) × P r)
 
--- The pass keeps the record that it kept, or one that was given to this call.
-abbrev pub KeepsOne : Files → ℕ → Cut → PassState → PassState → Type 0
-KeepsOne files file cut old new = (new.latest ≡ old.latest)
+-- The file was not opened: of the pass nothing but what it has seen is another, its record too is
+-- as it was, and the tap had no call but one to open the file, if any.
+pub record IsUnopened (old new : PassState) (tap_old tap_new : TapState) : Type 0 where
+  pub latest : new.latest ≡ old.latest
+  pub keeps : KeepsAllButRecord old new
+  pub once : OpensIfAtAll tap_old tap_new
+
+-- The pass keeps a record that was given to this call, or the file was not opened.
+abbrev pub KeepsOne : Files → ℕ → Cut → PassState → PassState → TapState → TapState → Type 0
+KeepsOne files file cut old new tap_old tap_new = IsUnopened old new tap_old tap_new
     ⊎ IsSomeAnd new.latest (GivesRecord files file cut old.view new.view)
 
 -- ---- holds

@@ -11,12 +11,16 @@ use Rattle.tile_layout.specs.Level.{level_count_in}
 use Rattle.tile_layout.specs.Cell.{CellsFit}
 use Rattle.file_table.specs.Record.{RecordState}
 use Rattle.file_table.specs.Calls.{Sighted, MeetsNewer, OpensOnce, GivesRecord}
+use Rattle.file_table.specs.declared.error.FileError.{FileError}
+use Rattle.file_table.specs.declared.error.FileError.TheVariants as unread
 use Rattle.image_cache.specs.declared.error.CacheError.{CacheError}
 use Rattle.image_cache.specs.declared.error.CacheError.TheVariants as refused
 use Rattle.image_cache.specs.declared.error.SplitError.{SplitError}
 use Rattle.image_cache.specs.declared.error.SplitError.TheVariants as undivided
 use Rattle.image_cache.specs.declared.error.NotReleased.{NotReleased}
 use Rattle.image_cache.specs.declared.error.NotReleased.TheVariants as unreleased
+use Rattle.shard_gate.specs.declared.error.PinError.{PinError}
+use Rattle.shard_gate.specs.declared.error.PinError.TheVariants as unpinned
 use Rattle.texel_values.specs.declared.texel_at.TexelAt.{TexelAt}
 use Rattle.texel_values.specs.Region.{max_texels}
 use Rattle.image_cache.specs.Pass.{PassState}
@@ -69,10 +73,17 @@ abbrev pub FetchCause : {B : Type 0} → Files → RecordState → ViewState →
 FetchCause files r new tap_old tap_new e =
     StepCause files r new tap_old tap_new (λ _. Never) e
 
--- the cause may stand anywhere: memory was wanting, or the waiter gave up
-abbrev pub GivesUp : {B : Type 0} → CacheError B → Type 0
-GivesUp e = (files : Files) → (r : RecordState) → (new : ViewState)
-    → (tap_old tap_new : TapState) → FetchCause files r new tap_old tap_new e
+-- why a file has no record or is not lent, as the cache says it
+abbrev pub of_file : {B : Type 0} → FileError B → CacheError B
+of_file unread.ReadFault = refused.ReadFault
+of_file (unread.Again from to) = refused.Again from to
+of_file unread.NoMemory = refused.NoMemory
+of_file (unread.Busy b) = refused.Busy b
+
+-- why a tile is not pinned, as the cache says it
+abbrev pub of_pin : {B : Type 0} → PinError B → CacheError B
+of_pin unpinned.NoMemory = refused.NoMemory
+of_pin (unpinned.Busy b) = refused.Busy b
 
 -- the refusal is that a newer generation was met
 abbrev pub IsAgain : {B : Type 0} → CacheError B → Type 0

@@ -136,13 +136,6 @@ pub record AsksIfKnown (file : ℕ) (old new : ViewState) (tap_old tap_new : Tap
   pub asks : ((slice_index new.seen file ≡ 0) × (tap_new.asks ≡ tap_old.asks))
       ⊎ ((0 < slice_index new.seen file) × RisesByOne tap_old.asks tap_new.asks)
 
--- The words of the first so many files were looked at, and of each of them that is known the tap was
--- asked for the newest generation.
-pub record MakesAllInvalid (n : ℕ) (old new : ViewState) (tap_old tap_new : TapState)
-    : Type 0 where
-  pub steps : (file : ℕ) → file < n → slice_index old.steps file < slice_index new.steps file
-  pub asks : RisesBy (seen_count new n) tap_old.asks tap_new.asks
-
 -- Why a file is not made invalid: the tap failed. Where the waiter gave up, any later step is left
 -- out.
 abbrev pub InvalidCause : {B : Type 0} → TapState → TapState → CacheError B → Type 0

@@ -7,7 +7,11 @@ pub mod Texel
 pub mod Facts
 pub mod Call
 pub mod Making
+pub mod Reading
 pub mod Square
 pub mod Invalid
+pub mod InvalidAll
 pub mod Cause
 pub mod Region
+pub mod Sizes
+pub mod Fetches

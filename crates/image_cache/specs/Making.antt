@@ -1,16 +1,18 @@
--- How is a tile made that no shard has, and what does making it leave of a pass?
-use Rattle.std.specs.Prelude.{◌≡◌, ℕ, ◌+◌, ◌<◌, ◌≤◌, Ok, IsOkAnd, length}
+-- How is a tile made that no shard has?
+use Rattle.std.specs.Prelude.{◌≡◌, ℕ, ◌+◌, ◌<◌, ◌≤◌, Ok, IsOkAnd, IsTrue}
+use Rattle.tex_world.specs.World.{Files}
+use Rattle.tiff_format.specs.declared.cut.Cut.{Cut}
 use Rattle.tile_layout.specs.Key.{level_of, index_of, generation_of, file_of}
 use Rattle.tile_layout.specs.Kept.{stored_count}
 use Rattle.tile_layout.specs.Level.{level_count_in}
 use Rattle.tile_layout.specs.Cell.{cell_count, cell_rect, cut_level_in, channels_in}
 use Rattle.tile_load.specs.Halving.{HalvingState, part_count, part_key}
 use Rattle.file_table.specs.Record.{RecordState}
-use Rattle.shard_gate.specs.Gate.{GateState}
-use Rattle.shard_gate.specs.Since.{PurgesNone}
+use Rattle.tile_store.specs.Tile.{CachedTile}
+use Rattle.tile_store.specs.Told.{IsTold}
+use Rattle.shard_gate.specs.Gate.{HasCellRect}
 use Rattle.pinned_tiles.specs.declared.cell.CellAt.{CellAt}
-use Rattle.image_cache.specs.Pass.{PassState, SamePlace, SameCounts}
-use Rattle.image_cache.specs.Call.{AfterNeed}
+use Rattle.pinned_tiles.specs.Cell.{is_tile_of}
 
 -- the key is that of a cell of the record
 pub record IsKeyOf (state : RecordState) (key : ℕ) : Type 0 where
@@ -45,23 +47,11 @@ pub record AddsPart (old new : HalvingState) : Type 0 where
   pub key : new.key ≡ old.key
   pub done : new.done ≡ old.done + 1
 
--- What making a tile leaves of a pass, whatever it is answered: its microcache, its holds, its
--- record and its counts are as they were, only this file's number was seen to rise, and each visit
--- is that of a `pin`, a `pin_new`, an `unpin` or a `count`.
-pub record AfterMaking (gate : GateState) (file : ℕ) (old new : PassState) : Type 0 where
-  pub need : AfterNeed file old new
-  pub counts : SameCounts old new
-  pub recent : new.pinned.recent ≡ old.pinned.recent
-  pub visits : PurgesNone gate old.pinned.seat new.pinned.seat
-
--- What pinning a tile or giving a pin back leaves of it: only the tile in hand may be another, and
--- each visit is that of a `pin`, a `pin_new`, an `unpin` or a `count`.
-pub record AfterPinning (gate : GateState) (old new : PassState) : Type 0 where
-  pub place : SamePlace old new
-  pub view : new.view ≡ old.view
-  pub few : length new.pinned.recent ≤ 2
-  pub holds : new.pinned.holds ≡ old.pinned.holds
-  pub latest : new.latest ≡ old.latest
-  pub counts : SameCounts old new
-  pub recent : new.pinned.recent ≡ old.pinned.recent
-  pub visits : PurgesNone gate old.pinned.seat new.pinned.seat
+-- A tile was made for the cell: it is one of the cell, within the cut, and where the world tells its
+-- samples are those of its file.
+pub record IsMadeFor (files : Files) (cut : Cut) (cell : CellAt) (tile : CachedTile)
+    : Type 0 where
+  pub keyed : tile.key ≡ cell.key
+  pub of_cell : IsTrue (is_tile_of cell tile)
+  pub rect : HasCellRect files cut tile
+  pub told : IsTold files tile

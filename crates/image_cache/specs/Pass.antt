@@ -147,9 +147,15 @@ pub record SameView (old new : PassState) : Type 0 where
   pub seen : new.view.seen ≡ old.view.seen
   pub steps : new.view.steps ≡ old.view.steps
 
+-- Its seat has the same pins and has made no visit.
+pub record SameSeat (old new : PassState) : Type 0 where
+  pub pins : new.pinned.seat.pins ≡ old.pinned.seat.pins
+  pub visits : new.pinned.seat.visits ≡ old.pinned.seat.visits
+
 -- All of it but its view is as it was.
 pub record KeepsAllButView (old new : PassState) : Type 0 where
   pub place : SamePlace old new
+  pub seat : SameSeat old new
   pub tiles : SameTiles old new
   pub counts : SameCounts old new
   pub latest : new.latest ≡ old.latest
@@ -179,12 +185,22 @@ pub record IsSamePass (old new : PassState) : Type 0 where
   pub keeps : KeepsAllButView old new
   pub view : SameView old new
 
+-- All of it but the visits of its seat is as it was.
+pub record KeepsAllButVisits (old new : PassState) : Type 0 where
+  pub place : SamePlace old new
+  pub pins : new.pinned.seat.pins ≡ old.pinned.seat.pins
+  pub tiles : SameTiles old new
+  pub counts : SameCounts old new
+  pub view : SameView old new
+  pub latest : new.latest ≡ old.latest
+
 -- One permit went to another pass, and all else is as it was.
 pub record AfterSplit (old new : PassState) : Type 0 where
   pub board : new.view.board ≡ old.view.board
   pub gate : new.pinned.seat.gate ≡ old.pinned.seat.gate
   pub cut : new.pinned.cut ≡ old.pinned.cut
   pub permits : new.pinned.seat.permits ≡ old.pinned.seat.permits - 1
+  pub seat : SameSeat old new
   pub tiles : SameTiles old new
   pub counts : SameCounts old new
   pub view : SameView old new

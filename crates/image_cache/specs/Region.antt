@@ -33,6 +33,10 @@ pub record HasArea (kept : Kept) (region : Region) (area : Area) (r : RecordStat
   pub level : region.level < level_count_in kept r.cut.automip
   pub is : IsAreaOf (cut_level_in kept r.cut region.level) region (channels_in kept) area
 
+-- so it is of the layout of the record, which shows no fault
+abbrev pub HasAreaOf : Region → Area → RecordState → Type 0
+HasAreaOf region area r = IsOkAnd r.layout (λ kept. HasArea kept region area r)
+
 -- A region of a level of a record was read, with so many values of each texel: each cell that it
 -- meets was needed once, row by row.
 pub record ReadsRegion (files : Files) (region : Region) (channels : ℕ) (old new : PassState)

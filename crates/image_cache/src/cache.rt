@@ -7,7 +7,7 @@ ghost use Rattle.shard_gate.specs.Given.{AtShard, Counts};
 ghost use Rattle.image_cache.specs.Options.{NewCause, first_bad};
 ghost use Rattle.image_cache.specs.Pass.{IsPassOf, IsNewCache, IsFirstPass, IsSecondPass};
 ghost use Rattle.image_cache.specs.Pass.{IsSamePass, AfterSplit, AfterJoin, SeesBoth};
-ghost use Rattle.image_cache.specs.Pass.{KeepsAllButView, KeepsAllButTiles};
+ghost use Rattle.image_cache.specs.Pass.{KeepsAllButView, KeepsAllButVisits, KeepsAllButTiles};
 ghost use Rattle.image_cache.specs.Cause.{SplitCause};
 ghost use Rattle.pinned_tiles.specs.Pinned.{LeavesPart};
 
@@ -99,7 +99,7 @@ impl<T: Tap> Cache<T> {
             pass.old.pinned.seat.visits pass.new.pinned.seat.visits) }
         ensures share { IfOk result (λ count. count.share ≡ self.now.gate.share) }
         ensures within { IfOk result (λ count. count.loose ≤ count.share) }
-        ensures same { IsSamePass pass.old pass.new }
+        ensures same { KeepsAllButVisits pass.old pass.new }
     {
         pass.pinned.count(&self.gate, waiter, shard)
     }

@@ -13,7 +13,7 @@ use texel_values::TexelAt;
 use tile_layout::Grid;
 
 /// The record shows no fault, and all its cells fit the cut.
-pub(crate) fn fitting<W: World, B>(known: &Record<W>) -> Result<(), CacheError<B>>
+pub fn fits_cut<W: World, B>(known: &Record<W>) -> Result<(), CacheError<B>>
     ensures ok { OnOk result (IsOkAnd known.now.layout (λ kept. CellsFit kept known.now.cut)) }
     ensures err { IfErr result (LookRefuses known.now) }
 {
@@ -37,7 +37,7 @@ pub(crate) fn level_in<W: World, B>(known: &Record<W>, level: u32) -> Result<Gri
     ensures grid { IfOk result (CutsLevel known.now level) }
     ensures err { IfErr result (PixelsRefuses level known.now) }
 {
-    fitting(known)?;
+    fits_cut(known)?;
     let levels = known.levels();
     if level < levels {
         return Ok(known.grid(level));

@@ -1,5 +1,7 @@
 //! Why a call of the cache is refused.
 use crate::pass::Pass;
+use file_table::FileError;
+use shard_gate::PinError;
 use std::fmt::Debug;
 use tex_world::{NoMemory, World};
 use thiserror::Error;
@@ -49,6 +51,36 @@ impl<B> From<NoMemory> for CacheError<B> {
 
     fn from(_e: NoMemory) -> CacheError<B> {
         CacheError::NoMemory
+    }
+}
+
+impl<B> From<FileError<B>> for CacheError<B> {
+    ghost use Rattle.std.specs.Prelude.{◌≡◌};
+    ghost use Rattle.image_cache.specs.Cause.{of_file};
+
+    ghost from_gives = { λ e refused. refused ≡ of_file e };
+
+    fn from(e: FileError<B>) -> CacheError<B> {
+        match e {
+            FileError::ReadFault => CacheError::ReadFault,
+            FileError::Again { from, to } => CacheError::Again { from, to },
+            FileError::NoMemory => CacheError::NoMemory,
+            FileError::Busy(busy) => CacheError::Busy(busy),
+        }
+    }
+}
+
+impl<B> From<PinError<B>> for CacheError<B> {
+    ghost use Rattle.std.specs.Prelude.{◌≡◌};
+    ghost use Rattle.image_cache.specs.Cause.{of_pin};
+
+    ghost from_gives = { λ e refused. refused ≡ of_pin e };
+
+    fn from(e: PinError<B>) -> CacheError<B> {
+        match e {
+            PinError::NoMemory => CacheError::NoMemory,
+            PinError::Busy(busy) => CacheError::Busy(busy),
+        }
     }
 }
 

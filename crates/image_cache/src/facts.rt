@@ -34,7 +34,8 @@ impl<T: Tap> Cache<T> {
         ensures cause { IfErr result (HasCause (around T.W.files file self.now.gate.cut
             pass.old pass.new (T.state tap.old) (T.state tap.new)) Never InfoRefuses) }
         // What the call leaves.
-        ensures latest { KeepsOne T.W.files file self.now.gate.cut pass.old pass.new }
+        ensures latest { KeepsOne T.W.files file self.now.gate.cut pass.old pass.new
+            (T.state tap.old) (T.state tap.new) }
         ensures same { KeepsAllButRecord pass.old pass.new }
         ensures looks { LooksOnce file pass.old.view pass.new.view }
         ensures once { OpensIfAtAll (T.state tap.old) (T.state tap.new) }

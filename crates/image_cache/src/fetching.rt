@@ -1,33 +1,28 @@
 //! One texel: from the microcache, else from the shards, else from the file.
-ghost use Rattle.std.specs.Prelude.{◌≡◌, ◌⊎◌, true, None, OnOk, OnErr, IfErr};
-ghost use Rattle.std.specs.Prelude.{IsTrue, IsFalse, IsSomeAnd, IfOk, IfSome, IsNone};
+ghost use Rattle.std.specs.Prelude.{◌≡◌, ◌⊎◌, true, false, OnOk, OnErr, IfErr, IsTrue, IsFalse};
 ghost use Rattle.std.specs.Option.{ForSome};
-ghost use Rattle.tex_world.specs.World.{Files};
-ghost use Rattle.tex_world.specs.Tap.{TapState};
-ghost use Rattle.gen_board.specs.View.{ViewState};
-ghost use Rattle.file_table.specs.Record.{RecordState};
 ghost use Rattle.file_table.specs.Calls.{sighted};
-ghost use Rattle.shard_gate.specs.Gate.{IsTileOf};
-ghost use Rattle.shard_gate.specs.Since.{PurgesNone, Misses};
-ghost use Rattle.image_cache.specs.Pass.{IsPassOf, SameCounts};
-ghost use Rattle.pinned_tiles.specs.Pinned.{AsksFor, IsAskedFor};
-ghost use Rattle.pinned_tiles.specs.Cell.{is_tile_of, HasFirst, StandsFirst};
-ghost use Rattle.image_cache.specs.Texel.{IsRecordOf, IsTexelIn, IsCellOf, IsCellAt};
+ghost use Rattle.shard_gate.specs.Since.{PurgesNone};
+ghost use Rattle.image_cache.specs.Pass.{IsPassOf};
+ghost use Rattle.pinned_tiles.specs.Cell.{is_tile_of, has_cell, StandsFirst};
+ghost use Rattle.image_cache.specs.Texel.{IsRecordOf, IsTexelIn, IsCellAt};
 ghost use Rattle.image_cache.specs.Texel.{has_cell_at};
 ghost use Rattle.texel_values.specs.Values.{AreValuesAt};
 ghost use Rattle.image_cache.specs.Call.{CountsNeed, AsksForCellAt, TurnsToCellAt, MovesCellAt};
 ghost use Rattle.image_cache.specs.Call.{NeedsCellAt, AfterNeed, HasNoCall, MissesCellAt};
-ghost use Rattle.image_cache.specs.Making.{AfterMaking};
-ghost use Rattle.image_cache.specs.Call.{LeavesNoHand, KeepsAllButRecent, NoneFalls, AnswersWarm};
+ghost use Rattle.image_cache.specs.Reading.{refusal, IsSameCall, Reads, IsNeededAt};
+ghost use Rattle.image_cache.specs.Call.{LeavesNoHand, NoneFalls, AnswersWarm};
+ghost use Rattle.image_cache.specs.Square.{MeetsAt};
 ghost use Rattle.image_cache.specs.Cause.{FetchCause, MovesOnlyAgain};
 
 use crate::cache::Cache;
 use crate::error::CacheError;
+use crate::fitting::Fitting;
 use crate::pass::Pass;
+use crate::reading::Reading;
 use crate::texel::{cell_at, depth_of};
 use file_table::Record;
 use pinned_tiles::CellAt;
-use shard_gate::PinError;
 use tex_world::Tap;
 use texel_values::{TexelAt, write_values};
 use tile_store::Tile;
@@ -83,11 +78,15 @@ impl<T: Tap> Cache<T> {
         if self.fetch_kept(pass, known, &cell, at, out) {
             return Ok(());
         }
-        // the record's layout is that of its bytes, and a tile of the key that of its cell
-        let _known = known.generation();
-        pass.know();
-        pass.count_need(false);
-        self.fetch_cold(waiter, pass, tap, known, &cell, at, out)
+        let known = Fitting::of(known);
+        let mut reading = Reading {
+            cache: self,
+            waiter,
+            pass,
+            tap,
+            known: &known,
+        };
+        reading.fetch_cold(&cell, at, out)
     }
 
     /// Whether the microcache has the cell that holds a texel. It changes nothing.
@@ -117,15 +116,7 @@ impl<T: Tap> Cache<T> {
             ForSome (T.W.files.held known.now.file known.now.generation) (λ bytes.
             AreValuesAt bytes at out.new) }
         // What the call leaves of the pass, where it has the cell.
-        ensures need { IsTrue result → CountsNeed true pass.old pass.new }
-        ensures asked { IsTrue result → AsksForCellAt known.now at
-            pass.old.pinned.recent pass.new.pinned.recent }
-        ensures turned { IsTrue result → TurnsToCellAt known.now at
-            pass.old.pinned.recent pass.new.pinned.recent }
-        ensures moved { IsTrue result → MovesCellAt known.now at
-            pass.old.pinned.recent pass.new.pinned.recent }
-        ensures needs { IsTrue result → NeedsCellAt T.W.files known.now at pass.old pass.new }
-        ensures kept { IsTrue result → KeepsAllButRecent pass.old pass.new }
+        ensures met { IsTrue result → MeetsAt T.W.files known.now at pass.old pass.new }
         // And where not.
         ensures same { IsFalse result → (pass.new ≡ pass.old) × (out.new ≡ out.old) }
     {
@@ -150,15 +141,7 @@ impl<T: Tap> Cache<T> {
             ForSome (T.W.files.held known.now.file known.now.generation) (λ bytes.
             AreValuesAt bytes at out.new) }
         // What the call leaves of the pass, where it has the cell.
-        ensures need { IsTrue result → CountsNeed true pass.old pass.new }
-        ensures asked { IsTrue result → AsksForCellAt known.now at
-            pass.old.pinned.recent pass.new.pinned.recent }
-        ensures turned { IsTrue result → TurnsToCellAt known.now at
-            pass.old.pinned.recent pass.new.pinned.recent }
-        ensures moved { IsTrue result → MovesCellAt known.now at
-            pass.old.pinned.recent pass.new.pinned.recent }
-        ensures needs { IsTrue result → NeedsCellAt T.W.files known.now at pass.old pass.new }
-        ensures kept { IsTrue result → KeepsAllButRecent pass.old pass.new }
+        ensures met { IsTrue result → MeetsAt T.W.files known.now at pass.old pass.new }
         // And where not.
         ensures same { IsFalse result → (pass.new ≡ pass.old) × (out.new ≡ out.old) }
     {
@@ -198,161 +181,64 @@ impl<T: Tap> Cache<T> {
         let depth = depth_of(known, at.level);
         write_values(pass.pinned.latest(cell), depth, at, out);
     }
+}
 
-    /// Writes the values of a texel whose cell the microcache has not.
-    fn fetch_cold<V: Waiter>(
-        &self,
-        waiter: &V,
-        pass: &mut Pass<T::W>,
-        tap: &mut T,
-        known: &Record<T::W>,
+impl<'a, V: Waiter, T: Tap> Reading<'a, V, T> {
+    /// A need is counted of a cell that the microcache has not, and the values of a texel of it are
+    /// written.
+    fn fetch_cold(
+        &mut self,
         cell: &CellAt,
         at: TexelAt,
         out: &mut [u16],
     ) -> Result<(), CacheError<V::Busy>>
-        requires pass { IsPassOf self.now pass.old }
-        requires known { IsRecordOf T.W.files self.now known.now }
-        requires cell { IsCellAt known.now at cell.now }
-        ensures value { ForSome (T.W.files.held known.now.file known.now.generation) (λ bytes.
-            OnOk result (AreValuesAt bytes at out.new)) }
-        ensures cause { IfErr result (FetchCause T.W.files known.now pass.new.view
-            (T.state tap.old) (T.state tap.new)) }
-        ensures moves { MovesOnlyAgain (T.state tap.old) (T.state tap.new) result }
+        requires cell { IsCellAt self.old.known.now at cell.now }
+        requires lacks { has_cell cell.now self.old.pass.now.pinned.recent ≡ false }
+        ensures value { ForSome (T.W.files.held self.old.known.now.file
+            self.old.known.now.generation) (λ bytes. OnOk result (AreValuesAt bytes at out.new)) }
         ensures err { OnErr result (out.new ≡ out.old) }
-        ensures tap { NoneFalls (T.state tap.old) (T.state tap.new) }
-        // What the call leaves of the pass.
-        ensures counts { SameCounts pass.old pass.new }
-        ensures asked { OnOk result (AsksForCellAt known.now at
-            pass.old.pinned.recent pass.new.pinned.recent) }
-        ensures turned { OnOk result (TurnsToCellAt known.now at
-            pass.old.pinned.recent pass.new.pinned.recent) }
-        ensures hand { LeavesNoHand V.Busy pass.old pass.new }
-        ensures same { AfterNeed known.now.file pass.old pass.new }
-        ensures visits { PurgesNone self.now.gate pass.old.pinned.seat pass.new.pinned.seat }
-        ensures missed { IsTrue T.W.files.tells → HasNoCall (T.state tap.old) (T.state tap.new)
-            ⊎ MissesCellAt self.now.gate known.now at pass.old pass.new }
+        ensures need { CountsNeed false self.old.pass.now self.new.pass.now }
+        ensures needed { OnOk result (IsNeededAt T.W.files self.old.known.now at
+            self.old.pass.now self.new.pass.now) }
+        ensures call { IsSameCall self.old self.new }
+        ensures left { Reads T.W.files self.old self.new (refusal result) }
+        ensures missed { IsTrue T.W.files.tells → HasNoCall (T.state self.old.tap.now)
+            (T.state self.new.tap.now) ⊎ MissesCellAt self.old.cache.now.gate self.old.known.now at
+            self.old.pass.now self.new.pass.now }
     {
-        match self.need_tile(waiter, pass, tap, known, cell)? {
+        self.count(false);
+        match self.need_tile(cell)? {
             Some(apart) => {
-                write_values(&apart, depth_of(known, at.level), at, out);
+                self.write_by(&apart, cell, at, out);
                 Ok(())
             }
             None => {
-                self.write_latest(pass, known, cell, at, out);
+                self.write_first(cell, at, out);
                 Ok(())
             }
         }
     }
 
-    /// The tile of a cell that is needed. None where it stands first in the microcache then.
-    ///
-    /// Over a world that does not tell, a shard may have another tile of the cell's key. It is not
-    /// read, and one that is made apart is answered.
-    pub(crate) fn need_tile<V: Waiter>(
-        &self,
-        waiter: &V,
-        pass: &mut Pass<T::W>,
-        tap: &mut T,
-        known: &Record<T::W>,
-        cell: &CellAt,
-    ) -> Result<Option<Tile<T::W>>, CacheError<V::Busy>>
-        requires pass { IsPassOf self.now pass.old }
-        requires known { IsRecordOf T.W.files self.now known.now }
-        requires cell { IsCellOf known.now cell.now }
-        ensures apart { IfOk result (λ apart. IfSome apart (λ tile. (tile.key ≡ cell.now.key)
-            × IsTrue (is_tile_of cell.now tile))) }
-        ensures first { IfOk result (λ apart. IsNone apart →
-            StandsFirst cell.now pass.new.pinned.recent) }
-        ensures cause { IfErr result (FetchCause T.W.files known.now pass.new.view
-            (T.state tap.old) (T.state tap.new)) }
-        ensures moves { MovesOnlyAgain (T.state tap.old) (T.state tap.new) result }
-        ensures tap { NoneFalls (T.state tap.old) (T.state tap.new) }
-        // What the call leaves of the pass.
-        ensures counts { SameCounts pass.old pass.new }
-        ensures asked { OnOk result (AsksFor cell.now.key
-            pass.old.pinned.recent pass.new.pinned.recent) }
-        ensures turned { OnOk result (IsAskedFor cell.now.key
-            pass.old.pinned.recent pass.new.pinned.recent) }
-        ensures hand { LeavesNoHand V.Busy pass.old pass.new }
-        ensures same { AfterNeed known.now.file pass.old pass.new }
-        ensures visits { PurgesNone self.now.gate pass.old.pinned.seat pass.new.pinned.seat }
-        ensures missed { IsTrue T.W.files.tells → HasNoCall (T.state tap.old) (T.state tap.new)
-            ⊎ Misses self.now.gate cell.now.key pass.old.pinned.seat pass.new.pinned.seat }
+    /// Writes the values of a texel by a tile of its cell.
+    fn write_by(&self, tile: &Tile<T::W>, cell: &CellAt, at: TexelAt, out: &mut [u16])
+        requires keyed { tile.now.key ≡ cell.now.key }
+        requires of_cell { IsTrue (is_tile_of cell.now tile.now) }
+        requires cell { IsCellAt self.now.known.now at cell.now }
+        ensures { ForSome (T.W.files.held self.now.known.now.file self.now.known.now.generation) (λ bytes.
+            AreValuesAt bytes at out.new) }
     {
-        // the record's layout is that of its bytes, and a tile of the key that of its cell
-        let _known = known.generation();
-        self.bring(waiter, pass, tap, known, cell)?;
-        pass.pinned.know();
-        if pass.pinned.is_latest(cell) {
-            return Ok(None);
-        }
-        let apart = self.make_apart(waiter, pass, tap, known, cell)?;
-        Ok(Some(apart))
+        let depth = depth_of(self.known.record(), at.level);
+        write_values(tile, depth, at, out);
     }
 
-    /// The tile of a cell, made for one need alone.
-    fn make_apart<V: Waiter>(
-        &self,
-        waiter: &V,
-        pass: &mut Pass<T::W>,
-        tap: &mut T,
-        known: &Record<T::W>,
-        cell: &CellAt,
-    ) -> Result<Tile<T::W>, CacheError<V::Busy>>
-        requires pass { IsPassOf self.now pass.old }
-        requires known { IsRecordOf T.W.files self.now known.now }
-        requires cell { IsCellOf known.now cell.now }
-        ensures keyed { IfOk result (λ tile. tile.key ≡ cell.now.key) }
-        ensures of_cell { IfOk result (λ tile. IsTrue (is_tile_of cell.now tile)) }
-        ensures cause { IfErr result (FetchCause T.W.files known.now pass.new.view
-            (T.state tap.old) (T.state tap.new)) }
-        ensures moves { MovesOnlyAgain (T.state tap.old) (T.state tap.new) result }
-        ensures tap { NoneFalls (T.state tap.old) (T.state tap.new) }
-        // What the call leaves of the pass.
-        ensures hand { LeavesNoHand V.Busy pass.old pass.new }
-        ensures same { AfterMaking self.now.gate known.now.file pass.old pass.new }
+    /// The same by the tile of the cell that stands first in the microcache.
+    fn write_first(&self, cell: &CellAt, at: TexelAt, out: &mut [u16])
+        requires first { StandsFirst cell.now self.now.pass.now.pinned.recent }
+        requires cell { IsCellAt self.now.known.now at cell.now }
+        ensures { ForSome (T.W.files.held self.now.known.now.file self.now.known.now.generation) (λ bytes.
+            AreValuesAt bytes at out.new) }
     {
-        // a tile whose pin could not be given back before is given back first
-        if let Err(e) = self.give_back(waiter, pass) {
-            return Err(e);
-        }
-        self.make(waiter, pass, tap, known, cell)
-    }
-
-    /// Puts the tile of a cell's key first in the microcache.
-    fn bring<V: Waiter>(
-        &self,
-        waiter: &V,
-        pass: &mut Pass<T::W>,
-        tap: &mut T,
-        known: &Record<T::W>,
-        cell: &CellAt,
-    ) -> Result<(), CacheError<V::Busy>>
-        requires pass { IsPassOf self.now pass.old }
-        requires known { IsRecordOf T.W.files self.now known.now }
-        requires cell { IsCellOf known.now cell.now }
-        ensures cause { IfErr result (FetchCause T.W.files known.now pass.new.view
-            (T.state tap.old) (T.state tap.new)) }
-        ensures moves { MovesOnlyAgain (T.state tap.old) (T.state tap.new) result }
-        ensures tap { NoneFalls (T.state tap.old) (T.state tap.new) }
-        // What the call leaves of the pass.
-        ensures counts { SameCounts pass.old pass.new }
-        ensures asked { OnOk result (AsksFor cell.now.key
-            pass.old.pinned.recent pass.new.pinned.recent) }
-        ensures turned { OnOk result (IsAskedFor cell.now.key
-            pass.old.pinned.recent pass.new.pinned.recent) }
-        ensures first { OnOk result (HasFirst cell.now.key pass.new.pinned.recent) }
-        ensures hand { LeavesNoHand V.Busy pass.old pass.new }
-        ensures same { AfterNeed known.now.file pass.old pass.new }
-        ensures visits { PurgesNone self.now.gate pass.old.pinned.seat pass.new.pinned.seat }
-        ensures missed { HasNoCall (T.state tap.old) (T.state tap.new)
-            ⊎ Misses self.now.gate cell.now.key pass.old.pinned.seat pass.new.pinned.seat }
-    {
-        if pass.pinned.find(cell.key) {
-            return Ok(());
-        }
-        self.take_in_hand(waiter, pass, tap, known, cell)?;
-        pass.pinned.place(&self.gate, waiter, cell.key);
-        Ok(())
+        let pass = &*self.pass;
+        self.write_by(pass.pinned.latest(cell), cell, at, out);
     }
 }

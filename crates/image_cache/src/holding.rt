@@ -1,11 +1,12 @@
 //! The tiles that a pass holds.
-ghost use Rattle.std.specs.Prelude.{◌≡◌, ◌⊎◌, ◌<◌, ◌≤◌, length, Err, IfOk, IfErr, OnOk, OnErr};
-ghost use Rattle.std.specs.Prelude.{None};
+ghost use Rattle.std.specs.Prelude.{◌≡◌, ◌⊎◌, ◌<◌, ◌≤◌, ◌++◌, ◌∷◌, [], length, slice_index};
+ghost use Rattle.std.specs.Prelude.{None, Err, IfOk, IfErr, IfSome, IsSome, OnOk, OnErr};
 ghost use Rattle.std.specs.List.{remove};
 ghost use Rattle.tex_world.specs.World.{IsFile};
 ghost use Rattle.shard_gate.specs.Since.{PurgesNone};
 ghost use Rattle.image_cache.specs.Pass.{IsPassOf};
-ghost use Rattle.image_cache.specs.Texel.{IsGivenBy};
+ghost use Rattle.image_cache.specs.Texel.{IsGivenBy, IsCellOf};
+ghost use Rattle.image_cache.specs.Reading.{refusal, moment, IsSameCall, TakesHold, HoldsOn};
 ghost use Rattle.image_cache.specs.Call.{AfterCall, AfterStep, KeepsGiven, KeepsOne, KeepsRecent};
 ghost use Rattle.image_cache.specs.Call.{HoldsCell, LeavesNoHand, NoneFalls, KeepsAllButHolds};
 ghost use Rattle.image_cache.specs.Cause.{around, HasCause, NoFurtherHold, TileRefuses};
@@ -14,9 +15,11 @@ ghost use Rattle.image_cache.specs.Cause.{StepCause, ReleaseCause};
 use crate::cache::Cache;
 use crate::checks::inside;
 use crate::error::{CacheError, NotReleased};
+use crate::fitting::Fitting;
 use crate::pass::Pass;
+use crate::reading::Reading;
 use file_table::Record;
-use pinned_tiles::MAX_HOLDS;
+use pinned_tiles::{CellAt, MAX_HOLDS};
 use tex_world::Tap;
 use texel_values::TexelAt;
 use waiter::Waiter;
@@ -40,10 +43,14 @@ impl<T: Tap> Cache<T> {
         ensures cause { IfErr result (HasCause (around T.W.files file self.now.gate.cut
             pass.old pass.new (T.state tap.old) (T.state tap.new)) (NoFurtherHold pass.old)
             (TileRefuses at)) }
-        ensures full { length pass.old.pinned.holds ≡ 4 → result ≡ Err CacheError.HoldsFull }
-        // What the call leaves.
+        ensures full { length pass.old.pinned.holds ≡ 4 → (result ≡ Err CacheError.HoldsFull)
+            × (pass.new ≡ pass.old) × (T.state tap.new ≡ T.state tap.old) }
+        // What the call leaves. An answer comes behind a look at the board.
+        ensures looked { OnOk result (slice_index pass.old.view.steps file
+            < slice_index pass.new.view.steps file) }
         ensures err { OnErr result (pass.new.pinned.holds ≡ pass.old.pinned.holds) }
-        ensures latest { KeepsOne T.W.files file self.now.gate.cut pass.old pass.new }
+        ensures latest { KeepsOne T.W.files file self.now.gate.cut pass.old pass.new
+            (T.state tap.old) (T.state tap.new) }
         ensures same { AfterCall file pass.old pass.new × KeepsRecent pass.old pass.new }
         ensures hand { LeavesNoHand V.Busy pass.old pass.new }
         ensures visits { PurgesNone self.now.gate pass.old.pinned.seat pass.new.pinned.seat }
@@ -86,8 +93,15 @@ impl<T: Tap> Cache<T> {
         // the record's layout is that of its bytes
         let _known = known.generation();
         let cell = self.cell(known, at);
-        self.take_in_hand(waiter, pass, tap, known, &cell)?;
-        pass.pinned.hold();
+        let fitting = Fitting::of(known);
+        let mut reading = Reading {
+            cache: self,
+            waiter,
+            pass,
+            tap,
+            known: &fitting,
+        };
+        reading.hold(&cell)?;
         Ok(known.generation())
     }
 
@@ -115,5 +129,41 @@ impl<T: Tap> Cache<T> {
             Ok(()) => Ok(()),
             Err(busy) => Err(NotReleased::Busy(busy)),
         }
+    }
+}
+
+impl<'a, V: Waiter, T: Tap> Reading<'a, V, T> {
+    /// The cell becomes the pass's latest hold.
+    fn hold(&mut self, cell: &CellAt) -> Result<(), CacheError<V::Busy>>
+        requires cell { IsCellOf self.old.known.now cell.now }
+        requires room { length self.old.pass.now.pinned.holds < 4 }
+        ensures ok { OnOk result (TakesHold T.W.files self.old.cache.now.gate.cut cell.now.key
+            self.old.pass.now self.new.pass.now) }
+        ensures err { OnErr result
+            (self.new.pass.now.pinned.holds ≡ self.old.pass.now.pinned.holds) }
+        ensures call { IsSameCall self.old self.new }
+        ensures left { HoldsOn T.W.files self.old.cache.now.gate self.old.known.now
+            (moment self.old) (moment self.new) (refusal result) }
+    {
+        self.take_in_hand(cell)?;
+        self.keep_hold();
+        Ok(())
+    }
+
+    /// The tile in hand becomes the pass's latest hold.
+    fn keep_hold(&mut self)
+        requires hand { IsSome self.old.pass.now.pinned.hand }
+        requires room { length self.old.pass.now.pinned.holds < 4 }
+        ensures held { IfSome self.old.pass.now.pinned.hand (λ tile.
+            self.new.pass.now.pinned.holds ≡ self.old.pass.now.pinned.holds ++ tile ∷ []) }
+        ensures hand { self.new.pass.now.pinned.hand ≡ None }
+        ensures call { IsSameCall self.old self.new }
+        ensures tap { self.new.tap.now ≡ self.old.tap.now }
+        ensures seat { self.new.pass.now.pinned.seat ≡ self.old.pass.now.pinned.seat }
+        ensures same { KeepsAllButHolds self.old.pass.now self.new.pass.now }
+        ensures view { self.new.pass.now.view ≡ self.old.pass.now.view }
+    {
+        let pass = &mut *self.pass;
+        pass.pinned.hold();
     }
 }

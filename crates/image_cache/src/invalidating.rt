@@ -8,9 +8,11 @@ ghost use Rattle.shard_gate.specs.Given.{AtFirst, Purges};
 ghost use Rattle.shard_gate.specs.Since.{PurgesNone};
 ghost use Rattle.pinned_tiles.specs.Pinned.{KeepsTiles};
 ghost use Rattle.image_cache.specs.Pass.{IsPassOf, SameCounts};
-ghost use Rattle.image_cache.specs.Invalid.{invalid, IsEmptied, MakesInvalid, MakesAllInvalid};
+ghost use Rattle.image_cache.specs.Invalid.{invalid, IsEmptied, MakesInvalid, AsksIfKnown};
 ghost use Rattle.image_cache.specs.Invalid.{InvalidCause, Renews, KeepsButSight, MayAsk};
-ghost use Rattle.image_cache.specs.Invalid.{AsksIfKnown};
+ghost use Rattle.image_cache.specs.InvalidAll.{MakesAllInvalid, RenewsFile, FailsAt, EndsAtFault};
+ghost use Rattle.image_cache.specs.InvalidAll.{AtReadFault};
+ghost use Rattle.image_cache.specs.Reading.{pass_tap};
 ghost use Rattle.image_cache.specs.Invalid as spec;
 
 use crate::cache::Cache;
@@ -48,6 +50,9 @@ impl<T: Tap> Cache<T> {
         ensures ok { IfOk result (MakesInvalid T.W.files self.now.gate (invalid file force)
             pass.old pass.new (T.state tap.old) (T.state tap.new)) }
         ensures cause { IfErr result (InvalidCause (T.state tap.old) (T.state tap.new)) }
+        // Where the source failed no tile is purged.
+        ensures failed { IfErr result (AtReadFault (PurgesNone self.now.gate
+            pass.old.pinned.seat pass.new.pinned.seat)) }
         // What the call leaves, whatever it answers.
         ensures emptied { IsEmptied V.Busy pass.old pass.new }
         ensures view { KeepsView file pass.old.view pass.new.view }
@@ -70,9 +75,14 @@ impl<T: Tap> Cache<T> {
     ) -> Result<(), CacheError<V::Busy>>
         requires pass { IsPassOf self.now pass.old }
         requires told { (file : ℕ) → file < self.now.files.board.files → IsFile T.W.files file }
-        ensures ok { OnOk result (MakesAllInvalid self.now.files.board.files
-            pass.old.view pass.new.view (T.state tap.old) (T.state tap.new)) }
+        ensures ok { OnOk result (MakesAllInvalid T.W.files self.now.gate
+            self.now.files.board.files (pass_tap pass.old (T.state tap.old))
+            (pass_tap pass.new (T.state tap.new))) }
         ensures cause { IfErr result (InvalidCause (T.state tap.old) (T.state tap.new)) }
+        // Where the source failed the files before that one are done.
+        ensures failed { IfErr result (AtReadFault (EndsAtFault T.W.files self.now.gate
+            self.now.files.board.files (pass_tap pass.old (T.state tap.old))
+            (pass_tap pass.new (T.state tap.new)))) }
         // What the call leaves, whatever it answers.
         ensures emptied { IsEmptied V.Busy pass.old pass.new }
         ensures later { IsLater pass.old.view.seen pass.new.view.seen }
@@ -102,7 +112,11 @@ impl<T: Tap> Cache<T> {
         requires told { IsFile T.W.files file }
         ensures ok { OnOk result (AsksIfKnown file pass.old.view pass.new.view
             (T.state tap.old) (T.state tap.new)) }
+        ensures renewed { OnOk result (RenewsFile T.W.files self.now.gate file
+            (pass_tap pass.old (T.state tap.old)) (pass_tap pass.new (T.state tap.new))) }
         ensures cause { IfErr result (InvalidCause (T.state tap.old) (T.state tap.new)) }
+        ensures failed { IfErr result (AtReadFault (FailsAt file
+            (pass_tap pass.old (T.state tap.old)) (pass_tap pass.new (T.state tap.new)))) }
         ensures same { KeepsButSight file pass.old pass.new }
         ensures tap { MayAsk (T.state tap.old) (T.state tap.new) }
     {
@@ -133,6 +147,8 @@ impl<T: Tap> Cache<T> {
         ensures ok { IfOk result (Renews T.W.files self.now.gate (invalid asked.file asked.force)
             looked pass.old pass.new (T.state tap.old) (T.state tap.new)) }
         ensures cause { IfErr result (InvalidCause (T.state tap.old) (T.state tap.new)) }
+        ensures failed { IfErr result (AtReadFault ((pass.new ≡ pass.old)
+            × ((T.state tap.new).asks ≡ (T.state tap.old).asks))) }
         ensures same { KeepsButSight asked.file pass.old pass.new }
         ensures tap { MayAsk (T.state tap.old) (T.state tap.new) }
     {

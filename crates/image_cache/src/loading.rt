@@ -13,7 +13,7 @@ ghost use Rattle.image_cache.specs.Cause.{FetchCause, MovesOnlyAgain};
 
 use crate::cache::Cache;
 use crate::error::CacheError;
-use file_table::{LendError, Record};
+use file_table::Record;
 use gen_board::View;
 use pinned_tiles::CellAt;
 use tap_reader::OpenFile;
@@ -93,15 +93,9 @@ impl<T: Tap> Cache<T> {
             ≤ slice_index view.new.steps known.now.file }
         ensures tap { OpensIfAtAll (T.state tap.old) (T.state tap.new) }
     {
-        match self
+        let lent = self
             .files
-            .lend(waiter, view, tap, known.file(), known.generation())
-        {
-            Ok(file) => Ok(file),
-            Err(LendError::ReadFault) => Err(CacheError::ReadFault),
-            Err(LendError::Again { from, to }) => Err(CacheError::Again { from, to }),
-            Err(LendError::NoMemory) => Err(CacheError::NoMemory),
-            Err(LendError::Busy(busy)) => Err(CacheError::Busy(busy)),
-        }
+            .lend(waiter, view, tap, known.file(), known.generation());
+        Ok(lent?)
     }
 }

@@ -1,255 +1,145 @@
 //! A cell that the microcache has not: from the shards, else loaded from its file, or made of the
 //! cells of the level before.
-ghost use Rattle.std.specs.Prelude.{◌≡◌, ◌⊎◌, None, IsTrue, IsFalse, IsSomeAnd, IfOk, IfErr};
-ghost use Rattle.std.specs.Prelude.{OnOk, OnErr, IsOkAnd, ◌<◌, ⊤};
+ghost use Rattle.std.specs.Prelude.{◌≡◌, ◌<◌, ◌≤◌, length, None, IsTrue, IsFalse, IsSomeAnd};
+ghost use Rattle.std.specs.Prelude.{IfOk, OnOk, IsOkAnd, ⊤};
 ghost use Rattle.tile_layout.specs.Key.{level_of};
 ghost use Rattle.tile_layout.specs.Kept.{stored_count};
 ghost use Rattle.tile_load.specs.Halving.{part_count};
 ghost use Rattle.tile_store.specs.Told.{IsTold};
 ghost use Rattle.shard_gate.specs.Gate.{HasCellRect, IsTileOf};
-ghost use Rattle.shard_gate.specs.Since.{PurgesNone, Misses};
+ghost use Rattle.shard_gate.specs.Since.{Misses};
 ghost use Rattle.pinned_tiles.specs.Cell.{is_tile_of};
-ghost use Rattle.image_cache.specs.Pass.{IsPassOf, SameCounts};
-ghost use Rattle.image_cache.specs.Texel.{IsRecordOf, IsCellOf};
+ghost use Rattle.image_cache.specs.Pass.{max_count};
+ghost use Rattle.image_cache.specs.Texel.{IsCellOf};
 ghost use Rattle.image_cache.specs.Making.{IsKeyOf, IsGenerated, Halves, IsNextPart, AddsPart};
-ghost use Rattle.image_cache.specs.Making.{AfterMaking, AfterPinning};
-ghost use Rattle.image_cache.specs.Call.{AfterNeed, HasNoCall, NoneFalls};
-ghost use Rattle.image_cache.specs.Cause.{FetchCause, MovesOnlyAgain, GivesUp};
+ghost use Rattle.image_cache.specs.Making.{IsMadeFor};
+ghost use Rattle.image_cache.specs.Reading.{refusal, IsSameCall, Makes, IsCold};
 
-use crate::cache::Cache;
 use crate::error::CacheError;
-use crate::pass::Pass;
+use crate::reading::Reading;
 use file_table::Record;
 use pinned_tiles::CellAt;
-use shard_gate::PinError;
 use tex_world::{NoMemory, Tap, World};
 use tile_layout::TileKey;
 use tile_load::Halving;
 use tile_store::Tile;
 use waiter::Waiter;
 
-impl<T: Tap> Cache<T> {
+impl<'a, V: Waiter, T: Tap> Reading<'a, V, T> {
     /// Pins the tile of a cell's key, which is made where no shard has it, and takes it in hand.
     #[cycle(making)]
-    pub(crate) fn take_in_hand<V: Waiter>(
-        &self,
-        waiter: &V,
-        pass: &mut Pass<T::W>,
-        tap: &mut T,
-        known: &Record<T::W>,
-        cell: &CellAt,
-    ) -> Result<(), CacheError<V::Busy>>
-        requires pass { IsPassOf self.now pass.old }
-        requires known { IsRecordOf T.W.files self.now known.now }
-        requires cell { IsCellOf known.now cell.now }
-        ensures hand { OnOk result (IsSomeAnd pass.new.pinned.hand
-            (IsTileOf T.W.files self.now.gate.cut cell.now.key)) }
-        ensures cause { IfErr result (FetchCause T.W.files known.now pass.new.view
-            (T.state tap.old) (T.state tap.new)) }
-        ensures moves { MovesOnlyAgain (T.state tap.old) (T.state tap.new) result }
-        ensures tap { NoneFalls (T.state tap.old) (T.state tap.new) }
-        // What the call leaves of the pass.
-        ensures counts { SameCounts pass.old pass.new }
-        ensures recent { pass.new.pinned.recent ≡ pass.old.pinned.recent }
-        ensures empty { OnErr result ((pass.new.pinned.hand ≡ None) ⊎ V.Busy) }
-        ensures same { AfterNeed known.now.file pass.old pass.new }
-        ensures visits { PurgesNone self.now.gate pass.old.pinned.seat pass.new.pinned.seat }
-        ensures missed { HasNoCall (T.state tap.old) (T.state tap.new)
-            ⊎ Misses self.now.gate cell.now.key pass.old.pinned.seat pass.new.pinned.seat }
+    pub(crate) fn take_in_hand(&mut self, cell: &CellAt) -> Result<(), CacheError<V::Busy>>
+        requires cell { IsCellOf self.old.known.now cell.now }
+        ensures hand { OnOk result (IsSomeAnd self.new.pass.now.pinned.hand
+            (IsTileOf T.W.files self.old.cache.now.gate.cut cell.now.key)) }
+        ensures call { IsSameCall self.old self.new }
+        ensures made { Makes T.W.files self.old self.new (refusal result) }
+        ensures missed { IsCold cell.now.key self.old self.new }
     {
-        match self.pin_kept(waiter, pass, cell.key) {
-            Ok(true) => return Ok(()),
-            Ok(false) => {}
-            Err(e) => return Err(e),
+        if self.pin_kept(cell.key)? {
+            return Ok(());
         }
-        let tile = self.make(waiter, pass, tap, known, cell)?;
-        self.pin_made(waiter, pass, tile)
+        let tile = self.make(cell)?;
+        self.pin_made(tile)
     }
 
     /// Pins the tile of a key, if its shard has one, and takes it in hand.
-    fn pin_kept<V: Waiter>(
-        &self,
-        waiter: &V,
-        pass: &mut Pass<T::W>,
-        key: TileKey,
-    ) -> Result<bool, CacheError<V::Busy>>
-        requires pass { IsPassOf self.now pass.old }
-        ensures found { IfOk result (λ found. IsTrue found → IsSomeAnd pass.new.pinned.hand
-            (IsTileOf T.W.files self.now.gate.cut key)) }
-        ensures none { IfOk result (λ found. IsFalse found → pass.new.pinned.hand ≡ None) }
-        ensures missed { IfOk result (λ found. IsFalse found →
-            Misses self.now.gate key pass.old.pinned.seat pass.new.pinned.seat) }
-        ensures cause { IfErr result GivesUp }
-        ensures empty { OnErr result ((pass.new.pinned.hand ≡ None) ⊎ V.Busy) }
-        ensures same { AfterPinning self.now.gate pass.old pass.new }
+    fn pin_kept(&mut self, key: TileKey) -> Result<bool, CacheError<V::Busy>>
+        ensures found { IfOk result (λ found. IsTrue found → IsSomeAnd self.new.pass.now.pinned.hand
+            (IsTileOf T.W.files self.old.cache.now.gate.cut key)) }
+        ensures none { IfOk result (λ found. IsFalse found →
+            self.new.pass.now.pinned.hand ≡ None) }
+        ensures missed { IfOk result (λ found. IsFalse found → Misses self.old.cache.now.gate key
+            self.old.pass.now.pinned.seat self.new.pass.now.pinned.seat) }
+        ensures made { Makes T.W.files self.old self.new (refusal result) }
+        ensures tap { self.new.tap.now ≡ self.old.tap.now }
     {
-        match pass.pinned.pin_next(&self.gate, waiter, key) {
-            Ok(found) => Ok(found),
-            Err(e) => Err(pin_refused(e)),
-        }
+        let (cache, pass) = (self.cache, &mut *self.pass);
+        let found = pass.pinned.pin_next(&cache.gate, self.waiter, key)?;
+        Ok(found)
     }
 
     /// Keeps a tile that was made in its shard, pinned, and takes it in hand.
-    fn pin_made<V: Waiter>(
-        &self,
-        waiter: &V,
-        pass: &mut Pass<T::W>,
-        tile: Tile<T::W>,
-    ) -> Result<(), CacheError<V::Busy>>
-        requires pass { IsPassOf self.now pass.old }
-        requires hand { pass.old.pinned.hand ≡ None }
-        requires cell { HasCellRect T.W.files self.now.gate.cut tile }
-        ensures hand { OnOk result (IsSomeAnd pass.new.pinned.hand
-            (IsTileOf T.W.files self.now.gate.cut tile.key)) }
-        ensures cause { IfErr result GivesUp }
-        ensures empty { OnErr result (pass.new.pinned.hand ≡ None) }
-        ensures same { AfterPinning self.now.gate pass.old pass.new }
+    fn pin_made(&mut self, tile: Tile<T::W>) -> Result<(), CacheError<V::Busy>>
+        requires hand { self.old.pass.now.pinned.hand ≡ None }
+        requires cell { HasCellRect T.W.files self.old.cache.now.gate.cut tile }
+        ensures hand { OnOk result (IsSomeAnd self.new.pass.now.pinned.hand
+            (IsTileOf T.W.files self.old.cache.now.gate.cut tile.key)) }
+        ensures made { Makes T.W.files self.old self.new (refusal result) }
     {
-        match pass.pinned.pin_new(&self.gate, waiter, tile) {
-            Ok(()) => Ok(()),
-            Err(e) => Err(pin_refused(e)),
-        }
+        let (cache, pass) = (self.cache, &mut *self.pass);
+        pass.pinned.pin_new(&cache.gate, self.waiter, tile)?;
+        Ok(())
     }
 
-    /// Loads the tile of a cell of a stored level.
-    fn load_stored<V: Waiter>(
-        &self,
-        waiter: &V,
-        pass: &mut Pass<T::W>,
-        tap: &mut T,
-        known: &Record<T::W>,
-        cell: &CellAt,
-    ) -> Result<Tile<T::W>, CacheError<V::Busy>>
-        requires pass { IsPassOf self.now pass.old }
-        requires known { IsRecordOf T.W.files self.now known.now }
-        requires cell { IsCellOf known.now cell.now }
-        requires stored { IsOkAnd known.now.layout (λ kept.
-            level_of cell.now.key < stored_count kept) }
-        ensures keyed { IfOk result (λ tile. tile.key ≡ cell.now.key) }
-        ensures of_cell { IfOk result (λ tile. IsTrue (is_tile_of cell.now tile)) }
-        ensures cell { IfOk result (HasCellRect T.W.files self.now.gate.cut) }
-        ensures told { IfOk result (IsTold T.W.files) }
-        ensures cause { IfErr result (FetchCause T.W.files known.now pass.new.view
-            (T.state tap.old) (T.state tap.new)) }
-        ensures moves { MovesOnlyAgain (T.state tap.old) (T.state tap.new) result }
-        ensures tap { NoneFalls (T.state tap.old) (T.state tap.new) }
-        ensures hand { pass.new.pinned.hand ≡ pass.old.pinned.hand }
-        ensures same { AfterMaking self.now.gate known.now.file pass.old pass.new }
+    /// Gives the pin of the tile in hand back.
+    pub(crate) fn give_back(&mut self) -> Result<(), CacheError<V::Busy>>
+        ensures hand { OnOk result (self.new.pass.now.pinned.hand ≡ None) }
+        ensures made { Makes T.W.files self.old self.new (refusal result) }
     {
-        self.load_cell(waiter, &mut pass.view, tap, known, cell)
+        let (cache, pass) = (self.cache, &mut *self.pass);
+        match pass.pinned.release_hand(&cache.gate, self.waiter) {
+            Ok(()) => Ok(()),
+            Err(busy) => Err(CacheError::Busy(busy)),
+        }
     }
 
     /// The tile of a cell: of a stored level it is loaded from the file, and of a generated one it
     /// is made of the tiles of the level before.
     #[cycle(making)]
-    pub(crate) fn make<V: Waiter>(
-        &self,
-        waiter: &V,
-        pass: &mut Pass<T::W>,
-        tap: &mut T,
-        known: &Record<T::W>,
-        cell: &CellAt,
-    ) -> Result<Tile<T::W>, CacheError<V::Busy>>
-        requires pass { IsPassOf self.now pass.old }
-        requires known { IsRecordOf T.W.files self.now known.now }
-        requires cell { IsCellOf known.now cell.now }
-        requires hand { pass.old.pinned.hand ≡ None }
-        ensures keyed { IfOk result (λ tile. tile.key ≡ cell.now.key) }
-        ensures of_cell { IfOk result (λ tile. IsTrue (is_tile_of cell.now tile)) }
-        ensures cell { IfOk result (HasCellRect T.W.files self.now.gate.cut) }
-        ensures told { IfOk result (IsTold T.W.files) }
-        ensures cause { IfErr result (FetchCause T.W.files known.now pass.new.view
-            (T.state tap.old) (T.state tap.new)) }
-        ensures moves { MovesOnlyAgain (T.state tap.old) (T.state tap.new) result }
-        ensures tap { NoneFalls (T.state tap.old) (T.state tap.new) }
-        // What the call leaves of the pass.
-        ensures hand { OnOk result (pass.new.pinned.hand ≡ None) }
-        ensures empty { OnErr result ((pass.new.pinned.hand ≡ None) ⊎ V.Busy) }
-        ensures same { AfterMaking self.now.gate known.now.file pass.old pass.new }
+    pub(crate) fn make(&mut self, cell: &CellAt) -> Result<Tile<T::W>, CacheError<V::Busy>>
+        requires cell { IsCellOf self.old.known.now cell.now }
+        requires hand { self.old.pass.now.pinned.hand ≡ None }
+        ensures tile { IfOk result (IsMadeFor T.W.files self.old.cache.now.gate.cut cell.now) }
+        ensures hand { OnOk result (self.new.pass.now.pinned.hand ≡ None) }
+        ensures made { Makes T.W.files self.old self.new (refusal result) }
     {
-        if is_stored(known, cell.key) {
-            self.load_stored(waiter, pass, tap, known, cell)
+        if is_stored(self.known.record(), cell.key) {
+            self.load(cell)
         } else {
-            self.halve(waiter, pass, tap, known, cell)
+            self.halve(cell)
         }
+    }
+
+    /// Loads the tile of a cell of a stored level.
+    fn load(&mut self, cell: &CellAt) -> Result<Tile<T::W>, CacheError<V::Busy>>
+        requires cell { IsCellOf self.old.known.now cell.now }
+        requires stored { IsOkAnd self.old.known.now.layout (λ kept.
+            level_of cell.now.key < stored_count kept) }
+        requires hand { self.old.pass.now.pinned.hand ≡ None }
+        ensures tile { IfOk result (IsMadeFor T.W.files self.old.cache.now.gate.cut cell.now) }
+        ensures hand { OnOk result (self.new.pass.now.pinned.hand ≡ None) }
+        ensures made { Makes T.W.files self.old self.new (refusal result) }
+    {
+        self.know();
+        let (cache, pass) = (self.cache, &mut *self.pass);
+        cache.load_cell(
+            self.waiter,
+            &mut pass.view,
+            self.tap,
+            self.known.record(),
+            cell,
+        )
     }
 
     /// The tile of a cell of a generated level. Each tile that it is made of is pinned alone, and
     /// its pin is given back before the next.
     #[cycle(making)]
-    fn halve<V: Waiter>(
-        &self,
-        waiter: &V,
-        pass: &mut Pass<T::W>,
-        tap: &mut T,
-        known: &Record<T::W>,
-        cell: &CellAt,
-    ) -> Result<Tile<T::W>, CacheError<V::Busy>>
-        requires pass { IsPassOf self.now pass.old }
-        requires known { IsRecordOf T.W.files self.now known.now }
-        requires cell { IsCellOf known.now cell.now }
-        requires generated { IsGenerated known.now cell.now.key }
-        requires hand { pass.old.pinned.hand ≡ None }
-        ensures keyed { IfOk result (λ tile. tile.key ≡ cell.now.key) }
-        ensures of_cell { IfOk result (λ tile. IsTrue (is_tile_of cell.now tile)) }
-        ensures cell { IfOk result (HasCellRect T.W.files self.now.gate.cut) }
-        ensures told { IfOk result (IsTold T.W.files) }
-        ensures cause { IfErr result (FetchCause T.W.files known.now pass.new.view
-            (T.state tap.old) (T.state tap.new)) }
-        ensures moves { MovesOnlyAgain (T.state tap.old) (T.state tap.new) result }
-        ensures tap { NoneFalls (T.state tap.old) (T.state tap.new) }
-        // What the call leaves of the pass.
-        ensures hand { OnOk result (pass.new.pinned.hand ≡ None) }
-        ensures empty { OnErr result ((pass.new.pinned.hand ≡ None) ⊎ V.Busy) }
-        ensures same { AfterMaking self.now.gate known.now.file pass.old pass.new }
+    fn halve(&mut self, cell: &CellAt) -> Result<Tile<T::W>, CacheError<V::Busy>>
+        requires cell { IsCellOf self.old.known.now cell.now }
+        requires generated { IsGenerated self.old.known.now cell.now.key }
+        requires hand { self.old.pass.now.pinned.hand ≡ None }
+        ensures tile { IfOk result (IsMadeFor T.W.files self.old.cache.now.gate.cut cell.now) }
+        ensures hand { OnOk result (self.new.pass.now.pinned.hand ≡ None) }
+        ensures made { Makes T.W.files self.old self.new (refusal result) }
     {
-        pass.know();
-        let mut halving = self.halving(known, cell)?;
+        self.know();
+        let mut halving = self.halving(cell)?;
         'parts: for k in 0..halving.parts() {
-            let part = part_at(known, cell, &halving, k);
-            if let Err(e) = self.add_part(waiter, pass, tap, known, &part, &mut halving) {
-                return Err(e);
-            }
+            let part = part_at(self.known.record(), cell, &halving, k);
+            self.add_part(&part, &mut halving)?;
         }
-        Ok(self.finished(known, cell, halving))
-    }
-
-    /// A cell of a generated level of which no part was added.
-    fn halving<'k>(
-        &self,
-        known: &'k Record<T::W>,
-        cell: &CellAt,
-    ) -> Result<Halving<'k, T::W>, NoMemory>
-        requires known { IsRecordOf T.W.files self.now known.now }
-        requires cell { IsCellOf known.now cell.now }
-        requires generated { IsGenerated known.now cell.now.key }
-        ensures halves { IfOk result (Halves known.now) }
-        ensures key { IfOk result (λ halving. halving.key ≡ cell.now.key) }
-        ensures none { IfOk result (λ halving. halving.done ≡ 0) }
-    {
-        Halving::new(self.alloc, known, cell.key, self.cut)
-    }
-
-    /// The tile of a cell whose parts were all added.
-    fn finished(
-        &self,
-        known: &Record<T::W>,
-        cell: &CellAt,
-        halving: Halving<'_, T::W>,
-    ) -> Tile<T::W>
-        requires known { IsRecordOf T.W.files self.now known.now }
-        requires cell { IsCellOf known.now cell.now }
-        requires halves { Halves known.now halving }
-        requires key { halving.key ≡ cell.now.key }
-        requires all { halving.done ≡ part_count halving.layout halving.cut halving.key }
-        ensures keyed { result.key ≡ cell.now.key }
-        ensures of_cell { IsTrue (is_tile_of cell.now result) }
-        ensures cell { HasCellRect T.W.files self.now.gate.cut result }
-        ensures told { IsTold T.W.files result }
-    {
-        // the record's layout is that of its bytes
-        let _known = known.generation();
-        halving.finish()
+        Ok(self.finished(cell, halving))
     }
 
     /// The next part of a cell is added, which is the cell `part` of the level before.
@@ -257,87 +147,79 @@ impl<T: Tap> Cache<T> {
     /// Over a world that does not tell, a shard may have another tile of that cell's key. It is not
     /// read, and one that is made apart is added.
     #[cycle(making)]
-    fn add_part<V: Waiter>(
-        &self,
-        waiter: &V,
-        pass: &mut Pass<T::W>,
-        tap: &mut T,
-        known: &Record<T::W>,
+    fn add_part(
+        &mut self,
         part: &CellAt,
         halving: &mut Halving<'_, T::W>,
     ) -> Result<(), CacheError<V::Busy>>
-        requires pass { IsPassOf self.now pass.old }
-        requires known { IsRecordOf T.W.files self.now known.now }
-        requires part { IsCellOf known.now part.now }
+        requires part { IsCellOf self.old.known.now part.now }
         requires next { IsNextPart halving.old part.now }
         ensures ok { OnOk result (AddsPart halving.old halving.new) }
-        ensures cause { IfErr result (FetchCause T.W.files known.now pass.new.view
-            (T.state tap.old) (T.state tap.new)) }
-        ensures moves { MovesOnlyAgain (T.state tap.old) (T.state tap.new) result }
-        ensures tap { NoneFalls (T.state tap.old) (T.state tap.new) }
-        // What the call leaves of the pass.
-        ensures hand { OnOk result (pass.new.pinned.hand ≡ None) }
-        ensures empty { OnErr result ((pass.new.pinned.hand ≡ None) ⊎ V.Busy) }
-        ensures same { AfterMaking self.now.gate known.now.file pass.old pass.new }
+        ensures hand { OnOk result (self.new.pass.now.pinned.hand ≡ None) }
+        ensures made { Makes T.W.files self.old self.new (refusal result) }
     {
-        self.take_in_hand(waiter, pass, tap, known, part)?;
-        if add_in_hand(pass, part, halving) {
-            return self.give_back(waiter, pass);
+        self.take_in_hand(part)?;
+        if self.add_in_hand(part, halving) {
+            return self.give_back();
         }
-        if let Err(e) = self.give_back(waiter, pass) {
-            return Err(e);
-        }
-        self.add_apart(waiter, pass, tap, known, part, halving)
-    }
-
-    /// The next part of a cell is made for it alone, and added.
-    #[cycle(making)]
-    fn add_apart<V: Waiter>(
-        &self,
-        waiter: &V,
-        pass: &mut Pass<T::W>,
-        tap: &mut T,
-        known: &Record<T::W>,
-        part: &CellAt,
-        halving: &mut Halving<'_, T::W>,
-    ) -> Result<(), CacheError<V::Busy>>
-        requires pass { IsPassOf self.now pass.old }
-        requires known { IsRecordOf T.W.files self.now known.now }
-        requires part { IsCellOf known.now part.now }
-        requires next { IsNextPart halving.old part.now }
-        requires hand { pass.old.pinned.hand ≡ None }
-        ensures ok { OnOk result (AddsPart halving.old halving.new) }
-        ensures cause { IfErr result (FetchCause T.W.files known.now pass.new.view
-            (T.state tap.old) (T.state tap.new)) }
-        ensures moves { MovesOnlyAgain (T.state tap.old) (T.state tap.new) result }
-        ensures tap { NoneFalls (T.state tap.old) (T.state tap.new) }
-        // What the call leaves of the pass.
-        ensures hand { OnOk result (pass.new.pinned.hand ≡ None) }
-        ensures empty { OnErr result ((pass.new.pinned.hand ≡ None) ⊎ V.Busy) }
-        ensures same { AfterMaking self.now.gate known.now.file pass.old pass.new }
-    {
-        let apart = self.make(waiter, pass, tap, known, part)?;
+        self.give_back()?;
+        let apart = self.make(part)?;
         add_tile(&apart, part, halving);
         Ok(())
     }
 
-    /// Gives the pin of the tile in hand back.
-    pub(crate) fn give_back<V: Waiter>(
-        &self,
-        waiter: &V,
-        pass: &mut Pass<T::W>,
-    ) -> Result<(), CacheError<V::Busy>>
-        requires pass { IsPassOf self.now pass.old }
-        ensures cause { IfErr result GivesUp }
-        ensures hand { OnOk result (pass.new.pinned.hand ≡ None) }
-        ensures err { OnErr result V.Busy }
-        ensures pass { IsPassOf self.now pass.new }
-        ensures same { AfterPinning self.now.gate pass.old pass.new }
+    /// Adds the tile in hand, where it is that of the part.
+    fn add_in_hand(&self, part: &CellAt, halving: &mut Halving<'_, T::W>) -> bool
+        requires { IsNextPart halving.old part.now }
+        ensures added { IsTrue result → AddsPart halving.old halving.new }
+        ensures same { IsFalse result → halving.new ≡ halving.old }
+        ensures next { IsFalse result → IsNextPart halving.new part.now }
     {
-        match pass.pinned.release_hand(&self.gate, waiter) {
-            Ok(()) => Ok(()),
-            Err(busy) => Err(CacheError::Busy(busy)),
+        let pass = &*self.pass;
+        match pass.pinned.tile_in_hand(part) {
+            Some(tile) => {
+                add_tile(tile, part, halving);
+                true
+            }
+            None => false,
         }
+    }
+
+    /// What holds of its pass. It does nothing.
+    pub(crate) fn know(&self)
+        ensures few { length self.now.pass.now.pinned.recent ≤ 2 }
+        ensures needs { self.now.pass.now.needs ≤ max_count }
+        ensures hits { self.now.pass.now.hits ≤ max_count }
+    {
+        self.pass.know();
+    }
+
+    /// A cell of a generated level of which no part was added.
+    fn halving(&self, cell: &CellAt) -> Result<Halving<'a, T::W>, NoMemory>
+        requires cell { IsCellOf self.now.known.now cell.now }
+        requires generated { IsGenerated self.now.known.now cell.now.key }
+        ensures halves { IfOk result (Halves self.now.known.now) }
+        ensures key { IfOk result (λ halving. halving.key ≡ cell.now.key) }
+        ensures none { IfOk result (λ halving. halving.done ≡ 0) }
+    {
+        let cache = self.cache;
+        Halving::new(cache.alloc, self.known.record(), cell.key, cache.cut)
+    }
+
+    /// The tile of a cell whose parts were all added.
+    fn finished(&self, cell: &CellAt, halving: Halving<'_, T::W>) -> Tile<T::W>
+        requires cell { IsCellOf self.now.known.now cell.now }
+        requires halves { Halves self.now.known.now halving }
+        requires key { halving.key ≡ cell.now.key }
+        requires all { halving.done ≡ part_count halving.layout halving.cut halving.key }
+        ensures keyed { result.key ≡ cell.now.key }
+        ensures of_cell { IsTrue (is_tile_of cell.now result) }
+        ensures rect { HasCellRect T.W.files self.now.cache.now.gate.cut result }
+        ensures told { IsTold T.W.files result }
+    {
+        // the record's layout is that of its bytes
+        let _known = self.known.record();
+        halving.finish()
     }
 }
 
@@ -391,30 +273,4 @@ fn add_tile<W: World>(tile: &Tile<W>, part: &CellAt, halving: &mut Halving<'_, W
     ensures { AddsPart halving.old halving.new }
 {
     halving.add(tile);
-}
-
-/// Adds the tile in hand, where it is that of the part.
-fn add_in_hand<W: World>(pass: &Pass<W>, part: &CellAt, halving: &mut Halving<'_, W>) -> bool
-    requires { IsNextPart halving.old part.now }
-    ensures added { IsTrue result → AddsPart halving.old halving.new }
-    ensures same { IsFalse result → halving.new ≡ halving.old }
-    ensures next { IsFalse result → IsNextPart halving.new part.now }
-{
-    match pass.pinned.tile_in_hand(part) {
-        Some(tile) => {
-            add_tile(tile, part, halving);
-            true
-        }
-        None => false,
-    }
-}
-
-/// Why a tile was not pinned, as the cache says it. Either cause may stand anywhere.
-fn pin_refused<B>(e: PinError<B>) -> CacheError<B>
-    ensures { GivesUp result }
-{
-    match e {
-        PinError::NoMemory => CacheError::NoMemory,
-        PinError::Busy(busy) => CacheError::Busy(busy),
-    }
 }

@@ -3,7 +3,7 @@ ghost use Rattle.std.specs.Prelude.{◌≡◌, ◌↔◌, ◌<◌, ◌≤◌, No
 ghost use Rattle.std.specs.Prelude.{IsSome, IsNone, IfSome, IsSomeAnd, length, slice_index};
 ghost use Rattle.tex_world.specs.World.{IsFile};
 ghost use Rattle.gen_board.specs.View.{AfterStep};
-ghost use Rattle.file_table.specs.Calls.{sighted, GivesRecord, LooksOnce, OpensIfAtAll};
+ghost use Rattle.file_table.specs.Calls.{sighted, GivesRecord, IsAsSeen, LooksOnce, OpensIfAtAll};
 ghost use Rattle.image_cache.specs.Pass.{IsPassOf, IsKeptBy, KeepsAllButRecord};
 ghost use Rattle.image_cache.specs.Call.{Serves};
 ghost use Rattle.image_cache.specs.Cause.{OpeningCause};
@@ -11,7 +11,7 @@ ghost use Rattle.image_cache.specs.Cause.{OpeningCause};
 use crate::cache::Cache;
 use crate::error::CacheError;
 use crate::pass::Pass;
-use file_table::{Record, RecordError};
+use file_table::Record;
 use std::sync::Arc;
 use tex_world::Tap;
 use waiter::Waiter;
@@ -31,6 +31,7 @@ impl<T: Tap> Cache<T> {
         requires told { IsFile T.W.files file }
         ensures ok { IfOk result (λ r. GivesRecord T.W.files file self.now.gate.cut
             pass.old.view pass.new.view r.value) }
+        ensures as_seen { IfOk result (λ r. IsAsSeen 1 file pass.old.view pass.new.view r.value) }
         ensures cause { IfErr result (OpeningCause T.W.files file
             (sighted pass.old.view (T.state tap.old)) (sighted pass.new.view (T.state tap.new))) }
         // What the call leaves.
@@ -40,16 +41,9 @@ impl<T: Tap> Cache<T> {
         ensures looks { LooksOnce file pass.old.view pass.new.view }
         ensures once { OpensIfAtAll (T.state tap.old) (T.state tap.new) }
     {
-        match self.files.record(waiter, &mut pass.view, tap, file) {
-            Ok(known) => {
-                pass.latest = None;
-                Ok(known)
-            }
-            Err(RecordError::ReadFault) => Err(CacheError::ReadFault),
-            Err(RecordError::Again { from, to }) => Err(CacheError::Again { from, to }),
-            Err(RecordError::NoMemory) => Err(CacheError::NoMemory),
-            Err(RecordError::Busy(busy)) => Err(CacheError::Busy(busy)),
-        }
+        let known = self.files.record(waiter, &mut pass.view, tap, file)?;
+        pass.latest = None;
+        Ok(known)
     }
 
     /// The record is the one that the pass keeps for its next lookup.

@@ -1,29 +1,32 @@
 //! The values of a region, cell by cell.
 ghost use Rattle.std.specs.Prelude.{◌≡◌, ℕ, ◌+◌, ◌*◌, ◌<◌, ◌≤◌, ◌++◌, [], ◌∷◌, length, replicate};
-ghost use Rattle.std.specs.Prelude.{Err, IfOk, IfErr, IfSome, IsNone, IsTrue, OnOk, OnErr};
+ghost use Rattle.std.specs.Prelude.{Err, IfOk, IfErr, IsOkAnd, IsTrue, OnOk, OnErr, slice_index};
 ghost use Rattle.std.specs.Option.{ForSome};
 ghost use Rattle.tex_world.specs.World.{IsFile, max_files};
 ghost use Rattle.tiff_format.specs.Facts.{IsChannelCount};
 ghost use Rattle.texel_values.specs.Region.{max_texels, AreRegionValues, Appends};
 ghost use Rattle.texel_values.specs.Window.{HasValues, HasValuesOn, KeepsOthersOn};
-ghost use Rattle.texel_values.specs.Area.{IsPainted, IsZeroBeside, area_cell, area_cells};
+ghost use Rattle.texel_values.specs.Area.{IsAreaOf, IsPainted, IsZeroBeside, area_cell, area_cells};
 ghost use Rattle.tile_layout.specs.Grid.{shown_grid};
 ghost use Rattle.tile_layout.specs.Key.{key_of, level_of};
-ghost use Rattle.tile_layout.specs.Cell.{cell_rect};
+ghost use Rattle.tile_layout.specs.Cell.{CellsFit, cell_rect};
 ghost use Rattle.shard_gate.specs.Since.{PurgesNone};
 ghost use Rattle.pinned_tiles.specs.Cell.{is_tile_of, StandsFirst};
 ghost use Rattle.image_cache.specs.Pass.{IsPassOf};
-ghost use Rattle.image_cache.specs.Texel.{IsRecordOf, IsGivenBy, IsCellOf};
-ghost use Rattle.image_cache.specs.Call.{AfterCall, AfterNeed, CountsOn, KeepsGiven, KeepsOne};
+ghost use Rattle.image_cache.specs.Texel.{IsGivenBy, IsCellOf};
+ghost use Rattle.image_cache.specs.Call.{AfterCall, KeepsGiven, KeepsOne};
 ghost use Rattle.image_cache.specs.Call.{LeavesNoHand, Needs, NoneFalls};
-ghost use Rattle.image_cache.specs.Region.{ReadsRegion, HasAreaAt, area_keys};
+ghost use Rattle.image_cache.specs.Region.{ReadsRegion, HasAreaAt, HasAreaOf, area_keys};
+ghost use Rattle.image_cache.specs.Reading.{refusal, pass_tap, ReadsOn, IsSameCall, Reads};
 ghost use Rattle.image_cache.specs.Cause.{around, HasCause, TooManyTexels, PixelsRefuses};
-ghost use Rattle.image_cache.specs.Cause.{StepCause, FetchCause, KeepsRecentAt};
+ghost use Rattle.image_cache.specs.Cause.{StepCause, KeepsRecentAt};
 
 use crate::cache::Cache;
 use crate::checks::level_in;
 use crate::error::CacheError;
+use crate::fitting::Fitting;
 use crate::pass::Pass;
+use crate::reading::Reading;
 use crate::texel::{channels_of, depth_of};
 use file_table::Record;
 use pinned_tiles::CellAt;
@@ -39,6 +42,13 @@ pub struct Pixels {
     pub generation: u32,
     /// The values of each texel.
     pub channels: u32,
+}
+
+/// The values of a region, row by row, and how many each texel has.
+#[derive(Drop)]
+struct RegionValues {
+    values: Vec<u16>,
+    channels: u32,
 }
 
 impl<T: Tap> Cache<T> {
@@ -70,11 +80,15 @@ impl<T: Tap> Cache<T> {
             pass.old pass.new (T.state tap.old) (T.state tap.new))
             (TooManyTexels region.now.w region.now.h) (PixelsRefuses region.now.level)) }
         ensures too_large { max_texels < region.now.w * region.now.h
-            → result ≡ Err CacheError.RegionTooLarge }
+            → (result ≡ Err CacheError.RegionTooLarge)
+            × (pass.new ≡ pass.old) × (T.state tap.new ≡ T.state tap.old) }
         ensures err { OnErr result (out.new.items ≡ out.old.items) }
         ensures unread { IfErr result (KeepsRecentAt pass.old pass.new) }
-        // What the call leaves.
-        ensures latest { KeepsOne T.W.files file self.now.gate.cut pass.old pass.new }
+        // What the call leaves. An answer comes behind a look at the board.
+        ensures looked { OnOk result (slice_index pass.old.view.steps file
+            < slice_index pass.new.view.steps file) }
+        ensures latest { KeepsOne T.W.files file self.now.gate.cut pass.old pass.new
+            (T.state tap.old) (T.state tap.new) }
         ensures same { AfterCall file pass.old pass.new
             × (pass.new.pinned.holds ≡ pass.old.pinned.holds) }
         ensures hand { LeavesNoHand V.Busy pass.old pass.new }
@@ -85,64 +99,66 @@ impl<T: Tap> Cache<T> {
             return Err(CacheError::RegionTooLarge);
         }
         let known = self.open(waiter, pass, tap, file)?;
-        let answer = self.pixels_of(waiter, pass, tap, &known, region, out);
+        let answer = self.read_region(waiter, pass, tap, &known, region);
+        let generation = known.generation();
         self.keep(pass, known);
-        answer
+        let read = answer?;
+        append(out, &read.values)?;
+        Ok(Pixels {
+            generation,
+            channels: read.channels,
+        })
     }
 
-    /// The same of a record.
-    fn pixels_of<V: Waiter>(
+    /// The values of a region of a record.
+    fn read_region<V: Waiter>(
         &self,
         waiter: &V,
         pass: &mut Pass<T::W>,
         tap: &mut T,
         known: &Record<T::W>,
         region: &Region,
-        out: &mut Vec<u16>,
-    ) -> Result<Pixels, CacheError<V::Busy>>
+    ) -> Result<RegionValues, CacheError<V::Busy>>
         requires pass { IsPassOf self.now pass.old }
         requires known { IsGivenBy T.W.files self.now known.now }
         requires few { region.now.w * region.now.h ≤ max_texels }
-        ensures ok { IfOk result (λ pixels. (pixels.generation ≡ known.now.generation)
-            × ReadsRegion T.W.files region.now pixels.channels pass.old pass.new known.now) }
-        ensures count { IfOk result (λ pixels. length out.new.items ≡ length out.old.items
-            + region.now.h * (region.now.w * pixels.channels)) }
-        ensures value { OnOk result (ForSome (T.W.files.held known.now.file known.now.generation)
-            (λ bytes. Appends (AreRegionValues bytes region.now) out.old.items out.new.items)) }
+        ensures ok { IfOk result (λ read.
+            ReadsRegion T.W.files region.now read.channels pass.old pass.new known.now) }
+        ensures count { IfOk result (λ read. length read.values.items
+            ≡ region.now.h * (region.now.w * read.channels)) }
+        ensures value { ForSome (T.W.files.held known.now.file known.now.generation) (λ bytes.
+            IfOk result (λ read. AreRegionValues bytes region.now read.values.items)) }
         ensures cause { IfErr result (StepCause T.W.files known.now pass.new.view
             (T.state tap.old) (T.state tap.new) (PixelsRefuses region.now.level)) }
-        ensures err { OnErr result (out.new.items ≡ out.old.items) }
         ensures unread { IfErr result (KeepsRecentAt pass.old pass.new) }
         // What the call leaves.
-        ensures same { AfterNeed known.now.file pass.old pass.new }
-        ensures counts { CountsOn pass.old pass.new }
-        ensures hand { LeavesNoHand V.Busy pass.old pass.new }
-        ensures visits { PurgesNone self.now.gate pass.old.pinned.seat pass.new.pinned.seat }
-        ensures tap { NoneFalls (T.state tap.old) (T.state tap.new) }
+        ensures left { ReadsOn T.W.files self.now.gate known.now
+            (pass_tap pass.old (T.state tap.old)) (pass_tap pass.new (T.state tap.new)) V.Busy }
     {
         pass.know();
-        let grid = level_in(known, region.level)?;
-        let area = Area::new(grid, region, channels_of(known));
-        let values = self.values_of(waiter, pass, tap, known, &area)?;
-        append(out, &values)?;
-        Ok(Pixels {
-            generation: known.generation(),
+        // the record's layout is that of its bytes
+        let _known = known.generation();
+        let area = area_of(known, region)?;
+        let known = Fitting::of(known);
+        let mut reading = Reading {
+            cache: self,
+            waiter,
+            pass,
+            tap,
+            known: &known,
+        };
+        let values = reading.values_of(&area)?;
+        Ok(RegionValues {
+            values,
             channels: area.window.channels,
         })
     }
+}
 
+impl<'a, V: Waiter, T: Tap> Reading<'a, V, T> {
     /// The values of an area.
-    fn values_of<V: Waiter>(
-        &self,
-        waiter: &V,
-        pass: &mut Pass<T::W>,
-        tap: &mut T,
-        known: &Record<T::W>,
-        area: &Area,
-    ) -> Result<Vec<u16>, CacheError<V::Busy>>
-        requires pass { IsPassOf self.now pass.old }
-        requires known { IsRecordOf T.W.files self.now known.now }
-        requires area { HasAreaAt area.now known.now }
+    fn values_of(&mut self, area: &Area) -> Result<Vec<u16>, CacheError<V::Busy>>
+        requires area { HasAreaAt area.now self.old.known.now }
         requires few { area.now.window.width * area.now.height ≤ max_texels }
         requires channels { IsChannelCount area.now.window.channels }
         requires across { area.now.window.columns.before + area.now.window.columns.inside
@@ -153,151 +169,81 @@ impl<T: Tap> Cache<T> {
             ≡ area.now.height * (area.now.window.width * area.now.window.channels)) }
         ensures beside { IfOk result (λ values. IsZeroBeside area.now values.items) }
         ensures value { IfOk result (λ values.
-            ForSome (T.W.files.held known.now.file known.now.generation)
+            ForSome (T.W.files.held self.old.known.now.file self.old.known.now.generation)
             (λ bytes. IsPainted bytes area.now values.items)) }
         ensures needs { OnOk result (Needs T.W.files
-            (area_keys known.now area.now (area_cells area.now)) pass.old pass.new) }
-        ensures cause { IfErr result (FetchCause T.W.files known.now pass.new.view
-            (T.state tap.old) (T.state tap.new)) }
-        // What the call leaves.
-        ensures same { AfterNeed known.now.file pass.old pass.new }
-        ensures counts { CountsOn pass.old pass.new }
-        ensures hand { LeavesNoHand V.Busy pass.old pass.new }
-        ensures visits { PurgesNone self.now.gate pass.old.pinned.seat pass.new.pinned.seat }
-        ensures tap { NoneFalls (T.state tap.old) (T.state tap.new) }
+            (area_keys self.old.known.now area.now (area_cells area.now))
+            self.old.pass.now self.new.pass.now) }
+        ensures call { IsSameCall self.old self.new }
+        ensures left { Reads T.W.files self.old self.new (refusal result) }
     {
-        pass.know();
-        let mut values = zeros(self.alloc, area)?;
-        self.fill(waiter, pass, tap, known, area, values.as_mut_slice())?;
+        self.know();
+        let cache = self.cache;
+        let mut values = zeros(cache.alloc, area)?;
+        self.fill(area, values.as_mut_slice())?;
         Ok(values)
     }
 
     /// Writes the values of all texels that a region has on its level.
-    fn fill<V: Waiter>(
-        &self,
-        waiter: &V,
-        pass: &mut Pass<T::W>,
-        tap: &mut T,
-        known: &Record<T::W>,
-        area: &Area,
-        values: &mut [u16],
-    ) -> Result<(), CacheError<V::Busy>>
-        requires pass { IsPassOf self.now pass.old }
-        requires known { IsRecordOf T.W.files self.now known.now }
-        requires area { HasAreaAt area.now known.now }
+    fn fill(&mut self, area: &Area, values: &mut [u16]) -> Result<(), CacheError<V::Busy>>
+        requires area { HasAreaAt area.now self.old.known.now }
         requires values { HasValues area.now.window area.now.height values.old }
         ensures long { length values.new ≡ length values.old }
         ensures beside { IsZeroBeside area.now values.old → IsZeroBeside area.now values.new }
-        ensures value { OnOk result (ForSome (T.W.files.held known.now.file known.now.generation)
+        ensures value { OnOk result (ForSome
+            (T.W.files.held self.old.known.now.file self.old.known.now.generation)
             (λ bytes. IsPainted bytes area.now values.new)) }
         ensures needs { OnOk result (Needs T.W.files
-            (area_keys known.now area.now (area_cells area.now)) pass.old pass.new) }
-        ensures cause { IfErr result (FetchCause T.W.files known.now pass.new.view
-            (T.state tap.old) (T.state tap.new)) }
-        // What the call leaves.
-        ensures same { AfterNeed known.now.file pass.old pass.new }
-        ensures counts { CountsOn pass.old pass.new }
-        ensures hand { LeavesNoHand V.Busy pass.old pass.new }
-        ensures visits { PurgesNone self.now.gate pass.old.pinned.seat pass.new.pinned.seat }
-        ensures tap { NoneFalls (T.state tap.old) (T.state tap.new) }
+            (area_keys self.old.known.now area.now (area_cells area.now))
+            self.old.pass.now self.new.pass.now) }
+        ensures left { Reads T.W.files self.old self.new (refusal result) }
     {
-        pass.know();
+        self.know();
         'cells: for k in 0..area.cells() {
-            self.fill_cell(waiter, pass, tap, known, area, k, values)?;
+            self.fill_cell(area, k, values)?;
         }
         Ok(())
     }
 
     /// Writes the values of the texels that a region has in one of the cells that it meets, which
     /// is needed once.
-    fn fill_cell<V: Waiter>(
-        &self,
-        waiter: &V,
-        pass: &mut Pass<T::W>,
-        tap: &mut T,
-        known: &Record<T::W>,
+    fn fill_cell(
+        &mut self,
         area: &Area,
         k: u64,
         values: &mut [u16],
     ) -> Result<(), CacheError<V::Busy>>
-        requires pass { IsPassOf self.now pass.old }
-        requires known { IsRecordOf T.W.files self.now known.now }
-        requires area { HasAreaAt area.now known.now }
+        requires area { HasAreaAt area.now self.old.known.now }
         requires cell { k < area_cells area.now }
         requires values { HasValues area.now.window area.now.height values.old }
         ensures long { length values.new ≡ length values.old }
         ensures others { KeepsOthersOn (cell_rect (shown_grid area.now.grid) (area_cell area.now k))
             area.now.window area.now.height values.old values.new }
-        ensures value { OnOk result (ForSome (T.W.files.held known.now.file known.now.generation)
+        ensures value { OnOk result (ForSome
+            (T.W.files.held self.old.known.now.file self.old.known.now.generation)
             (λ bytes. HasValuesOn bytes area.now.level
             (cell_rect (shown_grid area.now.grid) (area_cell area.now k))
             area.now.window area.now.height values.new)) }
-        ensures needs { OnOk result (Needs T.W.files (key_of known.now.generation known.now.file
-            area.now.level (area_cell area.now k) ∷ []) pass.old pass.new) }
-        ensures cause { IfErr result (FetchCause T.W.files known.now pass.new.view
-            (T.state tap.old) (T.state tap.new)) }
-        // What the call leaves.
-        ensures same { AfterNeed known.now.file pass.old pass.new }
-        ensures counts { CountsOn pass.old pass.new }
-        ensures hand { LeavesNoHand V.Busy pass.old pass.new }
-        ensures visits { PurgesNone self.now.gate pass.old.pinned.seat pass.new.pinned.seat }
-        ensures tap { NoneFalls (T.state tap.old) (T.state tap.new) }
+        ensures needs { OnOk result (Needs T.W.files (key_of self.old.known.now.generation
+            self.old.known.now.file area.now.level (area_cell area.now k) ∷ [])
+            self.old.pass.now self.new.pass.now) }
+        ensures left { Reads T.W.files self.old self.new (refusal result) }
     {
-        let cell = self.cell_of(known, area, k);
-        match self.need_counted(waiter, pass, tap, known, &cell)? {
-            Some(apart) => {
-                paint_part(&apart, known, &cell, area, values);
-                Ok(())
-            }
-            None => {
-                self.paint_local(pass, known, &cell, area, values);
-                Ok(())
-            }
+        let cell = self.cell_of(area, k);
+        match self.need_counted(&cell)? {
+            Some(apart) => paint_part(&apart, self.known.record(), &cell, area, values),
+            None => self.paint_local(&cell, area, values),
         }
-    }
-
-    /// A cell is needed, and a hit is counted where the microcache had it.
-    fn need_counted<V: Waiter>(
-        &self,
-        waiter: &V,
-        pass: &mut Pass<T::W>,
-        tap: &mut T,
-        known: &Record<T::W>,
-        cell: &CellAt,
-    ) -> Result<Option<Tile<T::W>>, CacheError<V::Busy>>
-        requires pass { IsPassOf self.now pass.old }
-        requires known { IsRecordOf T.W.files self.now known.now }
-        requires cell { IsCellOf known.now cell.now }
-        ensures apart { IfOk result (λ apart. IfSome apart (λ tile. (tile.key ≡ cell.now.key)
-            × IsTrue (is_tile_of cell.now tile))) }
-        ensures first { IfOk result (λ apart. IsNone apart →
-            StandsFirst cell.now pass.new.pinned.recent) }
-        ensures needs { OnOk result (Needs T.W.files (cell.now.key ∷ []) pass.old pass.new) }
-        ensures cause { IfErr result (FetchCause T.W.files known.now pass.new.view
-            (T.state tap.old) (T.state tap.new)) }
-        // What the call leaves.
-        ensures same { AfterNeed known.now.file pass.old pass.new }
-        ensures counts { CountsOn pass.old pass.new }
-        ensures hand { LeavesNoHand V.Busy pass.old pass.new }
-        ensures visits { PurgesNone self.now.gate pass.old.pinned.seat pass.new.pinned.seat }
-        ensures tap { NoneFalls (T.state tap.old) (T.state tap.new) }
-    {
-        // the record's layout is that of its bytes, and a tile of the key that of its cell
-        let _known = known.generation();
-        pass.pinned.know();
-        let hit = pass.pinned.has(cell);
-        pass.count_need(hit);
-        self.need_tile(waiter, pass, tap, known, cell)
+        Ok(())
     }
 
     /// The k-th cell that a region meets.
-    fn cell_of(&self, known: &Record<T::W>, area: &Area, k: u64) -> CellAt
-        requires known { IsRecordOf T.W.files self.now known.now }
-        requires area { HasAreaAt area.now known.now }
+    fn cell_of(&self, area: &Area, k: u64) -> CellAt
+        requires area { HasAreaAt area.now self.now.known.now }
         requires cell { k < area_cells area.now }
-        ensures of { IsCellOf known.now result }
-        ensures key { result.key ≡ key_of known.now.generation known.now.file area.now.level
-            (area_cell area.now k) }
+        ensures of { IsCellOf self.now.known.now result }
+        ensures key { result.key ≡ key_of self.now.known.now.generation self.now.known.now.file
+            area.now.level (area_cell area.now k) }
         ensures level { level_of result.key ≡ area.now.level }
         ensures rect { result.rect ≡ cell_rect (shown_grid area.now.grid) (area_cell area.now k) }
         ensures right { result.rect.x + result.rect.w ≤ area.now.grid.across.size }
@@ -305,22 +251,16 @@ impl<T: Tap> Cache<T> {
         ensures channels { result.channels ≡ area.now.window.channels }
     {
         // it has no more files than a folder can have
-        let _files = self.files.board();
-        cell_met(known, area, k)
+        let cache = self.cache;
+        let _files = cache.files.board();
+        cell_met(self.known.record(), area, k)
     }
 
     /// Writes the values of the texels that a region has in a cell, whose tile stands first in the
     /// microcache.
-    fn paint_local(
-        &self,
-        pass: &Pass<T::W>,
-        known: &Record<T::W>,
-        cell: &CellAt,
-        area: &Area,
-        values: &mut [u16],
-    )
-        requires first { StandsFirst cell.now pass.now.pinned.recent }
-        requires cell { IsCellOf known.now cell.now }
+    fn paint_local(&self, cell: &CellAt, area: &Area, values: &mut [u16])
+        requires first { StandsFirst cell.now self.now.pass.now.pinned.recent }
+        requires cell { IsCellOf self.now.known.now cell.now }
         requires right { cell.now.rect.x + cell.now.rect.w ≤ area.now.grid.across.size }
         requires bottom { cell.now.rect.y + cell.now.rect.h ≤ area.now.grid.down.size }
         requires channels { cell.now.channels ≡ area.now.window.channels }
@@ -328,12 +268,34 @@ impl<T: Tap> Cache<T> {
         ensures long { length values.new ≡ length values.old }
         ensures others { KeepsOthersOn cell.now.rect area.now.window area.now.height
             values.old values.new }
-        ensures value { ForSome (T.W.files.held known.now.file known.now.generation)
+        ensures value { ForSome
+            (T.W.files.held self.now.known.now.file self.now.known.now.generation)
             (λ bytes. HasValuesOn bytes (level_of cell.now.key) cell.now.rect area.now.window
             area.now.height values.new) }
     {
-        paint_part(pass.pinned.latest(cell), known, cell, area, values);
+        let pass = &*self.pass;
+        paint_part(
+            pass.pinned.latest(cell),
+            self.known.record(),
+            cell,
+            area,
+            values,
+        );
     }
+}
+
+/// The area of a region of a record that shows no fault, fits the cut and has its level.
+fn area_of<W: World, B>(known: &Record<W>, region: &Region) -> Result<Area, CacheError<B>>
+    ensures area { IfOk result (λ area. HasAreaOf region.now area known.now) }
+    ensures is { IfOk result (λ area. IsAreaOf (shown_grid area.grid) region.now
+        area.window.channels area) }
+    ensures channels { IfOk result (λ area. IsChannelCount area.window.channels) }
+    ensures fits { IfOk result (λ area. IsOkAnd known.now.layout (λ kept.
+        CellsFit kept known.now.cut)) }
+    ensures err { IfErr result (PixelsRefuses region.now.level known.now) }
+{
+    let grid = level_in(known, region.level)?;
+    Ok(Area::new(grid, region, channels_of(known)))
 }
 
 /// The values of an area of which no texel is written yet.

@@ -104,6 +104,8 @@ pub record KeepsHolds (old new : PinnedState) : Type 0 where
 -- All of it but its permits is as it was.
 pub record KeepsAllButPermits (old new : PinnedState) : Type 0 where
   pub gate : new.seat.gate ≡ old.seat.gate
+  pub pins : new.seat.pins ≡ old.seat.pins
+  pub visits : new.seat.visits ≡ old.seat.visits
   pub cut : new.cut ≡ old.cut
   pub recent : new.recent ≡ old.recent
   pub holds : new.holds ≡ old.holds

@@ -115,6 +115,7 @@ impl<W: World> Pinned<W> {
             self.old.seat.visits self.new.seat.visits) }
         ensures share { IfOk result (λ count. count.share ≡ gate.now.share) }
         ensures within { IfOk result (λ count. count.loose ≤ count.share) }
+        ensures pins { self.new.seat.pins ≡ self.old.seat.pins }
         ensures hand { self.new.hand ≡ self.old.hand }
         ensures same { KeepsTiles self.old self.new }
         ensures are { ArePinned W.files self.new }

@@ -7,7 +7,7 @@ use crate::read_ahead::Call::{Aheads, Forget, Hold, Load, Settle};
 use crate::script::Shows;
 use crate::seat::Seat;
 use crate::strips::Strips;
-use file_table::{Files, LendError, Record};
+use file_table::{FileError, Files, Record};
 use std::alloc::Global;
 use std::sync::Arc;
 use std::test::Fail;
@@ -183,7 +183,7 @@ impl<T: Tap + Drop + Shows> Visitor<'_, T> {
         };
         match self.seat.lend(&Tries::new(9), tap, file, &known) {
             Ok(open) => Ok((known, open)),
-            Err(LendError::Again { from: _, to }) => Err(Again(to)),
+            Err(FileError::Again { from: _, to }) => Err(Again(to)),
             Err(_) => Err(Wrong),
         }
     }

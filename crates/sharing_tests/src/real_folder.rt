@@ -13,7 +13,7 @@ use host_folder::RealFolder;
 use std::alloc::Global;
 use std::fs;
 use std::test::Fail;
-use tex_world::{Folder, Tap};
+use tex_world::{EnterError, Folder, Tap};
 use tiff_format::Cut;
 use waiter::Tries;
 
@@ -162,9 +162,9 @@ fn open_descriptors(rt: &HostRuntime) -> Result<usize, Fail> {
 }
 
 // So many files, all alike.
-fn write_files(rt: &HostRuntime, alloc: Global, count: u32) -> Result<(), Fail> {
+fn write_files(rt: &HostRuntime, alloc: Global, folder: &str, count: u32) -> Result<(), Fail> {
     for n in 0..count {
-        let path = numbered(alloc, "many/", n)?;
+        let path = numbered(alloc, folder, n)?;
         fs::write(rt, path.as_str(), &THREE)?;
     }
     Ok(())
@@ -208,12 +208,24 @@ fn visit_all<T: Tap + Drop>(rt: &HostRuntime, tap: T, count: u32) -> Result<Visi
 #[test]
 fn no_descriptor_stays_open(rt: HostRuntime) -> Result<(), Fail> {
     fs::create_dir(&rt, "many")?;
-    write_files(&rt, rt.alloc(), 200)?;
+    write_files(&rt, rt.alloc(), "many/", 200)?;
     let tap = tap_of(RealFolder::new(&rt), rt.alloc(), "many")?;
     let visited = visit_all(&rt, tap, 200)?;
     assert_eq!(rt; visited.well, 5000, "visits");
     assert_eq!(rt; visited.idle, 10, "handles that lie idle");
     assert_eq!(rt; visited.opened, 10, "descriptors with the table");
     assert_eq!(rt; visited.left, 0, "descriptors after its end");
+    Ok(())
+}
+
+#[test]
+fn a_folder_has_4096_files_at_most(rt: HostRuntime) -> Result<(), Fail> {
+    fs::create_dir(&rt, "full")?;
+    write_files(&rt, rt.alloc(), "full/", 4096)?;
+    let entered = RealFolder::new(&rt).enter(rt.alloc(), "full");
+    assert_eq!(rt; entered, Ok(()), "4096 files");
+    fs::write(&rt, "full/further", &THREE)?;
+    let entered = RealFolder::new(&rt).enter(rt.alloc(), "full");
+    assert_eq!(rt; entered, Err(EnterError::TooMany), "4097 files");
     Ok(())
 }

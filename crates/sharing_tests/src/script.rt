@@ -3,7 +3,7 @@ ghost use Rattle.std.specs.Prelude.{ℕ, ◌<◌};
 ghost use Rattle.tex_world.specs.World.{IsFile};
 
 use crate::seat::Seat;
-use file_table::{LendError, Record, RecordError};
+use file_table::{FileError, Record};
 use host_folder::RealTap;
 use std::alloc::Global;
 use std::sync::Arc;
@@ -127,21 +127,12 @@ fn rises(before: Counts, after: Counts) -> Counts {
     ]
 }
 
-fn why_no_record(error: RecordError<GaveUp>) -> Answer {
+fn why_refused(error: FileError<GaveUp>) -> Answer {
     match error {
-        RecordError::ReadFault => Answer::Fault,
-        RecordError::Again { from, to } => Answer::Again(from, to),
-        RecordError::NoMemory => Answer::NoMemory,
-        RecordError::Busy(GaveUp) => Answer::Busy,
-    }
-}
-
-fn why_not_lent(error: LendError<GaveUp>) -> Answer {
-    match error {
-        LendError::ReadFault => Answer::Fault,
-        LendError::Again { from, to } => Answer::Again(from, to),
-        LendError::NoMemory => Answer::NoMemory,
-        LendError::Busy(GaveUp) => Answer::Busy,
+        FileError::ReadFault => Answer::Fault,
+        FileError::Again { from, to } => Answer::Again(from, to),
+        FileError::NoMemory => Answer::NoMemory,
+        FileError::Busy(GaveUp) => Answer::Busy,
     }
 }
 
@@ -213,7 +204,7 @@ impl<T: Tap + Drop + Shows> Script<'_, T> {
                     Answer::Is(generation)
                 }
             }
-            Err(error) => why_no_record(error),
+            Err(error) => why_refused(error),
         }
     }
 
@@ -231,7 +222,7 @@ impl<T: Tap + Drop + Shows> Script<'_, T> {
                     Err(_full) => Answer::NoMemory,
                 }
             }
-            Err(error) => why_not_lent(error),
+            Err(error) => why_refused(error),
         }
     }
 

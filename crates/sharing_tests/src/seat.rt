@@ -2,7 +2,7 @@
 ghost use Rattle.std.specs.Prelude.{◌≡◌, ℕ, ◌<◌};
 ghost use Rattle.tex_world.specs.World.{IsFile};
 
-use file_table::{Files, LendError, Record, RecordError};
+use file_table::{FileError, Files, Record};
 use gen_board::View;
 use std::sync::Arc;
 use tap_reader::OpenFile;
@@ -24,11 +24,11 @@ impl<T: Tap> Seat<'_, T> {
         waiter: &V,
         tap: &mut T,
         file: u32,
-    ) -> Result<Arc<Record<T::W>>, RecordError<GaveUp>>
+    ) -> Result<Arc<Record<T::W>>, FileError<GaveUp>>
         requires { IsFile T.W.files file }
     {
         if file >= self.files.board().files() {
-            return Err(RecordError::Busy(GaveUp));
+            return Err(FileError::Busy(GaveUp));
         }
         self.files.record(waiter, &mut self.view, tap, file)
     }
@@ -40,11 +40,11 @@ impl<T: Tap> Seat<'_, T> {
         tap: &mut T,
         file: u32,
         record: &Record<T::W>,
-    ) -> Result<OpenFile<T>, LendError<GaveUp>>
+    ) -> Result<OpenFile<T>, FileError<GaveUp>>
         requires { IsFile T.W.files file }
     {
         if file >= self.files.board().files() || record.file() != file {
-            return Err(LendError::Busy(GaveUp));
+            return Err(FileError::Busy(GaveUp));
         }
         self.files
             .lend(waiter, &mut self.view, tap, file, record.generation())

@@ -11,7 +11,8 @@ use Rattle.image_cache.specs.Pass.{PassState, KeepsAllButRecord, counted, counte
 use Rattle.image_cache.specs.Texel.{has_cell_at}
 use Rattle.image_cache.specs.Call.{AsksForCellAt, Needs}
 use Rattle.image_cache.proofs.FillLemmas.{if_ok, needs_between}
-use Rattle.texture_sys.specs.Needs.{at_of, look_keys_on, AsksForEach, AsksForCells}
+use Rattle.image_cache.specs.Fetches.{at_of}
+use Rattle.texture_sys.specs.Needs.{look_keys_on, AsksForEach, AsksForCells}
 
 module _ (files : Files) (state : RecordState) where
   -- what was needed of a record between two moments at which only the record was another

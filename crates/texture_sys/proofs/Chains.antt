@@ -4,6 +4,9 @@ use Rattle.std.proofs.Common.{List, [], ◌∷◌, length, Result, Ok, Err}
 use Rattle.std.specs.Prelude.{slice_index_or, IfErr, OnOk}
 use Rattle.std.proofs.lemmas.List.Elements.{All-head, All-tail}
 use Rattle.tex_world.specs.World.{Files}
+use Rattle.tex_world.specs.Tap.{TapState}
+use Rattle.gen_board.specs.View.{ViewState}
+use Rattle.shard_gate.specs.Gate.{GateState}
 use Rattle.tile_store.specs.Tile.{CachedTile}
 use Rattle.file_table.specs.Record.{RecordState}
 use Rattle.texel_filter.specs.Image.{Texel}
@@ -12,11 +15,13 @@ use Rattle.image_cache.specs.declared.error.CacheError.{CacheError}
 use Rattle.image_cache.specs.Pass.{PassState}
 use Rattle.image_cache.specs.Texel.{has_cell_at}
 use Rattle.image_cache.specs.Call.{MovesCellAt, CountsOn}
-use Rattle.image_cache.specs.Cause.{FetchCause}
+use Rattle.image_cache.specs.declared.error.CacheError.TheVariants as refused
+use Rattle.image_cache.specs.Cause.{FetchCause, StepCause, LookRefuses, KeepsRecentAt}
 use Rattle.image_cache.proofs.TexelLemmas.{cause_since}
-use Rattle.texture_sys.specs.Needs.{at_of, HasCell, HasCells, AsksForEach}
-use Rattle.texture_sys.specs.Needs.{AsksForCells}
-use Rattle.texture_sys.specs.Fetches.{PassTap, Fetches, Refuses}
+use Rattle.image_cache.proofs.UnreadLemmas.{at_fetch}
+use Rattle.image_cache.specs.Fetches.{at_of, Fetches, Refuses}
+use Rattle.image_cache.specs.Reading.{PassTap}
+use Rattle.texture_sys.specs.Needs.{HasCell, HasCells, AsksForEach, AsksForCells}
 use Rattle.texture_sys.proofs.Counted.{AreCounts, need_counts, counts_chain, each_counts}
 use Rattle.texture_sys.proofs.Counted.{asks_cells}
 use Rattle.texture_sys.proofs.MovedCells.{has_moved}
@@ -28,16 +33,17 @@ pub still_there : (state : RecordState) (at : Texel) (texels : List Texel) (old 
 still_there state at texels old new moved has =
     λ i d lt. has_moved state (at_of at) (at_of (slice_index_or texels i d)) old new moved ∙ has i d lt
 
-module _ (files : Files) (state : RecordState) where
+module _ (files : Files) (gate : GateState) (state : RecordState) where
   each_leaves : (texels : List Texel) (p q : PassTap) → length p.pass.pinned.recent ≤ 2
-      → EachAnswered (Fetches files state) p texels q → Leaves state.file p q
-  each_leaves [] p q few is = leaves_none state.file p q few is
+      → EachAnswered (Fetches files gate state) p texels q → Leaves gate state.file p q
+  each_leaves [] p q few is = leaves_none gate state.file p q few is
   each_leaves (t ∷ texels) p q few (mid, first, rest) =
-      leaves_chain state.file p mid q first.pass first.tap
+      leaves_chain gate state.file p mid q
+      (record { pass = first.pass; tap = first.tap; visits = first.visits })
       (each_leaves texels mid q first.pass.few rest)
 
   pub each_asks : (texels : List Texel) (p q : PassTap)
-      → EachAnswered (Fetches files state) p texels q
+      → EachAnswered (Fetches files gate state) p texels q
       → AsksForEach files state texels p.pass q.pass
   each_asks [] p q is =
       let pass : q.pass ≡ p.pass = ap (λ (x : PassTap). x.pass) is in (
@@ -49,7 +55,7 @@ module _ (files : Files) (state : RecordState) where
 
   -- they have no call of the tap where the microcache has all cells
   pub each_warm : (texels : List Texel) (p q : PassTap)
-      → HasCells state p.pass.pinned.recent texels → EachAnswered (Fetches files state) p texels q
+      → HasCells state p.pass.pinned.recent texels → EachAnswered (Fetches files gate state) p texels q
       → q.tap ≡ p.tap
   each_warm [] p q has is = ap (λ (x : PassTap). x.tap) is
   each_warm (t ∷ texels) p q has (mid, first, rest) =
@@ -61,15 +67,17 @@ module _ (files : Files) (state : RecordState) where
 
   module _ {B : Type 0} where
     one_leaves : (texels : List Texel) (p q : PassTap) (e : CacheError B)
-        → OneRefused (Fetches files state) (Refuses files state) p texels e q
-        → Leaves state.file p q
+        → OneRefused (Fetches files gate state) (Refuses files gate state) p texels e q
+        → Leaves gate state.file p q
     one_leaves [] p q e none = absurd none
-    one_leaves (t ∷ texels) p q e (inl is) = record { pass = is.pass; tap = is.tap }
+    one_leaves (t ∷ texels) p q e (inl is) = record { pass = is.pass; tap = is.tap; visits = is.visits }
     one_leaves (t ∷ texels) p q e (inr (mid, first, rest)) =
-        leaves_chain state.file p mid q first.pass first.tap (one_leaves texels mid q e rest)
+        leaves_chain gate state.file p mid q
+        (record { pass = first.pass; tap = first.tap; visits = first.visits })
+        (one_leaves texels mid q e rest)
 
     pub one_counts : (texels : List Texel) (p q : PassTap) (e : CacheError B)
-        → AreCounts p.pass → OneRefused (Fetches files state) (Refuses files state) p texels e q
+        → AreCounts p.pass → OneRefused (Fetches files gate state) (Refuses files gate state) p texels e q
         → CountsOn p.pass q.pass
     one_counts [] p q e are none = absurd none
     one_counts (t ∷ texels) p q e are (inl is) =
@@ -82,7 +90,7 @@ module _ (files : Files) (state : RecordState) where
         (one_counts texels mid q e further.are rest)
 
     pub one_cause : (texels : List Texel) (p q : PassTap) (e : CacheError B)
-        → OneRefused (Fetches files state) (Refuses files state) p texels e q
+        → OneRefused (Fetches files gate state) (Refuses files gate state) p texels e q
         → FetchCause files state q.pass.view p.tap q.tap e
     one_cause [] p q e none = absurd none
     one_cause (t ∷ texels) p q e (inl is) = is.cause
@@ -93,7 +101,7 @@ module _ (files : Files) (state : RecordState) where
     -- none is refused where the microcache has all cells
     pub one_cold : (texels : List Texel) (p q : PassTap) (e : CacheError B)
         → HasCells state p.pass.pinned.recent texels
-        → OneRefused (Fetches files state) (Refuses files state) p texels e q → ⊥
+        → OneRefused (Fetches files gate state) (Refuses files gate state) p texels e q → ⊥
     one_cold [] p q e has none = none
     one_cold (t ∷ texels) p q e has (inl is) =
         cc (All-head (HasCell state p.pass.pinned.recent) t texels has, is.cold)
@@ -105,36 +113,58 @@ module _ (files : Files) (state : RecordState) where
 
 -- ---- a whole lookup
 
-module _ {B : Type 0} (files : Files) (state : RecordState) (texels : List Texel) (p q : PassTap)
-  where
-    pub left_leaves : (result : Result (Unit {0}) (CacheError B)) → length p.pass.pinned.recent ≤ 2
-        → LeftBy (Fetches files state) (Refuses files state) p texels q result
-        → Leaves state.file p q
-    left_leaves (Ok done) few left = each_leaves files state texels p q few left
-    left_leaves (Err e) few left = one_leaves files state texels p q e left
+-- why a texel is not fetched is why the lookup is not answered
+look_cause : {B : Type 0} (files : Files) (k : RecordState) (view : ViewState) (a b : TapState)
+    (e : CacheError B) → FetchCause files k view a b e → StepCause files k view a b LookRefuses e
+look_cause files k view a b (refused.Again from to) met = met
+look_cause files k view a b refused.ReadFault rises = rises
+look_cause files k view a b refused.NoMemory free = tt
+look_cause files k view a b (refused.Busy x) free = tt
+look_cause files k view a b (refused.BadFile g fault) none = absurd none
+look_cause files k view a b (refused.TileTooLarge g) none = absurd none
+look_cause files k view a b (refused.NoLevel g levels) none = none
+look_cause files k view a b (refused.Outside g) none = none
+look_cause files k view a b refused.RegionTooLarge none = none
+look_cause files k view a b refused.HoldsFull none = none
 
-    pub left_cause : (result : Result (Unit {0}) (CacheError B))
-        → LeftBy (Fetches files state) (Refuses files state) p texels q result
-        → IfErr result (FetchCause files state q.pass.view p.tap q.tap)
-    left_cause (Ok done) left = tt
-    left_cause (Err e) left = one_cause files state texels p q e left
+module _ {B : Type 0} (files : Files) (gate : GateState) (state : RecordState)
+    (texels : List Texel) (p q : PassTap) where
+  pub left_leaves : (result : Result (Unit {0}) (CacheError B)) → length p.pass.pinned.recent ≤ 2
+      → LeftBy (Fetches files gate state) (Refuses files gate state) p texels q result
+      → Leaves gate state.file p q
+  left_leaves (Ok done) few left = each_leaves files gate state texels p q few left
+  left_leaves (Err e) few left = one_leaves files gate state texels p q e left
 
-    pub left_counts : (result : Result (Unit {0}) (CacheError B)) → AreCounts p.pass
-        → LeftBy (Fetches files state) (Refuses files state) p texels q result
-        → CountsOn p.pass q.pass
-    left_counts (Ok done) are left =
-        each_counts files state texels p.pass q.pass are (each_asks files state texels p q left)
-    left_counts (Err e) are left = one_counts files state texels p q e are left
+  pub left_cause : (result : Result (Unit {0}) (CacheError B))
+      → LeftBy (Fetches files gate state) (Refuses files gate state) p texels q result
+      → IfErr result (StepCause files state q.pass.view p.tap q.tap LookRefuses)
+  left_cause (Ok done) left = tt
+  left_cause (Err e) left =
+      look_cause files state q.pass.view p.tap q.tap e (one_cause files gate state texels p q e left)
 
-    pub left_asks : (result : Result (Unit {0}) (CacheError B)) → AreCounts p.pass
-        → LeftBy (Fetches files state) (Refuses files state) p texels q result
-        → OnOk result (AsksForCells files state texels p.pass q.pass)
-    left_asks (Ok done) are left =
-        asks_cells files state texels p.pass q.pass are (each_asks files state texels p q left)
-    left_asks (Err e) are left = tt
+  pub left_unread : (result : Result (Unit {0}) (CacheError B))
+      → LeftBy (Fetches files gate state) (Refuses files gate state) p texels q result
+      → IfErr result (KeepsRecentAt p.pass q.pass)
+  left_unread (Ok done) left = tt
+  left_unread (Err e) left = at_fetch e p.pass q.pass files state q.pass.view p.tap q.tap
+      (one_cause files gate state texels p q e left)
 
-    pub left_warm : (result : Result (Unit {0}) (CacheError B))
-        → LeftBy (Fetches files state) (Refuses files state) p texels q result
-        → HasCells state p.pass.pinned.recent texels → (result ≡ Ok tt) × (q.tap ≡ p.tap)
-    left_warm (Ok done) left has = (refl, each_warm files state texels p q has left)
-    left_warm (Err e) left has = absurd (one_cold files state texels p q e has left)
+  pub left_counts : (result : Result (Unit {0}) (CacheError B)) → AreCounts p.pass
+      → LeftBy (Fetches files gate state) (Refuses files gate state) p texels q result
+      → CountsOn p.pass q.pass
+  left_counts (Ok done) are left =
+      each_counts files state texels p.pass q.pass are (each_asks files gate state texels p q left)
+  left_counts (Err e) are left = one_counts files gate state texels p q e are left
+
+  pub left_asks : (result : Result (Unit {0}) (CacheError B)) → AreCounts p.pass
+      → LeftBy (Fetches files gate state) (Refuses files gate state) p texels q result
+      → OnOk result (AsksForCells files state texels p.pass q.pass)
+  left_asks (Ok done) are left =
+      asks_cells files state texels p.pass q.pass are (each_asks files gate state texels p q left)
+  left_asks (Err e) are left = tt
+
+  pub left_warm : (result : Result (Unit {0}) (CacheError B))
+      → LeftBy (Fetches files gate state) (Refuses files gate state) p texels q result
+      → HasCells state p.pass.pinned.recent texels → (result ≡ Ok tt) × (q.tap ≡ p.tap)
+  left_warm (Ok done) left has = (refl, each_warm files gate state texels p q has left)
+  left_warm (Err e) left has = absurd (one_cold files gate state texels p q e has left)

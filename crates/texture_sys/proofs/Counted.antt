@@ -11,7 +11,8 @@ use Rattle.image_cache.specs.Pass.{PassState, counted_together, max_count}
 use Rattle.image_cache.specs.Texel.{has_cell_at, cell_of}
 use Rattle.image_cache.specs.Call.{CountsNeed, CountsOn, Needs}
 use Rattle.image_cache.proofs.FillLemmas.{needs_between, needs_chain, no_needs}
-use Rattle.texture_sys.specs.Needs.{at_of, look_keys_on, NeedsCells, AsksForEach, AsksForCells}
+use Rattle.image_cache.specs.Fetches.{at_of}
+use Rattle.texture_sys.specs.Needs.{look_keys_on, NeedsCells, AsksForEach, AsksForCells}
 
 -- the counts are of 64 bits
 pub record AreCounts (pass : PassState) : Type 0 where

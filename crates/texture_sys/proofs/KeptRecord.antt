@@ -11,11 +11,10 @@ use Rattle.texture_sys.specs.declared.lookup_request.LookupRequest.{LookupReques
 use Rattle.image_cache.specs.declared.error.CacheError.{CacheError}
 use Rattle.image_cache.specs.declared.error.CacheError.TheVariants as refused
 use Rattle.image_cache.specs.Pass.{PassState, KeepsAllButRecord}
-use Rattle.image_cache.specs.Cause.{OpeningCause}
+use Rattle.image_cache.specs.Cause.{OpeningCause, StepCause, LookRefuses}
 use Rattle.texture_sys.specs.Needs.{visits_on, AsksForCells}
 use Rattle.texture_sys.specs.Call.{TextureCause}
-use Rattle.texture_sys.specs.Call.{IsLookedUp, IsRefused, IsUnfit, KeepsAfter, KeepsRecord}
-use Rattle.texture_sys.specs.Steps.{LookCause}
+use Rattle.texture_sys.specs.Call.{IsLookedUp, IsRefused, KeepsAfter, KeepsRecord}
 use Rattle.texture_sys.proofs.Asked.{asks_to, asks_from}
 use Rattle.texture_sys.proofs.TextureLemmas.{given_later}
 
@@ -30,13 +29,13 @@ module _ (files : Files) (file : ℕ) (cut : Cut) (old mid new : PassState) (k :
   later : GivesRecord files file cut old.view new.view k
   later = given_later files file cut old.view mid.view new.view k given view
 
-  refusal : (e : CacheError (Unit {0})) → IsUnfit k e
+  refusal : (e : CacheError (Unit {0})) → LookRefuses k e
       → IsSomeAnd new.latest (IsRefused files file cut old new e)
   refusal e unfit =
       is_kept (IsRefused files file cut old new e) (record { given = later; unfit = unfit })
 
   after : {B : Type 0} (tap_mid tap_new : TapState) (e : CacheError B)
-      → LookCause files k new.view tap_mid tap_new e → KeepsAfter files file cut old new e
+      → StepCause files k new.view tap_mid tap_new LookRefuses e → KeepsAfter files file cut old new e
   after tap_mid tap_new (refused.BadFile g fault) unfit =
       refusal (refused.BadFile g fault) unfit
   after tap_mid tap_new (refused.TileTooLarge g) unfit =
@@ -58,7 +57,7 @@ module _ (files : Files) (file : ℕ) (cut : Cut) (old mid new : PassState) (k :
       (result : Result ℕ (CacheError B)) → KeepsAllButRecord old mid
       → IfOk result (λ g. g ≡ k.generation)
       → OnOk result (AsksForCells files k (visits_on k r) mid new)
-      → IfErr result (LookCause files k new.view tap_mid tap_new)
+      → IfErr result (StepCause files k new.view tap_mid tap_new LookRefuses)
       → KeepsRecord files file cut r old new result
   texture_kept r tap_mid tap_new (Ok g) same is asks cause =
       let asked = asks_from files k (visits_on k r) old mid new same asks in

@@ -3,7 +3,7 @@ use Rattle.std.proofs.Common.{◌≡◌, ◌∙◌, ℕ, List, length, map, Opti
 use Rattle.std.proofs.Common.{refl, sym, subst, zero-add, arith}
 use Rattle.std.specs.Prelude.{IsOkAnd, IfErr}
 use Rattle.std.specs.List.{range_with_len}
-use Rattle.std.specs.Option.{option_map, option_map_or}
+use Rattle.std.specs.Option.{option_map_or}
 use Rattle.std.proofs.lemmas.Grind.{same_number_lists}
 use Rattle.std.proofs.lemmas.List.{length-map}
 use Rattle.std.proofs.lemmas.List.FromFn.{get_or-map-range_with_len, length-range_with_len}
@@ -17,15 +17,9 @@ use Rattle.file_table.specs.Record.{RecordState, IsRecord, layout_of}
 use Rattle.texture_sys.specs.declared.lookup_request.LookupRequest.{LookupRequest}
 use Rattle.texel_filter.specs.Image.{AreValues, image_of}
 use Rattle.texture_sys.specs.Asked.{channels_asked, asked_value}
-use Rattle.texture_sys.specs.Look.{sizes_known, sizes_by, picture_of}
+use Rattle.image_cache.specs.Sizes.{sizes_known, sizes_by}
+use Rattle.texture_sys.specs.Look.{picture_of}
 use Rattle.texture_sys.specs.Call.{IsLookOn}
-use Rattle.std.proofs.lemmas.Option.{none-some, same_Some}
-
--- what is so of the value of a function, where there is one
-pub at_mapped : {A B : Type 0} (f : A → B) (o : Option A) (y : B) (P : B → Type 0)
-    → option_map f o ≡ Some y → ((x : A) → o ≡ Some x → P (f x)) → P y
-at_mapped f None y P is each = absurd (none-some y is)
-at_mapped f (Some x) y P is each = subst P (same_Some (f x) y is) (each x refl)
 
 -- a result is one or the other
 pub by_result : {T E G : Type 0} (r : Result T E) → ((x : T) → r ≡ Ok x → G)

@@ -15,9 +15,9 @@ use Rattle.texture_sys.specs.declared.lookup_request.LookupRequest.{LookupReques
 use Rattle.image_cache.specs.declared.error.CacheError.{CacheError}
 use Rattle.image_cache.specs.declared.error.CacheError.TheVariants as refused
 use Rattle.image_cache.specs.Call.{NoneFalls}
+use Rattle.image_cache.specs.Cause.{StepCause, LookRefuses}
 use Rattle.image_cache.proofs.TexelLemmas.{cause_since}
 use Rattle.texture_sys.specs.Call.{IsOfGeneration, IsLookOn, Answers, TextureCause}
-use Rattle.texture_sys.specs.Steps.{LookCause}
 use Rattle.texture_sys.proofs.LookLemmas.{good_layout, bad_layout}
 
 module _ (files : Files) (file : ℕ) (cut : Cut) (old mid new : ViewState) (k : RecordState)
@@ -55,18 +55,19 @@ module _ (files : Files) (file : ℕ) (cut : Cut) (old mid new : ViewState) (k :
   texture_value r out (Err e) is value = tt
 
   pub texture_cause : {B : Type 0} (tap_old tap_mid tap_new : TapState) (e : CacheError B)
-      → NoneFalls tap_old tap_mid → LookCause files k new tap_mid tap_new e
+      → NoneFalls tap_old tap_mid → StepCause files k new tap_mid tap_new LookRefuses e
       → TextureCause files file cut (sighted old tap_old) (sighted new tap_new) e
-  texture_cause tap_old tap_mid tap_new (refused.BadFile g fault) falls (is, bad) = (
-    of_generation g is,
+  texture_cause tap_old tap_mid tap_new (refused.BadFile g fault) falls bad = (
+    of_generation g bad.of_generation,
     λ bytes held. bad_layout bytes k.layout fault
-        (given.honest.layout bytes (held_as g bytes is held)) bad,
+        (given.honest.layout bytes (held_as g bytes bad.of_generation held)) bad.shows,
   )
-  texture_cause tap_old tap_mid tap_new (refused.TileTooLarge g) falls (is, unfit) = (
-    of_generation g is,
+  texture_cause tap_old tap_mid tap_new (refused.TileTooLarge g) falls unfit = (
+    of_generation g unfit.of_generation,
     λ bytes held.
         let good = good_layout bytes k.layout (λ kept. ¬ CellsFit kept k.cut)
-        (given.honest.layout bytes (held_as g bytes is held)) unfit in
+        (given.honest.layout bytes (held_as g bytes unfit.of_generation held))
+        unfit.too_large in
         (good.0, subst (λ (c : Cut). ¬ CellsFit (kept_of bytes) c) given.under good.2),
   )
   texture_cause tap_old tap_mid tap_new (refused.Again from to) falls met =

@@ -2,7 +2,6 @@
 use Rattle.std.specs.Prelude.{◌≡◌, ◌⊎◌, ℕ, ◌<◌, ◌≤◌, ⊤, List, length, slice_index}
 use Rattle.std.specs.Prelude.{None, Some, Result, Ok, Err, IsOkAnd, IsSomeAnd}
 use Rattle.std.specs.Option.{ForSome}
-use Rattle.tex_world.specs.Counts.{Rises}
 use Rattle.tex_world.specs.World.{Files, IsReal}
 use Rattle.gen_board.specs.View.{ViewState}
 use Rattle.tiff_format.specs.Fault.{first_fault}
@@ -16,6 +15,7 @@ use Rattle.image_cache.specs.declared.error.CacheError.{CacheError}
 use Rattle.image_cache.specs.declared.error.CacheError.TheVariants as refused
 use Rattle.image_cache.specs.Pass.{PassState, SamePlace}
 use Rattle.image_cache.specs.Call.{Serves, CountsOn}
+use Rattle.image_cache.specs.Cause.{RefusedFor, LookRefuses}
 use Rattle.texture_sys.specs.Look.{look_on}
 use Rattle.texture_sys.specs.Needs.{visits_on, HasCells, AsksForCells, NeedsCells}
 
@@ -44,41 +44,26 @@ pub record Answers (files : Files) (file : ℕ) (cut : Cut) (r : LookupRequest) 
 
 -- ---- causes
 
+-- A file is not looked up: its bytes show the fault, or a cell of it takes more memory than a cell
+-- may.
+abbrev pub IsNotLookedUp : {B : Type 0} → Files → ℕ → Cut → ViewState → ViewState → CacheError B
+    → Type 0
+IsNotLookedUp files file cut old new (refused.BadFile generation fault) =
+    IsOfGeneration files file old new generation
+    × ForSome (files.held file generation) (λ bytes. first_fault bytes ≡ Some fault)
+IsNotLookedUp files file cut old new (refused.TileTooLarge generation) =
+    IsOfGeneration files file old new generation
+    × ForSome (files.held file generation) (λ bytes.
+    (first_fault bytes ≡ None) × ¬ CellsFit (kept_of bytes) cut)
+IsNotLookedUp files file cut old new e = ⊥
+
 -- Why a lookup is not answered.
 abbrev pub TextureCause : {B : Type 0} → Files → ℕ → Cut → Sighted → Sighted → CacheError B
     → Type 0
-TextureCause files file cut old new (refused.BadFile generation fault) =
-    IsOfGeneration files file old.view new.view generation
-    × ForSome (files.held file generation) (λ bytes. first_fault bytes ≡ Some fault)
-TextureCause files file cut old new (refused.TileTooLarge generation) =
-    IsOfGeneration files file old.view new.view generation
-    × ForSome (files.held file generation) (λ bytes.
-    (first_fault bytes ≡ None) × ¬ CellsFit (kept_of bytes) cut)
-TextureCause files file cut old new (refused.Again from to) =
-    MeetsNewer files file (slice_index old.view.seen file) from to old.tap new.tap
-    × (to ≤ slice_index new.view.seen file)
-TextureCause files file cut old new refused.ReadFault = Rises old.tap.faults new.tap.faults
-TextureCause files file cut old new refused.NoMemory = ⊤
-TextureCause files file cut old new (refused.Busy b) = ⊤
-TextureCause files file cut old new (refused.NoLevel generation levels) = ⊥
-TextureCause files file cut old new (refused.Outside generation) = ⊥
-TextureCause files file cut old new refused.RegionTooLarge = ⊥
-TextureCause files file cut old new refused.HoldsFull = ⊥
-
--- Why a record is not looked at: it shows a fault, or a cell takes too much memory.
-abbrev pub IsUnfit : {B : Type 0} → RecordState → CacheError B → Type 0
-IsUnfit k (refused.BadFile generation fault) =
-    (generation ≡ k.generation) × (k.layout ≡ Err fault)
-IsUnfit k (refused.TileTooLarge generation) =
-    (generation ≡ k.generation) × IsOkAnd k.layout (λ kept. ¬ CellsFit kept k.cut)
-IsUnfit k (refused.Again from to) = ⊥
-IsUnfit k refused.ReadFault = ⊥
-IsUnfit k refused.NoMemory = ⊥
-IsUnfit k (refused.Busy b) = ⊥
-IsUnfit k (refused.NoLevel generation levels) = ⊥
-IsUnfit k (refused.Outside generation) = ⊥
-IsUnfit k refused.RegionTooLarge = ⊥
-IsUnfit k refused.HoldsFull = ⊥
+TextureCause files file cut old new e = RefusedFor
+    (λ from to. MeetsNewer files file (slice_index old.view.seen file) from to old.tap new.tap
+    × (to ≤ slice_index new.view.seen file))
+    old.tap new.tap ⊤ ⊤ (IsNotLookedUp files file cut old.view new.view) e
 
 -- ---- what a lookup leaves
 
@@ -105,7 +90,7 @@ pub record IsLookedUp (files : Files) (file : ℕ) (cut : Cut) (r : LookupReques
 pub record IsRefused {B : Type 0} (files : Files) (file : ℕ) (cut : Cut) (old new : PassState)
     (e : CacheError B) (state : RecordState) : Type 0 where
   pub given : GivesRecord files file cut old.view new.view state
-  pub unfit : IsUnfit state e
+  pub unfit : LookRefuses state e
 
 -- which record the pass keeps after a refusal
 abbrev pub KeepsAfter : {B : Type 0} → Files → ℕ → Cut → PassState → PassState → CacheError B

@@ -9,15 +9,11 @@ use Rattle.file_table.specs.Record.{RecordState}
 use Rattle.texture_sys.specs.declared.lookup_request.LookupRequest.{LookupRequest}
 use Rattle.texel_filter.specs.Image.{Texel}
 use Rattle.texture_sys.specs.Asked.{asked_visits}
-use Rattle.texel_values.specs.declared.texel_at.TexelAt.{TexelAt}
 use Rattle.image_cache.specs.Pass.{PassState, SameCounts, counted_together}
 use Rattle.image_cache.specs.Texel.{has_cell_at, cell_of}
-use Rattle.image_cache.specs.Call.{CountsNeed, AsksForCellAt, Needs, NeedsCellAt}
-use Rattle.texture_sys.specs.Look.{sizes_known}
-
--- the texel of an image, as the cache names it
-abbrev pub at_of : Texel → TexelAt
-at_of texel = record { level = texel.level; x = texel.x; y = texel.y }
+use Rattle.image_cache.specs.Call.{Needs}
+use Rattle.image_cache.specs.Sizes.{sizes_known}
+use Rattle.image_cache.specs.Fetches.{at_of, AsksForCell}
 
 -- the texels that a lookup on a record visits, one after another
 abbrev pub visits_on : RecordState → LookupRequest → List Texel
@@ -44,14 +40,6 @@ look_keys_on generation file cut kept texels =
 abbrev pub NeedsCells : Files → RecordState → List Texel → PassState → PassState → Type 0
 NeedsCells files state texels old new = IfOk state.layout (λ kept. Needs files
     (look_keys_on state.generation state.file state.cut kept texels) old new)
-
--- The pass asked for the cell that holds a texel of a record: one need is counted, and a hit where
--- its microcache had the cell, which has then the latest of the keys that were asked for.
-pub record AsksForCell (files : Files) (state : RecordState) (texel : Texel) (old new : PassState)
-    : Type 0 where
-  pub need : CountsNeed (has_cell_at state (at_of texel) old.pinned.recent) old new
-  pub asked : AsksForCellAt state (at_of texel) old.pinned.recent new.pinned.recent
-  pub needs : NeedsCellAt files state (at_of texel) old new
 
 -- The pass asked for the cells that hold these texels, one after another.
 abbrev pub AsksForEach : Files → RecordState → List Texel → PassState → PassState → Type 0

@@ -1,11 +1,11 @@
 //! The texels of a record, as a lookup reads them from the microcache alone.
 ghost use Rattle.std.specs.Prelude.{◌≡◌, None};
 ghost use Rattle.image_cache.specs.Pass.{IsPassOf};
-ghost use Rattle.texture_sys.specs.Look.{sizes_known};
-ghost use Rattle.texture_sys.specs.Fetches.{IsUnder, FetchesKept, FindsCell, Lacks, values_known};
+ghost use Rattle.image_cache.specs.Texel.{IsUnder};
+ghost use Rattle.image_cache.specs.Sizes.{sizes_known, values_known};
+ghost use Rattle.texture_sys.specs.Fetches.{FetchesKept, FindsCell, Lacks};
 
-use crate::known::Known;
-use image_cache::{Cache, Pass, TexelAt};
+use image_cache::{Cache, Fitting, Pass, TexelAt};
 use tex_world::Tap;
 use texel_filter::{Corners, Fetch, Square};
 
@@ -15,15 +15,15 @@ pub(crate) struct Lacking;
 
 /// The texels of a record, from the microcache.
 #[derive(Drop)]
-pub(crate) struct KeptTexels<'c, 'p, 'k, T: Tap> {
-    pub(crate) cache: &'c Cache<T>,
-    pub(crate) pass: &'p mut Pass<T::W>,
-    pub(crate) known: &'k Known<T::W>,
+pub(crate) struct KeptTexels<'a, T: Tap> {
+    pub(crate) cache: &'a Cache<T>,
+    pub(crate) pass: &'a mut Pass<T::W>,
+    pub(crate) known: &'a Fitting<'a, T::W>,
     ghost of_cache: { IsPassOf cache.now pass.now },
     ghost under: { IsUnder cache.now known.now },
 }
 
-impl<'c, 'p, 'k, T: Tap> Fetch for KeptTexels<'c, 'p, 'k, T> {
+impl<'a, T: Tap> Fetch for KeptTexels<'a, T> {
     ghost use Rattle.std.proofs.Common.{ap};
 
     type Error = Lacking;
@@ -54,7 +54,7 @@ impl<'c, 'p, 'k, T: Tap> Fetch for KeptTexels<'c, 'p, 'k, T> {
         let at = TexelAt { level, x, y };
         if self
             .cache
-            .fetch_local(self.pass, self.known.read(), at, out)
+            .fetch_local(self.pass, self.known.record(), at, out)
         {
             Ok(())
         } else {
@@ -72,7 +72,7 @@ impl<'c, 'p, 'k, T: Tap> Fetch for KeptTexels<'c, 'p, 'k, T> {
         // all four from one cell, or each from its own
         if self
             .cache
-            .fetch_square_local(self.pass, self.known.read(), square, channels, out)
+            .fetch_square_local(self.pass, self.known.record(), square, channels, out)
         {
             return Ok(());
         }
@@ -100,15 +100,15 @@ impl<'c, 'p, 'k, T: Tap> Fetch for KeptTexels<'c, 'p, 'k, T> {
 /// The cells of a record, of which it is asked whether the microcache has them.
 /// There are no values.
 #[derive(Drop)]
-pub(crate) struct KeptCells<'c, 'p, 'k, T: Tap> {
-    pub(crate) cache: &'c Cache<T>,
-    pub(crate) pass: &'p Pass<T::W>,
-    pub(crate) known: &'k Known<T::W>,
+pub(crate) struct KeptCells<'a, T: Tap> {
+    pub(crate) cache: &'a Cache<T>,
+    pub(crate) pass: &'a Pass<T::W>,
+    pub(crate) known: &'a Fitting<'a, T::W>,
     ghost of_cache: { IsPassOf cache.now pass.now },
     ghost under: { IsUnder cache.now known.now },
 }
 
-impl<'c, 'p, 'k, T: Tap> Fetch for KeptCells<'c, 'p, 'k, T> {
+impl<'a, T: Tap> Fetch for KeptCells<'a, T> {
     ghost use Rattle.std.specs.Prelude.{refl};
     ghost use Rattle.std.proofs.Common.{ap};
 
@@ -138,7 +138,7 @@ impl<'c, 'p, 'k, T: Tap> Fetch for KeptCells<'c, 'p, 'k, T> {
         let at = TexelAt { level, x, y };
         // the values are not looked at
         out.fill(0);
-        if self.cache.has_local(self.pass, self.known.read(), at) {
+        if self.cache.has_local(self.pass, self.known.record(), at) {
             Ok(())
         } else {
             Err(Lacking)

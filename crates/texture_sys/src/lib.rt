@@ -3,10 +3,8 @@
 #![tactic(auto)]
 
 mod asking;
-mod cached;
 mod calls;
 mod kept;
-mod known;
 mod local;
 mod lookup_request;
 mod texturing;

@@ -10,17 +10,17 @@ ghost use Rattle.texel_filter.specs.Calls.{LeftBy};
 ghost use Rattle.image_cache.specs.Pass.{IsPassOf, KeepsAllButView};
 ghost use Rattle.image_cache.specs.Call.{CountsOn, KeepsAllButRecent};
 ghost use Rattle.texture_sys.specs.Asked.{channels_asked, MayBeLookedUp, asked_value};
-ghost use Rattle.texture_sys.specs.Look.{sizes_known};
+ghost use Rattle.image_cache.specs.Texel.{IsUnder};
+ghost use Rattle.image_cache.specs.Sizes.{sizes_known, values_known};
 ghost use Rattle.texture_sys.specs.Needs.{visits_on, HasCells, AsksForCells};
-ghost use Rattle.texture_sys.specs.Fetches.{IsUnder, FetchesKept, Lacks, values_known};
+ghost use Rattle.texture_sys.specs.Fetches.{FetchesKept, Lacks};
 ghost use Rattle.texture_sys.specs.Call.{Answers, IsLookOn, IsLookedUp, AfterLookup};
 ghost use Rattle.texture_sys.specs.Call.{ServesLocally};
 
 use crate::asking::look_for;
 use crate::kept::{KeptCells, KeptTexels, Lacking};
-use crate::known::Known;
 use crate::lookup_request::LookupRequest;
-use image_cache::{Cache, Pass};
+use image_cache::{Cache, Fitting, Pass};
 use tex_world::Tap;
 use texel_filter::TexRequest;
 use tiff_format::MAX_CHANNELS;
@@ -54,14 +54,14 @@ pub fn texture_local<T: Tap>(
         file cache.now.gate.cut (LookupRequest.Point r.now) pass.old pass.new generation)) }
     ensures latest { pass.new.latest ≡ pass.old.latest }
 {
-    let Some(read) = cache.local(pass, file) else {
+    let Some(known) = cache.local(pass, file) else {
         return None;
     };
-    let known = Known::of(read);
-    let generation = known.read().generation();
+    let generation = known.generation();
     let r = LookupRequest::Point(*r);
-    let looked = look_local(cache, pass, &known, &r, out);
-    cache.keep(pass, known.into_read());
+    let fitting = Fitting::of(&known);
+    let looked = look_local(cache, pass, &fitting, &r, out);
+    cache.keep(pass, known);
     if looked { Some(generation) } else { None }
 }
 
@@ -69,7 +69,7 @@ pub fn texture_local<T: Tap>(
 fn look_local<T: Tap>(
     cache: &Cache<T>,
     pass: &mut Pass<T::W>,
-    known: &Known<T::W>,
+    known: &Fitting<'_, T::W>,
     r: &LookupRequest,
     out: &mut [u16],
 ) -> bool
@@ -101,7 +101,7 @@ fn look_local<T: Tap>(
 fn has_cells<T: Tap>(
     cache: &Cache<T>,
     pass: &Pass<T::W>,
-    known: &Known<T::W>,
+    known: &Fitting<'_, T::W>,
     r: &LookupRequest,
 ) -> bool
     requires pass { IsPassOf cache.now pass.now }
@@ -119,7 +119,7 @@ fn has_cells<T: Tap>(
 fn write_kept<T: Tap>(
     cache: &Cache<T>,
     pass: &mut Pass<T::W>,
-    known: &Known<T::W>,
+    known: &Fitting<'_, T::W>,
     r: &LookupRequest,
     out: &mut [u16],
 )
@@ -137,7 +137,7 @@ fn write_kept<T: Tap>(
     ensures kept { KeepsAllButRecent pass.old pass.new }
 {
     // these tell that its layout is that of its bytes, and that the counts are of 64 bits
-    let _generation = known.read().generation();
+    let _generation = known.record().generation();
     let _needs = pass.needs();
     let _hits = pass.hits();
     match fetch_kept(cache, pass, known, r, out) {
@@ -150,7 +150,7 @@ fn write_kept<T: Tap>(
 fn fetch_kept<T: Tap>(
     cache: &Cache<T>,
     pass: &mut Pass<T::W>,
-    known: &Known<T::W>,
+    known: &Fitting<'_, T::W>,
     r: &LookupRequest,
     out: &mut [u16],
 ) -> Result<(), Lacking>

@@ -5,29 +5,24 @@ ghost use Rattle.std.specs.Option.{ForSome};
 ghost use Rattle.tex_world.specs.World.{IsFile};
 ghost use Rattle.tile_layout.specs.Cell.{CellsFit};
 ghost use Rattle.file_table.specs.Calls.{sighted, GivesRecord};
-ghost use Rattle.texel_filter.specs.Image.{AreValues, image_of};
-ghost use Rattle.texel_filter.specs.Calls.{LeftBy};
 ghost use Rattle.shard_gate.specs.Since.{PurgesNone};
 ghost use Rattle.image_cache.specs.Pass.{IsPassOf};
 ghost use Rattle.image_cache.specs.Call.{AfterNeed, CountsOn, NoneFalls};
-ghost use Rattle.image_cache.specs.Cause.{OpeningCause, FetchCause, KeepsRecentAt};
-ghost use Rattle.texture_sys.specs.Asked.{channels_asked, MayBeLookedUp, asked_value};
-ghost use Rattle.texture_sys.specs.Look.{sizes_known};
+ghost use Rattle.image_cache.specs.Cause.{OpeningCause, StepCause, LookRefuses, KeepsRecentAt};
+ghost use Rattle.image_cache.specs.Texel.{IsUnder};
+ghost use Rattle.texture_sys.specs.Asked.{channels_asked, MayBeLookedUp};
 ghost use Rattle.texture_sys.specs.Needs.{visits_on, HasCells, AsksForCells};
-ghost use Rattle.texture_sys.specs.Fetches.{IsUnder, Fetches, Refuses, pass_tap, values_known};
-ghost use Rattle.texture_sys.specs.Call.{Answers, IsLookOn, TextureCause, IsUnfit};
+ghost use Rattle.texture_sys.specs.Call.{Answers, IsLookOn, TextureCause};
 ghost use Rattle.texture_sys.specs.Call.{AfterLookup, KeepsRecord};
 ghost use Rattle.texture_sys.specs.Call.{IsReady, IsWarm, AnswersWarm};
-ghost use Rattle.texture_sys.specs.Steps.{LookCause, AfterOpening, AfterLook};
+ghost use Rattle.texture_sys.specs.Steps.{AfterOpening, AfterLook};
 
 use crate::asking::look_for;
-use crate::cached::CachedTexels;
-use crate::known::Known;
 use crate::lookup_request::LookupRequest;
 use file_table::Record;
-use image_cache::{Cache, CacheError, Pass};
+use image_cache::{Cache, CacheError, Fitting, Pass, Reading, fits_cut};
 use std::sync::Arc;
-use tex_world::{Tap, World};
+use tex_world::Tap;
 use waiter::Waiter;
 
 /// Writes the values of a lookup of either kind on the newest known generation of a file, and answers
@@ -63,11 +58,8 @@ pub(crate) fn texture_of<V: Waiter, T: Tap>(
         → AnswersWarm file known.generation (sighted pass.old.view (T.state tap.old))
         (sighted pass.new.view (T.state tap.new)) result) }
 {
-    let read = match record_of(cache, waiter, pass, tap, file) {
-        Ok(read) => read,
-        Err(e) => return Err(e),
-    };
-    look_at(cache, waiter, pass, tap, read, r, out)
+    let known = record_of(cache, waiter, pass, tap, file)?;
+    look_at(cache, waiter, pass, tap, known, r, out)
 }
 
 /// The record of the newest known generation of a file: the one that the pass keeps, or else one
@@ -96,10 +88,10 @@ fn record_of<V: Waiter, T: Tap>(
         ⊎ (known.generation < slice_index pass.new.view.seen file)) }
 {
     match cache.local(pass, file) {
-        Some(read) => {
+        Some(known) => {
             // it tells that the record is of the bytes of its generation
-            let _generation = read.generation();
-            Ok(read)
+            let _generation = known.generation();
+            Ok(known)
         }
         None => cache.open(waiter, pass, tap, file),
     }
@@ -111,87 +103,65 @@ fn look_at<V: Waiter, T: Tap>(
     waiter: &V,
     pass: &mut Pass<T::W>,
     tap: &mut T,
-    read: Arc<Record<T::W>>,
+    known: Arc<Record<T::W>>,
     r: &LookupRequest,
     out: &mut [u16],
 ) -> Result<u32, CacheError<V::Busy>>
     requires pass { IsPassOf cache.now pass.old }
     requires few { length pass.old.pinned.recent ≤ 2 }
-    requires under { IsUnder cache.now read.value }
-    requires told { IsFile T.W.files read.value.file }
-    requires seen { read.value.generation ≤ slice_index pass.old.view.seen read.value.file }
+    requires under { IsUnder cache.now known.value }
+    requires told { IsFile T.W.files known.value.file }
+    requires seen { known.value.generation ≤ slice_index pass.old.view.seen known.value.file }
     requires count { length out.old ≡ channels_asked r.now }
     requires asked { MayBeLookedUp r.now }
-    ensures ok { IfOk result (λ generation. generation ≡ read.value.generation) }
-    ensures value { ForSome (T.W.files.held read.value.file read.value.generation) (λ bytes.
-        OnOk result (IsLookOn read.value.cut bytes r.now out.new)) }
-    ensures cause { IfErr result (LookCause T.W.files read.value pass.new.view
-        (T.state tap.old) (T.state tap.new)) }
+    ensures ok { IfOk result (λ generation. generation ≡ known.value.generation) }
+    ensures value { ForSome (T.W.files.held known.value.file known.value.generation) (λ bytes.
+        OnOk result (IsLookOn known.value.cut bytes r.now out.new)) }
+    ensures cause { IfErr result (StepCause T.W.files known.value pass.new.view
+        (T.state tap.old) (T.state tap.new) LookRefuses) }
     ensures err { OnErr result (out.new ≡ out.old) }
     ensures unread { IfErr result (KeepsRecentAt pass.old pass.new) }
     // What the call leaves.
-    ensures same { AfterLook read.value pass.old pass.new }
-    ensures asks { OnOk result (AsksForCells T.W.files read.value (visits_on read.value r.now)
+    ensures same { AfterLook known.value pass.old pass.new }
+    ensures asks { OnOk result (AsksForCells T.W.files known.value (visits_on known.value r.now)
         pass.old pass.new) }
     ensures tap { NoneFalls (T.state tap.old) (T.state tap.new) }
     ensures visits { PurgesNone cache.now.gate pass.old.pinned.seat pass.new.pinned.seat }
-    ensures warm { IsOkAnd read.value.layout (λ kept. CellsFit kept read.value.cut)
-        → HasCells read.value pass.old.pinned.recent (visits_on read.value r.now)
-        → (result ≡ Ok read.value.generation) × (T.state tap.new ≡ T.state tap.old) }
+    ensures warm { IsOkAnd known.value.layout (λ kept. CellsFit kept known.value.cut)
+        → HasCells known.value pass.old.pinned.recent (visits_on known.value r.now)
+        → (result ≡ Ok known.value.generation) × (T.state tap.new ≡ T.state tap.old) }
 {
-    if let Err(e) = serves(&read) {
-        cache.keep(pass, read);
-        return Err(e);
-    }
-    let known = Known::of(read);
-    let generation = known.read().generation();
+    let generation = known.generation();
     let looked = look_up(cache, waiter, pass, tap, &known, r, out);
-    cache.keep(pass, known.into_read());
+    cache.keep(pass, known);
     match looked {
         Ok(()) => Ok(generation),
         Err(e) => Err(e),
     }
 }
 
-/// Whether a record may be looked at.
-fn serves<W: World, B>(read: &Record<W>) -> Result<(), CacheError<B>>
-    ensures ok { OnOk result (IsOkAnd read.now.layout (λ kept. CellsFit kept read.now.cut)) }
-    ensures cause { IfErr result (IsUnfit read.now) }
-{
-    let generation = read.generation();
-    if let Err(fault) = read.layout() {
-        return Err(CacheError::BadFile {
-            generation,
-            fault: *fault,
-        });
-    }
-    if read.fits() {
-        Ok(())
-    } else {
-        Err(CacheError::TileTooLarge { generation })
-    }
-}
-
-/// Writes the values of a lookup on a record that may be looked at.
+/// Writes the values of a lookup on a record, whose texels are fetched through the cache.
 fn look_up<V: Waiter, T: Tap>(
     cache: &Cache<T>,
     waiter: &V,
     pass: &mut Pass<T::W>,
     tap: &mut T,
-    known: &Known<T::W>,
+    known: &Record<T::W>,
     r: &LookupRequest,
     out: &mut [u16],
 ) -> Result<(), CacheError<V::Busy>>
     requires pass { IsPassOf cache.now pass.old }
     requires few { length pass.old.pinned.recent ≤ 2 }
     requires under { IsUnder cache.now known.now }
+    requires told { IsFile T.W.files known.now.file }
     requires count { length out.old ≡ channels_asked r.now }
     requires asked { MayBeLookedUp r.now }
     ensures value { ForSome (T.W.files.held known.now.file known.now.generation) (λ bytes.
         OnOk result (IsLookOn known.now.cut bytes r.now out.new)) }
-    ensures cause { IfErr result (FetchCause T.W.files known.now pass.new.view
-        (T.state tap.old) (T.state tap.new)) }
+    ensures cause { IfErr result (StepCause T.W.files known.now pass.new.view
+        (T.state tap.old) (T.state tap.new) LookRefuses) }
     ensures err { OnErr result (out.new ≡ out.old) }
+    ensures unread { IfErr result (KeepsRecentAt pass.old pass.new) }
     // What the call leaves.
     ensures same { AfterNeed known.now.file pass.old pass.new }
     ensures counts { CountsOn pass.old pass.new }
@@ -199,44 +169,22 @@ fn look_up<V: Waiter, T: Tap>(
         pass.old pass.new) }
     ensures tap { NoneFalls (T.state tap.old) (T.state tap.new) }
     ensures visits { PurgesNone cache.now.gate pass.old.pinned.seat pass.new.pinned.seat }
-    ensures warm { HasCells known.now pass.old.pinned.recent (visits_on known.now r.now)
+    ensures warm { IsOkAnd known.now.layout (λ kept. CellsFit kept known.now.cut)
+        → HasCells known.now pass.old.pinned.recent (visits_on known.now r.now)
         → (result ≡ Ok tt) × (T.state tap.new ≡ T.state tap.old) }
 {
+    fits_cut(known)?;
     // these tell that its layout is that of its bytes, and that the counts are of 64 bits
-    let _generation = known.read().generation();
+    let _generation = known.generation();
     let _needs = pass.needs();
     let _hits = pass.hits();
-    fetch_all(cache, waiter, pass, tap, known, r, out)
-}
-
-/// Writes the values of a lookup, whose texels are fetched through the cache.
-fn fetch_all<V: Waiter, T: Tap>(
-    cache: &Cache<T>,
-    waiter: &V,
-    pass: &mut Pass<T::W>,
-    tap: &mut T,
-    known: &Known<T::W>,
-    r: &LookupRequest,
-    out: &mut [u16],
-) -> Result<(), CacheError<V::Busy>>
-    requires pass { IsPassOf cache.now pass.old }
-    requires under { IsUnder cache.now known.now }
-    requires count { length out.old ≡ channels_asked r.now }
-    requires asked { MayBeLookedUp r.now }
-    ensures told { ForSome (values_known T.W.files known.now) (λ v. OnOk result
-        (AreValues (asked_value (image_of (sizes_known known.now) v) r.now) out.new)) }
-    ensures left { LeftBy (Fetches T.W.files known.now) (Refuses T.W.files known.now)
-        (pass_tap pass.old (T.state tap.old)) (visits_on known.now r.now)
-        (pass_tap pass.new (T.state tap.new)) result }
-    ensures err { OnErr result (out.new ≡ out.old) }
-    ensures visits { PurgesNone cache.now.gate pass.old.pinned.seat pass.new.pinned.seat }
-{
-    let mut texels = CachedTexels {
+    let fitting = Fitting::of(known);
+    let mut reading = Reading {
         cache,
         waiter,
         pass,
         tap,
-        known,
+        known: &fitting,
     };
-    look_for(&mut texels, r, out)
+    look_for(&mut reading, r, out)
 }

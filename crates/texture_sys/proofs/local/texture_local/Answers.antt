@@ -15,31 +15,35 @@ ok_of g = Ok g
 
 pub returns-then-looked-clause-kept : goal.returns-then-looked-clause-kept
 returns-then-looked-clause-kept g c =
-    let k = c.in-Some.read.value in
+    let k : RecordState = c.in-Some.known.value in
+    let of_generation : c.deref.result.now ≡ k = search rules in
+    let of_fitting : c.deref-2.result.now ≡ k = search rules in
     let given : GivesRecord g.T.W.World.files c.args.file c.args.cache.now.gate.cut
-    c.args.pass.now.view c.keep.new.pass.view c.in-Some.read.value = search rules in
+    c.args.pass.now.view c.keep.new.pass.view c.in-Some.known.value = search rules in
     local_kept g.T.W.World.files c.args.file c.args.cache.now.gate.cut (Point c.args.r.now)
     c.args.pass.now c.local.new.pass c.look_local-looked.new.pass c.keep.new.pass k
     c.generation-generation.result given
-    (c.keep.ensures.kept ∙ ap Some (c.into_read.ensures ∙ c.of-known.ensures))
+    c.keep.ensures.kept
     (sym (c.generation-generation.ensures.value ∙ ap (λ (k : RecordState). k.generation)
-    (c.read.ensures.value ∙ c.of-known.ensures)))
+    of_generation))
     c.in-Some.ensures.same
     (subst (λ (k : RecordState). AsksForCells g.T.W.World.files k (visits_on k (Point c.args.r.now)) c.local.new.pass
-    c.look_local-looked.new.pass) c.of-known.ensures (c.if-looked.ensures.asks refl))
+    c.look_local-looked.new.pass) (c.of-fitting.ensures ∙ of_fitting) (c.if-looked.ensures.asks refl))
     c.keep.ensures.same
 
 pub returns-then-looked-clause-value : goal.returns-then-looked-clause-value
 returns-then-looked-clause-value g c =
-    let k = c.in-Some.read.value in
+    let k : RecordState = c.in-Some.known.value in
+    let of_generation : c.deref.result.now ≡ k = search rules in
+    let of_fitting : c.deref-2.result.now ≡ k = search rules in
     let given : GivesRecord g.T.W.World.files c.args.file c.args.cache.now.gate.cut
-    c.args.pass.now.view c.local.new.pass.view c.in-Some.read.value = search rules in
+    c.args.pass.now.view c.local.new.pass.view c.in-Some.known.value = search rules in
     texture_value g.T.W.World.files c.args.file c.args.cache.now.gate.cut c.args.pass.now.view
     c.local.new.pass.view c.keep.new.pass.view k given (search rules) (Point c.args.r.now)
     c.look_local-looked.new.out (ok_of c.generation-generation.result)
     (c.generation-generation.ensures.value ∙ ap (λ (k : RecordState). k.generation)
-    (c.read.ensures.value ∙ c.of-known.ensures))
+    of_generation)
     (λ bytes held. subst (λ (k : RecordState).
     g.T.W.World.files.held k.file k.generation ≡ Some bytes
-    → IsLookOn k.cut bytes (Point c.args.r.now) c.look_local-looked.new.out) c.of-known.ensures
+    → IsLookOn k.cut bytes (Point c.args.r.now) c.look_local-looked.new.out) (c.of-fitting.ensures ∙ of_fitting)
     (c.if-looked.ensures.value refl bytes) held)

@@ -1,4 +1,5 @@
 -- The record was found, and then looked at.
+use Rattle.std.proofs.lemmas.Result.{err_from_is_err_and}
 use Rattle.file_table.specs.Calls.{sighted}
 use Rattle.image_cache.specs.Pass.{PassState}
 use Rattle.image_cache.proofs.UnreadLemmas.{recent_of, recent_same, at_kept, unread_between}
@@ -12,7 +13,7 @@ use Rattle.texture_sys.proofs.texturing.texture_of.Goals as goal
 pub returns-clause-value : goal.returns-clause-value
 returns-clause-value g c =
     texture_value g.T.W.World.files c.args.file c.args.cache.now.gate.cut c.args.pass.now.view
-    c.record_of.new.pass.view c.look_at.new.pass.view c.in-Ok.read.value c.in-Ok.ensures.ok
+    c.record_of.new.pass.view c.look_at.new.pass.view c.in_ok-known.known.value c.in_ok-known.ensures.ok
     c.look_at.ensures.same.view c.args.r.now c.look_at.new.out c.look_at.result
     c.look_at.ensures.ok c.look_at.ensures.value
 
@@ -20,51 +21,53 @@ pub returns-clause-cause : goal.returns-clause-cause
 returns-clause-cause g c =
     by_error c.look_at.result c.look_at.ensures.cause (λ e cause.
     texture_cause g.T.W.World.files c.args.file c.args.cache.now.gate.cut c.args.pass.now.view
-    c.record_of.new.pass.view c.look_at.new.pass.view c.in-Ok.read.value c.in-Ok.ensures.ok
+    c.record_of.new.pass.view c.look_at.new.pass.view c.in_ok-known.known.value c.in_ok-known.ensures.ok
     c.look_at.ensures.same.view (g.T.Tap.state c.args.tap.now)
-    (g.T.Tap.state c.record_of.new.tap) (g.T.Tap.state c.look_at.new.tap) e c.in-Ok.ensures.tap
+    (g.T.Tap.state c.record_of.new.tap) (g.T.Tap.state c.look_at.new.tap) e c.in_ok-known.ensures.tap
     cause)
 
 pub returns-clause-kept : goal.returns-clause-kept
 returns-clause-kept g c =
     texture_kept g.T.W.World.files c.args.file c.args.cache.now.gate.cut c.args.pass.now
-    c.record_of.new.pass c.look_at.new.pass c.in-Ok.read.value c.in-Ok.ensures.ok
+    c.record_of.new.pass c.look_at.new.pass c.in_ok-known.known.value c.in_ok-known.ensures.ok
     c.look_at.ensures.same.view c.look_at.ensures.same.latest c.args.r.now
     (g.T.Tap.state c.record_of.new.tap) (g.T.Tap.state c.look_at.new.tap) c.look_at.result
-    c.in-Ok.ensures.same.keeps c.look_at.ensures.ok c.look_at.ensures.asks
+    c.in_ok-known.ensures.same.keeps c.look_at.ensures.ok c.look_at.ensures.asks
     c.look_at.ensures.cause
 
 pub returns-clause-warm : goal.returns-clause-warm
 returns-clause-warm g c =
     texture_warm c.args.file c.args.r.now c.args.pass.now c.record_of.new.pass
     c.look_at.new.pass (g.T.Tap.state c.args.tap.now) (g.T.Tap.state c.record_of.new.tap)
-    (g.T.Tap.state c.look_at.new.tap) c.in-Ok.read.value c.look_at.result
-    (c.look_at.ensures.same.view.later c.args.file) c.in-Ok.ensures.same.keeps.tiles.recent
-    c.look_at.ensures.warm c.args.pass.now.latest c.in-Ok.ensures.ready
+    (g.T.Tap.state c.look_at.new.tap) c.in_ok-known.known.value c.look_at.result
+    (c.look_at.ensures.same.view.later c.args.file) c.in_ok-known.ensures.same.keeps.tiles.recent
+    c.look_at.ensures.warm c.args.pass.now.latest c.in_ok-known.ensures.ready
 
-pub returns-in-Err-clause-kept : goal.returns-in-Err-clause-kept
-returns-in-Err-clause-kept g c =
-    opening_kept g.T.W.World.files c.args.file c.args.cache.now.gate.cut
+pub returns-in_err-known-clause-kept : goal.returns-in_err-known-clause-kept
+returns-in_err-known-clause-kept g c =
+    let p = err_from_is_err_and c.from_residual.result c.from_residual.ensures.1 in
+    rw (p.1, p.2) (opening_kept g.T.W.World.files c.args.file c.args.cache.now.gate.cut
     (sighted c.args.pass.now.view (g.T.Tap.state c.args.tap.now))
     (sighted c.record_of.new.pass.view (g.T.Tap.state c.record_of.new.tap)) c.args.pass.now
-    c.record_of.new.pass c.in-Err.e c.in-Err.ensures.cause c.in-Err.ensures.err
+    c.record_of.new.pass _ c.in_err-known.ensures.cause c.in_err-known.ensures.err)
 
-pub returns-in-Err-clause-cause : goal.returns-in-Err-clause-cause
-returns-in-Err-clause-cause g c =
-    opening_cause g.T.W.World.files c.args.file c.args.cache.now.gate.cut
+pub returns-in_err-known-clause-cause : goal.returns-in_err-known-clause-cause
+returns-in_err-known-clause-cause g c =
+    let p = err_from_is_err_and c.from_residual.result c.from_residual.ensures.1 in
+    rw (p.1, p.2) (opening_cause g.T.W.World.files c.args.file c.args.cache.now.gate.cut
     (sighted c.args.pass.now.view (g.T.Tap.state c.args.tap.now))
-    (sighted c.record_of.new.pass.view (g.T.Tap.state c.record_of.new.tap)) c.in-Err.e
-    c.in-Err.ensures.cause
+    (sighted c.record_of.new.pass.view (g.T.Tap.state c.record_of.new.tap)) _
+    c.in_err-known.ensures.cause)
 
 pub returns-clause-visits : goal.returns-clause-visits
 returns-clause-visits g c =
     visits_after c.args.cache.now.gate c.args.pass.now.pinned.seat c.record_of.new.pass.pinned.seat
-    c.look_at.new.pass.pinned.seat c.in-Ok.ensures.seat c.look_at.ensures.visits
+    c.look_at.new.pass.pinned.seat c.in_ok-known.ensures.seat c.look_at.ensures.visits
 
-pub returns-in-Err-clause-visits : goal.returns-in-Err-clause-visits
-returns-in-Err-clause-visits g c =
+pub returns-in_err-known-clause-visits : goal.returns-in_err-known-clause-visits
+returns-in_err-known-clause-visits g c =
     visits_none c.args.cache.now.gate c.args.pass.now.pinned.seat c.record_of.new.pass.pinned.seat
-    c.in-Err.ensures.seat
+    c.in_err-known.ensures.seat
 
 pub returns-clause-unread : goal.returns-clause-unread
 returns-clause-unread g c =
@@ -72,10 +75,11 @@ returns-clause-unread g c =
     let mid : PassState = c.record_of.new.pass in
     let new : PassState = c.look_at.new.pass in
     unread_between c.look_at.result old mid new new
-    (recent_of old mid c.in-Ok.ensures.same.keeps) (recent_same new) c.look_at.ensures.unread
+    (recent_of old mid c.in_ok-known.ensures.same.keeps) (recent_same new) c.look_at.ensures.unread
 
-pub returns-in-Err-clause-unread : goal.returns-in-Err-clause-unread
-returns-in-Err-clause-unread g c =
+pub returns-in_err-known-clause-unread : goal.returns-in_err-known-clause-unread
+returns-in_err-known-clause-unread g c =
+    let p = err_from_is_err_and c.from_residual.result c.from_residual.ensures.1 in
     let old : PassState = c.args.pass.now in
     let new : PassState = c.record_of.new.pass in
-    at_kept c.in-Err.e old new (recent_of old new c.in-Err.ensures.same.keeps)
+    rw (p.1, p.2) (at_kept _ old new (recent_of old new c.in_err-known.ensures.same.keeps))

@@ -8,8 +8,8 @@ use Rattle.image_cache.proofs.NeedLemmas.{needs_hit}
 use Rattle.image_cache.proofs.TexelLemmas.{at_cell}
 use Rattle.image_cache.proofs.cache.Cache.fetch_kept.Goals as goal
 
-pub returns-clause-needs : goal.returns-clause-needs
-returns-clause-needs g c = λ _.
+pub returns-clause-met : goal.returns-clause-met
+returns-clause-met g c = λ _.
     let files = g.T.W.World.files in
     let cell = c.args.cell.now in
     let old : PassState = c.args.pass.now in
@@ -20,5 +20,13 @@ returns-clause-needs g c = λ _.
     (subst (λ (q : PinnedState). IsAsked key_in c.pass.inside.pinned.recent cell.key true q.recent)
     (sym c.count_need.ensures.kept.pinned) (c.turn_to.ensures.asked c.if-not-turn_to.false)) in
     let counts : CountsNeed true old new = search rules in
-    at_cell (λ (key : ℕ). Needs files (key ∷ []) old new) c.args.known.now c.args.at cell
-    c.requires.cell.is (needs_hit files cell.key old new asked counts)
+    record {
+      had = search rules;
+      need = counts;
+      asked = search rules;
+      turned = search rules;
+      moved = search rules;
+      kept = search rules;
+      needs = at_cell (λ (key : ℕ). Needs files (key ∷ []) old new) c.args.known.now c.args.at cell
+          c.requires.cell.is (needs_hit files cell.key old new asked counts);
+    }

@@ -2,13 +2,73 @@
 use Rattle.std.proofs.Common.{◌≡◌, ◌∙◌, ap, sym, subst, Some}
 use Rattle.file_table.specs.Record.{RecordState}
 use Rattle.file_table.specs.Calls.{GivesRecord}
-use Rattle.image_cache.specs.declared.pixels.Pixels.{Pixels}
-use Rattle.image_cache.specs.Call.{KeepsGiven}
 use Rattle.image_cache.specs.Region.{ReadsRegion}
-use Rattle.image_cache.proofs.FillLemmas.{if_ok, keeps_given, reads_between}
-use Rattle.image_cache.proofs.UnreadLemmas.{recent_of, unread_kept, unread_between}
-use Rattle.image_cache.proofs.VisitLemmas.{visits_same, visits_from, visits_to}
+use Rattle.image_cache.proofs.FillLemmas.{keeps_given, reads_between}
+use Rattle.image_cache.proofs.OpenLemmas.{after_call, same_holds, no_hand, keeps_one, looked}
+use Rattle.image_cache.proofs.OpenLemmas.{falls_behind}
 use Rattle.image_cache.proofs.cache.Cache.get_pixels.Goals as goal
+
+pub returns-in_err-append-clause-same : goal.returns-in_err-append-clause-same
+returns-in_err-append-clause-same g c = (
+  after_call c.args.file c.args.pass.now c.open.new.pass c.read_region-answer.new.pass
+      c.keep.new.pass (g.T.Tap.state c.open.new.tap) (g.T.Tap.state c.read_region-answer.new.tap)
+      (ap (λ (r : RecordState). r.file) c.deref.ensures ∙ c.in_ok-known.ensures.ok.of_file)
+      c.open.ensures.same c.open.ensures.looks c.read_region-answer.ensures.left c.keep.ensures.same
+      c.keep.ensures.view,
+  same_holds c.args.file c.args.pass.now c.open.new.pass c.read_region-answer.new.pass
+      c.keep.new.pass (g.T.Tap.state c.open.new.tap) (g.T.Tap.state c.read_region-answer.new.tap)
+      (ap (λ (r : RecordState). r.file) c.deref.ensures ∙ c.in_ok-known.ensures.ok.of_file)
+      c.open.ensures.same c.open.ensures.looks c.read_region-answer.ensures.left c.keep.ensures.same
+      c.keep.ensures.view,
+)
+
+pub returns-in_err-append-clause-tap : goal.returns-in_err-append-clause-tap
+returns-in_err-append-clause-tap g c =
+    falls_behind (g.T.Tap.state c.args.tap.now) c.open.ensures.once c.read_region-answer.ensures.left
+
+pub returns-clause-same : goal.returns-clause-same
+returns-clause-same g c = (
+  after_call c.args.file c.args.pass.now c.open.new.pass c.read_region-answer.new.pass
+      c.keep.new.pass (g.T.Tap.state c.open.new.tap) (g.T.Tap.state c.read_region-answer.new.tap)
+      (ap (λ (r : RecordState). r.file) c.deref.ensures ∙ c.in_ok-known.ensures.ok.of_file)
+      c.open.ensures.same c.open.ensures.looks c.read_region-answer.ensures.left c.keep.ensures.same
+      c.keep.ensures.view,
+  same_holds c.args.file c.args.pass.now c.open.new.pass c.read_region-answer.new.pass
+      c.keep.new.pass (g.T.Tap.state c.open.new.tap) (g.T.Tap.state c.read_region-answer.new.tap)
+      (ap (λ (r : RecordState). r.file) c.deref.ensures ∙ c.in_ok-known.ensures.ok.of_file)
+      c.open.ensures.same c.open.ensures.looks c.read_region-answer.ensures.left c.keep.ensures.same
+      c.keep.ensures.view,
+)
+
+pub returns-clause-tap : goal.returns-clause-tap
+returns-clause-tap g c =
+    falls_behind (g.T.Tap.state c.args.tap.now) c.open.ensures.once c.read_region-answer.ensures.left
+
+pub returns-clause-hand : goal.returns-clause-hand
+returns-clause-hand g c =
+    no_hand c.args.file c.args.pass.now c.open.new.pass c.read_region-answer.new.pass
+    c.keep.new.pass (g.T.Tap.state c.open.new.tap) (g.T.Tap.state c.read_region-answer.new.tap)
+    (ap (λ (r : RecordState). r.file) c.deref.ensures ∙ c.in_ok-known.ensures.ok.of_file)
+    c.open.ensures.same c.open.ensures.looks c.read_region-answer.ensures.left c.keep.ensures.same
+    c.keep.ensures.view
+
+pub returns-clause-latest : goal.returns-clause-latest
+returns-clause-latest g c =
+    keeps_one c.args.file c.args.pass.now c.open.new.pass c.read_region-answer.new.pass
+    c.keep.new.pass (g.T.Tap.state c.open.new.tap) (g.T.Tap.state c.read_region-answer.new.tap)
+    (ap (λ (r : RecordState). r.file) c.deref.ensures ∙ c.in_ok-known.ensures.ok.of_file)
+    c.open.ensures.same c.open.ensures.looks c.read_region-answer.ensures.left c.keep.ensures.same
+    c.keep.ensures.view c.args.self.now.gate.cut
+    c.in_ok-known.known.value c.keep.ensures.kept c.in_ok-known.ensures.ok
+    (g.T.Tap.state c.args.tap.now) (g.T.Tap.state c.read_region-answer.new.tap)
+
+pub returns-clause-looked : goal.returns-clause-looked
+returns-clause-looked g c =
+    looked c.args.file c.args.pass.now c.open.new.pass c.read_region-answer.new.pass
+    c.keep.new.pass (g.T.Tap.state c.open.new.tap) (g.T.Tap.state c.read_region-answer.new.tap)
+    (ap (λ (r : RecordState). r.file) c.deref.ensures ∙ c.in_ok-known.ensures.ok.of_file)
+    c.open.ensures.same c.open.ensures.looks c.read_region-answer.ensures.left c.keep.ensures.same
+    c.keep.ensures.view
 
 pub returns-clause-ok : goal.returns-clause-ok
 returns-clause-ok g c =
@@ -16,54 +76,35 @@ returns-clause-ok g c =
     let file = c.args.file in
     let cut = c.args.self.now.gate.cut in
     let region = c.args.region.now in
+    let channels = c.in_ok-read.read.channels in
     let old = c.args.pass.now in
     let mid = c.open.new.pass in
-    let after = c.pixels_of-answer.new.pass in
+    let after = c.read_region-answer.new.pass in
     let new = c.keep.new.pass in
     let r = c.deref.result.now in
     let is : r ≡ c.in_ok-known.known.value = c.deref.ensures in
     let given : GivesRecord files file cut old.view mid.view r =
     subst (λ (k : RecordState). GivesRecord files file cut old.view mid.view k) (sym is)
     c.in_ok-known.ensures.ok in
-    if_ok c.pixels_of-answer.result
-    (λ (p : Pixels). (p.generation ≡ r.generation)
-    × ReadsRegion files region p.channels mid after r)
-    (λ (p : Pixels). KeepsGiven files file cut old new p.generation
-    (ReadsRegion files region p.channels old new))
-    (λ p read. keeps_given files file cut old mid after new r p.generation
-    (ReadsRegion files region p.channels old new) (c.keep.ensures.kept ∙ ap Some (sym is)) given
-    given.of_file c.pixels_of-answer.ensures.same.view c.keep.ensures.view read.0
-    (reads_between files region p.channels old mid after new r c.open.ensures.same.tiles.recent
-    c.open.ensures.same.counts c.keep.ensures.same.tiles.recent c.keep.ensures.same.counts read.1))
-    c.pixels_of-answer.ensures.ok
+    keeps_given files file cut old mid after new r c.generation-generation.result
+    (ReadsRegion files region channels old new) (c.keep.ensures.kept ∙ ap Some (sym is)) given
+    given.of_file c.read_region-answer.ensures.left.need.view c.keep.ensures.view
+    (c.generation-generation.ensures.value
+    ∙ ap (λ (k : RecordState). k.generation) (c.deref-2.ensures ∙ sym is))
+    (reads_between files region channels old mid after new r c.open.ensures.same.tiles.recent
+    c.open.ensures.same.counts c.keep.ensures.same.tiles.recent c.keep.ensures.same.counts
+    c.in_ok-read.ensures.ok)
 
-pub returns-in_err-known-clause-visits : goal.returns-in_err-known-clause-visits
-returns-in_err-known-clause-visits g c =
-    visits_same c.args.self.now.gate c.args.pass.now.pinned.seat c.open.new.pass.pinned.seat
-    c.open.ensures.same.seat
-
-pub returns-clause-visits : goal.returns-clause-visits
-returns-clause-visits g c =
-    let gate = c.args.self.now.gate in
-    let opened = c.open.new.pass.pinned.seat in
-    let after = c.pixels_of-answer.new.pass.pinned.seat in
-    visits_from gate c.args.pass.now.pinned.seat opened c.keep.new.pass.pinned.seat
-    c.open.ensures.same.seat
-    (visits_to gate opened after c.keep.new.pass.pinned.seat c.pixels_of-answer.ensures.visits
-    c.keep.ensures.same.seat)
-
-pub returns-in_err-known-clause-unread : goal.returns-in_err-known-clause-unread
-returns-in_err-known-clause-unread g c =
-    let old = c.args.pass.now in
-    let mid = c.open.new.pass in
-    unread_kept _ old mid (recent_of old mid c.open.ensures.same)
-
-pub returns-clause-unread : goal.returns-clause-unread
-returns-clause-unread g c =
-    let old = c.args.pass.now in
-    let mid = c.open.new.pass in
-    let after = c.pixels_of-answer.new.pass in
-    let new = c.keep.new.pass in
-    unread_between c.pixels_of-answer.result old mid after new
-    (recent_of old mid c.open.ensures.same) (recent_of after new c.keep.ensures.same)
-    c.pixels_of-answer.ensures.unread
+pub returns-clause-value : goal.returns-clause-value
+returns-clause-value g c bytes held =
+    let files = g.T.W.World.files in
+    let r = c.deref.result.now in
+    let file : r.file ≡ c.args.file = ap (λ (k : RecordState). k.file) c.deref.ensures
+    ∙ c.in_ok-known.ensures.ok.of_file in
+    let generation : r.generation ≡ c.generation-generation.result =
+    sym (c.generation-generation.ensures.value ∙ ap (λ (k : RecordState). k.generation)
+    (c.deref-2.ensures ∙ sym c.deref.ensures)) in (
+      c.in_ok-read.read.values.items,
+      c.in_ok-append.ensures.ok,
+      c.in_ok-read.ensures.value bytes (rw (file, generation) held),
+    )

@@ -1,6 +1,8 @@
 -- One file more.
 use Rattle.std.proofs.Common.{rules, arith}
 use Rattle.image_cache.proofs.AskLemmas.{asks_first, asks_more, steps_later, steps_more}
+use Rattle.image_cache.specs.Reading.{pass_tap}
+use Rattle.image_cache.proofs.InvalidLemmas.{renews_none, renews_more}
 use Rattle.image_cache.proofs.cache.Cache.invalidate_all.Goals as goal
 
 pub loop-file-init : goal.loop-file-init
@@ -11,6 +13,8 @@ loop-file-init g c = record {
   least = search rules;
   steps = λ f low. absurd (omega arith);
   asks = asks_first c.empty.new.pass.view (g.T.Tap.state c.args.tap.now).asks;
+  all = renews_none g.T.W.World.files c.args.self.now.gate c.args.pass.now c.empty.new.pass
+      (g.T.Tap.state c.args.tap.now) c.empty.ensures.visits c.empty.ensures.view;
   tap = search rules;
 }
 
@@ -37,5 +41,10 @@ loop-file-preserved g c = record {
       (g.T.Tap.state c.args.tap.now) (g.T.Tap.state c.loop-file.tap)
       (g.T.Tap.state c.renew_known.new.tap) c.renew_known.ensures.same.view
       c.in_default-renew_known.ensures.ok c.loop-file.invariant.asks;
+  all = renews_more g.T.W.World.files c.args.self.now.gate c.loop-file.file
+      (pass_tap c.args.pass.now (g.T.Tap.state c.args.tap.now))
+      (pass_tap c.loop-file.pass (g.T.Tap.state c.loop-file.tap))
+      (pass_tap c.renew_known.new.pass (g.T.Tap.state c.renew_known.new.tap))
+      c.loop-file.invariant.all c.in_default-renew_known.ensures.renewed;
   tap = search rules;
 }

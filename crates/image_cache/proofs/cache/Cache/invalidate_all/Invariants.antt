@@ -3,6 +3,8 @@ use Rattle.std.proofs.Common.{ℕ, ◌<◌, ◌≤◌, slice_index}
 use Rattle.gen_board.specs.View.{IsLater}
 use Rattle.image_cache.specs.Pass.{IsPassOf}
 use Rattle.image_cache.specs.Invalid.{IsEmptied, MayAsk, RisesBy, seen_count}
+use Rattle.image_cache.specs.Reading.{pass_tap}
+use Rattle.image_cache.specs.InvalidAll.{RenewsUpTo}
 use Rattle.image_cache.proofs.cache.Cache.invalidate_all.Given as goal
 
 abbrev pub invariant-loop-file : goal.invariant-loop-file
@@ -15,5 +17,7 @@ invariant-loop-file g l = record {
       → slice_index l.fn.pass.view.steps f < slice_index l.pass.view.steps f;
   asks : RisesBy (seen_count l.pass.view l.file) (g.T.Tap.state l.fn.tap).asks
       (g.T.Tap.state l.tap).asks;
+  all : RenewsUpTo g.T.W.World.files l.self.gate l.file
+      (pass_tap l.fn.pass (g.T.Tap.state l.fn.tap)) (pass_tap l.pass (g.T.Tap.state l.tap));
   tap : MayAsk (g.T.Tap.state l.fn.tap) (g.T.Tap.state l.tap);
 }

@@ -9,9 +9,10 @@ use Rattle.texel_filter.specs.Square.{AreCorners}
 use Rattle.texel_filter.proofs.CallLemmas.{first_of_part, on_ok}
 use Rattle.image_cache.specs.Pass.{PassState}
 use Rattle.image_cache.specs.Square.{MeetsSquare}
-use Rattle.texture_sys.specs.Fetches.{values_known}
-use Rattle.texture_sys.proofs.LookLemmas.{at_mapped, by_result}
-use Rattle.texture_sys.proofs.Squares.{kept_met, same_cache, kept_from, lacks_from}
+use Rattle.image_cache.specs.Sizes.{values_known}
+use Rattle.image_cache.proofs.FetchLemmas.{at_mapped, same_cache}
+use Rattle.texture_sys.proofs.LookLemmas.{by_result}
+use Rattle.texture_sys.proofs.Squares.{kept_met, kept_from, lacks_from}
 use Rattle.texture_sys.proofs.kept.KeptTexelsFetch.square.Goals as goal
 
 pub returns-then-fetch_square_local-clause-left : goal.returns-then-fetch_square_local-clause-left
@@ -22,7 +23,7 @@ returns-then-fetch_square_local-clause-left g c =
     let old : PassState = s.pass.now in
     let new : PassState = c.fetch_square_local.new.pass in
     let met : MeetsSquare g.T.W.World.files k q old new = subst (λ (r : RecordState). MeetsSquare g.T.W.World.files r q old new)
-    c.read.ensures.value (c.fetch_square_local.ensures.met c.if-fetch_square_local.true) in
+    c.record.ensures.value (c.fetch_square_local.ensures.met c.if-fetch_square_local.true) in
     let of_first = same_cache s.cache.now old met.first met.to_first.kept s.of_cache in
     let of_second = same_cache s.cache.now met.first met.second met.to_second.kept of_first in
     let of_third = same_cache s.cache.now met.second met.third met.to_third.kept of_second in (
@@ -55,7 +56,7 @@ returns-then-fetch_square_local-clause-told g c values is =
     (λ (v : Values). AreCorners v q c.args.channels c.fetch_square_local.new.out) is
     (subst (λ (r : RecordState). ForSome (g.T.W.World.files.held r.file r.generation)
     (λ bytes. AreCorners (channel_value_of bytes) q c.args.channels c.fetch_square_local.new.out))
-    c.read.ensures.value (c.fetch_square_local.ensures.value c.if-fetch_square_local.true))
+    c.record.ensures.value (c.fetch_square_local.ensures.value c.if-fetch_square_local.true))
 
 pub returns-in_err-texel-clause-left : goal.returns-in_err-texel-clause-left
 returns-in_err-texel-clause-left g c =

@@ -1,0 +1,30 @@
+-- The tile is taken in hand, and then placed.
+use Rattle.std.proofs.Common.{inl, ap}
+use Rattle.image_cache.proofs.ReadingLemmas.{brings_by, brings_refused, brings_placed}
+use Rattle.image_cache.proofs.ReadingLemmas.{cold_before, cold_after}
+use Rattle.image_cache.proofs.reading.Reading.bring.Goals as goal
+
+pub returns-in_err-take_in_hand-clause-left : goal.returns-in_err-take_in_hand-clause-left
+returns-in_err-take_in_hand-clause-left g c =
+    brings_by _ c.from_residual.ensures.1
+    (brings_refused c.find.ensures.left c.in_err-take_in_hand.ensures.made)
+
+pub returns-in_err-take_in_hand-clause-missed : goal.returns-in_err-take_in_hand-clause-missed
+returns-in_err-take_in_hand-clause-missed g c =
+    cold_before c.args.cell.now.key c.args.self.now c.find.new.self
+    c.take_in_hand.new.self c.find.ensures.left.steps.call c.find.ensures.seat
+    c.find.ensures.tap c.take_in_hand.ensures.missed
+
+pub returns-clause-left : goal.returns-clause-left
+returns-clause-left g c =
+    brings_placed c.find.ensures.left c.in_ok-take_in_hand.ensures.made c.place.ensures.left
+    c.place.ensures.counts c.place.ensures.hand
+
+pub returns-clause-missed : goal.returns-clause-missed
+returns-clause-missed g c =
+    cold_before c.args.cell.now.key c.args.self.now c.find.new.self
+    c.place.new.self c.find.ensures.left.steps.call c.find.ensures.seat
+    c.find.ensures.tap
+    (cold_after c.args.cell.now.key c.find.new.self c.take_in_hand.new.self c.place.new.self
+    c.take_in_hand.ensures.missed
+    c.in_ok-take_in_hand.ensures.made.steps.call c.place.ensures.left c.place.ensures.tap)

@@ -1,0 +1,32 @@
+-- The key alone decides a hit, where the world tells.
+use Rattle.std.proofs.Common.{◌≡◌, ◌∷◌, [], ◌∙◌, sym, subst, refl}
+use Rattle.std.specs.List.{All}
+use Rattle.tiff_format.specs.declared.cut.Cut.{Cut}
+use Rattle.tile_store.specs.Lawful.{FitsCut}
+use Rattle.pinned_tiles.specs.Pinned.{IsAskedFor}
+use Rattle.pinned_tiles.specs.Cell.{has_cell}
+use Rattle.image_cache.specs.Call.{Needs}
+use Rattle.image_cache.proofs.NeedLemmas.{on_ok, needs_one}
+use Rattle.image_cache.proofs.ReadingLemmas.{reads_then, reads_brought}
+use Rattle.image_cache.proofs.reading.Reading.need_counted.Goals as goal
+
+pub returns-clause-needs : goal.returns-clause-needs
+returns-clause-needs g c =
+    let files = g.T.W.World.files in
+    let cell = c.args.cell.now in
+    let old = c.args.self.now.pass.now in
+    let mid = c.count.new.self.pass.now in
+    let new = c.need_tile.new.self.pass.now in
+    let counted = c.count.ensures in
+    let cut : old.pinned.cut ≡ c.args.self.now.known.now.cut =
+    c.args.self.now.pass_of.cut ∙ sym c.args.self.now.under.cut in
+    on_ok c.need_tile.result (IsAskedFor cell.key mid.pinned.recent new.pinned.recent)
+    (Needs files (cell.key ∷ []) old new)
+    (λ asked. needs_one files c.args.self.now.known.now cell old mid new
+    c.has.result counted.told c.requires.cell
+    (subst (λ (k : Cut). All (FitsCut files k) old.pinned.recent) cut counted.fits)
+    counted.recent c.has.ensures counted.low counted.counts c.need_tile.ensures.left.counts asked)
+    c.need_tile.ensures.turned
+
+pub returns-clause-left : goal.returns-clause-left
+returns-clause-left g c = reads_then c.count.ensures.left (reads_brought c.need_tile.ensures.left)

@@ -1,0 +1,163 @@
+-- What does a call by a record work with, and what does a step of it leave?
+use Rattle.std.specs.Prelude.{◌≡◌, ◌⊎◌, ℕ, None, Some, Option, Result, Ok, Err, List, ◌++◌, ◌∷◌, []}
+use Rattle.std.specs.Prelude.{IfSome, IsTrue, true, false}
+use Rattle.tex_world.specs.declared.tap.Tap as a_tap
+use Rattle.tex_world.specs.declared.tap.TapHandle as a_handle
+use Rattle.waiter.specs.declared.waiting.Waiter as a_waiter
+use Rattle.tex_world.specs.World.{Files}
+use Rattle.tex_world.specs.Tap.{TapState}
+use Rattle.tiff_format.specs.declared.cut.Cut.{Cut}
+use Rattle.tile_store.specs.Tile.{CachedTile}
+use Rattle.shard_gate.specs.Gate.{GateState, IsTileOf}
+use Rattle.shard_gate.specs.Since.{PurgesNone, Misses}
+use Rattle.file_table.specs.Record.{RecordState}
+use Rattle.pinned_tiles.specs.declared.cell.CellAt.{CellAt}
+use Rattle.pinned_tiles.specs.Cell.{is_tile_of, HasFirst, StandsFirst}
+use Rattle.pinned_tiles.specs.Pinned.{key_in, AsksFor}
+use Rattle.micro.specs.Runs.{IsAsked}
+use Rattle.image_cache.specs.declared.error.CacheError.{CacheError}
+use Rattle.image_cache.specs.declared.reading.Reading.{Reading}
+use Rattle.image_cache.specs.Pass.{PassState, SameCounts}
+use Rattle.texel_values.specs.declared.texel_at.TexelAt.{TexelAt}
+use Rattle.image_cache.specs.Call.{AfterNeed, CountsOn, HasNoCall, LeavesNoHand, NoneFalls}
+use Rattle.image_cache.specs.Call.{AsksForCellAt, TurnsToCellAt, NeedsCellAt}
+use Rattle.image_cache.specs.Call.{AfterStep, KeepsRecent}
+use Rattle.image_cache.specs.Cause.{FetchCause, IsAgain}
+
+-- ---- answers
+
+-- why a call is refused, if it is
+abbrev pub refusal : {A E : Type 0} → Result A E → Option E
+refusal (Ok a) = None
+refusal (Err e) = Some e
+
+-- The tap met a newer generation only where that is the refusal.
+abbrev pub MeetsOnlyAgain : {B : Type 0} → Option (CacheError B) → TapState → TapState → Type 0
+MeetsOnlyAgain None old new = new.moves ≡ old.moves
+MeetsOnlyAgain (Some e) old new = (IsAgain e → ⊥) → new.moves ≡ old.moves
+
+-- The tile of a cell is this one, or where there is none, it stands first in the microcache.
+abbrev pub IsTileAt : CellAt → List CachedTile → Option CachedTile → Type 0
+IsTileAt cell recent None = StandsFirst cell recent
+IsTileAt cell recent (Some tile) = (tile.key ≡ cell.key) × IsTrue (is_tile_of cell tile)
+
+-- The cell that holds a texel of a record was needed, and is in the microcache then.
+pub record IsNeededAt (files : Files) (known : RecordState) (at : TexelAt) (old new : PassState)
+    : Type 0 where
+  pub asked : AsksForCellAt known at old.pinned.recent new.pinned.recent
+  pub turned : TurnsToCellAt known at old.pinned.recent new.pinned.recent
+  pub needs : NeedsCellAt files known at old new
+
+-- A tile of the key was there, and stands first now.
+pub record FindsKey (key : ℕ) (old new : List CachedTile) : Type 0 where
+  pub asked : IsAsked key_in old key true new
+  pub latest : AsksFor key old new
+  pub first : HasFirst key new
+
+-- A tile of the key was placed first.
+pub record PlacesKey (key : ℕ) (old new : List CachedTile) : Type 0 where
+  pub asked : IsAsked key_in old key false new
+  pub latest : AsksFor key old new
+  pub first : HasFirst key new
+
+-- ---- what a step leaves, whatever it answers
+
+-- what is known of a pass and of the tap that it reads by
+pub record PassTap : Type 0 where
+  pub pass : PassState
+  pub tap : TapState
+
+abbrev pub pass_tap : PassState → TapState → PassTap
+pass_tap pass tap = record { pass = pass; tap = tap }
+
+-- Each refusal has its cause. No count of the tap has fallen, and it met a newer generation only
+-- where that is the refusal. Of the pass the holds and the record are as they were, only this file's
+-- number was seen to rise, and each visit is that of a `pin`, a `pin_new`, an `unpin` or a `count`.
+pub record StepsAt {B : Type 0} (files : Files) (gate : GateState) (known : RecordState)
+    (old new : PassTap) (refused : Option (CacheError B)) : Type 0 where
+  pub cause : IfSome refused (FetchCause files known new.pass.view old.tap new.tap)
+  pub moves : MeetsOnlyAgain refused old.tap new.tap
+  pub tap : NoneFalls old.tap new.tap
+  pub need : AfterNeed known.file old.pass new.pass
+  pub visits : PurgesNone gate old.pass.pinned.seat new.pass.pinned.seat
+
+-- So does a read of cells that are needed, by which no count falls, and which leaves nothing in hand
+-- but what was there before, unless the waiter can give up.
+pub record ReadsAt {B : Type 0} (files : Files) (gate : GateState) (known : RecordState)
+    (old new : PassTap) (refused : Option (CacheError B)) : Type 0 where
+  pub steps : StepsAt files gate known old new refused
+  pub counts : CountsOn old.pass new.pass
+  pub hand : LeavesNoHand B old.pass new.pass
+
+-- What it leaves but for the cause of a refusal.
+pub record ReadsOn (files : Files) (gate : GateState) (known : RecordState) (old new : PassTap)
+    (Busy : Type 0) : Type 0 where
+  pub tap : NoneFalls old.tap new.tap
+  pub need : AfterNeed known.file old.pass new.pass
+  pub counts : CountsOn old.pass new.pass
+  pub hand : LeavesNoHand Busy old.pass new.pass
+  pub visits : PurgesNone gate old.pass.pinned.seat new.pass.pinned.seat
+
+-- A tile of the key became the pass's latest hold.
+pub record TakesHold (files : Files) (cut : Cut) (key : ℕ) (old new : PassState) : Type 0 where
+  pub tile : CachedTile
+  pub held : new.pinned.holds ≡ old.pinned.holds ++ tile ∷ []
+  pub is : IsTileOf files cut key tile
+
+-- What that leaves: microcache and counts as they were, and nothing in hand but what was there
+-- before, unless the waiter can give up.
+pub record HoldsOn {B : Type 0} (files : Files) (gate : GateState) (known : RecordState)
+    (old new : PassTap) (refused : Option (CacheError B)) : Type 0 where
+  pub cause : IfSome refused (FetchCause files known new.pass.view old.tap new.tap)
+  pub tap : NoneFalls old.tap new.tap
+  pub step : AfterStep known.file old.pass new.pass
+  pub recent : KeepsRecent old.pass new.pass
+  pub hand : LeavesNoHand B old.pass new.pass
+  pub visits : PurgesNone gate old.pass.pinned.seat new.pass.pinned.seat
+
+module _ {V T Busy W H : Type 0} {v : a_waiter.Ghosts V Busy} {t : a_tap.Ghosts T W H}
+    {h : a_handle.Ghosts H W} where
+  abbrev pub moment : Reading V T Busy W H v t h → PassTap
+  moment r = pass_tap r.pass.now (t.state r.tap.now)
+
+  -- It is the same call: by the same record, for the same pass and with the same tap.
+  pub record IsSameCall (old new : Reading V T Busy W H v t h) : Type 0 where
+    pub cache : new.cache ≡ old.cache
+    pub known : new.known ≡ old.known
+    pub pass_name : new.pass.ghost_name ≡ old.pass.ghost_name
+    pub tap_name : new.tap.ghost_name ≡ old.tap.ghost_name
+
+  -- a step of the call
+  pub record Steps (files : Files) (old new : Reading V T Busy W H v t h)
+      (refused : Option (CacheError Busy)) : Type 0 where
+    pub call : IsSameCall old new
+    pub left : StepsAt files old.cache.now.gate old.known.now (moment old) (moment new) refused
+
+  -- So does making a tile, which leaves the microcache and the counts too. Where it is refused
+  -- nothing is in hand, unless the waiter gave up.
+  pub record Makes (files : Files) (old new : Reading V T Busy W H v t h)
+      (refused : Option (CacheError Busy)) : Type 0 where
+    pub steps : Steps files old new refused
+    pub counts : SameCounts old.pass.now new.pass.now
+    pub recent : new.pass.now.pinned.recent ≡ old.pass.now.pinned.recent
+    pub empty : IfSome refused (λ _. (new.pass.now.pinned.hand ≡ None) ⊎ Busy)
+
+  -- So does bringing a cell into the microcache, which leaves the counts, and nothing in hand but
+  -- what was there before, unless the waiter can give up.
+  pub record Brings (files : Files) (old new : Reading V T Busy W H v t h)
+      (refused : Option (CacheError Busy)) : Type 0 where
+    pub steps : Steps files old new refused
+    pub counts : SameCounts old.pass.now new.pass.now
+    pub hand : LeavesNoHand Busy old.pass.now new.pass.now
+
+  -- a read of cells that are needed
+  pub record Reads (files : Files) (old new : Reading V T Busy W H v t h)
+      (refused : Option (CacheError Busy)) : Type 0 where
+    pub call : IsSameCall old new
+    pub left : ReadsAt files old.cache.now.gate old.known.now (moment old) (moment new) refused
+
+  -- The tap had no call, or a visit was made to the shard of the key that took entries which lack
+  -- it.
+  abbrev pub IsCold : ℕ → Reading V T Busy W H v t h → Reading V T Busy W H v t h → Type 0
+  IsCold key old new = HasNoCall (t.state old.tap.now) (t.state new.tap.now)
+      ⊎ Misses old.cache.now.gate key old.pass.now.pinned.seat new.pass.now.pinned.seat

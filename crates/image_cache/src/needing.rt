@@ -1,0 +1,167 @@
+//! A cell that is needed: from the microcache, else from the shards or the file.
+ghost use Rattle.std.specs.Prelude.{◌≡◌, ◌≤◌, ◌⊎◌, ◌∷◌, [], None, IfOk, OnOk, IsTrue, IsFalse};
+ghost use Rattle.std.specs.Prelude.{IsSomeAnd};
+ghost use Rattle.std.specs.List.{All};
+ghost use Rattle.tile_store.specs.Lawful.{FitsCut};
+ghost use Rattle.file_table.specs.Record.{IsRecord};
+ghost use Rattle.micro.specs.Items.{HasKey};
+ghost use Rattle.pinned_tiles.specs.Pinned.{key_in, AsksFor, IsAskedFor};
+ghost use Rattle.pinned_tiles.specs.Cell.{has_cell, HasFirst, StandsFirst};
+ghost use Rattle.image_cache.specs.Pass.{SameCounts, max_count};
+ghost use Rattle.image_cache.specs.Texel.{IsCellOf};
+ghost use Rattle.image_cache.specs.Call.{CountsNeed, Needs};
+ghost use Rattle.image_cache.specs.Making.{IsMadeFor};
+ghost use Rattle.image_cache.specs.Reading.{refusal, Steps, Makes, Brings, Reads, IsCold};
+ghost use Rattle.image_cache.specs.Reading.{IsTileAt, FindsKey, PlacesKey};
+
+use crate::error::CacheError;
+use crate::reading::Reading;
+use pinned_tiles::CellAt;
+use tex_world::Tap;
+use tile_layout::TileKey;
+use tile_store::Tile;
+use waiter::Waiter;
+
+impl<'a, V: Waiter, T: Tap> Reading<'a, V, T> {
+    /// A cell is needed, and a hit is counted where the microcache had it.
+    pub(crate) fn need_counted(
+        &mut self,
+        cell: &CellAt,
+    ) -> Result<Option<Tile<T::W>>, CacheError<V::Busy>>
+        requires cell { IsCellOf self.old.known.now cell.now }
+        ensures tile { IfOk result (IsTileAt cell.now self.new.pass.now.pinned.recent) }
+        ensures needs { OnOk result
+            (Needs T.W.files (cell.now.key ∷ []) self.old.pass.now self.new.pass.now) }
+        ensures left { Reads T.W.files self.old self.new (refusal result) }
+    {
+        self.count(self.has(cell));
+        self.need_tile(cell)
+    }
+
+    /// The tile of a cell that is needed. None where it stands first in the microcache then.
+    ///
+    /// Over a world that does not tell, a shard may have another tile of the cell's key. It is not
+    /// read, and one that is made apart is answered.
+    pub(crate) fn need_tile(
+        &mut self,
+        cell: &CellAt,
+    ) -> Result<Option<Tile<T::W>>, CacheError<V::Busy>>
+        requires cell { IsCellOf self.old.known.now cell.now }
+        ensures tile { IfOk result (IsTileAt cell.now self.new.pass.now.pinned.recent) }
+        ensures asked { OnOk result (AsksFor cell.now.key
+            self.old.pass.now.pinned.recent self.new.pass.now.pinned.recent) }
+        ensures turned { OnOk result (IsAskedFor cell.now.key
+            self.old.pass.now.pinned.recent self.new.pass.now.pinned.recent) }
+        ensures left { Brings T.W.files self.old self.new (refusal result) }
+        ensures missed { IsTrue T.W.files.tells → IsCold cell.now.key self.old self.new }
+    {
+        self.bring(cell)?;
+        if self.is_latest(cell) {
+            return Ok(None);
+        }
+        let apart = self.make_apart(cell)?;
+        Ok(Some(apart))
+    }
+
+    /// The tile of a cell, made for one need alone.
+    fn make_apart(&mut self, cell: &CellAt) -> Result<Tile<T::W>, CacheError<V::Busy>>
+        requires cell { IsCellOf self.old.known.now cell.now }
+        ensures tile { IfOk result (IsMadeFor T.W.files self.old.cache.now.gate.cut cell.now) }
+        ensures hand { OnOk result (self.new.pass.now.pinned.hand ≡ None) }
+        ensures made { Makes T.W.files self.old self.new (refusal result) }
+    {
+        // a tile whose pin could not be given back before is given back first
+        self.give_back()?;
+        self.make(cell)
+    }
+
+    /// Puts the tile of a cell's key first in the microcache.
+    fn bring(&mut self, cell: &CellAt) -> Result<(), CacheError<V::Busy>>
+        requires cell { IsCellOf self.old.known.now cell.now }
+        ensures asked { OnOk result (AsksFor cell.now.key
+            self.old.pass.now.pinned.recent self.new.pass.now.pinned.recent) }
+        ensures turned { OnOk result (IsAskedFor cell.now.key
+            self.old.pass.now.pinned.recent self.new.pass.now.pinned.recent) }
+        ensures first { OnOk result (HasFirst cell.now.key self.new.pass.now.pinned.recent) }
+        ensures left { Brings T.W.files self.old self.new (refusal result) }
+        ensures missed { IsCold cell.now.key self.old self.new }
+    {
+        if self.find(cell.key) {
+            return Ok(());
+        }
+        self.take_in_hand(cell)?;
+        self.place(cell.key);
+        Ok(())
+    }
+
+    /// Counts a need of a cell, which the microcache has or not.
+    pub(crate) fn count(&mut self, hit: bool)
+        ensures counts { CountsNeed hit self.old.pass.now self.new.pass.now }
+        ensures low { self.old.pass.now.hits ≤ max_count }
+        ensures told { IsRecord T.W.files self.old.known.now }
+        ensures fits { All (FitsCut T.W.files self.old.pass.now.pinned.cut)
+            self.old.pass.now.pinned.recent }
+        ensures recent { self.new.pass.now.pinned.recent ≡ self.old.pass.now.pinned.recent }
+        ensures seat { self.new.pass.now.pinned.seat ≡ self.old.pass.now.pinned.seat }
+        ensures tap { self.new.tap.now ≡ self.old.tap.now }
+        ensures left { Reads T.W.files self.old self.new None }
+    {
+        // the record's layout is that of its bytes, and a tile of the key that of its cell
+        let _known = self.known.record();
+        let pass = &mut *self.pass;
+        pass.know();
+        pass.count_need(hit);
+    }
+
+    /// Whether the microcache has a cell.
+    fn has(&self, cell: &CellAt) -> bool
+        ensures { result ≡ has_cell cell.now self.now.pass.now.pinned.recent }
+    {
+        let pass = &*self.pass;
+        pass.pinned.has(cell)
+    }
+
+    /// Whether the microcache has a tile of the key. It then stands first.
+    fn find(&mut self, key: TileKey) -> bool
+        ensures some { IsTrue result → FindsKey key
+            self.old.pass.now.pinned.recent self.new.pass.now.pinned.recent }
+        ensures none { IsFalse result → (¬ HasKey key_in key self.old.pass.now.pinned.recent)
+            × (self.new.pass.now.pinned.recent ≡ self.old.pass.now.pinned.recent) }
+        ensures seat { self.new.pass.now.pinned.seat ≡ self.old.pass.now.pinned.seat }
+        ensures tap { self.new.tap.now ≡ self.old.tap.now }
+        ensures left { Brings T.W.files self.old self.new None }
+    {
+        let pass = &mut *self.pass;
+        pass.pinned.find(key)
+    }
+
+    /// Puts the tile in hand, which has this key, first in the microcache.
+    fn place(&mut self, key: TileKey)
+        requires hand { IsSomeAnd self.old.pass.now.pinned.hand (λ t. t.key ≡ key) }
+        requires absent { ¬ HasKey key_in key self.old.pass.now.pinned.recent }
+        ensures placed { PlacesKey key
+            self.old.pass.now.pinned.recent self.new.pass.now.pinned.recent }
+        ensures hand { (self.new.pass.now.pinned.hand ≡ None) ⊎ V.Busy }
+        ensures counts { SameCounts self.old.pass.now self.new.pass.now }
+        ensures tap { self.new.tap.now ≡ self.old.tap.now }
+        ensures left { Steps T.W.files self.old self.new None }
+    {
+        let (cache, pass) = (self.cache, &mut *self.pass);
+        pass.pinned.place(&cache.gate, self.waiter, key);
+    }
+
+    /// Whether the tile that stands first in the microcache is that of the cell. Where the world tells
+    /// it is where it has the cell's key.
+    fn is_latest(&self, cell: &CellAt) -> bool
+        requires cell { IsCellOf self.now.known.now cell.now }
+        ensures is { IsTrue result → StandsFirst cell.now self.now.pass.now.pinned.recent }
+        ensures told { IsTrue T.W.files.tells →
+            HasFirst cell.now.key self.now.pass.now.pinned.recent → IsTrue result }
+    {
+        // the record's layout is that of its bytes, and a tile of the key that of its cell
+        let _known = self.known.record();
+        let pass = &*self.pass;
+        pass.pinned.know();
+        pass.pinned.is_latest(cell)
+    }
+}

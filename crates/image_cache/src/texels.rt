@@ -1,0 +1,122 @@
+//! The texels of a record, as a lookup fetches them.
+ghost use Rattle.std.specs.Prelude.{◌≡◌, length, OnOk, IfErr};
+ghost use Rattle.std.specs.Option.{ForSome};
+ghost use Rattle.texel_filter.specs.Image.{IsInside, IsChannelCount, AreValues, texel_of};
+ghost use Rattle.texel_filter.specs.Square.{texels_of, HasSquare, AreCorners};
+ghost use Rattle.texel_filter.specs.Calls.{LeftBy};
+ghost use Rattle.image_cache.specs.Sizes.{sizes_known, values_known};
+ghost use Rattle.image_cache.specs.Fetches.{FetchesBy, RefusesBy};
+
+use crate::error::CacheError;
+use crate::reading::Reading;
+use tex_world::Tap;
+use texel_filter::{Corners, Fetch, Square};
+use texel_values::TexelAt;
+use waiter::Waiter;
+
+impl<'a, V: Waiter, T: Tap> Fetch for Reading<'a, V, T> {
+    ghost use Rattle.std.proofs.Common.{ap};
+
+    type Error = CacheError<V::Busy>;
+
+    ghost sizes = { λ r. sizes_known r.known.now };
+
+    ghost values = { λ r. values_known T.W.files r.known.now };
+
+    ghost leaves = { λ old texel new. FetchesBy T.W.files old texel new };
+
+    ghost refuses = { λ old texel e new. RefusesBy T.W.files old texel e new };
+
+    fn levels(&self) -> u32 {
+        self.known.levels()
+    }
+
+    fn size(&self, level: u32) -> (u32, u32) {
+        self.known.size(level)
+    }
+
+    fn texel(
+        &mut self,
+        level: u32,
+        x: u32,
+        y: u32,
+        out: &mut [u16],
+    ) -> Result<(), CacheError<V::Busy>> {
+        self.fetch_at(level, x, y, out)
+    }
+
+    #[inline(always)]
+    fn square(
+        &mut self,
+        square: &Square,
+        channels: usize,
+        out: &mut Corners,
+    ) -> Result<(), CacheError<V::Busy>> {
+        // all four from one cell of the microcache, or each from where it is
+        if self
+            .cache
+            .fetch_square_local(self.pass, self.known.record(), square, channels, out)
+        {
+            return Ok(());
+        }
+        self.fetch_four(square, channels, out)
+    }
+
+    ghost lawful = { record {
+      same_sizes = λ s t at p. ap sizes_known (ap (λ k. k.now) p.call.known);
+      same_values = λ s t at p. ap (values_known T.W.files) (ap (λ k. k.now) p.call.known);
+      sizes_refused = λ s t at e p. ap sizes_known (ap (λ k. k.now) p.call.known);
+      values_refused = λ s t at e p. ap (values_known T.W.files) (ap (λ k. k.now) p.call.known);
+    } };
+}
+
+impl<'a, V: Waiter, T: Tap> Reading<'a, V, T> {
+    /// Writes the first channels of a texel: from the microcache, else from the shards, else from
+    /// the file.
+    fn fetch_at(
+        &mut self,
+        level: u32,
+        x: u32,
+        y: u32,
+        out: &mut [u16],
+    ) -> Result<(), CacheError<V::Busy>>
+        requires inside { IsInside (sizes_known self.old.known.now) (texel_of level x y) }
+        requires channels { IsChannelCount (length out.old) }
+        ensures told { ForSome (values_known T.W.files self.old.known.now) (λ v.
+            OnOk result (AreValues (v level x y) out.new)) }
+        ensures ok { OnOk result (FetchesBy T.W.files self.old (texel_of level x y) self.new) }
+        ensures err { IfErr result (λ e.
+            RefusesBy T.W.files self.old (texel_of level x y) e self.new) }
+    {
+        let at = TexelAt { level, x, y };
+        let (cache, known) = (self.cache, self.known.record());
+        cache.fetch(self.waiter, self.pass, self.tap, known, at, out)
+    }
+
+    /// The same of the four texels of a square, one after another, the upper row first.
+    fn fetch_four(
+        &mut self,
+        square: &Square,
+        channels: usize,
+        out: &mut Corners,
+    ) -> Result<(), CacheError<V::Busy>>
+        requires inside { HasSquare (sizes_known self.old.known.now) square.now }
+        requires channels { IsChannelCount channels }
+        ensures told { ForSome (values_known T.W.files self.old.known.now) (λ v.
+            OnOk result (AreCorners v square.now channels out.new)) }
+        ensures left { LeftBy (FetchesBy T.W.files) (RefusesBy T.W.files)
+            self.old (texels_of square.now) self.new result }
+    {
+        let Square {
+            level,
+            left,
+            right,
+            top,
+            bottom,
+        } = *square;
+        self.fetch_at(level, left, top, &mut out.left_top[..channels])?;
+        self.fetch_at(level, right, top, &mut out.right_top[..channels])?;
+        self.fetch_at(level, left, bottom, &mut out.left_bottom[..channels])?;
+        self.fetch_at(level, right, bottom, &mut out.right_bottom[..channels])
+    }
+}
