@@ -80,19 +80,19 @@ module _ (files : Files) (asked : Option Asked) (old new : Around) (tells : IsTr
   no_cause NoMemory c low = absurd (omega (arith, low))
 
   none_fails : (ends : ℕ) (answered : IsAnswered files asked old new ends)
-      → NoneFails answered.list.answers.lines
+      → NoneFails answered.finishes.answers.lines
   none_fails ends answered = record {
     faults = omega (
       arith,
       calm.folder.same,
       calm.folder.short,
-      answered.list.answers.faults.by_n,
+      answered.finishes.answers.faults.by_n,
     );
     moves = omega (
       arith,
       calm.moves.same,
       calm.moves.short,
-      answered.list.answers.moves.by_n,
+      answered.finishes.answers.moves.by_n,
     );
   }
 

@@ -1,13 +1,14 @@
 -- What becomes of the workers between rounds?
 use Rattle.std.proofs.Common.{◌≡◌, ◌≢◌, ℕ, zero, suc, ◌+◌, ◌<◌, List, [], ◌∷◌, length, map, get_or, set}
-use Rattle.std.proofs.Common.{slice_index, refl, sym, ap, subst, ◌∙◌, arith, Result, Ok, Err, OnOk}
+use Rattle.std.proofs.Common.{refl, sym, ap, subst, ◌∙◌, arith, Result, Ok, Err, OnOk}
 use Rattle.std.specs.List.{All, sum_by}
 use Rattle.std.proofs.Math.Seq.{map-set_same, map-set}
 use Rattle.std.proofs.lemmas.List.{get_or-map, get_or_default, length-map, length-set}
-use Rattle.std.proofs.lemmas.List.Sums.{sum_by-set, sum_by-cons}
+use Rattle.std.proofs.lemmas.List.Sums.{sum_by-cons}
 use Rattle.render_run.specs.Around.{Sight, SourceState, sight_at, no_sight, source_of_crew}
 use Rattle.render_run.specs.Answering.{SeesNoLess}
-use Rattle.render_run.specs.Crew.{SeeNoLess, SightsOn, AreCarried}
+use Rattle.image_cache.specs.Pass.{PassState}
+use Rattle.render_run.specs.Crew.{GivesOn, SeeNoLess, SightsOn, AreCarried}
 use Rattle.render_run.proofs.Sums.{at_same, at_other}
 use mathlib.Core.Logic.{dite}
 use native.Mathlib.Decide.{ℕ_discrete}
@@ -31,93 +32,80 @@ gathered_more crew i a b so_far more here w low = dite (ℕ_discrete w i)
     (λ (e : w ≡ i). rw e here)
     (λ (ne : w ≢ i). λ n. let before = so_far w (omega arith) n in omega (arith, before, more n))
 
+-- a pass gave what it has seen on twice
+pub gives_more : (a b c : PassState) → GivesOn a b → GivesOn b c → GivesOn a c
+gives_more a b c first second = record {
+  seen = second.seen ∙ first.seen;
+  holds = second.holds ∙ first.holds;
+  tally = second.tally ∙ first.tally;
+}
+
 -- ---- one worker sees more
 
-same_source : (a b : SourceState) → a.faults ≡ b.faults → a.moves ≡ b.moves → a ≡ b
-same_source a b faults moves = rw (faults, moves) refl
+-- a worker has seen more, and then more
+on_more : (a b c : Sight) → SightsOn a b → SightsOn b c → SightsOn a c
+on_more a b c first second = record {
+  seen = λ n. omega (arith, first.seen n, second.seen n);
+  holds = second.holds ∙ first.holds;
+  tally = second.tally ∙ first.tally;
+  source = second.source ∙ first.source;
+}
 
 module _ (first crew : List Sight) (i : ℕ) (s : Sight) (low : i < length crew)
     (on : SightsOn (sight_at crew i) s) (kept : SeeNoLess first crew) where
-  sum_same : (f : Sight → ℕ) → f s ≡ f (sight_at crew i) → sum_by f (set crew i s) ≡ sum_by f crew
-  sum_same f same = omega (arith, sum_by-set f crew i s no_sight low, same)
-
   pub see_more : SeeNoLess first (set crew i s)
   see_more = record {
     count = length-set crew i s ∙ kept.count;
-    seen = λ w few. dite (ℕ_discrete w i)
-        (λ (e : w ≡ i). λ n. let before = kept.seen w few n in
-        let now : slice_index (sight_at (set crew i s) w).seen n ≡ slice_index s.seen n =
-        ap (λ (t : Sight). slice_index t.seen n)
-        (ap (sight_at (set crew i s)) e ∙ at_same crew i s low) in
-        let mid : slice_index (sight_at crew w).seen n ≡ slice_index (sight_at crew i).seen n =
-        ap (λ (v : ℕ). slice_index (sight_at crew v).seen n) e in
-        omega (arith, before, now, mid, on.seen n))
-        (λ (ne : w ≢ i). rw (at_other crew i w s ne) (kept.seen w few));
-    holds = λ w few. dite (ℕ_discrete w i)
-        (λ (e : w ≡ i). ap (λ (t : Sight). t.holds)
-        (ap (sight_at (set crew i s)) e ∙ at_same crew i s low)
-        ∙ on.holds ∙ ap (λ (v : ℕ). (sight_at crew v).holds) (sym e) ∙ kept.holds w few)
-        (λ (ne : w ≢ i). rw (at_other crew i w s ne) (kept.holds w few));
-    tally = λ w few. dite (ℕ_discrete w i)
-        (λ (e : w ≡ i). ap (λ (t : Sight). t.tally)
-        (ap (sight_at (set crew i s)) e ∙ at_same crew i s low)
-        ∙ on.tally ∙ ap (λ (v : ℕ). (sight_at crew v).tally) (sym e) ∙ kept.tally w few)
-        (λ (ne : w ≢ i). rw (at_other crew i w s ne) (kept.tally w few));
-    source =
-        same_source (source_of_crew (set crew i s)) (source_of_crew crew)
-        (sum_same (λ (t : Sight). t.source.faults) (ap (λ (x : SourceState). x.faults) on.source))
-        (sum_same (λ (t : Sight). t.source.moves) (ap (λ (x : SourceState). x.moves) on.source))
-        ∙ kept.source;
+    each = λ w few. dite (ℕ_discrete w i)
+        (λ (e : w ≡ i). rw (e, at_same crew i s low)
+        (on_more (sight_at first i) (sight_at crew i) s (kept.each i (omega (arith, few, e))) on))
+        (λ (ne : w ≢ i). rw (at_other crew i w s ne) (kept.each w few));
   }
 
 -- none sees less than itself
 pub see_same : (crew : List Sight) → SeeNoLess crew crew
 see_same crew = record {
   count = refl;
-  seen = λ w low n. omega arith;
-  holds = λ w low. refl;
-  tally = λ w low. refl;
-  source = refl;
+  each = λ w low. record { seen = λ n. omega arith; holds = refl; tally = refl; source = refl };
 }
+
+-- the taps together are as they were
+same_sum : (f : Sight → ℕ) (old new : List Sight) → length new ≡ length old
+    → ((w : ℕ) → w < length old → f (sight_at new w) ≡ f (sight_at old w))
+    → sum_by f new ≡ sum_by f old
+same_sum f [] [] count each = refl
+same_sum f [] (b ∷ new) count each = absurd (omega (arith, count))
+same_sum f (a ∷ old) [] count each = absurd (omega (arith, count))
+same_sum f (a ∷ old) (b ∷ new) count each =
+    omega (
+      arith,
+      sum_by-cons f b new,
+      sum_by-cons f a old,
+      each 0 (omega arith),
+      same_sum f old new (omega (arith, count)) (λ w low. each (suc w) (omega (arith, low))),
+    )
+
+pub crew_source : (old new : List Sight) → SeeNoLess old new
+    → source_of_crew new ≡ source_of_crew old
+crew_source old new kept =
+    rw (
+      same_sum (λ (t : Sight). t.source.faults) old new kept.count
+          (λ w low. ap (λ (x : SourceState). x.faults) (kept.each w low).source),
+      same_sum (λ (t : Sight). t.source.moves) old new kept.count
+          (λ w low. ap (λ (x : SourceState). x.moves) (kept.each w low).source),
+    ) refl
 
 -- ---- the first and the others
 
 module _ (f0 f1 : Sight) (o0 o1 : List Sight) (first : SightsOn f0 f1) (others : SeeNoLess o0 o1)
   where
+    by_each : (w : ℕ) → w < length (f0 ∷ o0)
+        → SightsOn (sight_at (f0 ∷ o0) w) (sight_at (f1 ∷ o1) w)
+    by_each zero low = first
+    by_each (suc w) low = others.each w (omega arith)
+
     pub both_see : SeeNoLess (f0 ∷ o0) (f1 ∷ o1)
-    both_see = record {
-      count = ap suc others.count;
-      seen = λ w. by_seen w;
-      holds = λ w. by_holds w;
-      tally = λ w. by_tally w;
-      source = same_source (source_of_crew (f1 ∷ o1)) (source_of_crew (f0 ∷ o0))
-          (sum_cons (λ (t : Sight). t.source.faults)
-          (ap (λ (x : SourceState). x.faults) first.source)
-          (ap (λ (x : SourceState). x.faults) others.source))
-          (sum_cons (λ (t : Sight). t.source.moves)
-          (ap (λ (x : SourceState). x.moves) first.source)
-          (ap (λ (x : SourceState). x.moves) others.source));
-    }
-      where
-        sum_cons : (f : Sight → ℕ) → f f1 ≡ f f0 → sum_by f o1 ≡ sum_by f o0
-            → sum_by f (f1 ∷ o1) ≡ sum_by f (f0 ∷ o0)
-        sum_cons f here there =
-            omega (arith, sum_by-cons f f1 o1, sum_by-cons f f0 o0, here, there)
-
-        by_seen : (w : ℕ) → w < length (f0 ∷ o0)
-            → SeesNoLess (sight_at (f0 ∷ o0) w).seen (sight_at (f1 ∷ o1) w).seen
-        by_seen zero low = first.seen
-        by_seen (suc w) low = others.seen w (omega arith)
-
-        by_holds : (w : ℕ) → w < length (f0 ∷ o0)
-            → (sight_at (f1 ∷ o1) w).holds ≡ (sight_at (f0 ∷ o0) w).holds
-        by_holds zero low = first.holds
-        by_holds (suc w) low = others.holds w (omega arith)
-
-        by_tally : (w : ℕ) → w < length (f0 ∷ o0)
-            → (sight_at (f1 ∷ o1) w).tally ≡ (sight_at (f0 ∷ o0) w).tally
-        by_tally zero low = first.tally
-        by_tally (suc w) low = others.tally w (omega arith)
+    both_see = record { count = ap suc others.count; each = λ w. by_each w }
 
     -- what the first has seen then has all of the others in it, and all of them have that
     pub both_carried : (seen : List ℕ) → SeesNoLess f0.seen seen

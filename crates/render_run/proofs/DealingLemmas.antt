@@ -77,10 +77,6 @@ abbrev pub DealtTo : List Request → ℕ → ℕ → Type 0
 DealtTo requests n texels = (workers round : ℕ) → places_from workers (fresh_round round) requests
     ≡ round_places workers round n ++ places_from workers (at round n texels) (drop n requests)
 
--- none is
-pub none_dealt : (requests : List Request) → DealtTo requests 0 0
-none_dealt requests workers round = refl
-
 module _ (requests : List Request) (n texels : ℕ) (d : Request) (lt : n < length requests)
     (so_far : DealtTo requests n texels) where
   -- the next request

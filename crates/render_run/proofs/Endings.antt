@@ -37,8 +37,8 @@ module _ (files : Files) (asked : Option Asked) (old new : Around) (ends : ℕ)
     answered = λ few. absurd (omega (arith, failed.as_failed));
     stopped = λ least most. absurd (omega (arith, failed.as_failed));
     cut = λ is. record {
-      failed = failed.cause;
-      part = inl (record { ending = ending; ended = ended; part = failed.part });
+      failed = failed.put.cause;
+      part = inl (record { ending = ending; ended = ended; part = failed.put.part });
     };
     short = λ is. absurd (omega (arith, failed.as_failed));
     statuses = omega (arith, failed.as_failed);

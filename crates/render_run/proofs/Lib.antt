@@ -9,10 +9,10 @@ mod TileLemmas
 mod Shares
 mod Sums
 mod CrewLemmas
-mod PassLemmas
 mod TallyLemmas
 mod VisitCounts
 mod NeedLemmas
+mod WorkerLemmas
 mod Naming
 mod OneMore
 mod Rounds

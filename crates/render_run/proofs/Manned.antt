@@ -1,38 +1,49 @@
 -- What becomes of the workers as they are made, and as their taps are given back?
-use Rattle.std.proofs.Common.{◌≡◌, ℕ, zero, suc, ◌+◌, List, [], ◌∷◌, ◌++◌, length, map, take, drop, refl, sym, ap, subst, ◌∙◌, arith}
+use Rattle.std.proofs.Common.{◌≡◌, ℕ, zero, suc, ◌+◌, List, [], ◌∷◌, ◌++◌, length, map, set, take, drop, refl, sym, ap, subst, ◌∙◌, arith}
 use Rattle.std.specs.List.{All, sum_by}
 use Rattle.std.proofs.Math.Seq.{take-append_seam}
 use Rattle.std.proofs.lemmas.List.{length-append, map-append}
-use Rattle.std.proofs.lemmas.List.Elements.{All-push, All-map}
+use Rattle.std.proofs.lemmas.List.Elements.{All-push, All-set, All-map}
 use Rattle.std.proofs.lemmas.List.Sums.{sum_by_push, sum_by-cons}
-use Rattle.tex_world.specs.Tap.{TapState, IsNew}
+use Rattle.tex_world.specs.Tap.{TapState}
 use Rattle.tex_world.specs.Folder.{FolderState, KeepsFiles, AfterBack}
 use Rattle.image_cache.specs.Pass.{CacheState, PassState, IsPassOf, IsFresh}
-use Rattle.render_run.specs.Around.{Sight, SourceState, source_of_crew, sight_of, no_sight}
+use Rattle.render_run.specs.declared.round.Post.{Post}
+use Rattle.render_run.specs.Around.{Sight, SourceState, source_of_crew, no_sight}
 use Rattle.render_run.specs.Around.{tally_of, no_tally}
-use Rattle.render_run.specs.Crew.{IsNewPost, AddsPost, MakesMore, GivesMore, AreIdle}
+use Rattle.render_run.specs.Crew.{IsNewPost, MakesMore, TakesBack, GivesMore, AreIdle}
+use Rattle.render_run.specs.Posts.{AddsPost, AreNew, ArePassesOf, sight, sights_of}
+use Rattle.render_run.specs.Written.{LeavesTaps}
 
 -- ---- made
 
-module _ {A : Type 0} (cache : CacheState) (pass_of : A → PassState) (tap_of : A → TapState)
-    (pass : PassState) (posts new : List A)
-    (adds : AddsPost pass posts new pass_of (λ p. IsNew (tap_of p))) where
+module _ {T W H : Type 0} (state : T → TapState) (cache : CacheState) where
   -- one more
-  pub posts_longer : length new ≡ length posts + 1
-  posts_longer = ap length adds.all ∙ length-append posts (adds.post ∷ [])
+  module _ (pass : PassState) (posts new : List (Post T W H))
+      (adds : AddsPost state pass posts new) where
+    pub posts_longer : length new ≡ length posts + 1
+    posts_longer = ap length adds.all ∙ length-append posts (adds.post ∷ [])
 
-  -- it is new as the others are
-  pub posts_more : IsPassOf cache pass → IsFresh pass
-      → All (λ p. IsNewPost cache (pass_of p) (tap_of p)) posts
-      → All (λ p. IsNewPost cache (pass_of p) (tap_of p)) new
-  posts_more of fresh all =
-      rw adds.all
-      (All-push (λ (p : A). IsNewPost cache (pass_of p) (tap_of p)) posts adds.post all
-      (record {
-        of = subst (IsPassOf cache) (sym adds.has) of;
-        fresh = subst IsFresh (sym adds.has) fresh;
-        unused = adds.so;
-      }))
+    -- it is new as the others are
+    pub posts_more : IsPassOf cache pass → IsFresh pass → AreNew state cache posts
+        → AreNew state cache new
+    posts_more of fresh all =
+        rw adds.all
+        (All-push (λ (p : Post T W H). IsNewPost cache p.worker.pass (state p.worker.tap)) posts
+        adds.post all
+        (record {
+          of = subst (IsPassOf cache) (sym adds.has) of;
+          fresh = subst IsFresh (sym adds.has) fresh;
+          unused = adds.unused;
+        }))
+
+  -- the first is as new as before
+  pub posts_split : (posts : List (Post T W H)) (post : Post T W H)
+      → IsNewPost cache post.worker.pass (state post.worker.tap) → AreNew state cache posts
+      → AreNew state cache (set posts 0 post)
+  posts_split posts post one all =
+      All-set (λ (p : Post T W H). IsNewPost cache p.worker.pass (state p.worker.tap)) posts 0 post
+      one all
 
 -- the files stay over two calls
 files_kept : (f0 f1 f2 : FolderState) → KeepsFiles f0 f1 → KeepsFiles f1 f2 → KeepsFiles f0 f2
@@ -77,29 +88,34 @@ sum_none f (x ∷ xs) all =
 same_tally : (pass : PassState) → IsFresh pass → tally_of pass ≡ no_tally
 same_tally pass fresh = rw (fresh.recent, fresh.needs, fresh.hits) refl
 
-module _ {A : Type 0} (cache : CacheState) (pass_of : A → PassState) (tap_of : A → TapState) where
+module _ {T W H : Type 0} (state : T → TapState) (cache : CacheState) where
   -- their taps have done nothing
-  pub crew_none : (posts : List A) → All (λ p. IsNewPost cache (pass_of p) (tap_of p)) posts
-      → source_of_crew (map (λ p. sight_of (pass_of p) (tap_of p)) posts) ≡ no_sight.source
+  pub crew_none : (posts : List (Post T W H)) → AreNew state cache posts
+      → source_of_crew (sights_of state posts) ≡ no_sight.source
   crew_none posts all =
       rw (
-        sum_none (λ (s : Sight). s.source.faults) (map (λ p. sight_of (pass_of p) (tap_of p)) posts)
-            (All-map (λ (s : Sight). s.source.faults ≡ 0) (λ p. sight_of (pass_of p) (tap_of p))
-            posts (λ k d lt. (all k d lt).unused.faults)),
-        sum_none (λ (s : Sight). s.source.moves) (map (λ p. sight_of (pass_of p) (tap_of p)) posts)
-            (All-map (λ (s : Sight). s.source.moves ≡ 0) (λ p. sight_of (pass_of p) (tap_of p))
-            posts (λ k d lt. (all k d lt).unused.moves)),
+        sum_none (λ (s : Sight). s.source.faults) (sights_of state posts)
+            (All-map (λ (s : Sight). s.source.faults ≡ 0) (λ p. sight state p.worker) posts
+            (λ k d lt. (all k d lt).unused.faults)),
+        sum_none (λ (s : Sight). s.source.moves) (sights_of state posts)
+            (All-map (λ (s : Sight). s.source.moves ≡ 0) (λ p. sight state p.worker) posts
+            (λ k d lt. (all k d lt).unused.moves)),
       ) refl
 
   -- they hold nothing and have counted nothing
-  pub crew_idle : (posts : List A) → All (λ p. IsNewPost cache (pass_of p) (tap_of p)) posts
-      → AreIdle (map (λ p. sight_of (pass_of p) (tap_of p)) posts)
+  pub crew_idle : (posts : List (Post T W H)) → AreNew state cache posts
+      → AreIdle (sights_of state posts)
   crew_idle [] all w = record { holds = refl; tally = refl }
   crew_idle (p ∷ ps) all zero = record {
     holds = ap length (all 0 p (omega arith)).fresh.holds;
-    tally = same_tally (pass_of p) (all 0 p (omega arith)).fresh;
+    tally = same_tally p.worker.pass (all 0 p (omega arith)).fresh;
   }
   crew_idle (p ∷ ps) all (suc w) = crew_idle ps (λ k d lt. all (suc k) d (omega arith)) w
+
+  -- the pass of each is one of the cache's
+  pub crew_passes : (posts : List (Post T W H)) → AreNew state cache posts
+      → ArePassesOf cache posts
+  crew_passes posts all = λ k d lt. (all k d lt).of
 
 -- what is written back behind so many is not kept
 pub written_back : {A : Type 0} (m : ℕ) (new old : List A) → m ≡ length new
@@ -155,3 +171,23 @@ module _ {A : Type 0} (sight : A → Sight) (all : ℕ) (whole : SourceState) (b
             );
         files = files_kept f0 f1 f2 so_far.files one.files;
       }
+
+-- as many taps came back as were made, and what else is told of the folder stays
+pub taps_back : (n : ℕ) (source : SourceState) (f0 f1 f2 : FolderState) → MakesMore n f0 f1
+    → TakesBack n source f1 f2 → LeavesTaps f0 f2
+taps_back n source f0 f1 f2 makes back = record {
+  folder = record {
+    entered = back.files.entered ∙ makes.files.entered;
+    mark = back.files.over ∙ makes.files.over;
+    faults = omega (arith, makes.faults, back.faults_later);
+    moves = omega (arith, makes.moves, back.moves_later);
+  };
+  back = record {
+    made = omega (arith, makes.made.later, back.made);
+    returned = omega (arith, back.returned.later, makes.returned);
+    alike = λ below under.
+        let rose = makes.made.by_n (omega (arith, back.made)) in
+        let fell = back.returned.by_n under in
+        omega (arith, rose, fell, back.made, makes.returned);
+  };
+}

@@ -1,10 +1,10 @@
 -- What a call of the cache leaves of what a worker has counted.
 use Rattle.std.proofs.Common.{◌≡◌, ℕ, zero, suc, ◌+◌, ◌-◌, ◌*◌, ◌/◌, ◌<◌, ◌≤◌, ◌==◌, Bool, true, false, List, [], ◌++◌}
 use Rattle.std.proofs.Common.{length, take, refl, sym, ap, subst, ◌∙◌, Option, Some, None, Result, Ok, Err}
-use Rattle.std.proofs.Common.{if◌then◌else◌, ℤ, pos, ◌+ℤ◌, arith}
+use Rattle.std.proofs.Common.{if◌then◌else◌, arith}
 use Rattle.std.specs.Prelude.{IsSomeAnd, IsSome, IfOk}
 use Rattle.std.specs.Option.{ForSome}
-use Rattle.std.proofs.lemmas.List.{length-map, length-append}
+use Rattle.std.proofs.lemmas.List.{length-map}
 use Rattle.std.proofs.Math.Seq.{take-append_seam}
 use Rattle.std.proofs.lemmas.List.FromFn.{length-map-range_with_len}
 use Rattle.std.proofs.Math.Nat.{mul-le-mul, mul-le-mul_left, add-mul, mul_comm}
@@ -33,7 +33,7 @@ use Rattle.image_cache.specs.Pass.{PassState}
 use Rattle.image_cache.specs.Call.{Needs, KeepsRecent, CountsOn, KeepsGiven}
 use Rattle.image_cache.specs.Cause.{KeepsRecentAt}
 use Rattle.image_cache.specs.Region.{ReadsRegion, area_keys}
-use Rattle.texture_sys.specs.Look.{sizes_by, sizes_in}
+use Rattle.image_cache.specs.Sizes.{sizes_by, sizes_in}
 use Rattle.texture_sys.specs.Needs.{look_keys_on, visits_on, NeedsCells}
 use Rattle.texture_sys.proofs.LookLemmas.{bad_layout}
 use Rattle.texture_sys.specs.Call.{IsLookedUp}
@@ -70,19 +70,6 @@ module _ (files : Files) (cut : Cut) (task : Task) (old new : Tally) (line : Ans
           needs = needs ∙ omega (arith, low.needs);
           hits = hits ∙ omega (arith, low.hits);
         });
-  }
-
-  -- the microcache was emptied
-  pub empties_tally : new.recent ≡ [] → new.needs ≡ old.needs → new.hits ≡ old.hits
-      → empties line ≡ true → TalliesAnswer files cut task old new line
-  empties_tally recent needs hits emptied = record {
-    needed = [];
-    are = none;
-    few = omega arith;
-    least = omega (arith, needs);
-    counts = λ tells calm low.
-        subst (λ (b : Bool). TalliesAs b [] old new) (sym emptied)
-        (refl, record { recent = recent; needs = needs; hits = hits });
   }
 
   -- it failed

@@ -25,6 +25,7 @@ use Rattle.render_run.specs.Crew.{AreCarried, SeeNoLess}
 use Rattle.render_run.specs.Answering.{AnswersTask, AnswersEach, AnswersInTurn, IsSeenOf, IsKnownTo}
 use Rattle.render_run.specs.Answering.{AreLinesSoFar}
 use Rattle.render_run.proofs.Sums.{at_same, at_other, crew_on, crew_cause}
+use Rattle.render_run.proofs.CrewLemmas.{crew_source}
 use Rattle.std.proofs.Math.Nat.{mod-lt}
 use Rattle.std.proofs.lemmas.Bool.{eq-eqb, ne_eqb}
 use Rattle.std.proofs.lemmas.List.{length-set}
@@ -281,53 +282,46 @@ module _ (setup : Setup) (round : ℕ) where
 
 module _ (setup : Setup) (front : List Request) (old : SourceState) (lines : List Line)
     (before after : List Sight) where
+  -- no worker sees less than before, and who knows a line has seen it
+  lines_then : (round : ℕ) → AreLinesSoFar setup front old 0 before lines → SeeNoLess before after
+      → All (λ line. (w : ℕ) → w < setup.workers → IsKnownTo round w line
+      → IsSeenOf (sight_at after w).seen line) lines → AreLinesSoFar setup front old round after lines
+  lines_then round told kept seen = record {
+    met = told.met;
+    fresh = told.fresh;
+    counted = told.counted;
+    faults = subst (λ (s : SourceState). RisesByAtLeast (read_faults lines) old.faults s.faults)
+        (sym (crew_source before after kept)) told.faults;
+    moves = subst (λ (s : SourceState). RisesByAtLeast (agains lines) old.moves s.moves)
+        (sym (crew_source before after kept)) told.moves;
+    workers = kept.count ∙ told.workers;
+    holds = λ w low. rw ((kept.each w (omega (arith, told.workers))).holds) (told.holds w low);
+    tallied = λ w low. rw ((kept.each w (omega (arith, told.workers))).tally) (told.tallied w low);
+    of_crew = told.of_crew;
+    few = told.few;
+    seen = seen;
+  }
+
   -- the rounds so far are known to all, once what each has seen was carried to every other
   pub lines_carried : (round : ℕ) → AreLinesSoFar setup front old 0 before lines
       → AreCarried before after → AreLinesSoFar setup front old round after lines
-  lines_carried round told carried = record {
-    met = told.met;
-    fresh = told.fresh;
-    counted = told.counted;
-    faults = subst (λ (s : SourceState). RisesByAtLeast (read_faults lines) old.faults s.faults)
-        (sym carried.kept.source) told.faults;
-    moves = subst (λ (s : SourceState). RisesByAtLeast (agains lines) old.moves s.moves)
-        (sym carried.kept.source) told.moves;
-    workers = carried.kept.count ∙ told.workers;
-    holds = λ w low. rw (carried.kept.holds w (omega (arith, told.workers))) (told.holds w low);
-    tallied = λ w low. rw (carried.kept.tally w (omega (arith, told.workers))) (told.tallied w low);
-    of_crew = told.of_crew;
-    few = told.few;
-    seen = λ k d lt w low known n is g late.
-        let own = told.of_crew k d lt in
-        let saw = told.seen k d lt (get_or lines k d).place.worker own (inr refl) n is g late in
-        omega (
-          arith,
-          saw,
-          carried.carried (get_or lines k d).place.worker w (omega (arith, told.workers))
-              (omega (arith, told.workers)) n,
-        );
-  }
+  lines_carried round told carried = lines_then round told carried.kept
+      (λ k d lt w low known n is g late.
+      let own = told.of_crew k d lt in
+      let saw = told.seen k d lt (get_or lines k d).place.worker own (inr refl) n is g late in
+      omega (
+        arith,
+        saw,
+        carried.carried (get_or lines k d).place.worker w (omega (arith, told.workers))
+            (omega (arith, told.workers)) n,
+      ))
 
-  -- no worker sees less than before
   pub lines_kept : AreLinesSoFar setup front old 0 before lines → SeeNoLess before after
       → AreLinesSoFar setup front old 0 after lines
-  lines_kept told kept = record {
-    met = told.met;
-    fresh = told.fresh;
-    counted = told.counted;
-    faults = subst (λ (s : SourceState). RisesByAtLeast (read_faults lines) old.faults s.faults)
-        (sym kept.source) told.faults;
-    moves = subst (λ (s : SourceState). RisesByAtLeast (agains lines) old.moves s.moves)
-        (sym kept.source) told.moves;
-    workers = kept.count ∙ told.workers;
-    holds = λ w low. rw (kept.holds w (omega (arith, told.workers))) (told.holds w low);
-    tallied = λ w low. rw (kept.tally w (omega (arith, told.workers))) (told.tallied w low);
-    of_crew = told.of_crew;
-    few = told.few;
-    seen = λ k d lt w low known n is g late.
-        let saw = told.seen k d lt w low known n is g late in
-        omega (arith, saw, kept.seen w (omega (arith, told.workers)) n);
-  }
+  lines_kept told kept = lines_then 0 told kept
+      (λ k d lt w low known n is g late.
+      let saw = told.seen k d lt w low known n is g late in
+      omega (arith, saw, (kept.each w (omega (arith, told.workers))).seen n))
 
 -- each worker knows its own lines
 pub lines_own : (setup : Setup) (front : List Request) (old : SourceState) (round : ℕ)

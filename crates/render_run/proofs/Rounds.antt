@@ -1,12 +1,11 @@
 -- One round more is answered and written.
 use Rattle.std.proofs.Common.{◌≡◌, ℕ, ◌+◌, ◌*◌, ◌%◌, ◌<◌, ◌≤◌, min, Bool, true, false, List, [], ◌∷◌, ◌++◌}
-use Rattle.std.proofs.Common.{ltb, eqb, nat_lt, inl, inr, length, map, take, drop, get_or, Some, refl, sym, ap}
+use Rattle.std.proofs.Common.{eqb, nat_lt, inl, inr, length, map, take, drop, get_or, Some, refl, sym, ap}
 use Rattle.std.proofs.Common.{subst, ◌∙◌, append_assoc, count_by, if◌then◌else◌, arith}
 use Rattle.std.specs.List.{All, flat_map}
 use Rattle.std.proofs.Math.Seq.{take-add, take-append_seam, drop-append_seam}
 use Rattle.std.proofs.lemmas.List.{append-nil, map-append, length-map, length-append, length-take}
 use Rattle.std.proofs.lemmas.List.{length-drop, drop-drop}
-use Rattle.std.proofs.lemmas.Bool.{ltb-true, ltb-false}
 use Rattle.std.proofs.lemmas.List.Concat.{flat_map-append}
 use Rattle.std.proofs.lemmas.List.Elements.{All-append, All-map}
 use Rattle.std.proofs.lemmas.List.FromFn.{length-map-range_with_len}
@@ -15,7 +14,7 @@ use Rattle.std.proofs.lemmas.List.{get_or-map}
 use Rattle.std.proofs.lemmas.List.Sums.{sum_by_push, sum_by-append, sum_by-cons, sum_by-le, sum_by-le-sum_by}
 use Rattle.tex_world.specs.Tap.{TapState}
 use Rattle.texel_values.specs.Region.{max_texels}
-use Rattle.image_cache.specs.Pass.{PassState, max_count}
+use Rattle.image_cache.specs.Pass.{max_count}
 use Rattle.request_lang.specs.declared.closing.Counts.{Counts}
 use Rattle.request_lang.specs.Closing.{closing_lines}
 use Rattle.request_lang.specs.Grammar.{max_requests}
@@ -23,42 +22,30 @@ use Rattle.request_lang.specs.declared.request.Request.{Request}
 use Rattle.request_lang.specs.declared.answer.Answer.{Answer}
 use Rattle.request_lang.specs.Basis.{is_refusal}
 use Rattle.request_lang.specs.Line.{line_of}
-use Rattle.tex_world.specs.Counts.{Rises, last_count}
-use Rattle.tex_world.specs.Stream.{Appends, AppendsPart}
-use Rattle.render_run.specs.Around.{SourceState, SinkState, Sight, Progress, Setup, progress_of}
-use Rattle.render_run.specs.Around.{source_of_crew, sight_at, sight_of, no_sight, counts_of}
-use Rattle.render_run.specs.Crew.{AreCarried, AreIdle, SeeNoLess}
-use Rattle.render_run.specs.Question.{task_of}
+use Rattle.tex_world.specs.Stream.{Appends}
+use Rattle.tex_world.specs.World.{Files}
+use Rattle.tex_world.specs.Folder.{FolderState}
+use Rattle.render_run.specs.declared.round.Post.{Post}
+use Rattle.render_run.specs.Around.{SourceState, SinkState, Sight, Progress, Setup, Terms}
+use Rattle.render_run.specs.Around.{progress_of, setup_of, source_of_crew, sight_at, no_sight}
+use Rattle.render_run.specs.Around.{counts_of}
+use Rattle.render_run.specs.Crew.{AnswersRound, AreIdle, SeeNoLess}
+use Rattle.render_run.specs.Posts.{all_counts, progress_by, sight, sights_of}
 use Rattle.render_run.specs.Dealing.{Place, place, fresh_round, places_from, places_of}
 use Rattle.render_run.specs.Dealing.{round_places, IsRound, AreWholeRounds}
 use Rattle.render_run.specs.Reply.{Line}
 use Rattle.render_run.specs.Held.{one_if}
 use Rattle.render_run.specs.Counted.{needs_by, hits_by, AreCountsOf, no_counts}
-use Rattle.render_run.specs.Run.{Answers, Closes, lines_text, refusals}
-use Rattle.render_run.specs.Page.{Passes, PassesPart, outgoing_of}
-use Rattle.render_run.specs.Written.{Finishes, PartWritten, RoundsWritten}
-use Rattle.render_run.specs.Answering.{AnswersInTurn, SoFar, answers_text}
+use Rattle.render_run.specs.Run.{Answers, Closes, Finishes, PartWritten, RoundsWritten}
+use Rattle.render_run.specs.Run.{lines_text, refusals}
+use Rattle.render_run.specs.Page.{Passes, PutsPart, outgoing_of}
+use Rattle.render_run.specs.Answering.{AreInTurn, SoFar, answers_text, in_turn}
 use Rattle.render_run.proofs.DealingLemmas.{later_rounds}
-use Rattle.render_run.proofs.Passing.{passes_more, passes_part, rest_part}
+use Rattle.render_run.proofs.Passing.{none_passed, passes_more, passes_part, rest_part}
 use Rattle.render_run.proofs.TallyLemmas.{none_tallied}
 use Rattle.render_run.proofs.CrewLemmas.{one_of}
 use Rattle.render_run.proofs.OneMore.{placed, round_more, placed_places, placed_answers}
 use Rattle.render_run.proofs.OneMore.{placed_rounds, Turns, lines_carried, lines_kept, lines_own}
-
--- a count that has risen since has risen from a lower one on
-pub rises_from : (a b c : ℕ) → a ≤ b → Rises b c → Rises a c
-rises_from a b c low rises = record {
-  later = omega (arith, low, rises.later);
-  rose = λ below. by_test (ltb b last_count) refl below;
-}
-  where
-    by_test : (t : Bool) → ltb b last_count ≡ t → a < last_count → a < c
-    by_test true is below =
-        let here : b < last_count = ltb-true b last_count is in
-        let risen = rises.rose here in omega (arith, low, risen)
-    by_test false is below =
-        let here : last_count ≤ b = ltb-false b last_count is in
-        omega (arith, rises.later, here, below)
 
 -- before the first round
 pub none_yet : (setup : Setup) (requests : List Request) (crew : List Sight) (old : Progress)
@@ -89,11 +76,7 @@ none_yet setup requests crew old count idle from = record {
   places = refl;
   rounds = λ k d lt. absurd (omega arith);
   count = refl;
-  written = record {
-    put = [];
-    all = refl;
-    appended = λ bytes is. is ∙ ap Some (sym (append-nil bytes));
-  };
+  written = none_passed (outgoing_of [] old.sink);
   refusal = refl;
 }
 
@@ -142,26 +125,59 @@ module _ (setup : Setup) (round : ℕ) (rs : List Request) (answers : List Answe
       ∙ ap length (placed_places setup round 0 rs answers before after turns)
       ∙ length-map-range_with_len (λ k. place round (k % setup.workers)) 0 (length rs)
 
-module _ (setup : Setup) (requests : List Request) (done count : ℕ) (known before after : List Sight)
-    (old mid new : Progress) (p1 p2 : List ℕ) (refused said both : ℕ) (answers : List Answer)
-    (some : 0 < setup.workers) (carried : AreCarried known before) where
+-- what holds of a round of so many workers and requests holds of as many
+pub round_at : (files : Files) (folder : FolderState) (terms : Terms) (m n a count : ℕ)
+    (requests : List Request) (lists : List (List Answer)) (known after : List Sight) → m ≡ n
+    → a ≡ count
+    → AnswersRound (setup_of files folder terms m) (take a requests) lists known after
+    → AnswersRound (setup_of files folder terms n) (take count requests) lists known after
+round_at files folder terms m n a count requests lists known after crew size round =
+    subst (λ (k : ℕ). AnswersRound (setup_of files folder terms k) (take count requests) lists
+    known after) crew
+    (subst (λ (k : ℕ). AnswersRound (setup_of files folder terms m) (take k requests) lists known
+    after) size round)
+
+-- the requests of a round are so many
+round_long : (done count : ℕ) (requests : List Request) → done + count ≤ length requests
+    → length (take count (drop done requests)) ≡ count
+round_long done count requests within =
+    omega (arith, length-take count (drop done requests), length-drop done requests, within)
+
+-- each answer of a round is there
+pub there_at : (setup : Setup) (done count n : ℕ) (requests : List Request)
+    (lists : List (List Answer)) (known after : List Sight) → done + count ≤ length requests
+    → n ≡ setup.workers
+    → AnswersRound setup (take count (drop done requests)) lists known after
+    → AreInTurn n count lists
+there_at setup done count n requests lists known after within crew round =
+    rw crew (subst (λ (k : ℕ). AreInTurn setup.workers k lists)
+    (round_long done count requests within) round.there)
+
+module _ (setup : Setup) (requests : List Request) (done count n : ℕ) (known after : List Sight)
+    (old mid new : Progress) (p1 p2 : List ℕ) (refused said both : ℕ)
+    (lists : List (List Answer)) (some : 0 < setup.workers) (crew : n ≡ setup.workers)
+    (round_is : AnswersRound setup (take count (drop done requests)) lists known after) where
   -- one round more
   pub rounds_more : SoFar setup requests done known old mid p1 refused
       → IsRound (drop done requests) count → done + count ≤ length requests
-      → AnswersInTurn setup.files setup.terms setup.workers 0
-      (map (task_of setup.number_of) (take count (drop done requests))) answers before after
-      → Passes (answers_text answers) (outgoing_of p1 mid.sink) (outgoing_of p2 new.sink)
-      → said ≡ count_by is_refusal answers → both ≡ refused + said
+      → Passes (answers_text (in_turn n 0 count lists)) (outgoing_of p1 mid.sink)
+      (outgoing_of p2 new.sink)
+      → said ≡ count_by is_refusal (in_turn n 0 count lists) → both ≡ refused + said
       → SoFar setup requests (done + count) after old new p2 both
-  rounds_more so_far is_round within turns passes told either =
+  rounds_more so_far is_round within passes told either =
       let rs = take count (drop done requests) in
+      let long : length rs ≡ count = round_long done count requests within in
+      let before = round_is.before in
+      let answers = in_turn n 0 count lists in
+      let same : in_turn setup.workers 0 (length rs) lists ≡ answers = rw (crew, long) refl in
+      let turns : Turns setup so_far.round 0 rs answers before after =
+      subst (λ (xs : List Answer). Turns setup so_far.round 0 rs xs before after) same
+      round_is.turns in
       let lines = so_far.lines in
       let round = so_far.round in
       let more = placed setup round 0 rs answers before after turns in
       let w = setup.workers in
       let next = fresh_round (round + 1) in
-      let long : length rs ≡ count =
-      omega (arith, length-take count (drop done requests), length-drop done requests, within) in
       let total : length lines ≡ done = so_far.count in
       record {
         lines = lines ++ more;
@@ -171,7 +187,7 @@ module _ (setup : Setup) (requests : List Request) (done count : ℕ) (known bef
             (lines_own setup (take done requests ++ rs) old.source round after (lines ++ more)
             (round_more setup round old.source (take done requests) lines 0 rs answers before
             after some (lines_carried setup (take done requests) old.source lines known before
-            round so_far.so_far carried) turns));
+            round so_far.so_far round_is.carried) turns));
         places =
             so_far.places
             ∙ ap (λ (ps : List Place). map (λ (l : Line). l.place) lines ++ ps)
@@ -290,33 +306,33 @@ waiting text page sink = record {
   put = [];
   all = refl;
   appended = λ held is. is ∙ ap Some (sym (append-nil held));
+  faults = omega arith;
 }
 
-module _ (setup : Setup) (requests : List Request) (done count : ℕ) (known before after : List Sight)
+module _ (setup : Setup) (requests : List Request) (done count n : ℕ) (known after : List Sight)
     (old mid : Progress) (last : SinkState) (page : List ℕ) (refused : ℕ)
-    (answers : List Answer) (some : 0 < setup.workers) (carried : AreCarried known before) where
+    (lists : List (List Answer)) (some : 0 < setup.workers) (crew : n ≡ setup.workers)
+    (round_is : AnswersRound setup (take count (drop done requests)) lists known after) where
   -- a first part of the lines of one round more
   pub rounds_part : SoFar setup requests done known old mid page refused
       → IsRound (drop done requests) count → done + count ≤ length requests
-      → AnswersInTurn setup.files setup.terms setup.workers 0
-      (map (task_of setup.number_of) (take count (drop done requests))) answers before after
-      → PassesPart (answers_text answers) (outgoing_of page mid.sink) last.holds
-      → Rises old.sink.faults last.faults
+      → PutsPart (page ++ answers_text (in_turn n 0 count lists)) mid.sink last
       → PartWritten setup requests old (progress_of (source_of_crew after) last)
-  rounds_part so_far is_round within turns part cause =
-      let both = refused + count_by is_refusal answers in
+  rounds_part so_far is_round within part =
+      let answers = in_turn n 0 count lists in
+      let said = count_by is_refusal answers in
       let waits = page ++ answers_text answers in
-      let more = rounds_more setup requests done count known before after old mid mid page waits
-      refused (count_by is_refusal answers) both answers some carried so_far is_round within turns
+      let more = rounds_more setup requests done count n known after old mid mid page waits refused
+      said (refused + said) lists some crew round_is so_far is_round within
       (waiting (answers_text answers) page mid.sink) refl refl in
       record {
         count = done + count;
-        answers = answered_so_far setup requests (done + count) after old mid waits both more;
+        answers = answered_so_far setup requests (done + count) after old mid waits
+            (refused + said) more;
         closing = [];
         closes = inl refl;
-        part = rw (append-nil (lines_text more.lines)) (rest_part (lines_text more.lines) (outgoing_of [] old.sink)
-            (outgoing_of waits mid.sink) last.holds more.written part);
-        cause = cause;
+        put = rw (append-nil (lines_text more.lines)) (rest_part (lines_text more.lines)
+            (outgoing_of [] old.sink) (outgoing_of waits mid.sink) last more.written part);
       }
 
 module _ (setup : Setup) (requests : List Request) (done : ℕ) (crew : List Sight) (old mid : Progress)
@@ -341,16 +357,15 @@ module _ (setup : Setup) (requests : List Request) (done : ℕ) (crew : List Sig
   }
 
   -- a first part of them
-  pub rounds_cut : AppendsPart page mid.sink.holds last.holds → Rises old.sink.faults last.faults
+  pub rounds_cut : PutsPart page mid.sink last
       → PartWritten setup requests old (progress_of (source_of_crew crew) last)
-  rounds_cut part cause = record {
+  rounds_cut part = record {
     count = done;
     answers = answered_so_far setup requests done crew old mid page refused so_far;
     closing = [];
     closes = inl refl;
-    part = rw (append-nil (lines_text so_far.lines)) (rest_part (lines_text so_far.lines)
-        (outgoing_of [] old.sink) (outgoing_of page mid.sink) last.holds so_far.written part);
-    cause = cause;
+    put = rw (append-nil (lines_text so_far.lines)) (rest_part (lines_text so_far.lines)
+        (outgoing_of [] old.sink) (outgoing_of page mid.sink) last so_far.written part);
   }
 
 -- ---- the lines that close a run
@@ -408,44 +423,39 @@ module _ (setup : Setup) (requests : List Request) (crew : List Sight) (old mid 
             };
       }
 
-module _ {A : Type 0} (pass_of : A → PassState) (tap_of : A → TapState) (posts : List A)
-    (setup : Setup) (requests : List Request) (old mid : Progress) (page : List ℕ) (refused : ℕ)
+module _ {T W H : Type 0} (state : T → TapState) (posts : List (Post T W H)) (setup : Setup)
+    (requests : List Request) (old mid : Progress) (page : List ℕ) (refused : ℕ)
     (some : 0 < length posts)
-    (so_far : SoFar setup requests (length requests)
-    (map (λ p. sight_of (pass_of p) (tap_of p)) posts) old mid page refused)
+    (so_far : SoFar setup requests (length requests) (sights_of state posts) old mid page refused)
     (short : length requests ≤ max_requests)
-    (few : All (λ p. (pass_of p).hits ≤ (pass_of p).needs) posts) where
+    (few : All (λ p. p.worker.pass.hits ≤ p.worker.pass.needs) posts) where
   -- the text of the lines that close the run
   abbrev text : List ℕ
-  text = closing_lines (map (λ p. counts_of (pass_of p)) posts) (length requests) refused
+  text = closing_lines (all_counts posts) (length requests) refused
 
   count : length posts ≡ setup.workers
-  count =
-      sym (length-map posts (λ p. sight_of (pass_of p) (tap_of p))) ∙ so_far.so_far.workers
+  count = sym (length-map posts (λ p. sight state p.worker)) ∙ so_far.so_far.workers
 
   closes_so_far : Closes setup.files setup.workers so_far.lines text
   closes_so_far = record {
-    counts = map (λ p. counts_of (pass_of p)) posts;
-    each = length-map posts (λ p. counts_of (pass_of p)) ∙ count;
+    counts = all_counts posts;
+    each = length-map posts (λ p. counts_of p.worker.pass) ∙ count;
     counted = λ w low.
         let d = one_of posts some in
         let here : w < length posts = omega (arith, low, count) in
-        let sight = get_or-map (λ p. sight_of (pass_of p) (tap_of p)) posts w d no_sight here in
-        rw (get_or-map (λ p. counts_of (pass_of p)) posts w d no_counts here)
-        (counts_told setup requests (map (λ p. sight_of (pass_of p) (tap_of p)) posts) old mid page
-        refused so_far short w low (counts_of (pass_of (get_or posts w d))) (few w d here)
-        (sym (ap (λ (s : Sight). s.tally.needs) sight))
-        (sym (ap (λ (s : Sight). s.tally.hits) sight)));
+        let sight_is = get_or-map (λ p. sight state p.worker) posts w d no_sight here in
+        rw (get_or-map (λ p. counts_of p.worker.pass) posts w d no_counts here)
+        (counts_told setup requests (sights_of state posts) old mid page refused so_far short w low
+        (counts_of (get_or posts w d).worker.pass) (few w d here)
+        (sym (ap (λ (s : Sight). s.tally.needs) sight_is))
+        (sym (ap (λ (s : Sight). s.tally.hits) sight_is)));
     tells = rw (so_far.count, ← so_far.refusal) refl;
   }
 
   module _ (last : SinkState) where
     -- all of a list
     pub rounds_finish : (p2 : List ℕ) → Passes text (outgoing_of page mid.sink) (outgoing_of p2 last)
-        → p2 ≡ []
-        → Finishes setup requests old
-        (progress_of (source_of_crew (map (λ p. sight_of (pass_of p) (tap_of p)) posts)) last)
-        (nat_lt 0 refused)
+        → p2 ≡ [] → Finishes setup requests old (progress_by state posts last) (nat_lt 0 refused)
     rounds_finish p2 passes empty = record {
       answers = answered_so_far setup requests (length requests) _ old mid page refused so_far;
       closing = text;
@@ -460,18 +470,15 @@ module _ {A : Type 0} (pass_of : A → PassState) (tap_of : A → TapState) (pos
     }
 
     -- a first part of the lines that close it
-    pub close_cut : PassesPart text (outgoing_of page mid.sink) last.holds
-        → Rises old.sink.faults last.faults
-        → PartWritten setup requests old
-        (progress_of (source_of_crew (map (λ p. sight_of (pass_of p) (tap_of p)) posts)) last)
-    close_cut part cause = record {
+    pub close_cut : PutsPart (page ++ text) mid.sink last
+        → PartWritten setup requests old (progress_by state posts last)
+    close_cut part = record {
       count = length requests;
       answers = answered_so_far setup requests (length requests) _ old mid page refused so_far;
       closing = text;
       closes = inr (refl, closes_so_far);
-      part = passes_part (lines_text so_far.lines) text (outgoing_of [] old.sink)
-          (outgoing_of page mid.sink) last.holds so_far.written part;
-      cause = cause;
+      put = passes_part (lines_text so_far.lines) text (outgoing_of [] old.sink)
+          (outgoing_of page mid.sink) last so_far.written part;
     }
 
 -- where no round more was begun, though what was seen was carried

@@ -340,11 +340,10 @@ module _ {A : Type 0} (sight : A → Sight) (answers_of : A → List Answer) (fi
         ← b_is,
       ) each
 
-module _ {A : Type 0} (sight : A → Sight) (answers_of : A → List Answer) (files : Files) (terms : Terms)
-    (tasks : List Task) (n count : ℕ) (before after : List A) (many : length before ≡ n)
-    (left : length after ≡ n) (some : 0 < n) (size : length tasks ≡ count)
-    (shares : AnswersShares files terms tasks (map answers_of after) (map sight before)
-    (map sight after)) where
+module _ {A : Type 0} (sight : A → Sight) (files : Files) (terms : Terms) (tasks : List Task)
+    (lists : List (List Answer)) (n count : ℕ) (before after : List A) (many : length before ≡ n)
+    (some : 0 < n) (size : length tasks ≡ count)
+    (shares : AnswersShares files terms tasks lists (map sight before) (map sight after)) where
   crew : length (map sight before) ≡ n
   crew = length-map before sight ∙ many
 
@@ -352,26 +351,19 @@ module _ {A : Type 0} (sight : A → Sight) (answers_of : A → List Answer) (fi
   crew_some = omega (arith, crew, some)
 
   -- they answered in turn
-  pub turns_taken : AnswersInTurn files terms n 0 tasks
-      (in_turn (length after) 0 count (map answers_of after)) (map sight before)
-      (map sight after)
+  pub turns_taken : AnswersInTurn files terms n 0 tasks (in_turn n 0 count lists)
+      (map sight before) (map sight after)
   turns_taken =
-      subst (λ (m : ℕ). AnswersInTurn files terms n 0 tasks
-      (in_turn (length after) 0 m (map answers_of after)) (map sight before)
-      (map sight after)) size
-      (subst (λ (m : ℕ). AnswersInTurn files terms n 0 tasks
-      (in_turn m 0 (length tasks) (map answers_of after)) (map sight before)
-      (map sight after)) (sym left)
-      (subst (λ (m : ℕ). AnswersInTurn files terms m 0 tasks
-      (in_turn m 0 (length tasks) (map answers_of after)) (map sight before)
-      (map sight after)) crew
-      (shares_in_turn files terms tasks (map answers_of after) (map sight before)
-      (map sight after) crew_some shares)))
+      subst (λ (m : ℕ). AnswersInTurn files terms n 0 tasks (in_turn n 0 m lists)
+      (map sight before) (map sight after)) size
+      (subst (λ (m : ℕ). AnswersInTurn files terms m 0 tasks (in_turn m 0 (length tasks) lists)
+      (map sight before) (map sight after)) crew
+      (shares_in_turn files terms tasks lists (map sight before) (map sight after) crew_some
+      shares))
 
   -- each answer is there
-  pub turns_there : AreInTurn (length after) count (map answers_of after)
+  pub turns_there : AreInTurn n count lists
   turns_there =
-      subst (λ (m : ℕ). AreInTurn (length after) m (map answers_of after)) size
-      (subst (λ (m : ℕ). AreInTurn m (length tasks) (map answers_of after)) (crew ∙ sym left)
-      (shares_there files terms tasks (map answers_of after) (map sight before)
-      (map sight after) crew_some shares))
+      subst (λ (m : ℕ). AreInTurn n m lists) size
+      (subst (λ (m : ℕ). AreInTurn m (length tasks) lists) crew
+      (shares_there files terms tasks lists (map sight before) (map sight after) crew_some shares))

@@ -1,10 +1,9 @@
 -- Reading a feed piece by piece.
-use Rattle.std.proofs.Common.{◌≡◌, ℕ, ◌+◌, ◌<◌, ◌≤◌, List, [], ◌++◌, length, take, drop}
+use Rattle.std.proofs.Common.{◌≡◌, ℕ, ◌+◌, ◌≤◌, List, [], ◌++◌, length, take, drop}
 use Rattle.std.proofs.Common.{Option, Some, sym, ap, ◌∙◌, arith}
 use Rattle.std.proofs.Math.Seq.{take-add}
 use Rattle.std.proofs.lemmas.List.{take_all, drop-drop, length-take, length-drop, length-append}
 use Rattle.tex_world.specs.Stream.{Feeds}
-use Rattle.request_lang.specs.Grammar.{max_list_bytes}
 use Rattle.render_run.specs.ListRead.{IsTaken, IsRead}
 
 -- nothing is left behind the bytes
@@ -34,14 +33,6 @@ taken_end bytes buf n old mid new taken feeds ended = record {
     none_more left is =
         feeds.rest (drop (length bytes) left) (taken.rest left is)
         ∙ ap (λ (k : ℕ). Some (drop k (drop (length bytes) left))) ended
-
--- more bytes than a list has
-pub taken_many : (bytes : List ℕ) (old new : Option (List ℕ)) → IsTaken bytes old new
-    → max_list_bytes < length bytes → IsRead bytes old new
-taken_many bytes old new taken many = record {
-  taken = taken;
-  to_end = λ few. absurd (omega (arith, few));
-}
 
 -- one piece more
 pub taken_more : (bytes buf : List ℕ) (n : ℕ) (old mid new : Option (List ℕ))

@@ -1,7 +1,8 @@
 -- What does a cell that is held, or refused, say of the line that it is answered with?
-use Rattle.std.proofs.Common.{◌≡◌, ◌<◌, ◌++◌, ◌∷◌, [], ℕ, List, length, get_or, Option, Some, None, Result, Ok, Err, Bool, true, false}
+use Rattle.std.proofs.Common.{◌≡◌, ◌+◌, ◌<◌, ◌≤◌, ◌++◌, ◌∷◌, [], ℕ, List, length, get_or, Option, Some, None, Result, Ok, Err, Bool, true, false}
 use Rattle.std.proofs.Common.{inl, inr, refl, sym, ap, ◌∙◌, arith, IsTrue}
 use Rattle.std.specs.Prelude.{IsOkAnd, IsSomeAnd, IfSome, slice_get}
+use Rattle.std.specs.List.{remove}
 use Rattle.std.proofs.lemmas.List.{length_push, get_or_push}
 use Rattle.std.proofs.lemmas.Option.{slice_get-get_or}
 use Rattle.tex_world.specs.World.{Files, IsWorld}
@@ -151,3 +152,23 @@ module _ (files : Files) (file : ℕ) (cut : Cut) (old new : PassState) (at : Te
     pub tile_reply : KeepsGiven files file cut old new generation (HoldsCell files at old new)
         → IsReplyOf files cut file (Hold at) generation (line.Held generation rect)
     tile_reply given = by_held new.latest given
+
+-- where none is held none is let go of
+pub none_gone : (old new : List CachedTile) → length old ≤ 0 → new ≡ old → new ≡ remove old 0
+none_gone [] new none same = same
+none_gone (tile ∷ tiles) new none same = absurd (omega arith)
+
+-- a tile more is held
+one_held : (files : Files) (file : ℕ) (cut : Cut) (at : TexelAt) (old new : PassState) (generation : ℕ)
+    (kept : Option RecordState) → IsSomeAnd kept (λ r. GivesRecord files file cut old.view new.view r
+    × (r.generation ≡ generation) × HoldsCell files at old new r)
+    → length new.pinned.holds ≡ length old.pinned.holds + 1
+one_held files file cut at old new generation None given = absurd given
+one_held files file cut at old new generation (Some r) (gives, of, holds) =
+    ap length holds.held ∙ length_push old.pinned.holds holds.tile
+
+pub holds_more : (files : Files) (file : ℕ) (cut : Cut) (at : TexelAt) (old new : PassState)
+    (generation : ℕ) → KeepsGiven files file cut old new generation (HoldsCell files at old new)
+    → length new.pinned.holds + 0 ≡ length old.pinned.holds + 1
+holds_more files file cut at old new generation given =
+    omega (arith, one_held files file cut at old new generation new.latest given)

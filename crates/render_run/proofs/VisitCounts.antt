@@ -1,5 +1,5 @@
 -- How many texels does a lookup visit at most?
-use Rattle.std.proofs.Common.{◌≡◌, ℕ, zero, suc, ◌+◌, ◌*◌, ◌≤◌, ◌==◌, Bool, true, false, List, ◌++◌}
+use Rattle.std.proofs.Common.{ℕ, zero, suc, ◌+◌, ◌*◌, ◌≤◌, ◌==◌, Bool, true, false, List, ◌++◌}
 use Rattle.std.proofs.Common.{length, Option, Some, None, if◌then◌else◌, ℤ, pos, ◌+ℤ◌, arith}
 use Rattle.std.proofs.lemmas.List.{length-append}
 use Rattle.texel_filter.specs.declared.request.TexRequest.{TexRequest}

@@ -1,21 +1,24 @@
 -- What does a worker leave of what it sees, and how far has answering a list come?
 use Rattle.std.specs.Prelude.{◌≡◌, ◌⊎◌, ℕ, zero, suc, ◌+◌, ◌-◌, ◌/◌, ◌%◌, ◌<◌, ◌≤◌, List, [], ◌∷◌, ◌++◌}
 use Rattle.std.specs.Prelude.{length, slice_index, slice_index_or, slice_set}
-use Rattle.std.specs.Prelude.{map, take, drop, Option, Some, IsTrue, ⊤}
+use Rattle.std.specs.Prelude.{map, take, drop, Option, Some, IsSome, ⊤}
 use Rattle.std.specs.Option.{ForSome}
 use Rattle.std.specs.List.{All, AllPairs, flat_map}
 use Rattle.tex_world.specs.Counts.{Rises, RisesByAtLeast}
 use Rattle.tex_world.specs.World.{Files, IsFile}
+use Rattle.tex_world.specs.Folder.{FolderState}
 use Rattle.texel_values.specs.Region.{max_texels}
 use Rattle.request_lang.specs.declared.request.Request.{Request}
 use Rattle.request_lang.specs.declared.answer.Answer.{Answer}
 use Rattle.request_lang.specs.declared.answer.Answer.TheVariants.{Synced}
 use Rattle.request_lang.specs.Line.{line_of}
+use Rattle.request_lang.specs.Grammar.{max_requests}
+use Rattle.image_cache.specs.Pass.{CacheState}
 use Rattle.request_lang.specs.Basis.{Basis, OnNewer, OnFault, basis_of, latest}
 use Rattle.render_run.specs.declared.question.Task.{Task}
 use Rattle.render_run.specs.Around.{SourceState, Sight, Terms, Progress, Setup, sight_at}
 use Rattle.render_run.specs.Around.{source_of_crew}
-use Rattle.render_run.specs.Question.{AsksWell, file_in}
+use Rattle.render_run.specs.Question.{AsksWell, AreGivenOf, MayAsk, file_in}
 use Rattle.render_run.specs.Dealing.{fresh_round, places_from, places_of}
 use Rattle.render_run.specs.Reply.{Line, MeetsTask, MeetsAll}
 use Rattle.render_run.specs.Fresh.{IsFresher, KeepsFresh}
@@ -67,6 +70,12 @@ pub record MayBeGiven (files : Files) (count : ℕ) (task : Task) : Type 0 where
   pub file : ForSome (file_in task) (IsFile files)
   pub asked : AsksWell task
 
+-- These tasks are given of requests to a folder, and each may be.
+pub record AreDealt (files : Files) (folder : FolderState) (requests : List Request)
+    (tasks : List Task) : Type 0 where
+  pub may : All (MayBeGiven files folder.size) tasks
+  pub are : AreGivenOf folder.number_of requests tasks
+
 -- each of so many files is one of the world's
 abbrev pub AreFiles : Files → ℕ → Type 0
 AreFiles files count = (file : ℕ) → file < count → IsFile files file
@@ -114,6 +123,15 @@ abbrev pub answers_text : List Answer → List ℕ
 answers_text answers = flat_map line_of answers
 
 -- ---- so many requests
+
+-- A list of requests may be answered: the folder was entered, its files are those of the cache, each
+-- request may be asked, and they are no more than a list may have.
+pub record MayBeAnswered (folder : FolderState) (cache : CacheState) (requests : List Request)
+    : Type 0 where
+  pub entered : IsSome folder.entered
+  pub files : cache.files.board.files ≡ folder.size
+  pub asked : All MayAsk requests
+  pub few : length requests ≤ max_requests
 
 -- what was seen of its file is not older than the line
 abbrev pub IsSeenOf : List ℕ → Line → Type 0

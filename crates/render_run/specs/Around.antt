@@ -2,6 +2,7 @@
 use Rattle.std.specs.Prelude.{ℕ, ◌/◌, List, [], Option, length, slice_index_or}
 use Rattle.std.specs.List.{sum_by}
 use Rattle.tex_world.specs.World.{Files}
+use Rattle.tex_world.specs.declared.sink.Sink as a_sink
 use Rattle.tex_world.specs.Tap.{TapState}
 use Rattle.tex_world.specs.Folder.{FolderState}
 use Rattle.tiff_format.specs.declared.cut.Cut.{Cut}
@@ -33,6 +34,10 @@ feed_state faults left feed = record { faults = faults feed; left = left feed }
 -- what is known of a sink by its ghost members
 abbrev pub sink_state : {O : Type 0} → (O → ℕ) → (O → Option (List ℕ)) → O → SinkState
 sink_state faults holds sink = record { faults = faults sink; holds = holds sink }
+
+-- the same by the members as one
+abbrev pub sink_of : {O : Type 0} → a_sink.Ghosts O → O → SinkState
+sink_of s sink = sink_state s.faults s.holds sink
 
 -- the source that a folder is, with the taps that came back to it
 abbrev pub source_of_folder : FolderState → SourceState

@@ -39,5 +39,5 @@ pub record NoneFails (lines : List Line) : Type 0 where
 abbrev pub Completes : Files → Option Asked → Around → Around → ℕ → Type 0
 Completes files asked old new ends =
     ((ends ≤ status.with_refusals) × ((answered : IsAnswered files asked old new ends)
-    × NoneFails answered.list.answers.lines))
+    × NoneFails answered.finishes.answers.lines))
     ⊎ (ends ≡ status.no_memory)

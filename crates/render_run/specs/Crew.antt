@@ -1,5 +1,5 @@
 -- What do the workers of a round leave, each with its own share?
-use Rattle.std.specs.Prelude.{◌≡◌, ℕ, ◌+◌, ◌<◌, ◌≤◌, min, List, [], ◌∷◌, ◌++◌, length, slice_index_or}
+use Rattle.std.specs.Prelude.{◌≡◌, ℕ, ◌+◌, ◌<◌, ◌≤◌, min, List, [], length, map, slice_index_or}
 use Rattle.tex_world.specs.Counts.{last_count}
 use Rattle.tex_world.specs.World.{Files}
 use Rattle.tex_world.specs.Tap.{TapState, IsNew}
@@ -8,9 +8,12 @@ use Rattle.image_cache.specs.Pass.{CacheState, PassState, IsPassOf, IsFresh}
 use Rattle.image_cache.specs.Invalid.{RisesBy}
 use Rattle.request_lang.specs.declared.answer.Answer.{Answer}
 use Rattle.render_run.specs.declared.question.Task.{Task}
-use Rattle.render_run.specs.Around.{SourceState, Sight, Terms, sight_at, source_of_crew}
+use Rattle.request_lang.specs.declared.request.Request.{Request}
+use Rattle.render_run.specs.Question.{task_of}
+use Rattle.render_run.specs.Around.{SourceState, Setup, Sight, Terms, sight_at}
 use Rattle.render_run.specs.Around.{tally_of, no_tally}
-use Rattle.render_run.specs.Answering.{AnswersEach, SeesNoLess, share_of}
+use Rattle.render_run.specs.Answering.{AnswersEach, AnswersInTurn, AreInTurn, SeesNoLess}
+use Rattle.render_run.specs.Answering.{in_turn, share_of}
 
 -- the most workers
 abbrev pub max_workers : ℕ
@@ -33,6 +36,12 @@ pub record SeesOn (old new : PassState) : Type 0 where
   pub holds : new.pinned.holds ≡ old.pinned.holds
   pub tally : tally_of new ≡ tally_of old
 
+-- A pass has seen the same as before, holds the same tiles and has counted the same.
+pub record GivesOn (old new : PassState) : Type 0 where
+  pub seen : new.view.seen ≡ old.view.seen
+  pub holds : new.pinned.holds ≡ old.pinned.holds
+  pub tally : tally_of new ≡ tally_of old
+
 -- A worker sees no less of a file than before. What it holds, what it has counted and its tap are as
 -- before.
 pub record SightsOn (old new : Sight) : Type 0 where
@@ -41,20 +50,27 @@ pub record SightsOn (old new : Sight) : Type 0 where
   pub tally : new.tally ≡ old.tally
   pub source : new.source ≡ old.source
 
--- No worker sees less of a file than before. What they hold, what they have counted and their taps
--- are as before.
+-- So it is of each worker.
 pub record SeeNoLess (old new : List Sight) : Type 0 where
   pub count : length new ≡ length old
-  pub seen : (w : ℕ) → w < length old → SeesNoLess (sight_at old w).seen (sight_at new w).seen
-  pub holds : (w : ℕ) → w < length old → (sight_at new w).holds ≡ (sight_at old w).holds
-  pub tally : (w : ℕ) → w < length old → (sight_at new w).tally ≡ (sight_at old w).tally
-  pub source : source_of_crew new ≡ source_of_crew old
+  pub each : (w : ℕ) → w < length old → SightsOn (sight_at old w) (sight_at new w)
 
 -- The same, and what each worker has seen was carried to every other.
 pub record AreCarried (old new : List Sight) : Type 0 where
   pub kept : SeeNoLess old new
   pub carried : (v w : ℕ) → v < length old → w < length old
       → SeesNoLess (sight_at old v).seen (sight_at new w).seen
+
+-- A round of these requests was answered: what each worker had seen was carried to every other, and
+-- then all answered in turn. Each has its own answers in a list.
+pub record AnswersRound (setup : Setup) (requests : List Request) (lists : List (List Answer))
+    (old new : List Sight) : Type 0 where
+  pub before : List Sight
+  pub carried : AreCarried old before
+  pub there : AreInTurn setup.workers (length requests) lists
+  pub turns : AnswersInTurn setup.files setup.terms setup.workers 0
+      (map (task_of setup.number_of) requests)
+      (in_turn setup.workers 0 (length requests) lists) before new
 
 -- ---- the taps
 
@@ -63,14 +79,6 @@ pub record IsNewPost (cache : CacheState) (pass : PassState) (tap : TapState) : 
   pub of : IsPassOf cache pass
   pub fresh : IsFresh pass
   pub unused : IsNew tap
-
--- One worker more stands behind the others: it has this pass, and is so.
-pub record AddsPost {A : Type 0} (pass : PassState) (old new : List A) (pass_of : A → PassState)
-    (IsSo : A → Type 0) : Type 0 where
-  pub post : A
-  pub all : new ≡ old ++ post ∷ []
-  pub has : pass_of post ≡ pass
-  pub so : IsSo post
 
 -- So many taps were made of a folder, and nothing else changed that is told of its taps.
 pub record MakesMore (n : ℕ) (old new : FolderState) : Type 0 where

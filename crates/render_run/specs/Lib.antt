@@ -16,4 +16,5 @@ pub mod Complete
 pub mod Page
 pub mod Answering
 pub mod Crew
+pub mod Posts
 pub mod Written

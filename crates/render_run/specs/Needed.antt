@@ -16,8 +16,8 @@ use Rattle.image_cache.specs.Texel.{cell_of}
 use Rattle.texture_sys.specs.declared.lookup_request.LookupRequest.{LookupRequest}
 use Rattle.texture_sys.specs.declared.lookup_request.LookupRequest.TheVariants.{Point, Footprint}
 use Rattle.texture_sys.specs.Asked.{asked_visits}
-use Rattle.texture_sys.specs.Look.{sizes_in}
-use Rattle.texture_sys.specs.Needs.{at_of}
+use Rattle.image_cache.specs.Sizes.{sizes_in}
+use Rattle.image_cache.specs.Fetches.{at_of}
 use Rattle.request_lang.specs.declared.answer.Answer.{Answer}
 use Rattle.request_lang.specs.declared.answer.Answer.TheVariants.{Tex, Texd, Pixels}
 use Rattle.request_lang.specs.declared.answer.Answer.TheVariants.{Invalidated, Renewed}

@@ -11,8 +11,9 @@ use Rattle.command_line.specs.Invocation.{Asked}
 use Rattle.request_lang.specs.declared.request.Request.{Request}
 use Rattle.render_run.specs.declared.prepare.Ending.{Ending}
 use Rattle.render_run.specs.Status as status
-use Rattle.render_run.specs.Around.{SourceState, Around, Inputs, Setup, inputs_of, setup_of}
-use Rattle.render_run.specs.Around.{source_of_folder, terms_for}
+use Rattle.render_run.specs.Around.{SourceState, Around, Inputs, Progress, Setup, inputs_of}
+use Rattle.render_run.specs.Around.{setup_of, progress_of, source_of_folder, terms_for}
+use Rattle.render_run.specs.Page.{PutsPart}
 use Rattle.request_lang.specs.Line.{line_of}
 use Rattle.request_lang.specs.Basis.{is_refusal, basis_of, is_fault, is_move}
 use Rattle.render_run.specs.Dealing.{AreWholeRounds, places_of}
@@ -71,55 +72,86 @@ pub record Closes (files : Files) (workers : ℕ) (lines : List Line) (text : Li
       → AreCountsOf files.tells w lines (slice_index_or counts w no_counts)
   pub tells : text ≡ closing_lines counts (length lines) (refusals lines)
 
+-- ---- what was written of a list
+
+-- All of the list was answered and written, with the lines that close a run, and some line is a
+-- refusal, or none.
+pub record Finishes (setup : Setup) (requests : List Request) (old new : Progress) (refused : Bool)
+    : Type 0 where
+  pub answers : Answers setup requests (length requests) old.source new.source
+  pub closing : List ℕ
+  pub closes : Closes setup.files setup.workers answers.lines closing
+  pub written : Appends (lines_text answers.lines ++ closing) old.sink.holds new.sink.holds
+  pub refusal : refused ≡ some_refused answers.lines
+
+-- A first part of the lines for some first requests, or, behind those for all, of the lines that
+-- close a run, was written before the sink failed.
+pub record PartWritten (setup : Setup) (requests : List Request) (old new : Progress)
+    : Type 0 where
+  pub count : ℕ
+  pub answers : Answers setup requests count old.source new.source
+  pub closing : List ℕ
+  pub closes : (closing ≡ []) ⊎ ((count ≡ length requests)
+      × Closes setup.files setup.workers answers.lines closing)
+  pub put : PutsPart (lines_text answers.lines ++ closing) old.sink new.sink
+
+-- The lines of some first rounds were written, whole.
+pub record RoundsWritten (setup : Setup) (requests : List Request) (old new : Progress)
+    : Type 0 where
+  pub count : ℕ
+  pub answers : Answers setup requests count old.source new.source
+  pub whole : AreWholeRounds (places_of setup.workers requests) count
+  pub written : Appends (lines_text answers.lines) old.sink.holds new.sink.holds
+
 -- ---- the top call
 
 -- the folder and the feed around the call
 abbrev pub inputs_in : Around → Inputs
 inputs_in around = inputs_of around.folder around.feed
 
+-- how far answering has come: at the source that the folder is, and the sink
+abbrev pub progress_in : Around → Progress
+progress_in around = progress_of (source_of_folder around.folder) around.sink
+
+-- what a list is answered over: the files of the folder, under these options
+abbrev pub setup_in : Files → Around → Options → Setup
+setup_in files around options =
+    setup_of files around.folder (terms_for options) options.workers
+
 -- as many taps were made as there are workers
 abbrev pub MakesTaps : ℕ → FolderState → FolderState → Type 0
 MakesTaps workers old new = RisesBy workers old.made new.made
 
--- The folder of the path was entered, the feed was read to its end, its bytes are a list, and so many
--- requests of it were answered over the files of the folder, under the options that were asked for,
--- by each worker through a tap of its own.
-pub record AnswersList (files : Files) (asked : Option Asked) (old new : Around) : Type 0 where
+-- The folder of the path was entered, the feed was read to its end, and its bytes are a list of these
+-- requests, to be answered under the options that were asked for.
+pub record IsListed (asked : Option Asked) (old new : Around) : Type 0 where
   pub options : Options
   pub asked_for : HasOptions asked options
   pub requests : List Request
   pub prepared : IsPrepared (path_in asked) (inputs_in old) (inputs_in new) requests
-  pub count : ℕ
-  pub answers : Answers (setup_of files new.folder (terms_for options) options.workers) requests
-      count (source_of_folder old.folder) (source_of_folder new.folder)
 
--- All of the list was answered and written, with the lines that close a run. The status tells whether
--- some line is a refusal.
+-- All of the list was answered and written, by each worker through a tap of its own. The status tells
+-- whether some line is a refusal.
 pub record IsAnswered (files : Files) (asked : Option Asked) (old new : Around) (ends : ℕ)
     : Type 0 where
-  pub list : AnswersList files asked old new
-  pub all : list.count ≡ length list.requests
-  pub closing : List ℕ
-  pub closes : Closes files list.options.workers list.answers.lines closing
-  pub written : Appends (lines_text list.answers.lines ++ closing) old.sink.holds new.sink.holds
-  pub refusal : ends ≡ (if some_refused list.answers.lines then status.with_refusals
-      else status.all_answered)
+  pub list : IsListed asked old new
+  pub refused : Bool
+  pub finishes : Finishes (setup_in files new list.options) list.requests (progress_in old)
+      (progress_in new) refused
+  pub of_status : ends ≡ (if refused then status.with_refusals else status.all_answered)
   pub made : MakesTaps list.options.workers old.folder new.folder
 
--- A first part of the lines for some first requests of a list was written, or, behind the lines for
--- all of them, of those that close the run.
+-- Of the lines for a list a first part was written.
 pub record ListPart (files : Files) (asked : Option Asked) (old new : Around) : Type 0 where
-  pub list : AnswersList files asked old new
-  pub closing : List ℕ
-  pub closes : (closing ≡ []) ⊎ ((list.count ≡ length list.requests)
-      × Closes files list.options.workers list.answers.lines closing)
-  pub part : AppendsPart (lines_text list.answers.lines ++ closing) old.sink.holds new.sink.holds
+  pub list : IsListed asked old new
+  pub part : PartWritten (setup_in files new list.options) list.requests (progress_in old)
+      (progress_in new)
 
--- The lines of some first rounds of a list were written, whole.
+-- Of the lines for a list those of some first rounds were written, whole.
 pub record ListRounds (files : Files) (asked : Option Asked) (old new : Around) : Type 0 where
-  pub list : AnswersList files asked old new
-  pub whole : AreWholeRounds (places_of list.options.workers list.requests) list.count
-  pub written : Appends (lines_text list.answers.lines) old.sink.holds new.sink.holds
+  pub list : IsListed asked old new
+  pub rounds : RoundsWritten (setup_in files new list.options) list.requests (progress_in old)
+      (progress_in new)
 
 -- No list was answered: an ending has its cause, and its text was written.
 pub record Stops (files : Files) (path : Option (List ℕ)) (old new : Around) (ends : ℕ)

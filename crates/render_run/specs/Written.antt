@@ -1,9 +1,8 @@
 -- What is written for an ending, and what is left around a call?
-use Rattle.std.specs.Prelude.{◌≡◌, ◌⊎◌, ℕ, ◌≤◌, Bool, List, [], ◌++◌, length, if◌then◌else◌}
+use Rattle.std.specs.Prelude.{◌≡◌, ◌⊎◌, ℕ, ◌≤◌, Bool, List, if◌then◌else◌}
 use Rattle.std.specs.Prelude.{Result, Ok, Err}
-use Rattle.tex_world.specs.Counts.{Rises}
 use Rattle.tex_world.specs.Folder.{FolderState}
-use Rattle.tex_world.specs.Stream.{Appends, AppendsPart}
+use Rattle.tex_world.specs.Stream.{Appends}
 use Rattle.render_run.specs.declared.prepare.Ending.{Ending}
 use Rattle.render_run.specs.declared.prepare.Ending.TheVariants as ending
 use Rattle.render_run.specs.Status as status
@@ -12,8 +11,8 @@ use Rattle.render_run.specs.declared.answering.Unfinished.{Unfinished}
 use Rattle.render_run.specs.declared.answering.Unfinished.TheVariants.{NotWritten}
 use Rattle.render_run.specs.declared.answering.Unfinished.TheVariants as unfinished
 use Rattle.render_run.specs.Around.{SinkState, Setup, Sight, Progress}
-use Rattle.render_run.specs.Dealing.{AreWholeRounds, places_of}
-use Rattle.render_run.specs.Run.{Answers, Closes, lines_text, some_refused}
+use Rattle.render_run.specs.Page.{PutsPart}
+use Rattle.render_run.specs.Run.{Finishes, PartWritten, RoundsWritten, GivesTapsBack}
 use Rattle.render_run.specs.Answering.{SoFar}
 use Rattle.render_run.specs.Ending.{status_of, ending_text}
 
@@ -25,11 +24,10 @@ pub record TextWritten (text : List ℕ) (wanted : ℕ) (old new : SinkState) (e
   pub as_wanted : ends ≡ wanted
   pub all : Appends text old.holds new.holds
 
--- the sink failed: its faults rose, and a first part of the text was written
+-- the sink failed behind a first part of the text
 pub record SinkFails (text : List ℕ) (old new : SinkState) (ends : ℕ) : Type 0 where
   pub as_failed : ends ≡ status.not_written
-  pub cause : Rises old.faults new.faults
-  pub part : AppendsPart text old.holds new.holds
+  pub put : PutsPart text old new
 
 -- no memory was found, and nothing was written
 pub record LacksMemory (old new : SinkState) (ends : ℕ) : Type 0 where
@@ -52,60 +50,13 @@ EndedAs e old new ends = StatusWritten (ending_text e) (status_of e) old new end
 
 -- ---- the lines of a list
 
--- All of the list was answered and written, with the lines that close a run, and some line is a
--- refusal, or none.
-pub record Finishes (setup : Setup) (requests : List Request) (old new : Progress) (refused : Bool)
-    : Type 0 where
-  pub answers : Answers setup requests (length requests) old.source new.source
-  pub closing : List ℕ
-  pub closes : Closes setup.files setup.workers answers.lines closing
-  pub written : Appends (lines_text answers.lines ++ closing) old.sink.holds new.sink.holds
-  pub refusal : refused ≡ some_refused answers.lines
+-- What was written of a list, by whether it was answered to its end.
+abbrev pub Leaves : Setup → List Request → Progress → Progress → Result Bool Unfinished → Type 0
+Leaves setup requests old new (Ok refused) = Finishes setup requests old new refused
+Leaves setup requests old new (Err NotWritten) = PartWritten setup requests old new
+Leaves setup requests old new (Err unfinished.NoMemory) = RoundsWritten setup requests old new
 
--- All of the list was answered and written, with the lines that close a run. The status tells whether
--- some line is a refusal.
-pub record AnswersAll (setup : Setup) (requests : List Request) (old new : Progress) (ends : ℕ)
-    : Type 0 where
-  pub answers : Answers setup requests (length requests) old.source new.source
-  pub closing : List ℕ
-  pub closes : Closes setup.files setup.workers answers.lines closing
-  pub written : Appends (lines_text answers.lines ++ closing) old.sink.holds new.sink.holds
-  pub refusal : ends ≡ (if some_refused answers.lines then status.with_refusals
-      else status.all_answered)
-
--- A first part of the lines for some first requests, or, behind those for all, of the lines that
--- close a run, was written before the sink failed.
-pub record PartWritten (setup : Setup) (requests : List Request) (old new : Progress)
-    : Type 0 where
-  pub count : ℕ
-  pub answers : Answers setup requests count old.source new.source
-  pub closing : List ℕ
-  pub closes : (closing ≡ []) ⊎ ((count ≡ length requests)
-      × Closes setup.files setup.workers answers.lines closing)
-  pub part : AppendsPart (lines_text answers.lines ++ closing) old.sink.holds new.sink.holds
-  pub cause : Rises old.sink.faults new.sink.faults
-
--- The lines of some first rounds were written, whole.
-pub record RoundsWritten (setup : Setup) (requests : List Request) (old new : Progress)
-    : Type 0 where
-  pub count : ℕ
-  pub answers : Answers setup requests count old.source new.source
-  pub whole : AreWholeRounds (places_of setup.workers requests) count
-  pub written : Appends (lines_text answers.lines) old.sink.holds new.sink.holds
-
--- what was written where a list is not answered to its end
-abbrev pub LeavesUnfinished : Setup → List Request → Progress → Progress → Unfinished → Type 0
-LeavesUnfinished setup requests old new NotWritten = PartWritten setup requests old new
-LeavesUnfinished setup requests old new unfinished.NoMemory =
-    RoundsWritten setup requests old new
-
--- the same, or nothing was written where no memory was found for the workers
-abbrev pub LeavesEarly : Setup → List Request → Progress → Progress → Unfinished → Type 0
-LeavesEarly setup requests old new NotWritten = PartWritten setup requests old new
-LeavesEarly setup requests old new unfinished.NoMemory =
-    (new.sink.holds ≡ old.sink.holds) ⊎ RoundsWritten setup requests old new
-
--- the same, where the lines of whole rounds still wait on the page
+-- The same where it was not, and the lines of whole rounds still wait on the page.
 abbrev pub EndsEarly : Setup → List Request → List Sight → Progress → Progress → List ℕ → Unfinished
     → Type 0
 EndsEarly setup requests crew old new page NotWritten = PartWritten setup requests old new
@@ -120,11 +71,6 @@ list_status (Err unfinished.NoMemory) = status.no_memory
 
 -- ---- after the answers
 
--- the status of an answered list, of a sink that failed, or of want of memory
-abbrev pub IsAnswerStatus : ℕ → Type 0
-IsAnswerStatus ends =
-    (ends ≤ status.with_refusals) ⊎ ((ends ≡ status.not_written) ⊎ (ends ≡ status.no_memory))
-
 -- the folder that was entered stays, and the mark for too many files
 pub record KeepsEntered (old new : FolderState) : Type 0 where
   pub entered : new.entered ≡ old.entered
@@ -138,3 +84,8 @@ pub record KeepsTaps (old new : FolderState) : Type 0 where
   pub returned : new.returned ≡ old.returned
   pub faults : old.faults ≤ new.faults
   pub moves : new.moves ≡ old.moves
+
+-- The folder that was entered stays, and each tap that was made of it was given back.
+pub record LeavesTaps (old new : FolderState) : Type 0 where
+  pub folder : KeepsEntered old new
+  pub back : GivesTapsBack old new

@@ -1,12 +1,11 @@
 //! The lines that close a run.
 
-ghost use Rattle.std.specs.Prelude.{◌≡◌, ◌≤◌, [], length, map, OnOk, OnErr};
+ghost use Rattle.std.specs.Prelude.{◌≡◌, ◌≤◌, [], length, OnOk};
 ghost use Rattle.std.specs.List.{All};
-ghost use Rattle.tex_world.specs.Counts.{Rises};
 ghost use Rattle.request_lang.specs.Closing.{closing_lines, worker_lines};
-ghost use Rattle.render_run.specs.Around.{sink_state, counts_of};
 ghost use Rattle.render_run.specs.Crew.{max_workers};
-ghost use Rattle.render_run.specs.Page.{outgoing_of, Passes, PassesPart};
+ghost use Rattle.render_run.specs.Page.{outgoing, PassesOn};
+ghost use Rattle.render_run.specs.Posts.{all_counts};
 
 use crate::page::Page;
 use crate::round::Post;
@@ -23,17 +22,10 @@ pub(crate) fn close<T: Tap, O: Sink>(
     refused: usize,
     out: &mut O,
 ) -> Result<(), Failed>
-    requires crew { length posts.now ≤ max_workers }
-    ensures ok { OnOk result (Passes
-        (closing_lines (map (λ p. counts_of p.worker.pass) posts.now) total refused)
-        (outgoing_of page.old (sink_state O.faults O.holds out.old))
-        (outgoing_of page.new (sink_state O.faults O.holds out.new))) }
+    requires { length posts.now ≤ max_workers }
+    ensures passed { PassesOn (closing_lines (all_counts posts.now) total refused)
+        (outgoing O.Sink page.old out.old) (outgoing O.Sink page.new out.new) result }
     ensures empty { OnOk result (page.new ≡ []) }
-    ensures part { OnErr result (PassesPart
-        (closing_lines (map (λ p. counts_of p.worker.pass) posts.now) total refused)
-        (outgoing_of page.old (sink_state O.faults O.holds out.old)) (O.holds out.new)) }
-    ensures faults { O.faults out.old ≤ O.faults out.new }
-    ensures cause { OnErr result (Rises (O.faults out.old) (O.faults out.new)) }
     ensures few { All (λ p. p.worker.pass.hits ≤ p.worker.pass.needs) posts.now }
 {
     know_counts(posts);
@@ -61,16 +53,9 @@ fn pass_workers<T: Tap, O: Sink>(
     posts: &[Post<T>],
     out: &mut O,
 ) -> Result<(), Failed>
-    requires crew { length posts.now ≤ max_workers }
-    ensures ok { OnOk result (Passes
-        (worker_lines 0 (map (λ p. counts_of p.worker.pass) posts.now))
-        (outgoing_of page.old (sink_state O.faults O.holds out.old))
-        (outgoing_of page.new (sink_state O.faults O.holds out.new))) }
-    ensures part { OnErr result (PassesPart
-        (worker_lines 0 (map (λ p. counts_of p.worker.pass) posts.now))
-        (outgoing_of page.old (sink_state O.faults O.holds out.old)) (O.holds out.new)) }
-    ensures faults { O.faults out.old ≤ O.faults out.new }
-    ensures cause { OnErr result (Rises (O.faults out.old) (O.faults out.new)) }
+    requires { length posts.now ≤ max_workers }
+    ensures { PassesOn (worker_lines 0 (all_counts posts.now))
+        (outgoing O.Sink page.old out.old) (outgoing O.Sink page.new out.new) result }
 {
     for w in 0..posts.len() {
         let pass = &posts[w].worker.pass;

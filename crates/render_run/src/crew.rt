@@ -1,18 +1,17 @@
 //! The workers of a run: each has a pass and a tap of its own. Between rounds what each has seen is
 //! carried to every other.
 
-ghost use Rattle.std.specs.Prelude.{◌≡◌, ◌+◌, ℕ, ◌<◌, ◌≤◌, [], length, map, min};
+ghost use Rattle.std.specs.Prelude.{◌≡◌, ℕ, ◌<◌, ◌≤◌, [], length};
 ghost use Rattle.std.specs.Prelude.{IfOk, OnOk, OnErr};
 ghost use Rattle.tex_world.specs.Folder.{AfterBack};
-ghost use Rattle.std.specs.List.{All, sum_by};
-ghost use Rattle.tex_world.specs.Counts.{last_count};
-ghost use Rattle.tex_world.specs.Tap.{IsNew};
+ghost use Rattle.std.specs.List.{All};
 ghost use Rattle.image_cache.specs.Pass.{IsPassOf, IsFresh};
-ghost use Rattle.image_cache.specs.Invalid.{RisesBy};
-ghost use Rattle.render_run.specs.Around.{sight_of, sight_at, tally_of, source_of_crew};
+ghost use Rattle.render_run.specs.Around.{source_of_crew};
 ghost use Rattle.render_run.specs.Answering.{SeesNoLess};
 ghost use Rattle.render_run.specs.Crew.{IsNewPost, SeeNoLess, SeesOn, SightsOn, AreCarried};
-ghost use Rattle.render_run.specs.Crew.{AddsPost, MakesMore, TakesBack};
+ghost use Rattle.render_run.specs.Crew.{GivesOn, MakesMore, TakesBack};
+ghost use Rattle.render_run.specs.Posts.{AddsPost, ArePassesOf, AreNew, sight, sights_of};
+ghost use Rattle.render_run.specs.Written.{LeavesTaps};
 
 use crate::round::Post;
 use crate::worker::Worker;
@@ -22,14 +21,11 @@ use tex_world::{Folder, NoMemory, Tap};
 
 /// What each worker has seen is carried to every other.
 pub(crate) fn carry_all<T: Tap>(cache: &Cache<T>, posts: &mut [Post<T>]) -> Result<(), NoMemory>
-    requires pass { All (λ p. IsPassOf cache.now p.worker.pass) posts.old }
-    ensures ok { OnOk result (AreCarried
-        (map (λ p. sight_of p.worker.pass (T.state p.worker.tap)) posts.old)
-        (map (λ p. sight_of p.worker.pass (T.state p.worker.tap)) posts.new)) }
-    ensures kept { SeeNoLess
-        (map (λ p. sight_of p.worker.pass (T.state p.worker.tap)) posts.old)
-        (map (λ p. sight_of p.worker.pass (T.state p.worker.tap)) posts.new) }
-    ensures pass { All (λ p. IsPassOf cache.now p.worker.pass) posts.new }
+    requires pass { ArePassesOf cache.now posts.old }
+    ensures ok { OnOk result (AreCarried (sights_of T.state posts.old)
+        (sights_of T.state posts.new)) }
+    ensures kept { SeeNoLess (sights_of T.state posts.old) (sights_of T.state posts.new) }
+    ensures pass { ArePassesOf cache.now posts.new }
 {
     let Some((first, others)) = posts.split_first_mut() else {
         return Ok(());
@@ -45,14 +41,13 @@ fn gather<T: Tap>(
     others: &mut [Post<T>],
 ) -> Result<(), NoMemory>
     requires first { IsPassOf cache.now first.old }
-    requires others { All (λ p. IsPassOf cache.now p.worker.pass) others.old }
+    requires others { ArePassesOf cache.now others.old }
     ensures ok { OnOk result (All (λ s. SeesNoLess s.seen first.new.view.seen)
-        (map (λ p. sight_of p.worker.pass (T.state p.worker.tap)) others.old)) }
+        (sights_of T.state others.old)) }
     ensures kept { SeesOn first.old first.new }
     ensures pass { IsPassOf cache.now first.new }
-    ensures same { map (λ p. sight_of p.worker.pass (T.state p.worker.tap)) others.new
-        ≡ map (λ p. sight_of p.worker.pass (T.state p.worker.tap)) others.old }
-    ensures passes { All (λ p. IsPassOf cache.now p.worker.pass) others.new }
+    ensures same { sights_of T.state others.new ≡ sights_of T.state others.old }
+    ensures passes { ArePassesOf cache.now others.new }
 {
     for post in others.iter_mut() {
         carry_from(cache, post, first)?;
@@ -71,8 +66,7 @@ fn carry_from<T: Tap>(
     ensures ok { OnOk result (SeesNoLess post.old.worker.pass.view.seen to.new.view.seen) }
     ensures kept { SeesOn to.old to.new }
     ensures pass { IsPassOf cache.now to.new }
-    ensures same { sight_of post.new.worker.pass (T.state post.new.worker.tap)
-        ≡ sight_of post.old.worker.pass (T.state post.old.worker.tap) }
+    ensures same { sight T.state post.new.worker ≡ sight T.state post.old.worker }
     ensures of { IsPassOf cache.now post.new.worker.pass }
 {
     cache.carry(&mut post.worker.pass, to)
@@ -85,17 +79,13 @@ fn spread<T: Tap>(
     others: &mut [Post<T>],
 ) -> Result<(), NoMemory>
     requires first { IsPassOf cache.now first.old }
-    requires others { All (λ p. IsPassOf cache.now p.worker.pass) others.old }
+    requires others { ArePassesOf cache.now others.old }
     ensures ok { OnOk result (All (λ s. SeesNoLess first.old.view.seen s.seen)
-        (map (λ p. sight_of p.worker.pass (T.state p.worker.tap)) others.new)) }
-    ensures seen { first.new.view.seen ≡ first.old.view.seen }
-    ensures holds { first.new.pinned.holds ≡ first.old.pinned.holds }
-    ensures tally { tally_of first.new ≡ tally_of first.old }
+        (sights_of T.state others.new)) }
+    ensures gives { GivesOn first.old first.new }
     ensures pass { IsPassOf cache.now first.new }
-    ensures kept { SeeNoLess
-        (map (λ p. sight_of p.worker.pass (T.state p.worker.tap)) others.old)
-        (map (λ p. sight_of p.worker.pass (T.state p.worker.tap)) others.new) }
-    ensures passes { All (λ p. IsPassOf cache.now p.worker.pass) others.new }
+    ensures kept { SeeNoLess (sights_of T.state others.old) (sights_of T.state others.new) }
+    ensures passes { ArePassesOf cache.now others.new }
 {
     for post in others.iter_mut() {
         carry_to(cache, first, post)?;
@@ -112,20 +102,45 @@ fn carry_to<T: Tap>(
     requires from { IsPassOf cache.now from.old }
     requires post { IsPassOf cache.now post.old.worker.pass }
     ensures ok { OnOk result (SeesNoLess from.old.view.seen post.new.worker.pass.view.seen) }
-    ensures seen { from.new.view.seen ≡ from.old.view.seen }
-    ensures holds { from.new.pinned.holds ≡ from.old.pinned.holds }
-    ensures tally { tally_of from.new ≡ tally_of from.old }
+    ensures gives { GivesOn from.old from.new }
     ensures pass { IsPassOf cache.now from.new }
-    ensures kept { SightsOn (sight_of post.old.worker.pass (T.state post.old.worker.tap))
-        (sight_of post.new.worker.pass (T.state post.new.worker.tap)) }
+    ensures kept { SightsOn (sight T.state post.old.worker) (sight T.state post.new.worker) }
     ensures of { IsPassOf cache.now post.new.worker.pass }
 {
     cache.carry(from, &mut post.worker.pass)
 }
 
-/// Makes so many workers: the first has this pass, the others have passes that are split off it, and
-/// each has a tap of its own. Where no memory is found some are made.
-pub(crate) fn man<F: Folder>(
+/// So many workers: the first has this pass, the others have passes that are split off it, and each
+/// has a tap of its own. Where no memory is found the taps that were made are given back.
+pub(crate) fn crew_of<F: Folder>(
+    alloc: Global,
+    cache: &Cache<F::Tap>,
+    pass: Pass<F::W>,
+    folder: &mut F,
+    workers: usize,
+) -> Result<Vec<Post<F::Tap>>, NoMemory>
+where
+    F::Tap: Drop,
+    requires pass { IsPassOf cache.now pass }
+    requires fresh { IsFresh pass }
+    requires some { 0 < workers }
+    ensures count { IfOk result (λ posts. length posts.items ≡ workers) }
+    ensures new { IfOk result (λ posts. AreNew F.Tap.state cache.now posts.items) }
+    ensures made { OnOk result (MakesMore workers (F.state folder.old) (F.state folder.new)) }
+    ensures back { OnErr result (LeavesTaps (F.state folder.old) (F.state folder.new)) }
+{
+    let mut posts = Vec::new(alloc);
+    match man(alloc, cache, pass, folder, &mut posts, workers) {
+        Ok(()) => Ok(posts),
+        Err(NoMemory) => {
+            give_back(folder, posts);
+            Err(NoMemory)
+        }
+    }
+}
+
+/// The same into a list that is empty. Where no memory is found some are made.
+fn man<F: Folder>(
     alloc: Global,
     cache: &Cache<F::Tap>,
     pass: Pass<F::W>,
@@ -138,8 +153,7 @@ pub(crate) fn man<F: Folder>(
     requires empty { posts.old.items ≡ [] }
     requires some { 0 < workers }
     ensures count { OnOk result (length posts.new.items ≡ workers) }
-    ensures new { All (λ p. IsNewPost cache.now p.worker.pass (F.Tap.state p.worker.tap))
-        posts.new.items }
+    ensures new { AreNew F.Tap.state cache.now posts.new.items }
     ensures made { MakesMore (length posts.new.items) (F.state folder.old) (F.state folder.new) }
 {
     add(alloc, folder, posts, pass)?;
@@ -170,8 +184,7 @@ fn add<F: Folder>(
     posts: &mut Vec<Post<F::Tap>>,
     pass: Pass<F::W>,
 ) -> Result<(), NoMemory>
-    ensures ok { OnOk result (AddsPost pass posts.old.items posts.new.items
-        (λ p. p.worker.pass) (λ p. IsNew (F.Tap.state p.worker.tap))) }
+    ensures ok { OnOk result (AddsPost F.Tap.state pass posts.old.items posts.new.items) }
     ensures err { OnErr result (posts.new.items ≡ posts.old.items) }
     ensures made { OnOk result (MakesMore 1 (F.state folder.old) (F.state folder.new)) }
     ensures none { OnErr result (MakesMore 0 (F.state folder.old) (F.state folder.new)) }
@@ -193,7 +206,7 @@ pub(crate) fn give_back<F: Folder>(folder: &mut F, mut posts: Vec<Post<F::Tap>>)
 where
     F::Tap: Drop,
     ensures { TakesBack (length posts.items)
-        (source_of_crew (map (λ p. sight_of p.worker.pass (F.Tap.state p.worker.tap)) posts.items))
+        (source_of_crew (sights_of F.Tap.state posts.items))
         (F.state folder.old) (F.state folder.new) }
 {
     'posts: while let Some(post) = posts.pop() {

@@ -1,8 +1,8 @@
 //! What is called round each request.
 use std::sync::Wait;
 
-/// Is called round each request that a worker answers. A request is named by its place in the list,
-/// from 0 on.
+/// Is called round each request that a worker answers; round `sync`, which asks nothing, it is not. A
+/// request is named by its place in the list, from 0 on.
 pub trait Hook: Sync {
     /// Before a worker answers a request.
     fn before<R: Wait>(&self, rt: &R, worker: u32, index: u32);

@@ -1,14 +1,11 @@
 //! Lines on their way to the sink: they wait on a page, which is put once it is full.
 
 ghost use Rattle.std.specs.Prelude.{◌≡◌, ◌≤◌, [], ◌∷◌, length};
-ghost use Rattle.std.specs.Prelude.{IfOk, OnOk, OnErr};
-ghost use Rattle.tex_world.specs.Counts.{Rises};
-ghost use Rattle.tex_world.specs.Stream.{AppendsPart};
+ghost use Rattle.std.specs.Prelude.{IfOk, OnOk};
 ghost use Rattle.request_lang.specs.Grammar.{line_feed};
 ghost use Rattle.request_lang.specs.Line.{fields, head_of, line_of};
 ghost use Rattle.request_lang.specs.Closing.{worker_line, total_line};
-ghost use Rattle.render_run.specs.Around.{sink_state};
-ghost use Rattle.render_run.specs.Page.{outgoing_of, Passes, PassesPart, page_bytes, part_values};
+ghost use Rattle.render_run.specs.Page.{outgoing, AddsOn, PassesOn, page_bytes, part_values};
 
 use request_lang::{
     Answer, Counts, MAX_PART_BYTES, PART_VALUES, ValueTexts, head_text, total_text, values_text,
@@ -57,13 +54,9 @@ impl Page {
 
     /// Puts all that waits.
     pub(crate) fn put<O: Sink>(&mut self, out: &mut O) -> Result<(), Failed>
-        ensures ok { OnOk result (Passes []
-            (outgoing_of self.old (sink_state O.faults O.holds out.old))
-            (outgoing_of self.new (sink_state O.faults O.holds out.new))) }
+        ensures passed { AddsOn [] (outgoing O.Sink self.old out.old)
+            (outgoing O.Sink self.new out.new) result }
         ensures empty { OnOk result (self.new ≡ []) }
-        ensures part { OnErr result (AppendsPart self.old (O.holds out.old) (O.holds out.new)) }
-        ensures faults { O.faults out.old ≤ O.faults out.new }
-        ensures cause { OnErr result (Rises (O.faults out.old) (O.faults out.new)) }
     {
         match out.put(&self.text) {
             Ok(()) => {
@@ -76,13 +69,9 @@ impl Page {
 
     /// Puts what waits where there might be no room for a part of a line.
     fn make_room<O: Sink>(&mut self, out: &mut O) -> Result<(), Failed>
-        ensures ok { OnOk result (Passes []
-            (outgoing_of self.old (sink_state O.faults O.holds out.old))
-            (outgoing_of self.new (sink_state O.faults O.holds out.new))) }
+        ensures passed { AddsOn [] (outgoing O.Sink self.old out.old)
+            (outgoing O.Sink self.new out.new) result }
         ensures room { OnOk result (length self.new ≤ page_bytes) }
-        ensures part { OnErr result (AppendsPart self.old (O.holds out.old) (O.holds out.new)) }
-        ensures faults { O.faults out.old ≤ O.faults out.new }
-        ensures cause { OnErr result (Rises (O.faults out.old) (O.faults out.new)) }
     {
         if self.text.len() <= PAGE_BYTES {
             return Ok(());
@@ -92,13 +81,8 @@ impl Page {
 
     /// Passes the line of an answer on. It takes no memory.
     pub(crate) fn pass<O: Sink>(&mut self, out: &mut O, answer: &Answer) -> Result<(), Failed>
-        ensures ok { OnOk result (Passes (line_of answer.now)
-            (outgoing_of self.old (sink_state O.faults O.holds out.old))
-            (outgoing_of self.new (sink_state O.faults O.holds out.new))) }
-        ensures part { OnErr result (PassesPart (line_of answer.now)
-            (outgoing_of self.old (sink_state O.faults O.holds out.old)) (O.holds out.new)) }
-        ensures faults { O.faults out.old ≤ O.faults out.new }
-        ensures cause { OnErr result (Rises (O.faults out.old) (O.faults out.new)) }
+        ensures { PassesOn (line_of answer.now) (outgoing O.Sink self.old out.old)
+            (outgoing O.Sink self.new out.new) result }
     {
         if let Err(failed) = self.pass_head(out, answer) {
             return Err(failed);
@@ -111,12 +95,8 @@ impl Page {
 
     /// Passes a line on up to its values.
     fn pass_head<O: Sink>(&mut self, out: &mut O, answer: &Answer) -> Result<(), Failed>
-        ensures ok { OnOk result (Passes (head_of answer.now)
-            (outgoing_of self.old (sink_state O.faults O.holds out.old))
-            (outgoing_of self.new (sink_state O.faults O.holds out.new))) }
-        ensures part { OnErr result (AppendsPart self.old (O.holds out.old) (O.holds out.new)) }
-        ensures faults { O.faults out.old ≤ O.faults out.new }
-        ensures cause { OnErr result (Rises (O.faults out.old) (O.faults out.new)) }
+        ensures { AddsOn (head_of answer.now) (outgoing O.Sink self.old out.old)
+            (outgoing O.Sink self.new out.new) result }
     {
         if let Err(failed) = self.make_room(out) {
             return Err(failed);
@@ -129,13 +109,8 @@ impl Page {
 
     /// Passes values on, each behind a space.
     fn pass_values<O: Sink>(&mut self, out: &mut O, values: &[u16]) -> Result<(), Failed>
-        ensures ok { OnOk result (Passes (fields values.now)
-            (outgoing_of self.old (sink_state O.faults O.holds out.old))
-            (outgoing_of self.new (sink_state O.faults O.holds out.new))) }
-        ensures part { OnErr result (PassesPart (fields values.now)
-            (outgoing_of self.old (sink_state O.faults O.holds out.old)) (O.holds out.new)) }
-        ensures faults { O.faults out.old ≤ O.faults out.new }
-        ensures cause { OnErr result (Rises (O.faults out.old) (O.faults out.new)) }
+        ensures { PassesOn (fields values.now) (outgoing O.Sink self.old out.old)
+            (outgoing O.Sink self.new out.new) result }
     {
         let mut rest = values;
         'parts: while !rest.is_empty() {
@@ -151,12 +126,8 @@ impl Page {
     /// Passes a few values on, each behind a space.
     fn pass_part<O: Sink>(&mut self, out: &mut O, values: &[u16]) -> Result<(), Failed>
         requires few { length values.now ≤ part_values }
-        ensures ok { OnOk result (Passes (fields values.now)
-            (outgoing_of self.old (sink_state O.faults O.holds out.old))
-            (outgoing_of self.new (sink_state O.faults O.holds out.new))) }
-        ensures part { OnErr result (AppendsPart self.old (O.holds out.old) (O.holds out.new)) }
-        ensures faults { O.faults out.old ≤ O.faults out.new }
-        ensures cause { OnErr result (Rises (O.faults out.old) (O.faults out.new)) }
+        ensures { AddsOn (fields values.now) (outgoing O.Sink self.old out.old)
+            (outgoing O.Sink self.new out.new) result }
     {
         if let Err(failed) = self.make_room(out) {
             return Err(failed);
@@ -169,12 +140,8 @@ impl Page {
 
     /// Ends a line.
     fn pass_end<O: Sink>(&mut self, out: &mut O) -> Result<(), Failed>
-        ensures ok { OnOk result (Passes (line_feed ∷ [])
-            (outgoing_of self.old (sink_state O.faults O.holds out.old))
-            (outgoing_of self.new (sink_state O.faults O.holds out.new))) }
-        ensures part { OnErr result (AppendsPart self.old (O.holds out.old) (O.holds out.new)) }
-        ensures faults { O.faults out.old ≤ O.faults out.new }
-        ensures cause { OnErr result (Rises (O.faults out.old) (O.faults out.new)) }
+        ensures { AddsOn (line_feed ∷ []) (outgoing O.Sink self.old out.old)
+            (outgoing O.Sink self.new out.new) result }
     {
         if let Err(failed) = self.make_room(out) {
             return Err(failed);
@@ -192,12 +159,8 @@ impl Page {
         worker: u32,
         counts: Counts,
     ) -> Result<(), Failed>
-        ensures ok { OnOk result (Passes (worker_line worker counts)
-            (outgoing_of self.old (sink_state O.faults O.holds out.old))
-            (outgoing_of self.new (sink_state O.faults O.holds out.new))) }
-        ensures part { OnErr result (AppendsPart self.old (O.holds out.old) (O.holds out.new)) }
-        ensures faults { O.faults out.old ≤ O.faults out.new }
-        ensures cause { OnErr result (Rises (O.faults out.old) (O.faults out.new)) }
+        ensures { AddsOn (worker_line worker counts) (outgoing O.Sink self.old out.old)
+            (outgoing O.Sink self.new out.new) result }
     {
         if let Err(failed) = self.make_room(out) {
             return Err(failed);
@@ -216,12 +179,8 @@ impl Page {
         total: u64,
         refused: u64,
     ) -> Result<(), Failed>
-        ensures ok { OnOk result (Passes (total_line total refused)
-            (outgoing_of self.old (sink_state O.faults O.holds out.old))
-            (outgoing_of self.new (sink_state O.faults O.holds out.new))) }
-        ensures part { OnErr result (AppendsPart self.old (O.holds out.old) (O.holds out.new)) }
-        ensures faults { O.faults out.old ≤ O.faults out.new }
-        ensures cause { OnErr result (Rises (O.faults out.old) (O.faults out.new)) }
+        ensures { AddsOn (total_line total refused) (outgoing O.Sink self.old out.old)
+            (outgoing O.Sink self.new out.new) result }
     {
         if let Err(failed) = self.make_room(out) {
             return Err(failed);

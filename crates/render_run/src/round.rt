@@ -2,23 +2,24 @@
 //! own, and then its lines are written.
 
 ghost use Rattle.std.specs.Prelude.{◌≡◌, ◌+◌, ◌*◌, ◌<◌, ◌≤◌, [], length, map, vec_capacity};
-ghost use Rattle.std.specs.Prelude.{IfOk, OnOk, OnErr, IsSome};
+ghost use Rattle.std.specs.Prelude.{IfOk, OnOk, IsSome};
 ghost use Rattle.std.specs.List.{All, count_by};
-ghost use Rattle.tex_world.specs.Counts.{Rises};
 ghost use Rattle.image_cache.specs.Pass.{IsPassOf};
 ghost use Rattle.request_lang.specs.Basis.{is_refusal};
 ghost use Rattle.request_lang.specs.Grammar.{max_requests};
-ghost use Rattle.render_run.specs.Around.{sight_of, sink_state, terms_of};
-ghost use Rattle.render_run.specs.Question.{AreGivenOf, MayAsk};
-ghost use Rattle.render_run.specs.Answering.{AnswersEach, MayBeGiven, AreFiles, share_of};
+ghost use Rattle.render_run.specs.Around.{terms_of};
+ghost use Rattle.render_run.specs.Question.{MayAsk};
+ghost use Rattle.render_run.specs.Answering.{AnswersEach, AreDealt, MayBeGiven, AreFiles, share_of};
 ghost use Rattle.render_run.specs.Answering.{answers_text, in_turn, AreInTurn};
 ghost use Rattle.render_run.specs.Crew.{max_workers, AnswersShares};
-ghost use Rattle.render_run.specs.Page.{outgoing_of, Passes, PassesPart};
+ghost use Rattle.render_run.specs.Page.{outgoing, PassesOn};
+ghost use Rattle.render_run.specs.Posts.{ArePassesOf, HaveRoom, WorkerAnswers, answers_of};
+ghost use Rattle.render_run.specs.Posts.{sight, sights_of};
 
 use crate::hook::Hook;
 use crate::page::Page;
 use crate::question::Task;
-use crate::worker::{Worker, answer_of};
+use crate::worker::{Desk, Worker};
 use image_cache::Cache;
 use request_lang::{Answer, Request};
 use std::alloc::{AllocError, Global};
@@ -32,6 +33,16 @@ use waiter::Forever;
 pub(crate) struct Post<T: Tap> {
     pub(crate) worker: Worker<T>,
     pub(crate) answers: Vec<Answer>,
+}
+
+/// What the workers of a run share: the runtime, the allocator, the cache, and the hook that is called
+/// round each request.
+#[derive(Drop)]
+pub(crate) struct Setting<'a, R, T: Tap, K> {
+    pub(crate) rt: &'a R,
+    pub(crate) alloc: Global,
+    pub(crate) cache: &'a Cache<T>,
+    pub(crate) hook: &'a K,
 }
 
 /// Which requests of a round are a worker's: of so many that take turns it is this one. The first
@@ -51,10 +62,8 @@ pub(crate) fn deal<F: Folder>(
 ) -> Result<(), AllocError>
     requires entered { IsSome (F.state folder.now).entered }
     requires asked { All MayAsk requests.now }
-    ensures given { OnOk result
-        (All (MayBeGiven F.W.files (F.state folder.now).size) tasks.new.items) }
-    ensures tasks { OnOk result
-        (AreGivenOf (F.state folder.now).number_of requests.now tasks.new.items) }
+    ensures { OnOk result
+        (AreDealt F.W.files (F.state folder.now) requests.now tasks.new.items) }
 {
     let alloc = *tasks.allocator();
     tasks.clear();
@@ -69,8 +78,7 @@ pub(crate) fn deal<F: Folder>(
 pub(crate) fn make_room<T: Tap>(posts: &mut [Post<T>], count: usize) -> Result<(), AllocError>
     requires some { 0 < length posts.old }
     requires few { count ≤ max_requests }
-    ensures room { OnOk result (All (λ p. (p.answers.items ≡ [])
-        × (count ≤ length posts.old * vec_capacity p.answers)) posts.new) }
+    ensures room { OnOk result (HaveRoom (length posts.old) count posts.new) }
     ensures same { map (λ p. p.worker) posts.new ≡ map (λ p. p.worker) posts.old }
 {
     let each = count / posts.len() + 1;
@@ -84,10 +92,7 @@ pub(crate) fn make_room<T: Tap>(posts: &mut [Post<T>], count: usize) -> Result<(
 /// Each worker answers its share of the requests of a round, in a thread of its own where one can be
 /// made.
 pub(crate) fn answer_round<R: Threads + Wait + Sync, T: Tap + Send, K: Hook + Sync>(
-    rt: &R,
-    alloc: Global,
-    cache: &Cache<T>,
-    hook: &K,
+    setting: &Setting<'_, R, T, K>,
     posts: &mut [Post<T>],
     tasks: &[Task],
     first: usize,
@@ -95,43 +100,40 @@ pub(crate) fn answer_round<R: Threads + Wait + Sync, T: Tap + Send, K: Hook + Sy
 where
     T::Handle: Send + Sync,
     T::W: Send + Sync,
-    requires pass { All (λ p. IsPassOf cache.now p.worker.pass) posts.old }
-    requires room { All (λ p. (p.answers.items ≡ [])
-        × (length tasks.now ≤ length posts.old * vec_capacity p.answers)) posts.old }
-    requires given { All (MayBeGiven T.W.files cache.now.files.board.files) tasks.now }
-    requires files { AreFiles T.W.files cache.now.files.board.files }
+    requires pass { ArePassesOf setting.now.cache.now posts.old }
+    requires room { HaveRoom (length posts.old) (length tasks.now) posts.old }
+    requires given { All (MayBeGiven T.W.files setting.now.cache.now.files.board.files) tasks.now }
+    requires files { AreFiles T.W.files setting.now.cache.now.files.board.files }
     requires some { (0 < length posts.old) × (length posts.old ≤ max_workers) }
     requires few { first + length tasks.now ≤ max_requests }
-    ensures shares { AnswersShares T.W.files (terms_of cache.now.gate) tasks.now
-        (map (λ p. p.answers.items) posts.new)
-        (map (λ p. sight_of p.worker.pass (T.state p.worker.tap)) posts.old)
-        (map (λ p. sight_of p.worker.pass (T.state p.worker.tap)) posts.new) }
-    ensures pass { All (λ p. IsPassOf cache.now p.worker.pass) posts.new }
+    ensures shares { AnswersShares T.W.files (terms_of setting.now.cache.now.gate) tasks.now
+        (answers_of posts.new) (sights_of T.state posts.old) (sights_of T.state posts.new) }
+    ensures pass { ArePassesOf setting.now.cache.now posts.new }
 {
     let workers = posts.len();
     for_each_mut(
-        rt,
+        setting.rt,
         posts,
         workers,
         &|worker, post|
             requires { (worker < workers) × (workers ≤ max_workers)
-                × IsPassOf cache.now post.old.worker.pass × (post.old.answers.items ≡ [])
+                × IsPassOf setting.now.cache.now post.old.worker.pass
+                × (post.old.answers.items ≡ [])
                 × (length tasks.now ≤ workers * vec_capacity post.old.answers)
-                × All (MayBeGiven T.W.files cache.now.files.board.files) tasks.now
-                × AreFiles T.W.files cache.now.files.board.files
+                × All (MayBeGiven T.W.files setting.now.cache.now.files.board.files) tasks.now
+                × AreFiles T.W.files setting.now.cache.now.files.board.files
                 × (first + length tasks.now ≤ max_requests) }
-            ensures { AnswersEach T.W.files (terms_of cache.entry.now.gate)
+            ensures { AnswersEach T.W.files (terms_of setting.entry.now.cache.now.gate)
                 (share_of workers worker tasks.entry.now) post.new.answers.items
-                (sight_of post.old.worker.pass (T.state post.old.worker.tap))
-                (sight_of post.new.worker.pass (T.state post.new.worker.tap))
-                × IsPassOf cache.entry.now post.new.worker.pass }
+                (sight T.state post.old.worker) (sight T.state post.new.worker)
+                × IsPassOf setting.entry.now.cache.now post.new.worker.pass }
         {
             let turn = Turn {
                 worker,
                 workers,
                 first,
             };
-            answer_share(rt, alloc, cache, hook, post, tasks, turn)
+            answer_share(setting, post, tasks, turn)
         },
     );
 }
@@ -139,39 +141,70 @@ where
 /// Answers what a worker is given of a round, one after another. No answer waits for memory to be
 /// kept in.
 fn answer_share<R: Wait, T: Tap, K: Hook>(
-    rt: &R,
-    alloc: Global,
-    cache: &Cache<T>,
-    hook: &K,
+    setting: &Setting<'_, R, T, K>,
     post: &mut Post<T>,
     tasks: &[Task],
     turn: Turn,
 )
-    requires pass { IsPassOf cache.now post.old.worker.pass }
+    requires pass { IsPassOf setting.now.cache.now post.old.worker.pass }
     requires empty { post.old.answers.items ≡ [] }
     requires room { length tasks.now ≤ turn.workers * vec_capacity post.old.answers }
-    requires given { All (MayBeGiven T.W.files cache.now.files.board.files) tasks.now }
-    requires files { AreFiles T.W.files cache.now.files.board.files }
+    requires given { All (MayBeGiven T.W.files setting.now.cache.now.files.board.files) tasks.now }
+    requires files { AreFiles T.W.files setting.now.cache.now.files.board.files }
     requires turn { (turn.worker < turn.workers) × (turn.workers ≤ max_workers) }
     requires few { turn.first + length tasks.now ≤ max_requests }
-    ensures each { AnswersEach T.W.files (terms_of cache.now.gate)
+    ensures each { AnswersEach T.W.files (terms_of setting.now.cache.now.gate)
         (share_of turn.workers turn.worker tasks.now) post.new.answers.items
-        (sight_of post.old.worker.pass (T.state post.old.worker.tap))
-        (sight_of post.new.worker.pass (T.state post.new.worker.tap)) }
-    ensures pass { IsPassOf cache.now post.new.worker.pass }
+        (sight T.state post.old.worker) (sight T.state post.new.worker) }
+    ensures pass { IsPassOf setting.now.cache.now post.new.worker.pass }
 {
-    let waiter = Forever::new(rt);
+    let waiter = Forever::new(setting.rt);
+    let desk = Desk {
+        alloc: setting.alloc,
+        cache: setting.cache,
+        waiter: &waiter,
+    };
     let mut k = turn.worker;
     'share: while k < tasks.len() {
         let index = (turn.first + k) as u32;
-        hook.before(rt, turn.worker as u32, index);
-        let answer = answer_of(alloc, cache, &waiter, &mut post.worker, &tasks[k]);
-        hook.after(rt, turn.worker as u32, index);
+        let answer = answer_hooked(
+            setting,
+            &desk,
+            &mut post.worker,
+            &tasks[k],
+            turn.worker as u32,
+            index,
+        );
         if let Err(_refused) = post.answers.push(answer) {
             unreachable!()
         }
         k += turn.workers;
     }
+}
+
+/// The answer of this worker to what it is given of a request, round which the hook is called. `sync`
+/// asks nothing, so it is not called round that.
+fn answer_hooked<R: Wait, T: Tap, K: Hook>(
+    setting: &Setting<'_, R, T, K>,
+    desk: &Desk<'_, &R, T>,
+    worker: &mut Worker<T>,
+    task: &Task,
+    number: u32,
+    index: u32,
+) -> Answer
+    requires pass { IsPassOf desk.now.cache.now worker.old.pass }
+    requires given { MayBeGiven T.W.files desk.now.cache.now.files.board.files task.now }
+    requires files { AreFiles T.W.files desk.now.cache.now.files.board.files }
+    ensures { WorkerAnswers T.state T.W.files desk.now.cache.now task.now worker.old worker.new
+        result }
+{
+    if let Task::Sync = task {
+        return Answer::Synced;
+    }
+    setting.hook.before(setting.rt, number, index);
+    let answer = worker.answer(desk, task);
+    setting.hook.after(setting.rt, number, index);
+    answer
 }
 
 /// Passes the lines of a round on, and says how many of them are refusals. The workers took its
@@ -183,19 +216,13 @@ pub(crate) fn write_round<T: Tap, O: Sink>(
     out: &mut O,
 ) -> Result<usize, Failed>
     requires some { 0 < length posts.now }
-    requires there { AreInTurn (length posts.now) count (map (λ p. p.answers.items) posts.now) }
-    ensures ok { OnOk result (Passes
-        (answers_text (in_turn (length posts.now) 0 count (map (λ p. p.answers.items) posts.now)))
-        (outgoing_of page.old (sink_state O.faults O.holds out.old))
-        (outgoing_of page.new (sink_state O.faults O.holds out.new))) }
+    requires there { AreInTurn (length posts.now) count (answers_of posts.now) }
+    ensures passed { PassesOn
+        (answers_text (in_turn (length posts.now) 0 count (answers_of posts.now)))
+        (outgoing O.Sink page.old out.old) (outgoing O.Sink page.new out.new) result }
     ensures refusal { IfOk result (λ refused. refused ≡ count_by is_refusal
-        (in_turn (length posts.now) 0 count (map (λ p. p.answers.items) posts.now))) }
+        (in_turn (length posts.now) 0 count (answers_of posts.now))) }
     ensures few { IfOk result (λ refused. refused ≤ count) }
-    ensures part { OnErr result (PassesPart
-        (answers_text (in_turn (length posts.now) 0 count (map (λ p. p.answers.items) posts.now)))
-        (outgoing_of page.old (sink_state O.faults O.holds out.old)) (O.holds out.new)) }
-    ensures faults { O.faults out.old ≤ O.faults out.new }
-    ensures cause { OnErr result (Rises (O.faults out.old) (O.faults out.new)) }
 {
     let workers = posts.len();
     let mut refused = 0;

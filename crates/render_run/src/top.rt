@@ -1,30 +1,25 @@
 //! The top call.
 
-ghost use Rattle.std.specs.Prelude.{◌≡◌, ◌⊎◌, ◌≤◌, [], length, map, IfOk, IfErr, OnOk, IsSome, IsTrue};
+ghost use Rattle.std.specs.Prelude.{◌≡◌, ◌≤◌, length, IfOk, OnOk, IsSome, IsTrue};
 ghost use Rattle.request_lang.specs.Grammar.{max_requests};
 ghost use Rattle.std.specs.List.{All};
 ghost use Rattle.render_run.specs.Question.{MayAsk};
 ghost use Rattle.tex_world.specs.World.{max_files};
 ghost use Rattle.command_line.specs.Options.{IsInRange};
 ghost use Rattle.image_cache.specs.Pass.{IsFirstPass};
-ghost use Rattle.render_run.specs.Status.{with_refusals, not_written, no_memory};
-ghost use Rattle.render_run.specs.Around.{feed_state, sink_state, around_of, progress_of};
-ghost use Rattle.render_run.specs.Around.{source_of_folder, setup_of, sight_of, no_sight};
-ghost use Rattle.render_run.specs.Around.{source_of_crew, terms_for, terms_of};
-ghost use Rattle.render_run.specs.Crew.{MakesMore};
+ghost use Rattle.render_run.specs.Around.{feed_state, sink_state, sink_of, around_of, progress_of};
+ghost use Rattle.render_run.specs.Around.{source_of_folder, setup_of, terms_for, terms_of};
 ghost use Rattle.render_run.specs.Ending.{asked_by};
-ghost use Rattle.render_run.specs.Run.{GivesTapsBack, MakesTaps, Runs};
+ghost use Rattle.render_run.specs.Run.{MakesTaps, Runs};
 ghost use Rattle.render_run.specs.Complete.{HasAList, IsCalm, Completes};
-ghost use Rattle.render_run.specs.Written.{StatusWritten, EndedAs, IsAnswerStatus, KeepsEntered};
-ghost use Rattle.render_run.specs.Written.{AnswersAll, PartWritten, RoundsWritten, list_status};
-ghost use Rattle.render_run.specs.Written.{Finishes, LeavesEarly};
+ghost use Rattle.render_run.specs.Written.{StatusWritten, EndedAs, Leaves, LeavesTaps, list_status};
 
 use crate::answering::{Unfinished, answer_list};
-use crate::crew::{give_back, man};
+use crate::crew::{crew_of, give_back};
 use crate::hook::Hook;
 use crate::page::Page;
 use crate::prepare::{Ending, Prepared, prepare};
-use crate::round::Post;
+use crate::round::Setting;
 use command_line::Options;
 use image_cache::{Cache, NewError, Options as CacheOptions, Pass};
 use request_lang::{BadList, bad_list_text};
@@ -56,8 +51,8 @@ pub const NO_MEMORY: u8 = 6;
 
 /// Writes a text and gives the status, or that of a sink that fails.
 fn put_status<O: Sink>(out: &mut O, text: &[u8], status: u8) -> u8
-    ensures { StatusWritten text.now status (sink_state O.faults O.holds out.old)
-        (sink_state O.faults O.holds out.new) result }
+    ensures { StatusWritten text.now status (sink_of O.Sink out.old) (sink_of O.Sink out.new)
+        result }
 {
     match out.put(text) {
         Ok(()) => status,
@@ -68,8 +63,8 @@ fn put_status<O: Sink>(out: &mut O, text: &[u8], status: u8) -> u8
 /// Writes why the list is none.
 #[tactic(auto, unfolding(crate::specs::Ending::ending_text))]
 fn put_bad_list<O: Sink>(alloc: Global, out: &mut O, bad: BadList) -> u8
-    ensures { EndedAs (Ending.NotAList bad) (sink_state O.faults O.holds out.old)
-        (sink_state O.faults O.holds out.new) result }
+    ensures { EndedAs (Ending.NotAList bad) (sink_of O.Sink out.old) (sink_of O.Sink out.new)
+        result }
 {
     let mut text = Vec::new(alloc);
     match bad_list_text(bad, &mut text) {
@@ -81,8 +76,7 @@ fn put_bad_list<O: Sink>(alloc: Global, out: &mut O, bad: BadList) -> u8
 /// Writes the text of an ending and gives its status, or that of a sink that fails or of want of
 /// memory.
 fn put_ending<O: Sink>(alloc: Global, out: &mut O, ending: Ending) -> u8
-    ensures { EndedAs ending (sink_state O.faults O.holds out.old)
-        (sink_state O.faults O.holds out.new) result }
+    ensures { EndedAs ending (sink_of O.Sink out.old) (sink_of O.Sink out.new) result }
 {
     match ending {
         Ending::BadWords => put_status(out, b"bad words\n", BAD_WORDS),
@@ -120,7 +114,8 @@ fn cache_of<T: Tap>(
     }
 }
 
-/// Answers the requests through taps of the folder's, which it gives back, and gives the status.
+/// Answers the requests through taps of the folder's, which it gives back, and says whether some line
+/// is a refusal.
 fn answer_through_taps<R: Threads + Wait + Sync, F: Folder, O: Sink, K: Hook + Sync>(
     rt: &R,
     alloc: Global,
@@ -128,7 +123,7 @@ fn answer_through_taps<R: Threads + Wait + Sync, F: Folder, O: Sink, K: Hook + S
     asked: &Prepared,
     out: &mut O,
     hook: &K,
-) -> u8
+) -> Result<bool, Unfinished>
 where
     F::Tap: Send + Drop,
     <F::Tap as Tap>::Handle: Send + Sync,
@@ -137,96 +132,40 @@ where
     requires options { IsInRange asked.now.options }
     requires may { All MayAsk asked.now.requests.items }
     requires few { length asked.now.requests.items ≤ max_requests }
-    ensures answered { result ≤ with_refusals → AnswersAll (setup_of F.W.files
-        (F.state folder.new) (terms_for asked.now.options) asked.now.options.workers)
-        asked.now.requests.items (progress_of (source_of_folder (F.state folder.old))
-        (sink_state O.faults O.holds out.old)) (progress_of
-        (source_of_folder (F.state folder.new)) (sink_state O.faults O.holds out.new)) result }
-    ensures made { result ≤ with_refusals
-        → MakesTaps asked.now.options.workers (F.state folder.old) (F.state folder.new) }
-    ensures part { result ≡ not_written → PartWritten (setup_of F.W.files
-        (F.state folder.new) (terms_for asked.now.options) asked.now.options.workers)
-        asked.now.requests.items (progress_of (source_of_folder (F.state folder.old))
-        (sink_state O.faults O.holds out.old)) (progress_of
-        (source_of_folder (F.state folder.new)) (sink_state O.faults O.holds out.new)) }
-    ensures short { result ≡ no_memory → (O.holds out.new ≡ O.holds out.old)
-        ⊎ RoundsWritten (setup_of F.W.files
-        (F.state folder.new) (terms_for asked.now.options) asked.now.options.workers)
-        asked.now.requests.items (progress_of (source_of_folder (F.state folder.old))
-        (sink_state O.faults O.holds out.old)) (progress_of
-        (source_of_folder (F.state folder.new)) (sink_state O.faults O.holds out.new)) }
-    ensures statuses { IsAnswerStatus result }
-    ensures folder { KeepsEntered (F.state folder.old) (F.state folder.new) }
-    ensures taps { GivesTapsBack (F.state folder.old) (F.state folder.new) }
+    ensures left { Leaves (setup_of F.W.files (F.state folder.new)
+        (terms_for asked.now.options) asked.now.options.workers) asked.now.requests.items
+        (progress_of (source_of_folder (F.state folder.old)) (sink_of O.Sink out.old))
+        (progress_of (source_of_folder (F.state folder.new)) (sink_of O.Sink out.new)) result }
+    ensures made { OnOk result
+        (MakesTaps asked.now.options.workers (F.state folder.old) (F.state folder.new)) }
+    ensures taps { LeavesTaps (F.state folder.old) (F.state folder.new) }
 {
     let Ok(mut page) = Page::new(alloc) else {
-        return NO_MEMORY;
+        return Err(Unfinished::NoMemory);
     };
     let Ok((cache, pass)) = cache_of(alloc, &asked.options, folder.count()) else {
-        return NO_MEMORY;
-    };
-    let mut posts = Vec::new(alloc);
-    let answered = answer_by_crew(
-        rt, alloc, &cache, pass, folder, hook, &mut posts, asked, &mut page, out,
-    );
-    give_back(folder, posts);
-    status_of(answered)
-}
-
-/// Makes the workers, and answers the requests by them. They are left with their taps, which have done
-/// nothing but this.
-fn answer_by_crew<R: Threads + Wait + Sync, F: Folder, O: Sink, K: Hook + Sync>(
-    rt: &R,
-    alloc: Global,
-    cache: &Cache<F::Tap>,
-    pass: Pass<F::W>,
-    folder: &mut F,
-    hook: &K,
-    posts: &mut Vec<Post<F::Tap>>,
-    asked: &Prepared,
-    page: &mut Page,
-    out: &mut O,
-) -> Result<bool, Unfinished>
-where
-    F::Tap: Send,
-    <F::Tap as Tap>::Handle: Send + Sync,
-    F::W: Send + Sync,
-    requires entered { IsSome (F.state folder.old).entered }
-    requires options { IsInRange asked.now.options }
-    requires may { All MayAsk asked.now.requests.items }
-    requires few { length asked.now.requests.items ≤ max_requests }
-    requires pass { IsFirstPass cache.now pass }
-    requires files { cache.now.files.board.files ≡ (F.state folder.old).size }
-    requires crew { posts.old.items ≡ [] }
-    requires page { page.old ≡ [] }
-    ensures ok { IfOk result (Finishes (setup_of F.W.files (F.state folder.new)
-        (terms_of cache.now.gate) asked.now.options.workers) asked.now.requests.items
-        (progress_of no_sight.source (sink_state O.faults O.holds out.old))
-        (progress_of (source_of_crew (map (λ p. sight_of p.worker.pass
-        (F.Tap.state p.worker.tap)) posts.new.items)) (sink_state O.faults O.holds out.new))) }
-    ensures err { IfErr result (LeavesEarly (setup_of F.W.files (F.state folder.new)
-        (terms_of cache.now.gate) asked.now.options.workers) asked.now.requests.items
-        (progress_of no_sight.source (sink_state O.faults O.holds out.old))
-        (progress_of (source_of_crew (map (λ p. sight_of p.worker.pass
-        (F.Tap.state p.worker.tap)) posts.new.items)) (sink_state O.faults O.holds out.new))) }
-    ensures count { OnOk result (length posts.new.items ≡ asked.now.options.workers) }
-    ensures made { MakesMore (length posts.new.items) (F.state folder.old) (F.state folder.new) }
-{
-    let workers = asked.options.workers as usize;
-    if let Err(NoMemory) = man(alloc, cache, pass, folder, posts, workers) {
         return Err(Unfinished::NoMemory);
-    }
-    answer_list(
+    };
+    let workers = asked.options.workers as usize;
+    let Ok(mut posts) = crew_of(alloc, &cache, pass, folder, workers) else {
+        return Err(Unfinished::NoMemory);
+    };
+    let setting = Setting {
         rt,
         alloc,
-        cache,
-        folder,
+        cache: &cache,
         hook,
-        posts,
+    };
+    let answered = answer_list(
+        &setting,
+        folder,
+        &mut posts,
         &asked.requests,
-        page,
+        &mut page,
         out,
-    )
+    );
+    give_back(folder, posts);
+    answered
 }
 
 /// The status of a list that was answered, or was not to its end.
@@ -279,7 +218,7 @@ where
         (sink_state O.faults O.holds out.new)) result }
 {
     match prepare(alloc, words, folder, feed) {
-        Ok(asked) => answer_through_taps(rt, alloc, folder, &asked, out, hook),
+        Ok(asked) => status_of(answer_through_taps(rt, alloc, folder, &asked, out, hook)),
         Err(ending) => put_ending(alloc, out, ending),
     }
 }

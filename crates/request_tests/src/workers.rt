@@ -11,7 +11,7 @@ use crate::ran::{Failing, run_hooked, run_words};
 use crate::small_files::{A, LATER, SmallFiles};
 use render_run::Hook;
 use std::sync::Wait;
-use std::sync::atomic::{AtomicBool, Ordering};
+use std::sync::atomic::{AtomicBool, AtomicU32, Ordering};
 use std::test::Fail;
 use std::thread::yield_now;
 use tex_world::{FileTable, Newest};
@@ -183,6 +183,29 @@ static RUNS: &[Run] = &[
         1,
     ),
     (
+        "the oldest hold is let go of, of 12288 bytes",
+        &[".", "--workers", "1", "--shards", "1"],
+        Failing::Nothing,
+        "hold 0 0 0 B.tif\nhold 0 64 0 B.tif\ndrop\nstat\n",
+        &[
+            "held 1 0 0 64 32\nheld 1 64 0 16 32\ndropped\nstat 2,1,12288,268435456\n\
+           worker 0 needs 0 hits 0\ntotal 4 refused 0\n",
+        ],
+        0,
+    ),
+    (
+        "cells 0 and 1 of generation 1 of file 1 lie in the shards 44 % 3 and 45 % 3",
+        &[".", "--workers", "1", "--shards", "3"],
+        Failing::Nothing,
+        "hold 0 0 0 B.tif\nhold 0 64 0 B.tif\ndrop\nstat\n",
+        &[
+            "held 1 0 0 64 32\nheld 1 64 0 16 32\ndropped\n\
+           stat 1,1,0,89478485 0,0,0,89478485 1,0,12288,89478485\n\
+           worker 0 needs 0 hits 0\ntotal 4 refused 0\n",
+        ],
+        0,
+    ),
+    (
         "which refusal comes first",
         &[".", "--workers", "1"],
         Failing::Nothing,
@@ -296,6 +319,73 @@ fn two_requests_run_beside_each_other(rt: HostRuntime) -> Result<(), Fail> {
     assert!(rt;
         !hook.gave_up.load(Ordering::Acquire),
         "the first was held for ever"
+    );
+    Ok(())
+}
+
+/// What the hook is told of the requests of a list: of each how often it is called, 16 for each time,
+/// and the worker.
+#[derive(Drop)]
+struct Noting {
+    before: [AtomicU32; 5],
+    after: [AtomicU32; 5],
+    early: AtomicBool,
+}
+
+impl Hook for Noting {
+    fn before<R: Wait>(&self, _rt: &R, worker: u32, index: u32) {
+        if let Some(at) = self.before.get(index as usize) {
+            at.fetch_add(worker.wrapping_add(16), Ordering::SeqCst);
+        }
+    }
+
+    fn after<R: Wait>(&self, _rt: &R, worker: u32, index: u32) {
+        let told = self.before.get(index as usize);
+        if told.map(|at| at.load(Ordering::SeqCst)) != Some(worker.wrapping_add(16)) {
+            self.early.store(true, Ordering::SeqCst);
+        }
+        if let Some(at) = self.after.get(index as usize) {
+            at.fetch_add(worker.wrapping_add(16), Ordering::SeqCst);
+        }
+    }
+}
+
+fn five() -> [AtomicU32; 5] {
+    [
+        AtomicU32::new(0),
+        AtomicU32::new(0),
+        AtomicU32::new(0),
+        AtomicU32::new(0),
+        AtomicU32::new(0),
+    ]
+}
+
+/// Of three requests, the `sync` that ends their round, and one of the next round.
+static TOLD: [u32; 5] = [16, 17, 16, 0, 16];
+
+#[test]
+fn the_hook_is_told_the_worker(rt: HostRuntime) -> Result<(), Fail> {
+    let hook = Noting {
+        before: five(),
+        after: five(),
+        early: AtomicBool::new(false),
+    };
+    let list = b"info A.tif\ninfo A.tif\ninfo A.tif\nsync\ninfo A.tif\n".to_vec(rt.alloc())?;
+    let words = [".", "--workers", "2"];
+    let _ran = run_hooked::<SmallFiles>(&rt, rt.alloc(), &words, list, Failing::Nothing, &hook)?;
+    for i in 0..TOLD.len() {
+        assert!(rt;
+            hook.before[i].load(Ordering::SeqCst) == TOLD[i],
+            "before request {i}"
+        );
+        assert!(rt;
+            hook.after[i].load(Ordering::SeqCst) == TOLD[i],
+            "after request {i}"
+        );
+    }
+    assert!(rt;
+        !hook.early.load(Ordering::SeqCst),
+        "after comes behind before"
     );
     Ok(())
 }

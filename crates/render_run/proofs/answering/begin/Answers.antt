@@ -1,16 +1,15 @@
-use Rattle.std.proofs.Common.{List, map, sym, subst}
+use Rattle.std.proofs.Common.{sym, subst}
 use Rattle.image_cache.specs.Pass.{IsPassOf}
-use Rattle.render_run.specs.Around.{Sight, sight_of}
 use Rattle.render_run.specs.Crew.{SeeNoLess, AreCarried}
+use Rattle.render_run.specs.Posts.{sight, sights_of}
 use Rattle.render_run.proofs.CrewLemmas.{told_same, all_same}
 use Rattle.render_run.proofs.answering.begin.Goals as goal
 
 pub returns-in_default-make_room-clause-kept : goal.returns-in_default-make_room-clause-kept
 returns-in_default-make_room-clause-kept g c =
-    subst (λ (l : List Sight). SeeNoLess (map (λ p. sight_of p.worker.pass
-    (g.F.Tap.Tap.state p.worker.tap)) c.args.posts.now) l)
+    subst (SeeNoLess (sights_of g.F.Tap.Tap.state c.args.posts.now))
     (sym (told_same (λ p. p.worker) c.make_room.new.posts c.carry_all.new.posts
-    c.make_room.ensures.same (λ w. sight_of w.pass (g.F.Tap.Tap.state w.tap))))
+    c.make_room.ensures.same (sight g.F.Tap.Tap.state)))
     c.carry_all.ensures.kept
 
 pub returns-in_default-make_room-clause-pass : goal.returns-in_default-make_room-clause-pass
@@ -20,18 +19,16 @@ returns-in_default-make_room-clause-pass g c =
 
 pub returns-clause-ok : goal.returns-clause-ok
 returns-clause-ok g c =
-    subst (λ (l : List Sight). AreCarried (map (λ p. sight_of p.worker.pass
-    (g.F.Tap.Tap.state p.worker.tap)) c.args.posts.now) l)
+    subst (AreCarried (sights_of g.F.Tap.Tap.state c.args.posts.now))
     (sym (told_same (λ p. p.worker) c.make_room.new.posts c.carry_all.new.posts
-    c.make_room.ensures.same (λ w. sight_of w.pass (g.F.Tap.Tap.state w.tap))))
+    c.make_room.ensures.same (sight g.F.Tap.Tap.state)))
     c.in_ok-carry_all.ensures.ok
 
 pub returns-clause-kept : goal.returns-clause-kept
 returns-clause-kept g c =
-    subst (λ (l : List Sight). SeeNoLess (map (λ p. sight_of p.worker.pass
-    (g.F.Tap.Tap.state p.worker.tap)) c.args.posts.now) l)
+    subst (SeeNoLess (sights_of g.F.Tap.Tap.state c.args.posts.now))
     (sym (told_same (λ p. p.worker) c.make_room.new.posts c.carry_all.new.posts
-    c.make_room.ensures.same (λ w. sight_of w.pass (g.F.Tap.Tap.state w.tap))))
+    c.make_room.ensures.same (sight g.F.Tap.Tap.state)))
     c.carry_all.ensures.kept
 
 pub returns-clause-pass : goal.returns-clause-pass

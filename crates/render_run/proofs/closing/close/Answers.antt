@@ -1,57 +1,36 @@
-use Rattle.std.proofs.Common.{[], ◌++◌, map, refl}
+use Rattle.std.proofs.Common.{[], ◌++◌, refl}
 use Rattle.std.proofs.lemmas.List.{append-nil}
 use Rattle.request_lang.specs.Closing.{closing_lines, worker_lines, total_line}
-use Rattle.render_run.specs.Around.{sink_state, counts_of}
-use Rattle.render_run.specs.Page.{outgoing_of}
-use Rattle.render_run.proofs.Passing.{passes_more, passes_longer, rest_longer, then_ok, then_part}
+use Rattle.render_run.specs.Around.{sink_of}
+use Rattle.render_run.specs.Page.{outgoing}
+use Rattle.render_run.specs.Posts.{all_counts}
+use Rattle.render_run.proofs.Passing.{passes_more, passes_longer, rest_longer, then_adds}
 use Rattle.render_run.proofs.closing.close.Goals as goal
 
-pub returns-in-Err-clause-part : goal.returns-in-Err-clause-part
+pub returns-in-Err-clause-passed : goal.returns-in-Err-clause-passed
 unfolding closing_lines
-returns-in-Err-clause-part g c =
-    passes_longer (worker_lines 0 (map (λ p. counts_of p.worker.pass) c.args.posts.now))
-    (total_line c.args.total c.args.refused) _ _ (g.O.Sink.holds c.pass_workers.new.out) refl
-    c.in-Err.ensures.part
+returns-in-Err-clause-passed g c =
+    passes_longer (worker_lines 0 (all_counts c.args.posts.now))
+    (total_line c.args.total c.args.refused) _ _ (sink_of g.O.Sink c.pass_workers.new.out) refl
+    c.in-Err.ensures
 
-pub returns-in-Err-pass_total-clause-part : goal.returns-in-Err-pass_total-clause-part
+pub returns-in-Err-pass_total-clause-passed : goal.returns-in-Err-pass_total-clause-passed
 unfolding closing_lines
-returns-in-Err-pass_total-clause-part g c =
-    rest_longer (worker_lines 0 (map (λ p. counts_of p.worker.pass) c.args.posts.now))
-    (total_line c.args.total c.args.refused) _
-    (outgoing_of c.args.page.now (sink_state g.O.Sink.faults g.O.Sink.holds c.args.out.now))
-    (outgoing_of c.pass_workers.new.page
-    (sink_state g.O.Sink.faults g.O.Sink.holds c.pass_workers.new.out))
-    (g.O.Sink.holds c.pass_total.new.out) refl c.in_default.ensures.ok
-    c.in-Err-pass_total.ensures.part
+returns-in-Err-pass_total-clause-passed g c =
+    rest_longer (worker_lines 0 (all_counts c.args.posts.now))
+    (total_line c.args.total c.args.refused) _ (outgoing g.O.Sink c.args.page.now c.args.out.now)
+    (outgoing g.O.Sink c.pass_workers.new.page c.pass_workers.new.out)
+    (sink_of g.O.Sink c.pass_total.new.out) refl c.in_default.ensures c.in-Err-pass_total.ensures
 
-pub returns-clause-ok : goal.returns-clause-ok
+pub returns-clause-passed : goal.returns-clause-passed
 unfolding closing_lines
-returns-clause-ok g c =
-    let workers = worker_lines 0 (map (λ p. counts_of p.worker.pass) c.args.posts.now) in
+returns-clause-passed g c =
+    let workers = worker_lines 0 (all_counts c.args.posts.now) in
     let total = total_line c.args.total c.args.refused in
-    let old = outgoing_of c.args.page.now
-    (sink_state g.O.Sink.faults g.O.Sink.holds c.args.out.now) in
-    let mid = outgoing_of c.pass_workers.new.page
-    (sink_state g.O.Sink.faults g.O.Sink.holds c.pass_workers.new.out) in
-    let late = outgoing_of c.pass_total.new.self
-    (sink_state g.O.Sink.faults g.O.Sink.holds c.pass_total.new.out) in
-    let new = outgoing_of c.put.new.self
-    (sink_state g.O.Sink.faults g.O.Sink.holds c.put.new.out) in
-    rw append-nil at (then_ok (workers ++ total) [] old late new c.put.result
-    (passes_more workers total old mid late c.in_default.ensures.ok
-    c.in_default-pass_total.ensures.ok) c.put.ensures.ok)
-
-pub returns-clause-part : goal.returns-clause-part
-unfolding closing_lines
-returns-clause-part g c =
-    let workers = worker_lines 0 (map (λ p. counts_of p.worker.pass) c.args.posts.now) in
-    let total = total_line c.args.total c.args.refused in
-    let old = outgoing_of c.args.page.now
-    (sink_state g.O.Sink.faults g.O.Sink.holds c.args.out.now) in
-    let mid = outgoing_of c.pass_workers.new.page
-    (sink_state g.O.Sink.faults g.O.Sink.holds c.pass_workers.new.out) in
-    let late = outgoing_of c.pass_total.new.self
-    (sink_state g.O.Sink.faults g.O.Sink.holds c.pass_total.new.out) in
-    rw append-nil at (then_part (workers ++ total) [] old late (g.O.Sink.holds c.put.new.out)
-    c.put.result (passes_more workers total old mid late c.in_default.ensures.ok
-    c.in_default-pass_total.ensures.ok) c.put.ensures.part)
+    let old = outgoing g.O.Sink c.args.page.now c.args.out.now in
+    let mid = outgoing g.O.Sink c.pass_workers.new.page c.pass_workers.new.out in
+    let late = outgoing g.O.Sink c.pass_total.new.self c.pass_total.new.out in
+    let new = outgoing g.O.Sink c.put.new.self c.put.new.out in
+    rw append-nil at (then_adds (workers ++ total) [] old late new c.put.result
+    (passes_more workers total old mid late c.in_default.ensures c.in_default-pass_total.ensures)
+    c.put.ensures.passed)

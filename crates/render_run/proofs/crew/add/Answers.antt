@@ -9,5 +9,5 @@ returns-clause-ok g c = record {
   };
   all = rw c.reserve.ensures.items at c.in_default-push.ensures.items;
   has = refl;
-  so = c.in_ok-tap.ensures.new;
+  unused = c.in_ok-tap.ensures.new;
 }

@@ -1,14 +1,14 @@
 -- Some workers are made.
 use Rattle.std.proofs.Common.{◌≤◌, ◌<◌, ◌-◌, length}
-use Rattle.std.specs.List.{All}
-use Rattle.render_run.specs.Crew.{IsNewPost, MakesMore}
+use Rattle.render_run.specs.Crew.{MakesMore}
+use Rattle.render_run.specs.Posts.{AreNew}
 use Rattle.render_run.proofs.crew.man.Given as goal
 
 abbrev pub invariant-posts : goal.invariant-posts
 invariant-posts g l = record {
   some : 0 < length l.posts.items;
   few : length l.posts.items ≤ l.workers;
-  new : All (λ p. IsNewPost l.cache p.worker.pass (g.F.Tap.Tap.state p.worker.tap)) l.posts.items;
+  new : AreNew g.F.Tap.Tap.state l.cache l.posts.items;
   made : MakesMore (length l.posts.items) (g.F.Folder.state l.fn.folder)
       (g.F.Folder.state l.folder);
 }

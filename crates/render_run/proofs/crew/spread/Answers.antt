@@ -1,17 +1,15 @@
-use Rattle.std.proofs.Common.{◌∙◌, List, ℕ, refl, subst, arith}
+use Rattle.std.proofs.Common.{List, ℕ, refl, subst, arith}
 use Rattle.std.proofs.lemmas.List.{length-map}
 use Rattle.std.proofs.lemmas.List.Elements.{All-set}
 use Rattle.image_cache.specs.Pass.{IsPassOf}
 use Rattle.render_run.specs.Around.{Sight}
 use Rattle.render_run.specs.Answering.{SeesNoLess}
-use Rattle.render_run.proofs.CrewLemmas.{all_at, see_same, see_more_at, spread_more}
+use Rattle.render_run.proofs.CrewLemmas.{all_at, gives_more, see_same, see_more_at, spread_more}
 use Rattle.render_run.proofs.crew.spread.Goals as goal
 
 pub loop-post-init : goal.loop-post-init
 loop-post-init g c = record {
-  seen = refl;
-  holds = refl;
-  tally = refl;
+  gives = record { seen = refl; holds = refl; tally = refl };
   pass = c.requires.first;
   kept = see_same _;
   passes = c.requires.others;
@@ -20,9 +18,7 @@ loop-post-init g c = record {
 
 pub loop-post-preserved : goal.loop-post-preserved
 loop-post-preserved g c = record {
-  seen = c.carry_to.ensures.seen ∙ c.loop-post.invariant.seen;
-  holds = c.carry_to.ensures.holds ∙ c.loop-post.invariant.holds;
-  tally = c.carry_to.ensures.tally ∙ c.loop-post.invariant.tally;
+  gives = gives_more _ _ _ c.loop-post.invariant.gives c.carry_to.ensures.gives;
   pass = c.carry_to.ensures.pass;
   kept = see_more_at _ _ c.loop-post.others c.loop-post.post-index _ c.post-item.result
       (omega (arith, c.loop-post.auto.others, c.loop-post-test.true)) c.carry_to.ensures.kept
@@ -34,8 +30,12 @@ loop-post-preserved g c = record {
       (omega (arith, c.loop-post.auto.others, c.loop-post-test.true))
       c.loop-post.invariant.so_far
       (subst (λ (seen : List ℕ). SeesNoLess seen c.carry_to.new.post.worker.pass.view.seen)
-      c.loop-post.invariant.seen c.in_ok-carry_to.ensures.ok);
+      c.loop-post.invariant.gives.seen c.in_ok-carry_to.ensures.ok);
 }
+
+pub returns-in_err-carry_to-clause-gives : goal.returns-in_err-carry_to-clause-gives
+returns-in_err-carry_to-clause-gives g c =
+    gives_more _ _ _ c.loop-post.invariant.gives c.carry_to.ensures.gives
 
 pub returns-in_err-carry_to-clause-kept : goal.returns-in_err-carry_to-clause-kept
 returns-in_err-carry_to-clause-kept g c =

@@ -5,7 +5,8 @@ use Rattle.render_run.specs.declared.question.Task.{Task}
 use Rattle.render_run.specs.declared.question.Task.TheVariants as task
 use Rattle.render_run.specs.declared.question.Question.TheVariants.{Facts}
 use Rattle.std.proofs.Math.Nat.{mul-le-mul_left}
-use Rattle.render_run.specs.Around.{sight_of, terms_of}
+use Rattle.render_run.specs.Around.{terms_of}
+use Rattle.render_run.specs.Posts.{sight}
 use Rattle.render_run.proofs.Shares.{suc_mul, share_drop, share_next, share_end}
 use Rattle.render_run.proofs.round.answer_share.Goals as goal
 
@@ -23,7 +24,7 @@ share-preserved g c =
     let tasks = c.args.tasks.now in
     let n = c.args.turn.workers in
     let k = c.share.k in
-    let answer = c.answer_of-answer.result in
+    let answer = c.answer_hooked-answer.result in
     let none : Task = task.Ask None Facts in
     let here : Task = get_or tasks k none in
     let items : c.push.new.self.items ≡ c.share.post.answers.items ++ answer ∷ [] =
@@ -37,26 +38,22 @@ share-preserved g c =
       so_far = λ rest end each.
           rw (items, append_assoc c.share.post.answers.items (answer ∷ []) rest)
           (c.share.invariant.so_far (answer ∷ rest) end
-          (share_next g.T.W.World.files (terms_of c.args.cache.now.gate) n k tasks here
-          answer rest (sight_of c.share.post.worker.pass (g.T.Tap.state c.share.post.worker.tap))
-          (sight_of c.answer_of-answer.new.worker.pass
-          (g.T.Tap.state c.answer_of-answer.new.worker.tap)) end (omega arith) c.share-test.true
-          (get_or_default tasks k here none c.share-test.true) (record {
-            meets = c.answer_of-answer.ensures.meets;
-            after = c.answer_of-answer.ensures.after;
-            tallies = c.answer_of-answer.ensures.tallies;
-          }) each));
+          (share_next g.T.W.World.files (terms_of c.args.setting.now.cache.now.gate) n k tasks here
+          answer rest (sight g.T.Tap.state c.share.post.worker)
+          (sight g.T.Tap.state c.answer_hooked-answer.new.worker) end (omega arith) c.share-test.true
+          (get_or_default tasks k here none c.share-test.true) c.answer_hooked-answer.ensures.answer
+          each));
       place = rw (long, more) (omega (arith, c.share.invariant.place));
       room = omega (
         arith,
         mul-le-mul_left n c.in_default.ensures.capacity,
         c.share.invariant.room,
       );
-      pass = c.answer_of-answer.ensures.pass;
+      pass = c.answer_hooked-answer.ensures.pass;
     }
 
 pub returns-clause-each : goal.returns-clause-each
 returns-clause-each g c =
     rw append-nil at (c.share.invariant.so_far [] _
-    (share_end g.T.W.World.files (terms_of c.args.cache.now.gate) c.args.turn.workers c.share.k
+    (share_end g.T.W.World.files (terms_of c.args.setting.now.cache.now.gate) c.args.turn.workers c.share.k
     c.args.tasks.now _ c.share-test.false))

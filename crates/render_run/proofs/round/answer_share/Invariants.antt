@@ -3,21 +3,23 @@ use Rattle.std.proofs.Common.{◌≡◌, ◌+◌, ◌*◌, ◌-◌, ◌≤◌, �
 use Rattle.std.specs.Prelude.{vec_capacity}
 use Rattle.image_cache.specs.Pass.{IsPassOf}
 use Rattle.request_lang.specs.declared.answer.Answer.{Answer}
-use Rattle.render_run.specs.Around.{Sight, sight_of, terms_of}
+use Rattle.render_run.specs.Around.{Sight, terms_of}
 use Rattle.render_run.specs.Answering.{AnswersEach, share_of}
+use Rattle.render_run.specs.Posts.{sight}
 use Rattle.render_run.proofs.round.answer_share.Given as goal
 
 abbrev pub invariant-share : goal.invariant-share
 invariant-share g l = record {
   so_far : (rest : List Answer) (end : Sight)
-      → AnswersEach g.T.W.World.files (terms_of l.cache.gate) (share_of l.turn.workers 0 (drop l.k l.tasks))
-      rest (sight_of l.post.worker.pass (g.T.Tap.state l.post.worker.tap)) end
-      → AnswersEach g.T.W.World.files (terms_of l.cache.gate)
+      → AnswersEach g.T.W.World.files (terms_of l.setting.cache.now.gate)
+      (share_of l.turn.workers 0 (drop l.k l.tasks)) rest
+      (sight g.T.Tap.state l.post.worker) end
+      → AnswersEach g.T.W.World.files (terms_of l.setting.cache.now.gate)
       (share_of l.turn.workers l.turn.worker l.tasks) (l.post.answers.items ++ rest)
-      (sight_of l.initial.post.worker.pass (g.T.Tap.state l.initial.post.worker.tap)) end;
+      (sight g.T.Tap.state l.initial.post.worker) end;
   place : l.k ≡ l.turn.worker + length l.post.answers.items * l.turn.workers;
   room : length l.tasks ≤ l.turn.workers * vec_capacity l.post.answers;
-  pass : IsPassOf l.cache l.post.worker.pass;
+  pass : IsPassOf l.setting.cache.now l.post.worker.pass;
 }
 
 abbrev pub decreases-share : goal.decreases-share

@@ -7,11 +7,42 @@ use Rattle.std.proofs.Math.Nat.{mod-lt}
 use Rattle.std.proofs.lemmas.List.Concat.{flat_map-append}
 use Rattle.request_lang.specs.declared.answer.Answer.{Answer}
 use Rattle.request_lang.specs.Line.{line_of}
+use Rattle.render_run.specs.Around.{sink_of}
+use Rattle.render_run.specs.Posts.{answers_of}
 use Rattle.render_run.specs.Answering.{answers_text, in_turn}
 use Rattle.render_run.proofs.Passing.{passes_more, passes_part, passes_longer}
 use Rattle.render_run.proofs.Rounds.{text_more, count_more}
 use Rattle.render_run.proofs.Shares.{in_turn_append, in_turn_push, answer_in, answer_is}
 use Rattle.render_run.proofs.round.write_round.Goals as goal
+
+-- the i-th answer, as it stands with its worker
+answer_here : {A : Type 0} (answers : A → List Answer) (posts : List A) (i : ℕ) (d : A) (e : Answer)
+    → 0 < length posts
+    → i / length posts < length (get_or (map answers posts) (i % length posts) [])
+    → get_or (answers (get_or posts (i % length posts) d)) (i / length posts) e
+    ≡ answer_in (length posts) i (map answers posts)
+answer_here answers posts i d e some there =
+    let low : i % length posts < length posts = mod-lt i some in
+    answer_is answers posts (length posts) i d e low
+    (subst (λ (xs : List Answer). i / length posts < length xs)
+    (get_or-map answers posts (i % length posts) d [] low) there)
+
+-- the text of an answer, and those before it and behind
+texts_split : (n i count : ℕ) (lists : List (List Answer)) (a : Answer) → i < count
+    → a ≡ answer_in n i lists
+    → (answers_text (in_turn n 0 i lists) ++ line_of a)
+    ++ answers_text (in_turn n (0 + (i + 1)) (count - (i + 1)) lists)
+    ≡ answers_text (in_turn n 0 count lists)
+texts_split n i count lists a low here =
+    let front = in_turn n 0 i lists in
+    let rest = in_turn n (0 + (i + 1)) (count - (i + 1)) lists in
+    let next : in_turn n 0 (i + 1) lists ≡ front ++ a ∷ [] =
+    in_turn_push n i lists ∙ ap (λ (x : Answer). front ++ x ∷ []) (sym here) in
+    let all : i + 1 + (count - (i + 1)) ≡ count = omega (arith, low) in
+    ap (λ (t : List ℕ). t ++ answers_text rest) (sym (text_more front a) ∙ ap answers_text (sym next))
+    ∙ sym (flat_map-append line_of (in_turn n 0 (i + 1) lists) rest)
+    ∙ ap answers_text (sym (in_turn_append n 0 (i + 1) (count - (i + 1)) lists))
+    ∙ ap (λ (m : ℕ). answers_text (in_turn n 0 m lists)) all
 
 -- a test counts once at most
 one_of_byte : (b : Bool) (n : ℕ) → n ≡ from_bool b → n ≡ one_if b
@@ -25,18 +56,13 @@ one_low false = omega arith
 pub loop-i-preserved : goal.loop-i-preserved
 loop-i-preserved g c =
     let n = length c.args.posts.now in
-    let lists : List (List Answer) = map (λ p. p.answers.items) c.args.posts.now in
+    let lists = answers_of c.args.posts.now in
     let i = c.loop-i.i in
     let front : List Answer = in_turn n 0 i lists in
     let a = c.index-answer.result.now in
-    let low : i % n < n = mod-lt i c.requires.some in
-    let deep : i / n < length (get_or c.args.posts.now (i % n) c.index-posts-i.result).answers.items =
-    subst (λ (xs : List Answer). i / n < length xs)
-    (get_or-map (λ p. p.answers.items) c.args.posts.now (i % n) c.index-posts-i.result [] low)
-    (c.requires.there i c.loop-i-test.true) in
     let here : a ≡ answer_in n i lists =
-    c.index-answer.ensures ∙ answer_is (λ p. p.answers.items) c.args.posts.now n i
-    c.index-posts-i.result _ low deep in
+    c.index-answer.ensures ∙ answer_here (λ p. p.answers.items) c.args.posts.now i
+    c.index-posts-i.result _ c.requires.some (c.requires.there i c.loop-i-test.true) in
     let next : in_turn n 0 (i + 1) lists ≡ front ++ a ∷ [] =
     in_turn_push n i lists ∙ ap (λ (x : Answer). front ++ x ∷ []) (sym here) in
     let one : c.from-refused.result ≡ one_if c.is_refusal.result =
@@ -45,7 +71,7 @@ loop-i-preserved g c =
       passed =
           rw (next, text_more front a)
           (passes_more (answers_text front) (line_of a) _ _ _ c.loop-i.invariant.passed
-          c.in_default.ensures.ok);
+          c.in_default.ensures);
       refusal =
           rw (next, count_more front a)
           (rw (← c.loop-i.invariant.refusal, ← c.is_refusal.ensures, one) refl);
@@ -55,36 +81,22 @@ loop-i-preserved g c =
         one,
         one_low c.is_refusal.result,
       );
-      faults = omega (arith, c.loop-i.invariant.faults, c.pass.ensures.faults);
     }
 
-pub returns-in-Err-clause-part : goal.returns-in-Err-clause-part
-returns-in-Err-clause-part g c =
+pub returns-in-Err-clause-passed : goal.returns-in-Err-clause-passed
+returns-in-Err-clause-passed g c =
     let n = length c.args.posts.now in
-    let lists : List (List Answer) = map (λ p. p.answers.items) c.args.posts.now in
+    let lists = answers_of c.args.posts.now in
     let i = c.loop-i.i in
     let front : List Answer = in_turn n 0 i lists in
     let a = c.index-answer.result.now in
-    let low : i % n < n = mod-lt i c.requires.some in
-    let deep : i / n < length (get_or c.args.posts.now (i % n) c.index-posts-i.result).answers.items =
-    subst (λ (xs : List Answer). i / n < length xs)
-    (get_or-map (λ p. p.answers.items) c.args.posts.now (i % n) c.index-posts-i.result [] low)
-    (c.requires.there i c.loop-i-test.true) in
     let here : a ≡ answer_in n i lists =
-    c.index-answer.ensures ∙ answer_is (λ p. p.answers.items) c.args.posts.now n i
-    c.index-posts-i.result _ low deep in
-    let next : in_turn n 0 (i + 1) lists ≡ front ++ a ∷ [] =
-    in_turn_push n i lists ∙ ap (λ (x : Answer). front ++ x ∷ []) (sym here) in
-    let rest : List Answer = in_turn n (0 + (i + 1)) (c.args.count - (i + 1)) lists in
-    let count : i + 1 + (c.args.count - (i + 1)) ≡ c.args.count = omega (arith, c.loop-i-test.true) in
-    let whole : (answers_text front ++ line_of a) ++ answers_text rest
-    ≡ answers_text (in_turn n 0 c.args.count lists) =
-    ap (λ (t : List ℕ). t ++ answers_text rest)
-    (sym (text_more front a) ∙ ap answers_text (sym next))
-    ∙ sym (flat_map-append line_of (in_turn n 0 (i + 1) lists) rest)
-    ∙ ap answers_text (sym (in_turn_append n 0 (i + 1) (c.args.count - (i + 1)) lists))
-    ∙ ap (λ (m : ℕ). answers_text (in_turn n 0 m lists)) count in
-    passes_longer (answers_text front ++ line_of a) (answers_text rest)
-    (answers_text (in_turn n 0 c.args.count lists)) _ (g.O.Sink.holds c.pass.new.out) whole
-    (passes_part (answers_text front) (line_of a) _ _ (g.O.Sink.holds c.pass.new.out)
-    c.loop-i.invariant.passed c.in-Err.ensures.part)
+    c.index-answer.ensures ∙ answer_here (λ p. p.answers.items) c.args.posts.now i
+    c.index-posts-i.result _ c.requires.some (c.requires.there i c.loop-i-test.true) in
+    let left = sink_of g.O.Sink c.pass.new.out in
+    passes_longer (answers_text front ++ line_of a)
+    (answers_text (in_turn n (0 + (i + 1)) (c.args.count - (i + 1)) lists))
+    (answers_text (in_turn n 0 c.args.count lists)) _ left
+    (texts_split n i c.args.count lists a c.loop-i-test.true here)
+    (passes_part (answers_text front) (line_of a) _ _ left c.loop-i.invariant.passed
+    c.in-Err.ensures)

@@ -1,53 +1,80 @@
-use Rattle.std.proofs.Common.{length, map, refl}
-use Rattle.render_run.specs.Around.{sink_state, source_of_crew, sight_of, no_sight}
-use Rattle.render_run.specs.Around.{terms_for, terms_of}
-use Rattle.render_run.proofs.Folders.{all_through, part_through, rounds_through}
+use Rattle.std.proofs.Common.{◌≡◌, ◌∙◌, ℕ, length, ap, subst, arith}
+use Rattle.render_run.specs.Around.{sink_of, source_of_crew, terms_for, terms_of}
+use Rattle.render_run.specs.Crew.{TakesBack}
+use Rattle.render_run.specs.Posts.{sights_of}
+use Rattle.render_run.proofs.Manned.{crew_idle, crew_none, crew_passes, taps_back, written_back}
+use Rattle.render_run.proofs.Folders.{leaves_through, no_rounds, no_taps, taps_made}
 use Rattle.render_run.proofs.top.answer_through_taps.Goals as goal
 
-pub returns-clause-answered : goal.returns-clause-answered
-returns-clause-answered g c = λ few.
-    all_through g.F.W.World.files (terms_of c.in-Ok-cache_of.cache.gate)
-    (terms_for c.args.asked.now.options) (length c.answer_by_crew-answered.new.posts.items)
-    c.args.asked.now.options.workers c.args.asked.now.options.workers
-    c.args.asked.now.requests.items no_sight.source
-    (source_of_crew (map (λ p. sight_of p.worker.pass (g.F.Tap.Tap.state p.worker.tap))
-    c.answer_by_crew-answered.new.posts.items))
-    (g.F.Folder.state c.args.folder.now) (g.F.Folder.state c.answer_by_crew-answered.new.folder)
-    (g.F.Folder.state c.give_back.new.folder) (record { faults = refl; moves = refl })
-    c.answer_by_crew-answered.ensures.made c.give_back.ensures c.in-Ok-cache_of.ensures.terms refl
-    (sink_state g.O.Sink.faults g.O.Sink.holds c.args.out.now)
-    (sink_state g.O.Sink.faults g.O.Sink.holds c.answer_by_crew-answered.new.out)
-    c.answer_by_crew-answered.result c.status_of.result c.answer_by_crew-answered.ensures.ok
-    c.status_of.ensures few
+pub returns-in_default : goal.returns-in_default
+returns-in_default g c = record {
+  left = no_rounds _ _ (g.F.Folder.state c.args.folder.now) (g.F.Folder.state c.args.folder.now)
+      _ (omega arith) (omega arith);
+  made = tt;
+  taps = no_taps (g.F.Folder.state c.args.folder.now);
+}
 
-pub returns-clause-part : goal.returns-clause-part
-returns-clause-part g c = λ is.
-    part_through g.F.W.World.files (terms_of c.in-Ok-cache_of.cache.gate)
-    (terms_for c.args.asked.now.options) (length c.answer_by_crew-answered.new.posts.items)
-    c.args.asked.now.options.workers c.args.asked.now.options.workers
-    c.args.asked.now.requests.items no_sight.source
-    (source_of_crew (map (λ p. sight_of p.worker.pass (g.F.Tap.Tap.state p.worker.tap))
-    c.answer_by_crew-answered.new.posts.items))
-    (g.F.Folder.state c.args.folder.now) (g.F.Folder.state c.answer_by_crew-answered.new.folder)
-    (g.F.Folder.state c.give_back.new.folder) (record { faults = refl; moves = refl })
-    c.answer_by_crew-answered.ensures.made c.give_back.ensures c.in-Ok-cache_of.ensures.terms refl
-    (sink_state g.O.Sink.faults g.O.Sink.holds c.args.out.now)
-    (sink_state g.O.Sink.faults g.O.Sink.holds c.answer_by_crew-answered.new.out)
-    c.answer_by_crew-answered.result c.status_of.result c.answer_by_crew-answered.ensures.err
-    c.status_of.ensures is
+pub returns-in_default-cache_of : goal.returns-in_default-cache_of
+returns-in_default-cache_of g c = record {
+  left = no_rounds _ _ (g.F.Folder.state c.args.folder.now) (g.F.Folder.state c.args.folder.now)
+      _ (omega arith) (omega arith);
+  made = tt;
+  taps = no_taps (g.F.Folder.state c.args.folder.now);
+}
 
-pub returns-clause-short : goal.returns-clause-short
-returns-clause-short g c = λ is.
-    rounds_through g.F.W.World.files (terms_of c.in-Ok-cache_of.cache.gate)
-    (terms_for c.args.asked.now.options) (length c.answer_by_crew-answered.new.posts.items)
-    c.args.asked.now.options.workers c.args.asked.now.options.workers
-    c.args.asked.now.requests.items no_sight.source
-    (source_of_crew (map (λ p. sight_of p.worker.pass (g.F.Tap.Tap.state p.worker.tap))
-    c.answer_by_crew-answered.new.posts.items))
-    (g.F.Folder.state c.args.folder.now) (g.F.Folder.state c.answer_by_crew-answered.new.folder)
-    (g.F.Folder.state c.give_back.new.folder) (record { faults = refl; moves = refl })
-    c.answer_by_crew-answered.ensures.made c.give_back.ensures c.in-Ok-cache_of.ensures.terms refl
-    (sink_state g.O.Sink.faults g.O.Sink.holds c.args.out.now)
-    (sink_state g.O.Sink.faults g.O.Sink.holds c.answer_by_crew-answered.new.out)
-    c.answer_by_crew-answered.result c.status_of.result c.answer_by_crew-answered.ensures.err
-    c.status_of.ensures is
+pub returns-in_default-crew_of : goal.returns-in_default-crew_of
+returns-in_default-crew_of g c = record {
+  left = no_rounds _ _ (g.F.Folder.state c.args.folder.now)
+      (g.F.Folder.state c.crew_of.new.folder) _
+      c.in_default-crew_of.ensures.back.folder.faults
+      c.in_default-crew_of.ensures.back.folder.moves;
+  made = tt;
+  taps = c.in_default-crew_of.ensures.back;
+}
+
+pub answer_list-answered-requires-clause-idle : goal.answer_list-answered-requires-clause-idle
+answer_list-answered-requires-clause-idle g c κs within =
+    rw c.deref_mut.ensures.value
+    (crew_idle g.F.Tap.Tap.state c.in-Ok-cache_of.cache c.in-Ok-crew_of.posts.items
+    c.in-Ok-crew_of.ensures.new)
+
+pub answer_list-answered-requires-clause-pass : goal.answer_list-answered-requires-clause-pass
+answer_list-answered-requires-clause-pass g c κs within =
+    rw c.deref_mut.ensures.value
+    (crew_passes g.F.Tap.Tap.state c.in-Ok-cache_of.cache c.in-Ok-crew_of.posts.items
+    c.in-Ok-crew_of.ensures.new)
+
+pub returns : goal.returns
+returns g c =
+    let f0 = g.F.Folder.state c.args.folder.now in
+    let f1 = g.F.Folder.state c.crew_of.new.folder in
+    let f2 = g.F.Folder.state c.give_back.new.folder in
+    let workers = c.args.asked.now.options.workers in
+    let before = c.deref_mut.result.now in
+    let after = c.answer_list-answered.new.posts in
+    let seen = source_of_crew (sights_of g.F.Tap.Tap.state after) in
+    let whole = written_back c.in-Ok-crew_of.posts.len after c.in-Ok-crew_of.posts.items
+    (omega (arith, c.deref_mut.ensures.len, c.answer_list-answered.auto.posts)) in
+    let made = c.in-Ok-crew_of.ensures.made in
+    let given : TakesBack (length after) seen f1 f2 = rw whole at c.give_back.ensures in
+    let count : length before ≡ workers =
+    ap length c.deref_mut.ensures.value ∙ c.in-Ok-crew_of.ensures.count in
+    record {
+      left =
+          leaves_through g.F.W.World.files (terms_of c.in-Ok-cache_of.cache.gate)
+          (terms_for c.args.asked.now.options) (length after) (length before) workers
+          c.args.asked.now.requests.items
+          (source_of_crew (sights_of g.F.Tap.Tap.state before)) seen f0 f1 f2
+          (rw c.deref_mut.ensures.value
+          (crew_none g.F.Tap.Tap.state c.in-Ok-cache_of.cache c.in-Ok-crew_of.posts.items
+          c.in-Ok-crew_of.ensures.new))
+          made given c.in-Ok-cache_of.ensures.terms count
+          (sink_of g.O.Sink c.args.out.now) (sink_of g.O.Sink c.answer_list-answered.new.out)
+          c.answer_list-answered.result
+          (rw c.deref.ensures.value at c.answer_list-answered.ensures);
+      made = taps_made (length after) workers seen f0 f1 f2 made given
+          c.answer_list-answered.result;
+      taps = taps_back workers seen f0 f1 f2 made
+          (subst (λ (k : ℕ). TakesBack k seen f1 f2) (c.answer_list-answered.auto.posts ∙ count)
+          given);
+    }

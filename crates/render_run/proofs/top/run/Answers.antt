@@ -17,19 +17,18 @@ returns-in-Ok g c =
     let left = sink_state g.O.Sink.faults g.O.Sink.holds c.answer_through_taps.new.out in
     let old : Around = around_of (g.F.Folder.state c.args.folder.now) feed sink in
     let new : Around = around_of (g.F.Folder.state c.answer_through_taps.new.folder) read left in
-    let runs : Runs files asked old new c.answer_through_taps.result =
+    let runs : Runs files asked old new c.status_of.result =
     answered_runs files asked c.in-Ok.asked.options
     (g.F.Folder.state c.args.folder.now) (g.F.Folder.state c.prepare.new.folder)
     (g.F.Folder.state c.answer_through_taps.new.folder) feed read sink left
     c.in-Ok.asked.requests.items c.in-Ok.ensures.options c.in-Ok.ensures.prepared
-    c.in-Ok.ensures.taps c.answer_through_taps.ensures.folder c.answer_through_taps.result
-    c.answer_through_taps.ensures.answered c.answer_through_taps.ensures.made
-    c.answer_through_taps.ensures.part c.answer_through_taps.ensures.short
-    c.answer_through_taps.ensures.statuses c.answer_through_taps.ensures.taps in
+    c.in-Ok.ensures.taps c.answer_through_taps.ensures.taps c.answer_through_taps.result
+    c.answer_through_taps.ensures.left c.answer_through_taps.ensures.made c.status_of.result
+    c.status_of.ensures in
     record {
       runs = runs;
       complete = λ tells has calm.
-          completes files asked old new tells has calm c.answer_through_taps.result runs;
+          completes files asked old new tells has calm c.status_of.result runs;
     }
 
 pub returns-in-Err : goal.returns-in-Err

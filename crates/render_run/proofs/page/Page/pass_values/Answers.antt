@@ -1,19 +1,25 @@
-use Rattle.std.proofs.Common.{◌≡◌, ◌++◌, take, drop, refl, arith}
+use Rattle.std.proofs.Common.{◌≡◌, [], ◌++◌, take, drop, refl}
 use Rattle.std.proofs.lemmas.List.{take-append-drop}
 use Rattle.request_lang.specs.Line.{fields}
 use Rattle.request_lang.proofs.AppendLemmas.{one_part}
-use Rattle.render_run.specs.Around.{sink_state}
-use Rattle.render_run.specs.Page.{outgoing_of}
-use Rattle.render_run.proofs.Passing.{passes_more, rest_longer}
+use Rattle.render_run.specs.Around.{sink_of}
+use Rattle.render_run.specs.Page.{outgoing}
+use Rattle.render_run.proofs.Passing.{none_passed, passes_more, rest_longer}
 use Rattle.render_run.proofs.page.Page.pass_values.Goals as goal
 
-pub returns-in-Err-clause-part : goal.returns-in-Err-clause-part
-returns-in-Err-clause-part g c =
+pub parts-init : goal.parts-init
+parts-init g c = record {
+  front = [];
+  split = refl;
+  passed = none_passed (outgoing g.O.Sink c.args.self.now c.args.out.now);
+}
+
+pub returns-in-Err : goal.returns-in-Err
+returns-in-Err g c =
     rest_longer c.parts.invariant.front (fields c.parts.rest.now) (fields c.args.values.now)
-    (outgoing_of c.args.self.now (sink_state g.O.Sink.faults g.O.Sink.holds c.args.out.now))
-    (outgoing_of c.parts.self (sink_state g.O.Sink.faults g.O.Sink.holds c.parts.out))
-    (g.O.Sink.holds c.pass_part.new.out) c.parts.invariant.split c.parts.invariant.passed
-    c.in-Err.ensures.part
+    (outgoing g.O.Sink c.args.self.now c.args.out.now)
+    (outgoing g.O.Sink c.parts.self c.parts.out) (sink_of g.O.Sink c.pass_part.new.out)
+    c.parts.invariant.split c.parts.invariant.passed c.in-Err.ensures
 
 pub parts-preserved : goal.parts-preserved
 parts-preserved g c =
@@ -25,10 +31,8 @@ parts-preserved g c =
       split = one_part c.parts.invariant.front part _ c.parts.rest.now _ _
           c.parts.invariant.split (cc) refl;
       passed = passes_more c.parts.invariant.front (fields part)
-          (outgoing_of c.args.self.now (sink_state g.O.Sink.faults g.O.Sink.holds c.args.out.now))
-          (outgoing_of c.parts.self (sink_state g.O.Sink.faults g.O.Sink.holds c.parts.out))
-          (outgoing_of c.pass_part.new.self
-          (sink_state g.O.Sink.faults g.O.Sink.holds c.pass_part.new.out))
-          c.parts.invariant.passed c.in_default.ensures.ok;
-      faults = omega (arith, c.parts.invariant.faults, c.pass_part.ensures.faults);
+          (outgoing g.O.Sink c.args.self.now c.args.out.now)
+          (outgoing g.O.Sink c.parts.self c.parts.out)
+          (outgoing g.O.Sink c.pass_part.new.self c.pass_part.new.out)
+          c.parts.invariant.passed c.in_default.ensures;
     }

@@ -1,0 +1,33 @@
+use Rattle.std.proofs.Common.{refl, rules}
+use Rattle.render_run.specs.Around.{tally_of}
+use Rattle.render_run.specs.Refusal.{refusal_of}
+use Rattle.render_run.proofs.NeedLemmas.{keeps_tally, refusal_keeps}
+use Rattle.render_run.proofs.worker.Worker.facts.Goals as goal
+
+pub returns-in-Ok : goal.returns-in-Ok
+returns-in-Ok g c = record {
+  answer = record {
+    meets = search rules;
+    after = search rules;
+    tallies = keeps_tally _ _ _ (tally_of c.args.self.now.pass) (tally_of c.info.new.pass) _ refl
+        c.info.ensures.same.tiles.recent c.info.ensures.same.counts.needs
+        c.info.ensures.same.counts.hits refl;
+  };
+  pass = search rules;
+  oldest = tt;
+}
+
+pub returns-in-Err : goal.returns-in-Err
+returns-in-Err g c = record {
+  answer = record {
+    meets = search rules;
+    after = search rules;
+    tallies = rw c.refusal.ensures
+        (keeps_tally _ _ _ (tally_of c.args.self.now.pass) (tally_of c.info.new.pass)
+        (refusal_of c.in-Err.e) refl c.info.ensures.same.tiles.recent
+        c.info.ensures.same.counts.needs c.info.ensures.same.counts.hits
+        (refusal_keeps c.in-Err.e));
+  };
+  pass = search rules;
+  oldest = tt;
+}

@@ -1,0 +1,47 @@
+use Rattle.std.proofs.Common.{◌≡◌, ◌∙◌, length, refl, sym, rules}
+use Rattle.texture_sys.specs.declared.lookup_request.LookupRequest.TheVariants.{Footprint}
+use Rattle.request_lang.specs.declared.answer.Answer.TheVariants as line
+use Rattle.render_run.proofs.NeedLemmas.{look_tally, look_fails, first_of}
+use Rattle.render_run.proofs.worker.Worker.look_along.Goals as goal
+
+pub returns-in-Ok : goal.returns-in-Ok
+returns-in-Ok g c =
+    let long : length c.texture_d.new.out ≡ c.args.request.now.nch = search rules in
+    let same : c.few.result ≡ c.texture_d.new.out =
+    c.few.ensures ∙ first_of c.args.request.now.nch c.texture_d.new.out _ (sym long) in
+    record {
+      answer = record {
+        meets = record {
+          too_large = λ large. absurd (cc large);
+          full = λ full. absurd (cc full);
+          of_file = λ few one. rw same (record {
+            form = long;
+            real = c.in-Ok.ensures.value.of.real;
+            reply = c.in-Ok.ensures.value.value;
+          });
+        };
+        after = search rules;
+        tallies = look_tally g.T.W.World.files c.args.desk.now.cache.now.gate.cut c.args.file
+            c.in-Ok.generation c.args.self.now.pass c.texture_d.new.pass
+            (Footprint c.args.request.now) (line.Texd c.in-Ok.generation c.few.result)
+            c.texture_d.ensures.same.counts c.in-Ok.ensures.value.of.real
+            (λ bytes held. (c.in-Ok.ensures.value.value bytes held).good) (λ keys told. told) refl
+            c.in-Ok.ensures.kept;
+      };
+      pass = search rules;
+      oldest = tt;
+    }
+
+pub returns-in-Err : goal.returns-in-Err
+returns-in-Err g c = record {
+  answer = record {
+    meets = search rules;
+    after = search rules;
+    tallies = rw c.refusal.ensures
+        (look_fails g.T.W.World.files c.args.desk.now.cache.now.gate.cut c.args.file
+        c.args.self.now.pass c.texture_d.new.pass (Footprint c.args.request.now) c.in-Err.e
+        c.in-Err.ensures.unread c.texture_d.ensures.same.counts);
+  };
+  pass = search rules;
+  oldest = tt;
+}

@@ -1,0 +1,74 @@
+use Rattle.std.proofs.Common.{◌≡◌, ℕ, ◌*◌, ◌<◌, ◌≤◌, inl, inr, ap, ◌∙◌, rules, arith}
+use Rattle.std.proofs.lemmas.Bool.{cases_lt}
+use Rattle.texel_values.specs.Region.{max_texels}
+use Rattle.image_cache.specs.declared.error.CacheError.TheVariants.{RegionTooLarge}
+use Rattle.image_cache.specs.Cause.{around}
+use Rattle.render_run.specs.Refusal.{refusal_of}
+use Rattle.render_run.proofs.RegionLemmas.{region_rests, region_reply}
+use Rattle.render_run.proofs.NeedLemmas.{region_tally, region_fails}
+use Rattle.render_run.proofs.worker.Worker.values.Goals as goal
+
+-- what is not more than so many
+not_large : (n : ℕ) → (max_texels < n → ⊥) → n ≤ max_texels
+not_large n none = elim (cases_lt max_texels n) [
+  | inl many ↦ absurd (none many)
+  | inr few ↦ few
+]
+
+pub returns-in-Ok : goal.returns-in-Ok
+returns-in-Ok g c = record {
+  answer = record {
+    meets = record {
+      too_large = λ large.
+          let many : max_texels < c.args.region.now.w * c.args.region.now.h = search rules in
+          let none = (c.in-Ok.ensures.too_large many).0 in absurd (cc (none, c.in-Ok.is));
+      full = λ full. absurd (cc full);
+      of_file = λ few one.
+          rw c.new.ensures
+          (region_reply g.T.W.World.files c.args.file c.args.desk.now.cache.now.gate.cut
+          c.args.self.now.pass c.get_pixels.new.pass c.args.region.now c.in-Ok.pixels.generation
+          c.in-Ok.pixels.channels c.get_pixels.new.out.items
+          (c.in-Ok.ensures.count ∙ rw c.new-values.ensures.items (omega arith))
+          (rw c.new-values.ensures.items at c.in-Ok.ensures.value) c.in-Ok.ensures.ok);
+    };
+    after = search rules;
+    tallies =
+        let fits : c.args.region.now.w * c.args.region.now.h ≤ max_texels =
+        not_large (c.args.region.now.w * c.args.region.now.h) (λ many.
+        let none = (c.in-Ok.ensures.too_large many).0 in absurd (cc (none, c.in-Ok.is))) in
+        region_tally g.T.W.World.files c.args.desk.now.cache.now.gate.cut c.args.file c.in-Ok.pixels.generation
+        c.args.self.now.pass c.get_pixels.new.pass c.args.region.now c.in-Ok.pixels.channels _ fits
+        c.in-Ok.ensures.ok;
+  };
+  pass = search rules;
+  oldest = tt;
+}
+
+pub returns-in-Err : goal.returns-in-Err
+returns-in-Err g c = record {
+  answer = record {
+    meets = record {
+      too_large = λ large.
+          let many : max_texels < c.args.region.now.w * c.args.region.now.h = search rules in
+          let none = (c.in-Err.ensures.too_large many).0 in
+          let is : c.in-Err.e ≡ RegionTooLarge = cc (none, c.in-Err.is) in
+          c.refusal.ensures ∙ ap refusal_of is;
+      full = λ full. absurd (cc full);
+      of_file = λ few one.
+          let fits : c.args.region.now.w * c.args.region.now.h ≤ max_texels = search rules in
+          rw c.refusal.ensures
+          (region_rests (around g.T.W.World.files c.args.file c.args.desk.now.cache.now.gate.cut
+          c.args.self.now.pass c.get_pixels.new.pass (g.T.Tap.state c.args.self.now.tap)
+          (g.T.Tap.state c.get_pixels.new.tap)) c.args.region.now fits c.in-Err.e
+          c.in-Err.ensures.cause);
+    };
+    after = search rules;
+    tallies =
+        rw c.refusal.ensures
+        (region_fails g.T.W.World.files c.args.desk.now.cache.now.gate.cut c.args.file
+        c.args.self.now.pass c.get_pixels.new.pass c.args.region.now c.in-Err.e
+        c.in-Err.ensures.unread c.get_pixels.ensures.same.0.counts);
+  };
+  pass = search rules;
+  oldest = tt;
+}
