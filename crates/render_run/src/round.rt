@@ -89,8 +89,22 @@ pub(crate) fn make_room<T: Tap>(posts: &mut [Post<T>], count: usize) -> Result<(
     Ok(())
 }
 
+/// How many threads so many workers take for a round: where it deals one request at most, none but
+/// the thread that asks. `sync` is dealt to nobody.
+fn threads_for(workers: usize, tasks: &[Task]) -> usize
+    requires { 0 < workers }
+    ensures { 0 < result }
+{
+    let dealt = tasks.iter().filter(|task| !matches!(task, Task::Sync));
+    if dealt.take(2).count() < 2 {
+        1
+    } else {
+        workers
+    }
+}
+
 /// Each worker answers its share of the requests of a round, in a thread of its own where one can be
-/// made.
+/// made and the round deals several.
 pub(crate) fn answer_round<R: Threads + Wait + Sync, T: Tap + Send, K: Hook + Sync>(
     setting: &Setting<'_, R, T, K>,
     posts: &mut [Post<T>],
@@ -114,7 +128,7 @@ where
     for_each_mut(
         setting.rt,
         posts,
-        workers,
+        threads_for(workers, tasks),
         &|worker, post|
             requires { (worker < workers) × (workers ≤ max_workers)
                 × IsPassOf setting.now.cache.now post.old.worker.pass
