@@ -144,7 +144,7 @@ fn release_both(shard: &mut OneShard, list: &mut Vec<Listed>, key: TileKey, shar
     unpin(list, key, share) == released
 }
 
-// Both have the same counts, and the same keys pinned.
+// Both have the same counts, the same keys pinned, and a slot for each key that is there.
 fn are_alike(shard: &OneShard, list: &Vec<Listed>) -> bool {
     let mut alike = counts(shard) == counted(list);
     for number in 0..24 {
@@ -153,7 +153,8 @@ fn are_alike(shard: &OneShard, list: &Vec<Listed>) -> bool {
             Some(i) => i < list.len() && list[i].pins > 0,
             None => false,
         };
-        alike = alike && shard.is_pinned(key) == pinned;
+        let there = place(list, key).is_some();
+        alike = alike && shard.is_pinned(key) == pinned && shard.slot_of(key).is_some() == there;
     }
     alike
 }

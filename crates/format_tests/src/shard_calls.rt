@@ -8,10 +8,14 @@ pub fn find<W: World>(shard: &mut Shard<W>, key: TileKey) -> bool {
     shard.pins() < u32::MAX && matches!(shard.find_pin(key), Ok(Some(_)))
 }
 
-// Whether a tile is kept.
+// Whether a tile is kept. The slots that tiles left are told first.
 pub fn insert<W: World>(shard: &mut Shard<W>, tile: Tile<W>, slots: u32) -> bool {
+    'telling: while shard.left().is_some() {}
     let pins = shard.pins();
-    pins < slots && pins < u32::MAX && shard.insert_pin(tile, slots as usize).is_ok()
+    if slots != shard.slots() || pins >= slots || pins == u32::MAX {
+        return false;
+    }
+    shard.insert_pin(tile, slots as usize).is_ok()
 }
 
 // Whether there was a pin.

@@ -45,10 +45,10 @@ fn keeps_the_tile_that_is_there(rt: HostRuntime) -> Result<(), Fail> {
 fn makes_room_for_one_more(rt: HostRuntime) -> Result<(), Fail> {
     let (a, b) = (TileKey::new(1, 1, 0, 0), TileKey::new(1, 1, 0, 1));
     let (c, d) = (TileKey::new(1, 1, 0, 2), TileKey::new(1, 1, 0, 3));
-    let mut shard = one_shard(rt.alloc(), 4)?;
-    assert!(rt; put(rt.alloc(), &mut shard, a, 16, 4)?);
-    assert!(rt; put(rt.alloc(), &mut shard, b, 16, 4)?);
-    assert!(rt; put(rt.alloc(), &mut shard, c, 16, 4)?);
+    let mut shard = one_shard(rt.alloc(), 3)?;
+    assert!(rt; put(rt.alloc(), &mut shard, a, 16, 3)?);
+    assert!(rt; put(rt.alloc(), &mut shard, b, 16, 3)?);
+    assert!(rt; put(rt.alloc(), &mut shard, c, 16, 3)?);
     assert!(rt; release(&mut shard, b, SHARE));
     assert!(rt; release(&mut shard, c, SHARE));
     assert!(rt; put(rt.alloc(), &mut shard, d, 16, 3)?);

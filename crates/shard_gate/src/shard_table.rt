@@ -45,11 +45,12 @@ pub(crate) struct LawfulShards<W> {
 impl<W: World> BodyRule<Slot<W>> for LawfulShards<W> {
     ghost use Rattle.crossbeam_utils.specs.Padded.{padded_value};
     ghost use Rattle.tile_store.specs.Entry.{Entries};
+    ghost use Rattle.tile_store.specs.Slots.{ShardState};
     ghost use Rattle.tile_store.specs.Lawful.{Lawful};
 
-    ghost lawful = { λ tag slot. Lawful W.files tag (padded_value slot) };
+    ghost lawful = { λ tag slot. Lawful W.files tag (padded_value slot).entries };
 
-    ghost shown = { λ slot. padded_value slot };
+    ghost shown = { λ slot. (padded_value slot).entries };
 }
 
 impl<W: World> ShardTable<W> {

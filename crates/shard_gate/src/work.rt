@@ -1,6 +1,6 @@
 //! What is done to the tiles of one shard while a seat has its turn. That a pin is there, and that
 //! there is room for one more, is tested on the tiles themselves.
-ghost use Rattle.std.specs.Prelude.{◌≡◌, ◌+◌, option_map, IfOk, IfErr, OnOk, OnErr};
+ghost use Rattle.std.specs.Prelude.{◌≡◌, ◌+◌, [], option_map, IfOk, IfErr, OnOk, OnErr};
 ghost use Rattle.std.specs.Arc.{arc_value};
 ghost use Rattle.tile_store.specs.Entry.{tile_at, HasPin};
 ghost use Rattle.tile_store.specs.Changes.{pinned_first, inserted, kept_tile};
@@ -23,13 +23,14 @@ pub(crate) fn find_in<W: World>(
     key: TileKey,
 ) -> Result<Option<Arc<Tile<W>>>, NotFound>
     // None comes exactly where no entry has the key.
-    ensures found { IfOk result (λ tile. option_map arc_value tile ≡ tile_at key shard.old) }
-    ensures cause { IfErr result (MissedCause shard.old) }
-    ensures some { FoundAmong arc_value W.files shard.old key result }
+    ensures found { IfOk result (λ tile.
+        option_map arc_value tile ≡ tile_at key shard.old.entries) }
+    ensures cause { IfErr result (MissedCause shard.old.entries) }
+    ensures some { FoundAmong arc_value W.files shard.old.entries key result }
     // What the call leaves.
-    ensures entries { OnOk result (shard.new ≡ pinned_first key shard.old) }
-    ensures err { OnErr result (shard.new ≡ shard.old) }
-    ensures lawful { KeepsLawful W.files shard.old shard.new }
+    ensures entries { OnOk result (shard.new.entries ≡ pinned_first key shard.old.entries) }
+    ensures err { OnErr result (shard.new.entries ≡ shard.old.entries) }
+    ensures lawful { KeepsLawful W.files shard.old.entries shard.new.entries }
 {
     if shard.pins() == u32::MAX {
         return Err(NotFound::Full);
@@ -46,29 +47,47 @@ pub(crate) fn insert_in<W: World>(
     tile: Tile<W>,
     slots: u32,
 ) -> Result<Arc<Tile<W>>, NotInserted<W>>
-    ensures kept { IfOk result (λ kept. arc_value kept ≡ kept_tile tile shard.old) }
+    ensures kept { IfOk result (λ kept. arc_value kept ≡ kept_tile tile shard.old.entries) }
     ensures back { IfErr result (GivesBackIfFull tile) }
-    ensures cause { IfErr result (TurnedDownCause shard.old) }
-    ensures ok { KeptAmong arc_value W.files shard.old tile result }
+    ensures cause { IfErr result (TurnedDownCause shard.old.entries) }
+    ensures ok { KeptAmong arc_value W.files shard.old.entries tile result }
     // What the call leaves.
-    ensures entries { OnOk result (shard.new ≡ inserted tile (room_of slots shard.old) shard.old) }
-    ensures err { OnErr result (shard.new ≡ shard.old) }
-    ensures lawful { KeepsLawfulFor W.files (FitsTag W.files tile) shard.old shard.new }
+    ensures entries { OnOk result (shard.new.entries
+        ≡ inserted tile (room_of slots shard.old.entries) shard.old.entries) }
+    ensures err { OnErr result (shard.new.entries ≡ shard.old.entries) }
+    ensures lawful { KeepsLawfulFor W.files (FitsTag W.files tile)
+        shard.old.entries shard.new.entries }
 {
     let pins = shard.pins();
     if pins == u32::MAX {
         return Err(NotInserted::Full(tile));
     }
-    match shard.insert_pin(tile, slots.max(pins + 1) as usize) {
+    // No more tiles are kept than it has slots.
+    let room = slots.max(pins + 1);
+    if room != shard.slots() {
+        return Err(NotInserted::NoMemory);
+    }
+    forget_left(shard);
+    match shard.insert_pin(tile, room as usize) {
         Ok(kept) => Ok(kept),
         Err(_) => Err(NotInserted::NoMemory),
     }
 }
 
+/// The slots that tiles left count as told. Nothing outside the shard speaks of its slots.
+fn forget_left<W: World>(shard: &mut Shard<W>)
+    ensures entries { shard.new.entries ≡ shard.old.entries }
+    ensures slots { shard.new.slots ≡ shard.old.slots }
+    ensures left { shard.new.left ≡ [] }
+{
+    'telling: while shard.left().is_some() {}
+}
+
 /// Takes a pin from the tile of a key. Where it has none, nothing changes.
 pub(crate) fn release_in<W: World>(shard: &mut Shard<W>, key: TileKey, share: u64)
-    ensures entries { shard.new ≡ released share key shard.old }
-    ensures lawful { KeepsLawfulFor W.files (λ tag. share_in_tag tag ≡ share) shard.old shard.new }
+    ensures entries { shard.new.entries ≡ released share key shard.old.entries }
+    ensures lawful { KeepsLawfulFor W.files (λ tag. share_in_tag tag ≡ share)
+        shard.old.entries shard.new.entries }
 {
     if shard.is_pinned(key) {
         shard.release(key, share);
@@ -77,7 +96,7 @@ pub(crate) fn release_in<W: World>(shard: &mut Shard<W>, key: TileKey, share: u6
 
 /// What a shard has, whose unpinned tiles may take so many bytes.
 pub(crate) fn count_in<W: World>(shard: &Shard<W>, share: u64) -> ShardCount
-    ensures value { IsCountOf shard.now result }
+    ensures value { IsCountOf shard.now.entries result }
     ensures share { result.share ≡ share }
 {
     ShardCount {

@@ -4,7 +4,6 @@
 -- numbers of two bytes each, in the byte order of the file.
 use Rattle.std.specs.Prelude.{ℕ, ◌+◌, ◌-◌, ◌*◌, ◌/◌, ◌%◌, ◌==◌, ◌||◌, Bool, nat_lt, codes}
 use Rattle.std.specs.Prelude.{if◌then◌else◌, List, [], ◌∷◌, slice_index, Option, Some, None}
-use Rattle.tex_world.specs.declared.sample_files.TheConstants.{STRIPS, TILES}
 
 -- how many there are
 abbrev pub sample_count : ℕ
@@ -30,12 +29,29 @@ strip_size n = 48 * sample_width n
 abbrev pub half_of : Bool → ℕ → ℕ
 half_of lower value = if lower then value % 65536 else value / 65536
 
+-- The header of a file of strips and the entries of its directory (TIFF 6.0, section 2): tag, type,
+-- count, then the value, lower half first. The width is 0 here.
+abbrev pub strips_header : List ℕ
+strips_header =
+    18761 ∷ 42 ∷ 8 ∷ 0 ∷ 9 -- "II", nine entries
+    ∷ 256 ∷ 3 ∷ 1 ∷ 0 ∷ 0 ∷ 0 -- ImageWidth
+    ∷ 257 ∷ 3 ∷ 1 ∷ 0 ∷ 192 ∷ 0 -- ImageLength
+    ∷ 258 ∷ 3 ∷ 3 ∷ 0 ∷ 122 ∷ 0 -- BitsPerSample
+    ∷ 259 ∷ 3 ∷ 1 ∷ 0 ∷ 1 ∷ 0 -- Compression
+    ∷ 262 ∷ 3 ∷ 1 ∷ 0 ∷ 2 ∷ 0 -- RGB
+    ∷ 273 ∷ 4 ∷ 12 ∷ 0 ∷ 128 ∷ 0 -- StripOffsets
+    ∷ 277 ∷ 3 ∷ 1 ∷ 0 ∷ 3 ∷ 0 -- SamplesPerPixel
+    ∷ 278 ∷ 3 ∷ 1 ∷ 0 ∷ 16 ∷ 0 -- RowsPerStrip
+    ∷ 279 ∷ 3 ∷ 12 ∷ 0 ∷ 176 ∷ 0 -- StripByteCounts
+    ∷ 0 ∷ 0 -- no further directory
+    ∷ []
+
 -- number j of the header of a file of strips: its width, the other entries, three BitsPerSample,
 -- twelve StripOffsets, lower half first, and twelve StripByteCounts
 unfoldable pub strips_word : ℕ → ℕ → ℕ
 strips_word n j =
     if j == 9 then sample_width n
-    else if nat_lt j 61 then slice_index STRIPS j
+    else if nat_lt j 61 then slice_index strips_header j
     else if nat_lt j 64 then 8
     else if nat_lt j 88 then half_of (j % 2 == 0) (200 + strip_size n * ((j - 64) / 2))
     else strip_size n
@@ -63,6 +79,25 @@ tile_count n = 3 * tiles_across n
 abbrev pub first_tile : ℕ → ℕ
 first_tile n = 146 + 6 * tile_count n
 
+-- The same of a file of tiles, upper half first. The width, the two counts of tiles and the place of
+-- TileByteCounts are 0 here.
+abbrev pub tiles_header : List ℕ
+tiles_header =
+    19789 ∷ 42 ∷ 0 ∷ 8 ∷ 11 -- "MM", eleven entries
+    ∷ 256 ∷ 3 ∷ 0 ∷ 1 ∷ 0 ∷ 0 -- ImageWidth
+    ∷ 257 ∷ 3 ∷ 0 ∷ 1 ∷ 192 ∷ 0 -- ImageLength
+    ∷ 258 ∷ 3 ∷ 0 ∷ 1 ∷ 16 ∷ 0 -- BitsPerSample
+    ∷ 259 ∷ 3 ∷ 0 ∷ 1 ∷ 1 ∷ 0 -- Compression
+    ∷ 262 ∷ 3 ∷ 0 ∷ 1 ∷ 1 ∷ 0 -- BlackIsZero
+    ∷ 277 ∷ 3 ∷ 0 ∷ 1 ∷ 1 ∷ 0 -- SamplesPerPixel
+    ∷ 284 ∷ 3 ∷ 0 ∷ 1 ∷ 1 ∷ 0 -- PlanarConfiguration
+    ∷ 322 ∷ 3 ∷ 0 ∷ 1 ∷ 64 ∷ 0 -- TileWidth
+    ∷ 323 ∷ 3 ∷ 0 ∷ 1 ∷ 64 ∷ 0 -- TileLength
+    ∷ 324 ∷ 4 ∷ 0 ∷ 0 ∷ 0 ∷ 146 -- TileOffsets
+    ∷ 325 ∷ 3 ∷ 0 ∷ 0 ∷ 0 ∷ 0 -- TileByteCounts
+    ∷ 0 ∷ 0 -- no further directory
+    ∷ []
+
 -- number j of the header of a file of tiles: its width, two counts, the place of TileByteCounts,
 -- the other entries, the TileOffsets, upper half first, and the TileByteCounts
 unfoldable pub tiles_word : ℕ → ℕ → ℕ
@@ -70,7 +105,7 @@ tiles_word n j =
     if j == 9 then sample_width n
     else if (j == 62) || (j == 68) then tile_count n
     else if j == 70 then 146 + 4 * tile_count n
-    else if nat_lt j 73 then slice_index TILES j
+    else if nat_lt j 73 then slice_index tiles_header j
     else if nat_lt j (73 + 2 * tile_count n)
     then half_of (j % 2 == 0) (first_tile n + 8192 * ((j - 73) / 2))
     else 8192

@@ -1,7 +1,7 @@
 -- Levels that halve.
 use Rattle.std.proofs.Common.{◌≡◌, ℕ, suc, ◌+◌, ◌<◌, ◌≤◌, true, List, [], ◌∷◌, ◌++◌}
 use Rattle.std.proofs.Common.{eqb, length, get_or, zero, refl, sym, ap, ◌∙◌, arith, inl, inr}
-use Rattle.std.proofs.Common.{◌-◌, map}
+use Rattle.std.proofs.Common.{◌-◌, map, false}
 use Rattle.std.proofs.Math.ListN.{get_or-append}
 use Rattle.std.proofs.lemmas.Bool.{and_parts, eqb-true, cases_lt, eq-eqb}
 use Rattle.std.proofs.lemmas.List.{get_or-append_right, length-append, get_or-map, length-map}
@@ -10,7 +10,7 @@ use Rattle.tiff_format.specs.declared.dir.Dir.{Dir}
 use Rattle.tiff_format.specs.Shown.{shown, shown_shape}
 use Rattle.tiff_format.specs.Block.{LevelShape, Level}
 use Rattle.tiff_format.specs.Limits.{max_side}
-use Rattle.tiff_format.specs.Level.{halved, max_levels, has_half_size, has_samples_of}
+use Rattle.tiff_format.specs.Level.{halved, max_levels, is_single, has_half_size, has_samples_of}
 use Rattle.tiff_format.specs.Facts.{IsChain}
 use Rattle.tiff_dirs.specs.NextLevel.{is_half_of}
 
@@ -27,6 +27,7 @@ chain_one levels one = record {
   half = λ k d lt. absurd (omega arith);
   samples = λ k d lt. let zero-is : k ≡ 0 = omega arith in
       rw zero-is (same_samples (get_or levels 0 d).shape);
+  larger = λ k d lt. absurd (omega arith);
 }
 
 pub any_default : {A : Type 0} (xs : List A) (i : ℕ) (d e : A) → i < length xs
@@ -35,10 +36,11 @@ any_default [] i d e lt = absurd (omega arith)
 any_default (x ∷ xs) zero d e lt = refl
 any_default (x ∷ xs) (suc i) d e lt = any_default xs i d e (omega arith)
 
--- a level more, half of the last one
+-- a level more, half of the last one, which is more than a texel
 module _ (levels : List Level) (next d0 : Level) (n : ℕ) (chain : IsChain levels)
     (long : length levels ≡ n + 1) (few : n + 1 < max_levels)
     (half : is_half_of (get_or levels 0 d0).shape (get_or levels n d0).shape next.shape ≡ true)
+    (more : is_single (get_or levels n d0).shape ≡ false)
   where
     all-long : length (levels ++ next ∷ []) ≡ n + 2
     all-long = omega (arith, length-append {A = Level}, long)
@@ -102,12 +104,26 @@ module _ (levels : List Level) (next d0 : Level) (n : ℕ) (chain : IsChain leve
           ∙ parts.1
     ]
 
+    all-larger : (k : ℕ) (d : Level) → k < n + 1
+        → is_single (get_or (levels ++ next ∷ []) k d).shape ≡ false
+    all-larger k d lt = elim (cases_lt k n) [
+      | inl below ↦
+          ap (λ (l : Level). is_single l.shape) (before k d lt)
+          ∙ chain.larger k d (omega (arith, long))
+      | inr above ↦
+          let k-is : k ≡ n = omega arith in
+          ap (λ (l : Level). is_single l.shape)
+          (before k d lt ∙ ap (λ (i : ℕ). get_or levels i d) k-is ∙ sym (inside n d (omega arith)))
+          ∙ more
+    ]
+
     pub chain_more : IsChain (levels ++ next ∷ [])
     chain_more = record {
       some = omega (arith, all-long);
       few = omega (arith, all-long);
       half = λ k d lt. halves k (suc k) d refl (omega (arith, all-long));
       samples = λ k d lt. all-samples k d (omega (arith, all-long));
+      larger = λ k d lt. all-larger k d (omega (arith, all-long));
     }
 
 -- the same of what was read
@@ -115,8 +131,8 @@ pub chain_next : (dirs : List Dir) (n : ℕ) (first last next : Dir) → IsChain
     → length dirs ≡ n + 1 → n + 1 < max_levels
     → first ≡ get_or dirs 0 first → last ≡ get_or dirs n last
     → is_half_of (shown_shape first) (shown_shape last) (shown_shape next) ≡ true
-    → IsChain (map shown (dirs ++ next ∷ []))
-chain_next dirs n first last next chain long few first-is last-is half =
+    → is_single (shown_shape last) ≡ false → IsChain (map shown (dirs ++ next ∷ []))
+chain_next dirs n first last next chain long few first-is last-is half more =
     let d0 = shown first in
     let all : length (map shown dirs) ≡ n + 1 = length-map dirs shown ∙ long in
     let first-there : get_or (map shown dirs) 0 d0 ≡ shown first =
@@ -131,7 +147,8 @@ chain_next dirs n first last next chain long few first-is last-is half =
     ∙ ap (λ (l : Level). is_half_of (shown_shape first) l.shape (shown next).shape) last-there
     ∙ half in
     rw (map-append shown dirs (next ∷ []))
-    (chain_more (map shown dirs) (shown next) d0 n chain all few there)
+    (chain_more (map shown dirs) (shown next) d0 n chain all few there
+    (ap (λ (l : Level). is_single l.shape) last-there ∙ more))
 
 -- ---- the last level that there can be is one texel
 

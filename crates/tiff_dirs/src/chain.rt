@@ -1,12 +1,13 @@
 //! The levels of a file: each directory leads to the next.
 
 ghost use Rattle.std.specs.Prelude.{◌≡◌, ℕ, length, map, IfOk, IfSome, IsTrue};
-ghost use Rattle.std.specs.Prelude.{OnOk, ◌++◌, None, List, [], ◌∷◌};
+ghost use Rattle.std.specs.Prelude.{OnOk, ◌++◌, None, List, [], ◌∷◌, false};
 ghost use Rattle.std.specs.Option.{ForSome};
 ghost use Rattle.tiff_format.specs.Form.{form_of};
 ghost use Rattle.tiff_format.specs.Block.{level_at};
 ghost use Rattle.tiff_format.specs.DirectoryFault.{first_of, directory_fault, data_fault};
 ghost use Rattle.tiff_format.specs.Level.{halved as spec_halved, directory_level, level_place};
+ghost use Rattle.tiff_format.specs.Level.{is_single};
 ghost use Rattle.tiff_format.specs.Fault.{data_faults};
 ghost use Rattle.tiff_format.specs.Facts.{IsChain};
 ghost use Rattle.tiff_dirs.specs.Dirs.{Leaves};
@@ -96,6 +97,8 @@ fn next_level<B: ByteReader>(
         → Reads (IsNext next.form bytes one at) result) }
     ensures half { IfOk result (λ next. IfSome next (λ read. IsTrue (is_half_of
         (shown_shape first.now) (shown_shape last.now) (seen_shape read.shape)))) }
+    ensures more { IfOk result (λ next. IfSome next (λ _.
+        is_single (shown_shape last.now) ≡ false)) }
     ensures reader { Leaves B.keeps B.refuses b.old b.new result }
 {
     if last.width == 1 && last.height == 1 {

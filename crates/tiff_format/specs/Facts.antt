@@ -1,10 +1,10 @@
 -- What is known of every directory that was read, whether or not its reader tells its bytes?
 use Rattle.std.specs.Prelude.{◌≡◌, ℕ, suc, ◌+◌, ◌^◌, ◌<◌, ◌≤◌, ◌%◌, IsTrue, ◌==◌, ◌||◌, List}
-use Rattle.std.specs.Prelude.{length, slice_index, slice_index_or, Option}
+use Rattle.std.specs.Prelude.{false, length, slice_index, slice_index_or, Option}
 use Rattle.std.specs.Option.{ForSome}
 use Rattle.tiff_format.specs.Block.{LevelShape, Level, blocks_of, block_bytes}
 use Rattle.tiff_format.specs.Limits.{max_side, max_channels, tile_step}
-use Rattle.tiff_format.specs.Level.{max_levels, has_half_size, has_samples_of}
+use Rattle.tiff_format.specs.Level.{max_levels, is_single, has_half_size, has_samples_of}
 
 -- a side of an image
 pub record IsSide (side : ℕ) : Type 0 where
@@ -50,8 +50,8 @@ pub record HasOffsets (level : Level) : Type 0 where
   pub ends : (i : ℕ) → i < length level.offsets
       → slice_index level.offsets i + block_bytes level.shape i < 2 ^ 64
 
--- The levels of a file: 1 to 18 of them, each half the size of the one before,
--- all with the same samples.
+-- The levels of a file: 1 to 18 of them, each half the size of the one before, all with the same
+-- samples. None follows one of a single texel.
 pub record IsChain (levels : List Level) : Type 0 where
   pub some : 1 ≤ length levels
   pub few : length levels ≤ max_levels
@@ -60,3 +60,5 @@ pub record IsChain (levels : List Level) : Type 0 where
       (slice_index_or levels (suc k) d).shape)
   pub samples : (k : ℕ) (d : Level) → k < length levels
       → IsTrue (has_samples_of (slice_index_or levels 0 d).shape (slice_index_or levels k d).shape)
+  pub larger : (k : ℕ) (d : Level) → suc k < length levels
+      → is_single (slice_index_or levels k d).shape ≡ false

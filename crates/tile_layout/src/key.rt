@@ -1,4 +1,4 @@
-ghost use Rattle.std.specs.Prelude.{◌≡◌, ℕ, ◌+◌, ◌^◌, ◌<◌};
+ghost use Rattle.std.specs.Prelude.{◌≡◌, ℕ, ◌+◌, ◌^◌, ◌<◌, ◌≤◌};
 ghost use Rattle.tile_layout.specs.Key.{key_of, generation_of, file_of, level_of, index_of};
 ghost use Rattle.tile_layout.specs.Key.{FitsKey, HasParts, IsKey, index_bits};
 
@@ -66,6 +66,14 @@ impl TileKey {
         TileKey {
             number: self.number + u64::from(index),
         }
+    }
+
+    /// The key as a number.
+    pub fn number(&self) -> u64
+        ensures value { result ≡ self.now }
+        ensures some { 1 ≤ result }
+    {
+        self.number
     }
 
     /// The generation of the file.

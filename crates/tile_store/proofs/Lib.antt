@@ -12,6 +12,11 @@ pub mod RingLemmas
 pub mod LinkLemmas
 pub mod OrderLemmas
 pub mod EndLemmas
+pub mod KeyLemmas
+pub mod ChainLemmas
+pub mod RelinkLemmas
 pub mod SlotLemmas
+pub mod FillLemmas
 pub mod WalkLemmas
 pub mod StartLemmas
+pub mod LeftLemmas

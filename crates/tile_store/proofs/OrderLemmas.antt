@@ -10,7 +10,8 @@ use Rattle.std.proofs.lemmas.Grind.{get_or-set_at}
 use Rattle.std.proofs.lemmas.List.{get_or-set_other}
 use Rattle.tile_store.specs.Entry.{EntryState, Entries, entry_at}
 use Rattle.tile_store.specs.Links.{Linked, is_in, without}
-use Rattle.tile_store.specs.Order.{entry_in, in_front, entries_of, slot_by, IsOrder}
+use Rattle.tile_store.specs.Order.{entry_in, in_front, entries_of, IsOrder}
+use Rattle.tile_store.specs.Keys.{slot_of}
 use Rattle.tile_store.proofs.PlaceLemmas.{apart_from}
 
 -- what is there
@@ -149,14 +150,14 @@ entries_of-append slots (x ∷ xs) ys =
 
 -- ---- what the index finds
 
-module _ (slots : List (Option EntryState)) (free : List ℕ) (room : ℕ) (index : List (ℕ × ℕ)) (links : Linked) (is : IsOrder slots free room index links) where
+module _ (slots : List (Option EntryState)) (free : List ℕ) (room : ℕ) (index : List (Option ℕ)) (links : Linked) (is : IsOrder slots free room index links) where
   abbrev order : List ℕ
   order = links.order
 
   -- the key of one slot is that of no other
-  pub tested_some : (key p : ℕ) → slot_by key index ≡ Some p → Tested key (nat_eq p) slots order
+  pub tested_some : (key p : ℕ) → slot_of key index ≡ Some p → Tested key (nat_eq p) slots order
   tested_some key p found q has =
-      let at = there (entry_in slots q) (λ e. slot_by e.tile.key index ≡ Some q) (is.held q has) in
+      let at = there (entry_in slots q) (λ e. slot_of e.tile.key index ≡ Some q) (is.held q has) in
       let here = there (entry_in slots p) (λ e. e.tile.key ≡ key) (is.keyed key p found) in
       let same : nat_eq key at.entry.tile.key ≡ nat_eq p q =
       ⊎_elim
@@ -167,26 +168,26 @@ module _ (slots : List (Option EntryState)) (free : List ℕ) (room : ℕ) (inde
       ∙ sym (eq-eqb p q e))
       (λ (apart : p ≡ q → ⊥).
       ne_eqb key at.entry.tile.key (λ (e : key ≡ at.entry.tile.key).
-      let both : Some p ≡ Some q = sym found ∙ ap (λ k. slot_by k index) e ∙ at.so in
+      let both : Some p ≡ Some q = sym found ∙ ap (λ k. slot_of k index) e ∙ at.so in
       apart cc)
       ∙ sym (ne_eqb p q apart))
       (cases_eq p q) in
       is_there (entry_in slots q) (λ e. nat_eq key e.tile.key ≡ nat_eq p q) at.entry at.is same
 
-  pub tested_none : (key : ℕ) → slot_by key index ≡ None → Tested key (λ _. false) slots order
+  pub tested_none : (key : ℕ) → slot_of key index ≡ None → Tested key (λ _. false) slots order
   tested_none key missing q has =
-      let at = there (entry_in slots q) (λ e. slot_by e.tile.key index ≡ Some q) (is.held q has) in
+      let at = there (entry_in slots q) (λ e. slot_of e.tile.key index ≡ Some q) (is.held q has) in
       let same : nat_eq key at.entry.tile.key ≡ false =
       ne_eqb key at.entry.tile.key (λ (e : key ≡ at.entry.tile.key).
-      let both : None ≡ Some q = sym missing ∙ ap (λ k. slot_by k index) e ∙ at.so in
+      let both : None ≡ Some q = sym missing ∙ ap (λ k. slot_of k index) e ∙ at.so in
       absurd cc) in
       is_there (entry_in slots q) (λ e. nat_eq key e.tile.key ≡ false) at.entry at.is same
 
-  pub entry_by_some : (key p : ℕ) → slot_by key index ≡ Some p
+  pub entry_by_some : (key p : ℕ) → slot_of key index ≡ Some p
       → entry_at key (entries_of slots order) ≡ entry_in slots p
   entry_by_some key p found = found_in key p slots order (tested_some key p found) (is.indexed key p found)
 
-  pub entry_by_none : (key : ℕ) → slot_by key index ≡ None → entry_at key (entries_of slots order) ≡ None
+  pub entry_by_none : (key : ℕ) → slot_of key index ≡ None → entry_at key (entries_of slots order) ≡ None
   entry_by_none key missing = none_in key slots order (tested_none key missing)
 
   -- ---- the count, and the keys
@@ -194,7 +195,7 @@ module _ (slots : List (Option EntryState)) (free : List ℕ) (room : ℕ) (inde
       → length (entries_of slots ps) ≡ length ps
   length_of [] within = refl
   length_of (p ∷ ps) within =
-      let at = there (entry_in slots p) (λ e. slot_by e.tile.key index ≡ Some p)
+      let at = there (entry_in slots p) (λ e. slot_of e.tile.key index ≡ Some p)
       (is.held p (within p (head_in p ps))) in
       ap (λ o. length (in_front o (entries_of slots ps))) at.is
       ∙ ap suc (length_of ps (λ q h. within q (tail_in q p ps h)))
@@ -202,7 +203,7 @@ module _ (slots : List (Option EntryState)) (free : List ℕ) (room : ℕ) (inde
   pub length-entries : length (entries_of slots order) ≡ length order
   length-entries = length_of order (λ p h. h)
 
-  apart_keys : (key p : ℕ) (ps : List ℕ) → slot_by key index ≡ Some p → is_in p ps ≡ false
+  apart_keys : (key p : ℕ) (ps : List ℕ) → slot_of key index ≡ Some p → is_in p ps ≡ false
       → ((q : ℕ) → is_in q ps ≡ true → is_in q order ≡ true)
       → AllByRecursion (λ k. nat_eq key k ≡ false) (keys_of (entries_of slots ps))
   apart_keys key p [] found out within = tt
@@ -220,7 +221,7 @@ module _ (slots : List (Option EntryState)) (free : List ℕ) (room : ℕ) (inde
   unfolding IsDistinct
   distinct_of [] distinct within = tt
   distinct_of (p ∷ ps) distinct within =
-      let at = there (entry_in slots p) (λ e. slot_by e.tile.key index ≡ Some p)
+      let at = there (entry_in slots p) (λ e. slot_of e.tile.key index ≡ Some p)
       (is.held p (within p (head_in p ps))) in
       let inner = λ (q : ℕ) (h : is_in q ps ≡ true). within q (tail_in q p ps h) in
       subst (λ o. IsDistinct nat_eq (keys_of (in_front o (entries_of slots ps)))) (sym at.is) (

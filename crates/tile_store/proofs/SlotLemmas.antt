@@ -1,23 +1,25 @@
 -- What each change of a slot leaves of the slots, the index and the order.
-use Rattle.std.proofs.Common.{◌≡◌, ◌≢◌, ℕ, ◌+◌, ◌<◌, ◌≤◌, ◌⊎◌, true, false, cond, nat_eq}
+use Rattle.std.proofs.Common.{◌≡◌, ◌≢◌, ℕ, ◌+◌, ◌<◌, ◌≤◌, true, false, cond, nat_eq}
 use Rattle.std.proofs.Common.{List, [], ◌∷◌, ◌++◌, length, length-append, get_or, set, Option, Some, None, IsSomeAnd}
-use Rattle.std.proofs.Common.{refl, sym, ap, ◌∙◌, subst, inl, inr, ⊎_elim, arith}
+use Rattle.std.proofs.Common.{refl, sym, ap, ◌∙◌, subst, ⊎_elim, arith}
 use Rattle.std.specs.List.{IsDistinct}
 use Rattle.std.specs.Map.{remove_entry, set_value}
-use Rattle.std.proofs.lemmas.Bool.{eq-eqb, eqb-true, eqb-false, ne_eqb}
+use Rattle.std.proofs.lemmas.Bool.{eqb-true, eqb-false, ne_eqb}
 use Rattle.std.proofs.lemmas.Bool.{cases_eq, cases_lt, false≢true}
 use Rattle.std.proofs.lemmas.Grind.{get_or-set_at}
 use Rattle.std.proofs.lemmas.List.{length-set, get_or-set_other, get_or_default, get_or_past}
 use Rattle.tile_store.specs.Entry.{EntryState, Entries, entry_at}
 use Rattle.tile_store.specs.Links.{Linked, linked, is_in, without}
-use Rattle.tile_store.specs.Order.{entry_in, in_front, entries_of, slot_by, IsOrder}
+use Rattle.tile_store.specs.Order.{entry_in, in_front, entries_of, IsOrder}
+use Rattle.tile_store.specs.Keys.{slot_of, key_in, AreApart}
+use Rattle.tile_store.proofs.KeyLemmas.{slot_by}
 use Rattle.tile_store.specs.Leaving.{promoted}
 use Rattle.std.specs.Option.{option_map_or}
 use Rattle.tile_store.proofs.MapLemmas.{found as lookup_found}
-use Rattle.tile_store.proofs.OrderLemmas.{there, is_there, head_in, tail_in, remove_in, set_out, set_in}
+use Rattle.tile_store.proofs.OrderLemmas.{there, is_there, remove_in, set_out, set_in}
 use Rattle.tile_store.proofs.OrderLemmas.{tested_some, entry_by_some}
 use Rattle.tile_store.proofs.PlaceLemmas.{gone, in-without, length-without}
-use Rattle.tile_store.proofs.EndLemmas.{cases_in, distinct_end, ended, in_end, in_first, in_last, in_moved, moved_in, stays_in}
+use Rattle.tile_store.proofs.EndLemmas.{distinct_end, in_end, in_moved, moved_in, stays_in}
 
 -- ---- a slot with an entry is one of the slots
 
@@ -40,18 +42,18 @@ pub record At (key : ℕ) (es : Entries) (got : Option EntryState) : Type 0 wher
   pub some : got ≡ None → ⊥
   pub key_is : (e : EntryState) → got ≡ Some e → e.tile.key ≡ key
 
-module _ (slots : List (Option EntryState)) (free : List ℕ) (room : ℕ) (index : List (ℕ × ℕ)) (links : Linked) (is : IsOrder slots free room index links) where
+module _ (slots : List (Option EntryState)) (free : List ℕ) (room : ℕ) (index : List (Option ℕ)) (links : Linked) (is : IsOrder slots free room index links) where
   abbrev pub order : List ℕ
   order = links.order
 
-  pub found_low : (key p : ℕ) → slot_by key index ≡ Some p → p < length slots
+  pub found_low : (key p : ℕ) → slot_of key index ≡ Some p → p < length slots
   found_low key p found = low_by slots p (λ e. e.tile.key ≡ key) (is.keyed key p found)
 
   pub held_low : (p : ℕ) → is_in p order ≡ true → p < length slots
-  held_low p has = low_by slots p (λ e. slot_by e.tile.key index ≡ Some p) (is.held p has)
+  held_low p has = low_by slots p (λ e. slot_of e.tile.key index ≡ Some p) (is.held p has)
 
   -- what the slot has that the index finds
-  pub at_found : (key p : ℕ) → slot_by key index ≡ Some p → (es : Entries) → entries_of slots order ≡ es
+  pub at_found : (key p : ℕ) → slot_of key index ≡ Some p → (es : Entries) → entries_of slots order ≡ es
       → (got : Option EntryState) → got ≡ get_or slots p got → At key es got
   at_found key p found es same got is_got =
       let here = there (entry_in slots p) (λ e. e.tile.key ≡ key) (is.keyed key p found) in
@@ -67,40 +69,33 @@ module _ (slots : List (Option EntryState)) (free : List ℕ) (room : ℕ) (inde
       }
 
   -- where no entry has a key the index finds none
-  pub missing_by : (key : ℕ) → entry_at key (entries_of slots order) ≡ None → slot_by key index ≡ None
-  missing_by key none = none_of (slot_by key index) (λ p found.
+  pub missing_by : (key : ℕ) → entry_at key (entries_of slots order) ≡ None → slot_of key index ≡ None
+  missing_by key none = none_of (slot_of key index) (λ p found.
       let here = there (entry_in slots p) (λ e. e.tile.key ≡ key) (is.keyed key p found) in
       let both : None ≡ Some here.entry = sym none ∙ entry_by_some slots free room index links is key p found ∙ here.is in
       cc)
+
+  -- a free slot has no key
+  pub free_key : AreApart index → (p : ℕ) → entry_in slots p ≡ None → key_in index p ≡ None
+  free_key apart p none =
+      (elim (key_in index p) as (λ o. key_in index p ≡ o → o ≡ None) [
+        | None ↦ λ _. refl
+        | Some key ↦ λ has.
+            let at = there (entry_in slots p) (λ e. e.tile.key ≡ key) (is.keyed key p (slot_by index apart key p has)) in
+            let both : None ≡ Some at.entry = sym none ∙ at.is in
+            absurd cc
+      ]) refl
 
   -- a free slot is not in the order
   pub free_out : (p : ℕ) → entry_in slots p ≡ None → is_in p order ≡ false
   free_out p none =
       (elim (is_in p order) as (λ b. is_in p order ≡ b → b ≡ false) [
         | true ↦ λ has.
-            let at = there (entry_in slots p) (λ e. slot_by e.tile.key index ≡ Some p) (is.held p has) in
+            let at = there (entry_in slots p) (λ e. slot_of e.tile.key index ≡ Some p) (is.held p has) in
             let both : None ≡ Some at.entry = sym none ∙ at.is in
             absurd cc
         | false ↦ λ _. refl
       ]) refl
-
-  -- ---- the index in another order
-  pub reindexed : (new_index : List (ℕ × ℕ)) → ((key : ℕ) → slot_by key new_index ≡ slot_by key index)
-      → IsOrder slots free room new_index links
-  reindexed new_index same = record {
-    places = is.places;
-    shared = is.shared;
-    noted = is.noted;
-    low = is.low;
-    empty = is.empty;
-    apart = is.apart;
-    indexed = λ key p found. is.indexed key p (sym (same key) ∙ found);
-    keyed = λ key p found. is.keyed key p (sym (same key) ∙ found);
-    held = λ p has.
-        let at = there (entry_in slots p) (λ e. slot_by e.tile.key index ≡ Some p) (is.held p has) in
-        is_there (entry_in slots p) (λ e. slot_by e.tile.key new_index ≡ Some p) at.entry at.is
-        (same at.entry.tile.key ∙ at.so);
-  }
 
   -- ---- the same slots in another order
   pub moved : (ps : List ℕ) → length ps ≡ length order → ((q : ℕ) → is_in q ps ≡ true → is_in q order ≡ true)
@@ -122,7 +117,7 @@ module _ (slots : List (Option EntryState)) (free : List ℕ) (room : ℕ) (inde
       (λ q h. in_moved q p order has h) (λ q h. moved_in q p order h)
 
   -- said of the entries
-  pub first_promoted : (key p : ℕ) → slot_by key index ≡ Some p
+  pub first_promoted : (key p : ℕ) → slot_of key index ≡ Some p
       → entries_of slots (p ∷ without p order) ≡ promoted key (entries_of slots order)
   first_promoted key p found =
       let es : Entries = entries_of slots order in
@@ -139,7 +134,7 @@ module _ (slots : List (Option EntryState)) (free : List ℕ) (room : ℕ) (inde
       ∙ sym whole
 
   -- ---- an entry is written under its key
-  module _ (key p : ℕ) (found : slot_by key index ≡ Some p) (w : EntryState) (same_key : w.tile.key ≡ key) where
+  module _ (key p : ℕ) (found : slot_of key index ≡ Some p) (w : EntryState) (same_key : w.tile.key ≡ key) where
     pub new_at : (q : ℕ) → q ≡ p → entry_in (set slots p (Some w)) q ≡ Some w
     new_at q e = get_or-set_at slots p q (Some w) None e (found_low key p found)
 
@@ -172,9 +167,9 @@ module _ (slots : List (Option EntryState)) (free : List ℕ) (room : ℕ) (inde
           (cases_eq q p);
       held = λ q h. ⊎_elim
           (λ (e : q ≡ p).
-          is_there (entry_in (set slots p (Some w)) q) (λ e. slot_by e.tile.key index ≡ Some q) w (new_at q e)
-          (ap (λ k. slot_by k index) same_key ∙ found ∙ ap Some (sym e)))
-          (λ other. subst (λ o. IsSomeAnd o (λ e. slot_by e.tile.key index ≡ Some q))
+          is_there (entry_in (set slots p (Some w)) q) (λ e. slot_of e.tile.key index ≡ Some q) w (new_at q e)
+          (ap (λ k. slot_of k index) same_key ∙ found ∙ ap Some (sym e)))
+          (λ other. subst (λ o. IsSomeAnd o (λ e. slot_of e.tile.key index ≡ Some q))
           (sym (old_at q other)) (is.held q h))
           (cases_eq q p);
     }
@@ -198,18 +193,18 @@ module _ (slots : List (Option EntryState)) (free : List ℕ) (room : ℕ) (inde
         (is.indexed key p found) same_key (found_low key p found))
 
   -- ---- an entry leaves
-  module _ (key p : ℕ) (found : slot_by key index ≡ Some p) (new_index : List (ℕ × ℕ)) (updates : (k : ℕ) → slot_by k new_index ≡ cond (nat_eq key k) None (slot_by k index)) where
+  module _ (key p : ℕ) (found : slot_of key index ≡ Some p) (new_index : List (Option ℕ)) (updates : (k : ℕ) → slot_of k new_index ≡ cond (nat_eq key k) None (slot_of k index)) where
     -- what the index still finds is under another key
-    pub left_by : (k q : ℕ) → slot_by k new_index ≡ Some q → (nat_eq key k ≡ false) × (slot_by k index ≡ Some q)
+    pub left_by : (k q : ℕ) → slot_of k new_index ≡ Some q → (nat_eq key k ≡ false) × (slot_of k index ≡ Some q)
     left_by k q h =
-        (elim (nat_eq key k) as (λ b. nat_eq key k ≡ b → cond b None (slot_by k index) ≡ Some q
-        → (nat_eq key k ≡ false) × (slot_by k index ≡ Some q)) [
+        (elim (nat_eq key k) as (λ b. nat_eq key k ≡ b → cond b None (slot_of k index) ≡ Some q
+        → (nat_eq key k ≡ false) × (slot_of k index ≡ Some q)) [
           | true ↦ λ _ none. absurd cc
           | false ↦ λ other some. (other, some)
         ]) refl (sym (updates k) ∙ h)
 
     -- and in another slot
-    pub other_slot : (k q : ℕ) → nat_eq key k ≡ false → slot_by k index ≡ Some q → q ≢ p
+    pub other_slot : (k q : ℕ) → nat_eq key k ≡ false → slot_of k index ≡ Some q → q ≢ p
     other_slot k q differ h = λ (e : q ≡ p).
         let at = there (entry_in slots q) (λ e. e.tile.key ≡ k) (is.keyed k q h) in
         let here = there (entry_in slots p) (λ e. e.tile.key ≡ key) (is.keyed key p found) in
@@ -251,14 +246,14 @@ module _ (slots : List (Option EntryState)) (free : List ℕ) (room : ℕ) (inde
           held = λ q h.
               let was = in-without q p order h in
               let other : q ≢ p = λ e. false≢true (sym (gone p order distinct) ∙ subst (λ r. is_in r (without p order) ≡ true) e h) in
-              let at = there (entry_in slots q) (λ e. slot_by e.tile.key index ≡ Some q) (is.held q was) in
+              let at = there (entry_in slots q) (λ e. slot_of e.tile.key index ≡ Some q) (is.held q was) in
               let differs : nat_eq key at.entry.tile.key ≡ false =
               ne_eqb key at.entry.tile.key (λ (e : key ≡ at.entry.tile.key).
-              let both : Some q ≡ Some p = sym at.so ∙ ap (λ k. slot_by k index) (sym e) ∙ found in
+              let both : Some q ≡ Some p = sym at.so ∙ ap (λ k. slot_of k index) (sym e) ∙ found in
               other cc) in
-              is_there (entry_in (set slots p None) q) (λ e. slot_by e.tile.key new_index ≡ Some q) at.entry
+              is_there (entry_in (set slots p None) q) (λ e. slot_of e.tile.key new_index ≡ Some q) at.entry
               (at_other q other ∙ at.is)
-              (updates at.entry.tile.key ∙ ap (λ b. cond b None (slot_by at.entry.tile.key index)) differs ∙ at.so);
+              (updates at.entry.tile.key ∙ ap (λ b. cond b None (slot_of at.entry.tile.key index)) differs ∙ at.so);
         }
 
     pub removed_entries : IsDistinct nat_eq order
@@ -266,81 +261,3 @@ module _ (slots : List (Option EntryState)) (free : List ℕ) (room : ℕ) (inde
     removed_entries distinct =
         set_out key p slots None (without p order) (gone p order distinct)
         ∙ sym (remove_in key p slots order (tested_some slots free room index links is key p found))
-
-  -- ---- a new entry
-  module _ (key p : ℕ) (rest : List ℕ) (free_is : free ≡ rest ++ p ∷ []) (missing : slot_by key index ≡ None) (e : EntryState) (keyed : e.tile.key ≡ key) (new_index : List (ℕ × ℕ)) (updates : (k : ℕ) → slot_by k new_index ≡ cond (nat_eq key k) (Some p) (slot_by k index)) where
-    pub in_free : is_in p free ≡ true
-    in_free = subst (λ l. is_in p l ≡ true) (sym free_is) (in_last p rest)
-
-    pub free_low : p < length slots
-    free_low = subst (λ n. p < n) (sym is.places) (is.low p in_free)
-
-    pub not_in : is_in p order ≡ false
-    not_in = free_out p (is.empty p in_free)
-
-    pub filled_at : (q : ℕ) → q ≡ p → entry_in (set slots p (Some e)) q ≡ Some e
-    filled_at q same = get_or-set_at slots p q (Some e) None same free_low
-
-    pub kept_at : (q : ℕ) → q ≢ p → entry_in (set slots p (Some e)) q ≡ entry_in slots q
-    kept_at q other = get_or-set_other slots p q (Some e) None other
-
-    pub held_apart : (q : ℕ) → is_in q order ≡ true → q ≢ p
-    held_apart q has = λ same. false≢true (sym not_in ∙ subst (λ r. is_in r order ≡ true) same has)
-
-    -- the index finds the new entry, or what it found before
-    pub found_by : (k q : ℕ) → slot_by k new_index ≡ Some q → ((key ≡ k) × (q ≡ p)) ⊎ (slot_by k index ≡ Some q)
-    found_by k q h =
-        (elim (nat_eq key k) as (λ b. nat_eq key k ≡ b → cond b (Some p) (slot_by k index) ≡ Some q
-        → ((key ≡ k) × (q ≡ p)) ⊎ (slot_by k index ≡ Some q)) [
-          | true ↦ λ same some. let one : q ≡ p = cc in inl (eqb-true key k same, one)
-          | false ↦ λ _ some. inr some
-        ]) refl (sym (updates k) ∙ h)
-
-    pub filled : IsOrder (set slots p (Some e)) rest room new_index (linked (p ∷ order) links.places)
-    filled =
-        let shared = is.shared in
-        let size = ap length free_is ∙ length-append rest (p ∷ []) in
-        let end = ended p rest (subst (λ l. IsDistinct nat_eq l) free_is is.apart) in
-        let was_free : (q : ℕ) → is_in q rest ≡ true → is_in q free ≡ true =
-        λ q h. subst (λ l. is_in q l ≡ true) (sym free_is) (in_first q p rest h) in
-        record {
-          places = length-set slots p (Some e) ∙ is.places;
-          shared = omega arith;
-          noted = is.noted;
-          low = λ q h. is.low q (was_free q h);
-          empty = λ q h.
-              kept_at q (λ same. false≢true (sym end.out ∙ subst (λ r. is_in r rest ≡ true) same h))
-              ∙ is.empty q (was_free q h);
-          apart = end.rest;
-          indexed = λ k q h. ⊎_elim
-              (λ now. subst (λ r. is_in r (p ∷ order) ≡ true) (sym now.1) (head_in p order))
-              (λ was. tail_in q p order (is.indexed k q was)) (found_by k q h);
-          keyed = λ k q h. ⊎_elim
-              (λ now. is_there (entry_in (set slots p (Some e)) q) (λ x. x.tile.key ≡ k) e (filled_at q now.1)
-              (keyed ∙ now.0))
-              (λ was. subst (λ o. IsSomeAnd o (λ x. x.tile.key ≡ k))
-              (sym (kept_at q (held_apart q (is.indexed k q was)))) (is.keyed k q was))
-              (found_by k q h);
-          held = λ q h. ⊎_elim
-              (λ (same : q ≡ p). is_there (entry_in (set slots p (Some e)) q) (λ x. slot_by x.tile.key new_index ≡ Some q)
-              e (filled_at q same)
-              (updates e.tile.key
-              ∙ ap (λ b. cond b (Some p) (slot_by e.tile.key index)) (eq-eqb key e.tile.key (sym keyed))
-              ∙ ap Some (sym same)))
-              (λ (has : is_in q order ≡ true).
-              let at = there (entry_in slots q) (λ x. slot_by x.tile.key index ≡ Some q) (is.held q has) in
-              let differs : nat_eq key at.entry.tile.key ≡ false =
-              ne_eqb key at.entry.tile.key (λ (same : key ≡ at.entry.tile.key).
-              let both : None ≡ Some q = sym missing ∙ ap (λ k. slot_by k index) same ∙ at.so in
-              absurd cc) in
-              is_there (entry_in (set slots p (Some e)) q) (λ x. slot_by x.tile.key new_index ≡ Some q) at.entry
-              (kept_at q (held_apart q has) ∙ at.is)
-              (updates at.entry.tile.key
-              ∙ ap (λ b. cond b (Some p) (slot_by at.entry.tile.key index)) differs ∙ at.so))
-              (cases_in q p order h);
-        }
-
-    pub filled_entries : entries_of (set slots p (Some e)) (p ∷ order) ≡ (e.tile.key, e) ∷ entries_of slots order
-    filled_entries =
-        ap (λ o. in_front o (entries_of (set slots p (Some e)) order)) (filled_at p refl)
-        ∙ ap (λ l. (e.tile.key, e) ∷ l) (set_out key p slots (Some e) order not_in)

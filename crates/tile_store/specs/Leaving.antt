@@ -1,5 +1,6 @@
 -- Which entry is the next to leave?
-use Rattle.std.specs.Prelude.{◌≡◌, ℕ, ◌-◌, nat_eq, false, Option, ◌∷◌, ◌++◌, length, take, if◌then◌else◌}
+use Rattle.std.specs.Prelude.{◌≡◌, ℕ, ◌-◌, nat_eq, false, Option, ◌∷◌, ◌++◌, length, take}
+use Rattle.std.specs.Prelude.{if◌then◌else◌}
 use Rattle.std.specs.List.{list_any}
 use Rattle.std.specs.Option.{option_map_or}
 use Rattle.std.specs.Map.{lookup_entry, remove_entry}

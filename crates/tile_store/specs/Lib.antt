@@ -4,6 +4,8 @@ pub mod Kept
 pub mod Entry
 pub mod Inside
 pub mod Links
+pub mod Keys
+pub mod Slots
 pub mod Order
 pub mod Changes
 pub mod Leaving

@@ -1,6 +1,7 @@
 -- Which places are in an order, and how are they linked?
 use Rattle.std.specs.Prelude.{◌≡◌, ℕ, zero, suc, ◌+◌, ◌-◌, ◌<◌, ◌≤◌, ◌^◌, Bool, true, nat_eq}
-use Rattle.std.specs.Prelude.{List, [], ◌∷◌, ◌++◌, length, slice_index, slice_get, Option, if◌then◌else◌}
+use Rattle.std.specs.Prelude.{List, [], ◌∷◌, ◌++◌, length, slice_index, slice_get}
+use Rattle.std.specs.Prelude.{Option, if◌then◌else◌}
 use Rattle.std.specs.List.{list_any, IsDistinct}
 
 -- some of so many places, in an order
@@ -33,7 +34,8 @@ walk next (suc count) at = slice_index next at ∷ walk next count (slice_index 
 -- from `at` on each number names the next, and is named by it as the one before
 abbrev pub Path : List ℕ → List ℕ → ℕ → List ℕ → Type 0
 Path next prev at [] = Unit
-Path next prev at (p ∷ ps) = (slice_index next at ≡ p) × (slice_index prev p ≡ at) × Path next prev p ps
+Path next prev at (p ∷ ps) =
+    (slice_index next at ≡ p) × (slice_index prev p ≡ at) × Path next prev p ps
 
 -- The links of an order of so many places: a ring that begins and ends at the root, whose number is
 -- that of the places.

@@ -1,18 +1,13 @@
 -- What is known of the entries of a shard in their slots?
-use Rattle.std.specs.Prelude.{◌≡◌, ℕ, zero, suc, ◌+◌, ◌<◌, ◌≤◌, true, nat_eq, List, [], ◌∷◌, ◌++◌, length}
+use Rattle.std.specs.Prelude.{◌≡◌, ℕ, zero, suc, ◌+◌, ◌<◌, ◌≤◌, true, nat_eq}
+use Rattle.std.specs.Prelude.{List, [], ◌∷◌, ◌++◌, length}
 use Rattle.std.specs.Prelude.{Option, Some, None, slice_index_or, IsSomeAnd}
 use Rattle.std.specs.Option.{option_map_or}
 use Rattle.std.specs.List.{IsDistinct}
-use Rattle.std.specs.Map.{lookup}
 use Rattle.tile_store.specs.Entry.{EntryState, Entries}
 use Rattle.tile_store.specs.Links.{Linked, is_in}
-
--- the entries, the most recently used first, how many slots there are, and how many keys more the
--- index takes without memory
-pub record OrderState : Type 0 where
-  pub entries : Entries
-  pub cap : ℕ
-  pub spare : ℕ
+use Rattle.tile_store.specs.Keys.{slot_of, AreApart}
+use Rattle.tile_store.specs.Slots.{ShardState, SameSlots, LosesKey}
 
 -- the entry in a slot, if it has one
 abbrev pub entry_in : List (Option EntryState) → ℕ → Option EntryState
@@ -27,31 +22,42 @@ abbrev pub entries_of : List (Option EntryState) → List ℕ → Entries
 entries_of slots [] = []
 entries_of slots (p ∷ ps) = in_front (entry_in slots p) (entries_of slots ps)
 
--- the slot of a key by the index
-abbrev pub slot_by : ℕ → List (ℕ × ℕ) → Option ℕ
-slot_by key index = lookup (nat_eq key) index
-
--- The slots in the order have entries, and the index finds each by its key and no others. The other
+-- The slots in the order have entries, and the table finds each by its key and no others. The other
 -- slots are free: they have no entry, and there is room to note each of them.
-pub record IsOrder (slots : List (Option EntryState)) (free : List ℕ) (room : ℕ) (index : List (ℕ × ℕ)) (links : Linked) : Type 0 where
+pub record IsOrder (slots : List (Option EntryState)) (free : List ℕ) (room : ℕ)
+    (index : List (Option ℕ)) (links : Linked) : Type 0 where
   pub places : length slots ≡ links.places
   pub shared : length free + length links.order ≡ links.places
   pub noted : links.places ≤ room
   pub low : (p : ℕ) → is_in p free ≡ true → p < links.places
   pub empty : (p : ℕ) → is_in p free ≡ true → entry_in slots p ≡ None
   pub apart : IsDistinct nat_eq free
-  pub indexed : (key p : ℕ) → slot_by key index ≡ Some p → is_in p links.order ≡ true
-  pub keyed : (key p : ℕ) → slot_by key index ≡ Some p
+  pub indexed : (key p : ℕ) → slot_of key index ≡ Some p → is_in p links.order ≡ true
+  pub keyed : (key p : ℕ) → slot_of key index ≡ Some p
       → IsSomeAnd (entry_in slots p) (λ e. e.tile.key ≡ key)
   pub held : (p : ℕ) → is_in p links.order ≡ true
-      → IsSomeAnd (entry_in slots p) (λ e. slot_by e.tile.key index ≡ Some p)
+      → IsSomeAnd (entry_in slots p) (λ e. slot_of e.tile.key index ≡ Some p)
 
 -- the numbers below a bound, from 0 on
 abbrev pub below : ℕ → List ℕ
 below zero = []
 below (suc n) = below n ++ n ∷ []
 
--- as many slots, and no less room
-pub record KeepsRoom (old new : OrderState) : Type 0 where
-  pub cap : new.cap ≡ old.cap
-  pub spare : old.spare ≤ new.spare
+-- So it is, and as many slots are noted as there are. Those of the free ones that stand first were
+-- told.
+pub record IsOrdered (slots : List (Option EntryState)) (free : List ℕ) (room told : ℕ)
+    (index : List (Option ℕ)) (links : Linked) : Type 0 where
+  pub order : IsOrder slots free room index links
+  pub count : length index ≡ links.places
+  pub apart : AreApart index
+  pub told_low : told ≤ length free
+
+-- The entry of a key left its slot.
+pub record Evicts (old new : ShardState) : Type 0 where
+  pub key : ℕ
+  pub lost : LosesKey key old new
+
+-- Each entry has its slot, or one left it.
+pub data MakesRoom (old new : ShardState) : Type 0 where
+  stays : SameSlots old new → MakesRoom old new
+  evicts : Evicts old new → MakesRoom old new

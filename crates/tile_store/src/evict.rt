@@ -1,18 +1,19 @@
 //! The unpinned entries that leave a shard, the last first.
-ghost use Rattle.std.specs.Prelude.{◌≡◌, ◌+◌, ◌<◌, ◌≤◌, length, IsTrue, OnOk, OnErr, IfOk};
+ghost use Rattle.std.specs.Prelude.{◌≡◌, ◌+◌, ◌<◌, ◌≤◌, length, IsTrue};
 ghost use Rattle.std.specs.List.{list_any};
 ghost use Rattle.tile_store.specs.Entry.{is_unpinned, pinned_count, loose_bytes};
 ghost use Rattle.tile_store.specs.Changes.{without_last_unpinned, with_room, kept_within};
-ghost use Rattle.tile_store.specs.Order.{KeepsRoom};
+ghost use Rattle.tile_store.specs.Slots.{EmptiesSlots};
+ghost use Rattle.tile_store.specs.Order.{Evicts, MakesRoom};
 
 use crate::order::Order;
-use tex_world::{NoMemory, World};
+use tex_world::World;
 
 /// The last unpinned entry leaves. The answer is its bytes.
 fn evict<W: World>(order: &mut Order<W>) -> u64
     requires { IsTrue (list_any is_unpinned order.old.entries) }
     ensures entries { order.new.entries ≡ without_last_unpinned order.old.entries }
-    ensures room { KeepsRoom order.old order.new }
+    ensures slots { Evicts order.old order.new }
     ensures bytes { loose_bytes order.new.entries + result ≡ loose_bytes order.old.entries }
 {
     // Its keys are distinct, so one entry leaves with the key.
@@ -26,23 +27,21 @@ fn evict<W: World>(order: &mut Order<W>) -> u64
     }
 }
 
-/// Makes room for one entry more among so many slots: where all are taken the last unpinned one
-/// leaves. The answer is its bytes.
-pub(crate) fn make_room<W: World>(order: &mut Order<W>, slots: usize) -> Result<u64, NoMemory>
-    requires { pinned_count order.old.entries < slots }
-    ensures entries { OnOk result (order.new.entries ≡ with_room slots order.old.entries) }
-    ensures free { OnOk result (length order.new.entries < order.new.cap) }
-    ensures spare { OnOk result (0 < order.new.spare) }
-    ensures bytes { IfOk result (λ bytes.
-        loose_bytes order.new.entries + bytes ≡ loose_bytes order.old.entries) }
-    ensures err { OnErr result (order.new.entries ≡ order.old.entries) }
+/// Makes room for one entry more: where all slots are taken the last unpinned one leaves. The
+/// answer is its bytes.
+pub(crate) fn make_room<W: World>(order: &mut Order<W>) -> u64
+    requires { pinned_count order.old.entries < length order.old.slots }
+    ensures entries { order.new.entries
+        ≡ with_room (length order.old.slots) order.old.entries }
+    ensures free { length order.new.entries < length order.new.slots }
+    ensures slots { MakesRoom order.old order.new }
+    ensures bytes { loose_bytes order.new.entries + result ≡ loose_bytes order.old.entries }
 {
-    let len = order.len();
-    if len < slots && len == order.cap() as usize {
-        return Err(NoMemory);
+    if order.len() < order.slots() as usize {
+        0
+    } else {
+        evict(order)
     }
-    order.reserve()?;
-    if len < slots { Ok(0) } else { Ok(evict(order)) }
 }
 
 /// Unpinned entries leave, the last first, until those that stay fit the share. The answer is their
@@ -50,6 +49,7 @@ pub(crate) fn make_room<W: World>(order: &mut Order<W>, slots: usize) -> Result<
 pub(crate) fn evict_past<W: World>(order: &mut Order<W>, loose: u64, share: u64) -> u64
     requires { loose ≡ loose_bytes order.old.entries }
     ensures entries { order.new.entries ≡ kept_within share order.old.entries }
+    ensures slots { EmptiesSlots order.old order.new }
     ensures loose { result ≡ loose_bytes order.new.entries }
     ensures within { result ≤ share }
 {

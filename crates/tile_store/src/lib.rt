@@ -4,6 +4,7 @@
 
 mod entry;
 mod evict;
+mod keys;
 mod links;
 mod order;
 mod purge;
@@ -14,6 +15,8 @@ mod two_rows;
 // A clause can name a shard only if the types of its fields are exported.
 #[doc(hidden)]
 pub use entry::Entry;
+#[doc(hidden)]
+pub use keys::Keys;
 #[doc(hidden)]
 pub use links::Links;
 #[doc(hidden)]

@@ -8,7 +8,8 @@ use std::alloc::Global;
 use std::marker::Model;
 use tex_world::NoMemory;
 
-/// Some of so many places, in an order. In a clause it is the list of those, and how many there are.
+/// Some of so many places, in an order. In a clause it is the list of those, and how many there
+/// are.
 #[derive(Drop)]
 pub struct Links {
     // The next of each place and the one before it. The root stands before the first and behind the
@@ -35,8 +36,8 @@ impl Links {
         ensures { IfOk result (λ links. links ≡ linked [] places) }
     {
         Ok(Links {
-            next: all_at(alloc, places)?,
-            prev: all_at(alloc, places)?,
+            next: all_at(alloc, places, places as usize + 1)?,
+            prev: all_at(alloc, places, places as usize + 1)?,
             root: places,
             len: 0,
         })
@@ -124,9 +125,9 @@ impl Links {
     }
 }
 
-/// The links of so many places and the root, each to the root.
-fn all_at(alloc: Global, root: u32) -> Result<Vec<u32>, NoMemory>
-    ensures { IfOk result (λ links. links.items ≡ replicate (root + 1) root) }
+/// So many links, each to one place.
+pub(crate) fn all_at(alloc: Global, place: u32, count: usize) -> Result<Vec<u32>, NoMemory>
+    ensures { IfOk result (λ links. links.items ≡ replicate count place) }
 {
-    vec![in alloc; root; root as usize + 1].map_err(|_| NoMemory)
+    vec![in alloc; place; count].map_err(|_| NoMemory)
 }

@@ -1,6 +1,6 @@
 //! The entries of a shard in fixed slots, by their keys, in the order of their last use.
-ghost use Rattle.std.specs.Prelude.{◌≡◌, ℕ, ◌+◌, ◌*◌, ◌<◌, ◌≤◌, ◌^◌, [], length, replicate, nat_eq};
-ghost use Rattle.std.specs.Prelude.{◌∷◌, OnOk, IfOk, IfSome, None, IsNone, IsFalse, option_map};
+ghost use Rattle.std.specs.Prelude.{◌≡◌, ℕ, ◌+◌, ◌<◌, ◌≤◌, ◌^◌, ◌++◌, [], length, nat_eq};
+ghost use Rattle.std.specs.Prelude.{◌∷◌, IfOk, IfSome, None, IsNone, IsFalse, option_map};
 ghost use Rattle.std.specs.Option.{option_copied};
 ghost use Rattle.std.specs.Map.{keys_of, remove_entry};
 ghost use Rattle.std.specs.List.{IsDistinct, list_any};
@@ -9,65 +9,68 @@ ghost use Rattle.tile_store.specs.Tile.{tile_bytes};
 ghost use Rattle.tile_store.specs.Entry.{entry_at, unpinned_at, is_unpinned, HasPin};
 ghost use Rattle.tile_store.specs.Changes.{pinned_first, unpinned_once};
 ghost use Rattle.tile_store.specs.Inside.{CanPin};
-ghost use Rattle.tile_store.specs.Order.{KeepsRoom, below};
+ghost use Rattle.tile_store.specs.Links.{last_of};
+ghost use Rattle.tile_store.specs.Keys.{slot_of, keyed_at};
+ghost use Rattle.tile_store.specs.Slots.{empty_shard, AreInSlots, SameSlots, LosesKey, TellsSlot};
+ghost use Rattle.tile_store.specs.Order.{below};
 ghost use Rattle.tile_store.specs.Leaving.{last_entry, promoted, IsLastUnpinned};
 
 use crate::entry::Entry;
+use crate::keys::{Keys, none_yet};
 use crate::links::Links;
 use std::alloc::Global;
-use std::collections::HashMap;
 use std::marker::Model;
 use tex_world::{NoMemory, World};
 use tile_layout::TileKey;
 
-/// Entries in fixed slots, by their keys. In a clause it is the list of them, the most recently used
-/// first, with the number of slots.
+/// Entries in fixed slots, by their keys. In a clause it is the list of them, the most recently
+/// used first, with the key of each slot, and the slots whose entries left and that were not told
+/// yet.
 #[derive(Drop)]
 pub struct Order<W: World> {
     slots: Vec<Option<Entry<W>>>,
-    // The slots without an entry.
+    // The slots without an entry. The first of them were told.
     free: Vec<u32>,
-    // The slot of each key. It has room for twice as many keys as there are slots.
-    index: HashMap<TileKey, u32>,
+    told: usize,
+    keys: Keys,
     links: Links,
 }
 
 impl<W: World> Model for Order<W> {
+    ghost use Rattle.std.specs.Prelude.{drop};
     ghost use Rattle.std.specs.Vec.{vec_capacity};
-    ghost use Rattle.std.specs.HashMap.{spare};
-    ghost use Rattle.tile_store.specs.Order.{OrderState, entries_of, IsOrder};
+    ghost use Rattle.tile_store.specs.Slots.{ShardState};
+    ghost use Rattle.tile_store.specs.Order.{entries_of, IsOrdered};
 
-    ghost Value = { OrderState };
+    ghost Value = { ShardState };
 
     ghost view = { λ o. record {
       entries = entries_of o.slots.items o.links.order;
-      cap = o.links.places;
-      spare = spare o.index;
+      slots = o.keys;
+      left = drop o.told o.free.items;
     } };
 
-    ghost invariant = { λ o. IsOrder o.slots.items o.free.items (vec_capacity o.free) o.index.entries o.links };
+    ghost invariant = { λ o.
+        IsOrdered o.slots.items o.free.items (vec_capacity o.free) o.told o.keys o.links };
 }
 
 impl<W: World> Order<W> {
     /// So many slots without an entry.
     pub(crate) fn with_slots(alloc: Global, slots: u32) -> Result<Order<W>, NoMemory>
-        ensures entries { IfOk result (λ order. order.entries ≡ []) }
-        ensures cap { IfOk result (λ order. order.cap ≡ slots) }
+        ensures { IfOk result (λ order. order ≡ empty_shard slots) }
     {
-        let Ok(index) = HashMap::with_capacity(alloc, 2 * slots as usize) else {
-            return Err(NoMemory);
-        };
         Ok(Order {
-            slots: no_entries(alloc, slots)?,
+            slots: none_yet(alloc, slots)?,
             free: all_free(alloc, slots)?,
-            index,
+            told: slots as usize,
+            keys: Keys::new(alloc, slots)?,
             links: Links::new(alloc, slots)?,
         })
     }
 
     /// The number of slots.
-    pub(crate) fn cap(&self) -> u32
-        ensures { result ≡ self.now.cap }
+    pub(crate) fn slots(&self) -> u32
+        ensures { result ≡ length self.now.slots }
     {
         self.links.places()
     }
@@ -75,34 +78,54 @@ impl<W: World> Order<W> {
     /// The number of entries.
     pub(crate) fn len(&self) -> usize
         ensures len { result ≡ length self.now.entries }
-        ensures most { length self.now.entries ≤ self.now.cap }
+        ensures most { length self.now.entries ≤ length self.now.slots }
         ensures valid { IsDistinct nat_eq (keys_of self.now.entries) }
-        ensures few { self.now.cap < 2 ^ 32 }
+        ensures few { length self.now.slots < 2 ^ 32 }
+        ensures slots { AreInSlots self.now }
     {
         self.links.len() as usize
+    }
+
+    /// The slot of a key.
+    pub(crate) fn slot(&self, key: TileKey) -> Option<u32>
+        ensures { result ≡ slot_of key self.now.slots }
+    {
+        self.keys.find(key)
+    }
+
+    /// The next of the slots that are to be told.
+    pub(crate) fn tell(&mut self) -> Option<u32>
+        ensures { TellsSlot result self.old self.new }
+    {
+        if self.told == self.free.len() {
+            return None;
+        }
+        let slot = self.free[self.told];
+        self.told += 1;
+        Some(slot)
     }
 
     /// The entry of a key.
     pub(crate) fn peek(&self, key: TileKey) -> Option<&Entry<W>>
         ensures { option_copied result ≡ entry_at key self.now.entries }
     {
-        match self.index.get(&key) {
-            Some(slot) => self.slots[*slot as usize].as_ref(),
+        match self.keys.find(key) {
+            Some(slot) => self.slots[slot as usize].as_ref(),
             None => None,
         }
     }
 
-    /// Pins the entry of a key, which then stands first. The answer is its bytes where it had no pin.
+    /// Pins the entry of a key, which then stands first. The answer is its bytes where it had no
+    /// pin.
     pub(crate) fn pin(&mut self, key: TileKey) -> u64
         requires { CanPin key self.old.entries }
         ensures entries { self.new.entries ≡ pinned_first key self.old.entries }
-        ensures room { KeepsRoom self.old self.new }
+        ensures slots { SameSlots self.old self.new }
         ensures bytes { result ≡ unpinned_at key self.old.entries }
     {
-        let Some(slot) = self.index.get(&key) else {
+        let Some(slot) = self.keys.find(key) else {
             return 0;
         };
-        let slot = *slot;
         // No slot comes twice.
         let _count = self.links.len();
         let Some(entry) = &mut self.slots[slot as usize] else {
@@ -118,13 +141,12 @@ impl<W: World> Order<W> {
     pub(crate) fn unpin(&mut self, key: TileKey) -> u64
         requires { HasPin key self.old.entries }
         ensures entries { self.new.entries ≡ unpinned_once key self.old.entries }
-        ensures room { KeepsRoom self.old self.new }
+        ensures slots { SameSlots self.old self.new }
         ensures bytes { result ≡ unpinned_at key self.new.entries }
     {
-        let Some(slot) = self.index.get(&key) else {
+        let Some(slot) = self.keys.find(key) else {
             return 0;
         };
-        let slot = *slot;
         // No slot comes twice.
         let _count = self.links.len();
         let Some(entry) = &mut self.slots[slot as usize] else {
@@ -134,40 +156,32 @@ impl<W: World> Order<W> {
         entry.unpinned_bytes()
     }
 
-    /// Makes sure that the index takes one key more.
-    pub(crate) fn reserve(&mut self) -> Result<(), NoMemory>
-        ensures entries { self.new.entries ≡ self.old.entries }
-        ensures room { KeepsRoom self.old self.new }
-        ensures ok { OnOk result (0 < self.new.spare) }
-    {
-        // Where so many have left that the index is full of what they left behind, it is put in order
-        // here, in the room that it has.
-        self.index.reserve(1).map_err(|_| NoMemory)
-    }
-
-    /// Puts an entry first, in a free slot.
-    pub(crate) fn put(&mut self, entry: Entry<W>)
+    /// Puts an entry first, in a free slot: in the one that an entry left last. All of them count
+    /// as told then. The answer is the slot.
+    pub(crate) fn put(&mut self, entry: Entry<W>) -> u32
         requires absent { entry_at entry.tile.key self.old.entries ≡ None }
-        requires free { length self.old.entries < self.old.cap }
-        requires spare { 0 < self.old.spare }
+        requires free { length self.old.entries < length self.old.slots }
         ensures entries { self.new.entries ≡ (entry.tile.key, entry) ∷ self.old.entries }
+        ensures slots { self.new.slots ≡ keyed_at result entry.tile.key self.old.slots }
+        ensures last { IfSome (last_of self.old.left) (λ slot. result ≡ slot) }
+        ensures left { self.new.left ≡ [] }
     {
         let Some(slot) = self.free.pop() else {
-            return;
+            return 0;
         };
-        if let Err(_refused) = self.index.insert(entry.key(), slot) {
-            return;
-        }
+        self.told = self.free.len();
+        self.keys.put(entry.key(), slot);
         self.slots[slot as usize] = Some(entry);
         self.links.push_front(slot);
+        slot
     }
 
     /// The entry of a key leaves, if there is one.
     pub(crate) fn pop(&mut self, key: TileKey)
         ensures entries { self.new.entries ≡ remove_entry (nat_eq key) self.old.entries }
-        ensures room { KeepsRoom self.old self.new }
+        ensures slots { LosesKey key self.old self.new }
     {
-        let Some(slot) = self.index.remove(&key) else {
+        let Some(slot) = self.keys.take(key) else {
             return;
         };
         // No slot comes twice.
@@ -180,12 +194,12 @@ impl<W: World> Order<W> {
     /// The entry of a key goes first, if there is one.
     pub(crate) fn promote(&mut self, key: TileKey)
         ensures entries { self.new.entries ≡ promoted key self.old.entries }
-        ensures room { KeepsRoom self.old self.new }
+        ensures slots { SameSlots self.old self.new }
     {
-        if let Some(slot) = self.index.get(&key) {
+        if let Some(slot) = self.keys.find(key) {
             // No slot comes twice.
             let _count = self.links.len();
-            self.links.to_front(*slot);
+            self.links.to_front(slot);
         }
     }
 
@@ -237,19 +251,6 @@ impl Last {
             bytes: entry.unpinned_bytes(),
         }
     }
-}
-
-/// So many slots without an entry.
-fn no_entries<W: World>(alloc: Global, slots: u32) -> Result<Vec<Option<Entry<W>>>, NoMemory>
-    ensures { IfOk result (λ made. made.items ≡ replicate slots None) }
-{
-    let Ok(mut made) = Vec::with_capacity(alloc, slots as usize) else {
-        return Err(NoMemory);
-    };
-    for _slot in 0..slots {
-        made.push_reserved(None);
-    }
-    Ok(made)
 }
 
 /// The numbers of so many slots.

@@ -3,6 +3,7 @@ ghost use Rattle.std.specs.Prelude.{◌≡◌, ◌+◌, ◌<◌, ◌^◌, length
 ghost use Rattle.tile_store.specs.Entry.{loose_bytes};
 ghost use Rattle.tile_store.specs.Changes.{without_stale};
 ghost use Rattle.tile_store.specs.Leaving.{turned};
+ghost use Rattle.tile_store.specs.Slots.{EmptiesSlots};
 
 use crate::order::Order;
 use tex_world::World;
@@ -12,6 +13,7 @@ use tex_world::World;
 pub(crate) fn purge<W: World>(order: &mut Order<W>, file: u32, below: u32) -> u64
     requires { loose_bytes order.old.entries < 2 ^ 64 }
     ensures entries { order.new.entries ≡ without_stale file below order.old.entries }
+    ensures slots { EmptiesSlots order.old order.new }
     ensures bytes { loose_bytes order.new.entries + result ≡ loose_bytes order.old.entries }
 {
     let mut bytes = 0;
@@ -26,6 +28,7 @@ pub(crate) fn purge<W: World>(order: &mut Order<W>, file: u32, below: u32) -> u6
 fn take_or_turn<W: World>(order: &mut Order<W>, file: u32, below: u32) -> u64
     requires { 0 < length order.old.entries }
     ensures entries { order.new.entries ≡ turned file below order.old.entries }
+    ensures slots { EmptiesSlots order.old order.new }
     ensures bytes { loose_bytes order.new.entries + result ≡ loose_bytes order.old.entries }
 {
     // Its keys are distinct, so the entry of the last key is the last.

@@ -5,6 +5,9 @@ ghost use Rattle.tile_store.specs.Entry.{entry_at, tile_at, HasPin, pin_sum, loo
 ghost use Rattle.tile_store.specs.Entry.{pinned_count, AreEntries};
 ghost use Rattle.tile_store.specs.Changes.{pinned_first, inserted, kept_tile, unpinned_once};
 ghost use Rattle.tile_store.specs.Changes.{kept_within, without_stale, with_pin, KeepsPinned};
+ghost use Rattle.tile_store.specs.Keys.{slot_of};
+ghost use Rattle.tile_store.specs.Slots.{empty_shard, AreInSlots, SameSlots, SlotsAfterInsert};
+ghost use Rattle.tile_store.specs.Slots.{FillsSlot, EmptiesSlots, TellsSlot};
 ghost use Rattle.tile_store.specs.Tag.{share_in_tag};
 ghost use Rattle.tile_store.specs.Lawful.{FitsTag, Lawful, KeepsLawful, KeepsLawfulFor};
 
@@ -19,8 +22,9 @@ use std::sync::Arc;
 use tex_world::{NoMemory, World};
 use tile_layout::TileKey;
 
-/// Tiles in the order of their last use, each with its pins. In a clause it is the list of its
-/// entries by their keys, the most recently used first.
+/// Tiles in the order of their last use, each with its pins, in fixed slots. In a clause it is the
+/// list of its entries by their keys, the most recently used first, with the key of each slot, and
+/// the slots whose entries left and that were not told yet.
 ///
 /// A pinned tile stays. Which of the others stay, the bytes that they may take decide.
 #[derive(Drop)]
@@ -32,12 +36,12 @@ pub struct Shard<W: World> {
 }
 
 impl<W: World> Model for Shard<W> {
-    ghost use Rattle.tile_store.specs.Entry.{Entries};
+    ghost use Rattle.tile_store.specs.Slots.{ShardState};
     ghost use Rattle.tile_store.specs.Inside.{IsShard};
 
-    ghost Value = { Entries };
+    ghost Value = { ShardState };
 
-    ghost view = { λ s. s.order.entries };
+    ghost view = { λ s. s.order };
 
     ghost invariant = { λ s. IsShard s.order.entries s.pins s.loose };
 }
@@ -45,8 +49,8 @@ impl<W: World> Model for Shard<W> {
 impl<W: World> Shard<W> {
     /// A shard with no tile and so many slots. It takes the memory for all of its entries.
     pub fn with_slots(alloc: Global, slots: u32) -> Result<Shard<W>, NoMemory>
-        ensures value { IfOk result (λ shard. shard ≡ []) }
-        ensures lawful { IfOk result (λ shard. (tag : ℕ) → Lawful W.files tag shard) }
+        ensures value { IfOk result (λ shard. shard ≡ empty_shard slots) }
+        ensures lawful { IfOk result (λ shard. (tag : ℕ) → Lawful W.files tag shard.entries) }
     {
         Ok(Shard {
             alloc,
@@ -59,14 +63,16 @@ impl<W: World> Shard<W> {
     /// The tile of a key, with a pin more on its entry, which then stands first. Else None, and
     /// nothing changes.
     pub fn find_pin(&mut self, key: TileKey) -> Result<Option<Arc<Tile<W>>>, NoMemory>
-        requires { pin_sum self.old + 1 < 2 ^ 32 }
+        requires { pin_sum self.old.entries + 1 < 2 ^ 32 }
         // None comes exactly where no entry has the key; a tile that comes is its entry's.
-        ensures found { IfOk result (λ tile. option_map arc_value tile ≡ tile_at key self.old) }
+        ensures found { IfOk result (λ tile.
+            option_map arc_value tile ≡ tile_at key self.old.entries) }
         ensures keyed { IfOk result (λ tile. IfSome tile (λ t. (arc_value t).key ≡ key)) }
         // What the call leaves.
-        ensures entries { OnOk result (self.new ≡ pinned_first key self.old) }
+        ensures entries { OnOk result (self.new.entries ≡ pinned_first key self.old.entries) }
+        ensures slots { SameSlots self.old self.new }
         ensures err { OnErr result (self.new ≡ self.old) }
-        ensures lawful { KeepsLawful W.files self.old self.new }
+        ensures lawful { KeepsLawful W.files self.old.entries self.new.entries }
     {
         let Some(entry) = self.order.peek(key) else {
             return Ok(None);
@@ -80,43 +86,51 @@ impl<W: World> Shard<W> {
     }
 
     /// Keeps a tile with one pin. An entry that has its key is pinned instead, and the new tile is
-    /// given up. Where the shard has so many slots or more, the last unpinned tile leaves for it.
+    /// given up. Where all of the shard's slots are taken, the last unpinned tile leaves for it.
     pub fn insert_pin(&mut self, tile: Tile<W>, slots: usize) -> Result<Arc<Tile<W>>, NoMemory>
-        requires room { pinned_count self.old < slots }
-        requires slots { slots < 2 ^ 32 }
-        requires pins { pin_sum self.old + 1 < 2 ^ 32 }
-        ensures kept { IfOk result (λ kept. arc_value kept ≡ kept_tile tile self.old) }
+        requires slots { slots ≡ length self.old.slots }
+        requires left { self.old.left ≡ [] }
+        requires room { pinned_count self.old.entries < slots }
+        requires pins { pin_sum self.old.entries + 1 < 2 ^ 32 }
+        ensures kept { IfOk result (λ kept. arc_value kept ≡ kept_tile tile self.old.entries) }
         ensures keyed { IfOk result (λ kept. (arc_value kept).key ≡ tile.key) }
         // What the call leaves.
-        ensures entries { OnOk result (self.new ≡ inserted tile slots self.old) }
-        ensures pinned { OnOk result (KeepsPinned (with_pin tile self.old) self.new) }
+        ensures entries { OnOk result (self.new.entries ≡ inserted tile slots self.old.entries) }
+        ensures pinned { OnOk result
+            (KeepsPinned (with_pin tile self.old.entries) self.new.entries) }
+        ensures slots { OnOk result (SlotsAfterInsert tile.key self.old self.new) }
         ensures err { OnErr result (self.new ≡ self.old) }
-        ensures lawful { KeepsLawfulFor W.files (FitsTag W.files tile) self.old self.new }
+        ensures lawful { KeepsLawfulFor W.files (FitsTag W.files tile)
+            self.old.entries self.new.entries }
     {
         match self.find_pin(tile.key())? {
             Some(kept) => Ok(kept),
-            None => self.insert_new(tile, slots),
+            None => self.insert_new(tile),
         }
     }
 
     /// The same for a tile whose key has no entry.
-    fn insert_new(&mut self, tile: Tile<W>, slots: usize) -> Result<Arc<Tile<W>>, NoMemory>
-        requires absent { entry_at tile.key self.old ≡ None }
-        requires room { pinned_count self.old < slots }
-        requires slots { slots < 2 ^ 32 }
-        requires pins { pin_sum self.old + 1 < 2 ^ 32 }
+    fn insert_new(&mut self, tile: Tile<W>) -> Result<Arc<Tile<W>>, NoMemory>
+        requires absent { entry_at tile.key self.old.entries ≡ None }
+        requires left { self.old.left ≡ [] }
+        requires room { pinned_count self.old.entries < length self.old.slots }
+        requires pins { pin_sum self.old.entries + 1 < 2 ^ 32 }
         ensures kept { IfOk result (λ kept. arc_value kept ≡ tile) }
-        ensures entries { OnOk result (self.new ≡ inserted tile slots self.old) }
-        ensures pinned { OnOk result (KeepsPinned (with_pin tile self.old) self.new) }
+        ensures entries { OnOk result
+            (self.new.entries ≡ inserted tile (length self.old.slots) self.old.entries) }
+        ensures pinned { OnOk result
+            (KeepsPinned (with_pin tile self.old.entries) self.new.entries) }
+        ensures slots { OnOk result (FillsSlot tile.key self.old self.new) }
         ensures err { OnErr result (self.new ≡ self.old) }
-        ensures lawful { KeepsLawfulFor W.files (FitsTag W.files tile) self.old self.new }
+        ensures lawful { KeepsLawfulFor W.files (FitsTag W.files tile)
+            self.old.entries self.new.entries }
     {
         // Its bytes are few.
         let _key = tile.key();
         let kept = owned(self.alloc, tile)?;
         let entry = Entry::pinned(another(&kept)?);
-        self.loose -= make_room(&mut self.order, slots)?;
-        self.order.put(entry);
+        self.loose -= make_room(&mut self.order);
+        let _slot = self.order.put(entry);
         self.pins += 1;
         // The order's keys are distinct.
         let _count = self.order.len();
@@ -126,11 +140,14 @@ impl<W: World> Shard<W> {
     /// Takes a pin from the entry of a key. Then, while the unpinned tiles take more bytes than the
     /// share, the last of them leaves.
     pub fn release(&mut self, key: TileKey, share: u64)
-        requires { HasPin key self.old }
-        ensures entries { self.new ≡ kept_within share (unpinned_once key self.old) }
-        ensures pinned { KeepsPinned (unpinned_once key self.old) self.new }
-        ensures within { loose_bytes self.new ≤ share }
-        ensures lawful { KeepsLawfulFor W.files (λ tag. share_in_tag tag ≡ share) self.old self.new }
+        requires { HasPin key self.old.entries }
+        ensures entries { self.new.entries
+            ≡ kept_within share (unpinned_once key self.old.entries) }
+        ensures pinned { KeepsPinned (unpinned_once key self.old.entries) self.new.entries }
+        ensures slots { EmptiesSlots self.old self.new }
+        ensures within { loose_bytes self.new.entries ≤ share }
+        ensures lawful { KeepsLawfulFor W.files (λ tag. share_in_tag tag ≡ share)
+            self.old.entries self.new.entries }
     {
         let loose = self.loose + self.order.unpin(key);
         self.pins -= 1;
@@ -141,9 +158,10 @@ impl<W: World> Shard<W> {
 
     /// The unpinned tiles of a file leave whose generation is below the bound, and no others.
     pub fn purge(&mut self, file: u32, below: u32)
-        ensures entries { self.new ≡ without_stale file below self.old }
-        ensures pinned { KeepsPinned self.old self.new }
-        ensures lawful { KeepsLawful W.files self.old self.new }
+        ensures entries { self.new.entries ≡ without_stale file below self.old.entries }
+        ensures pinned { KeepsPinned self.old.entries self.new.entries }
+        ensures slots { EmptiesSlots self.old self.new }
+        ensures lawful { KeepsLawful W.files self.old.entries self.new.entries }
     {
         self.loose -= purge(&mut self.order, file, below);
         // The order's keys are distinct.
@@ -152,7 +170,7 @@ impl<W: World> Shard<W> {
 
     /// The tile of a key is there and pinned.
     pub fn is_pinned(&self, key: TileKey) -> bool
-        ensures value { IsTrue result ↔ HasPin key self.now }
+        ensures value { IsTrue result ↔ HasPin key self.now.entries }
     {
         match self.order.peek(key) {
             Some(entry) => entry.is_pinned(),
@@ -160,25 +178,47 @@ impl<W: World> Shard<W> {
         }
     }
 
+    /// The slot of a key. An entry keeps its slot until it leaves.
+    pub fn slot_of(&self, key: TileKey) -> Option<u32>
+        ensures value { result ≡ slot_of key self.now.slots }
+    {
+        self.order.slot(key)
+    }
+
+    /// The next of the slots that entries left in `release` and `purge`, until each was told once.
+    pub fn left(&mut self) -> Option<u32>
+        ensures told { TellsSlot result self.old self.new }
+    {
+        self.order.tell()
+    }
+
+    /// The number of slots.
+    pub fn slots(&self) -> u32
+        ensures value { result ≡ length self.now.slots }
+    {
+        self.order.slots()
+    }
+
     /// The number of tiles.
     pub fn tiles(&self) -> u32
-        ensures value { result ≡ length self.now }
-        ensures valid { AreEntries self.now }
+        ensures value { result ≡ length self.now.entries }
+        ensures valid { AreEntries self.now.entries }
+        ensures slots { AreInSlots self.now }
     {
         self.order.len() as u32
     }
 
     /// The sum of the pins. No more tiles than that are pinned.
     pub fn pins(&self) -> u32
-        ensures value { result ≡ pin_sum self.now }
-        ensures pinned { pinned_count self.now ≤ result }
+        ensures value { result ≡ pin_sum self.now.entries }
+        ensures pinned { pinned_count self.now.entries ≤ result }
     {
         self.pins
     }
 
     /// The bytes of the unpinned tiles.
     pub fn loose(&self) -> u64
-        ensures value { result ≡ loose_bytes self.now }
+        ensures value { result ≡ loose_bytes self.now.entries }
     {
         self.loose
     }

@@ -3,14 +3,14 @@ use Rattle.std.proofs.Common.{◌++◌, ◌∷◌, [], List, length, map, ap, su
 use Rattle.std.specs.List.{All}
 use Rattle.std.proofs.lemmas.List.{length_push, map-append}
 use Rattle.std.proofs.lemmas.List.Elements.{All-push}
-use Rattle.tile_store.specs.Entry.{Entries}
+use Rattle.tile_store.specs.Slots.{ShardState}
 use Rattle.tile_store.specs.Lawful.{Lawful}
 use Rattle.shard_gate.specs.Seated.{ShardId, IsMadeBy, first_seat}
 use Rattle.shard_gate.proofs.laid.laid.Goals as goal
 
 pub new-requires-in-loop-shard : goal.new-requires-in-loop-shard
 new-requires-in-loop-shard g c =
-    subst (λ (es : Entries). Lawful g.W.World.files c.args.terms.now.tag es)
+    subst (λ (es : ShardState). Lawful g.W.World.files c.args.terms.now.tag es.entries)
     (sym c.new.ensures) (c.in-Ok.ensures.lawful c.args.terms.now.tag)
 
 pub loop-shard-preserved : goal.loop-shard-preserved

@@ -144,7 +144,7 @@ loop-last-preserved g c =
       chain = rw more (chain_next items c.loop-last.last c.index.result.now
           c.index-in-loop-last.result.now dir so.chain so.long
           (omega (arith, c.loop-last-test.true)) c.index.ensures c.index-in-loop-last.ensures
-          dir-half);
+          dir-half (rw c.in-Some.is at c.in_ok-next_level.ensures.more));
       keeps = lawful.chains _ _ _ so.keeps c.in_ok-next_level.ensures.reader;
       told = λ bytes is levels good end.
           let k = c.loop-last.last in

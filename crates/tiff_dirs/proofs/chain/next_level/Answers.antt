@@ -1,10 +1,14 @@
-use Rattle.std.proofs.Common.{◌≡◌, false, refl, sym, ◌∙◌}
+use Rattle.std.proofs.Common.{◌≡◌, false, refl, sym, ◌∙◌, Option, Some, None, IfSome}
 use Rattle.std.proofs.lemmas.Bool.{ne_eqb}
 use Rattle.tiff_format.specs.Level.{is_single}
 use Rattle.tiff_format.specs.Shown.{shown, shown_shape}
 use Rattle.tiff_dirs.proofs.NextLevel.{last_is_last, no_next, some_next, end_is_last}
 use Rattle.tiff_dirs.proofs.NextLevel.{fault_is_last, next_of_half, shape_of_level}
 use Rattle.tiff_dirs.proofs.chain.next_level.Goals as goal
+
+if_any : {A : Type 0} (P : Type 0) (o : Option A) → P → IfSome o (λ _. P)
+if_any P None p = tt
+if_any P (Some x) p = p
 
 pub returns-then-last-eq1-2-clause-told : goal.returns-then-last-eq1-2-clause-told
 returns-then-last-eq1-2-clause-told g c = λ bytes is one at first last link. (
@@ -39,6 +43,16 @@ returns-in-Ok-clause-told g c = λ bytes is one at first last link.
           (shape_of_level form bytes at (shown c.args.last.now) last) more there
           (c.in-Ok.ensures.told bytes is),
     )
+
+pub returns-in-Ok-clause-more : goal.returns-in-Ok-clause-more
+returns-in-Ok-clause-more g c =
+    if_any (is_single (shown_shape c.args.last.now) ≡ false) c.in-Ok.next
+    (elim c.else-last-eq1.branch [
+      | goal.else-last-eq1-via-then-last-eq1+else-last-eq1-2 w ↦
+          rw (w.if-last-eq1.true, ne_eqb c.args.last.now.height 1 w.if-last-eq1-2.false) refl
+      | goal.else-last-eq1-via-else-last-eq1 w ↦
+          rw (ne_eqb c.args.last.now.width 1 w.if-last-eq1.false) refl
+    ])
 
 pub returns-in-Err-Fault-clause-told : goal.returns-in-Err-Fault-clause-told
 returns-in-Err-Fault-clause-told g c = λ bytes is one at first last link.

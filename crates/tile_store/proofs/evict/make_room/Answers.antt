@@ -1,30 +1,34 @@
-use Rattle.std.proofs.Common.{◌≡◌, length, ap, ◌∙◌, arith}
-use Rattle.std.specs.List.{list_any}
-use Rattle.tile_store.specs.Entry.{is_unpinned}
-use Rattle.tile_store.specs.Changes.{without_last_unpinned}
+use Rattle.std.proofs.Common.{length, ap, arith}
+use Rattle.std.proofs.Common.{refl}
+use Rattle.tile_store.specs.Order.MakesRoom.{stays, evicts}
 use Rattle.tile_store.proofs.EvictLemmas.{length-without_last}
+use Rattle.tile_store.proofs.LeftLemmas.{evicted_empties}
 use Rattle.tile_store.proofs.ShardLemmas.{any_by_count}
 use Rattle.tile_store.proofs.evict.make_room.Goals as goal
 
 pub evict-requires : goal.evict-requires
 evict-requires g c =
     let few = c.requires in
-    let over = c.if-len-slots-2.false in
-    let long = c.len-len.ensures.len in
-    let some = any_by_count c.args.order.now.entries (omega arith) in
-    ap (list_any is_unpinned) c.in_ok-reserve.ensures.entries ∙ some
+    let over = c.if-len-slots.false in
+    let long = c.len.ensures.len in
+    let count = c.slots.ensures in
+    any_by_count c.args.order.now.entries (omega arith)
 
-pub returns-else-len-slots-2-clause-free : goal.returns-else-len-slots-2-clause-free
-returns-else-len-slots-2-clause-free g c =
-    let old = c.args.order.now.entries in
+pub returns-then-len-slots-clause-slots : goal.returns-then-len-slots-clause-slots
+returns-then-len-slots-clause-slots g c = stays (record { slots = refl; left = refl })
+
+pub returns-else-len-slots-clause-free : goal.returns-else-len-slots-clause-free
+returns-else-len-slots-clause-free g c =
+    let old = c.args.order.now in
+    let most = c.len.ensures.most in
     let few = c.requires in
-    let over = c.if-len-slots-2.false in
-    let long = c.len-len.ensures.len in
-    let most = c.len-len.ensures.most in
-    let some = any_by_count old (omega arith) in
-    let less = length-without_last old some in
-    let cap : c.evict.new.order.cap ≡ c.args.order.now.cap =
-    c.evict.ensures.room.cap ∙ c.in_ok-reserve.ensures.room.cap in
-    let left : length c.evict.new.order.entries ≡ length (without_last_unpinned old) =
-    ap length (c.evict.ensures.entries ∙ ap without_last_unpinned c.in_ok-reserve.ensures.entries) in
+    let over = c.if-len-slots.false in
+    let long = c.len.ensures.len in
+    let count = c.slots.ensures in
+    let less = length-without_last old.entries (any_by_count old.entries (omega arith)) in
+    let left = ap length c.evict.ensures.entries in
+    let same = (evicted_empties old c.evict.new.order c.evict.ensures.slots).count in
     omega arith
+
+pub returns-else-len-slots-clause-slots : goal.returns-else-len-slots-clause-slots
+returns-else-len-slots-clause-slots g c = evicts c.evict.ensures.slots

@@ -3,6 +3,7 @@ use Rattle.std.specs.Map.{remove_entry}
 use Rattle.tile_store.specs.Leaving.{promoted}
 use Rattle.tile_store.specs.Entry.{loose_bytes}
 use Rattle.tile_store.proofs.PurgeLemmas.{last_turns, turned-last}
+use Rattle.tile_store.proofs.LeftLemmas.{same_empties, lost_empties}
 use Rattle.tile_store.proofs.purge.take_or_turn.Goals as goal
 
 pub returns-then-is_stale-clause-entries : goal.returns-then-is_stale-clause-entries
@@ -35,3 +36,10 @@ returns-else-is_stale-clause-bytes g c =
     ap loose_bytes (c.promote.ensures.entries ∙ ap (λ k. promoted k c.args.order.now.entries) c.key-key.ensures)
     ∙ ap loose_bytes turns.promoted_is ∙ turns.turned_loose in
     omega arith
+
+pub returns-then-is_stale-clause-slots : goal.returns-then-is_stale-clause-slots
+returns-then-is_stale-clause-slots g c =
+    lost_empties c.key-key.result c.args.order.now c.pop.new.self c.pop.ensures.slots
+
+pub returns-else-is_stale-clause-slots : goal.returns-else-is_stale-clause-slots
+returns-else-is_stale-clause-slots g c = same_empties c.args.order.now c.promote.new.self c.promote.ensures.slots

@@ -3,7 +3,8 @@ use Rattle.std.specs.Vec.{vec_capacity}
 use Rattle.std.proofs.lemmas.Bool.{eqb-true}
 use Rattle.std.proofs.lemmas.List.{get_or_default}
 use Rattle.tile_store.specs.Leaving.{IsLastUnpinned}
-use Rattle.tile_store.specs.Order.{entry_in, entries_of, slot_by}
+use Rattle.tile_store.specs.Order.{entry_in, entries_of}
+use Rattle.tile_store.specs.Keys.{slot_of}
 use Rattle.tile_store.proofs.OrderLemmas.{there}
 use Rattle.tile_store.proofs.WalkLemmas.{Behind, next_behind, next_in, behind_more, last_unpinned_is}
 use Rattle.tile_store.proofs.SlotLemmas.{held_low}
@@ -17,7 +18,7 @@ index-requires g c =
     let behind = subst (Behind s.slots.items s.links.order c.behind._step) c.in_ok-slot.was c.behind.invariant in
     let next = next_behind s.slots.items s.links.order c.behind._step slot (omega arith) behind in
     let has = next_in s.slots.items s.links.order c.behind._step slot next in
-    let low = held_low s.slots.items s.free.items (vec_capacity s.free) s.index.entries s.links c.self.invariant slot has in
+    let low = held_low s.slots.items s.free.items (vec_capacity s.free) s.keys s.links c.self.invariant.order slot has in
     omega arith
 
 pub returns-then-is_unpinned-clause-last : goal.returns-then-is_unpinned-clause-last
@@ -28,7 +29,7 @@ returns-then-is_unpinned-clause-last g c =
     let behind = subst (Behind s.slots.items s.links.order c.behind._step) c.in_ok-slot.was c.behind.invariant in
     let next = next_behind s.slots.items s.links.order c.behind._step slot (omega arith) behind in
     let has = next_in s.slots.items s.links.order c.behind._step slot next in
-    let low = held_low s.slots.items s.free.items (vec_capacity s.free) s.index.entries s.links c.self.invariant slot has in
+    let low = held_low s.slots.items s.free.items (vec_capacity s.free) s.keys s.links c.self.invariant.order slot has in
     let got = c.index.ensures ∙ get_or_default s.slots.items slot c.index.result.now None low in
     let e = c.in-Some.entry in
     let free = eqb-true e.pins 0 (sym c.is_unpinned.ensures ∙ c.if-is_unpinned.true) in
@@ -54,7 +55,7 @@ behind-preserved g c =
     let behind = subst (Behind s.slots.items s.links.order c.behind._step) c.in_ok-slot.was c.behind.invariant in
     let next = next_behind s.slots.items s.links.order c.behind._step slot (omega arith) behind in
     let has = next_in s.slots.items s.links.order c.behind._step slot next in
-    let low = held_low s.slots.items s.free.items (vec_capacity s.free) s.index.entries s.links c.self.invariant slot has in
+    let low = held_low s.slots.items s.free.items (vec_capacity s.free) s.keys s.links c.self.invariant.order slot has in
     let got = c.index.ensures ∙ get_or_default s.slots.items slot c.index.result.now None low in
     let e = c.in-Some.entry in
     let held = sym c.is_unpinned.ensures ∙ c.if-is_unpinned.false in
@@ -70,9 +71,9 @@ returns-in_default-clause-none g c = λ _.
     let behind = subst (Behind s.slots.items s.links.order c.behind._step) c.in_ok-slot.was c.behind.invariant in
     let next = next_behind s.slots.items s.links.order c.behind._step slot (omega arith) behind in
     let has = next_in s.slots.items s.links.order c.behind._step slot next in
-    let low = held_low s.slots.items s.free.items (vec_capacity s.free) s.index.entries s.links c.self.invariant slot has in
+    let low = held_low s.slots.items s.free.items (vec_capacity s.free) s.keys s.links c.self.invariant.order slot has in
     let got = c.index.ensures ∙ get_or_default s.slots.items slot c.index.result.now None low in
-    let at = there (entry_in s.slots.items slot) (λ e. slot_by e.tile.key s.index.entries ≡ Some slot)
-    (c.self.invariant.held slot has) in
+    let at = there (entry_in s.slots.items slot) (λ e. slot_of e.tile.key s.keys ≡ Some slot)
+    (c.self.invariant.order.held slot has) in
     let both : None ≡ Some at.entry = sym c.in_default.is ∙ got ∙ at.is in
     absurd cc

@@ -11,7 +11,7 @@ use Rattle.tile_store.proofs.shard.Shard.find_pin.Goals as goal
 
 pub pin-requires : goal.pin-requires
 pin-requires g c =
-    subst (CanPin c.args.key) (sym c.self.view_is) (can_pin c.args.key c.args.self.now c.requires)
+    subst (CanPin c.args.key) (sym (ap (λ o. o.entries) c.self.view_is)) (can_pin c.args.key c.args.self.now.entries c.requires)
 
 pub overflow_sub-self : goal.overflow_sub-self
 overflow_sub-self g c =
@@ -34,7 +34,7 @@ pub returns-clause-lawful : goal.returns-clause-lawful
 returns-clause-lawful g c = λ tag old.
     let files = g.W.World.files in
     let es = c.self.inside.order.entries in
-    let was : Lawful files tag es = subst (Lawful files tag) (sym c.self.view_is) old in
+    let was : Lawful files tag es = subst (Lawful files tag) (sym (ap (λ o. o.entries) c.self.view_is)) old in
     let distinct = subst (λ l. IsDistinct nat_eq (keys_of l)) c.pin.ensures.entries c.len-count.ensures.valid in
     subst (Lawful files tag) (sym c.pin.ensures.entries)
     (lawful_pinned files tag es was c.args.key c.in-Some.entry.now (sym c.in-Some.ensures) distinct)

@@ -17,13 +17,13 @@ invariant_of-self g c =
 pub returns-clause-pinned : goal.returns-clause-pinned
 returns-clause-pinned g c = ap pinned_entries c.purge.ensures.entries
     ∙ stay-without_stale c.args.file c.args.below c.self.inside.order.entries
-    ∙ ap pinned_entries c.self.view_is
+    ∙ ap pinned_entries (ap (λ o. o.entries) c.self.view_is)
 
 pub returns-clause-lawful : goal.returns-clause-lawful
 returns-clause-lawful g c = λ tag old.
     let files = g.W.World.files in
     let es = c.self.inside.order.entries in
-    let same = c.self.view_is in
+    let same = (ap (λ o. o.entries) c.self.view_is) in
     let was : Lawful files tag es = subst (Lawful files tag) (sym same) old in
     let distinct = subst (λ l. IsDistinct nat_eq (keys_of l)) c.purge.ensures.entries c.len-count.ensures.valid in
     subst (Lawful files tag) (sym c.purge.ensures.entries)

@@ -13,7 +13,7 @@ use Rattle.tile_store.proofs.shard.Shard.release.Goals as goal
 -- the numbers of the shard once the pin is gone
 pub overflow_add-loose : goal.overflow_add-loose
 overflow_add-loose g c =
-    let same = c.self.view_is in
+    let same = (ap (λ o. o.entries) c.self.view_is) in
     let is = c.self.invariant in
     let pinned = subst (HasPin c.args.key) (sym same) c.requires in
     let at = some_entry (entry_at c.args.key c.self.inside.order.entries) (λ e. 1 ≤ e.pins) pinned in
@@ -26,7 +26,7 @@ overflow_add-loose g c =
 
 pub overflow_sub-self : goal.overflow_sub-self
 overflow_sub-self g c =
-    let same = c.self.view_is in
+    let same = (ap (λ o. o.entries) c.self.view_is) in
     let is = c.self.invariant in
     let pinned = subst (HasPin c.args.key) (sym same) c.requires in
     let at = some_entry (entry_at c.args.key c.self.inside.order.entries) (λ e. 1 ≤ e.pins) pinned in
@@ -37,7 +37,7 @@ overflow_sub-self g c =
 
 pub evict_past-self-inside-requires : goal.evict_past-self-inside-requires
 evict_past-self-inside-requires g c =
-    let same = c.self.view_is in
+    let same = (ap (λ o. o.entries) c.self.view_is) in
     let is = c.self.invariant in
     let pinned = subst (HasPin c.args.key) (sym same) c.requires in
     let at = some_entry (entry_at c.args.key c.self.inside.order.entries) (λ e. 1 ≤ e.pins) pinned in
@@ -47,7 +47,7 @@ evict_past-self-inside-requires g c =
 
 pub invariant_of-self : goal.invariant_of-self
 invariant_of-self g c =
-    let same = c.self.view_is in
+    let same = (ap (λ o. o.entries) c.self.view_is) in
     let is = c.self.invariant in
     let pinned = subst (HasPin c.args.key) (sym same) c.requires in
     let at = some_entry (entry_at c.args.key c.self.inside.order.entries) (λ e. 1 ≤ e.pins) pinned in
@@ -61,7 +61,7 @@ invariant_of-self g c =
 
 pub returns-clause-pinned : goal.returns-clause-pinned
 returns-clause-pinned g c =
-    let same = c.self.view_is in
+    let same = (ap (λ o. o.entries) c.self.view_is) in
     ap pinned_entries c.evict_past-self-inside.ensures.entries
     ∙ stay-kept_within c.args.share c.unpin.new.self.entries
     ∙ ap pinned_entries (c.unpin.ensures.entries ∙ ap (unpinned_once c.args.key) same)
@@ -70,7 +70,7 @@ pub returns-clause-lawful : goal.returns-clause-lawful
 returns-clause-lawful g c = λ tag share_is old.
     let files = g.W.World.files in
     let es = c.self.inside.order.entries in
-    let same = c.self.view_is in
+    let same = (ap (λ o. o.entries) c.self.view_is) in
     let was : Lawful files tag es = subst (Lawful files tag) (sym same) old in
     let pinned = subst (HasPin c.args.key) (sym same) c.requires in
     let left = c.evict_past-self-inside.ensures in
