@@ -55,6 +55,7 @@ pub record ReadsOnly (old new : TapState) : Type 0 where
   pub calls : old.calls ≤ new.calls
   pub opens : new.opens ≡ old.opens
   pub moves : old.moves ≤ new.moves
+  pub lost : old.lost ≤ new.lost
   pub asks : new.asks ≡ old.asks
   pub newest : new.newest ≡ old.newest
 
@@ -64,6 +65,7 @@ pub record OpensOnce (old new : TapState) : Type 0 where
   pub calls : Rises old.calls new.calls
   pub opens : RisesByOne old.opens new.opens
   pub moves : old.moves ≤ new.moves
+  pub lost : old.lost ≤ new.lost
   pub asks : new.asks ≡ old.asks
   pub newest : new.newest ≡ old.newest
 
@@ -104,17 +106,17 @@ abbrev pub OpenedCause : {B : Type 0} → Files → ℕ → ℕ → TapState →
     → Type 0
 OpenedCause files file least old new refused.ReadFault = Rises old.faults new.faults
 OpenedCause files file least old new (refused.Again from to) =
-    MeetsNewer files file least from to old new
+    MeetsNewer files file least from to old new × Rises old.lost new.lost
 OpenedCause files file least old new refused.NoMemory = ⊤
 OpenedCause files file least old new (refused.Busy b) = ⊥
 
--- Why a file has no record. Where a newer generation was met the view has then seen it, and memory
--- is wanting only where the file was opened. Where the waiter gave up the tap had no call.
+-- Why a file has no record. A newer generation was met by a read, and the view has then seen it.
+-- Memory is wanting only where the file was opened. Where the waiter gave up the tap had no call.
 abbrev pub RecordCause : {B : Type 0} → Files → ℕ → Sighted → Sighted → FileError B → Type 0
 RecordCause files file old new refused.ReadFault = Rises old.tap.faults new.tap.faults
 RecordCause files file old new (refused.Again from to) =
     MeetsNewer files file (slice_index old.view.seen file) from to old.tap new.tap
-    × (to ≤ slice_index new.view.seen file)
+    × Rises old.tap.lost new.tap.lost × (to ≤ slice_index new.view.seen file)
 RecordCause files file old new refused.NoMemory = OpensOnce old.tap new.tap
 RecordCause files file old new (refused.Busy b) = new.tap ≡ old.tap
 

@@ -16,6 +16,7 @@ tap_state tap = record {
   opens = tap.opens;
   asks = tap.asks;
   moves = tap.moves;
+  lost = tap.lost;
   newest = tap.newest;
 }
 
@@ -28,6 +29,12 @@ pub record AddsFault (old new : TapState) : Type 0 where
 pub record AddsMove (old new : TapState) : Type 0 where
   pub moves : Rises old.moves new.moves
   pub others : new ≡ record old { moves = new.moves }
+
+-- a read lost its generation: the counts of moves and of these rose, and nothing else changed
+pub record AddsLoss (old new : TapState) : Type 0 where
+  pub moves : Rises old.moves new.moves
+  pub lost : Rises old.lost new.lost
+  pub others : new ≡ record old { moves = new.moves; lost = new.lost }
 
 -- a refused read names a real generation above the handle's, or none
 abbrev pub NamesNewer : Named → ReadError → Type 0

@@ -3,7 +3,8 @@ ghost use Rattle.std.specs.Prelude.{◌≡◌, ◌<◌, ◌≤◌, IfErr, IfSome
 ghost use Rattle.tex_world.specs.World.{last_generation};
 ghost use Rattle.tex_world.specs.Tap.{IsNew};
 ghost use Rattle.host_folder.specs.RealHandle.{handle_named};
-ghost use Rattle.host_folder.specs.RealTap.{tap_state, AddsFault, AddsMove, NamesNewer};
+ghost use Rattle.host_folder.specs.RealTap.{tap_state, AddsFault, AddsMove, AddsLoss};
+ghost use Rattle.host_folder.specs.RealTap.{NamesNewer};
 ghost use Rattle.host_folder.specs.Stamp.{stamps};
 
 use crate::handle::RealHandle;
@@ -30,6 +31,7 @@ pub struct RealTap<R> {
     opens: u64,
     asks: u64,
     moves: u64,
+    lost: u64,
     newest: (u32, u32),
 }
 
@@ -53,6 +55,7 @@ impl<R> RealTap<R> {
             opens: 0,
             asks: 0,
             moves: 0,
+            lost: 0,
             newest: (0, 0),
         }
     }
@@ -83,6 +86,14 @@ impl<R> RealTap<R> {
         ensures { AddsMove (tap_state self.old) (tap_state self.new) }
     {
         self.moves = self.moves.saturating_add(1);
+    }
+
+    /// Counts a read that met one.
+    fn count_loss(&mut self)
+        ensures { AddsLoss (tap_state self.old) (tap_state self.new) }
+    {
+        self.moves = self.moves.saturating_add(1);
+        self.lost = self.lost.saturating_add(1);
     }
 
     /// The path that opens a file.
@@ -258,7 +269,7 @@ impl<R: Files<File = File>> Tap for RealTap<R> {
                 Err(ReadError::Failed)
             }
             Err(ReadError::Gone(to)) => {
-                self.count_move();
+                self.count_loss();
                 Err(ReadError::Gone(to))
             }
         }

@@ -20,6 +20,7 @@ pub record OnlyReads (old new : Lent) : Type 0 where
   pub calls : old.tap.calls ≤ new.tap.calls
   pub opens : new.tap.opens ≡ old.tap.opens
   pub asks : new.tap.asks ≡ old.tap.asks
+  pub lost : old.tap.lost ≤ new.tap.lost
   pub newest : new.tap.newest ≡ old.tap.newest
 
 -- after answered reads: no newer generation was met

@@ -14,6 +14,7 @@ KeepsTap-itself lent = record {
     calls = omega arith;
     opens = refl;
     asks = refl;
+    lost = omega arith;
     newest = refl;
   };
   moves = refl;
@@ -27,6 +28,7 @@ OnlyReads-chains a b c p q = record {
   calls = omega (arith, p.calls, q.calls);
   opens = q.opens ∙ p.opens;
   asks = q.asks ∙ p.asks;
+  lost = omega (arith, p.lost, q.lost);
   newest = q.newest ∙ p.newest;
 }
 

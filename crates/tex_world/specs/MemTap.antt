@@ -17,6 +17,7 @@ tap_state tap = record {
   opens = tap.opens;
   asks = tap.asks;
   moves = tap.moves;
+  lost = tap.lost;
   newest = tap.newest;
 }
 
@@ -34,12 +35,14 @@ pub record AfterTapCall {T R E : Type 0} (old new : MemTap T) (result : Result R
   pub answered : IsOk result → (tap_state new).faults ≡ (tap_state old).faults
   pub planned : tap_plan new ≡ tap_plan old
 
--- The call was counted. The counts of opens, asks and moves stay, and the latest newest.
+-- The call was counted. The counts of opens, asks, moves and lost generations stay, and the latest
+-- newest.
 pub record CountsCall (old new : TapState) : Type 0 where
   pub calls : RisesByOne old.calls new.calls
   pub opens : new.opens ≡ old.opens
   pub asks : new.asks ≡ old.asks
   pub moves : new.moves ≡ old.moves
+  pub lost : new.lost ≡ old.lost
   pub newest : new.newest ≡ old.newest
 
 -- an `open` that gives a newer generation than it was asked for raises the moves by one
@@ -62,3 +65,4 @@ pub record CountsRead (old new : TapState) (result : Result (Unit {0}) ReadError
   pub failed : result ≡ Err Failed → RisesByOne old.faults new.faults
   pub others : (result ≡ Err Failed → ⊥) → new.faults ≡ old.faults
   pub gone : (to : ℕ) → result ≡ Err (Gone to) → RisesByOne old.moves new.moves
+  pub lost : (to : ℕ) → result ≡ Err (Gone to) → RisesByOne old.lost new.lost

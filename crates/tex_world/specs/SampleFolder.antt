@@ -18,6 +18,7 @@ sample_tap tap = record {
   opens = tap.opens;
   asks = tap.asks;
   moves = 0;
+  lost = 0;
   newest = tap.newest;
 }
 

@@ -35,6 +35,8 @@ pub record TapState : Type 0 where
   pub asks : ℕ
   -- meetings with a newer generation
   pub moves : ℕ
+  -- of those, the calls of `read_at` that answered `Gone`
+  pub lost : ℕ
   -- the file and the generation that the latest answered `newest` gave
   pub newest : ℕ × ℕ
 
@@ -45,6 +47,7 @@ pub record IsNew (tap : TapState) : Type 0 where
   pub opens : tap.opens ≡ 0
   pub asks : tap.asks ≡ 0
   pub moves : tap.moves ≡ 0
+  pub lost : tap.lost ≡ 0
 
 -- ---- open
 
@@ -64,7 +67,7 @@ abbrev pub IsMove : ℕ → ℕ → Type 0
 IsMove least generation = (0 < least) × (least < generation)
 
 -- An `open` is a call and an opening. The moves rise exactly where it gives a newer generation than
--- `least` asks for.
+-- `least` asks for, and no read has lost its generation by it.
 pub record AfterOpen {H : Type 0} (named : H → Named) (least : ℕ) (old new : TapState)
     (result : Result H OpenError) : Type 0 where
   pub faults : old.faults ≤ new.faults
@@ -72,6 +75,7 @@ pub record AfterOpen {H : Type 0} (named : H → Named) (least : ℕ) (old new :
   pub opens : RisesByOne old.opens new.opens
   pub asks : new.asks ≡ old.asks
   pub newest : new.newest ≡ old.newest
+  pub lost : new.lost ≡ old.lost
   pub moved : (h : H) → result ≡ Ok h → IsMove least (named h).generation
       → Rises old.moves new.moves
   pub unmoved : (h : H) → result ≡ Ok h → (IsMove least (named h).generation → ⊥)
@@ -88,6 +92,7 @@ pub record AfterNewest {E : Type 0} (file : ℕ) (old new : TapState) (result : 
   pub calls : RisesByOne old.calls new.calls
   pub opens : new.opens ≡ old.opens
   pub moves : new.moves ≡ old.moves
+  pub lost : new.lost ≡ old.lost
   pub asks : (g : ℕ) → result ≡ Ok g → RisesByOne old.asks new.asks
   pub newest : (g : ℕ) → result ≡ Ok g → new.newest ≡ (file, g)
   pub not_asked : (e : E) → result ≡ Err e → new.asks ≡ old.asks
@@ -100,6 +105,7 @@ abbrev pub ReadCause : Files → Named → TapState → TapState → ReadError �
 ReadCause files handle old new reading.Failed = Rises old.faults new.faults
 ReadCause files handle old new (reading.Gone to) =
     IsReal files handle.file to × (handle.generation < to) × Rises old.moves new.moves
+    × Rises old.lost new.lost
 
 -- the refusal is not that the generation is gone
 abbrev pub IsFault : ReadError → Type 0
@@ -107,7 +113,7 @@ IsFault reading.Failed = ⊤
 IsFault (reading.Gone to) = ⊥
 
 -- A `read_at` is a call, and neither an opening nor an ask. The moves rise exactly where it answers
--- `Gone`.
+-- `Gone`, and so does the count of the reads that answered it.
 pub record AfterRead (old new : TapState) (result : Result (Unit {0}) ReadError) : Type 0 where
   pub faults : old.faults ≤ new.faults
   pub calls : RisesByOne old.calls new.calls
@@ -117,3 +123,6 @@ pub record AfterRead (old new : TapState) (result : Result (Unit {0}) ReadError)
   pub answered : result ≡ Ok tt → new.moves ≡ old.moves
   pub failed : (e : ReadError) → result ≡ Err e → IsFault e → new.moves ≡ old.moves
   pub gone : (e : ReadError) → result ≡ Err e → (IsFault e → ⊥) → Rises old.moves new.moves
+  pub lost_later : old.lost ≤ new.lost
+  pub lost_answered : result ≡ Ok tt → new.lost ≡ old.lost
+  pub lost_failed : (e : ReadError) → result ≡ Err e → IsFault e → new.lost ≡ old.lost

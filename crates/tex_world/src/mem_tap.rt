@@ -33,6 +33,7 @@ pub struct MemTap<T: FileTable> {
     opens: u64,
     asks: u64,
     moves: u64,
+    lost: u64,
     newest: (u32, u32),
     table: PhantomData<T>,
 }
@@ -50,6 +51,7 @@ impl<T: FileTable> MemTap<T> {
             opens: 0,
             asks: 0,
             moves: 0,
+            lost: 0,
             newest: (0, 0),
             table: PhantomData,
         }
@@ -201,7 +203,10 @@ impl<T: FileTable> Tap for MemTap<T> {
         match met {
             Ok(()) => fill(h, at, buf),
             Err(ReadError::Failed) => self.faults = self.faults.saturating_add(1),
-            Err(ReadError::Gone(_to)) => self.moves = self.moves.saturating_add(1),
+            Err(ReadError::Gone(_to)) => {
+                self.moves = self.moves.saturating_add(1);
+                self.lost = self.lost.saturating_add(1);
+            }
         }
         met
     }

@@ -40,7 +40,8 @@ pub trait Tap {
 
     type Handle: TapHandle<W = Self::W> + Drop;
 
-    /// Its counts of faults, calls, opens, asks and moves, and what `newest` last answered.
+    /// Its counts of faults, calls, opens, asks, moves and lost generations, and what `newest` last
+    /// answered.
     ghost state: { Self → TapState };
 
     /// Opens a file at a generation that is at least `least`, where 0 asks for any.

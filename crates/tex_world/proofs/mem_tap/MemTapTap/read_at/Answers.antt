@@ -33,4 +33,5 @@ returns-in-Err-Gone-clause-cause g c =
       held_is_real t.count_of t.name_of t.len_of t.byte_of _ _ (grind (arith, newer.0)),
       grind (arith, newer.1),
       search rules,
+      search rules,
     )
