@@ -23,10 +23,8 @@ impl<W: World> Aheads<W> {
     /// Of no file.
     pub fn new(alloc: Global) -> Result<Aheads<W>, NoMemory> {
         let cap = NonZeroUsize::new(MAX_AHEADS).unwrap();
-        match LruCache::sparse(alloc, cap) {
-            Ok(aheads) => Ok(Aheads { aheads }),
-            Err(_) => Err(NoMemory),
-        }
+        let aheads = LruCache::sparse(alloc, cap)?;
+        Ok(Aheads { aheads })
     }
 
     /// Of how many files there is something: never more than may be.

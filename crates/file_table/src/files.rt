@@ -78,9 +78,7 @@ impl<T: Tap> Files<T> {
         ensures cut { IfOk result (λ made. made.0.cut ≡ cut) }
     {
         let (board, view) = Board::new(alloc, files)?;
-        let Ok(records) = record_locks(alloc, files) else {
-            return Err(NoMemory);
-        };
+        let records = record_locks(alloc, files)?;
         let Ok(idle) = Box::new(alloc, IdleFiles::new(alloc, cap)?) else {
             return Err(NoMemory);
         };

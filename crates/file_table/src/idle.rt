@@ -37,10 +37,8 @@ impl<H: TapHandle + Drop> IdleHandles<H> {
         ensures cap { IfOk result (λ idle. idle.cap ≡ cap) }
     {
         let cap = NonZeroUsize::new(cap).unwrap();
-        match LruCache::sparse(alloc, cap) {
-            Ok(handles) => Ok(IdleHandles { handles }),
-            Err(_) => Err(NoMemory),
-        }
+        let handles = LruCache::sparse(alloc, cap)?;
+        Ok(IdleHandles { handles })
     }
 
     /// The number of handles. There are never more than may be, each is that of its file, and no

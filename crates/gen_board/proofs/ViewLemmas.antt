@@ -5,7 +5,7 @@ use Rattle.atomic_table.specs.Table.{Me}
 use Rattle.atomic_table.specs.declared.shared.Seat.{Seat}
 use Rattle.tex_world.specs.World.{Files}
 use Rattle.tex_world.specs.Tap.{IsLeast}
-use Rattle.gen_board.specs.View.{BoardId, ViewState, AfterJoin}
+use Rattle.gen_board.specs.View.{BoardId, ViewState, ViewAfterJoin}
 use Rattle.gen_board.specs.Rule.{later_of, both_sights}
 use Rattle.gen_board.specs.Seated.{IsSeated, view_state}
 use Rattle.gen_board.specs.declared.sight.Sight.{Sight}
@@ -38,7 +38,7 @@ module _ (world : Files) (own other new : Seat (Unit {0}) Sight) (kept theirs it
   }
 
   pub after_join : new.table_id ≡ own.table_id
-      → AfterJoin (view_state other theirs) (view_state own kept) (view_state new items)
+      → ViewAfterJoin (view_state other theirs) (view_state own kept) (view_state new items)
   after_join table = record {
     board = λ i. record {
       files = (ap length later ∙ length-later kept theirs) i;

@@ -47,7 +47,7 @@ pub record IsSameView (old new : ViewState) : Type 0 where
   pub steps : new.steps ≡ old.steps
 
 -- The view has then seen the greater of both for each file, and keeps its own counts.
-pub record AfterJoin (other old new : ViewState) : Type 0 where
+pub record ViewAfterJoin (other old new : ViewState) : Type 0 where
   pub board : new.board ≡ old.board
   pub seen : (file : ℕ)
       → slice_index new.seen file ≡ max (slice_index old.seen file) (slice_index other.seen file)

@@ -1,7 +1,7 @@
 ghost use Rattle.std.specs.Prelude.{◌≡◌, ◌<◌, ◌≤◌, IfOk};
 ghost use Rattle.tex_world.specs.World.{IsReal};
 ghost use Rattle.tex_world.specs.Tap.{IsLeast};
-ghost use Rattle.gen_board.specs.View.{IsNewView, AfterStep, IsSameView, AfterJoin};
+ghost use Rattle.gen_board.specs.View.{IsNewView, AfterStep, IsSameView, ViewAfterJoin};
 
 use crate::later::take_later;
 use crate::rule::Generations;
@@ -52,10 +52,7 @@ impl<W: World> Board<W> {
     pub fn new(alloc: Global, files: u32) -> Result<(Board<W>, View<W>), NoMemory>
         ensures ok { IfOk result (λ made. IsNewView files made.0 made.1) }
     {
-        match made(alloc, files) {
-            Ok(made) => Ok(made),
-            Err(_) => Err(NoMemory),
-        }
+        Ok(made(alloc, files)?)
     }
 
     /// The number of its files.
@@ -100,9 +97,7 @@ impl<W: World> Board<W> {
         ensures ok { IfOk result (IsSameView v.old) }
         ensures same { IsSameView v.old v.new }
     {
-        let Ok(seen) = v.seen.clone() else {
-            return Err(NoMemory);
-        };
+        let seen = v.seen.clone()?;
         let seat = self.table.shared.split_seat::<Copied>(&mut v.seat);
         Ok(View {
             seat,
@@ -115,7 +110,7 @@ impl<W: World> Board<W> {
     pub fn join(&self, v: &mut View<W>, other: View<W>)
         requires board { v.old.board ≡ self.now }
         requires other { other.board ≡ self.now }
-        ensures seen { AfterJoin other v.old v.new }
+        ensures seen { ViewAfterJoin other v.old v.new }
     {
         let View {
             seat,

@@ -107,13 +107,9 @@ impl<R: Files<File = File> + AllocGlobal + Clone + Drop> Folder for RealFolder<R
     }
 
     fn tap(&mut self, _alloc: Global) -> Result<RealTap<R>, NoMemory> {
-        match self.new_tap() {
-            Ok(tap) => {
-                self.made = self.made.saturating_add(1);
-                Ok(tap)
-            }
-            Err(_) => Err(NoMemory),
-        }
+        let tap = self.new_tap()?;
+        self.made = self.made.saturating_add(1);
+        Ok(tap)
     }
 
     fn back(&mut self, tap: RealTap<R>) {

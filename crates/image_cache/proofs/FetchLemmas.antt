@@ -14,7 +14,8 @@ use Rattle.shard_gate.specs.Gate.{GateState, PinSeatState}
 use Rattle.shard_gate.proofs.SinceLemmas.{purges_none}
 use Rattle.image_cache.specs.declared.error.CacheError.{CacheError}
 use Rattle.image_cache.specs.Pass.{CacheState, PassState, IsPassOf}
-use Rattle.image_cache.specs.Call.{CountsNeed, KeepsAllButRecent}
+use Rattle.image_cache.specs.Call.{CountsNeed}
+use Rattle.image_cache.specs.Pass.{KeepsAllBut, recent_and_counts}
 use Rattle.image_cache.specs.Square.{MeetsAt}
 use Rattle.image_cache.specs.Reading.{PassTap, pass_tap}
 use Rattle.image_cache.specs.Fetches.{at_of, AsksForCell, Fetches, Refuses}
@@ -55,8 +56,8 @@ fetches_met files gate state texel tap old new met =
         place = met.kept.place;
         view = same_view state old.view new.view view;
         steps = rw view (omega arith);
-        few = met.kept.few;
-        holds = met.kept.holds;
+        few = met.kept.tiles.few;
+        holds = met.kept.tiles.holds;
         latest = met.kept.latest;
       };
       tap = none_fell tap;
@@ -66,7 +67,7 @@ fetches_met files gate state texel tap old new met =
     }
 
 -- the pass is one of the cache's still
-pub same_cache : (cache : CacheState) (old new : PassState) → KeepsAllButRecent old new
+pub same_cache : (cache : CacheState) (old new : PassState) → KeepsAllBut recent_and_counts old new
     → IsPassOf cache old → IsPassOf cache new
 same_cache cache old new kept of = record {
   board = kept.place.board ∙ of.board;

@@ -1,7 +1,7 @@
 -- What does a call leave that opens a file, reads by its record and keeps that?
 use Rattle.std.proofs.Common.{◌≡◌, ℕ, ◌<◌, ◌≤◌, ◌∙◌, sym, ap, subst, inl, inr, arith}
-use Rattle.std.proofs.Common.{Option, Some, slice_index}
-use Rattle.std.specs.Prelude.{IsSomeAnd}
+use Rattle.std.proofs.Common.{Option, Some, Result, Ok, Err, slice_index}
+use Rattle.std.specs.Prelude.{IsSomeAnd, IfErr}
 use Rattle.tex_world.specs.World.{Files}
 use Rattle.tex_world.specs.Tap.{TapState}
 use Rattle.gen_board.specs.View.{ViewState}
@@ -9,8 +9,15 @@ use Rattle.tiff_format.specs.declared.cut.Cut.{Cut}
 use Rattle.shard_gate.specs.Gate.{GateState}
 use Rattle.file_table.specs.Record.{RecordState}
 use Rattle.file_table.specs.Calls.{KeepsView, LooksOnce, GivesRecord, OpensOnce, OpensIfAtAll}
-use Rattle.image_cache.specs.Pass.{PassState, KeepsAllButRecord}
+use Rattle.file_table.specs.Calls.{sighted}
+use Rattle.image_cache.specs.Pass.{PassState}
+use Rattle.image_cache.specs.Pass.{KeepsAllBut, view_and_record}
 use Rattle.image_cache.specs.Call.{AfterCall, KeepsOne, LeavesNoHand, NoneFalls}
+use Rattle.image_cache.specs.declared.error.CacheError.{CacheError}
+use Rattle.image_cache.specs.declared.error.CacheError.TheVariants as refused
+use Rattle.image_cache.specs.Cause.{Around, MetAgain, MetNewer, RestsOnGiven, HasCause}
+use Rattle.image_cache.specs.Cause.{StepCause, OpeningCause}
+use Rattle.image_cache.proofs.TexelLemmas.{cause_since, rises_since}
 use Rattle.image_cache.specs.Reading.{PassTap, ReadsOn, pass_tap}
 use Rattle.image_cache.proofs.FillLemmas.{keeps_view_chain, none_fell, none_falls_chain, hand_chain}
 
@@ -34,9 +41,9 @@ falls_behind {files} {gate} {known} {a} {b} first once left =
 
 module _ {files : Files} {gate : GateState} {known : RecordState} {Busy : Type 0} (file : ℕ)
     (old mid after new : PassState) (t u : TapState) (of : known.file ≡ file)
-    (opened : KeepsAllButRecord old mid) (looks : LooksOnce file old.view mid.view)
+    (opened : KeepsAllBut view_and_record old mid) (looks : LooksOnce file old.view mid.view)
     (left : ReadsOn files gate known (pass_tap mid t) (pass_tap after u) Busy)
-    (kept : KeepsAllButRecord after new) (view : new.view ≡ after.view) where
+    (kept : KeepsAllBut view_and_record after new) (view : new.view ≡ after.view) where
   keeps : KeepsView file mid.view new.view
   keeps = subst (λ (n : ℕ). KeepsView n mid.view new.view) of
       (subst (λ (v : ViewState). KeepsView known.file mid.view v) (sym view) left.need.view)
@@ -85,3 +92,77 @@ module _ {files : Files} {gate : GateState} {known : RecordState} {Busy : Type 0
         new_enough = given.new_enough;
         seen = omega (arith, given.seen, keeps.later file);
       }))
+
+-- ---- why a call on a file is refused
+
+module _ {B : Type 0} (a : Around) (First : CacheError B → Type 0)
+    (Refuses : RecordState → CacheError B → Type 0)
+  where
+    -- it was not opened
+    pub by_opening : (e : CacheError B)
+        → OpeningCause a.files a.file (sighted a.old.view a.tap_old) (sighted a.new.view a.tap_new) e
+        → HasCause a First Refuses e
+    by_opening (refused.Again from to) met = (met.newer, met.seen, inl met)
+    by_opening refused.ReadFault rises = rises
+    by_opening refused.NoMemory free = tt
+    by_opening (refused.Busy b) free = tt
+    by_opening (refused.BadFile generation fault) none = absurd none
+    by_opening (refused.TileTooLarge generation) none = absurd none
+    by_opening (refused.NoLevel generation levels) none = absurd none
+    by_opening (refused.Outside generation) none = absurd none
+    by_opening refused.RegionTooLarge none = absurd none
+    by_opening refused.HoldsFull none = absurd none
+
+    -- by a step by the record that was given
+    module _ (k : RecordState) (latest : a.new.latest ≡ Some k)
+        (given : GivesRecord a.files a.file a.cut a.old.view a.new.view k) (mid : TapState)
+        (falls : NoneFalls a.tap_old mid)
+      where
+        rests : (P : RecordState → Type 0) → P k → RestsOnGiven a P
+        rests P here = subst (λ (o : Option RecordState). IsSomeAnd o
+            (λ r. GivesRecord a.files a.file a.cut a.old.view a.new.view r × P r)) (sym latest)
+            (given, here)
+
+        again : (from to : ℕ)
+            → MetNewer a.files k.file k.generation from to a.new.view mid a.tap_new
+            → MetAgain a from to
+        again from to met =
+            let since = cause_since {B = Unit {0}} a.files k a.new.view a.tap_old mid a.tap_new
+            (refused.Again from to) falls met in
+            let of = subst (λ (n : ℕ). MetNewer a.files n k.generation from to a.new.view a.tap_old
+            a.tap_new) given.of_file since in (
+              record {
+                from_real = of.from_real;
+                to_real = of.to_real;
+                new_enough = omega (arith, given.new_enough, of.from_is);
+                newer = of.newer;
+                moves = of.moves;
+              },
+              of.seen,
+              inr (rests (λ r.
+                  MetNewer a.files a.file r.generation from to a.new.view a.tap_old a.tap_new) of),
+            )
+
+        by_step : (e : CacheError B) → StepCause a.files k a.new.view mid a.tap_new Refuses e
+            → HasCause a First Refuses e
+        by_step (refused.Again from to) met = again from to met
+        by_step refused.ReadFault rises =
+            rises_since a.tap_old.faults mid.faults a.tap_new.faults falls.faults rises
+        by_step refused.NoMemory free = tt
+        by_step (refused.Busy b) free = tt
+        by_step (refused.BadFile generation fault) own =
+            inr (rests (λ r. Refuses r (refused.BadFile generation fault)) own)
+        by_step (refused.TileTooLarge generation) own =
+            inr (rests (λ r. Refuses r (refused.TileTooLarge generation)) own)
+        by_step (refused.NoLevel generation levels) own =
+            inr (rests (λ r. Refuses r (refused.NoLevel generation levels)) own)
+        by_step (refused.Outside generation) own =
+            inr (rests (λ r. Refuses r (refused.Outside generation)) own)
+        by_step refused.RegionTooLarge own = inr (rests (λ r. Refuses r refused.RegionTooLarge) own)
+        by_step refused.HoldsFull own = inr (rests (λ r. Refuses r refused.HoldsFull) own)
+
+        pub by_answer : {A : Type 0} (result : Result A (CacheError B))
+            → IfErr result (StepCause a.files k a.new.view mid a.tap_new Refuses)
+            → IfErr result (HasCause a First Refuses)
+        by_answer (Ok x) none = tt
+        by_answer (Err e) cause = by_step e cause

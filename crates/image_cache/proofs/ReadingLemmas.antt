@@ -22,7 +22,7 @@ use Rattle.image_cache.specs.declared.error.CacheError.TheVariants as refused
 use Rattle.image_cache.specs.declared.reading.Reading.{Reading}
 use Rattle.image_cache.specs.Pass.{CacheState, PassState, SamePlace, SameCounts, IsPassOf}
 use Rattle.image_cache.specs.Call.{AfterNeed, CountsOn, HasNoCall, LeavesNoHand, NoneFalls}
-use Rattle.image_cache.specs.Call.{KeepsAllButHolds}
+use Rattle.image_cache.specs.Pass.{KeepsAllBut, its_holds}
 use Rattle.image_cache.specs.Cause.{StepCause, FetchCause, IsAgain, MovesOnlyAgain, of_pin}
 use Rattle.image_cache.specs.Reading.{MeetsOnlyAgain, PassTap, StepsAt, ReadsAt, ReadsOn, HoldsOn, moment}
 use Rattle.image_cache.specs.Reading.{IsSameCall, Steps, Makes, Brings, Reads, IsCold, refusal}
@@ -440,7 +440,7 @@ module _ {V T Busy W H : Type 0} {v : a_waiter.Ghosts V Busy} {t : a_tap.Ghosts 
   pub holds_kept : {files : Files} {a b c : Reading V T Busy W H v t h} → Makes files a b None
       → IsSameCall b c → c.tap.now ≡ b.tap.now
       → c.pass.now.pinned.seat ≡ b.pass.now.pinned.seat → c.pass.now.view ≡ b.pass.now.view
-      → KeepsAllButHolds b.pass.now c.pass.now → c.pass.now.pinned.hand ≡ None
+      → KeepsAllBut its_holds b.pass.now c.pass.now → c.pass.now.pinned.hand ≡ None
       → HoldsOn files a.cache.now.gate a.known.now (moment a) (moment c) (none_of Busy)
   holds_kept {files} {a} {b} {c} made call tap seat view kept none =
       let first = made.steps.left in
@@ -462,8 +462,8 @@ module _ {V T Busy W H : Type 0} {v : a_waiter.Ghosts V Busy} {t : a_tap.Ghosts 
           latest = kept.latest ∙ first.need.latest;
         };
         recent = record {
-          recent = kept.recent.recent ∙ made.recent;
-          counts = counts_then made.counts kept.recent.counts;
+          recent = kept.tiles ∙ made.recent;
+          counts = counts_then made.counts kept.counts;
         };
         hand = inl none;
         visits = subst (λ (s : PinSeatState). PurgesNone a.cache.now.gate a.pass.now.pinned.seat s)

@@ -32,7 +32,8 @@ use Rattle.pinned_tiles.proofs.TurnLemmas.{stands_has}
 use Rattle.image_cache.specs.Pass.{PassState, counted, counted_together}
 use Rattle.image_cache.specs.Texel.{cell_number_at, cell_of, IsCellIn, IsCellAt, has_cell_by}
 use Rattle.image_cache.specs.Texel.{has_cell_at, IsTexelOf, IsTexelIn}
-use Rattle.image_cache.specs.Call.{CountsNeed, Needs, KeepsAllButRecent}
+use Rattle.image_cache.specs.Call.{CountsNeed, Needs}
+use Rattle.image_cache.specs.Pass.{KeepsAllBut, recent_and_counts}
 use Rattle.image_cache.specs.Square.{left_top, right_top, left_bottom, right_bottom}
 use Rattle.image_cache.specs.Square.{LieInOne, LieInOneOf, MeetsAt, MeetsSquare}
 use Rattle.image_cache.proofs.NeedLemmas.{needs_hit}
@@ -111,7 +112,7 @@ module _ (files : Files) (state : RecordState) (cell : CellAt) where
       → has_cell cell old.pinned.recent ≡ true
       → IsAsked key_in old.pinned.recent cell.key true new.pinned.recent
       → AsksFor cell.key old.pinned.recent new.pinned.recent → CountsNeed true old new
-      → KeepsAllButRecent old new → MeetsAt files state at old new
+      → KeepsAllBut recent_and_counts old new → MeetsAt files state at old new
   meets_first at old new is has asked asks need kept = record {
     had = has_at state at cell old.pinned.recent is ∙ has;
     need = need;
@@ -129,7 +130,7 @@ module _ (files : Files) (state : RecordState) (cell : CellAt) where
   meets_again : (at : TexelAt) (old new : PassState) → IsCellIn state at cell
       → StandsFirst cell old.pinned.recent → StaysAskedFor cell.key old.pinned.recent
       → new.pinned.recent ≡ old.pinned.recent → CountsNeed true old new
-      → KeepsAllButRecent old new → MeetsAt files state at old new
+      → KeepsAllBut recent_and_counts old new → MeetsAt files state at old new
   meets_again at old new is first stays same need kept =
       meets_first at old new is (stands_has cell old.pinned.recent first)
       (stays.there, same ∙ stays.moved)
@@ -141,14 +142,13 @@ abbrev with_counts : PassState → ℕ → ℕ → PassState
 with_counts pass n h = record pass { needs = n; hits = h }
 
 same_but_counts : (pass : PassState) (n h m k : ℕ) → length pass.pinned.recent ≤ 2
-    → KeepsAllButRecent (with_counts pass n h) (with_counts pass m k)
+    → KeepsAllBut recent_and_counts (with_counts pass n h) (with_counts pass m k)
 same_but_counts pass n h m k few = record {
   place = record { board = refl; gate = refl; cut = refl; permits = refl };
   seat = refl;
   view = refl;
-  few = few;
-  holds = refl;
-  hand = refl;
+  tiles = record { few = few; holds = refl; hand = refl };
+  counts = tt;
   latest = refl;
 }
 
@@ -159,7 +159,7 @@ pub meets_square : (files : Files) (state : RecordState) (square : Square) (cell
     → IsAsked key_in old.pinned.recent cell.key true new.pinned.recent
     → AsksFor cell.key old.pinned.recent new.pinned.recent
     → StandsFirst cell new.pinned.recent → StaysAskedFor cell.key new.pinned.recent
-    → KeepsAllButRecent old new → new.needs ≡ counted_together old.needs 4
+    → KeepsAllBut recent_and_counts old new → new.needs ≡ counted_together old.needs 4
     → new.hits ≡ counted_together old.hits 4 → MeetsSquare files state square old new
 meets_square files state square cell old new is one has asked asks first stays kept needs hits =
     let each = cell_of_each state square cell is one in
@@ -189,20 +189,23 @@ meets_square files state square cell old new is one has asked asks first stays k
             };
             seat = kept.seat;
             view = kept.view;
-            few = kept.few;
-            holds = kept.holds;
-            hand = kept.hand;
+            tiles = record {
+              few = kept.tiles.few;
+              holds = kept.tiles.holds;
+              hand = kept.tiles.hand;
+            };
+            counts = tt;
             latest = kept.latest;
           });
       to_second = meets_again files state cell (right_top square) one_more two_more each.second first
           stays refl (record { needs = refl; hits = refl })
-          (same_but_counts new n1 h1 n2 h2 kept.few);
+          (same_but_counts new n1 h1 n2 h2 kept.tiles.few);
       to_third = meets_again files state cell (left_bottom square) two_more three_more each.third first
           stays refl (record { needs = refl; hits = refl })
-          (same_but_counts new n2 h2 n3 h3 kept.few);
+          (same_but_counts new n2 h2 n3 h3 kept.tiles.few);
       to_last = meets_again files state cell (right_bottom square) three_more new each.last first
           stays refl (record { needs = last_need; hits = last_hit })
-          (same_but_counts new n3 h3 new.needs new.hits kept.few);
+          (same_but_counts new n3 h3 new.needs new.hits kept.tiles.few);
     }
 
 -- ---- which cell holds them

@@ -129,7 +129,7 @@ rises_by old mid new later rises true is low =
 rises_by old mid new later rises false is low =
     omega (arith, low, rises.later, ltb-false mid last_count is)
 
-rises_since : (old mid new : ℕ) → old ≤ mid → Rises mid new → Rises old new
+pub rises_since : (old mid new : ℕ) → old ≤ mid → Rises mid new → Rises old new
 rises_since old mid new later rises = record {
   later = omega (arith, later, rises.later);
   rose = rises_by old mid new later rises (nat_lt mid last_count) refl;

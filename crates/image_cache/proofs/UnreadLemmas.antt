@@ -7,12 +7,13 @@ use Rattle.gen_board.specs.View.{ViewState}
 use Rattle.file_table.specs.Record.{RecordState}
 use Rattle.image_cache.specs.declared.error.CacheError.{CacheError}
 use Rattle.image_cache.specs.declared.error.CacheError.TheVariants as refused
-use Rattle.image_cache.specs.Pass.{PassState, KeepsAllButRecord}
+use Rattle.image_cache.specs.Pass.{PassState}
+use Rattle.image_cache.specs.Pass.{KeepsAllBut, view_and_record}
 use Rattle.image_cache.specs.Call.{KeepsRecent}
 use Rattle.image_cache.specs.Cause.{FetchCause, KeepsRecentAt}
 
 -- a call that leaves all but the record leaves them
-pub recent_of : (old new : PassState) → KeepsAllButRecord old new → KeepsRecent old new
+pub recent_of : (old new : PassState) → KeepsAllBut view_and_record old new → KeepsRecent old new
 recent_of old new kept = record { recent = kept.tiles.recent; counts = kept.counts }
 
 pub recent_same : (pass : PassState) → KeepsRecent pass pass

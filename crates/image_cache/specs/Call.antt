@@ -16,8 +16,8 @@ use Rattle.tile_store.specs.Lawful.{FitsCut}
 use Rattle.shard_gate.specs.Gate.{GateState}
 use Rattle.shard_gate.specs.Since.{Misses}
 use Rattle.texel_values.specs.declared.texel_at.TexelAt.{TexelAt}
-use Rattle.image_cache.specs.Pass.{PassState, SamePlace, SameCounts, SameView, counted}
-use Rattle.image_cache.specs.Pass.{counted_together, KeepsAllButRecord}
+use Rattle.image_cache.specs.Pass.{PassState, SamePlace, SameCounts, counted}
+use Rattle.image_cache.specs.Pass.{counted_together, KeepsAllBut, view_and_record}
 use Rattle.pinned_tiles.specs.Pinned.{key_in, AsksFor, IsAskedFor}
 use Rattle.image_cache.specs.Texel.{IsTexelOf, cell_of}
 
@@ -51,17 +51,6 @@ pub record AfterNeed (file : ℕ) (old new : PassState) : Type 0 where
   pub steps : slice_index old.view.steps file ≤ slice_index new.view.steps file
   pub few : length new.pinned.recent ≤ 2
   pub holds : new.pinned.holds ≡ old.pinned.holds
-  pub latest : new.latest ≡ old.latest
-
--- What a need that the microcache meets leaves: only the order of its tiles may be another, and the
--- counts. It made no visit.
-pub record KeepsAllButRecent (old new : PassState) : Type 0 where
-  pub place : SamePlace old new
-  pub seat : new.pinned.seat ≡ old.pinned.seat
-  pub view : new.view ≡ old.view
-  pub few : length new.pinned.recent ≤ 2
-  pub holds : new.pinned.holds ≡ old.pinned.holds
-  pub hand : new.pinned.hand ≡ old.pinned.hand
   pub latest : new.latest ≡ old.latest
 
 -- Nothing is in hand but what was there before, unless the waiter can give up.
@@ -127,7 +116,7 @@ pub record AfterCall (file : ℕ) (old new : PassState) : Type 0 where
 
 -- What a step of a call by a record leaves of a pass, whatever it answers: only this file's number
 -- was seen to rise, and its own record is as it was.
-pub record AfterStep (file : ℕ) (old new : PassState) : Type 0 where
+pub record AfterRecordStep (file : ℕ) (old new : PassState) : Type 0 where
   pub place : SamePlace old new
   pub view : KeepsView file old.view new.view
   pub steps : slice_index old.view.steps file ≤ slice_index new.view.steps file
@@ -149,7 +138,7 @@ KeepsGiven files file cut old new generation P = IsSomeAnd new.latest (λ r.
 -- as it was, and the tap had no call but one to open the file, if any.
 pub record IsUnopened (old new : PassState) (tap_old tap_new : TapState) : Type 0 where
   pub latest : new.latest ≡ old.latest
-  pub keeps : KeepsAllButRecord old new
+  pub keeps : KeepsAllBut view_and_record old new
   pub once : OpensIfAtAll tap_old tap_new
 
 -- The pass keeps a record that was given to this call, or the file was not opened.
@@ -170,13 +159,6 @@ pub record HoldsCell (files : Files) (at : TexelAt) (old new : PassState) (r : R
       × (tile.key ≡ (cell_of r.generation r.file r.cut kept at).key))
   pub rect : IsTrue files.tells → IsOkAnd r.layout (λ kept.
       tile.rect ≡ (cell_of r.generation r.file r.cut kept at).rect)
-
--- All of it but its holds and its hand is as it was.
-pub record KeepsAllButHolds (old new : PassState) : Type 0 where
-  pub place : SamePlace old new
-  pub view : SameView old new
-  pub recent : KeepsRecent old new
-  pub latest : new.latest ≡ old.latest
 
 -- The record is of this file and of the generation that was just seen, shows no fault and fits the
 -- cut.

@@ -10,7 +10,7 @@ use Rattle.tiff_format.specs.declared.cut.Cut.{Cut}
 use Rattle.tile_layout.specs.Level.{level_count_in}
 use Rattle.tile_layout.specs.Cell.{CellsFit}
 use Rattle.file_table.specs.Record.{RecordState}
-use Rattle.file_table.specs.Calls.{Sighted, MeetsNewer, OpensOnce, GivesRecord}
+use Rattle.file_table.specs.Calls.{Sighted, sighted, MeetsNewer, OpensOnce, GivesRecord}
 use Rattle.file_table.specs.declared.error.FileError.{FileError}
 use Rattle.file_table.specs.declared.error.FileError.TheVariants as unread
 use Rattle.image_cache.specs.declared.error.CacheError.{CacheError}
@@ -99,14 +99,18 @@ pub record MovesOnlyAgain {A B : Type 0} (old new : TapState) (result : Result A
 
 -- ---- of a file that is opened
 
--- Why a file is not opened. A newer generation was met than one that is at least what the pass had
--- seen. Memory is wanting only where the file was opened, and where the waiter gave up the tap had
--- no call.
+-- A file was opened in the generation `from`, which is at least what the pass had seen, a read of it
+-- met the newer `to`, and the pass has then seen that.
+pub record MetAtOpening (files : Files) (file from to : ℕ) (old new : Sighted) : Type 0 where
+  pub newer : MeetsNewer files file (slice_index old.view.seen file) from to old.tap new.tap
+  pub read : Rises old.tap.lost new.tap.lost
+  pub seen : to ≤ slice_index new.view.seen file
+
+-- Why a file is not opened. A newer generation was met by a read of it. Memory is wanting only where
+-- the file was opened, and where the waiter gave up the tap had no call.
 abbrev pub OpeningCause : {B : Type 0} → Files → ℕ → Sighted → Sighted → CacheError B → Type 0
 OpeningCause files file old new e =
-    RefusedFor (λ from to.
-    MeetsNewer files file (slice_index old.view.seen file) from to old.tap new.tap
-    × (to ≤ slice_index new.view.seen file))
+    RefusedFor (λ from to. MetAtOpening files file from to old new)
     old.tap new.tap (OpensOnce old.tap new.tap) (new.tap ≡ old.tap) Never e
 
 -- ---- of a call on a file
@@ -132,17 +136,25 @@ around files file cut old new tap_old tap_new = record {
   tap_new = tap_new;
 }
 
+-- It rests on a record that was given to this call and that the pass keeps.
+abbrev pub RestsOnGiven : Around → (RecordState → Type 0) → Type 0
+RestsOnGiven a P = IsSomeAnd a.new.latest (λ r.
+    GivesRecord a.files a.file a.cut a.old.view a.new.view r × P r)
+
+-- where the newer generation was met: as the file was opened, or by a step by the record that was
+-- given to this call, whose generation is then the older one
+abbrev pub IsMetAt : Around → ℕ → ℕ → Type 0
+IsMetAt a from to =
+    MetAtOpening a.files a.file from to (sighted a.old.view a.tap_old) (sighted a.new.view a.tap_new)
+    ⊎ RestsOnGiven a (λ r.
+    MetNewer a.files a.file r.generation from to a.new.view a.tap_old a.tap_new)
+
 -- A newer generation was met than one that is at least what the pass had seen at entry, and the
 -- pass has then seen it.
 abbrev pub MetAgain : Around → ℕ → ℕ → Type 0
 MetAgain a from to =
     MeetsNewer a.files a.file (slice_index a.old.view.seen a.file) from to a.tap_old a.tap_new
-    × (to ≤ slice_index a.new.view.seen a.file)
-
--- It rests on a record that was given to this call and that the pass keeps.
-abbrev pub RestsOnGiven : Around → (RecordState → Type 0) → Type 0
-RestsOnGiven a P = IsSomeAnd a.new.latest (λ r.
-    GivesRecord a.files a.file a.cut a.old.view a.new.view r × P r)
+    × (to ≤ slice_index a.new.view.seen a.file) × IsMetAt a from to
 
 -- Why a call on a file is refused. `First` says what it refuses before it opens the file, and
 -- `Refuses` what it refuses by its record.

@@ -1,6 +1,6 @@
 -- What is known of a cache and of its passes, and what does each call leave of a pass?
-use Rattle.std.specs.Prelude.{◌≡◌, ℕ, ◌+◌, ◌-◌, ◌^◌, ◌≤◌, min, max, []}
-use Rattle.std.specs.Prelude.{Option, None, IfSome, slice_index}
+use Rattle.std.specs.Prelude.{◌≡◌, ℕ, ◌+◌, ◌-◌, ◌^◌, ◌≤◌, min, max, [], Bool, true, false, ⊤}
+use Rattle.std.specs.Prelude.{Option, None, IfSome, slice_index, length}
 use Rattle.std.specs.Option.{option_map}
 use Rattle.std.specs.declared.sync.Arc.{Arc}
 use Rattle.std.specs.Arc.{arc_value}
@@ -152,50 +152,94 @@ pub record SameSeat (old new : PassState) : Type 0 where
   pub pins : new.pinned.seat.pins ≡ old.pinned.seat.pins
   pub visits : new.pinned.seat.visits ≡ old.pinned.seat.visits
 
--- All of it but its view is as it was.
-pub record KeepsAllButView (old new : PassState) : Type 0 where
-  pub place : SamePlace old new
-  pub seat : SameSeat old new
-  pub tiles : SameTiles old new
-  pub counts : SameCounts old new
-  pub latest : new.latest ≡ old.latest
+-- What may a call do with the seat: nothing, visit shards, or pin and unpin too?
+pub data SeatUse : Type 0 where
+  unused : SeatUse
+  visiting : SeatUse
+  pinning : SeatUse
 
--- All of it but its counts is as it was.
-pub record KeepsAllButCounts (old new : PassState) : Type 0 where
+abbrev pub SeatAfter : SeatUse → PassState → PassState → Type 0
+SeatAfter unused old new = new.pinned.seat ≡ old.pinned.seat
+SeatAfter visiting old new = new.pinned.seat.pins ≡ old.pinned.seat.pins
+SeatAfter pinning old new = ⊤
+
+-- Which of its tiles stay: all, those that it holds, or those of its microcache?
+pub data TilesKept : Type 0 where
+  all_stay : TilesKept
+  holds_stay : TilesKept
+  recent_stay : TilesKept
+  some_stay : TilesKept
+
+-- Its holds and its hand are as they were, and its microcache has two tiles at most.
+pub record SameHolds (old new : PassState) : Type 0 where
+  pub few : length new.pinned.recent ≤ 2
+  pub holds : new.pinned.holds ≡ old.pinned.holds
+  pub hand : new.pinned.hand ≡ old.pinned.hand
+
+abbrev pub TilesAfter : TilesKept → PassState → PassState → Type 0
+TilesAfter all_stay old new = SameTiles old new
+TilesAfter holds_stay old new = SameHolds old new
+TilesAfter recent_stay old new = new.pinned.recent ≡ old.pinned.recent
+TilesAfter some_stay old new = ⊤
+
+-- The parts of a pass that a call may change.
+pub record Parts : Type 0 where
+  -- what it has seen and looked at
+  pub view : Bool
+  -- the pins and the visits of its seat
+  pub seat : SeatUse
+  pub tiles : TilesKept
+  pub counts : Bool
+  -- the record that it keeps
+  pub latest : Bool
+
+-- what is so of a part, unless a call may change it
+abbrev pub Unless : Bool → Type 0 → Type 0
+Unless true same = ⊤
+Unless false same = same
+
+-- All of it but these parts is as it was.
+pub record KeepsAllBut (may : Parts) (old new : PassState) : Type 0 where
+  pub place : SamePlace old new
+  pub view : Unless may.view (new.view ≡ old.view)
+  pub seat : SeatAfter may.seat old new
+  pub tiles : TilesAfter may.tiles old new
+  pub counts : Unless may.counts (SameCounts old new)
+  pub latest : Unless may.latest (new.latest ≡ old.latest)
+
+-- no part
+abbrev pub nothing : Parts
+nothing = record { view = false; seat = unused; tiles = all_stay; counts = false; latest = false }
+
+abbrev pub the_view : Parts
+the_view = record nothing { view = true }
+
+-- what it has seen, and the record that it keeps
+abbrev pub view_and_record : Parts
+view_and_record = record nothing { view = true; latest = true }
+
+abbrev pub its_visits : Parts
+its_visits = record nothing { seat = visiting }
+
+-- the tiles that it holds, with the hand by which they come and go
+abbrev pub its_holds : Parts
+its_holds = record nothing { seat = pinning; tiles = recent_stay }
+
+abbrev pub its_tiles : Parts
+its_tiles = record nothing { seat = pinning; tiles = some_stay }
+
+-- the order of its microcache, and its counts
+abbrev pub recent_and_counts : Parts
+recent_and_counts = record nothing { tiles = holds_stay; counts = true }
+
+-- Its counts alone may be others.
+pub record CountsAlone (old new : PassState) : Type 0 where
   pub view : new.view ≡ old.view
   pub pinned : new.pinned ≡ old.pinned
   pub latest : new.latest ≡ old.latest
 
--- All of it but its view and its record is as it was. It made no visit.
-pub record KeepsAllButRecord (old new : PassState) : Type 0 where
-  pub place : SamePlace old new
-  pub seat : new.pinned.seat ≡ old.pinned.seat
-  pub tiles : SameTiles old new
-  pub counts : SameCounts old new
-
--- All of it but its tiles is as it was.
-pub record KeepsAllButTiles (old new : PassState) : Type 0 where
-  pub place : SamePlace old new
-  pub view : SameView old new
-  pub counts : SameCounts old new
-  pub latest : new.latest ≡ old.latest
-
--- All of it is as it was.
-pub record IsSamePass (old new : PassState) : Type 0 where
-  pub keeps : KeepsAllButView old new
-  pub view : SameView old new
-
--- All of it but the visits of its seat is as it was.
-pub record KeepsAllButVisits (old new : PassState) : Type 0 where
-  pub place : SamePlace old new
-  pub pins : new.pinned.seat.pins ≡ old.pinned.seat.pins
-  pub tiles : SameTiles old new
-  pub counts : SameCounts old new
-  pub view : SameView old new
-  pub latest : new.latest ≡ old.latest
-
 -- One permit went to another pass, and all else is as it was.
-pub record AfterSplit (old new : PassState) : Type 0 where
+pub record PassAfterSplit (old new : PassState) : Type 0 where
   pub board : new.view.board ≡ old.view.board
   pub gate : new.pinned.seat.gate ≡ old.pinned.seat.gate
   pub cut : new.pinned.cut ≡ old.pinned.cut
@@ -213,7 +257,7 @@ SeesBoth other old new = (file : ℕ) → slice_index new.view.seen file
 
 -- It has the permits of both, has seen the greater of both and counted both. Its tiles, their pins
 -- and its record are as they were, and its own seat made no visit.
-pub record AfterJoin (other old new : PassState) : Type 0 where
+pub record PassAfterJoin (other old new : PassState) : Type 0 where
   pub board : new.view.board ≡ old.view.board
   pub gate : new.pinned.seat.gate ≡ old.pinned.seat.gate
   pub cut : new.pinned.cut ≡ old.pinned.cut

@@ -21,7 +21,7 @@ use Rattle.image_cache.specs.Pass.{PassState, SameCounts}
 use Rattle.texel_values.specs.declared.texel_at.TexelAt.{TexelAt}
 use Rattle.image_cache.specs.Call.{AfterNeed, CountsOn, HasNoCall, LeavesNoHand, NoneFalls}
 use Rattle.image_cache.specs.Call.{AsksForCellAt, TurnsToCellAt, NeedsCellAt}
-use Rattle.image_cache.specs.Call.{AfterStep, KeepsRecent}
+use Rattle.image_cache.specs.Call.{AfterRecordStep, KeepsRecent}
 use Rattle.image_cache.specs.Cause.{FetchCause, IsAgain}
 
 -- ---- answers
@@ -110,7 +110,7 @@ pub record HoldsOn {B : Type 0} (files : Files) (gate : GateState) (known : Reco
     (old new : PassTap) (refused : Option (CacheError B)) : Type 0 where
   pub cause : IfSome refused (FetchCause files known new.pass.view old.tap new.tap)
   pub tap : NoneFalls old.tap new.tap
-  pub step : AfterStep known.file old.pass new.pass
+  pub step : AfterRecordStep known.file old.pass new.pass
   pub recent : KeepsRecent old.pass new.pass
   pub hand : LeavesNoHand B old.pass new.pass
   pub visits : PurgesNone gate old.pass.pinned.seat new.pass.pinned.seat

@@ -10,7 +10,8 @@ use Rattle.texel_values.specs.declared.texel_at.TexelAt.{TexelAt}
 use Rattle.image_cache.specs.Pass.{PassState}
 use Rattle.image_cache.specs.Texel.{cell_number_at, has_cell_at, IsTexelIn}
 use Rattle.image_cache.specs.Call.{CountsNeed, AsksForCellAt, TurnsToCellAt, MovesCellAt}
-use Rattle.image_cache.specs.Call.{NeedsCellAt, KeepsAllButRecent}
+use Rattle.image_cache.specs.Call.{NeedsCellAt}
+use Rattle.image_cache.specs.Pass.{KeepsAllBut, recent_and_counts}
 
 -- ---- the four texels
 
@@ -57,7 +58,7 @@ pub record MeetsAt (files : Files) (state : RecordState) (at : TexelAt) (old new
   pub asked : AsksForCellAt state at old.pinned.recent new.pinned.recent
   pub turned : TurnsToCellAt state at old.pinned.recent new.pinned.recent
   pub moved : MovesCellAt state at old.pinned.recent new.pinned.recent
-  pub kept : KeepsAllButRecent old new
+  pub kept : KeepsAllBut recent_and_counts old new
   pub needs : NeedsCellAt files state at old new
 
 -- All four were read so, one after another, the upper row first.

@@ -22,24 +22,28 @@ pub record IsTexelOf (kept : Kept) (cut : Cut) (at : TexelAt) : Type 0 where
   pub column : at.x < width_in kept at.level
   pub row : at.y < height_in kept at.level
 
--- The record is of a file of the world, shows no fault, and no cell of it takes more memory than a
--- cell may.
-pub record MayServe (files : Files) (state : RecordState) : Type 0 where
-  pub file : IsFile files state.file
-  pub fits : IsOkAnd state.layout (λ kept. CellsFit kept state.cut)
+-- The record shows no fault, and no cell of it takes more memory than a cell may.
+abbrev pub MayServe : RecordState → Type 0
+MayServe state = IsOkAnd state.layout (λ kept. CellsFit kept state.cut)
 
 -- The record is of one of the cache's files, used under its cut.
 pub record IsUnder (cache : CacheState) (state : RecordState) : Type 0 where
   pub number : state.file < cache.files.board.files
   pub cut : state.cut ≡ cache.gate.cut
 
--- The record is one of the cache's files, used under its cut, shows no fault, and no cell of it
+-- The record is of one of the cache's files, used under its cut, shows no fault, and no cell of it
 -- takes more memory than a cell may.
+pub record IsKnownTo (cache : CacheState) (state : RecordState) : Type 0 where
+  pub number : state.file < cache.files.board.files
+  pub cut : state.cut ≡ cache.gate.cut
+  pub fits : MayServe state
+
+-- So it is, and where the world tells it has the file.
 pub record IsRecordOf (files : Files) (cache : CacheState) (state : RecordState) : Type 0 where
   pub number : state.file < cache.files.board.files
   pub file : IsFile files state.file
   pub cut : state.cut ≡ cache.gate.cut
-  pub fits : IsOkAnd state.layout (λ kept. CellsFit kept state.cut)
+  pub fits : MayServe state
 
 -- The record is one of the cache's files, used under its cut. It may show a fault.
 pub record IsGivenBy (files : Files) (cache : CacheState) (state : RecordState) : Type 0 where

@@ -6,8 +6,8 @@ ghost use Rattle.shard_gate.specs.Gate.{max_shards};
 ghost use Rattle.shard_gate.specs.Given.{AtShard, Counts};
 ghost use Rattle.image_cache.specs.Options.{NewCause, first_bad};
 ghost use Rattle.image_cache.specs.Pass.{IsPassOf, IsNewCache, IsFirstPass, IsSecondPass};
-ghost use Rattle.image_cache.specs.Pass.{IsSamePass, AfterSplit, AfterJoin, SeesBoth};
-ghost use Rattle.image_cache.specs.Pass.{KeepsAllButView, KeepsAllButVisits, KeepsAllButTiles};
+ghost use Rattle.image_cache.specs.Pass.{PassAfterSplit, PassAfterJoin, SeesBoth};
+ghost use Rattle.image_cache.specs.Pass.{KeepsAllBut, nothing, the_view, its_visits, its_tiles};
 ghost use Rattle.image_cache.specs.Cause.{SplitCause};
 ghost use Rattle.pinned_tiles.specs.Pinned.{LeavesPart};
 
@@ -99,7 +99,7 @@ impl<T: Tap> Cache<T> {
             pass.old.pinned.seat.visits pass.new.pinned.seat.visits) }
         ensures share { IfOk result (λ count. count.share ≡ self.now.gate.share) }
         ensures within { IfOk result (λ count. count.loose ≤ count.share) }
-        ensures same { KeepsAllButVisits pass.old pass.new }
+        ensures same { KeepsAllBut its_visits pass.old pass.new }
     {
         pass.pinned.count(&self.gate, waiter, shard)
     }
@@ -108,9 +108,9 @@ impl<T: Tap> Cache<T> {
     pub fn split(&self, pass: &mut Pass<T::W>) -> Result<Pass<T::W>, SplitError>
         requires pass { IsPassOf self.now pass.old }
         ensures ok { IfOk result (IsSecondPass pass.old) }
-        ensures kept { OnOk result (AfterSplit pass.old pass.new) }
+        ensures kept { OnOk result (PassAfterSplit pass.old pass.new) }
         ensures cause { IfErr result (SplitCause pass.old.pinned.seat.permits) }
-        ensures err { OnErr result (IsSamePass pass.old pass.new) }
+        ensures err { OnErr result (KeepsAllBut nothing pass.old pass.new) }
     {
         if pass.pinned.permits() < 2 {
             return Err(SplitError::NoPermit);
@@ -124,10 +124,10 @@ impl<T: Tap> Cache<T> {
         requires from { IsPassOf self.now from.old }
         requires to { IsPassOf self.now to.old }
         ensures seen { OnOk result (SeesBoth from.old to.old to.new) }
-        ensures kept { KeepsAllButView to.old to.new }
+        ensures kept { KeepsAllBut the_view to.old to.new }
         ensures steps { to.new.view.steps ≡ to.old.view.steps }
-        ensures same { IsSamePass from.old from.new }
-        ensures err { OnErr result (IsSamePass to.old to.new) }
+        ensures same { KeepsAllBut nothing from.old from.new }
+        ensures err { OnErr result (KeepsAllBut nothing to.old to.new) }
     {
         let board = self.files.board();
         let seen = board.split(&mut from.view)?;
@@ -147,10 +147,10 @@ impl<T: Tap> Cache<T> {
     ) -> Result<(), NotJoined<T::W, V::Busy>>
         requires keep { IsPassOf self.now keep.old }
         requires other { IsPassOf self.now other }
-        ensures ok { OnOk result (AfterJoin other keep.old keep.new) }
-        ensures err { OnErr result (IsSamePass keep.old keep.new) }
+        ensures ok { OnOk result (PassAfterJoin other keep.old keep.new) }
+        ensures err { OnErr result (KeepsAllBut nothing keep.old keep.new) }
         // The other pass, where the waiter gives up.
-        ensures back { IfErr result (λ e. KeepsAllButTiles other e.other) }
+        ensures back { IfErr result (λ e. KeepsAllBut its_tiles other e.other) }
         ensures part { IfErr result (λ e. LeavesPart other.pinned e.other.pinned) }
     {
         let released = other.pinned.release_all(&self.gate, waiter);
@@ -166,7 +166,7 @@ impl<T: Tap> Cache<T> {
         requires keep { IsPassOf self.now keep.old }
         requires other { IsPassOf self.now other }
         requires pins { other.pinned.seat.pins ≡ [] }
-        ensures { AfterJoin other keep.old keep.new }
+        ensures { PassAfterJoin other keep.old keep.new }
     {
         let Pass {
             view,
@@ -186,8 +186,8 @@ impl<T: Tap> Cache<T> {
         requires pass { IsPassOf self.now pass.old }
         requires permits { 1 < pass.old.pinned.seat.permits }
         ensures ok { IfOk result (IsSecondPass pass.old) }
-        ensures kept { OnOk result (AfterSplit pass.old pass.new) }
-        ensures err { OnErr result (IsSamePass pass.old pass.new) }
+        ensures kept { OnOk result (PassAfterSplit pass.old pass.new) }
+        ensures err { OnErr result (KeepsAllBut nothing pass.old pass.new) }
     {
         let view = self.files.board().split(&mut pass.view)?;
         let pinned = pass.pinned.split(self.alloc, &self.gate)?;

@@ -2,7 +2,8 @@
 ghost use Rattle.std.specs.Prelude.{◌≡◌, ◌<◌, IfOk, IfErr, IsOkAnd};
 ghost use Rattle.tex_world.specs.World.{IsFile};
 ghost use Rattle.file_table.specs.Calls.{LooksOnce, OpensIfAtAll};
-ghost use Rattle.image_cache.specs.Pass.{IsPassOf, KeepsAllButRecord};
+ghost use Rattle.image_cache.specs.Pass.{IsPassOf};
+ghost use Rattle.image_cache.specs.Pass.{KeepsAllBut, view_and_record};
 ghost use Rattle.image_cache.specs.Facts.{info_of};
 ghost use Rattle.image_cache.specs.Call.{KeepsGiven, KeepsOne};
 ghost use Rattle.image_cache.specs.Cause.{around, HasCause, Never, InfoRefuses};
@@ -36,7 +37,7 @@ impl<T: Tap> Cache<T> {
         // What the call leaves.
         ensures latest { KeepsOne T.W.files file self.now.gate.cut pass.old pass.new
             (T.state tap.old) (T.state tap.new) }
-        ensures same { KeepsAllButRecord pass.old pass.new }
+        ensures same { KeepsAllBut view_and_record pass.old pass.new }
         ensures looks { LooksOnce file pass.old.view pass.new.view }
         ensures once { OpensIfAtAll (T.state tap.old) (T.state tap.new) }
     {

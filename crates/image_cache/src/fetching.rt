@@ -5,7 +5,7 @@ ghost use Rattle.file_table.specs.Calls.{sighted};
 ghost use Rattle.shard_gate.specs.Since.{PurgesNone};
 ghost use Rattle.image_cache.specs.Pass.{IsPassOf};
 ghost use Rattle.pinned_tiles.specs.Cell.{is_tile_of, has_cell, StandsFirst};
-ghost use Rattle.image_cache.specs.Texel.{IsRecordOf, IsTexelIn, IsCellAt};
+ghost use Rattle.image_cache.specs.Texel.{IsRecordOf, IsKnownTo, IsTexelIn, IsCellAt};
 ghost use Rattle.image_cache.specs.Texel.{has_cell_at};
 ghost use Rattle.texel_values.specs.Values.{AreValuesAt};
 ghost use Rattle.image_cache.specs.Call.{CountsNeed, AsksForCellAt, TurnsToCellAt, MovesCellAt};
@@ -17,7 +17,7 @@ ghost use Rattle.image_cache.specs.Cause.{FetchCause, MovesOnlyAgain};
 
 use crate::cache::Cache;
 use crate::error::CacheError;
-use crate::fitting::Fitting;
+use crate::file_record::FileRecord;
 use crate::pass::Pass;
 use crate::reading::Reading;
 use crate::texel::{cell_at, depth_of};
@@ -78,7 +78,7 @@ impl<T: Tap> Cache<T> {
         if self.fetch_kept(pass, known, &cell, at, out) {
             return Ok(());
         }
-        let known = Fitting::of(known);
+        let known = FileRecord::of(known);
         let mut reading = Reading {
             cache: self,
             waiter,
@@ -92,7 +92,7 @@ impl<T: Tap> Cache<T> {
     /// Whether the microcache has the cell that holds a texel. It changes nothing.
     pub fn has_local(&self, pass: &Pass<T::W>, known: &Record<T::W>, at: TexelAt) -> bool
         requires pass { IsPassOf self.now pass.now }
-        requires known { IsRecordOf T.W.files self.now known.now }
+        requires known { IsKnownTo self.now known.now }
         requires inside { IsTexelIn known.now at }
         ensures { result ≡ has_cell_at known.now at pass.now.pinned.recent }
     {
@@ -109,7 +109,7 @@ impl<T: Tap> Cache<T> {
         out: &mut [u16],
     ) -> bool
         requires pass { IsPassOf self.now pass.old }
-        requires known { IsRecordOf T.W.files self.now known.now }
+        requires known { IsKnownTo self.now known.now }
         requires inside { IsTexelIn known.now at }
         ensures has { result ≡ has_cell_at known.now at pass.old.pinned.recent }
         ensures value { IsTrue result →
@@ -134,7 +134,7 @@ impl<T: Tap> Cache<T> {
         out: &mut [u16],
     ) -> bool
         requires pass { IsPassOf self.now pass.old }
-        requires known { IsRecordOf T.W.files self.now known.now }
+        requires known { IsKnownTo self.now known.now }
         requires cell { IsCellAt known.now at cell.now }
         ensures has { result ≡ has_cell_at known.now at pass.old.pinned.recent }
         ensures value { IsTrue result →
@@ -155,7 +155,7 @@ impl<T: Tap> Cache<T> {
 
     /// The cell that holds a texel.
     pub(crate) fn cell(&self, known: &Record<T::W>, at: TexelAt) -> CellAt
-        requires known { IsRecordOf T.W.files self.now known.now }
+        requires known { IsKnownTo self.now known.now }
         requires inside { IsTexelIn known.now at }
         ensures { IsCellAt known.now at result }
     {

@@ -23,13 +23,13 @@ impl<'a, W: World> Model for Fitting<'a, W> {
 
     ghost view = { λ k. k.record.now };
 
-    ghost invariant = { λ k. MayServe W.files k.record.now };
+    ghost invariant = { λ k. MayServe k.record.now };
 }
 
 impl<'a, W: World> Fitting<'a, W> {
     /// A record, lent.
     pub fn of(known: &'a Record<W>) -> Fitting<'a, W>
-        requires { MayServe W.files known.now }
+        requires { MayServe known.now }
         ensures { result ≡ known.now }
     {
         Fitting { record: known }
@@ -38,7 +38,7 @@ impl<'a, W: World> Fitting<'a, W> {
     /// The record.
     pub fn record(&self) -> &'a Record<W>
         ensures value { result.now ≡ self.now }
-        ensures serves { MayServe W.files self.now }
+        ensures serves { MayServe self.now }
         ensures told { IsRecord W.files self.now }
     {
         // its layout is that of the bytes of its generation

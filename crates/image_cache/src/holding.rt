@@ -7,15 +7,16 @@ ghost use Rattle.shard_gate.specs.Since.{PurgesNone};
 ghost use Rattle.image_cache.specs.Pass.{IsPassOf};
 ghost use Rattle.image_cache.specs.Texel.{IsGivenBy, IsCellOf};
 ghost use Rattle.image_cache.specs.Reading.{refusal, moment, IsSameCall, TakesHold, HoldsOn};
-ghost use Rattle.image_cache.specs.Call.{AfterCall, AfterStep, KeepsGiven, KeepsOne, KeepsRecent};
-ghost use Rattle.image_cache.specs.Call.{HoldsCell, LeavesNoHand, NoneFalls, KeepsAllButHolds};
+ghost use Rattle.image_cache.specs.Call.{AfterCall, AfterRecordStep, KeepsGiven, KeepsOne, KeepsRecent};
+ghost use Rattle.image_cache.specs.Call.{HoldsCell, LeavesNoHand, NoneFalls};
+ghost use Rattle.image_cache.specs.Pass.{KeepsAllBut, its_holds};
 ghost use Rattle.image_cache.specs.Cause.{around, HasCause, NoFurtherHold, TileRefuses};
 ghost use Rattle.image_cache.specs.Cause.{StepCause, ReleaseCause};
 
 use crate::cache::Cache;
 use crate::checks::inside;
 use crate::error::{CacheError, NotReleased};
-use crate::fitting::Fitting;
+use crate::file_record::FileRecord;
 use crate::pass::Pass;
 use crate::reading::Reading;
 use file_table::Record;
@@ -83,7 +84,7 @@ impl<T: Tap> Cache<T> {
             (T.state tap.old) (T.state tap.new) (TileRefuses at)) }
         // What the call leaves.
         ensures err { OnErr result (pass.new.pinned.holds ≡ pass.old.pinned.holds) }
-        ensures same { AfterStep known.now.file pass.old pass.new }
+        ensures same { AfterRecordStep known.now.file pass.old pass.new }
         ensures recent { KeepsRecent pass.old pass.new }
         ensures hand { LeavesNoHand V.Busy pass.old pass.new }
         ensures visits { PurgesNone self.now.gate pass.old.pinned.seat pass.new.pinned.seat }
@@ -93,13 +94,13 @@ impl<T: Tap> Cache<T> {
         // the record's layout is that of its bytes
         let _known = known.generation();
         let cell = self.cell(known, at);
-        let fitting = Fitting::of(known);
+        let lent = FileRecord::of(known);
         let mut reading = Reading {
             cache: self,
             waiter,
             pass,
             tap,
-            known: &fitting,
+            known: &lent,
         };
         reading.hold(&cell)?;
         Ok(known.generation())
@@ -118,7 +119,7 @@ impl<T: Tap> Cache<T> {
         ensures none { length pass.old.pinned.holds ≤ place → result ≡ Err NotReleased.NothingHeld }
         // What the call leaves.
         ensures err { OnErr result (pass.new.pinned.holds ≡ pass.old.pinned.holds) }
-        ensures same { KeepsAllButHolds pass.old pass.new }
+        ensures same { KeepsAllBut its_holds pass.old pass.new }
         ensures hand { LeavesNoHand V.Busy pass.old pass.new }
         ensures visits { PurgesNone self.now.gate pass.old.pinned.seat pass.new.pinned.seat }
     {
@@ -160,7 +161,7 @@ impl<'a, V: Waiter, T: Tap> Reading<'a, V, T> {
         ensures call { IsSameCall self.old self.new }
         ensures tap { self.new.tap.now ≡ self.old.tap.now }
         ensures seat { self.new.pass.now.pinned.seat ≡ self.old.pass.now.pinned.seat }
-        ensures same { KeepsAllButHolds self.old.pass.now self.new.pass.now }
+        ensures same { KeepsAllBut its_holds self.old.pass.now self.new.pass.now }
         ensures view { self.new.pass.now.view ≡ self.old.pass.now.view }
     {
         let pass = &mut *self.pass;

@@ -4,7 +4,8 @@ ghost use Rattle.std.specs.Prelude.{IsSome, IsNone, IfSome, IsSomeAnd, length, s
 ghost use Rattle.tex_world.specs.World.{IsFile};
 ghost use Rattle.gen_board.specs.View.{AfterStep};
 ghost use Rattle.file_table.specs.Calls.{sighted, GivesRecord, IsAsSeen, LooksOnce, OpensIfAtAll};
-ghost use Rattle.image_cache.specs.Pass.{IsPassOf, IsKeptBy, KeepsAllButRecord};
+ghost use Rattle.image_cache.specs.Pass.{IsPassOf, IsKeptBy};
+ghost use Rattle.image_cache.specs.Pass.{KeepsAllBut, view_and_record};
 ghost use Rattle.image_cache.specs.Call.{Serves};
 ghost use Rattle.image_cache.specs.Cause.{OpeningCause};
 
@@ -37,7 +38,7 @@ impl<T: Tap> Cache<T> {
         // What the call leaves.
         ensures taken { OnOk result (pass.new.latest ≡ None) }
         ensures err { OnErr result (pass.new.latest ≡ pass.old.latest) }
-        ensures same { KeepsAllButRecord pass.old pass.new }
+        ensures same { KeepsAllBut view_and_record pass.old pass.new }
         ensures looks { LooksOnce file pass.old.view pass.new.view }
         ensures once { OpensIfAtAll (T.state tap.old) (T.state tap.new) }
     {
@@ -52,7 +53,7 @@ impl<T: Tap> Cache<T> {
         requires cut { known.value.cut ≡ self.now.gate.cut }
         requires seen { known.value.generation ≤ slice_index pass.old.view.seen known.value.file }
         ensures kept { pass.new.latest ≡ Some known.value }
-        ensures same { KeepsAllButRecord pass.old pass.new }
+        ensures same { KeepsAllBut view_and_record pass.old pass.new }
         ensures view { pass.new.view ≡ pass.old.view }
     {
         pass.latest = Some(known);
@@ -72,7 +73,7 @@ impl<T: Tap> Cache<T> {
         // What the call leaves.
         ensures taken { IsSome result → pass.new.latest ≡ None }
         ensures none { IsNone result → pass.new.latest ≡ pass.old.latest }
-        ensures same { KeepsAllButRecord pass.old pass.new }
+        ensures same { KeepsAllBut view_and_record pass.old pass.new }
         ensures look { AfterStep file (slice_index pass.new.view.seen file)
             pass.old.view pass.new.view }
     {

@@ -3,7 +3,7 @@ ghost use Rattle.std.specs.List.{All};
 ghost use Rattle.std.specs.Option.{option_copied};
 ghost use Rattle.tile_store.specs.Lawful.{FitsCut};
 ghost use Rattle.pinned_tiles.specs.Pinned.{ArePinned};
-ghost use Rattle.image_cache.specs.Pass.{pass_state, max_count, KeepsAllButCounts};
+ghost use Rattle.image_cache.specs.Pass.{pass_state, max_count, CountsAlone};
 ghost use Rattle.image_cache.specs.Pass.{counted_together};
 ghost use Rattle.image_cache.specs.Call.{CountsNeed};
 
@@ -104,7 +104,7 @@ impl<W: World> Pass<W> {
     /// Counts a need, which the microcache had or not.
     pub(crate) fn count_need(&mut self, hit: bool)
         ensures counts { CountsNeed hit self.old self.new }
-        ensures kept { KeepsAllButCounts self.old self.new }
+        ensures kept { CountsAlone self.old self.new }
         ensures low { self.old.hits ≤ max_count }
     {
         self.needs = self.needs.saturating_add(1);
@@ -117,7 +117,7 @@ impl<W: World> Pass<W> {
     pub(crate) fn count_four(&mut self)
         ensures needs { self.new.needs ≡ counted_together self.old.needs 4 }
         ensures hits { self.new.hits ≡ counted_together self.old.hits 4 }
-        ensures kept { KeepsAllButCounts self.old self.new }
+        ensures kept { CountsAlone self.old self.new }
     {
         self.needs = self.needs.saturating_add(4);
         self.hits = self.hits.saturating_add(4);

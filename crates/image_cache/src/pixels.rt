@@ -24,7 +24,7 @@ ghost use Rattle.image_cache.specs.Cause.{StepCause, KeepsRecentAt};
 use crate::cache::Cache;
 use crate::checks::level_in;
 use crate::error::CacheError;
-use crate::fitting::Fitting;
+use crate::file_record::FileRecord;
 use crate::pass::Pass;
 use crate::reading::Reading;
 use crate::texel::{channels_of, depth_of};
@@ -139,7 +139,7 @@ impl<T: Tap> Cache<T> {
         // the record's layout is that of its bytes
         let _known = known.generation();
         let area = area_of(known, region)?;
-        let known = Fitting::of(known);
+        let known = FileRecord::of(known);
         let mut reading = Reading {
             cache: self,
             waiter,
@@ -315,10 +315,8 @@ fn filled(alloc: Global, count: usize) -> Result<Vec<u16>, NoMemory>
     ensures { IfOk result (λ values. values.items ≡ replicate count 0) }
 {
     let mut values = Vec::new(alloc);
-    match values.resize(count, 0u16) {
-        Ok(()) => Ok(values),
-        Err(_) => Err(NoMemory),
-    }
+    values.resize(count, 0u16)?;
+    Ok(values)
 }
 
 /// Puts values behind others.
@@ -326,10 +324,7 @@ fn append(out: &mut Vec<u16>, values: &Vec<u16>) -> Result<(), NoMemory>
     ensures ok { OnOk result (out.new.items ≡ out.old.items ++ values.now.items) }
     ensures err { OnErr result (out.new.items ≡ out.old.items) }
 {
-    match out.extend_from_slice(values.as_slice()) {
-        Ok(()) => Ok(()),
-        Err(_) => Err(NoMemory),
-    }
+    Ok(out.extend_from_slice(values.as_slice())?)
 }
 
 /// The k-th cell that a region meets.

@@ -3,20 +3,20 @@ ghost use Rattle.image_cache.specs.Pass.{IsPassOf};
 ghost use Rattle.image_cache.specs.Texel.{IsUnder};
 
 use crate::cache::Cache;
-use crate::fitting::Fitting;
+use crate::file_record::FileRecord;
 use crate::pass::Pass;
 use tex_world::Tap;
 use waiter::Waiter;
 
 /// What a call by a record works with, for as long as it takes: the cache, how it waits, its pass,
-/// its tap, and the record of a file that shows no fault and fits the cut.
+/// its tap, and the record of a file of the world that shows no fault and fits the cut.
 #[derive(Drop)]
 pub struct Reading<'a, V: Waiter, T: Tap> {
     pub cache: &'a Cache<T>,
     pub waiter: &'a V,
     pub pass: &'a mut Pass<T::W>,
     pub tap: &'a mut T,
-    pub known: &'a Fitting<'a, T::W>,
+    pub known: &'a FileRecord<'a, T::W>,
     ghost pass_of: { IsPassOf cache.now pass.now },
     ghost under: { IsUnder cache.now known.now },
 }

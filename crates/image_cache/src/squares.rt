@@ -7,7 +7,7 @@ ghost use Rattle.tile_layout.specs.Value.{channel_value_of};
 ghost use Rattle.texel_values.specs.Square.{HoldsSquare};
 ghost use Rattle.pinned_tiles.specs.Cell.{StandsFirst};
 ghost use Rattle.image_cache.specs.Pass.{IsPassOf};
-ghost use Rattle.image_cache.specs.Texel.{IsRecordOf, IsCellAt};
+ghost use Rattle.image_cache.specs.Texel.{IsKnownTo, IsCellAt};
 ghost use Rattle.image_cache.specs.Square.{left_top, IsSquareIn, HasSquareAt, MeetsSquare};
 
 use crate::cache::Cache;
@@ -34,7 +34,7 @@ impl<T: Tap> Cache<T> {
         out: &mut Corners,
     ) -> bool
         requires pass { IsPassOf self.now pass.old }
-        requires known { IsRecordOf T.W.files self.now known.now }
+        requires known { IsKnownTo self.now known.now }
         requires inside { IsSquareIn known.now square.now }
         requires channels { IsChannelCount channels }
         ensures has { IsTrue result ↔ HasSquareAt known.now square.now pass.old.pinned.recent }

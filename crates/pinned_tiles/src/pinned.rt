@@ -52,10 +52,7 @@ fn room_for_holds<W: World>(alloc: Global) -> Result<Vec<Pin<W>>, NoMemory>
     ensures empty { IfOk result (λ holds. holds.items ≡ []) }
     ensures room { IfOk result (λ holds. max_holds ≤ vec_capacity holds) }
 {
-    match Vec::with_capacity(alloc, MAX_HOLDS) {
-        Ok(holds) => Ok(holds),
-        Err(_) => Err(NoMemory),
-    }
+    Ok(Vec::with_capacity(alloc, MAX_HOLDS)?)
 }
 
 impl<W: World> Pinned<W> {

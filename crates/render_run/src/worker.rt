@@ -2,7 +2,8 @@
 
 ghost use Rattle.std.specs.Prelude.{◌≡◌, ◌<◌, ◌≤◌, IfSome, IfOk, length, slice_get};
 ghost use Rattle.tex_world.specs.World.{IsFile};
-ghost use Rattle.image_cache.specs.Pass.{IsPassOf, KeepsAllButVisits};
+ghost use Rattle.image_cache.specs.Pass.{IsPassOf};
+ghost use Rattle.image_cache.specs.Pass.{KeepsAllBut, its_visits};
 ghost use Rattle.request_lang.specs.Appending.{max_shards};
 ghost use Rattle.render_run.specs.Around.{terms_of};
 ghost use Rattle.texel_filter.specs.Image.{IsChannelCount};
@@ -285,7 +286,7 @@ fn counts_of_shards<R: Wait, T: Tap>(
     ensures shards { IfOk result
         (λ counts. AreShardsOf (terms_of desk.now.cache.now.gate) counts.items) }
     ensures few { IfOk result (λ counts. length counts.items ≤ max_shards) }
-    ensures same { KeepsAllButVisits pass.old pass.new }
+    ensures same { KeepsAllBut its_visits pass.old pass.new }
     ensures of { IsPassOf desk.now.cache.now pass.new }
 {
     let shards = desk.cache.shards();

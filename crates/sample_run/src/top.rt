@@ -108,9 +108,7 @@ fn answered<R: Threads + Wait + Sync>(
     ensures run { IfOk result (λ a. spec.RunsSample size a.written.holds a.status) }
     ensures status { IfOk result (λ a. a.status ≤ with_refusals) }
 {
-    let Ok(words) = run_words(alloc, size.workers) else {
-        return Err(NoMemory);
-    };
+    let words = run_words(alloc, size.workers)?;
     let outcome = run_outcome(rt, alloc, &words, size, list);
     // A put of the run found no memory.
     if outcome.written.faults() > 0 {

@@ -33,17 +33,17 @@ half_of lower value = if lower then value % 65536 else value / 65536
 -- count, then the value, lower half first. The width is 0 here.
 abbrev pub strips_header : List ℕ
 strips_header =
-    18761 ∷ 42 ∷ 8 ∷ 0 ∷ 9 -- "II", nine entries
-    ∷ 256 ∷ 3 ∷ 1 ∷ 0 ∷ 0 ∷ 0 -- ImageWidth
-    ∷ 257 ∷ 3 ∷ 1 ∷ 0 ∷ 192 ∷ 0 -- ImageLength
-    ∷ 258 ∷ 3 ∷ 3 ∷ 0 ∷ 122 ∷ 0 -- BitsPerSample
-    ∷ 259 ∷ 3 ∷ 1 ∷ 0 ∷ 1 ∷ 0 -- Compression
-    ∷ 262 ∷ 3 ∷ 1 ∷ 0 ∷ 2 ∷ 0 -- RGB
-    ∷ 273 ∷ 4 ∷ 12 ∷ 0 ∷ 128 ∷ 0 -- StripOffsets
-    ∷ 277 ∷ 3 ∷ 1 ∷ 0 ∷ 3 ∷ 0 -- SamplesPerPixel
-    ∷ 278 ∷ 3 ∷ 1 ∷ 0 ∷ 16 ∷ 0 -- RowsPerStrip
-    ∷ 279 ∷ 3 ∷ 12 ∷ 0 ∷ 176 ∷ 0 -- StripByteCounts
-    ∷ 0 ∷ 0 -- no further directory
+    18761 ∷ 42 ∷ 8 ∷ 0 ∷ 9  -- "II", nine entries
+    ∷ 256 ∷ 3 ∷ 1 ∷ 0 ∷ 0 ∷ 0  -- ImageWidth
+    ∷ 257 ∷ 3 ∷ 1 ∷ 0 ∷ 192 ∷ 0  -- ImageLength
+    ∷ 258 ∷ 3 ∷ 3 ∷ 0 ∷ 122 ∷ 0  -- BitsPerSample
+    ∷ 259 ∷ 3 ∷ 1 ∷ 0 ∷ 1 ∷ 0  -- Compression
+    ∷ 262 ∷ 3 ∷ 1 ∷ 0 ∷ 2 ∷ 0  -- RGB
+    ∷ 273 ∷ 4 ∷ 12 ∷ 0 ∷ 128 ∷ 0  -- StripOffsets
+    ∷ 277 ∷ 3 ∷ 1 ∷ 0 ∷ 3 ∷ 0  -- SamplesPerPixel
+    ∷ 278 ∷ 3 ∷ 1 ∷ 0 ∷ 16 ∷ 0  -- RowsPerStrip
+    ∷ 279 ∷ 3 ∷ 12 ∷ 0 ∷ 176 ∷ 0  -- StripByteCounts
+    ∷ 0 ∷ 0  -- no further directory
     ∷ []
 
 -- number j of the header of a file of strips: its width, the other entries, three BitsPerSample,
@@ -83,19 +83,19 @@ first_tile n = 146 + 6 * tile_count n
 -- TileByteCounts are 0 here.
 abbrev pub tiles_header : List ℕ
 tiles_header =
-    19789 ∷ 42 ∷ 0 ∷ 8 ∷ 11 -- "MM", eleven entries
-    ∷ 256 ∷ 3 ∷ 0 ∷ 1 ∷ 0 ∷ 0 -- ImageWidth
-    ∷ 257 ∷ 3 ∷ 0 ∷ 1 ∷ 192 ∷ 0 -- ImageLength
-    ∷ 258 ∷ 3 ∷ 0 ∷ 1 ∷ 16 ∷ 0 -- BitsPerSample
-    ∷ 259 ∷ 3 ∷ 0 ∷ 1 ∷ 1 ∷ 0 -- Compression
-    ∷ 262 ∷ 3 ∷ 0 ∷ 1 ∷ 1 ∷ 0 -- BlackIsZero
-    ∷ 277 ∷ 3 ∷ 0 ∷ 1 ∷ 1 ∷ 0 -- SamplesPerPixel
-    ∷ 284 ∷ 3 ∷ 0 ∷ 1 ∷ 1 ∷ 0 -- PlanarConfiguration
-    ∷ 322 ∷ 3 ∷ 0 ∷ 1 ∷ 64 ∷ 0 -- TileWidth
-    ∷ 323 ∷ 3 ∷ 0 ∷ 1 ∷ 64 ∷ 0 -- TileLength
-    ∷ 324 ∷ 4 ∷ 0 ∷ 0 ∷ 0 ∷ 146 -- TileOffsets
-    ∷ 325 ∷ 3 ∷ 0 ∷ 0 ∷ 0 ∷ 0 -- TileByteCounts
-    ∷ 0 ∷ 0 -- no further directory
+    19789 ∷ 42 ∷ 0 ∷ 8 ∷ 11  -- "MM", eleven entries
+    ∷ 256 ∷ 3 ∷ 0 ∷ 1 ∷ 0 ∷ 0  -- ImageWidth
+    ∷ 257 ∷ 3 ∷ 0 ∷ 1 ∷ 192 ∷ 0  -- ImageLength
+    ∷ 258 ∷ 3 ∷ 0 ∷ 1 ∷ 16 ∷ 0  -- BitsPerSample
+    ∷ 259 ∷ 3 ∷ 0 ∷ 1 ∷ 1 ∷ 0  -- Compression
+    ∷ 262 ∷ 3 ∷ 0 ∷ 1 ∷ 1 ∷ 0  -- BlackIsZero
+    ∷ 277 ∷ 3 ∷ 0 ∷ 1 ∷ 1 ∷ 0  -- SamplesPerPixel
+    ∷ 284 ∷ 3 ∷ 0 ∷ 1 ∷ 1 ∷ 0  -- PlanarConfiguration
+    ∷ 322 ∷ 3 ∷ 0 ∷ 1 ∷ 64 ∷ 0  -- TileWidth
+    ∷ 323 ∷ 3 ∷ 0 ∷ 1 ∷ 64 ∷ 0  -- TileLength
+    ∷ 324 ∷ 4 ∷ 0 ∷ 0 ∷ 0 ∷ 146  -- TileOffsets
+    ∷ 325 ∷ 3 ∷ 0 ∷ 0 ∷ 0 ∷ 0  -- TileByteCounts
+    ∷ 0 ∷ 0  -- no further directory
     ∷ []
 
 -- number j of the header of a file of tiles: its width, two counts, the place of TileByteCounts,

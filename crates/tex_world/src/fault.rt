@@ -1,5 +1,7 @@
 //! Why a call of the outside world is refused.
 
+use std::alloc::AllocError;
+
 /// The source failed. Its count of faults has risen.
 #[derive(Clone, Copy, Debug, PartialEq, Eq)]
 pub struct Failed;
@@ -7,6 +9,16 @@ pub struct Failed;
 /// No memory was found.
 #[derive(Clone, Copy, Debug, PartialEq, Eq)]
 pub struct NoMemory;
+
+impl From<AllocError> for NoMemory {
+    ghost use Rattle.std.specs.Prelude.{⊤};
+
+    ghost from_gives = { λ _ _. ⊤ };
+
+    fn from(_e: AllocError) -> NoMemory {
+        NoMemory
+    }
+}
 
 /// Why a folder was not entered.
 #[derive(Clone, Copy, Debug, PartialEq, Eq)]

@@ -7,7 +7,8 @@ use Rattle.tile_layout.specs.Kept.{Kept}
 use Rattle.tile_store.specs.Tile.{CachedTile}
 use Rattle.file_table.specs.Record.{RecordState}
 use Rattle.texel_filter.specs.Image.{Texel}
-use Rattle.image_cache.specs.Pass.{PassState, KeepsAllButRecord, counted, counted_together}
+use Rattle.image_cache.specs.Pass.{PassState, counted, counted_together}
+use Rattle.image_cache.specs.Pass.{KeepsAllBut, view_and_record}
 use Rattle.image_cache.specs.Texel.{has_cell_at}
 use Rattle.image_cache.specs.Call.{AsksForCellAt, Needs}
 use Rattle.image_cache.proofs.FillLemmas.{if_ok, needs_between}
@@ -16,7 +17,7 @@ use Rattle.texture_sys.specs.Needs.{look_keys_on, AsksForEach, AsksForCells}
 
 module _ (files : Files) (state : RecordState) where
   -- what was needed of a record between two moments at which only the record was another
-  needs_from : (keys : Kept → List ℕ) (old mid new : PassState) → KeepsAllButRecord old mid
+  needs_from : (keys : Kept → List ℕ) (old mid new : PassState) → KeepsAllBut view_and_record old mid
       → IfOk state.layout (λ kept. Needs files (keys kept) mid new)
       → IfOk state.layout (λ kept. Needs files (keys kept) old new)
   needs_from keys old mid new same needs = if_ok state.layout
@@ -24,7 +25,7 @@ module _ (files : Files) (state : RecordState) where
       (λ kept. needs_between files (keys kept) old mid new new same.tiles.recent same.counts refl
       (record { needs = refl; hits = refl })) needs
 
-  needs_to : (keys : Kept → List ℕ) (old mid new : PassState) → KeepsAllButRecord mid new
+  needs_to : (keys : Kept → List ℕ) (old mid new : PassState) → KeepsAllBut view_and_record mid new
       → IfOk state.layout (λ kept. Needs files (keys kept) old mid)
       → IfOk state.layout (λ kept. Needs files (keys kept) old new)
   needs_to keys old mid new same needs = if_ok state.layout
@@ -36,7 +37,7 @@ module _ (files : Files) (state : RecordState) where
   abbrev keys_of : List Texel → Kept → List ℕ
   keys_of texels kept = look_keys_on state.generation state.file state.cut kept texels
 
-  each_to : (texels : List Texel) (old mid new : PassState) → KeepsAllButRecord mid new
+  each_to : (texels : List Texel) (old mid new : PassState) → KeepsAllBut view_and_record mid new
       → AsksForEach files state texels old mid → AsksForEach files state texels old new
   each_to [] old mid new same (counts, recent) = (
     record {
@@ -49,7 +50,7 @@ module _ (files : Files) (state : RecordState) where
       (next, first, each_to texels next mid new same rest)
 
   -- what is said of a pass is so of one that has another record
-  pub asks_to : (texels : List Texel) (old mid new : PassState) → KeepsAllButRecord mid new
+  pub asks_to : (texels : List Texel) (old mid new : PassState) → KeepsAllBut view_and_record mid new
       → AsksForCells files state texels old mid → AsksForCells files state texels old new
   asks_to texels old mid new same asks = record {
     each = each_to texels old mid new same asks.each;
@@ -57,7 +58,7 @@ module _ (files : Files) (state : RecordState) where
     keys = needs_to (keys_of texels) old mid new same asks.keys;
   }
 
-  each_from : (texels : List Texel) (old mid new : PassState) → KeepsAllButRecord old mid
+  each_from : (texels : List Texel) (old mid new : PassState) → KeepsAllBut view_and_record old mid
       → AsksForEach files state texels mid new → AsksForEach files state texels old new
   each_from [] old mid new same (counts, recent) = (
     record {
@@ -84,7 +85,7 @@ module _ (files : Files) (state : RecordState) where
     rest,
   )
 
-  pub asks_from : (texels : List Texel) (old mid new : PassState) → KeepsAllButRecord old mid
+  pub asks_from : (texels : List Texel) (old mid new : PassState) → KeepsAllBut view_and_record old mid
       → AsksForCells files state texels mid new → AsksForCells files state texels old new
   asks_from texels old mid new same asks = record {
     each = each_from texels old mid new same asks.each;

@@ -8,25 +8,25 @@ use Rattle.file_table.specs.Record.{RecordState}
 use Rattle.texel_filter.specs.Image.{Texel}
 use Rattle.texel_filter.specs.Calls.{EachAnswered, OneRefused, LeftBy}
 use Rattle.image_cache.specs.Pass.{PassState}
-use Rattle.image_cache.specs.Call.{KeepsAllButRecent, CountsOn}
+use Rattle.image_cache.specs.Call.{CountsOn}
+use Rattle.image_cache.specs.Pass.{KeepsAllBut, recent_and_counts}
 use Rattle.texture_sys.specs.Needs.{HasCell, HasCells, AsksForEach, AsksForCells}
 use Rattle.texture_sys.specs.Fetches.{FindsCell, FetchesKept, Lacks}
 use Rattle.texture_sys.proofs.Counted.{AreCounts, each_counts, asks_cells}
 use Rattle.texture_sys.proofs.Chains.{still_there}
 
-recent_none : (p q : PassState) → length p.pinned.recent ≤ 2 → q ≡ p → KeepsAllButRecent p q
-recent_none p q few is = subst (λ (x : PassState). KeepsAllButRecent p x) (sym is) (record {
+recent_none : (p q : PassState) → length p.pinned.recent ≤ 2 → q ≡ p → KeepsAllBut recent_and_counts p q
+recent_none p q few is = subst (λ (x : PassState). KeepsAllBut recent_and_counts p x) (sym is) (record {
   place = record { board = refl; gate = refl; cut = refl; permits = refl };
   seat = refl;
   view = refl;
-  few = few;
-  holds = refl;
-  hand = refl;
+  tiles = record { few = few; holds = refl; hand = refl };
+  counts = tt;
   latest = refl;
 })
 
-recent_chain : (a b c : PassState) → KeepsAllButRecent a b → KeepsAllButRecent b c
-    → KeepsAllButRecent a c
+recent_chain : (a b c : PassState) → KeepsAllBut recent_and_counts a b → KeepsAllBut recent_and_counts b c
+    → KeepsAllBut recent_and_counts a c
 recent_chain a b c p q = record {
   place = record {
     board = q.place.board ∙ p.place.board;
@@ -36,9 +36,12 @@ recent_chain a b c p q = record {
   };
   seat = q.seat ∙ p.seat;
   view = q.view ∙ p.view;
-  few = q.few;
-  holds = q.holds ∙ p.holds;
-  hand = q.hand ∙ p.hand;
+  tiles = record {
+    few = q.tiles.few;
+    holds = q.tiles.holds ∙ p.tiles.holds;
+    hand = q.tiles.hand ∙ p.tiles.hand;
+  };
+  counts = tt;
   latest = q.latest ∙ p.latest;
 }
 
@@ -46,10 +49,10 @@ module _ (files : Files) (state : RecordState) where
   -- ---- texels
 
   pub kept_leaves : (texels : List Texel) (p q : PassState) → length p.pinned.recent ≤ 2
-      → EachAnswered (FetchesKept files state) p texels q → KeepsAllButRecent p q
+      → EachAnswered (FetchesKept files state) p texels q → KeepsAllBut recent_and_counts p q
   kept_leaves [] p q few is = recent_none p q few is
   kept_leaves (t ∷ texels) p q few (mid, first, rest) =
-      recent_chain p mid q first.pass (kept_leaves texels mid q first.pass.few rest)
+      recent_chain p mid q first.pass (kept_leaves texels mid q first.pass.tiles.few rest)
 
   kept_each : (texels : List Texel) (p q : PassState)
       → EachAnswered (FetchesKept files state) p texels q

@@ -9,13 +9,14 @@ use Rattle.tiff_format.specs.declared.cut.Cut.{Cut}
 use Rattle.tile_layout.specs.Kept.{kept_of}
 use Rattle.tile_layout.specs.Cell.{CellsFit}
 use Rattle.file_table.specs.Record.{RecordState}
-use Rattle.file_table.specs.Calls.{Sighted, MeetsNewer, GivesRecord, KeepsView}
+use Rattle.tex_world.specs.Tap.{TapState}
+use Rattle.file_table.specs.Calls.{Sighted, sighted, MeetsNewer, GivesRecord, KeepsView}
 use Rattle.texture_sys.specs.declared.lookup_request.LookupRequest.{LookupRequest}
 use Rattle.image_cache.specs.declared.error.CacheError.{CacheError}
 use Rattle.image_cache.specs.declared.error.CacheError.TheVariants as refused
 use Rattle.image_cache.specs.Pass.{PassState, SamePlace}
-use Rattle.image_cache.specs.Call.{Serves, CountsOn}
-use Rattle.image_cache.specs.Cause.{RefusedFor, LookRefuses}
+use Rattle.image_cache.specs.Call.{Serves, CountsOn, IsUnopened, KeepsOne}
+use Rattle.image_cache.specs.Cause.{RefusedFor, LookRefuses, MetNewer, MetAtOpening}
 use Rattle.texture_sys.specs.Look.{look_on}
 use Rattle.texture_sys.specs.Needs.{visits_on, HasCells, AsksForCells, NeedsCells}
 
@@ -92,26 +93,41 @@ pub record IsRefused {B : Type 0} (files : Files) (file : ℕ) (cut : Cut) (old 
   pub given : GivesRecord files file cut old.view new.view state
   pub unfit : LookRefuses state e
 
+-- A step by the record, whose generation is `from`, met the newer `to`.
+pub record IsOutdated (files : Files) (file : ℕ) (cut : Cut) (old new : PassState)
+    (tap_old tap_new : TapState) (from to : ℕ) (state : RecordState) : Type 0 where
+  pub given : GivesRecord files file cut old.view new.view state
+  pub met : MetNewer files file state.generation from to new.view tap_old tap_new
+
+-- The file was not opened, since a read of it met the newer generation.
+pub record MovedAtOpening (files : Files) (file : ℕ) (old new : PassState)
+    (tap_old tap_new : TapState) (from to : ℕ) : Type 0 where
+  pub unopened : IsUnopened old new tap_old tap_new
+  pub met : MetAtOpening files file from to (sighted old.view tap_old) (sighted new.view tap_new)
+
 -- which record the pass keeps after a refusal
-abbrev pub KeepsAfter : {B : Type 0} → Files → ℕ → Cut → PassState → PassState → CacheError B
-    → Type 0
-KeepsAfter files file cut old new (refused.BadFile generation fault) =
+abbrev pub KeepsAfter : {B : Type 0} → Files → ℕ → Cut → PassState → PassState → TapState → TapState
+    → CacheError B → Type 0
+KeepsAfter files file cut old new tap_old tap_new (refused.BadFile generation fault) =
     IsSomeAnd new.latest (IsRefused {B = Unit {0}} files file cut old new
     (refused.BadFile generation fault))
-KeepsAfter files file cut old new (refused.TileTooLarge generation) =
+KeepsAfter files file cut old new tap_old tap_new (refused.TileTooLarge generation) =
     IsSomeAnd new.latest (IsRefused {B = Unit {0}} files file cut old new
     (refused.TileTooLarge generation))
-KeepsAfter files file cut old new e =
-    (new.latest ≡ old.latest)
-    ⊎ IsSomeAnd new.latest (GivesRecord files file cut old.view new.view)
+KeepsAfter files file cut old new tap_old tap_new (refused.Again from to) =
+    MovedAtOpening files file old new tap_old tap_new from to
+    ⊎ IsSomeAnd new.latest (IsOutdated files file cut old new tap_old tap_new from to)
+KeepsAfter files file cut old new tap_old tap_new e =
+    KeepsOne files file cut old new tap_old tap_new
 
 -- Which record the pass then keeps: the one that was looked at. Where the file was not opened it is
--- as before.
+-- as before, and the tap had no call but to open it.
 abbrev pub KeepsRecord : {B : Type 0} → Files → ℕ → Cut → LookupRequest → PassState → PassState
-    → Result ℕ (CacheError B) → Type 0
-KeepsRecord files file cut r old new (Ok generation) =
+    → TapState → TapState → Result ℕ (CacheError B) → Type 0
+KeepsRecord files file cut r old new tap_old tap_new (Ok generation) =
     IsSomeAnd new.latest (IsLookedUp files file cut r old new generation)
-KeepsRecord files file cut r old new (Err e) = KeepsAfter files file cut old new e
+KeepsRecord files file cut r old new tap_old tap_new (Err e) =
+    KeepsAfter files file cut old new tap_old tap_new e
 
 -- ---- warm lookups
 

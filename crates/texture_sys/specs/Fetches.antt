@@ -5,7 +5,8 @@ use Rattle.file_table.specs.Record.{RecordState}
 use Rattle.texel_filter.specs.Image.{Texel}
 use Rattle.image_cache.specs.Pass.{PassState}
 use Rattle.image_cache.specs.Texel.{has_cell_at}
-use Rattle.image_cache.specs.Call.{KeepsAllButRecent, MovesCellAt}
+use Rattle.image_cache.specs.Call.{MovesCellAt}
+use Rattle.image_cache.specs.Pass.{KeepsAllBut, recent_and_counts}
 use Rattle.image_cache.specs.Fetches.{at_of, AsksForCell}
 
 -- A texel of a record was read from its cell in the microcache.
@@ -13,7 +14,7 @@ pub record FetchesKept (files : Files) (state : RecordState) (old : PassState) (
     (new : PassState) : Type 0 where
   pub had : has_cell_at state (at_of texel) old.pinned.recent ≡ true
   pub asks : AsksForCell files state texel old new
-  pub pass : KeepsAllButRecent old new
+  pub pass : KeepsAllBut recent_and_counts old new
   pub moved : MovesCellAt state (at_of texel) old.pinned.recent new.pinned.recent
 
 -- It was not, since the microcache lacks the cell. The pass is as it was.

@@ -2,13 +2,14 @@
 use Rattle.std.specs.Prelude.{◌≡◌, ℕ, ◌<◌, ◌≤◌, Some, length, slice_index}
 use Rattle.file_table.specs.Record.{RecordState}
 use Rattle.file_table.specs.Calls.{KeepsView}
-use Rattle.image_cache.specs.Pass.{PassState, SamePlace, KeepsAllButRecord}
+use Rattle.image_cache.specs.Pass.{PassState, SamePlace}
+use Rattle.image_cache.specs.Pass.{KeepsAllBut, view_and_record}
 use Rattle.image_cache.specs.Call.{CountsOn}
 
 -- The pass has looked at this file's word, and at no other. All else of it but its record is as it
 -- was.
 pub record AfterOpening (file : ℕ) (old new : PassState) : Type 0 where
-  pub keeps : KeepsAllButRecord old new
+  pub keeps : KeepsAllBut view_and_record old new
   pub view : KeepsView file old.view new.view
   pub looks : slice_index old.view.steps file < slice_index new.view.steps file
   pub few : length new.pinned.recent ≤ 2

@@ -43,7 +43,7 @@ pub fn texture<V: Waiter, T: Tap>(
     // What the call leaves.
     ensures same { AfterLookup file pass.old pass.new }
     ensures kept { KeepsRecord T.W.files file cache.now.gate.cut (LookupRequest.Point r.now)
-        pass.old pass.new result }
+        pass.old pass.new (T.state tap.old) (T.state tap.new) result }
     ensures tap { NoneFalls (T.state tap.old) (T.state tap.new) }
     // Each visit that it makes is that of a `pin`, a `pin_new`, an `unpin` or a `count`.
     ensures visits { PurgesNone cache.now.gate pass.old.pinned.seat pass.new.pinned.seat }
@@ -88,7 +88,7 @@ pub fn texture_d<V: Waiter, T: Tap>(
     // What the call leaves.
     ensures same { AfterLookup file pass.old pass.new }
     ensures kept { KeepsRecord T.W.files file cache.now.gate.cut (LookupRequest.Footprint r.now)
-        pass.old pass.new result }
+        pass.old pass.new (T.state tap.old) (T.state tap.new) result }
     ensures tap { NoneFalls (T.state tap.old) (T.state tap.new) }
     // Each visit that it makes is that of a `pin`, a `pin_new`, an `unpin` or a `count`.
     ensures visits { PurgesNone cache.now.gate pass.old.pinned.seat pass.new.pinned.seat }

@@ -3,12 +3,12 @@
 ghost use Rattle.std.specs.Prelude.{◌≡◌, ◌↔◌, ◌<◌, ◌≤◌, length, slice_index, IsTrue, IsFalse};
 ghost use Rattle.std.specs.Prelude.{IsSome, IsNone, IfSome, IsSomeAnd, OnOk, OnErr};
 ghost use Rattle.std.specs.Option.{ForSome};
-ghost use Rattle.tex_world.specs.World.{IsFile};
 ghost use Rattle.gen_board.specs.View.{AfterStep};
 ghost use Rattle.texel_filter.specs.Image.{IsChannelCount, AreValues, image_of};
 ghost use Rattle.texel_filter.specs.Calls.{LeftBy};
-ghost use Rattle.image_cache.specs.Pass.{IsPassOf, KeepsAllButView};
-ghost use Rattle.image_cache.specs.Call.{CountsOn, KeepsAllButRecent};
+ghost use Rattle.image_cache.specs.Pass.{IsPassOf};
+ghost use Rattle.image_cache.specs.Pass.{KeepsAllBut, the_view, recent_and_counts};
+ghost use Rattle.image_cache.specs.Call.{CountsOn};
 ghost use Rattle.texture_sys.specs.Asked.{channels_asked, MayBeLookedUp, asked_value};
 ghost use Rattle.image_cache.specs.Texel.{IsUnder};
 ghost use Rattle.image_cache.specs.Sizes.{sizes_known, values_known};
@@ -37,7 +37,6 @@ pub fn texture_local<T: Tap>(
 ) -> Option<u32>
     requires pass { IsPassOf cache.now pass.old }
     requires file { file < cache.now.files.board.files }
-    requires told { IsFile T.W.files file }
     requires count { length out.old ≡ r.now.nch }
     requires channels { IsChannelCount r.now.nch }
     ensures some { IsSome result
@@ -45,7 +44,7 @@ pub fn texture_local<T: Tap>(
     ensures value { IfSome result (Answers T.W.files file cache.now.gate.cut
         (LookupRequest.Point r.now) pass.old.view pass.new.view out.new) }
     ensures none { IsNone result
-        → (out.new ≡ out.old) × KeepsAllButView pass.old pass.new }
+        → (out.new ≡ out.old) × KeepsAllBut the_view pass.old pass.new }
     // What the call leaves.
     ensures same { AfterLookup file pass.old pass.new }
     ensures look { AfterStep file (slice_index pass.new.view.seen file)
@@ -88,7 +87,7 @@ fn look_local<T: Tap>(
     ensures asks { IsTrue result → AsksForCells T.W.files known.now (visits_on known.now r.now)
         pass.old pass.new }
     ensures counts { CountsOn pass.old pass.new }
-    ensures kept { KeepsAllButRecent pass.old pass.new }
+    ensures kept { KeepsAllBut recent_and_counts pass.old pass.new }
 {
     if !has_cells(cache, pass, known, r) {
         return false;
@@ -134,7 +133,7 @@ fn write_kept<T: Tap>(
     ensures asks { AsksForCells T.W.files known.now (visits_on known.now r.now)
         pass.old pass.new }
     ensures counts { CountsOn pass.old pass.new }
-    ensures kept { KeepsAllButRecent pass.old pass.new }
+    ensures kept { KeepsAllBut recent_and_counts pass.old pass.new }
 {
     // these tell that its layout is that of its bytes, and that the counts are of 64 bits
     let _generation = known.record().generation();

@@ -4,7 +4,7 @@ ghost use Rattle.std.specs.Prelude.{IfOk, IfErr, IfSome, OnOk, OnErr};
 ghost use Rattle.std.specs.Option.{ForSome};
 ghost use Rattle.tex_world.specs.World.{IsFile};
 ghost use Rattle.tile_layout.specs.Cell.{CellsFit};
-ghost use Rattle.file_table.specs.Calls.{sighted, GivesRecord};
+ghost use Rattle.file_table.specs.Calls.{sighted, GivesRecord, OpensIfAtAll};
 ghost use Rattle.shard_gate.specs.Since.{PurgesNone};
 ghost use Rattle.image_cache.specs.Pass.{IsPassOf};
 ghost use Rattle.image_cache.specs.Call.{AfterNeed, CountsOn, NoneFalls};
@@ -20,7 +20,7 @@ ghost use Rattle.texture_sys.specs.Steps.{AfterOpening, AfterLook};
 use crate::asking::look_for;
 use crate::lookup_request::LookupRequest;
 use file_table::Record;
-use image_cache::{Cache, CacheError, Fitting, Pass, Reading, fits_cut};
+use image_cache::{Cache, CacheError, FileRecord, Pass, Reading, fits_cut};
 use std::sync::Arc;
 use tex_world::Tap;
 use waiter::Waiter;
@@ -49,7 +49,8 @@ pub(crate) fn texture_of<V: Waiter, T: Tap>(
     ensures unread { IfErr result (KeepsRecentAt pass.old pass.new) }
     // What the call leaves.
     ensures same { AfterLookup file pass.old pass.new }
-    ensures kept { KeepsRecord T.W.files file cache.now.gate.cut r.now pass.old pass.new result }
+    ensures kept { KeepsRecord T.W.files file cache.now.gate.cut r.now pass.old pass.new
+        (T.state tap.old) (T.state tap.new) result }
     ensures tap { NoneFalls (T.state tap.old) (T.state tap.new) }
     // Each visit that it makes is that of a `pin`, a `pin_new`, an `unpin` or a `count`.
     ensures visits { PurgesNone cache.now.gate pass.old.pinned.seat pass.new.pinned.seat }
@@ -80,6 +81,7 @@ fn record_of<V: Waiter, T: Tap>(
         (sighted pass.old.view (T.state tap.old)) (sighted pass.new.view (T.state tap.new))) }
     // What the call leaves.
     ensures err { OnErr result (pass.new.latest ≡ pass.old.latest) }
+    ensures once { OpensIfAtAll (T.state tap.old) (T.state tap.new) }
     ensures same { AfterOpening file pass.old pass.new }
     ensures seat { pass.new.pinned.seat ≡ pass.old.pinned.seat }
     ensures tap { NoneFalls (T.state tap.old) (T.state tap.new) }
@@ -178,13 +180,13 @@ fn look_up<V: Waiter, T: Tap>(
     let _generation = known.generation();
     let _needs = pass.needs();
     let _hits = pass.hits();
-    let fitting = Fitting::of(known);
+    let lent = FileRecord::of(known);
     let mut reading = Reading {
         cache,
         waiter,
         pass,
         tap,
-        known: &fitting,
+        known: &lent,
     };
     look_for(&mut reading, r, out)
 }

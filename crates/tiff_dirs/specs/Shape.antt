@@ -1,5 +1,5 @@
 -- What does the shape of a level that was read show?
-use Rattle.tiff_dirs.specs.declared.shape.LevelShape.{LevelShape as ReadShape}
+use Rattle.tiff_dirs.specs.declared.shape.ReadShape.{ReadShape}
 use Rattle.tiff_format.specs.Block.{LevelShape, shape_of}
 
 -- its fields as plain data

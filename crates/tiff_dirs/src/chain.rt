@@ -27,7 +27,7 @@ use crate::level::{read_level, read_shape};
 use crate::place::Place;
 use crate::read_level::ReadLevel;
 use crate::reader::ByteReader;
-use crate::shape::LevelShape;
+use crate::shape::ReadShape;
 use crate::tag::SAMPLES_PER_PIXEL;
 use std::alloc::{AllocError, Global};
 use tiff_format::Dir;
@@ -43,7 +43,7 @@ fn halved(side: u32) -> u32
 }
 
 /// The shape is half the size of the last level, with the samples of the first.
-fn is_half(shape: &LevelShape, first: &Dir, last: &Dir) -> bool
+fn is_half(shape: &ReadShape, first: &Dir, last: &Dir) -> bool
     ensures { result ≡ is_half_of (shown_shape first.now) (shown_shape last.now)
         (seen_shape shape.now) }
 {

@@ -20,7 +20,7 @@ use crate::offsets::read_offsets;
 use crate::read_level::ReadLevel;
 use crate::reader::ByteReader;
 use crate::sample_fields::{test_bits, test_formats};
-use crate::shape::LevelShape;
+use crate::shape::ReadShape;
 use std::alloc::Global;
 
 /// The shape that the numbers of a directory say.
@@ -28,7 +28,7 @@ fn shape_of_numbers<B: ByteReader>(
     alloc: Global,
     b: &mut B,
     found: &Found,
-) -> Result<LevelShape, DirsError<B::Error>>
+) -> Result<ReadShape, DirsError<B::Error>>
     ensures told { ForSome (B.bytes b.old) (λ bytes.
         OfEntries found.now.entries bytes (λ form at. Finds (numbers_fault form bytes at)
         (λ shape. seen_shape shape ≡ shape_at form bytes at) result)) }
@@ -47,7 +47,7 @@ pub fn read_shape<B: ByteReader>(
     alloc: Global,
     b: &mut B,
     found: &Found,
-) -> Result<LevelShape, DirsError<B::Error>>
+) -> Result<ReadShape, DirsError<B::Error>>
     ensures told { ForSome (B.bytes b.old) (λ bytes.
         OfEntries found.now.entries bytes (λ form at. Finds (fields_fault form bytes at)
         (λ shape. seen_shape shape ≡ shape_at form bytes at) result)) }
@@ -62,7 +62,7 @@ pub fn read_level<B: ByteReader>(
     alloc: Global,
     b: &mut B,
     directory: &Directory,
-    shape: LevelShape,
+    shape: ReadShape,
 ) -> Result<ReadLevel, DirsError<B::Error>>
     ensures told { ForSome (B.bytes b.old) (λ bytes. (form : Form) (at : ℕ)
         → IsDirectoryAt form bytes at directory.now → seen_shape shape ≡ shape_at form bytes at

@@ -10,7 +10,7 @@ ghost use Rattle.tiff_format.specs.declared.fault.TiffFault.TheVariants.{Unsuppo
 ghost use Rattle.tiff_dirs.specs.Numbers.{value_fault, size_fault, is_bad_tile, is_large};
 ghost use Rattle.tiff_dirs.specs.Numbers.{numbers_shape};
 
-use crate::shape::LevelShape;
+use crate::shape::ReadShape;
 use crate::tag::{COMPRESSION, PHOTOMETRIC, PLANAR_CONFIGURATION};
 use tiff_format::{MAX_CHANNELS, MAX_SIDE, TILE_STEP, TiffFault};
 
@@ -119,7 +119,7 @@ impl Numbers {
     }
 
     /// The shape of these sizes.
-    pub fn shape(&self) -> Result<LevelShape, TiffFault>
+    pub fn shape(&self) -> Result<ReadShape, TiffFault>
         requires { IsDepth self.now.bits }
         ensures { Tests (size_fault self.now)
             (λ shape. seen_shape shape ≡ numbers_shape self.now) result }
@@ -133,7 +133,7 @@ impl Numbers {
         if is_bad(self.tile) {
             return Err(TiffFault::TileShape);
         }
-        Ok(LevelShape {
+        Ok(ReadShape {
             width: self.width as u32,
             height: self.height as u32,
             channels: self.samples as u32,

@@ -16,7 +16,7 @@ use crate::entry::{Entry, LONG_BYTES, LONG8_BYTES};
 use crate::error::DirsError;
 use crate::found::Found;
 use crate::reader::{ByteReader, MAX_READ_BYTES};
-use crate::shape::LevelShape;
+use crate::shape::ReadShape;
 use std::alloc::Global;
 use tiff_format::{Form, TiffFault};
 
@@ -129,7 +129,7 @@ pub fn read_offsets<B: ByteReader>(
     alloc: Global,
     b: &mut B,
     found: &Found,
-    shape: &LevelShape,
+    shape: &ReadShape,
 ) -> Result<Vec<u64>, DirsError<B::Error>>
     ensures told { ForSome (B.bytes b.old) (λ bytes. OfEntries found.now.entries bytes (λ form at.
         seen_shape shape.now ≡ shape_at form bytes at

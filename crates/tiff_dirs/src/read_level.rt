@@ -5,13 +5,13 @@ ghost use Rattle.tiff_format.specs.Block.{blocks_of};
 ghost use Rattle.tiff_dirs.specs.Shape.{seen_shape};
 
 use crate::place::Place;
-use crate::shape::LevelShape;
+use crate::shape::ReadShape;
 use tiff_format::{Dir, TiffFault};
 
 /// A level of which no block was tested yet.
 #[derive(Drop)]
 pub struct ReadLevel {
-    pub shape: LevelShape,
+    pub shape: ReadShape,
     pub offsets: Vec<u64>,
     /// The place of the next directory, 0 where its own directory names none.
     pub next: Place,

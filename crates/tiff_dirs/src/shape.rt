@@ -9,7 +9,7 @@ use tiff_format::{Dir, Form};
 
 /// The numbers of a level that say where its samples stand in its strips or tiles.
 #[derive(Clone, Copy)]
-pub struct LevelShape {
+pub struct ReadShape {
     pub width: u32,
     pub height: u32,
     pub channels: u32,
@@ -32,7 +32,7 @@ pub struct LevelShape {
 /// The bits of a sample that takes one byte.
 pub const BYTE_BITS: u32 = 8;
 
-impl LevelShape {
+impl ReadShape {
     ghost use Rattle.std.specs.Prelude.{ℕ, ◌*◌, ◌<◌, length};
     ghost use Rattle.tiff_format.specs.Block.{blocks_of, plane_blocks, texel_bytes, block_bytes};
     ghost use Rattle.tiff_format.specs.Block.{block_texels_by, level_with};

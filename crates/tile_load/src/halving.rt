@@ -82,9 +82,7 @@ impl<'a, W: World> Halving<'a, W> {
         let source = layout.grid(level - 1, cut);
         let rect = layout.cell_rect(level, cut, key.index());
         let channels = layout.channels();
-        let Ok(samples) = zeros(alloc, rect, channels) else {
-            return Err(NoMemory);
-        };
+        let samples = zeros(alloc, rect, channels)?;
         Ok(Halving {
             layout,
             cut,

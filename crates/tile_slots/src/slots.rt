@@ -60,10 +60,8 @@ impl<W: World> Slots<W> {
         requires { count ≤ MAX_SLOTS }
         ensures ok { IfOk result (λ slots. slots ≡ count) }
     {
-        match empty_slots(alloc, count) {
-            Ok(slots) => Ok(Slots { slots }),
-            Err(AllocError) => Err(NoMemory),
-        }
+        let slots = empty_slots(alloc, count)?;
+        Ok(Slots { slots })
     }
 
     /// The slot of a key, where there are any.

@@ -131,9 +131,7 @@ fn before(keys: &[Option<TileKey>], next: &[u32], slots: u32, key: TileKey) -> u
 pub(crate) fn none_yet<X: Drop>(alloc: Global, slots: u32) -> Result<Vec<Option<X>>, NoMemory>
     ensures { IfOk result (λ made. made.items ≡ replicate slots None) }
 {
-    let Ok(mut made) = Vec::with_capacity(alloc, slots as usize) else {
-        return Err(NoMemory);
-    };
+    let mut made = Vec::with_capacity(alloc, slots as usize)?;
     for _slot in 0..slots {
         made.push_reserved(None);
     }

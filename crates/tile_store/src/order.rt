@@ -258,9 +258,7 @@ fn all_free(alloc: Global, slots: u32) -> Result<Vec<u32>, NoMemory>
     ensures items { IfOk result (λ made. made.items ≡ below slots) }
     ensures room { IfOk result (λ made. vec_capacity made ≡ slots) }
 {
-    let Ok(mut made) = Vec::with_capacity(alloc, slots as usize) else {
-        return Err(NoMemory);
-    };
+    let mut made = Vec::with_capacity(alloc, slots as usize)?;
     for slot in 0..slots {
         made.push_reserved(slot);
     }

@@ -45,12 +45,9 @@ pub fn udim(alloc: Global, name: &str, s: i32, t: i32) -> Result<Udim, NoMemory>
     let Some(number) = tile_number(s, t) else {
         return Ok(Udim::Outside);
     };
-    match numbered(alloc, before, number, behind) {
-        Ok(name) => Ok(Udim::Tile {
-            name,
-            s: within_tile(s),
-            t: within_tile(t),
-        }),
-        Err(_) => Err(NoMemory),
-    }
+    Ok(Udim::Tile {
+        name: numbered(alloc, before, number, behind)?,
+        s: within_tile(s),
+        t: within_tile(t),
+    })
 }

@@ -1,6 +1,7 @@
 use Rattle.std.proofs.Common.{◌≡◌, ◌≤◌, length}
 use Rattle.std.specs.List.{All}
-use Rattle.image_cache.specs.Pass.{IsPassOf, KeepsAllButVisits}
+use Rattle.image_cache.specs.Pass.{IsPassOf}
+use Rattle.image_cache.specs.Pass.{KeepsAllBut, its_visits}
 use Rattle.render_run.proofs.worker.counts_of_shards.Given as goal
 
 -- the shards so far were counted
@@ -9,6 +10,6 @@ invariant-loop-shard g l = record {
   count : length l.counts.items ≡ l.shard;
   share : All (λ count. count.share ≡ l.desk.cache.now.gate.share) l.counts.items;
   loose : All (λ count. count.loose ≤ count.share) l.counts.items;
-  same : KeepsAllButVisits l.fn.pass l.pass;
+  same : KeepsAllBut its_visits l.fn.pass l.pass;
   of : IsPassOf l.desk.cache.now l.pass;
 }

@@ -29,11 +29,12 @@ returns-clause-cause g c =
 pub returns-clause-kept : goal.returns-clause-kept
 returns-clause-kept g c =
     texture_kept g.T.W.World.files c.args.file c.args.cache.now.gate.cut c.args.pass.now
-    c.record_of.new.pass c.look_at.new.pass c.in_ok-known.known.value c.in_ok-known.ensures.ok
+    c.record_of.new.pass c.look_at.new.pass (g.T.Tap.state c.args.tap.now)
+    c.in_ok-known.known.value c.in_ok-known.ensures.ok
     c.look_at.ensures.same.view c.look_at.ensures.same.latest c.args.r.now
     (g.T.Tap.state c.record_of.new.tap) (g.T.Tap.state c.look_at.new.tap) c.look_at.result
     c.in_ok-known.ensures.same.keeps c.look_at.ensures.ok c.look_at.ensures.asks
-    c.look_at.ensures.cause
+    c.in_ok-known.ensures.tap c.look_at.ensures.cause
 
 pub returns-clause-warm : goal.returns-clause-warm
 returns-clause-warm g c =
@@ -47,9 +48,12 @@ pub returns-in_err-known-clause-kept : goal.returns-in_err-known-clause-kept
 returns-in_err-known-clause-kept g c =
     let p = err_from_is_err_and c.from_residual.result c.from_residual.ensures.1 in
     rw (p.1, p.2) (opening_kept g.T.W.World.files c.args.file c.args.cache.now.gate.cut
-    (sighted c.args.pass.now.view (g.T.Tap.state c.args.tap.now))
-    (sighted c.record_of.new.pass.view (g.T.Tap.state c.record_of.new.tap)) c.args.pass.now
-    c.record_of.new.pass _ c.in_err-known.ensures.cause c.in_err-known.ensures.err)
+    c.args.pass.now c.record_of.new.pass (g.T.Tap.state c.args.tap.now)
+    (g.T.Tap.state c.record_of.new.tap) (record {
+      latest = c.in_err-known.ensures.err;
+      keeps = c.in_err-known.ensures.same.keeps;
+      once = c.in_err-known.ensures.once;
+    }) _ c.in_err-known.ensures.cause)
 
 pub returns-in_err-known-clause-cause : goal.returns-in_err-known-clause-cause
 returns-in_err-known-clause-cause g c =

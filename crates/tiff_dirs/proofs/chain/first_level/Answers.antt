@@ -1,7 +1,7 @@
 use Rattle.std.proofs.Common.{◌≡◌, refl, ◌∙◌}
 use Rattle.std.proofs.lemmas.Result.{err_from_is_err_and}
 use Rattle.tiff_dirs.specs.declared.read_level.ReadLevel.{ReadLevel}
-use Rattle.tiff_dirs.specs.declared.shape.LevelShape.{LevelShape}
+use Rattle.tiff_dirs.specs.declared.shape.ReadShape.{ReadShape}
 use Rattle.tiff_format.specs.Block.{shape_at}
 use Rattle.tiff_format.specs.DirectoryFault.{directory_fault, outside_fault, count_fault}
 use Rattle.tiff_dirs.specs.Shape.{seen_shape}
@@ -30,7 +30,7 @@ returns-in_err-shape-clause-told g c = λ bytes is.
     let p = err_from_is_err_and r.result r.ensures.1 in
     let directory = c.in_ok-directory.ensures.told bytes is in
     rw (p.1, p.2) (finds_err (fields_fault form bytes at) (directory_fault form bytes at)
-    (λ (s : LevelShape). seen_shape s ≡ shape_at form bytes at) (IsLevelAt form bytes at)
+    (λ (s : ReadShape). seen_shape s ≡ shape_at form bytes at) (IsLevelAt form bytes at)
     c.in_err-shape.field-0.0 (c.in_err-shape.ensures.told bytes
     (g.met.B.ByteReader.lawful.same_bytes _ _ c.in_ok-directory.ensures.reader ∙ is) form at
     directory.1.entries)
@@ -54,7 +54,7 @@ pub returns-in_err-shape-clause-reader : goal.returns-in_err-shape-clause-reader
 returns-in_err-shape-clause-reader g c =
     let r = c.from_residual-in_err-shape in
     let p = err_from_is_err_and r.result r.ensures.1 in
-    rw (p.1, p.2) (leaves_err LevelShape ReadLevel g.B.ByteReader.keeps g.B.ByteReader.refuses
+    rw (p.1, p.2) (leaves_err ReadShape ReadLevel g.B.ByteReader.keeps g.B.ByteReader.refuses
     _ _ _ c.in_err-shape.field-0.0 g.met.B.ByteReader.lawful.chains
     c.in_ok-directory.ensures.reader c.in_err-shape.ensures.reader)
 

@@ -1,7 +1,7 @@
 use Rattle.std.proofs.Common.{◌≡◌, Option, refl, sym, ◌∙◌}
 use Rattle.std.proofs.lemmas.Result.{err_from_is_err_and}
 use Rattle.tiff_dirs.specs.declared.read_level.ReadLevel.{ReadLevel}
-use Rattle.tiff_dirs.specs.declared.shape.LevelShape.{LevelShape}
+use Rattle.tiff_dirs.specs.declared.shape.ReadShape.{ReadShape}
 use Rattle.tiff_format.specs.Block.{shape_at}
 use Rattle.tiff_format.specs.DirectoryFault.{outside_fault, count_fault}
 use Rattle.tiff_dirs.specs.Entries.{IsDirectoryAt}
@@ -36,7 +36,7 @@ returns-in_err-shape-clause-told g c = λ bytes is.
     ∙ same _ _ c.in_ok-directory.ensures.reader ∙ is in
     rw (p.1, p.2) (half_err form bytes (fields_fault form bytes at) at
     (shown_shape c.args.first.now) (shown_shape c.args.last.now)
-    (λ (s : LevelShape). seen_shape s ≡ shape_at form bytes at)
+    (λ (s : ReadShape). seen_shape s ≡ shape_at form bytes at)
     c.in_err-shape.field-0.0 (c.in_err-shape.ensures.told bytes is-3 form at directory.1.entries)
     (λ fault shown-fault. directory_is form bytes at ∙ rw (directory.0, shown-fault) refl))
 

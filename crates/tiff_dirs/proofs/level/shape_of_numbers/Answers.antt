@@ -2,7 +2,7 @@ use Rattle.std.proofs.Common.{◌≡◌, refl, ◌∙◌}
 use Rattle.std.proofs.lemmas.Result.{err_from_is_err_and}
 use Rattle.tiff_format.specs.DirectoryFault.{bits_fault, format_fault}
 use Rattle.tiff_dirs.specs.Numbers.{numbers_fault}
-use Rattle.tiff_dirs.specs.declared.shape.LevelShape.{LevelShape}
+use Rattle.tiff_dirs.specs.declared.shape.ReadShape.{ReadShape}
 use Rattle.tiff_format.specs.Block.{shape_at}
 use Rattle.tiff_dirs.specs.Shape.{seen_shape}
 use Rattle.tiff_dirs.proofs.Saying.{finds_err}
@@ -18,7 +18,7 @@ returns-in_err-test_bits-clause-told g c = λ bytes is form at has.
     let told = c.in_err-test_bits.ensures.told bytes
     (same _ _ c.in_ok-numbers.ensures.reader ∙ is) form at has n in
     rw (p.1, p.2) (finds_err (bits_fault form bytes at) (numbers_fault form bytes at)
-    (λ (x : Unit {0}). Unit {0}) (λ (s : LevelShape). seen_shape s ≡ shape_at form bytes at)
+    (λ (x : Unit {0}). Unit {0}) (λ (s : ReadShape). seen_shape s ≡ shape_at form bytes at)
     c.in_err-test_bits.field-0.0 told
     (λ fault shown. numbers_are form bytes at c.in_ok-numbers.numbers n ∙ rw shown refl))
 
@@ -44,7 +44,7 @@ returns-in_err-test_formats-clause-told g c = λ bytes is form at has.
     let told = c.in_err-test_formats.ensures.told bytes
     (same _ _ c.in_ok-test_bits.ensures.reader ∙ is-2) form at has n in
     rw (p.1, p.2) (finds_err (format_fault form bytes at) (numbers_fault form bytes at)
-    (λ (x : Unit {0}). Unit {0}) (λ (s : LevelShape). seen_shape s ≡ shape_at form bytes at)
+    (λ (x : Unit {0}). Unit {0}) (λ (s : ReadShape). seen_shape s ≡ shape_at form bytes at)
     c.in_err-test_formats.field-0.0 told
     (λ fault shown. numbers_are form bytes at c.in_ok-numbers.numbers n
     ∙ rw (bits, c.in_ok-test_values.ensures.0, shown) refl))

@@ -1,6 +1,6 @@
 -- A join keeps the rule, and what both have seen is what the view has then seen.
 use Rattle.std.proofs.Common.{rules, ◌≡◌, subst, arith}
-use Rattle.gen_board.specs.View.{ViewState, AfterJoin}
+use Rattle.gen_board.specs.View.{ViewState, ViewAfterJoin}
 use Rattle.gen_board.specs.Rule.{later_of}
 use Rattle.gen_board.specs.Seated.{view_state}
 use Rattle.gen_board.proofs.RuleLemmas.{joins}
@@ -38,7 +38,7 @@ returns g c =
     search rules in
     record {
       seen = subst
-          (λ (views : ViewState × ViewState). AfterJoin views.0 views.1
+          (λ (views : ViewState × ViewState). ViewAfterJoin views.0 views.1
           (view_state c.join_seat.new.seat c.take_later.new.seen.items))
           (λ i. (c.other.view_is i, c.v.view_is i))
           (after_join g.W.World.files own.seat other.seat c.join_seat.new.seat own.seen.items

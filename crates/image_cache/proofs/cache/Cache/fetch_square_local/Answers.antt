@@ -4,7 +4,7 @@ use Rattle.micro.specs.Runs.{IsAsked}
 use Rattle.pinned_tiles.specs.Pinned.{key_in, PinnedState, AsksFor, StaysAskedFor}
 use Rattle.pinned_tiles.specs.Cell.{has_cell, StandsFirst}
 use Rattle.image_cache.specs.Pass.{PassState}
-use Rattle.image_cache.specs.Call.{KeepsAllButRecent}
+use Rattle.image_cache.specs.Pass.{KeepsAllBut, recent_and_counts}
 use Rattle.image_cache.specs.Square.{left_top}
 use Rattle.image_cache.proofs.SquareLemmas.{meets_square, has_at}
 use Rattle.image_cache.proofs.cache.Cache.fetch_square_local.Goals as goal
@@ -17,7 +17,7 @@ returns-clause-met g c = λ _.
     let is = c.if-not-turn_to.false in
     let was = c.pass.view_is in
     let pinned = c.count_four.ensures.kept.pinned in
-    let kept : KeepsAllButRecent old new = search rules in
+    let kept : KeepsAllBut recent_and_counts old new = search rules in
     meets_square g.T.W.World.files c.args.known.now c.args.square.now cell old new c.in-Some.ensures.cell.is
     (c.in-Some.ensures.one.0 refl)
     (subst (λ (s : PassState). has_cell cell s.pinned.recent ≡ true) was

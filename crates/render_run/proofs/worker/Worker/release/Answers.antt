@@ -10,9 +10,9 @@ returns-in-Ok g c = record {
     meets = search rules;
     after = search rules;
     tallies = keeps_tally _ _ _ (tally_of c.args.self.now.pass)
-        (tally_of c.release_tile.new.pass) _ refl c.release_tile.ensures.same.recent.recent
-        c.release_tile.ensures.same.recent.counts.needs
-        c.release_tile.ensures.same.recent.counts.hits refl;
+        (tally_of c.release_tile.new.pass) _ refl c.release_tile.ensures.same.tiles
+        c.release_tile.ensures.same.counts.needs
+        c.release_tile.ensures.same.counts.hits refl;
   };
   pass = search rules;
   oldest = c.in-Ok.ensures.ok;
@@ -24,9 +24,9 @@ returns-in-Err-NothingHeld g c = record {
     meets = search rules;
     after = search rules;
     tallies = keeps_tally _ _ _ (tally_of c.args.self.now.pass)
-        (tally_of c.release_tile.new.pass) _ refl c.release_tile.ensures.same.recent.recent
-        c.release_tile.ensures.same.recent.counts.needs
-        c.release_tile.ensures.same.recent.counts.hits refl;
+        (tally_of c.release_tile.new.pass) _ refl c.release_tile.ensures.same.tiles
+        c.release_tile.ensures.same.counts.needs
+        c.release_tile.ensures.same.counts.hits refl;
   };
   pass = search rules;
   oldest = none_gone c.args.self.now.pass.pinned.holds c.release_tile.new.pass.pinned.holds

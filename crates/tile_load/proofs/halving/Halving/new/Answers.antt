@@ -88,8 +88,8 @@ invariant_of-result g c =
     c.generation-generation.ensures.valid c.level-level.ensures.value c.index.ensures.value
     c.grid-source.ensures.value c.cell_rect-rect.ensures.value c.cell_rect-rect.ensures.some in
     let channels = c.channels-channels.result in
-    let samples = c.in-Ok-zeros.samples.items in
-    let count = c.in-Ok-zeros.ensures.count in
+    let samples = c.in_ok-samples.samples.items in
+    let count = c.in_ok-samples.ensures.count in
     let fit = cells_fit state layout c.in-Ok.ensures.value cut c.requires.fits in
     let there : rect_bytes channels (rect_of layout cut key) ≤ max_cell_bytes =
     rw c.channels-channels.ensures.first
@@ -110,5 +110,5 @@ invariant_of-result g c =
         bytes = omega (arith, count, few);
       };
       told = told_begun state layout cut key names stored g.W.World.files samples
-          c.in-Ok.ensures.told c.in-Ok.ensures.value c.in-Ok-zeros.ensures.zeros;
+          c.in-Ok.ensures.told c.in-Ok.ensures.value c.in_ok-samples.ensures.zeros;
     }

@@ -1,4 +1,4 @@
-use Rattle.tiff_dirs.proofs.shape.LevelShape.dir.Goals as goal
+use Rattle.tiff_dirs.proofs.shape.ReadShape.dir.Goals as goal
 
 pub invariant_of-result : goal.invariant_of-result
 invariant_of-result c =

@@ -5,7 +5,7 @@ use Rattle.tiff_dirs.specs.Shape.{seen_shape}
 use Rattle.tiff_dirs.specs.ReadLevel.{lies_within}
 use Rattle.tiff_dirs.proofs.Finding.{first_below, none_below}
 use Rattle.tiff_format.proofs.FewBlocks.{few_blocks}
-use Rattle.tiff_dirs.proofs.shape.LevelShape.first_outside.Goals as goal
+use Rattle.tiff_dirs.proofs.shape.ReadShape.first_outside.Goals as goal
 
 pub overflow_cast-i-end : goal.overflow_cast-i-end
 overflow_cast-i-end c = omega (

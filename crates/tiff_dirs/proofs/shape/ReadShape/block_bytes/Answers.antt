@@ -1,6 +1,6 @@
 use Rattle.std.proofs.Common.{arith}
 use Rattle.std.proofs.Math.Nat.{mul-le-mul}
-use Rattle.tiff_dirs.proofs.shape.LevelShape.block_bytes.Goals as goal
+use Rattle.tiff_dirs.proofs.shape.ReadShape.block_bytes.Goals as goal
 
 pub overflow_mul-result : goal.overflow_mul-result
 overflow_mul-result c = omega (

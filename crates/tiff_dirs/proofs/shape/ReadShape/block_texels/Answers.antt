@@ -1,7 +1,7 @@
 use Rattle.std.proofs.Common.{◌≤◌, arith}
 use Rattle.std.proofs.Math.Nat.{mul-le-mul}
 use Rattle.tiff_format.specs.Limits.{max_side}
-use Rattle.tiff_dirs.proofs.shape.LevelShape.block_texels.Goals as goal
+use Rattle.tiff_dirs.proofs.shape.ReadShape.block_texels.Goals as goal
 
 pub returns-in-Some-clause-few : goal.returns-in-Some-clause-few
 returns-in-Some-clause-few c =

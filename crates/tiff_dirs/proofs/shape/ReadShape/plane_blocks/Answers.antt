@@ -1,5 +1,5 @@
 use Rattle.std.proofs.Common.{arith}
-use Rattle.tiff_dirs.proofs.shape.LevelShape.plane_blocks.Goals as goal
+use Rattle.tiff_dirs.proofs.shape.ReadShape.plane_blocks.Goals as goal
 
 pub pieces-requires-in-Some-clause-piece : goal.pieces-requires-in-Some-clause-piece
 pieces-requires-in-Some-clause-piece c =

@@ -2,7 +2,7 @@ use Rattle.std.proofs.Common.{◌≤◌, arith}
 use Rattle.std.proofs.Math.Nat.{mul-le-mul}
 use Rattle.tiff_format.specs.Limits.{max_channels}
 use Rattle.tiff_format.proofs.Planes.{plane_count}
-use Rattle.tiff_dirs.proofs.shape.LevelShape.blocks.Goals as goal
+use Rattle.tiff_dirs.proofs.shape.ReadShape.blocks.Goals as goal
 
 pub overflow_mul-result : goal.overflow_mul-result
 overflow_mul-result c =

@@ -1,0 +1,103 @@
+//! What README shows of embedding, as a program: a lookup in the middle of a file of a folder.
+#![tactic(auto)]
+
+ghost use Rattle.std.specs.Prelude.{◌≡◌, length};
+ghost use Rattle.texel_filter.specs.Image.{IsChannelCount};
+
+use host_folder::RealFolder;
+use image_cache::{Cache, Options};
+use std::env;
+use std::process::ExitCode;
+use tex_world::Folder;
+use texel_filter::{Filter, TexRequest, Wrap};
+use texture_sys::texture;
+use tiff_format::Cut;
+use waiter::Tries;
+
+/// The program's defaults, for one pass.
+const OPTIONS: Options = Options {
+    budget: 268435456,
+    shards: 8,
+    passes: 1,
+    handles: 100,
+    cut: Cut {
+        autotile: 64,
+        automip: true,
+    },
+};
+
+/// The first channel in the middle of level 0.
+const MIDDLE: TexRequest = TexRequest {
+    s: 32768,
+    t: 32768,
+    lod: 0,
+    swrap: Wrap::Clamp,
+    twrap: Wrap::Clamp,
+    filter: Filter::Bilinear,
+    nch: 1,
+};
+
+/// Why nothing is printed.
+#[derive(Clone, Copy, Debug, PartialEq, Eq)]
+enum LookError {
+    /// The words are not a folder and a name.
+    BadWords,
+    /// The folder is not entered, or it has no file of the name.
+    NoFile,
+    /// The cache refuses the file.
+    Refused,
+    /// No memory was found, or a line was not written.
+    Failed,
+}
+
+fn main(rt: HostRuntime) -> ExitCode {
+    match look(&rt) {
+        Ok(()) => ExitCode::SUCCESS,
+        Err(_) => ExitCode::FAILURE,
+    }
+}
+
+/// Prints the generation of the file and the values.
+fn look(rt: &HostRuntime) -> Result<(), LookError> {
+    let words: Vec<String> = match env::args(rt) {
+        Ok(words) => words.collect(rt.alloc()).map_err(|_| LookError::Failed)?,
+        Err(_) => return Err(LookError::BadWords),
+    };
+    let [_program, path, name] = words.as_slice() else {
+        return Err(LookError::BadWords);
+    };
+    let mut values = [0u16; 1];
+    let generation = values_of(rt, path, name, &MIDDLE, &mut values)?;
+    println!(rt; "{generation} {}", values[0]).map_err(|_| LookError::Failed)
+}
+
+/// Writes the values of a lookup in a file of a folder, and answers the generation.
+fn values_of(
+    rt: &HostRuntime,
+    path: &str,
+    name: &str,
+    request: &TexRequest,
+    values: &mut [u16],
+) -> Result<u32, LookError>
+    requires count { length values.old ≡ request.now.nch }
+    requires channels { IsChannelCount request.now.nch }
+{
+    let alloc = rt.alloc();
+    let mut folder = RealFolder::new(rt);
+    if let Err(_) = folder.enter(alloc, path) {
+        return Err(LookError::NoFile);
+    }
+    let Some(file) = folder.find(name) else {
+        return Err(LookError::NoFile);
+    };
+    let Ok((cache, mut pass)) = Cache::new(alloc, OPTIONS, folder.count()) else {
+        return Err(LookError::Failed);
+    };
+    let Ok(mut tap) = folder.tap(alloc) else {
+        return Err(LookError::Failed);
+    };
+    let waiter = Tries::new(100);
+    let looked = texture(&cache, &waiter, &mut pass, &mut tap, file, request, values);
+    folder.back(tap);
+    looked.map_err(|_| LookError::Refused)
+}
