@@ -45,9 +45,12 @@ pub fn udim(alloc: Global, name: &str, s: i32, t: i32) -> Result<Udim, NoMemory>
     let Some(number) = tile_number(s, t) else {
         return Ok(Udim::Outside);
     };
-    Ok(Udim::Tile {
-        name: numbered(alloc, before, number, behind)?,
-        s: within_tile(s),
-        t: within_tile(t),
-    })
+    match numbered(alloc, before, number, behind) {
+        Ok(name) => Ok(Udim::Tile {
+            name,
+            s: within_tile(s),
+            t: within_tile(t),
+        }),
+        Err(_) => Err(NoMemory),
+    }
 }
