@@ -163,7 +163,7 @@ def check_folder(program, folder):
     budgets = [it.split()[0] for it in rows[1:-1]]
     # its four cells are needed each time, and two cells are no more than kept between
     needs = "80 cells were needed, and 0 of them were among the two that their worker had needed last"
-    return (wrong + compare("hit_curve.py", budgets, ["1", "2", "4"]) + compare("hit_curve.py", rows[-1], needs)
+    return (wrong + compare("hit_curve.py", budgets, ["4", "2", "1"]) + compare("hit_curve.py", rows[-1], needs)
             + compare("its picture", (folder / "curve.svg").read_text(encoding="utf-8").count("<polyline"), 2))
 
 
@@ -224,8 +224,8 @@ def check_curve(program, folder):
     rows = printed(TOOLS / "hit_curve.py", TOP / "demo" / "textures", folder / "scene", "--program", program,
                    *curve.WORDS).splitlines()[1:-1]
     reads = [int(it.split()[2]) for it in rows]
-    wanted = [loads(1024 * 2 ** k) for k in range(1, 7)]
-    return compare("reads over the budget", [abs(it - reads[-1] - (cells - wanted[-1])) <= 2
+    wanted = [loads(1024 * 2 ** k) for k in range(6, 0, -1)]
+    return compare("reads over the budget", [abs(it - reads[0] - (cells - wanted[0])) <= 2
                                              for it, cells in zip(reads, wanted)], [True] * 6)
 
 

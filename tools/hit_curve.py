@@ -1,12 +1,12 @@
 #!/usr/bin/env python3
-"""How much memory does a scene need? Runs a list under budgets from 1 MiB up, each twice the one before, and draws how
-often the files are read, and how long it takes, over the budget.
+"""How much memory does a scene need? Runs a list under budgets from 256 MiB down to 1 MiB, each half the one before, and
+draws how often the files are read, and how long it takes, over the budget.
 
-    python3 tools/hit_curve.py FOLDER LIST [--least SIZE] [--most SIZE] [--svg FILE] [--program FILE] [WORDS]
+    python3 tools/hit_curve.py FOLDER LIST [--most SIZE] [--least SIZE] [--svg FILE] [--program FILE] [WORDS]
 
 A SIZE is in MiB, or has K, M or G behind it. WORDS are further ones of texcache, as --workers 1. It prints a row for
-each budget: the reads, the MiB that were read, the seconds of a processor, and the greatest resident memory; where the
-rows do not change any more, the scene fits. Reads are calls by which the program read, as the system counts them
+each budget: the reads, the MiB that were read, the seconds of a processor, and the greatest resident memory; down to
+where the rows begin to change, the scene fits. A run that takes longer than --seconds (20) ends the rows. Reads are calls by which the program read, as the system counts them
 (/proc/PID/io), without those of a list as long that asks nothing of a file; so they are those of the files. What the
 program's own lines tell are the needs and the hits of the workers' two latest cells, which no budget changes: they
 stand in the last line.
@@ -17,9 +17,11 @@ of tools/unproved.py.
 """
 import argparse
 import os
+import signal
 import subprocess
 import sys
 import tempfile
+import threading
 from collections import namedtuple
 from pathlib import Path
 from xml.sax.saxutils import escape
@@ -64,47 +66,57 @@ def last_of(stream):
     return tail.decode(errors="replace").splitlines()
 
 
-def run(program, folder, requests, words, budget):
-    """Runs the list under a budget."""
+def run(program, folder, requests, words, budget, seconds):
+    """Runs the list under a budget; None where that takes longer."""
     with open(requests, "rb") as given:
         child = subprocess.Popen([program, *words, "--budget", str(budget), "--", folder], stdin=given,
                                  stdout=subprocess.PIPE, stderr=subprocess.DEVNULL)
+    timer = threading.Timer(seconds, child.kill)
+    timer.start()
     closing = [it.split(" ") for it in last_of(child.stdout) if it.startswith("worker ")]
     os.waitid(os.P_PID, child.pid, os.WEXITED | os.WNOWAIT)
     found = numbers_of(child.pid)
+    timer.cancel()
     _, status, used = os.wait4(child.pid, 0)
     child.returncode = os.waitstatus_to_exitcode(status)
+    if child.returncode == -signal.SIGKILL:
+        return None
     if child.returncode not in (0, 1):
         sys.exit(f"hit_curve.py: texcache ended with status {child.returncode}")
     return Run(budget, found["syscr"], found["rchar"], used.ru_utime + used.ru_stime, 1024 * used.ru_maxrss, closing)
 
 
-def runs_of(program, folder, requests, words, sizes):
-    """A run under each budget, with the reads of the files alone."""
+def runs_of(program, folder, requests, words, sizes, seconds):
+    """A run under each budget, with the reads of the files alone, until one takes too long."""
     long = Path(requests).stat().st_size
     with tempfile.NamedTemporaryFile() as idle:
         # as long, and with work for two workers that asks nothing of a file
         idle.write(b"drop\ndrop\n".ljust(long, b"#"))
         idle.flush()
-        own = run(program, folder, idle.name, words, sizes[0])
-    found = [run(program, folder, requests, words, it) for it in sizes]
-    return [it._replace(calls=it.calls - own.calls, read=it.read - own.read) for it in found]
+        own = run(program, folder, idle.name, words, sizes[0], seconds)
+    for size in sizes:
+        found = own and run(program, folder, requests, words, size, seconds)
+        if not found:
+            print(f"{size_text(size):>10} takes more than {seconds:g} s; --seconds allows more")
+            return
+        yield found._replace(calls=found.calls - own.calls, read=found.read - own.read)
 
 
-def budgets(least, most):
-    while least < most:
-        yield least
-        least *= 2
-    yield most
+def budgets(most, least):
+    while most > least:
+        yield most
+        most //= 2
+    yield least
 
 
-def table(runs):
-    yield f"{'budget':>10} {'reads':>10} {'MiB read':>10} {'seconds':>9} {'memory MiB':>11}"
-    for it in runs:
-        yield (f"{size_text(it.budget):>10} {it.calls:>10} {it.read / MIB:>10.1f} {it.seconds:>9.3f} "
-               f"{it.memory / MIB:>11.1f}")
-    needs, hits = (sum(int(it[place]) for it in runs[-1].closing) for place in (3, 5))
-    yield f"{needs} cells were needed, and {hits} of them were among the two that their worker had needed last"
+def row(it):
+    return (f"{size_text(it.budget):>10} {it.calls:>10} {it.read / MIB:>10.1f} {it.seconds:>9.3f} "
+            f"{it.memory / MIB:>11.1f}")
+
+
+def needed(it):
+    needs, hits = (sum(int(line[place]) for line in it.closing) for place in (3, 5))
+    return f"{needs} cells were needed, and {hits} of them were among the two that their worker had needed last"
 
 
 def line(values, left, top, width, height):
@@ -153,6 +165,7 @@ def main():
     asked.add_argument("--svg", type=Path)
     asked.add_argument("--least", type=size_of, default=MIB)
     asked.add_argument("--most", type=size_of, default=256 * MIB)
+    asked.add_argument("--seconds", type=float, default=20)
     asked.add_argument("--title")
     asked.add_argument("--reads-only", action="store_true")
     asked.add_argument("--check", action="store_true")
@@ -160,9 +173,16 @@ def main():
     program = Path(given.program).resolve() if given.program else usual("texcache")
     if not program.is_file():
         sys.exit(f"hit_curve.py: there is no program {program}")
-    runs = runs_of(str(program), os.path.abspath(given.folder), given.list, words,
-                   list(budgets(given.least, given.most)))
-    print(*table(runs), sep="\n")
+    print(f"{'budget':>10} {'reads':>10} {'MiB read':>10} {'seconds':>9} {'memory MiB':>11}", flush=True)
+    runs = []
+    for it in runs_of(str(program), os.path.abspath(given.folder), given.list, words,
+                      list(budgets(given.most, given.least)), given.seconds):
+        runs.append(it)
+        print(row(it), flush=True)
+    if not runs:
+        sys.exit(1)
+    print(needed(runs[0]))
+    runs.reverse()
     if given.svg:
         title = given.title or f"{Path(given.list).name} over {Path(given.folder).resolve().name}"
         drawn = svg(runs, title, given.reads_only)

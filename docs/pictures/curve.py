@@ -17,7 +17,7 @@ HERE = Path(__file__).resolve().parent
 TOP = HERE.parent.parent
 FOLDER = TOP / "demo" / "textures"
 ONE, WIDTH, HEIGHT, PICTURES = 65536, 48, 32, 2
-WORDS = ["--least", "2K", "--most", "64K", "--workers", "1", "--shards", "1"]
+WORDS = ["--least", "2K", "--most", "64K", "--workers", "1", "--shards", "1", "--seconds", "600"]
 
 
 def middles(many):
