@@ -65,8 +65,8 @@ blocks, depths, tile, offsets = 8 * (side // 16) ** 2, 4096, 4352, 8192
 with open(name, "wb") as file:
     file.write(b"II*\0" + struct.pack("<I", 8))
     while side:
-        entries = [(256, side), (257, side), (258, depths), (259, 1), (262, 1), (277, 8), (284, 2), (322, 16), (323, 16),
-                   (324, offsets)]
+        entries = [(256, side), (257, side), (258, depths), (259, 1), (262, 1), (277, 8), (284, 2), (322, 16),
+                   (323, 16), (324, offsets)]
         file.write(struct.pack("<H", len(entries)))
         for tag, value in entries:
             kind, count = {258: (3, 8), 324: (4, blocks)}.get(tag, (4, 1))

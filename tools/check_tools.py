@@ -3,7 +3,7 @@
 
     python3 tools/check_tools.py [PROGRAM]
 
-Where no program is named it is the proved one that ./build or the gate left.
+Where no program is named it is the proved one that ./build or the gate left, or else the unproved one.
 """
 import subprocess
 import sys
@@ -17,6 +17,7 @@ sys.path[:0] = [str(it) for it in (TOOLS, TOP / "demo", TOP / "docs" / "pictures
 import curve  # noqa: E402
 from lookups import Lookup  # noqa: E402
 from meanings import ending, fault  # noqa: E402
+from unproved import usual  # noqa: E402
 
 # A list, what two workers wrote for it, and its explanation.
 LIST = """# three rounds
@@ -98,7 +99,8 @@ ROUNDS = [1, 1, 1, 1, 2, 2, 2, 2, 3]
 
 # What TIFF 6.0 and the register of compressions mean by the numbers of a fault, in a word of what is said.
 FAULTS = {
-    (1,): "header", (2,): "II nor", (3,): "version", (4,): "directory", (5, 256): "ImageWidth", (5, 273): "StripOffsets",
+    (1,): "header", (2,): "II nor", (3,): "version", (4,): "directory",
+    (5, 256): "ImageWidth", (5, 273): "StripOffsets",
     (6, 324): "TileOffsets", (7, 258, 1): "has 1", (7, 259, 2): "CCITT", (7, 259, 5): "LZW", (7, 259, 7): "JPEG",
     (7, 259, 8): "Deflate", (7, 259, 32773): "PackBits", (7, 259, 32946): "Deflate", (7, 262, 3): "palette",
     (7, 262, 5): "CMYK", (7, 262, 6): "YCbCr", (7, 284, 3): "PlanarConfiguration", (7, 339, 2): "signed",
@@ -230,7 +232,7 @@ def check_curve(program, folder):
 
 
 def main():
-    program = Path(sys.argv[1] if len(sys.argv) > 1 else TOP / "crates" / "texcache" / "out" / "texcache").resolve()
+    program = Path(sys.argv[1]).resolve() if len(sys.argv) > 1 else usual("texcache")
     wrong = sum(compare(f"uv.py {' '.join(words)}", printed(TOOLS / "uv.py", *words), wanted + "\n")
                 for words, wanted in NUMBERS)
     with tempfile.TemporaryDirectory() as room:

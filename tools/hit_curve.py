@@ -1,15 +1,15 @@
 #!/usr/bin/env python3
-"""How much memory does a scene need? Runs a list under budgets from 256 MiB down to 1 MiB, each half the one before, and
-draws how often the files are read, and how long it takes, over the budget.
+"""How much memory does a scene need? Runs a list under budgets from 256 MiB down to 1 MiB, each half the one before,
+and draws how often the files are read, and how long it takes, over the budget.
 
     python3 tools/hit_curve.py FOLDER LIST [--most SIZE] [--least SIZE] [--svg FILE] [--program FILE] [WORDS]
 
 A SIZE is in MiB, or has K, M or G behind it. WORDS are further ones of texcache, as --workers 1. It prints a row for
 each budget: the reads, the MiB that were read, the seconds of a processor, and the greatest resident memory; down to
-where the rows begin to change, the scene fits. A run that takes longer than --seconds (20) ends the rows. Reads are calls by which the program read, as the system counts them
-(/proc/PID/io), without those of a list as long that asks nothing of a file; so they are those of the files. What the
-program's own lines tell are the needs and the hits of the workers' two latest cells, which no budget changes: they
-stand in the last line.
+where the rows begin to change, the scene fits. A run that takes longer than --seconds (20) ends the rows. Reads are
+calls by which the program read, as the system counts them (/proc/PID/io), without those of a list as long that asks
+nothing of a file; so they are those of the files. What the program's own lines tell are the needs and the hits of the
+workers' two latest cells, which no budget changes: they stand in the last line.
 
 With --reads-only the picture has the reads alone, which with one worker are the same at each run, and with --check it
 is compared with the file and not written. The program is the proved one where there is one, and else the unproved one
