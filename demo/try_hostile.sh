@@ -1,11 +1,14 @@
 #!/usr/bin/env bash
 # Runs the real program over files that are no pictures, or that lie about themselves, and compares
-# what it prints. Each gets its named line at once, in little memory. The sparse files have 5 GiB and
-# take no room on the disk.
+# what it prints. Each gets its named line at once, in little memory, but for blocks.tif: eight planes in
+# tiles of 16 by 16, whose levels all share the offsets of the first. HOSTILE_SIDE=131072 makes it as large
+# as it may be, a file of 2 GiB whose offsets take 5.3 GiB of memory. The sparse files have 5 GiB and take no
+# room on the disk. Another program may be named.
 set -u
 top=$(cd "$(dirname "${BASH_SOURCE[0]}")/.." && pwd) || exit 1
 folder=$(mktemp -d) || exit 1
 trap 'chmod -R u+rw "$folder"; rm -rf "$folder"' EXIT
+program=${1:-$top/texcache}
 picture=$top/crates/texcache/data/A.tif
 wide=$top/crates/texcache/data/big.tif
 
@@ -52,6 +55,32 @@ cp "$picture" "$folder/secret.tif"; chmod 000 "$folder/secret.tif"
 cp "$picture" "$folder/sparse.tif"; truncate -s 5G "$folder/sparse.tif"
 truncate -s 5G "$folder/zeros.tif"
 
+python3 - "$folder/blocks.tif" "${HOSTILE_SIDE:-4096}" << 'END'
+import struct
+import sys
+
+name, side = sys.argv[1], int(sys.argv[2])
+# at 4096 eight times 8 bits, at 4352 the one tile that all are, at 8192 the offsets
+blocks, depths, tile, offsets = 8 * (side // 16) ** 2, 4096, 4352, 8192
+with open(name, "wb") as file:
+    file.write(b"II*\0" + struct.pack("<I", 8))
+    while side:
+        entries = [(256, side), (257, side), (258, depths), (259, 1), (262, 1), (277, 8), (284, 2), (322, 16),
+                   (323, 16), (324, offsets)]
+        file.write(struct.pack("<H", len(entries)))
+        for tag, value in entries:
+            kind, count = {258: (3, 8), 324: (4, blocks)}.get(tag, (4, 1))
+            file.write(struct.pack("<HHII", tag, kind, count, value))
+        side //= 2
+        file.write(struct.pack("<I", file.tell() + 4 if side else 0))
+    file.write(bytes(depths - file.tell()) + struct.pack("<8H", *[8] * 8))
+    file.write(bytes(tile - file.tell()) + bytes([7]) * 256)
+    file.write(bytes(offsets - file.tell()))
+    part = struct.pack("<I", tile) * 2048
+    for _ in range(blocks // 2048):
+        file.write(part)
+END
+
 secret='read fault'
 [ "$(id -u)" = 0 ] && secret='pixels 1 1 0' # root reads any file
 
@@ -73,12 +102,14 @@ ask sparse.tif 'pixels 1 1 0'
 ask beyond.tif 'pixels 1 1 1799'
 ask folder.tif 'no such file'
 ask secret.tif "$secret"
+ask blocks.tif 'pixels 1 8 1799 1799 1799 1799 1799 1799 1799 1799'
 
-"$top/texcache" "$folder" < "$folder.list" > "$folder.got" 2> "$folder.error"
+"$program" "$folder" < "$folder.list" > "$folder.got" 2> "$folder.error"
 status=$?
 result=0
 grep -v '^worker \|^total ' "$folder.got" | diff "$folder.want" - || result=1
-[ -s "$folder.error" ] && { cat "$folder.error"; result=1; }
+# the program says nothing there, and the script that runs it whether it is proved
+grep -v '^texcache: not proved yet\|^unproved.py: building' "$folder.error" && result=1
 [ "$status" = 1 ] || { echo "status $status, not 1"; result=1; }
 rm -f "$folder.list" "$folder.want" "$folder.got" "$folder.error"
 [ "$result" = 0 ] && echo 'each hostile file got its line'

@@ -4,8 +4,8 @@ texcache says of what they write with the line in front of each.
 
     python3 tools/check_pictures.py [PROGRAM]
 
-Where no program is named it is the proved one that ./build or the gate left. Of a command for a refusal it tries
-those that read in.tif, which is compressed (Deflate): what they write has to be accepted.
+Where no program is named it is the proved one that ./build or the gate left, or else the unproved one. Of a command
+for a refusal it tries those that read in.tif, which is compressed (Deflate): what they write has to be accepted.
 """
 import re
 import shlex
@@ -16,6 +16,9 @@ import sys
 import tempfile
 import zlib
 from pathlib import Path
+
+sys.path.insert(0, str(Path(__file__).resolve().parent))
+from unproved import usual  # noqa: E402
 
 TOP = Path(__file__).resolve().parent.parent
 WIDTH, HEIGHT = 200, 120
@@ -77,10 +80,7 @@ def info(program, folder):
 
 
 def main():
-    program = sys.argv[1] if len(sys.argv) > 1 else str(TOP / "crates" / "texcache" / "out" / "texcache")
-    if not Path(program).is_file():
-        print("check_pictures.py: the program is not built, so no command was tried; ./build builds it")
-        return
+    program = sys.argv[1] if len(sys.argv) > 1 else usual("texcache")
     text = (TOP / "docs" / "PICTURES.md").read_text(encoding="utf-8")
     rows = ROW.findall(text) + [("info ", it) for it in HELP.findall(text) if " in." in it]
     if len(ROW.findall(text)) < 9 or len(HELP.findall(text)) < 10:

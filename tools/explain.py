@@ -13,7 +13,7 @@ from pathlib import Path
 
 sys.path[:0] = [str(Path(__file__).resolve().parent), str(Path(__file__).resolve().parent.parent / "demo")]
 from counts import MOST_OF_A_ROUND, texels  # noqa: E402
-from meanings import refusal  # noqa: E402
+from meanings import ending, refusal  # noqa: E402
 
 
 # how many values of a region are shown
@@ -82,7 +82,8 @@ def explained(requests, lines):
     closing = [it for it in lines if it.startswith("worker ")]
     workers = max(1, len(closing))
     for (number, request), (of_round, worker), line in zip(requests, dealt([it for _, it in requests], workers), lines):
-        yield f"line {number}, round {of_round + 1}, worker {worker}: {request}"
+        # how many workers there were, the lines tell that close a run
+        yield f"line {number}, round {of_round + 1}{f', worker {worker}' * bool(closing)}: {request}"
         yield f"    {line}"
         found = refusal(line)
         if not found:
@@ -101,8 +102,8 @@ def main():
     if len(sys.argv) != 3:
         sys.exit("usage: explain.py LIST ANSWERS")
     asked, lines = (Path(it).read_text(encoding="utf-8") for it in sys.argv[1:])
-    if lines.startswith("bad ") and lines.count("\n") == 1 and not lines.startswith("bad file"):
-        sys.exit(f"no request was answered: {lines.strip()} (docs/REQUESTS.md, \"Causes\" and \"The command line\")")
+    if ending(lines.strip()):
+        sys.exit(f"no request was answered: {lines.strip()}: {ending(lines.strip())}")
     print(*explained(list(requests_of(asked)), lines.splitlines()), sep="\n")
 
 

@@ -4,8 +4,8 @@
     python3 tools/folder_info.py FOLDER
 
 A line has the sides, channels and bits, the stored levels and all levels, how level 0 is cut in the file, and how
-many bytes the texels of all levels take in the cache, which counts two for each sample. It asks the program itself,
-the proved one where ./build made it (docs/REQUESTS.md).
+many bytes the texels of all levels take in the cache, which counts two for each sample. It asks the program itself
+(docs/REQUESTS.md), the proved one where there is one, and else the unproved one of tools/unproved.py.
 """
 import os
 import shlex
@@ -15,8 +15,8 @@ from pathlib import Path
 
 sys.path.insert(0, str(Path(__file__).resolve().parent))
 from meanings import refusal  # noqa: E402
+from unproved import usual  # noqa: E402
 
-PROGRAM = Path(__file__).resolve().parent.parent / "texcache"
 MOST_LINES = 1000
 
 
@@ -87,7 +87,8 @@ def lines_of(program, folder):
 def main():
     if len(sys.argv) not in (2, 3):
         sys.exit("usage: folder_info.py FOLDER [PROGRAM]")
-    print(*lines_of(sys.argv[2] if len(sys.argv) == 3 else PROGRAM, os.path.abspath(sys.argv[1])), sep="\n")
+    program = sys.argv[2] if len(sys.argv) == 3 else usual("texcache")
+    print(*lines_of(program, os.path.abspath(sys.argv[1])), sep="\n")
 
 
 if __name__ == "__main__":

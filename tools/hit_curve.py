@@ -1,28 +1,55 @@
 #!/usr/bin/env python3
-"""How much memory does a scene need? Runs a list under budgets from 1 MiB up, each twice the one before, and draws how
-often the files are read, and how long it takes, over the budget.
+"""How much memory does a scene need? Runs a list under budgets from 256 MiB down to 1 MiB, each half the one before,
+and draws how often the files are read, and how long it takes, over the budget.
 
-    python3 tools/hit_curve.py FOLDER LIST [--program FILE] [--svg FILE] [--least MIB] [--most MIB]
+    python3 tools/hit_curve.py FOLDER LIST [--most SIZE] [--least SIZE] [--svg FILE] [--program FILE] [WORDS]
 
-It prints a row for each budget: the calls by which the program read, the bytes that it read, its processor time, and
-its greatest resident memory. The calls are counted by the system (/proc/PID/io): each is a read of a file, or of the
-list. What the program's own lines tell are the needs and the hits of the workers' two latest cells, which do not
-depend on the budget. Where the rows do not change any more, the scene fits.
+A SIZE is in MiB, or has K, M or G behind it. WORDS are further ones of texcache, as --workers 1. It prints a row for
+each budget: the reads, the MiB that were read, the seconds of a processor, and the greatest resident memory; down to
+where the rows begin to change, the scene fits. A run that takes longer than --seconds (20) ends the rows. Reads are
+calls by which the program read, as the system counts them (/proc/PID/io), without those of a list as long that asks
+nothing of a file; so they are those of the files. What the program's own lines tell are the needs and the hits of the
+workers' two latest cells, which no budget changes: they stand in the last line.
+
+With --reads-only the picture has the reads alone, which with one worker are the same at each run, and with --check it
+is compared with the file and not written. The program is the proved one where there is one, and else the unproved one
+of tools/unproved.py.
 """
 import argparse
 import os
+import signal
 import subprocess
 import sys
+import tempfile
+import threading
 from collections import namedtuple
 from pathlib import Path
 from xml.sax.saxutils import escape
 
-TOP = Path(__file__).resolve().parent.parent
-MIB = 2 ** 20
-INK, BLUE, AMBER = "#1f2430", "#3b6ea8", "#c98a1b"
+sys.path.insert(0, str(Path(__file__).resolve().parent))
+from unproved import usual  # noqa: E402
 
-# A run under a budget: the calls that read, the bytes that they read, the seconds of a processor, and bytes of memory.
-Run = namedtuple("Run", "budget calls read seconds memory")
+KIB, MIB, GIB = 2 ** 10, 2 ** 20, 2 ** 30
+INK, BLUE, AMBER = "#1f2430", "#3b6ea8", "#c98a1b"
+TAIL = 4096
+
+# A run under a budget: the calls that read, the bytes that they read, the seconds of a processor, the bytes of memory,
+# and the lines that close it.
+Run = namedtuple("Run", "budget calls read seconds memory closing")
+
+
+def size_of(text):
+    """The bytes that a SIZE names."""
+    units = {"K": KIB, "M": MIB, "G": GIB}
+    number, unit = (text[:-1], units[text[-1]]) if text[-1:] in units else (text, MIB)
+    return int(float(number) * unit)
+
+
+def size_text(size):
+    for unit, letter in ((GIB, "G"), (MIB, "M")):
+        if size >= unit:
+            return f"{size / unit:g} {letter}iB"
+    return f"{size / KIB:g} KiB"
 
 
 def numbers_of(pid):
@@ -31,44 +58,77 @@ def numbers_of(pid):
     return {name: int(value) for name, value in (it.split(": ") for it in lines)}
 
 
-def run(program, folder, requests, budget):
-    """Runs the list under a budget."""
-    words = [program, "--budget", str(budget), "--", folder]
+def last_of(stream):
+    """The end of what a stream gives."""
+    tail = b""
+    while part := stream.read1(65536):
+        tail = (tail + part)[-TAIL:]
+    return tail.decode(errors="replace").splitlines()
+
+
+def run(program, folder, requests, words, budget, seconds):
+    """Runs the list under a budget; None where that takes longer."""
     with open(requests, "rb") as given:
-        child = subprocess.Popen(words, stdin=given, stdout=subprocess.DEVNULL, stderr=subprocess.DEVNULL)
-        os.waitid(os.P_PID, child.pid, os.WEXITED | os.WNOWAIT)
-        found = numbers_of(child.pid)
-        _, status, used = os.wait4(child.pid, 0)
+        child = subprocess.Popen([program, *words, "--budget", str(budget), "--", folder], stdin=given,
+                                 stdout=subprocess.PIPE, stderr=subprocess.DEVNULL)
+    timer = threading.Timer(seconds, child.kill)
+    timer.start()
+    closing = [it.split(" ") for it in last_of(child.stdout) if it.startswith("worker ")]
+    os.waitid(os.P_PID, child.pid, os.WEXITED | os.WNOWAIT)
+    found = numbers_of(child.pid)
+    timer.cancel()
+    _, status, used = os.wait4(child.pid, 0)
     child.returncode = os.waitstatus_to_exitcode(status)
-    if child.returncode > 1:
+    if child.returncode == -signal.SIGKILL:
+        return None
+    if child.returncode not in (0, 1):
         sys.exit(f"hit_curve.py: texcache ended with status {child.returncode}")
-    return Run(budget, found["syscr"], found["rchar"], used.ru_utime + used.ru_stime, 1024 * used.ru_maxrss)
+    return Run(budget, found["syscr"], found["rchar"], used.ru_utime + used.ru_stime, 1024 * used.ru_maxrss, closing)
 
 
-def budgets(least, most):
-    while least < most:
-        yield least
-        least *= 2
-    yield most
+def runs_of(program, folder, requests, words, sizes, seconds):
+    """A run under each budget, with the reads of the files alone, until one takes too long."""
+    long = Path(requests).stat().st_size
+    with tempfile.NamedTemporaryFile() as idle:
+        # as long, and with work for two workers that asks nothing of a file
+        idle.write(b"drop\ndrop\n".ljust(long, b"#"))
+        idle.flush()
+        own = run(program, folder, idle.name, words, sizes[0], seconds)
+    for size in sizes:
+        found = own and run(program, folder, requests, words, size, seconds)
+        if not found:
+            print(f"{size_text(size):>10} takes more than {seconds:g} s; --seconds allows more")
+            return
+        yield found._replace(calls=found.calls - own.calls, read=found.read - own.read)
 
 
-def table(runs):
-    yield f"{'budget MiB':>10} {'reads':>10} {'MiB read':>10} {'seconds':>9} {'memory MiB':>11}"
-    for it in runs:
-        yield (f"{it.budget / MIB:>10.0f} {it.calls:>10} {it.read / MIB:>10.1f} {it.seconds:>9.3f} "
-               f"{it.memory / MIB:>11.1f}")
+def budgets(most, least):
+    while most > least:
+        yield most
+        most //= 2
+    yield least
+
+
+def row(it):
+    return (f"{size_text(it.budget):>10} {it.calls:>10} {it.read / MIB:>10.1f} {it.seconds:>9.3f} "
+            f"{it.memory / MIB:>11.1f}")
+
+
+def needed(it):
+    needs, hits = (sum(int(line[place]) for line in it.closing) for place in (3, 5))
+    return f"{needs} cells were needed, and {hits} of them were among the two that their worker had needed last"
 
 
 def line(values, left, top, width, height):
-    """The places of values along a picture, the greatest at its top."""
-    most = max([*values, 1e-9])
+    """The places of values along a picture, the greatest below its top."""
+    most = 1.15 * max([*values, 1e-9])
     step = width / max(1, len(values) - 1)
     return [(left + step * k, top + height - height * value / most) for k, value in enumerate(values)]
 
 
-def svg(runs, title):
-    """A picture of the reads and of the seconds over the budget."""
-    left, top, width, height = 70, 50, 520, 220
+def svg(runs, title, is_reads_only):
+    """A picture of the reads, and of the seconds, over the budget."""
+    left, top, width, height = 70, 60, 520, 220
     parts = [f'<rect x="{left}" y="{top}" width="{width}" height="{height}" fill="none" stroke="{INK}"/>']
 
     def words(x, y, text, fill=INK, anchor="middle"):
@@ -76,40 +136,60 @@ def svg(runs, title):
         parts.append(f"<text {place}>{escape(text)}</text>")
 
     words(left, 24, title, anchor="start")
-    for values, fill, name, row in (([it.calls for it in runs], BLUE, "reads", 0),
-                                    ([it.seconds for it in runs], AMBER, "seconds of a processor", 1)):
+    rows = [([it.calls for it in runs], BLUE, f"reads, at most {max(it.calls for it in runs)}")]
+    if not is_reads_only:
+        rows.append(([it.seconds for it in runs], AMBER,
+                     f"seconds of a processor, at most {max(it.seconds for it in runs):.3g}"))
+    for row, (values, fill, name) in enumerate(rows):
         places = line(values, left, top, width, height)
         path = " ".join(f"{x:.1f},{y:.1f}" for x, y in places)
         parts.append(f'<polyline points="{path}" fill="none" stroke="{fill}" stroke-width="2"/>')
-        most = max(values)
-        words(left + 130 + 220 * row, 42, f"{name}, at most {most:.3g}", fill, "start")
-    for (x, _), it in zip(line([0] * len(runs), left, top, width, height), runs):
-        words(x, top + height + 18, f"{it.budget / MIB:.0f}")
-    words(left + width / 2, top + height + 38, "budget, MiB")
-    head = (f'<svg xmlns="http://www.w3.org/2000/svg" width="{left + width + 40}" height="{top + height + 50}" '
+        words(left + 220 * row, 46, name, fill, "start")
+    for (x, y), it in zip(line([it.calls for it in runs], left, top, width, height), runs):
+        parts.append(f'<circle cx="{x:.1f}" cy="{y:.1f}" r="3" fill="{BLUE}"/>')
+        words(x + 6, y - 6, str(it.calls), BLUE, "start")
+        words(x, top + height + 18, size_text(it.budget))
+    words(left + width / 2, top + height + 38, "budget")
+    head = (f'<svg xmlns="http://www.w3.org/2000/svg" width="{left + width + 70}" height="{top + height + 50}" '
             f'font-family="sans-serif">')
     ground = '<rect width="100%" height="100%" fill="#ffffff"/>'
     return "\n".join([head, ground, *parts, "</svg>"]) + "\n"
 
 
 def main():
-    asked = argparse.ArgumentParser(description=__doc__, formatter_class=argparse.RawDescriptionHelpFormatter)
+    asked = argparse.ArgumentParser(description=__doc__, formatter_class=argparse.RawDescriptionHelpFormatter,
+                                    allow_abbrev=False)
     asked.add_argument("folder")
     asked.add_argument("list")
-    asked.add_argument("--program", default=str(TOP / "crates" / "texcache" / "out" / "texcache"))
-    asked.add_argument("--svg")
-    asked.add_argument("--least", type=float, default=1)
-    asked.add_argument("--most", type=float, default=256)
-    words = asked.parse_args()
-    if not Path(words.program).is_file():
-        sys.exit("hit_curve.py: the program is not built; ./build builds it")
-    program = str(Path(words.program).resolve())
-    runs = [run(program, os.path.abspath(words.folder), words.list, int(it * MIB))
-            for it in budgets(words.least, words.most)]
-    print(*table(runs), sep="\n")
-    if words.svg:
-        title = f"{Path(words.list).name} over {Path(words.folder).name}"
-        Path(words.svg).write_text(svg(runs, title), encoding="utf-8")
+    asked.add_argument("--program")
+    asked.add_argument("--svg", type=Path)
+    asked.add_argument("--least", type=size_of, default=MIB)
+    asked.add_argument("--most", type=size_of, default=256 * MIB)
+    asked.add_argument("--seconds", type=float, default=20)
+    asked.add_argument("--title")
+    asked.add_argument("--reads-only", action="store_true")
+    asked.add_argument("--check", action="store_true")
+    given, words = asked.parse_known_args()
+    program = Path(given.program).resolve() if given.program else usual("texcache")
+    if not program.is_file():
+        sys.exit(f"hit_curve.py: there is no program {program}")
+    print(f"{'budget':>10} {'reads':>10} {'MiB read':>10} {'seconds':>9} {'memory MiB':>11}", flush=True)
+    runs = []
+    for it in runs_of(str(program), os.path.abspath(given.folder), given.list, words,
+                      list(budgets(given.most, given.least)), given.seconds):
+        runs.append(it)
+        print(row(it), flush=True)
+    if not runs:
+        sys.exit(1)
+    print(needed(runs[0]))
+    runs.reverse()
+    if given.svg:
+        title = given.title or f"{Path(given.list).name} over {Path(given.folder).resolve().name}"
+        drawn = svg(runs, title, given.reads_only)
+        if not given.check:
+            given.svg.write_text(drawn, encoding="utf-8")
+        elif not given.svg.is_file() or given.svg.read_text(encoding="utf-8") != drawn:
+            sys.exit(f"hit_curve.py: {given.svg} is not the picture that is drawn")
 
 
 if __name__ == "__main__":

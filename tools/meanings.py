@@ -60,6 +60,31 @@ def fault(numbers):
     return means[code]
 
 
+# What a run says that answers nothing, and the causes of a bad list (docs/REQUESTS.md, "Causes").
+ENDINGS = {
+    "bad words": "the words of the command line ask for nothing: ./texcache --help shows what they may be",
+    "folder fault": "the folder could not be read",
+    "list fault": "the list could not be read",
+    "too many files": "the folder has more than 4096 files",
+}
+CAUSES = {
+    1: "it begins with the word of no request", 2: "a field is missing, or the name is empty",
+    3: "a field that is a number is not spelled as one: 1 to 10 digits, behind exactly one space",
+    4: "a number is out of its range", 5: "a wrap or a filter is none of its words",
+    6: "something follows the word, be it a space", 7: "it is not UTF-8", 8: "it would be request 1048577",
+    9: "the list has more than 16777216 bytes",
+}
+
+
+def ending(line):
+    """What the one line of a run means that answered nothing; None of every other line."""
+    words = line.split(" ")
+    if words[:2] == ["bad", "list"]:
+        where = f"line {words[2]} of the list: " if words[2] != "0" else ""
+        return where + CAUSES[int(words[3])]
+    return ENDINGS.get(line)
+
+
 REFUSALS = {
     "no such file": "no file of the folder has this name, or the place lies in no tile of the texture",
     "region too large": "the region has more than 1048576 texels",

@@ -94,6 +94,16 @@ def build(name):
     return True
 
 
+def usual(name):
+    """The program that a tool runs: the proved one, until a source changes, and else the unproved one."""
+    proved = TOP / "crates" / name / "out" / name
+    if proved.is_file() and proved.stat().st_mtime > newest_source():
+        return proved
+    if not build(name):
+        sys.exit(1)
+    return OUT / name
+
+
 def main():
     return 0 if all(build(it) for it in sys.argv[1:] or WORK) else 1
 
