@@ -101,7 +101,10 @@ def explained(requests, lines):
 def main():
     if len(sys.argv) != 3:
         sys.exit("usage: explain.py LIST ANSWERS")
-    asked, lines = (Path(it).read_text(encoding="utf-8") for it in sys.argv[1:])
+    try:
+        asked, lines = (Path(it).read_text(encoding="utf-8") for it in sys.argv[1:])
+    except (OSError, UnicodeDecodeError) as fault:
+        sys.exit(f"explain.py: {fault}")
     if ending(lines.strip()):
         sys.exit(f"no request was answered: {lines.strip()}: {ending(lines.strip())}")
     print(*explained(list(requests_of(asked)), lines.splitlines()), sep="\n")

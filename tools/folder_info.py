@@ -85,7 +85,7 @@ def lines_of(program, folder):
 
 
 def main():
-    if len(sys.argv) not in (2, 3):
+    if len(sys.argv) not in (2, 3) or not Path(sys.argv[1]).is_dir():
         sys.exit("usage: folder_info.py FOLDER [PROGRAM]")
     program = sys.argv[2] if len(sys.argv) == 3 else usual("texcache")
     print(*lines_of(program, os.path.abspath(sys.argv[1])), sep="\n")

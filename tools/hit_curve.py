@@ -171,8 +171,9 @@ def main():
     asked.add_argument("--check", action="store_true")
     given, words = asked.parse_known_args()
     program = Path(given.program).resolve() if given.program else usual("texcache")
-    if not program.is_file():
-        sys.exit(f"hit_curve.py: there is no program {program}")
+    for it in (program, Path(given.list)):
+        if not it.is_file():
+            sys.exit(f"hit_curve.py: there is no file {it}")
     print(f"{'budget':>10} {'reads':>10} {'MiB read':>10} {'seconds':>9} {'memory MiB':>11}", flush=True)
     runs = []
     for it in runs_of(str(program), os.path.abspath(given.folder), given.list, words,
