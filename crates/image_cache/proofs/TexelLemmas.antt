@@ -111,6 +111,20 @@ at_cell P state at cell is here = by state.layout is
     by (Ok kept) same = subst (λ (c : CellAt). P c.key) same here
     by (Err fault) same = tt
 
+-- and so is what is so of the key of the cell that holds it
+pub from_cell : (P : ℕ → Type 0) (state : RecordState) (at : TexelAt) (cell : CellAt)
+    → IsCellIn state at cell
+    → IsOkAnd state.layout (λ kept. P (cell_of state.generation state.file state.cut kept at).key)
+    → P cell.key
+from_cell P state at cell is here = by state.layout is here
+  where
+    by : (layout : Result Kept TiffFault)
+        → IsOkAnd layout (λ kept. cell ≡ cell_of state.generation state.file state.cut kept at)
+        → IsOkAnd layout (λ kept. P (cell_of state.generation state.file state.cut kept at).key)
+        → P cell.key
+    by (Ok kept) same there = subst (λ (c : CellAt). P c.key) (sym same) there
+    by (Err fault) same there = absurd same
+
 pub asks_at : (state : RecordState) (at : TexelAt) (cell : CellAt) (old new : List CachedTile)
     → IsCellIn state at cell → AsksFor cell.key old new → AsksForCellAt state at old new
 asks_at state at cell old new is asks = by state.layout is

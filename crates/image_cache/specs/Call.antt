@@ -7,7 +7,7 @@ use Rattle.tex_world.specs.Tap.{TapState}
 use Rattle.gen_board.specs.View.{ViewState}
 use Rattle.file_table.specs.Record.{RecordState}
 use Rattle.file_table.specs.Calls.{KeepsView, Sighted, GivesRecord, OpensIfAtAll}
-use Rattle.micro.specs.Items.{key_first}
+use Rattle.micro.specs.Items.{key_first, HasKey}
 use Rattle.micro.specs.Runs.{AreAsked}
 use Rattle.tiff_format.specs.declared.cut.Cut.{Cut}
 use Rattle.tile_layout.specs.Cell.{CellsFit}
@@ -83,6 +83,11 @@ HasNoCall old new = new ≡ old
 abbrev pub MissesCellAt : GateState → RecordState → TexelAt → PassState → PassState → Type 0
 MissesCellAt gate state at old new = IfOk state.layout (λ kept. Misses gate
     (cell_of state.generation state.file state.cut kept at).key old.pinned.seat new.pinned.seat)
+
+-- One of the tiles that the pass holds has the key of the cell that holds a texel of a record.
+abbrev pub HoldsCellAt : RecordState → TexelAt → PassState → Type 0
+HoldsCellAt state at pass = IsOkAnd state.layout (λ kept.
+    HasKey key_in (cell_of state.generation state.file state.cut kept at).key pass.pinned.holds)
 
 -- ---- several needs
 

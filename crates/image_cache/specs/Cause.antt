@@ -97,6 +97,18 @@ pub record MovesOnlyAgain {A B : Type 0} (old new : TapState) (result : Result A
   pub ok : OnOk result (new.moves ≡ old.moves)
   pub err : IfErr result (λ e. (IsAgain e → ⊥) → new.moves ≡ old.moves)
 
+-- The refusal is that no memory was found, or that the waiter gave up.
+abbrev pub IsWanting : {B : Type 0} → CacheError B → Type 0
+IsWanting refused.NoMemory = ⊤
+IsWanting (refused.Busy b) = ⊤
+IsWanting _ = ⊥
+
+-- The tap had no call, and the answer is refused for nothing else.
+pub record AnswersHeld {A B : Type 0} (old new : TapState) (result : Result A (CacheError B))
+    : Type 0 where
+  pub tap : new ≡ old
+  pub wants : IfErr result IsWanting
+
 -- ---- of a file that is opened
 
 -- A file was opened in the generation `from`, which is at least what the pass had seen, a read of it

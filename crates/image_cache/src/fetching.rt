@@ -10,10 +10,13 @@ ghost use Rattle.image_cache.specs.Texel.{has_cell_at};
 ghost use Rattle.texel_values.specs.Values.{AreValuesAt};
 ghost use Rattle.image_cache.specs.Call.{CountsNeed, AsksForCellAt, TurnsToCellAt, MovesCellAt};
 ghost use Rattle.image_cache.specs.Call.{NeedsCellAt, AfterNeed, HasNoCall, MissesCellAt};
+ghost use Rattle.image_cache.specs.Call.{HoldsCellAt};
 ghost use Rattle.image_cache.specs.Reading.{refusal, IsSameCall, Reads, IsNeededAt};
 ghost use Rattle.image_cache.specs.Call.{LeavesNoHand, NoneFalls, AnswersWarm};
 ghost use Rattle.image_cache.specs.Square.{MeetsAt};
-ghost use Rattle.image_cache.specs.Cause.{FetchCause, MovesOnlyAgain};
+ghost use Rattle.image_cache.specs.Cause.{FetchCause, MovesOnlyAgain, AnswersHeld};
+ghost use Rattle.micro.specs.Items.{HasKey};
+ghost use Rattle.pinned_tiles.specs.Pinned.{key_in};
 
 use crate::cache::Cache;
 use crate::error::CacheError;
@@ -67,6 +70,10 @@ impl<T: Tap> Cache<T> {
         ensures visits { PurgesNone self.now.gate pass.old.pinned.seat pass.new.pinned.seat }
         ensures missed { IsTrue T.W.files.tells → HasNoCall (T.state tap.old) (T.state tap.new)
             ⊎ MissesCellAt self.now.gate known.now at pass.old pass.new }
+        // So it has none where the pass holds the cell, and nothing but want of memory or a waiter
+        // that gives up can refuse.
+        ensures held { IsTrue T.W.files.tells → HoldsCellAt known.now at pass.old → AnswersHeld
+            (T.state tap.old) (T.state tap.new) result }
         // A cell that the microcache has takes no call of the tap and no memory.
         ensures warm { IsTrue (has_cell_at known.now at pass.old.pinned.recent) → AnswersWarm
             (sighted pass.old.view (T.state tap.old)) (sighted pass.new.view (T.state tap.new))
@@ -205,6 +212,9 @@ impl<'a, V: Waiter, T: Tap> Reading<'a, V, T> {
         ensures missed { IsTrue T.W.files.tells → HasNoCall (T.state self.old.tap.now)
             (T.state self.new.tap.now) ⊎ MissesCellAt self.old.cache.now.gate self.old.known.now at
             self.old.pass.now self.new.pass.now }
+        ensures held { IsTrue T.W.files.tells
+            → HasKey key_in cell.now.key self.old.pass.now.pinned.holds → AnswersHeld
+            (T.state self.old.tap.now) (T.state self.new.tap.now) result }
     {
         self.count(false);
         match self.need_tile(cell)? {

@@ -1,7 +1,10 @@
 //! A cell that the microcache has not: from the shards, else loaded from its file, or made of the
 //! cells of the level before.
 ghost use Rattle.std.specs.Prelude.{◌≡◌, ◌<◌, ◌≤◌, length, None, IsTrue, IsFalse, IsSomeAnd};
-ghost use Rattle.std.specs.Prelude.{IfOk, OnOk, IsOkAnd, ⊤};
+ghost use Rattle.std.specs.Prelude.{IfOk, IfErr, OnOk, IsOkAnd, ⊤};
+ghost use Rattle.micro.specs.Items.{HasKey};
+ghost use Rattle.pinned_tiles.specs.Pinned.{key_in};
+ghost use Rattle.image_cache.specs.Cause.{IsWanting, AnswersHeld};
 ghost use Rattle.tile_layout.specs.Key.{level_of};
 ghost use Rattle.tile_layout.specs.Kept.{stored_count};
 ghost use Rattle.tile_load.specs.Halving.{part_count};
@@ -35,6 +38,8 @@ impl<'a, V: Waiter, T: Tap> Reading<'a, V, T> {
         ensures call { IsSameCall self.old self.new }
         ensures made { Makes T.W.files self.old self.new (refusal result) }
         ensures missed { IsCold cell.now.key self.old self.new }
+        ensures held { HasKey key_in cell.now.key self.old.pass.now.pinned.holds → AnswersHeld
+            (T.state self.old.tap.now) (T.state self.new.tap.now) result }
     {
         if self.pin_kept(cell.key)? {
             return Ok(());
@@ -51,6 +56,10 @@ impl<'a, V: Waiter, T: Tap> Reading<'a, V, T> {
             self.new.pass.now.pinned.hand ≡ None) }
         ensures missed { IfOk result (λ found. IsFalse found → Misses self.old.cache.now.gate key
             self.old.pass.now.pinned.seat self.new.pass.now.pinned.seat) }
+        // What the pass holds is there.
+        ensures held { HasKey key_in key self.old.pass.now.pinned.holds
+            → IfOk result (λ found. IsTrue found) }
+        ensures wants { IfErr result IsWanting }
         ensures made { Makes T.W.files self.old self.new (refusal result) }
         ensures tap { self.new.tap.now ≡ self.old.tap.now }
     {

@@ -10,6 +10,7 @@ ghost use Rattle.pinned_tiles.specs.Cell.{has_cell, HasFirst, StandsFirst};
 ghost use Rattle.image_cache.specs.Pass.{SameCounts, max_count};
 ghost use Rattle.image_cache.specs.Texel.{IsCellOf};
 ghost use Rattle.image_cache.specs.Call.{CountsNeed, Needs};
+ghost use Rattle.image_cache.specs.Cause.{AnswersHeld};
 ghost use Rattle.image_cache.specs.Making.{IsMadeFor};
 ghost use Rattle.image_cache.specs.Reading.{refusal, Steps, Makes, Brings, Reads, IsCold};
 ghost use Rattle.image_cache.specs.Reading.{IsTileAt, FindsKey, PlacesKey};
@@ -54,6 +55,9 @@ impl<'a, V: Waiter, T: Tap> Reading<'a, V, T> {
             self.old.pass.now.pinned.recent self.new.pass.now.pinned.recent) }
         ensures left { Brings T.W.files self.old self.new (refusal result) }
         ensures missed { IsTrue T.W.files.tells → IsCold cell.now.key self.old self.new }
+        ensures held { IsTrue T.W.files.tells
+            → HasKey key_in cell.now.key self.old.pass.now.pinned.holds → AnswersHeld
+            (T.state self.old.tap.now) (T.state self.new.tap.now) result }
     {
         self.bring(cell)?;
         if self.is_latest(cell) {
@@ -85,6 +89,8 @@ impl<'a, V: Waiter, T: Tap> Reading<'a, V, T> {
         ensures first { OnOk result (HasFirst cell.now.key self.new.pass.now.pinned.recent) }
         ensures left { Brings T.W.files self.old self.new (refusal result) }
         ensures missed { IsCold cell.now.key self.old self.new }
+        ensures held { HasKey key_in cell.now.key self.old.pass.now.pinned.holds → AnswersHeld
+            (T.state self.old.tap.now) (T.state self.new.tap.now) result }
     {
         if self.find(cell.key) {
             return Ok(());

@@ -2,7 +2,7 @@
 use Rattle.std.proofs.Common.{◌≡◌, ℕ, ◌+◌, ◌*◌, ◌<◌, ◌≤◌, Bool, true, false, not, nat_eq}
 use Rattle.std.proofs.Common.{List, [], ◌∷◌, ◌++◌, length, refl, sym, ap, subst, arith}
 use Rattle.std.proofs.Common.{Option, Some, None, IfSome, cond, ◌-◌, ◌∙◌, length-append}
-use Rattle.std.proofs.Common.{suc, map, take, drop, get_or, append_assoc}
+use Rattle.std.proofs.Common.{zero, suc, map, take, drop, get_or, append_assoc}
 use Rattle.std.proofs.lemmas.List.{append-nil, map-append, take-map, drop-map}
 use Rattle.std.proofs.lemmas.List.Edits.{length-remove}
 use Rattle.std.proofs.lemmas.List.Elements.{All-take, All-drop, All-get_or}
@@ -24,7 +24,7 @@ use Rattle.tile_store.specs.Tile.{CachedTile}
 use Rattle.tile_store.specs.Lawful.{FitsCut}
 use Rattle.shard_gate.specs.Gate.{PinSeatState, PinState, OnePinMore, OnePinLess, SamePins, IsTileOf}
 use Rattle.shard_gate.specs.Gate.{max_pins}
-use Rattle.micro.specs.Items.{has_key, key_first, placed}
+use Rattle.micro.specs.Items.{has_key, HasKey, key_first, placed}
 use Rattle.pinned_tiles.specs.Pinned.{max_holds, ArePinned, pinned_tiles, key_sum, hand_sum, key_in}
 
 -- ---- sums
@@ -52,6 +52,21 @@ times_has key (k ∷ keys) some = here (nat_eq k key) refl (times_has key keys)
     here false is rest =
         let one = sum_by-cons (λ j. one_if (nat_eq j key)) k keys in
         Contains-append_right (k ∷ []) keys key (rest (omega (arith, some, one, ap one_if is)))
+
+-- and a tile of it is counted among tiles
+keyed_there : (key : ℕ) (tiles : List CachedTile) → HasKey key_in key tiles
+    → 1 ≤ key_sum (λ k. one_if (nat_eq k key)) tiles
+keyed_there key [] (i, lt, is) = absurd (omega (arith, lt))
+keyed_there key (t ∷ tiles) (zero, lt, is) = omega (
+  arith,
+  sum_by-cons (λ (x : CachedTile). one_if (nat_eq x.key key)) t tiles,
+  ap one_if (eq-eqb t.key key is),
+)
+keyed_there key (t ∷ tiles) (suc i, lt, is) = omega (
+  arith,
+  sum_by-cons (λ (x : CachedTile). one_if (nat_eq x.key key)) t tiles,
+  keyed_there key tiles (i, omega (arith, lt), is),
+)
 
 hand_list : (f : ℕ → ℕ) (hand : Option CachedTile)
     → key_sum f (option_to_list hand) ≡ hand_sum f hand
@@ -156,6 +171,12 @@ module _ (files : Files) (cut : Cut) where
     where
       own : one_if (nat_eq t.key t.key) ≡ 1
       own = ap one_if (eq-eqb t.key t.key refl)
+
+  -- So are those of the tiles that are held.
+  pub held_is : (seat : PinSeatState) (recent holds : List CachedTile) (hand : Option CachedTile)
+      (key : ℕ) → Are seat recent holds hand → HasKey key_in key holds → Contains seat.pins key
+  held_is seat recent holds hand key are has = times_has key seat.pins
+      (omega (arith, are.pins (λ k. one_if (nat_eq k key)), keyed_there key holds has))
 
   -- It was given back.
   pub given_back : (old new : PinSeatState) (recent holds : List CachedTile) (t : CachedTile)

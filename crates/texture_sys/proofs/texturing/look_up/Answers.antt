@@ -21,7 +21,7 @@ returns-clause-value g c bytes held =
     let files = g.T.W.World.files in
     let told = subst (λ (k : RecordState). ForSome (values_known files k) (λ v.
     OnOk c.look_for.result (AreValues (asked_value (image_of (sizes_known k) v) c.args.r.now)
-    c.look_for.new.out))) c.of-fitting.ensures c.look_for.ensures.told in
+    c.look_for.new.out))) c.of-lent.ensures c.look_for.ensures.told in
     on_ok c.look_for.result (told (channel_value_of bytes) (ap (option_map channel_value_of) held))
     (λ are. look_told files c.args.known.now c.args.r.now c.look_for.new.out bytes
     c.generation-generation.ensures.told c.in_ok-fits_cut.ensures.ok (omega arith) held are)
@@ -34,7 +34,7 @@ returns-clause-cause g c =
     let same = same_after files c.look_for.new.f _ (λ x. visits_on x c.args.r.now) c.look_for.result _ _
     c.look_for.ensures.left (λ a b t p. (p.call, p.left)) (λ a b t e p. (p.call, p.left)) in
     let left = left_known files c.look_for.new.f _ (λ x. visits_on x c.args.r.now) c.look_for.result _ _
-    c.look_for.ensures.left (λ a b t p. (p.call, p.left)) (λ a b t e p. (p.call, p.left)) k c.of-fitting.ensures in
+    c.look_for.ensures.left (λ a b t p. (p.call, p.left)) (λ a b t e p. (p.call, p.left)) k c.of-lent.ensures in
     let pass_back : c.look_for.new.f.pass.now ≡ c.pass-1.given.0 = search (rules, same.pass_name) in
     let tap_back : c.look_for.new.f.tap.now ≡ c.tap-1.given.0 = search (rules, same.tap_name) in
     rw (← pass_back, ← tap_back) (left_cause files gate k (visits_on k c.args.r.now)
@@ -50,7 +50,7 @@ returns-clause-unread g c =
     let same = same_after files c.look_for.new.f _ (λ x. visits_on x c.args.r.now) c.look_for.result _ _
     c.look_for.ensures.left (λ a b t p. (p.call, p.left)) (λ a b t e p. (p.call, p.left)) in
     let left = left_known files c.look_for.new.f _ (λ x. visits_on x c.args.r.now) c.look_for.result _ _
-    c.look_for.ensures.left (λ a b t p. (p.call, p.left)) (λ a b t e p. (p.call, p.left)) k c.of-fitting.ensures in
+    c.look_for.ensures.left (λ a b t p. (p.call, p.left)) (λ a b t e p. (p.call, p.left)) k c.of-lent.ensures in
     let pass_back : c.look_for.new.f.pass.now ≡ c.pass-1.given.0 = search (rules, same.pass_name) in
     rw (← pass_back) (left_unread files gate k (visits_on k c.args.r.now)
     (pass_tap c.args.pass.now (g.T.Tap.state c.args.tap.now))
@@ -65,7 +65,7 @@ returns-clause-same g c =
     let same = same_after files c.look_for.new.f _ (λ x. visits_on x c.args.r.now) c.look_for.result _ _
     c.look_for.ensures.left (λ a b t p. (p.call, p.left)) (λ a b t e p. (p.call, p.left)) in
     let left = left_known files c.look_for.new.f _ (λ x. visits_on x c.args.r.now) c.look_for.result _ _
-    c.look_for.ensures.left (λ a b t p. (p.call, p.left)) (λ a b t e p. (p.call, p.left)) k c.of-fitting.ensures in
+    c.look_for.ensures.left (λ a b t p. (p.call, p.left)) (λ a b t e p. (p.call, p.left)) k c.of-lent.ensures in
     let pass_back : c.look_for.new.f.pass.now ≡ c.pass-1.given.0 = search (rules, same.pass_name) in
     rw (← pass_back) ((left_leaves files gate k (visits_on k c.args.r.now)
     (pass_tap c.args.pass.now (g.T.Tap.state c.args.tap.now))
@@ -80,7 +80,7 @@ returns-clause-tap g c =
     let same = same_after files c.look_for.new.f _ (λ x. visits_on x c.args.r.now) c.look_for.result _ _
     c.look_for.ensures.left (λ a b t p. (p.call, p.left)) (λ a b t e p. (p.call, p.left)) in
     let left = left_known files c.look_for.new.f _ (λ x. visits_on x c.args.r.now) c.look_for.result _ _
-    c.look_for.ensures.left (λ a b t p. (p.call, p.left)) (λ a b t e p. (p.call, p.left)) k c.of-fitting.ensures in
+    c.look_for.ensures.left (λ a b t p. (p.call, p.left)) (λ a b t e p. (p.call, p.left)) k c.of-lent.ensures in
     let tap_back : c.look_for.new.f.tap.now ≡ c.tap-1.given.0 = search (rules, same.tap_name) in
     rw (← tap_back) ((left_leaves files gate k (visits_on k c.args.r.now)
     (pass_tap c.args.pass.now (g.T.Tap.state c.args.tap.now))
@@ -95,7 +95,7 @@ returns-clause-visits g c =
     let same = same_after files c.look_for.new.f _ (λ x. visits_on x c.args.r.now) c.look_for.result _ _
     c.look_for.ensures.left (λ a b t p. (p.call, p.left)) (λ a b t e p. (p.call, p.left)) in
     let left = left_known files c.look_for.new.f _ (λ x. visits_on x c.args.r.now) c.look_for.result _ _
-    c.look_for.ensures.left (λ a b t p. (p.call, p.left)) (λ a b t e p. (p.call, p.left)) k c.of-fitting.ensures in
+    c.look_for.ensures.left (λ a b t p. (p.call, p.left)) (λ a b t e p. (p.call, p.left)) k c.of-lent.ensures in
     let pass_back : c.look_for.new.f.pass.now ≡ c.pass-1.given.0 = search (rules, same.pass_name) in
     rw (← pass_back) ((left_leaves files gate k (visits_on k c.args.r.now)
     (pass_tap c.args.pass.now (g.T.Tap.state c.args.tap.now))
@@ -110,7 +110,7 @@ returns-clause-counts g c =
     let same = same_after files c.look_for.new.f _ (λ x. visits_on x c.args.r.now) c.look_for.result _ _
     c.look_for.ensures.left (λ a b t p. (p.call, p.left)) (λ a b t e p. (p.call, p.left)) in
     let left = left_known files c.look_for.new.f _ (λ x. visits_on x c.args.r.now) c.look_for.result _ _
-    c.look_for.ensures.left (λ a b t p. (p.call, p.left)) (λ a b t e p. (p.call, p.left)) k c.of-fitting.ensures in
+    c.look_for.ensures.left (λ a b t p. (p.call, p.left)) (λ a b t e p. (p.call, p.left)) k c.of-lent.ensures in
     let pass_back : c.look_for.new.f.pass.now ≡ c.pass-1.given.0 = search (rules, same.pass_name) in
     rw (← pass_back) (left_counts files gate k (visits_on k c.args.r.now)
     (pass_tap c.args.pass.now (g.T.Tap.state c.args.tap.now))
@@ -125,7 +125,7 @@ returns-clause-asks g c =
     let same = same_after files c.look_for.new.f _ (λ x. visits_on x c.args.r.now) c.look_for.result _ _
     c.look_for.ensures.left (λ a b t p. (p.call, p.left)) (λ a b t e p. (p.call, p.left)) in
     let left = left_known files c.look_for.new.f _ (λ x. visits_on x c.args.r.now) c.look_for.result _ _
-    c.look_for.ensures.left (λ a b t p. (p.call, p.left)) (λ a b t e p. (p.call, p.left)) k c.of-fitting.ensures in
+    c.look_for.ensures.left (λ a b t p. (p.call, p.left)) (λ a b t e p. (p.call, p.left)) k c.of-lent.ensures in
     let pass_back : c.look_for.new.f.pass.now ≡ c.pass-1.given.0 = search (rules, same.pass_name) in
     rw (← pass_back) (left_asks files gate k (visits_on k c.args.r.now)
     (pass_tap c.args.pass.now (g.T.Tap.state c.args.tap.now))
@@ -140,7 +140,7 @@ returns-clause-warm g c = λ fits has.
     let same = same_after files c.look_for.new.f _ (λ x. visits_on x c.args.r.now) c.look_for.result _ _
     c.look_for.ensures.left (λ a b t p. (p.call, p.left)) (λ a b t e p. (p.call, p.left)) in
     let left = left_known files c.look_for.new.f _ (λ x. visits_on x c.args.r.now) c.look_for.result _ _
-    c.look_for.ensures.left (λ a b t p. (p.call, p.left)) (λ a b t e p. (p.call, p.left)) k c.of-fitting.ensures in
+    c.look_for.ensures.left (λ a b t p. (p.call, p.left)) (λ a b t e p. (p.call, p.left)) k c.of-lent.ensures in
     let tap_back : c.look_for.new.f.tap.now ≡ c.tap-1.given.0 = search (rules, same.tap_name) in
     rw (← tap_back) (left_warm files gate k (visits_on k c.args.r.now)
     (pass_tap c.args.pass.now (g.T.Tap.state c.args.tap.now))
