@@ -2,7 +2,6 @@
 use Rattle.std.proofs.Common.{◌≡◌, ◌≢◌, ℕ, List, [], ◌∷◌, ◌++◌, length, Option, Some, None}
 use Rattle.std.proofs.Common.{Result, Ok, Err, OnOk, OnErr, refl, ap, sym, subst, ◌∙◌, append_assoc, option_map}
 use Rattle.std.specs.Prelude.{IfOk, IfErr}
-use Rattle.std.specs.List.{All}
 use Rattle.std.proofs.lemmas.List.Elements.{All-nil, All-cons, All-append}
 use Rattle.tex_world.specs.World.{Files}
 use Rattle.tiff_format.specs.declared.shard_count.ShardCount.{ShardCount}
@@ -10,8 +9,8 @@ use Rattle.tile_store.specs.Tile.{CachedTile}
 use Rattle.tile_store.specs.Entry.{EntryState, entry_at}
 use Rattle.tile_store.specs.Changes.{pinned_first, inserted}
 use Rattle.shard_gate.specs.Visit.{Visit, visit, visits_at}
-use Rattle.shard_gate.specs.Given.{IsWait, Waits, GivesBack, Finds, Inserts, Releases, Counts}
-use Rattle.shard_gate.specs.Given.{AtShard, room_of}
+use Rattle.shard_gate.specs.Given.{GivesBack, Finds, Inserts, Releases, Counts}
+use Rattle.shard_gate.specs.Given.{AtShard}
 use Rattle.shard_gate.specs.Gate.{GateState, PinSeatState, PinState, shard_of, slots_of, IsSameSeat}
 use Rattle.shard_gate.specs.Calls.{tile_of, VisitsAt, IfNotPinned, IfNotInserted}
 use Rattle.shard_gate.specs.Since.{IsShardOf, IsCallVisit, AddsCalls, PurgesNone, Misses}
@@ -41,47 +40,40 @@ module _ (gate : GateState) where
           ∙ sym (append_assoc second.added first.added old));
     }
 
-    of_waits : (waits : List Visit) → All IsWait waits → All (IsCallVisit gate shard) waits
-    of_waits waits full = λ k d low. looks (full k d low).same
-
-    -- visits to a full shard, and one more
-    one_more_visit : (v : Visit) (waits old new : List Visit) → IsCallVisit gate shard v
-        → All IsWait waits → new ≡ v ∷ waits ++ old → AddsCalls gate shard old new
-    one_more_visit v waits old new is full last = record {
-      added = v ∷ waits;
-      calls = All-cons (IsCallVisit gate shard) v waits is (of_waits waits full);
+    -- one visit more
+    one_more_visit : (v : Visit) (old new : List Visit) → IsCallVisit gate shard v → new ≡ v ∷ old
+        → AddsCalls gate shard old new
+    one_more_visit v old new is last = record {
+      added = v ∷ [];
+      calls = All-cons (IsCallVisit gate shard) v [] is (All-nil (IsCallVisit gate shard));
       left = last;
     }
 
-    adds_waits : (old new : List Visit) → Waits old new → AddsCalls gate shard old new
-    adds_waits old new w =
-        record { added = w.waits; calls = of_waits w.waits w.full; left = w.left }
-
     adds_given_back : (old new : List Visit) → GivesBack old new → AddsCalls gate shard old new
     adds_given_back old new w =
-        one_more_visit (visit w.taken w.taken) w.waits old new (looks refl) w.full w.left
+        one_more_visit (visit w.taken w.taken) old new (looks refl) w.left
 
     adds_found : (key : ℕ) → IsShardOf gate key shard → (tile : Option CachedTile)
         (old new : List Visit) → Finds key tile old new → AddsCalls gate shard old new
     adds_found key at tile old new w = one_more_visit (visit w.taken (pinned_first key w.taken))
-        w.waits old new (pins key at refl) w.full w.left
+        old new (pins key at refl) w.left
 
     adds_inserted : (tile result : CachedTile) → IsShardOf gate tile.key shard
         → (old new : List Visit) → Inserts (slots_of gate.passes) tile result old new
         → AddsCalls gate shard old new
     adds_inserted tile result at old new w = one_more_visit
-        (visit w.taken (inserted tile (room_of (slots_of gate.passes) w.taken) w.taken))
-        w.waits old new (inserts tile at refl) w.full w.left
+        (visit w.taken (inserted tile (slots_of gate.passes) w.taken))
+        old new (inserts tile at refl) w.left
 
     adds_released : (key : ℕ) → IsShardOf gate key shard → (old new : List Visit)
         → Releases gate.share key old new → AddsCalls gate shard old new
     adds_released key at old new w =
-        one_more_visit _ [] old new (releases key at refl) (All-nil IsWait) w.left
+        one_more_visit _ old new (releases key at refl) w.left
 
     adds_counted : (files : Files) (tag : ℕ) (count : ShardCount) (old new : List Visit)
         → Counts files tag count old new → AddsCalls gate shard old new
     adds_counted files tag count old new w =
-        one_more_visit _ [] old new (looks refl) (All-nil IsWait) w.left
+        one_more_visit _ old new (looks refl) w.left
 
   -- ---- those of all shards
 
@@ -117,7 +109,8 @@ module _ (gate : GateState) where
     pin_refused failed.NoMemory at =
         at_one _ GivesBack old new (adds_given_back (shard_of (length gate.id) key)) at
     pin_refused (failed.Busy busy) at =
-        at_one _ Waits old new (adds_waits (shard_of (length gate.id) key)) at
+        at_one (shard_of (length gate.id) key) (λ a b. b ≡ a) old new
+        (none_more (shard_of (length gate.id) key)) at
 
     -- A `pin`, by its clauses `visits` and `refused`.
     pub purges_none_pin : (r : Result (Option PinState) (PinError B))
@@ -133,7 +126,8 @@ module _ (gate : GateState) where
     pin_new_refused turned_down.NoMemory at =
         at_one _ GivesBack old new (adds_given_back (shard_of (length gate.id) tile.key)) at
     pin_new_refused (turned_down.Busy back busy) at =
-        at_one _ Waits old new (adds_waits (shard_of (length gate.id) tile.key)) at
+        at_one (shard_of (length gate.id) tile.key) (λ a b. b ≡ a) old new
+        (none_more (shard_of (length gate.id) tile.key)) at
 
     -- A `pin_new`, by its clauses `visits` and `refused`.
     pub purges_none_pin_new : (r : Result PinState (NotPinned W B))
@@ -191,7 +185,7 @@ module _ (gate : GateState) where
   misses_pin key old new at = record {
     missed = visit at.here.taken (pinned_first key at.here.taken);
     later = [];
-    earlier = at.here.waits;
+    earlier = [];
     lacks = no_entry (entry_at key at.here.taken) at.here.found;
     left = at.here.left;
   }

@@ -1,18 +1,20 @@
 -- What a visit to one shard leaves of the seat of a gate.
-use Rattle.std.proofs.Common.{◌≡◌, ◌≢◌, ℕ, zero, suc, ◌<◌, List, [], ◌∷◌, map, length, set}
+use Rattle.std.proofs.Common.{◌≡◌, ◌≢◌, ℕ, zero, suc, ◌*◌, ◌<◌, List, [], ◌∷◌, map, length, set}
 use Rattle.std.proofs.Common.{get_or, refl, ap, sym, subst, ◌∙◌, Result, Ok, Err, OnOk, OnErr, arith}
-use Rattle.std.specs.Prelude.{IfOk, IfErr}
+use Rattle.std.proofs.Common.{Option, Some, None}
+use Rattle.std.specs.Prelude.{IfOk, IfErr, IfNone, OnSome, IsPermutation, Contains}
 use Rattle.std.proofs.lemmas.List.{length-map}
 use Rattle.tiff_format.specs.declared.cut.Cut.{Cut}
-use Rattle.std.proofs.lemmas.List.Elements.{All-cons}
-use Rattle.tile_store.specs.Entry.{Entries}
 use Rattle.tile_store.specs.Tag.{tag_of, share_in_tag, cut_of}
 use Rattle.shard_gate.specs.Seated.{ShardId, SeatAt, shard_of_seat}
-use Rattle.shard_gate.specs.Visit.{Visit, visit, visits_at}
-use Rattle.shard_gate.specs.Given.{AtShard, IsFull, IsWait, Waits}
+use Rattle.shard_gate.specs.Visit.{Visit, visits_at}
+use Rattle.shard_gate.specs.Given.{AtShard}
 use Rattle.shard_gate.specs.Work.{IsSeatOf}
-use Rattle.shard_gate.specs.Gate.{GateState, PinSeatState, SamePins, IsSameSeat}
-use Rattle.shard_gate.specs.Kept.{seat_state, gate_state, visits_of_seat, IsGate}
+use Rattle.shard_gate.specs.Gate.{GateState, PinSeatState, SamePins, IsSameSeat, OnePinMore, OnePinLess}
+use Rattle.shard_gate.specs.Gate.{max_pins, shard_of}
+use Rattle.shard_gate.specs.Kept.{seat_state, gate_state, visits_of_seat, keys_of_seats, IsGate, IsPinSeat}
+use Rattle.shard_gate.proofs.SeatLemmas.{same_keys, one_key_more, one_key_less, pins-le}
+use Rattle.shard_gate.proofs.SeatLemmas.{at_its_shard, kept_same, kept_more, kept_less}
 use Rattle.shard_gate.proofs.TagLemmas.{share_of-tag_of, cut_of-tag_of}
 
 -- What is the same of one seat is the same of all, where the others stay.
@@ -65,10 +67,20 @@ pub if_err : {A E : Type 0} (r : Result A E) (P Q : E → Type 0) → ((e : E) �
 if_err (Ok a) P Q then holds = tt
 if_err (Err e) P Q then holds = then e holds
 
-module _ (seats : List SeatAt) (permits : ℕ) (pins : List ℕ) (p : PinSeatState)
-    (is : seat_state seats permits pins ≡ p) (id : List ShardId) (same : p.gate ≡ id) (k : ℕ)
+-- What stands where something was found.
+pub on_some : {A : Type 0} (o : Option A) (P Q : Type 0) → (P → Q) → OnSome o P → OnSome o Q
+on_some (Some a) P Q then holds = then holds
+on_some None P Q then holds = tt
+
+-- What stands where nothing was.
+pub if_none : {A : Type 0} (o : Option A) (P Q : Type 0) → (P → Q) → IfNone o P → IfNone o Q
+if_none (Some a) P Q then holds = tt
+if_none None P Q then holds = then holds
+
+module _ (seats : List SeatAt) (permits : ℕ) (p : PinSeatState)
+    (is : seat_state seats permits ≡ p) (id : List ShardId) (same : p.gate ≡ id) (k : ℕ)
     (low : k < length id) (x new d : SeatAt) (here : x ≡ get_or seats k d) where
-  inside : k < length seats
+  pub inside : k < length seats
   inside = omega (
     arith,
     low,
@@ -77,13 +89,127 @@ module _ (seats : List SeatAt) (permits : ℕ) (pins : List ℕ) (p : PinSeatSta
     length-map {A = SeatAt} {B = ShardId},
   )
 
-  pub same_pins : IsSeatOf x new → SamePins p (seat_state (set seats k new) permits pins)
-  same_pins seat = record {
-    gate = map_set_same shard_of_seat seats k new d (seat.shard ∙ ap shard_of_seat here)
-        ∙ ap (λ (q : PinSeatState). q.gate) is;
+  -- it is a seat at so many shards as the gate has
+  pub as_long : length seats ≡ length id
+  as_long = omega (
+    arith,
+    ap length same,
+    ap (λ (q : PinSeatState). length q.gate) is,
+    length-map {A = SeatAt} {B = ShardId},
+  )
+
+  gate_same : new.shard ≡ x.shard → map shard_of_seat (set seats k new) ≡ p.gate
+  gate_same stays = map_set_same shard_of_seat seats k new d (stays ∙ ap shard_of_seat here)
+      ∙ ap (λ (q : PinSeatState). q.gate) is
+
+  pub same_pins : IsSeatOf x new → new.pins ≡ x.pins
+      → SamePins p (seat_state (set seats k new) permits)
+  same_pins seat stay = record {
+    gate = gate_same seat.shard;
     permits = ap (λ (q : PinSeatState). q.permits) is;
-    pins = ap (λ (q : PinSeatState). q.pins) is;
+    pins = same_keys seats k new d (stay ∙ ap (λ (s : SeatAt). s.pins) here)
+        ∙ ap (λ (q : PinSeatState). q.pins) is;
   }
+
+  pub one_pin_more : (key : ℕ) → IsSeatOf x new → new.pins ≡ key ∷ x.pins
+      → OnePinMore key p (seat_state (set seats k new) permits)
+  one_pin_more key seat more = record {
+    gate = gate_same seat.shard;
+    permits = ap (λ (q : PinSeatState). q.permits) is;
+    pins = subst
+        (λ (q : PinSeatState). IsPermutation (key ∷ q.pins) (keys_of_seats (set seats k new))) is
+        (one_key_more seats k key new d inside (more ∙ ap (λ (s : SeatAt). key ∷ s.pins) here));
+  }
+
+  pub one_pin_less : (key : ℕ) → IsSeatOf x new → IsPermutation x.pins (key ∷ new.pins)
+      → OnePinLess key p (seat_state (set seats k new) permits)
+  one_pin_less key seat less = record {
+    gate = gate_same seat.shard;
+    permits = ap (λ (q : PinSeatState). q.permits) is;
+    pins = subst
+        (λ (q : PinSeatState). IsPermutation q.pins (key ∷ keys_of_seats (set seats k new))) is
+        (one_key_less seats k key new d inside
+        (subst (λ (s : SeatAt). IsPermutation s.pins (key ∷ new.pins)) here less));
+  }
+
+  -- There is room for a pin at the shard where there is room for one of the seat.
+  pub room_here : IsPinSeat seats permits → length p.pins < max_pins * p.permits
+      → length x.pins < max_pins * x.permits
+  room_here kept room =
+      let part = kept.parts k d inside in
+      let own : x.permits ≡ permits = ap (λ (s : SeatAt). s.permits) here ∙ part.same in
+      omega (
+        arith,
+        room,
+        ap (λ (q : PinSeatState). length q.pins) is,
+        ap (λ (q : PinSeatState). q.permits) is,
+        pins-le seats k d inside,
+        ap (λ (s : SeatAt). length s.pins) here,
+      )
+
+  -- What the seat has pinned it has pinned at the shard of the key.
+  pub held_here : (key : ℕ) → k ≡ shard_of (length id) key → IsPinSeat seats permits
+      → Contains p.pins key → Contains x.pins key
+  held_here key at kept has =
+      let shard : k ≡ shard_of (length seats) key = at ∙ ap (λ n. shard_of n key) (sym as_long) in
+      subst (λ (s : SeatAt). Contains s.pins key) (sym here)
+      (subst (λ n. Contains (get_or seats n d).pins key) (sym shard)
+      (at_its_shard seats key d kept.placed
+      (subst (λ (q : PinSeatState). Contains q.pins key) (sym is) has)))
+
+  -- ---- the seat is still one
+
+  pub seat_same : IsPinSeat seats permits → IsSeatOf x new → new.pins ≡ x.pins
+      → IsPinSeat (set seats k new) permits
+  seat_same kept seat stay = kept_same seats permits k new d inside kept
+      (seat.permits ∙ ap (λ (s : SeatAt). s.permits) here)
+      (seat.shard ∙ ap (λ (s : SeatAt). s.shard) here) (stay ∙ ap (λ (s : SeatAt). s.pins) here)
+
+  pub seat_more : (key : ℕ) → k ≡ shard_of (length id) key → IsPinSeat seats permits
+      → length p.pins < max_pins * p.permits → IsSeatOf x new → new.pins ≡ key ∷ x.pins
+      → IsPinSeat (set seats k new) permits
+  seat_more key at kept room seat more = kept_more seats permits k new d inside kept
+      (seat.permits ∙ ap (λ (s : SeatAt). s.permits) here)
+      (seat.shard ∙ ap (λ (s : SeatAt). s.shard) here) key
+      (ap (λ n. shard_of n key) as_long ∙ sym at)
+      (more ∙ ap (λ (s : SeatAt). key ∷ s.pins) here)
+      (omega (
+        arith,
+        room,
+        ap (λ (q : PinSeatState). length q.pins) is,
+        ap (λ (q : PinSeatState). q.permits) is,
+      ))
+
+  pub seat_less : (key : ℕ) → IsPinSeat seats permits → IsSeatOf x new
+      → IsPermutation x.pins (key ∷ new.pins) → IsPinSeat (set seats k new) permits
+  seat_less key kept seat less = kept_less seats permits k new d inside kept
+      (seat.permits ∙ ap (λ (s : SeatAt). s.permits) here)
+      (seat.shard ∙ ap (λ (s : SeatAt). s.shard) here) key
+      (subst (λ (s : SeatAt). IsPermutation s.pins (key ∷ new.pins)) here less)
+
+  pub seat_found : {A E : Type 0} (key : ℕ) (r : Result (Option A) E) → k ≡ shard_of (length id) key
+      → IsPinSeat seats permits → length p.pins < max_pins * p.permits → IsSeatOf x new
+      → IfOk r (λ found. OnSome found (new.pins ≡ key ∷ x.pins))
+      → IfOk r (λ found. IfNone found (new.pins ≡ x.pins)) → OnErr r (new.pins ≡ x.pins)
+      → IsPinSeat (set seats k new) permits
+  seat_found key (Ok (Some a)) at kept room seat more none err =
+      seat_more key at kept room seat more
+  seat_found key (Ok None) at kept room seat more none err = seat_same kept seat none
+  seat_found key (Err e) at kept room seat more none err = seat_same kept seat err
+
+  pub seat_inserted : {A E : Type 0} (key : ℕ) (r : Result A E) → k ≡ shard_of (length id) key
+      → IsPinSeat seats permits → length p.pins < max_pins * p.permits → IsSeatOf x new
+      → OnOk r (new.pins ≡ key ∷ x.pins) → OnErr r (new.pins ≡ x.pins)
+      → IsPinSeat (set seats k new) permits
+  seat_inserted key (Ok a) at kept room seat more err = seat_more key at kept room seat more
+  seat_inserted key (Err e) at kept room seat more err = seat_same kept seat err
+
+  pub seat_released : {A E : Type 0} (key : ℕ) (r : Result A E) → IsPinSeat seats permits
+      → IsSeatOf x new → OnOk r (IsPermutation x.pins (key ∷ new.pins)) → OnErr r (new ≡ x)
+      → IsPinSeat (set seats k new) permits
+  seat_released key (Ok a) kept seat less err = seat_less key kept seat less
+  seat_released key (Err e) kept seat less err =
+      seat_same kept seat (ap (λ (s : SeatAt). s.pins) err)
 
   -- What the call made of the visits of this shard it made of those of the seat.
   pub at_shard : (Changed : List Visit → List Visit → Type 0) → Changed x.visits new.visits
@@ -109,12 +235,13 @@ module _ (seats : List SeatAt) (permits : ℕ) (pins : List ℕ) (p : PinSeatSta
       subst (λ (m : ℕ). AtShard m Changed p.visits (map visits_of_seat (set seats k new))) is_n
       (at_shard Changed changed)
 
-  pub same_seat : new ≡ x → IsSameSeat p (seat_state (set seats k new) permits pins)
+  pub same_seat : new ≡ x → IsSameSeat p (seat_state (set seats k new) permits)
   same_seat stays = record {
     gate = map_set_same shard_of_seat seats k new d (ap shard_of_seat (stays ∙ here))
         ∙ ap (λ (q : PinSeatState). q.gate) is;
     permits = ap (λ (q : PinSeatState). q.permits) is;
-    pins = ap (λ (q : PinSeatState). q.pins) is;
+    pins = same_keys seats k new d (ap (λ (s : SeatAt). s.pins) (stays ∙ here))
+        ∙ ap (λ (q : PinSeatState). q.pins) is;
     visits = map_set_same visits_of_seat seats k new d (ap visits_of_seat (stays ∙ here))
         ∙ ap (λ (q : PinSeatState). q.visits) is;
   }
@@ -129,19 +256,14 @@ module _ (tables : List ShardId) (share : ℕ) (cut : Cut) (passes : ℕ) (gate 
   pub tag_here : x.tag ≡ tag_of gate.share gate.cut
   tag_here = made ∙ ap (λ (a : GateState). tag_of a.share a.cut) is
 
+  pub passes_here : x.passes ≡ gate.passes
+  passes_here = ap (λ (t : ShardId). t.passes) here
+      ∙ ((kept.made k d (omega (arith, low, ap (λ (a : GateState). length a.id) is))).passes
+      ∙ ap (λ (a : GateState). a.passes) is)
+
   pub share_here : share_in_tag x.tag ≡ share
   share_here = ap share_in_tag made ∙ share_of-tag_of share cut kept.cut_is
 
   pub cut_here : cut_of x.tag ≡ gate.cut
   cut_here = ap cut_of made
       ∙ (cut_of-tag_of share cut kept.cut_is ∙ ap (λ (a : GateState). a.cut) is)
-
--- One more visit met a full shard.
-pub wait_more : (taken given : Entries) (first old new : List Visit) → IsFull taken → given ≡ taken
-    → new ≡ visit taken given ∷ old → Waits first old → Waits first new
-wait_more taken given first old new full same left so_far = record {
-  waits = visit taken taken ∷ so_far.waits;
-  full = All-cons IsWait (visit taken taken) so_far.waits (record { full = full; same = refl })
-      so_far.full;
-  left = left ∙ (λ i. visit taken (same i) ∷ so_far.left i);
-}

@@ -1,8 +1,8 @@
 -- Which visits does a call add to those of its seat?
-use Rattle.std.specs.Prelude.{ℕ, List, length}
+use Rattle.std.specs.Prelude.{◌≡◌, ℕ, List, length}
 use Rattle.tile_store.specs.Tile.{CachedTile}
 use Rattle.shard_gate.specs.Visit.{Visit}
-use Rattle.shard_gate.specs.Given.{Waits, GivesBack, AtShard}
+use Rattle.shard_gate.specs.Given.{GivesBack, AtShard}
 use Rattle.shard_gate.specs.Gate.{GateState, PinSeatState, PinState, shard_of}
 use Rattle.shard_gate.specs.declared.error.PinError.{PinError}
 use Rattle.shard_gate.specs.declared.error.PinError.TheVariants as failed
@@ -20,12 +20,12 @@ VisitsAt gate key Changed old new =
     AtShard (shard_of (length gate.id) key) Changed old.visits new.visits
 
 -- A pin that was refused for want of memory has left the entries as they were. One of which the
--- waiter gave up has met full shards alone.
+-- waiter gave up has made no visit.
 abbrev pub IfNotPinned : {B : Type 0} → PinError B → List Visit → List Visit → Type 0
 IfNotPinned failed.NoMemory old new = GivesBack old new
-IfNotPinned (failed.Busy busy) old new = Waits old new
+IfNotPinned (failed.Busy busy) old new = new ≡ old
 
 -- so it is of a tile that was not inserted
 abbrev pub IfNotInserted : {W B : Type 0} → NotPinned W B → List Visit → List Visit → Type 0
 IfNotInserted turned_down.NoMemory old new = GivesBack old new
-IfNotInserted (turned_down.Busy tile busy) old new = Waits old new
+IfNotInserted (turned_down.Busy tile busy) old new = new ≡ old

@@ -13,6 +13,7 @@ use Rattle.tile_store.specs.Told.{ToldBy}
 use Rattle.tile_store.specs.Entry.{Entries}
 use Rattle.tile_store.specs.Tag.{tag_of}
 use Rattle.tile_store.specs.Lawful.{HasCell, FitsCut, Lawful}
+pub use Rattle.shard_gate.specs.Words.{max_passes, max_pins, more_slots, slots_of}
 use Rattle.shard_gate.specs.Visit.{Visit, visits_at}
 use Rattle.shard_gate.specs.Given.{IsCountOf}
 use Rattle.shard_gate.specs.Seated.{ShardId}
@@ -26,22 +27,6 @@ max_budget = 2 ^ 32
 -- the shards that a gate may have
 abbrev pub max_shards : ℕ
 max_shards = 64
-
--- the permits of all its seats together
-abbrev pub max_passes : ℕ
-max_passes = 16
-
--- the pins that a seat may hold for each of its permits
-abbrev pub max_pins : ℕ
-max_pins = 7
-
--- the slots of a shard beside those that all seats may pin
-abbrev pub more_slots : ℕ
-more_slots = 1024
-
--- the slots of a shard, by the permits of all seats
-abbrev pub slots_of : ℕ → ℕ
-slots_of all_permits = max_pins * all_permits + more_slots
 
 -- the shard of a key, among so many
 abbrev pub shard_of : ℕ → ℕ → ℕ

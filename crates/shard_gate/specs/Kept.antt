@@ -1,5 +1,6 @@
 -- What does a gate keep of itself, and a seat?
-use Rattle.std.specs.Prelude.{◌≡◌, ℕ, ◌*◌, ◌<◌, ◌≤◌, List, map, length}
+use Rattle.std.specs.Prelude.{◌≡◌, ℕ, ◌*◌, ◌<◌, ◌≤◌, List, [], ◌∷◌, ◌++◌, map, length}
+use Rattle.std.specs.Prelude.{Contains, slice_index_or}
 use Rattle.std.specs.List.{All}
 use Rattle.tiff_format.specs.declared.cut.Cut.{Cut}
 use Rattle.tiff_format.specs.Cut.{IsCut}
@@ -7,35 +8,44 @@ use Rattle.tile_store.specs.Tag.{tag_of}
 use Rattle.shard_gate.specs.Visit.{Visit}
 use Rattle.shard_gate.specs.Seated.{ShardId, SeatAt, shard_of_seat, IsMadeBy}
 use Rattle.shard_gate.specs.Gate.{GateState, PinSeatState}
-use Rattle.shard_gate.specs.Gate.{max_shards, max_passes, max_pins, max_budget}
+use Rattle.shard_gate.specs.Gate.{max_shards, max_passes, max_pins, max_budget, shard_of}
 
 -- the visits of a seat
 abbrev pub visits_of_seat : SeatAt → List Visit
 visits_of_seat s = s.visits
 
+-- the keys of the pins of these seats
+abbrev pub keys_of_seats : List SeatAt → List ℕ
+keys_of_seats [] = []
+keys_of_seats (s ∷ seats) = s.pins ++ keys_of_seats seats
+
 -- what is known of the seat that has these at the shards
-abbrev pub seat_state : List SeatAt → ℕ → List ℕ → PinSeatState
-seat_state seats permits pins = record {
+abbrev pub seat_state : List SeatAt → ℕ → PinSeatState
+seat_state seats permits = record {
   gate = map shard_of_seat seats;
   permits = permits;
-  pins = pins;
+  pins = keys_of_seats seats;
   visits = map visits_of_seat seats;
 }
 
--- The seat at a shard has these permits, which are not more than the passes, and there is room for
--- the keys of as many pins as all seats may hold.
-pub record IsPartOf (permits room : ℕ) (s : SeatAt) : Type 0 where
+-- The seat at a shard has these permits, which are not more than the passes.
+pub record IsPartOf (permits : ℕ) (s : SeatAt) : Type 0 where
   pub same : s.permits ≡ permits
   pub few : permits ≤ s.shard.passes
   pub most : s.shard.passes ≤ max_passes
-  pub pins : max_pins * s.shard.passes ≤ room
+
+-- Each pin is at the shard of its key.
+abbrev pub ArePlaced : List SeatAt → Type 0
+ArePlaced seats = (k key : ℕ) (d : SeatAt) → k < length seats
+    → Contains (slice_index_or seats k d).pins key → shard_of (length seats) key ≡ k
 
 -- A seat has a part at each shard, one permit at least, and not too many pins.
-pub record IsPinSeat (seats : List SeatAt) (permits : ℕ) (pins : List ℕ) (room : ℕ) : Type 0 where
-  pub parts : All (IsPartOf permits room) seats
+pub record IsPinSeat (seats : List SeatAt) (permits : ℕ) : Type 0 where
+  pub parts : All (IsPartOf permits) seats
   pub some : 0 < length seats
   pub least : 1 ≤ permits
-  pub few : length pins ≤ max_pins * permits
+  pub few : length (keys_of_seats seats) ≤ max_pins * permits
+  pub placed : ArePlaced seats
 
 -- what is known of the gate that has these shards
 abbrev pub gate_state : List ShardId → ℕ → Cut → ℕ → GateState

@@ -1,9 +1,11 @@
 pub mod Visit
 pub mod Given
+pub mod Words
 pub mod Turn
 pub mod Seated
 pub mod Gate
 pub mod Kept
+pub mod Home
 pub mod Work
 pub mod Calls
 pub mod Since

@@ -1,9 +1,9 @@
 -- How a table is known, and a seat at it while it has no turn.
-use Rattle.std.specs.Prelude.{◌≡◌, ℕ, ◌+◌, ◌-◌, ◌^◌, ◌<◌, true, false, List, [], ◌∷◌}
+use Rattle.std.specs.Prelude.{◌≡◌, ℕ, ◌+◌, ◌-◌, ◌≤◌, true, false, List, [], ◌∷◌}
 use Rattle.atomic_table.specs.Table.{Me}
 use Rattle.atomic_table.specs.Seated.{TableId}
 use Rattle.atomic_table.specs.declared.shared.Seat.{Seat}
-use Rattle.shard_gate.specs.Turn.{word_count}
+use Rattle.shard_gate.specs.Words.{word_count, max_passes, keys_of_pins}
 use Rattle.shard_gate.specs.Visit.{Visit}
 use Rattle.std.specs.List.{All}
 use Rattle.shard_gate.specs.declared.standing.Standing.{Standing}
@@ -36,14 +36,16 @@ pub record SeatAt : Type 0 where
   -- the shard that it belongs to
   pub shard : ShardId
   pub permits : ℕ
+  -- the keys of its pins
+  pub pins : List ℕ
   -- its visits to the shard, the last first
   pub visits : List Visit
 
 -- The table has the words and the one slot.
 pub record IsLaid (passes : ℕ) (table : TableId) : Type 0 where
-  pub words : table.words ≡ word_count
+  pub words : table.words ≡ word_count passes
   pub slots : table.slots ≡ 1
-  pub few : passes < 2 ^ 32
+  pub few : passes ≤ max_passes
 
 module _ {S : Type 0} where
   -- what is known of this seat
@@ -55,6 +57,7 @@ module _ {S : Type 0} where
       table = seat.table_id;
     };
     permits = seat.me.0.permits;
+    pins = keys_of_pins seat.me.0.pins;
     visits = seat.me.0.visits;
   }
 
@@ -75,17 +78,17 @@ shard_of_seat s = s.shard
 
 -- the first seat at a shard has all permits
 abbrev pub first_seat : ShardId → SeatAt
-first_seat id = record { shard = id; permits = id.passes; visits = [] }
+first_seat id = record { shard = id; permits = id.passes; pins = []; visits = [] }
 
 -- a seat keeps all permits but one
 abbrev pub kept_seat : SeatAt → SeatAt
 kept_seat s = record s { permits = s.permits - 1 }
 
--- that one is the permit of a new seat, which has made no visit yet
+-- that one is the permit of a new seat, which has no pin, and has made no visit yet
 abbrev pub new_seat : SeatAt → SeatAt
-new_seat s = record s { permits = 1; visits = [] }
+new_seat s = record s { permits = 1; pins = []; visits = [] }
 
--- a seat with the permits of both
+-- a seat with the permits of both, and its own pins
 abbrev pub both_seats : SeatAt → SeatAt → SeatAt
 both_seats own other = record own { permits = own.permits + other.permits }
 

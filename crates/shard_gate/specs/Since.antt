@@ -5,7 +5,7 @@ use Rattle.tile_store.specs.Tile.{CachedTile}
 use Rattle.tile_store.specs.Entry.{entry_at}
 use Rattle.tile_store.specs.Changes.{pinned_first, inserted}
 use Rattle.shard_gate.specs.Visit.{Visit, visits_at}
-use Rattle.shard_gate.specs.Given.{room_of, released}
+use Rattle.shard_gate.specs.Given.{released}
 use Rattle.shard_gate.specs.Gate.{GateState, PinSeatState, shard_of, slots_of}
 
 -- the shard of the gate is that of the key
@@ -19,7 +19,7 @@ pub data IsCallVisit (gate : GateState) (shard : ℕ) (v : Visit) : Type 0 where
   pins : (key : ℕ) → IsShardOf gate key shard → v.given ≡ Some (pinned_first key v.taken)
       → IsCallVisit gate shard v
   inserts : (tile : CachedTile) → IsShardOf gate tile.key shard
-      → v.given ≡ Some (inserted tile (room_of (slots_of gate.passes) v.taken) v.taken)
+      → v.given ≡ Some (inserted tile (slots_of gate.passes) v.taken)
       → IsCallVisit gate shard v
   releases : (key : ℕ) → IsShardOf gate key shard
       → v.given ≡ Some (released gate.share key v.taken) → IsCallVisit gate shard v

@@ -1,20 +1,22 @@
 -- What does a visit to a shard answer, and which entries does it leave?
-use Rattle.std.specs.Prelude.{◌≡◌, ℕ, List, ◌∷◌, Result, Option, option_map}
-use Rattle.std.specs.Prelude.{IfOk, IfErr, OnOk, OnErr}
+use Rattle.std.specs.Prelude.{◌≡◌, ◌≢◌, ℕ, ◌+◌, ◌*◌, ◌<◌, ◌≤◌, true, false, [], ◌∷◌, length}
+use Rattle.std.specs.Prelude.{slice_index, Result, Option}
+use Rattle.std.specs.Prelude.{None, IfOk}
 use Rattle.tex_world.specs.World.{Files}
 use Rattle.tile_store.specs.Tile.{CachedTile}
 use Rattle.tile_store.specs.Tag.{cut_of}
-use Rattle.tile_store.specs.Entry.{Entries, tile_at}
-use Rattle.tile_store.specs.Changes.{pinned_first, inserted, kept_tile}
+use Rattle.tile_store.specs.Entry.{Entries}
+use Rattle.tile_store.specs.Links.{is_in}
+use Rattle.tile_store.specs.Keys.{key_in}
+use Rattle.tile_store.specs.Slots.{ShardState}
 use Rattle.tile_store.specs.Lawful.{FitsCut, Lawful}
-use Rattle.shard_gate.specs.Visit.{Visit, visit}
-use Rattle.shard_gate.specs.Given.{room_of, IsFull}
 use Rattle.shard_gate.specs.Seated.{SeatAt}
 use Rattle.shard_gate.specs.Gate.{IsTileOf, IfFound}
-use Rattle.shard_gate.specs.declared.error.NotFound.{NotFound}
-use Rattle.shard_gate.specs.declared.error.NotFound.TheVariants as missed
-use Rattle.shard_gate.specs.declared.error.NotInserted.{NotInserted}
-use Rattle.shard_gate.specs.declared.error.NotInserted.TheVariants as turned_down
+use Rattle.shard_gate.specs.Words.{SlotWords, pinned_words, keyed_words, slots_of, max_pins}
+use Rattle.shard_gate.specs.Home.{words_of, IsStored, IsHome}
+use Rattle.shard_gate.specs.Turn.{terms_of}
+use Rattle.shard_gate.specs.declared.standing.Standing.{Standing}
+use Rattle.atomic_table.specs.Table.{Me}
 
 -- The seat is at the same shard, with the same permits.
 pub record IsSeatOf (old new : SeatAt) : Type 0 where
@@ -44,40 +46,58 @@ abbrev pub KeptAmong
 KeptAmong value files es tile answer = (tag : ℕ) → Lawful files tag es
     → FitsCut files (cut_of tag) tile → KeptUnder value files tag tile.key answer
 
--- why a shard did not pin a tile: full is said only where it is
-abbrev pub MissedCause : Entries → NotFound → Type 0
-MissedCause es missed.NoMemory = Unit {0}
-MissedCause es missed.Full = IsFull es
+-- ---- the words of the slots
 
--- why it did not keep one: full is said only then too
-abbrev pub TurnedDownCause : {W : Type 0} → Entries → NotInserted W → Type 0
-TurnedDownCause es turned_down.NoMemory = Unit {0}
-TurnedDownCause es (turned_down.Full back) = IsFull es
+-- The slot of this key has one pin more.
+pub record PinsSlot (key slot : ℕ) (old new : ShardState) : Type 0 where
+  pub inside : slot < length old.slots
+  pub key_is : slice_index (words_of old).keys slot ≡ key
+  pub words : words_of new ≡ pinned_words slot (words_of old)
 
--- The tile comes back from a shard that has no room for a pin.
-abbrev pub GivesBackIfFull : {W : Type 0} → CachedTile → NotInserted W → Type 0
-GivesBackIfFull tile turned_down.NoMemory = Unit {0}
-GivesBackIfFull tile (turned_down.Full back) = back ≡ tile
+-- The slot has this key and one pin more. Where it had another key, or none, it had no pin.
+pub record InsertsSlot (key slot : ℕ) (old new : ShardState) : Type 0 where
+  pub inside : slot < length old.slots
+  pub free : slice_index (words_of old).keys slot ≢ key → slice_index (words_of old).pins slot ≡ 0
+  pub words : words_of new ≡ pinned_words slot (keyed_words slot key (words_of old))
 
--- A visit that looked for a key: it pinned the tile, if it was there, or left the entries as they
--- were.
-pub record FindVisit {A : Type 0} (value : A → CachedTile) (key : ℕ)
-    (answer : Result (Option A) NotFound) (old new : List Visit) : Type 0 where
-  pub taken : Entries
-  pub given : Entries
-  pub found : IfOk answer (λ tile. option_map value tile ≡ tile_at key taken)
-  pub entries : OnOk answer (given ≡ pinned_first key taken)
-  pub cause : IfErr answer (MissedCause taken)
-  pub same : OnErr answer (given ≡ taken)
-  pub left : new ≡ visit taken given ∷ old
+-- These are the words of the shard but for the keys of the slots that are to be told, which are
+-- empty.
+pub record AreBehind (known : SlotWords) (s : ShardState) : Type 0 where
+  pub count : length known.keys ≡ length s.slots
+  pub pins : known.pins ≡ (words_of s).pins
+  pub keys : (slot : ℕ) → is_in slot s.left ≡ false
+      → slice_index known.keys slot ≡ slice_index (words_of s).keys slot
+  pub empty : (slot : ℕ) → is_in slot s.left ≡ true → key_in s.slots slot ≡ None
 
--- A visit that inserted a tile, with a pin, or left the entries as they were.
-pub record InsertVisit {A W : Type 0} (value : A → CachedTile) (slots : ℕ) (tile : CachedTile)
-    (answer : Result A (NotInserted W)) (old new : List Visit) : Type 0 where
-  pub taken : Entries
-  pub given : Entries
-  pub kept : IfOk answer (λ result. value result ≡ kept_tile tile taken)
-  pub entries : OnOk answer (given ≡ inserted tile (room_of slots taken) taken)
-  pub cause : IfErr answer (TurnedDownCause taken)
-  pub same : OnErr answer (given ≡ taken)
-  pub left : new ≡ visit taken given ∷ old
+-- ---- a seat that has the turn
+
+-- It may write a key into the slot and pin it: the slot has the key, or it has no pin.
+pub record MayKeep (slot key : ℕ) (v : Standing) : Type 0 where
+  pub inside : slot < slots_of v.passes
+  pub live : v.live ≡ true
+  pub turn : v.has_turn ≡ true
+  pub count : slot < length v.known.keys
+  pub room : length v.pins + 1 ≤ max_pins * v.permits
+  pub some : 1 ≤ key
+  pub free : slice_index v.known.keys slot ≢ key → slice_index v.known.pins slot ≡ 0
+
+module _ {W : Type 0} (value : W → ShardState) (files : Files) where
+  -- The seat has the turn and the shard, and knows its words but for the keys of the slots that are
+  -- to be told.
+  pub record IsTellingOf (me : Me W Standing) : Type 0 where
+    pub body : W
+    pub slots : me.1 ≡ (0, body) ∷ []
+    pub live : me.0.live ≡ true
+    pub turn : me.0.has_turn ≡ true
+    pub behind : AreBehind me.0.known (value body)
+    pub stored : IsStored files (terms_of me.0) (value body)
+
+  -- Each slot was told. The seat knows the words of the shard, which has the same entries.
+  pub record HasToldOf (old new : Me W Standing) : Type 0 where
+    pub body : W
+    pub before : W
+    pub slots : new.1 ≡ (0, body) ∷ []
+    pub slots_before : old.1 ≡ (0, before) ∷ []
+    pub view : new.0 ≡ record old.0 { known = words_of (value body) }
+    pub entries : (value body).entries ≡ (value before).entries
+    pub home : IsHome files (terms_of old.0) (value body)

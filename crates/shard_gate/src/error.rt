@@ -27,19 +27,3 @@ pub struct NotUnpinned<W: World, B> {
     pub pin: Pin<W>,
     pub busy: B,
 }
-
-/// Why a shard did not pin a tile.
-pub(crate) enum NotFound {
-    /// No memory was found.
-    NoMemory,
-    /// It counts as many pins as it can.
-    Full,
-}
-
-/// Why a shard did not keep a tile.
-pub(crate) enum NotInserted<W: World> {
-    /// No memory was found. The tile is given up.
-    NoMemory,
-    /// It counts as many pins as it can. The tile comes back.
-    Full(Tile<W>),
-}

@@ -1,8 +1,8 @@
 ghost use Rattle.std.specs.Prelude.{◌≡◌, ◌-◌, ◌*◌, ◌<◌, ◌≤◌, [], length, Contains};
-ghost use Rattle.std.specs.Prelude.{IfOk, IfErr, OnOk, OnErr, OnSome, option_map};
+ghost use Rattle.std.specs.Prelude.{IfOk, IfErr, OnOk, OnErr, OnSome, IsSome, option_map};
 ghost use Rattle.shard_gate.specs.Gate.{max_pins, shard_of, AreLimits, IsNewGate, IsFirstSeat};
 ghost use Rattle.shard_gate.specs.Gate.{IsTileOf, HasCellRect, SamePins, OnePinMore, OnePinLess};
-ghost use Rattle.shard_gate.specs.Gate.{IsSameSeat, slots_of, max_passes};
+ghost use Rattle.shard_gate.specs.Gate.{IsSameSeat, slots_of};
 ghost use Rattle.shard_gate.specs.Given.{Finds, Inserts, Releases, Purges, Counts};
 ghost use Rattle.shard_gate.specs.Given.{AtShard, AtFirst, AtSome};
 ghost use Rattle.shard_gate.specs.Calls.{tile_of, VisitsAt, IfNotPinned, IfNotInserted};
@@ -18,7 +18,8 @@ use crate::pin::Pin;
 use crate::pin_seat::PinSeat;
 use crate::rule::Terms;
 use crate::seats::{join_seats, split_seats};
-use crate::shard_table::{ShardTable, Stale};
+use crate::shard_table::ShardTable;
+use crate::work::Stale;
 use std::alloc::Global;
 use std::marker::Model;
 use std::sync::Arc;
@@ -50,20 +51,6 @@ impl<W: World> Model for Gate<W> {
     ghost invariant = { λ a. IsGate a.tables.items a.share a.cut a.passes };
 }
 
-/// The pins that a seat may hold for each of its permits.
-const PINS: usize = 7;
-
-/// The tiles that a shard keeps beside as many as all seats may pin.
-const MORE_SLOTS: u32 = 1024;
-
-/// The slots of each shard of a gate with so many permits.
-fn slots_for(passes: u32) -> u32
-    requires { passes ≤ max_passes }
-    ensures { result ≡ slots_of passes }
-{
-    PINS as u32 * passes + MORE_SLOTS
-}
-
 impl<W: World> Gate<W> {
     /// A gate with no tile, whose shards have equal shares of the budget, and its first seat.
     pub fn new(
@@ -80,16 +67,12 @@ impl<W: World> Gate<W> {
         let share = budget / shards as u64;
         let tag = tag_for(share, cut);
         let terms = Terms { tag, passes };
-        let Ok((tables, seats)) = laid(alloc, shards as usize, slots_for(passes), &terms) else {
-            return Err(NoMemory);
-        };
-        let Ok(pins) = Vec::with_capacity(alloc, PINS * passes as usize) else {
+        let Ok((tables, seats)) = laid(alloc, shards as usize, &terms) else {
             return Err(NoMemory);
         };
         let seat = PinSeat {
             seats,
             permits: passes,
-            pins,
         };
         let gate = Gate {
             alloc,
@@ -111,6 +94,8 @@ impl<W: World> Gate<W> {
         requires gate { p.old.gate ≡ self.now.id }
         requires room { length p.old.pins < max_pins * p.old.permits }
         ensures some { IfFound result (λ pin. IsTileOf W.files self.now.cut key pin.tile) }
+        // What the seat has pinned is there.
+        ensures held { IfOk result (λ found. Contains p.old.pins key → IsSome found) }
         // What the call leaves of the seat.
         ensures pinned { IfOk result (λ found. OnSome found (OnePinMore key p.old p.new)) }
         ensures none { IfNotFound result (SamePins p.old p.new) }
@@ -121,10 +106,7 @@ impl<W: World> Gate<W> {
         ensures refused { IfErr result (λ e. VisitsAt self.now key (IfNotPinned e) p.old p.new) }
     {
         match self.find(waiter, p, key) {
-            Ok(Some(tile)) => {
-                p.note(key);
-                Ok(Some(Pin { tile }))
-            }
+            Ok(Some(tile)) => Ok(Some(Pin { tile })),
             Ok(None) => Ok(None),
             Err(e) => Err(e),
         }
@@ -154,10 +136,7 @@ impl<W: World> Gate<W> {
     {
         let key = tile.key();
         match self.insert(waiter, p, key, tile) {
-            Ok(tile) => {
-                p.note(key);
-                Ok(Pin { tile })
-            }
+            Ok(tile) => Ok(Pin { tile }),
             Err(e) => Err(e),
         }
     }
@@ -180,10 +159,7 @@ impl<W: World> Gate<W> {
     {
         let key = pin.tile.key();
         match self.release(waiter, p, key) {
-            Ok(()) => {
-                p.forget(key);
-                Ok(())
-            }
+            Ok(()) => Ok(()),
             Err(busy) => Err(NotUnpinned { pin, busy }),
         }
     }
@@ -243,19 +219,12 @@ impl<W: World> Gate<W> {
         ensures kept { OnOk result (AfterSplit p.old p.new) }
         ensures err { OnErr result (IsSameSeat p.old p.new) }
     {
-        let Ok(pins) = Vec::with_capacity(self.alloc, PINS * self.passes as usize) else {
-            return Err(NoMemory);
-        };
         let Ok(mut seats) = Vec::with_capacity(self.alloc, self.tables.len()) else {
             return Err(NoMemory);
         };
         split_seats(self.tables.as_slice(), p.seats.as_mut_slice(), &mut seats);
         p.permits -= 1;
-        Ok(PinSeat {
-            seats,
-            permits: 1,
-            pins,
-        })
+        Ok(PinSeat { seats, permits: 1 })
     }
 
     /// The seat gets the permits of another one, which holds no pin and ends. It takes no memory.
@@ -266,11 +235,7 @@ impl<W: World> Gate<W> {
         ensures joined { AfterJoin other p.old p.new }
         ensures few { p.new.permits ≤ self.now.passes }
     {
-        let PinSeat {
-            seats,
-            permits,
-            pins: _,
-        } = other;
+        let PinSeat { seats, permits } = other;
         join_seats(self.tables.as_slice(), p.seats.as_mut_slice(), seats);
         p.permits += permits;
     }
@@ -310,9 +275,13 @@ impl<W: World> Gate<W> {
         p: &mut PinSeat<W>,
         key: TileKey,
     ) -> Result<Option<Arc<Tile<W>>>, PinError<T::Busy>>
-        requires { p.old.gate ≡ self.now.id }
+        requires gate { p.old.gate ≡ self.now.id }
+        requires room { length p.old.pins < max_pins * p.old.permits }
         ensures some { IfFound result (λ tile. IsTileOf W.files self.now.cut key (arc_value tile)) }
-        ensures same { SamePins p.old p.new }
+        ensures held { IfOk result (λ tile. Contains p.old.pins key → IsSome tile) }
+        ensures pinned { IfOk result (λ tile. OnSome tile (OnePinMore key p.old p.new)) }
+        ensures none { IfNotFound result (SamePins p.old p.new) }
+        ensures err { OnErr result (SamePins p.old p.new) }
         ensures visits { IfOk result (λ tile.
             VisitsAt self.now key (Finds key (option_map arc_value tile)) p.old p.new) }
         ensures refused { IfErr result (λ e. VisitsAt self.now key (IfNotPinned e) p.old p.new) }
@@ -330,29 +299,31 @@ impl<W: World> Gate<W> {
         tile: Tile<W>,
     ) -> Result<Arc<Tile<W>>, NotPinned<W, T::Busy>>
         requires gate { p.old.gate ≡ self.now.id }
+        requires room { length p.old.pins < max_pins * p.old.permits }
         requires key { tile.key ≡ key }
         requires fits { FitsCut W.files self.now.cut tile }
         ensures ok { IfOk result (λ kept. IsTileOf W.files self.now.cut tile.key (arc_value kept)) }
         ensures back { IfErr result (GivesBackIfBusy tile) }
-        ensures same { SamePins p.old p.new }
+        ensures pinned { OnOk result (OnePinMore key p.old p.new) }
+        ensures err { OnErr result (SamePins p.old p.new) }
         ensures visits { IfOk result (λ kept. VisitsAt self.now key
             (Inserts (slots_of self.now.passes) tile (arc_value kept)) p.old p.new) }
         ensures refused { IfErr result (λ e. VisitsAt self.now key (IfNotInserted e) p.old p.new) }
     {
         let shard = self.shard_of(key);
-        let slots = slots_for(self.passes);
-        self.tables[shard].insert(waiter, &mut p.seats[shard], tile, slots)
+        self.tables[shard].insert(waiter, &mut p.seats[shard], tile)
     }
 
-    /// Takes a pin from the tile of a key in its shard, where it has one.
+    /// Takes a pin from the tile of a key in its shard.
     fn release<T: Waiter>(
         &self,
         waiter: &T,
         p: &mut PinSeat<W>,
         key: TileKey,
     ) -> Result<(), T::Busy>
-        requires { p.old.gate ≡ self.now.id }
-        ensures same { SamePins p.old p.new }
+        requires gate { p.old.gate ≡ self.now.id }
+        requires made { Contains p.old.pins key }
+        ensures ok { OnOk result (OnePinLess key p.old p.new) }
         ensures visits { OnOk result
             (VisitsAt self.now key (Releases self.now.share key) p.old p.new) }
         ensures err { OnErr result (IsSameSeat p.old p.new) }

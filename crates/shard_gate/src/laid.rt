@@ -3,7 +3,7 @@ ghost use Rattle.std.specs.Prelude.{◌≡◌, ◌≤◌, length, map, IfOk};
 ghost use Rattle.tiff_format.specs.Cut.{IsCut};
 ghost use Rattle.tile_store.specs.Tag.{tag_of};
 ghost use Rattle.shard_gate.specs.Seated.{AreMadeBy, first_seat};
-ghost use Rattle.shard_gate.specs.Gate.{max_budget};
+ghost use Rattle.shard_gate.specs.Gate.{max_budget, max_passes};
 
 use crate::rule::Terms;
 use crate::shard_table::{ShardSeat, ShardTable};
@@ -28,13 +28,13 @@ pub(crate) fn tag_for(share: u64, cut: Cut) -> u64
     SHARE_STEP * share + 2 * side + if cut.automip { 1 } else { 0 }
 }
 
-/// So many shards with no tile, of so many slots each, and a seat at each, which has all permits.
+/// So many shards with no tile, and a seat at each, which has all permits.
 pub(crate) fn laid<W: World>(
     alloc: Global,
     shards: usize,
-    slots: u32,
     terms: &Terms,
 ) -> Result<(Vec<ShardTable<W>>, Vec<ShardSeat<W>>), AllocError>
+    requires { terms.now.passes ≤ max_passes }
     ensures made { IfOk result (λ made. AreMadeBy terms.now made.0.items) }
     ensures count { IfOk result (λ made. length made.0.items ≡ shards) }
     ensures seats { IfOk result (λ made. made.1.items ≡ map first_seat made.0.items) }
@@ -42,9 +42,11 @@ pub(crate) fn laid<W: World>(
     let mut tables = Vec::with_capacity(alloc, shards)?;
     let mut seats = Vec::with_capacity(alloc, shards)?;
     for _shard in 0..shards {
-        let Ok(shard) = Shard::with_slots(alloc, slots) else {
+        let Ok(shard) = Shard::with_slots(alloc, terms.slots()) else {
             return Err(AllocError);
         };
+        // Each of its tiles is in a slot.
+        let _tiles = shard.tiles();
         let (table, seat) = TurnTable::new(alloc, terms, CachePadded::new(shard))?;
         tables.push_reserved(table);
         seats.push_reserved(seat);

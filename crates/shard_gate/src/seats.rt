@@ -1,5 +1,7 @@
 //! The seats of one caller, one at each table.
-ghost use Rattle.std.specs.Prelude.{◌≡◌, ◌+◌, ◌<◌, ◌≤◌, [], length, map, All, vec_capacity};
+ghost use Rattle.std.specs.Prelude.{◌≡◌, ◌-◌, ◌*◌, ◌<◌, ◌≤◌, [], length, map, All};
+ghost use Rattle.std.specs.Prelude.{vec_capacity};
+ghost use Rattle.shard_gate.specs.Words.{max_pins};
 ghost use Rattle.shard_gate.specs.Seated.{shard_of_seat, kept_seat, new_seat, joined_seats};
 
 use crate::rule::BodyRule;
@@ -14,6 +16,7 @@ pub(crate) fn split_seats<S: Drop, L: BodyRule<S>>(
 )
     requires tables { map shard_of_seat seats.old ≡ tables.now }
     requires permits { All (λ s. 1 < s.permits) seats.old }
+    requires pins { All (λ s. length s.pins ≤ max_pins * (s.permits - 1)) seats.old }
     requires empty { others.old.items ≡ [] }
     requires room { length seats.old ≤ vec_capacity others.old }
     ensures kept { seats.new ≡ map kept_seat seats.old }
@@ -32,6 +35,7 @@ pub(crate) fn join_seats<S: Drop, L: BodyRule<S>>(
 )
     requires tables { map shard_of_seat seats.old ≡ tables.now }
     requires others { map shard_of_seat others.items ≡ tables.now }
+    requires pins { All (λ s. s.pins ≡ []) others.items }
     ensures joined { seats.new ≡ joined_seats seats.old others.items }
     ensures few { All (λ s. s.permits ≤ s.shard.passes) seats.new }
 {

@@ -1,19 +1,28 @@
-//! Visits to one shard: the seat takes the turn, works on the tiles, and gives the turn back.
-ghost use Rattle.std.specs.Prelude.{◌≡◌, ◌≤◌, OnErr, IfOk, IfErr, OnOk, option_map};
+//! Visits to one shard: the seat takes the turn, works on the tiles, writes what changed into the
+//! words of their slots, and gives the turn back.
+ghost use Rattle.std.specs.Prelude.{◌≡◌, ◌≢◌, ◌*◌, ◌<◌, ◌≤◌, ◌∷◌, true, length, slice_index, map};
+ghost use Rattle.std.specs.Prelude.{IfOk, IfErr, IfNone, IfSome, IsSome, OnOk, OnErr, OnSome};
+ghost use Rattle.std.specs.Prelude.{option_map, Contains, IsPermutation};
 ghost use Rattle.std.specs.Arc.{arc_value};
+ghost use Rattle.crossbeam_utils.specs.Padded.{padded_value};
 ghost use Rattle.tile_store.specs.Tag.{share_in_tag, cut_of};
 ghost use Rattle.tile_store.specs.Lawful.{FitsCut};
+ghost use Rattle.shard_gate.specs.Words.{max_pins, slots_of};
+ghost use Rattle.shard_gate.specs.Turn.{with_pin, with_key};
 ghost use Rattle.shard_gate.specs.Given.{Finds, Inserts, Releases, Purges, Counts};
-ghost use Rattle.shard_gate.specs.Work.{IsSeatOf, FoundUnder, KeptUnder, GivesBackIfFull};
-ghost use Rattle.shard_gate.specs.Work.{FindVisit, InsertVisit};
+ghost use Rattle.shard_gate.specs.Work.{IsSeatOf, FoundUnder, KeptUnder, MayKeep};
+ghost use Rattle.shard_gate.specs.Work.{IsTellingOf, HasToldOf};
 ghost use Rattle.shard_gate.specs.Calls.{IfNotPinned, IfNotInserted};
 ghost use Rattle.shard_gate.specs.Gate.{GivesBackIfBusy};
+ghost use Rattle.shard_gate.specs.Seated.{seat_at};
 
-use crate::error::{NotFound, NotInserted, NotPinned, PinError};
+use crate::error::{NotPinned, PinError};
 use crate::rule::BodyRule;
+use crate::standing::Standing;
 use crate::turn_seat::TurnSeat;
 use crate::turn_table::TurnTable;
-use crate::work::{count_in, find_in, insert_in, release_in};
+use crate::work::{InSlot, Stale, count_in, find_in, insert_in, purge_in, release_in};
+use atomic_table::Seat;
 use crossbeam_utils::CachePadded;
 use std::marker::PhantomData;
 use std::sync::Arc;
@@ -30,140 +39,117 @@ pub(crate) type ShardTable<W> = TurnTable<Slot<W>, LawfulShards<W>>;
 
 pub(crate) type ShardSeat<W> = TurnSeat<Slot<W>>;
 
-/// The unpinned tiles of a file whose generation is below the bound.
-#[derive(Clone, Copy)]
-pub(crate) struct Stale {
-    pub file: u32,
-    pub below: u32,
-}
-
-/// The tiles of a shard are lawful for its tag.
+/// The tiles of a shard are lawful for its tag, and its words say which slots have them.
 pub(crate) struct LawfulShards<W> {
     world: PhantomData<W>,
 }
 
 impl<W: World> BodyRule<Slot<W>> for LawfulShards<W> {
     ghost use Rattle.crossbeam_utils.specs.Padded.{padded_value};
-    ghost use Rattle.tile_store.specs.Entry.{Entries};
     ghost use Rattle.tile_store.specs.Slots.{ShardState};
-    ghost use Rattle.tile_store.specs.Lawful.{Lawful};
+    ghost use Rattle.shard_gate.specs.Home.{IsHome, words_of};
 
-    ghost lawful = { λ tag slot. Lawful W.files tag (padded_value slot).entries };
+    ghost lawful = { λ terms slot. IsHome W.files terms (padded_value slot) };
 
     ghost shown = { λ slot. (padded_value slot).entries };
+
+    ghost words = { λ slot. words_of (padded_value slot) };
 }
 
 impl<W: World> ShardTable<W> {
-    /// One visit that pins the tile of a key, if it is there.
-    fn visit_find<T: Waiter>(
-        &self,
-        waiter: &T,
-        seat: &mut ShardSeat<W>,
-        key: TileKey,
-    ) -> Result<Result<Option<Arc<Tile<W>>>, NotFound>, T::Busy>
-        requires { seat.old.shard ≡ self.now }
-        ensures some { IfOk result (FoundUnder arc_value W.files self.now.tag key) }
-        ensures seat { IsSeatOf seat.old seat.new }
-        ensures ok { IfOk result (λ answer.
-            FindVisit arc_value key answer seat.old.visits seat.new.visits) }
-        ensures err { OnErr result (seat.new ≡ seat.old) }
-    {
-        if let Err(busy) = self.take(waiter, &mut seat.seat) {
-            return Err(busy);
-        }
-        let slot = seat.seat.slot_mut(&self.table.shared, 0);
-        let answer = find_in(slot, key);
-        self.give(&mut seat.seat);
-        Ok(answer)
-    }
-
-    /// Pins the tile of a key, if it is there. A shard that counts as many pins as it can is
-    /// visited again.
+    /// Pins the tile of a key, if it is there.
     pub(crate) fn find<T: Waiter>(
         &self,
         waiter: &T,
         seat: &mut ShardSeat<W>,
         key: TileKey,
     ) -> Result<Option<Arc<Tile<W>>>, PinError<T::Busy>>
-        requires { seat.old.shard ≡ self.now }
+        requires shard { seat.old.shard ≡ self.now }
+        requires room { length seat.old.pins < max_pins * seat.old.permits }
         ensures some { FoundUnder arc_value W.files self.now.tag key result }
+        ensures held { IfOk result (λ tile. Contains seat.old.pins key → IsSome tile) }
         ensures seat { IsSeatOf seat.old seat.new }
+        ensures pinned { IfOk result (λ tile. OnSome tile (seat.new.pins ≡ key ∷ seat.old.pins)) }
+        ensures none { IfOk result (λ tile. IfNone tile (seat.new.pins ≡ seat.old.pins)) }
+        ensures same { OnErr result (seat.new.pins ≡ seat.old.pins) }
         ensures ok { IfOk result (λ tile.
             Finds key (option_map arc_value tile) seat.old.visits seat.new.visits) }
         ensures err { IfErr result (λ e. IfNotPinned e seat.old.visits seat.new.visits) }
     {
-        for failed in 0..waiter.tries() {
-            match self.visit_find(waiter, seat, key) {
-                Ok(Ok(found)) => return Ok(found),
-                Ok(Err(NotFound::NoMemory)) => return Err(PinError::NoMemory),
-                Ok(Err(NotFound::Full)) => waiter.pause(failed),
-                Err(busy) => return Err(PinError::Busy(busy)),
-            }
-        }
-        Err(PinError::Busy(waiter.busy()))
-    }
-
-    /// One visit that keeps a tile, with a pin.
-    fn visit_insert<T: Waiter>(
-        &self,
-        waiter: &T,
-        seat: &mut ShardSeat<W>,
-        tile: Tile<W>,
-        slots: u32,
-    ) -> Result<Result<Arc<Tile<W>>, NotInserted<W>>, (Tile<W>, T::Busy)>
-        requires shard { seat.old.shard ≡ self.now }
-        requires fits { FitsCut W.files (cut_of self.now.tag) tile }
-        ensures some { IfOk result (KeptUnder arc_value W.files self.now.tag tile.key) }
-        ensures full { IfOk result (λ answer. IfErr answer (GivesBackIfFull tile)) }
-        ensures seat { IsSeatOf seat.old seat.new }
-        ensures ok { IfOk result (λ answer.
-            InsertVisit arc_value slots tile answer seat.old.visits seat.new.visits) }
-        ensures back { IfErr result (λ back. back.0 ≡ tile) }
-        ensures err { OnErr result (seat.new ≡ seat.old) }
-    {
         if let Err(busy) = self.take(waiter, &mut seat.seat) {
-            return Err((tile, busy));
+            return Err(PinError::Busy(busy));
         }
         let slot = seat.seat.slot_mut(&self.table.shared, 0);
-        let answer = insert_in(slot, tile, slots);
-        self.give(&mut seat.seat);
-        Ok(answer)
+        match find_in(slot, key) {
+            Ok(Some(InSlot { tile, slot })) => {
+                self.pin_slot(&mut seat.seat, slot);
+                self.give(&mut seat.seat);
+                Ok(Some(tile))
+            }
+            Ok(None) => {
+                self.give(&mut seat.seat);
+                Ok(None)
+            }
+            Err(_) => {
+                self.give(&mut seat.seat);
+                Err(PinError::NoMemory)
+            }
+        }
     }
 
-    /// Keeps a tile, with a pin. A shard that counts as many pins as it can is visited again.
+    /// Keeps a tile, with a pin.
     pub(crate) fn insert<T: Waiter>(
         &self,
         waiter: &T,
         seat: &mut ShardSeat<W>,
         tile: Tile<W>,
-        slots: u32,
     ) -> Result<Arc<Tile<W>>, NotPinned<W, T::Busy>>
         requires shard { seat.old.shard ≡ self.now }
+        requires room { length seat.old.pins < max_pins * seat.old.permits }
         requires fits { FitsCut W.files (cut_of self.now.tag) tile }
         ensures some { KeptUnder arc_value W.files self.now.tag tile.key result }
         ensures back { IfErr result (GivesBackIfBusy tile) }
         ensures seat { IsSeatOf seat.old seat.new }
+        ensures pinned { OnOk result (seat.new.pins ≡ tile.key ∷ seat.old.pins) }
+        ensures same { OnErr result (seat.new.pins ≡ seat.old.pins) }
         ensures ok { IfOk result (λ kept.
-            Inserts slots tile (arc_value kept) seat.old.visits seat.new.visits) }
+            Inserts (slots_of self.now.passes) tile (arc_value kept)
+            seat.old.visits seat.new.visits) }
         ensures err { IfErr result (λ e. IfNotInserted e seat.old.visits seat.new.visits) }
     {
-        let mut tile = tile;
-        for failed in 0..waiter.tries() {
-            match self.visit_insert(waiter, seat, tile, slots) {
-                Ok(Ok(kept)) => return Ok(kept),
-                Ok(Err(NotInserted::NoMemory)) => return Err(NotPinned::NoMemory),
-                Ok(Err(NotInserted::Full(back))) => tile = back,
-                Err((tile, busy)) => return Err(NotPinned::Busy { tile, busy }),
-            }
-            waiter.pause(failed);
+        if let Err(busy) = self.take(waiter, &mut seat.seat) {
+            return Err(NotPinned::Busy { tile, busy });
         }
-        Err(NotPinned::Busy {
-            tile,
-            busy: waiter.busy(),
-        })
+        let key = tile.key().number();
+        let slot = seat.seat.slot_mut(&self.table.shared, 0);
+        match insert_in(slot, tile) {
+            Ok(InSlot { tile, slot }) => {
+                self.keep_slot(&mut seat.seat, slot, key);
+                self.give(&mut seat.seat);
+                Ok(tile)
+            }
+            Err(_) => {
+                self.give(&mut seat.seat);
+                Err(NotPinned::NoMemory)
+            }
+        }
     }
 
-    /// Takes a pin from the tile of a key, where it has one.
+    /// The slot has this key, and a pin more. It had the key, or it had no pin.
+    fn keep_slot(&self, seat: &mut Seat<Slot<W>, Standing>, slot: u32, key: u64)
+        requires table { (seat_at seat.old).shard ≡ self.now }
+        requires may { MayKeep slot key seat.old.me.0 }
+        ensures seat { seat.new.me
+            ≡ (with_pin slot (with_key slot key seat.old.me.0), seat.old.me.1) }
+        ensures table { seat.new.table_id ≡ seat.old.table_id }
+    {
+        if self.key_in(seat, slot) != key {
+            self.fill_slot(seat, slot, key);
+        }
+        self.pin_slot(seat, slot);
+    }
+
+    /// Takes a pin of the seat from the tile of a key.
     pub(crate) fn release<T: Waiter>(
         &self,
         waiter: &T,
@@ -172,8 +158,10 @@ impl<W: World> ShardTable<W> {
         share: u64,
     ) -> Result<(), T::Busy>
         requires shard { seat.old.shard ≡ self.now }
+        requires made { Contains seat.old.pins key }
         requires share { share_in_tag self.now.tag ≡ share }
         ensures seat { IsSeatOf seat.old seat.new }
+        ensures pins { OnOk result (IsPermutation seat.old.pins (key ∷ seat.new.pins)) }
         ensures ok { OnOk result (Releases share key seat.old.visits seat.new.visits) }
         ensures err { OnErr result (seat.new ≡ seat.old) }
     {
@@ -181,9 +169,26 @@ impl<W: World> ShardTable<W> {
             return Err(busy);
         }
         let slot = seat.seat.slot_mut(&self.table.shared, 0);
-        release_in(slot, key, share);
+        let unpinned = release_in(slot, key, share);
+        self.unpin_slot(&mut seat.seat, unpinned);
+        self.tell_left(&mut seat.seat);
         self.give(&mut seat.seat);
         Ok(())
+    }
+
+    /// The slots that tiles left have no key any more.
+    fn tell_left(&self, seat: &mut Seat<Slot<W>, Standing>)
+        requires table { (seat_at seat.old).shard ≡ self.now }
+        requires telling { IsTellingOf padded_value W.files seat.old.me }
+        ensures told { HasToldOf padded_value W.files seat.old.me seat.new.me }
+        ensures table { seat.new.table_id ≡ seat.old.table_id }
+    {
+        let slots = seat.slot_mut(&self.table.shared, 0).slots();
+        'telling: while let Some(slot) = seat.slot_mut(&self.table.shared, 0).left() {
+            if slot < slots {
+                self.fill_slot(seat, slot, 0);
+            }
+        }
     }
 
     /// The stale tiles leave.
@@ -195,6 +200,7 @@ impl<W: World> ShardTable<W> {
     ) -> Result<(), T::Busy>
         requires shard { seat.old.shard ≡ self.now }
         ensures seat { IsSeatOf seat.old seat.new }
+        ensures pins { seat.new.pins ≡ seat.old.pins }
         ensures ok { OnOk result
             (Purges stale.file stale.below seat.old.visits seat.new.visits) }
         ensures err { OnErr result (seat.new ≡ seat.old) }
@@ -203,7 +209,8 @@ impl<W: World> ShardTable<W> {
             return Err(busy);
         }
         let slot = seat.seat.slot_mut(&self.table.shared, 0);
-        slot.purge(stale.file, stale.below);
+        purge_in(slot, stale);
+        self.tell_left(&mut seat.seat);
         self.give(&mut seat.seat);
         Ok(())
     }
@@ -220,6 +227,7 @@ impl<W: World> ShardTable<W> {
         ensures share { IfOk result (λ count. count.share ≡ share) }
         ensures within { IfOk result (λ count. count.loose ≤ count.share) }
         ensures seat { IsSeatOf seat.old seat.new }
+        ensures pins { seat.new.pins ≡ seat.old.pins }
         ensures ok { IfOk result (λ count.
             Counts W.files self.now.tag count seat.old.visits seat.new.visits) }
         ensures err { OnErr result (seat.new ≡ seat.old) }

@@ -1,5 +1,5 @@
 //! The kinds of step, and what each tells its seat.
-ghost use Rattle.shard_gate.specs.Turn.{Took, Gave, Counted};
+ghost use Rattle.shard_gate.specs.Turn.{Took, Gave, Counted, Looked, Pinned, Unpinned, Filled};
 ghost use Rattle.shard_gate.specs.Turn.{kept_standing, new_standing};
 ghost use Rattle.shard_gate.specs.Turn.{both_standings, spent_standing};
 
@@ -14,7 +14,7 @@ pub(crate) struct Take<L> {
 }
 
 impl<S, L: BodyRule<S>> Play<S, Standing> for Take<L> {
-    ghost then = { Took L.lawful L.shown };
+    ghost then = { Took L.lawful L.shown L.words };
 }
 
 /// A store of 0 to the turn word.
@@ -31,6 +31,34 @@ pub(crate) struct Count;
 
 impl<S> Play<S, Standing> for Count {
     ghost then = { Counted };
+}
+
+/// A load of the key word of a slot.
+pub(crate) struct Look;
+
+impl<S> Play<S, Standing> for Look {
+    ghost then = { Looked };
+}
+
+/// An addition of 1 to the pin word of a slot.
+pub(crate) struct PinSlot;
+
+impl<S> Play<S, Standing> for PinSlot {
+    ghost then = { Pinned };
+}
+
+/// A subtraction of 1 from the pin word of a slot.
+pub(crate) struct UnpinSlot;
+
+impl<S> Play<S, Standing> for UnpinSlot {
+    ghost then = { Unpinned };
+}
+
+/// A store to the key word of a slot.
+pub(crate) struct FillSlot;
+
+impl<S> Play<S, Standing> for FillSlot {
+    ghost then = { Filled };
 }
 
 /// One permit goes to the new seat.

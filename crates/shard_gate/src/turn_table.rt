@@ -1,37 +1,46 @@
-ghost use Rattle.std.specs.Prelude.{◌≡◌, ◌<◌, ◌≤◌, true, false, [], ◌∷◌, slice_index};
-ghost use Rattle.std.specs.Prelude.{IfOk, OnOk, OnErr};
-ghost use Rattle.shard_gate.specs.Turn.{turn_word, tag_word, HasBody, AreLawful};
-ghost use Rattle.shard_gate.specs.Turn.{without_turn, entries_of};
+ghost use Rattle.std.specs.Prelude.{◌≡◌, ℕ, ◌-◌, ◌*◌, ◌<◌, ◌≤◌, true, false, [], length, slice_index};
+ghost use Rattle.std.specs.Prelude.{◌∷◌, IfOk, OnOk, OnErr};
+ghost use Rattle.shard_gate.specs.Words.{turn_word, tag_word, first_word, word_count};
+ghost use Rattle.shard_gate.specs.Words.{max_passes, max_pins, AreBlank};
+ghost use Rattle.shard_gate.specs.Turn.{HasBody, AreLawful, MayLook, MayPin, MayUnpin, MayFill};
+ghost use Rattle.shard_gate.specs.Turn.{without_turn, entries_of, with_pin, without_pin, with_key};
 ghost use Rattle.shard_gate.specs.Seated.{IsIdle, seat_at, IsMadeBy, first_seat};
 ghost use Rattle.shard_gate.specs.Seated.{kept_seat, new_seat, both_seats};
 
 use crate::rule::{BodyRule, Terms, Turns};
 use crate::standing::Standing;
-use crate::steps::{AllPermits, Count, Give, OnePermit, Take};
+use crate::steps::{AllPermits, Count, FillSlot, Give, Look, OnePermit, PinSlot, Take, UnpinSlot};
 use crate::turn_seat::TurnSeat;
 use atomic_table::{Refused, Seat, Table};
 use std::alloc::{AllocError, Global};
 use std::marker::Model;
 use waiter::Waiter;
 
-/// The words of a table, of which two in the middle are used. So within 128 bytes of the turn, as
-/// much as a processor fetches at once, stands nothing that another table writes.
-const WORDS: usize = 32;
-
-/// The word that is 1 while a seat has the turn.
+/// The word that is 1 while a seat has the turn. Within 128 bytes of it, as much as a processor
+/// fetches at once, stands nothing that is written without the turn.
 const TURN: usize = 16;
 
 /// The word that is the table's tag.
 const TAG: usize = 17;
 
-/// The words of a new table: the turn is free, and the tag is told.
-fn words_of(tag: u64) -> [u64; WORDS]
-    ensures turn { slice_index result turn_word ≡ 0 }
-    ensures tag { slice_index result tag_word ≡ tag }
+/// The key of the first slot. Its pins follow, and then the next slot.
+const KEYS: usize = 32;
+
+/// The pins of the first slot.
+const PINS: usize = 33;
+
+/// The words of a new table: the turn is free, the tag is told, and no slot has a key or a pin.
+fn words_of(alloc: Global, terms: &Terms) -> Result<Vec<u64>, AllocError>
+    requires { terms.now.passes ≤ max_passes }
+    ensures count { IfOk result (λ words. length words.items ≡ word_count terms.now.passes) }
+    ensures turn { IfOk result (λ words. slice_index words.items turn_word ≡ 0) }
+    ensures tag { IfOk result (λ words. slice_index words.items tag_word ≡ terms.now.tag) }
+    ensures slots { IfOk result (λ words.
+        (k : ℕ) → first_word ≤ k → slice_index words.items k ≡ 0) }
 {
-    let mut words = [0; WORDS];
-    words[TAG] = tag;
-    words
+    let mut words = vec![in alloc; 0; KEYS + 2 * terms.slots() as usize]?;
+    words[TAG] = terms.tag;
+    Ok(words)
 }
 
 /// A body that threads work on one at a time. In a clause it is which table it is.
@@ -57,17 +66,18 @@ impl<S: Drop, L: BodyRule<S>> TurnTable<S, L> {
         terms: &Terms,
         body: S,
     ) -> Result<(TurnTable<S, L>, TurnSeat<S>), AllocError>
-        requires { L.lawful terms.now.tag body }
+        requires few { terms.now.passes ≤ max_passes }
+        requires lawful { L.lawful terms.now body }
+        requires blank { AreBlank terms.now.passes (L.words body) }
         ensures terms { IfOk result (λ made. IsMadeBy terms.now.tag terms.now.passes made.0) }
         ensures seat { IfOk result (λ made. made.1 ≡ first_seat made.0) }
     {
-        let Terms { tag, passes } = *terms;
-        let words = words_of(tag);
+        let words = words_of(alloc, terms)?;
         let mut slots = Vec::with_capacity(alloc, 1)?;
         slots.push_reserved(body);
-        match Table::new(alloc, &words, slots, terms) {
+        match Table::new(alloc, words.as_slice(), slots, terms) {
             Ok((table, seat)) => {
-                let permits = passes;
+                let permits = terms.passes;
                 Ok((TurnTable { table }, TurnSeat { seat, permits }))
             }
             Err(Refused { slots: _ }) => Err(AllocError),
@@ -82,7 +92,7 @@ impl<S: Drop, L: BodyRule<S>> TurnTable<S, L> {
     ) -> Result<(), T::Busy>
         requires table { (seat_at seat.old).shard ≡ self.now }
         requires idle { IsIdle seat.old.me }
-        ensures ok { OnOk result (HasBody L.lawful L.shown seat.old.me.0 seat.new.me) }
+        ensures ok { OnOk result (HasBody L.lawful L.shown L.words seat.old.me.0 seat.new.me) }
         ensures err { OnErr result (seat.new.me ≡ seat.old.me) }
         ensures table { seat.new.table_id ≡ seat.old.table_id }
     {
@@ -99,7 +109,7 @@ impl<S: Drop, L: BodyRule<S>> TurnTable<S, L> {
     fn try_take(&self, seat: &mut Seat<S, Standing>) -> bool
         requires table { (seat_at seat.old).shard ≡ self.now }
         requires idle { IsIdle seat.old.me }
-        ensures won { result ≡ true → HasBody L.lawful L.shown seat.old.me.0 seat.new.me }
+        ensures won { result ≡ true → HasBody L.lawful L.shown L.words seat.old.me.0 seat.new.me }
         ensures lost { result ≡ false → seat.new.me ≡ seat.old.me }
         ensures table { seat.new.table_id ≡ seat.old.table_id }
     {
@@ -111,7 +121,7 @@ impl<S: Drop, L: BodyRule<S>> TurnTable<S, L> {
     pub(crate) fn give(&self, seat: &mut Seat<S, Standing>)
         requires table { (seat_at seat.old).shard ≡ self.now }
         requires turn { (seat.old.me.0.live ≡ true) × (seat.old.me.0.has_turn ≡ true) }
-        requires lawful { AreLawful L.lawful self.now.tag seat.old.me.1 }
+        requires lawful { AreLawful L.lawful L.words seat.old.me.0 seat.old.me.1 }
         ensures view { seat.new.me.0
             ≡ without_turn (entries_of L.shown seat.old.me.1) seat.old.me.0 }
         ensures slots { seat.new.me.1 ≡ [] }
@@ -120,10 +130,60 @@ impl<S: Drop, L: BodyRule<S>> TurnTable<S, L> {
         self.table.shared.store::<Give<L>>(seat, TURN, 0);
     }
 
+    /// The key that the seat knows a slot to have, or 0.
+    pub(crate) fn key_in(&self, seat: &mut Seat<S, Standing>, slot: u32) -> u64
+        requires table { (seat_at seat.old).shard ≡ self.now }
+        requires may { MayLook slot seat.old.me.0 }
+        ensures value { result ≡ slice_index seat.old.me.0.known.keys slot }
+        ensures seat { seat.new.me ≡ seat.old.me }
+        ensures table { seat.new.table_id ≡ seat.old.table_id }
+    {
+        self.table
+            .shared
+            .load::<Look>(seat, KEYS + 2 * slot as usize)
+    }
+
+    /// The seat has a pin more, of this slot.
+    pub(crate) fn pin_slot(&self, seat: &mut Seat<S, Standing>, slot: u32)
+        requires table { (seat_at seat.old).shard ≡ self.now }
+        requires may { MayPin slot seat.old.me.0 }
+        ensures seat { seat.new.me ≡ (with_pin slot seat.old.me.0, seat.old.me.1) }
+        ensures table { seat.new.table_id ≡ seat.old.table_id }
+    {
+        self.table
+            .shared
+            .fetch_add::<PinSlot>(seat, PINS + 2 * slot as usize, 1);
+    }
+
+    /// The seat has a pin of the slot no more.
+    pub(crate) fn unpin_slot(&self, seat: &mut Seat<S, Standing>, slot: u32)
+        requires table { (seat_at seat.old).shard ≡ self.now }
+        requires may { MayUnpin slot seat.old.me.0 }
+        ensures seat { seat.new.me ≡ (without_pin slot seat.old.me.0, seat.old.me.1) }
+        ensures table { seat.new.table_id ≡ seat.old.table_id }
+    {
+        self.table
+            .shared
+            .fetch_sub::<UnpinSlot>(seat, PINS + 2 * slot as usize, 1);
+    }
+
+    /// The slot, which no seat has pinned, has this key now, or none where it is 0.
+    pub(crate) fn fill_slot(&self, seat: &mut Seat<S, Standing>, slot: u32, key: u64)
+        requires table { (seat_at seat.old).shard ≡ self.now }
+        requires may { MayFill slot seat.old.me.0 }
+        ensures seat { seat.new.me ≡ (with_key slot key seat.old.me.0, seat.old.me.1) }
+        ensures table { seat.new.table_id ≡ seat.old.table_id }
+    {
+        self.table
+            .shared
+            .store::<FillSlot>(seat, KEYS + 2 * slot as usize, key);
+    }
+
     /// One permit goes to a second seat.
     pub(crate) fn split(&self, seat: &mut TurnSeat<S>) -> TurnSeat<S>
         requires shard { seat.old.shard ≡ self.now }
         requires permits { 1 < seat.old.permits }
+        requires pins { length seat.old.pins ≤ max_pins * (seat.old.permits - 1) }
         ensures kept { seat.new ≡ kept_seat seat.old }
         ensures new { result ≡ new_seat seat.old }
     {
@@ -140,6 +200,7 @@ impl<S: Drop, L: BodyRule<S>> TurnTable<S, L> {
     pub(crate) fn join(&self, seat: &mut TurnSeat<S>, other: TurnSeat<S>)
         requires shard { seat.old.shard ≡ self.now }
         requires other { other.shard ≡ self.now }
+        requires pins { other.pins ≡ [] }
         ensures both { seat.new ≡ both_seats seat.old other }
         ensures few { seat.new.permits ≤ seat.new.shard.passes }
     {

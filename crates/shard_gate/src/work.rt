@@ -1,97 +1,141 @@
-//! What is done to the tiles of one shard while a seat has its turn. That a pin is there, and that
-//! there is room for one more, is tested on the tiles themselves.
-ghost use Rattle.std.specs.Prelude.{◌≡◌, ◌+◌, [], option_map, IfOk, IfErr, OnOk, OnErr};
+//! What is done to the tiles of one shard while a seat has its turn.
+ghost use Rattle.std.specs.Prelude.{◌≡◌, ◌+◌, ◌^◌, ◌<◌, [], length, option_map, Some, IsSome};
+ghost use Rattle.std.specs.Prelude.{IfOk, IfSome, IfNone, OnOk, OnErr, ⊤};
 ghost use Rattle.std.specs.Arc.{arc_value};
-ghost use Rattle.tile_store.specs.Entry.{tile_at, HasPin};
-ghost use Rattle.tile_store.specs.Changes.{pinned_first, inserted, kept_tile};
+ghost use Rattle.tile_store.specs.Entry.{entry_at, tile_at, HasPin, pin_sum};
+ghost use Rattle.tile_store.specs.Changes.{pinned_first, inserted, kept_tile, without_stale};
+ghost use Rattle.tile_store.specs.Keys.{slot_of};
+ghost use Rattle.tile_store.specs.Slots.{AreInSlots};
 ghost use Rattle.tile_store.specs.Tag.{share_in_tag};
-ghost use Rattle.tile_store.specs.Lawful.{FitsTag, KeepsLawful, KeepsLawfulFor};
-ghost use Rattle.shard_gate.specs.Given.{released, room_of, IsCountOf};
+ghost use Rattle.tile_store.specs.Lawful.{FitsTag};
+ghost use Rattle.shard_gate.specs.Words.{unpinned_words};
+ghost use Rattle.shard_gate.specs.Given.{released, IsCountOf};
+ghost use Rattle.shard_gate.specs.Home.{words_of, KeepsStored};
 ghost use Rattle.shard_gate.specs.Work.{FoundAmong, KeptAmong};
-ghost use Rattle.shard_gate.specs.Work.{MissedCause, TurnedDownCause, GivesBackIfFull};
+ghost use Rattle.shard_gate.specs.Work.{PinsSlot, InsertsSlot, AreBehind};
 
-use crate::error::{NotFound, NotInserted};
 use std::sync::Arc;
-use tex_world::World;
+use tex_world::{NoMemory, World};
 use tiff_format::ShardCount;
 use tile_layout::TileKey;
 use tile_store::{Shard, Tile};
+
+/// The unpinned tiles of a file whose generation is below the bound.
+#[derive(Clone, Copy)]
+pub(crate) struct Stale {
+    pub file: u32,
+    pub below: u32,
+}
+
+/// A tile that was pinned, and the slot that it is in.
+pub(crate) struct InSlot<W: World> {
+    pub tile: Arc<Tile<W>>,
+    pub slot: u32,
+}
 
 /// Pins the tile of a key, if it is there.
 pub(crate) fn find_in<W: World>(
     shard: &mut Shard<W>,
     key: TileKey,
-) -> Result<Option<Arc<Tile<W>>>, NotFound>
+) -> Result<Option<InSlot<W>>, NoMemory>
+    requires slots { AreInSlots shard.old }
+    requires pins { pin_sum shard.old.entries + 1 < 2 ^ 32 }
     // None comes exactly where no entry has the key.
-    ensures found { IfOk result (λ tile.
-        option_map arc_value tile ≡ tile_at key shard.old.entries) }
-    ensures cause { IfErr result (MissedCause shard.old.entries) }
-    ensures some { FoundAmong arc_value W.files shard.old.entries key result }
+    ensures found { IfOk result (λ found. option_map (λ f. arc_value f.tile) found ≡ tile_at key shard.old.entries) }
+    ensures some { FoundAmong (λ f. arc_value f.tile) W.files shard.old.entries key result }
     // What the call leaves.
     ensures entries { OnOk result (shard.new.entries ≡ pinned_first key shard.old.entries) }
-    ensures err { OnErr result (shard.new.entries ≡ shard.old.entries) }
-    ensures lawful { KeepsLawful W.files shard.old.entries shard.new.entries }
+    ensures words { IfOk result (λ found.
+        IfSome found (λ f. PinsSlot key f.slot shard.old shard.new)) }
+    ensures none { IfOk result (λ found. IfNone found (shard.new ≡ shard.old)) }
+    ensures err { OnErr result (shard.new ≡ shard.old) }
+    ensures left { shard.new.left ≡ shard.old.left }
+    ensures stored { KeepsStored W.files (λ terms. ⊤) shard.old shard.new }
 {
-    if shard.pins() == u32::MAX {
-        return Err(NotFound::Full);
-    }
-    match shard.find_pin(key) {
-        Ok(found) => Ok(found),
-        Err(_) => Err(NotFound::NoMemory),
+    let found = shard.find_pin(key)?;
+    // Each entry is in a slot.
+    let _tiles = shard.tiles();
+    match found {
+        Some(tile) => {
+            let slot = slot_in(shard, key);
+            Ok(Some(InSlot { tile, slot }))
+        }
+        None => Ok(None),
     }
 }
 
-/// Keeps a tile, with a pin. It has room for one more than are pinned.
+/// The slot of a key that an entry has.
+fn slot_in<W: World>(shard: &Shard<W>, key: TileKey) -> u32
+    requires slots { AreInSlots shard.now }
+    requires there { IsSome (entry_at key shard.now.entries) }
+    ensures value { slot_of key shard.now.slots ≡ Some result }
+{
+    match shard.slot_of(key) {
+        Some(slot) => slot,
+        None => unreachable!(),
+    }
+}
+
+/// Keeps a tile, with a pin.
 pub(crate) fn insert_in<W: World>(
     shard: &mut Shard<W>,
     tile: Tile<W>,
-    slots: u32,
-) -> Result<Arc<Tile<W>>, NotInserted<W>>
-    ensures kept { IfOk result (λ kept. arc_value kept ≡ kept_tile tile shard.old.entries) }
-    ensures back { IfErr result (GivesBackIfFull tile) }
-    ensures cause { IfErr result (TurnedDownCause shard.old.entries) }
-    ensures ok { KeptAmong arc_value W.files shard.old.entries tile result }
+) -> Result<InSlot<W>, NoMemory>
+    requires slots { AreInSlots shard.old }
+    requires left { shard.old.left ≡ [] }
+    requires pins { pin_sum shard.old.entries + 1 < 2 ^ 32 }
+    requires room { pin_sum shard.old.entries < length shard.old.slots }
+    ensures kept { IfOk result (λ kept. arc_value kept.tile ≡ kept_tile tile shard.old.entries) }
+    ensures ok { KeptAmong (λ f. arc_value f.tile) W.files shard.old.entries tile result }
     // What the call leaves.
     ensures entries { OnOk result (shard.new.entries
-        ≡ inserted tile (room_of slots shard.old.entries) shard.old.entries) }
-    ensures err { OnErr result (shard.new.entries ≡ shard.old.entries) }
-    ensures lawful { KeepsLawfulFor W.files (FitsTag W.files tile)
-        shard.old.entries shard.new.entries }
-{
-    let pins = shard.pins();
-    if pins == u32::MAX {
-        return Err(NotInserted::Full(tile));
-    }
-    // No more tiles are kept than it has slots.
-    let room = slots.max(pins + 1);
-    if room != shard.slots() {
-        return Err(NotInserted::NoMemory);
-    }
-    forget_left(shard);
-    match shard.insert_pin(tile, room as usize) {
-        Ok(kept) => Ok(kept),
-        Err(_) => Err(NotInserted::NoMemory),
-    }
-}
-
-/// The slots that tiles left count as told. Nothing outside the shard speaks of its slots.
-fn forget_left<W: World>(shard: &mut Shard<W>)
-    ensures entries { shard.new.entries ≡ shard.old.entries }
-    ensures slots { shard.new.slots ≡ shard.old.slots }
+        ≡ inserted tile (length shard.old.slots) shard.old.entries) }
+    ensures words { IfOk result (λ kept. InsertsSlot tile.key kept.slot shard.old shard.new) }
+    ensures err { OnErr result (shard.new ≡ shard.old) }
     ensures left { shard.new.left ≡ [] }
+    ensures stored { KeepsStored W.files (λ terms. FitsTag W.files tile terms.tag)
+        shard.old shard.new }
 {
-    'telling: while shard.left().is_some() {}
+    let key = tile.key();
+    // No more entries are pinned than there are pins, and their keys are distinct.
+    let _pins = shard.pins();
+    let _tiles = shard.tiles();
+    let slots = shard.slots() as usize;
+    let tile = shard.insert_pin(tile, slots)?;
+    let _tiles = shard.tiles();
+    let slot = slot_in(shard, key);
+    Ok(InSlot { tile, slot })
 }
 
-/// Takes a pin from the tile of a key. Where it has none, nothing changes.
-pub(crate) fn release_in<W: World>(shard: &mut Shard<W>, key: TileKey, share: u64)
+/// Takes a pin from the tile of a key, and answers its slot.
+pub(crate) fn release_in<W: World>(shard: &mut Shard<W>, key: TileKey, share: u64) -> u32
+    requires slots { AreInSlots shard.old }
+    requires left { shard.old.left ≡ [] }
+    requires pin { HasPin key shard.old.entries }
+    ensures slot { slot_of key shard.old.slots ≡ Some result }
     ensures entries { shard.new.entries ≡ released share key shard.old.entries }
-    ensures lawful { KeepsLawfulFor W.files (λ tag. share_in_tag tag ≡ share)
-        shard.old.entries shard.new.entries }
+    ensures behind { AreBehind (unpinned_words result (words_of shard.old)) shard.new }
+    ensures stored { KeepsStored W.files (λ terms. share_in_tag terms.tag ≡ share)
+        shard.old shard.new }
 {
-    if shard.is_pinned(key) {
-        shard.release(key, share);
-    }
+    let _tiles = shard.tiles();
+    let slot = slot_in(shard, key);
+    shard.release(key, share);
+    let _tiles = shard.tiles();
+    slot
+}
+
+/// The stale tiles leave.
+pub(crate) fn purge_in<W: World>(shard: &mut Shard<W>, stale: Stale)
+    requires slots { AreInSlots shard.old }
+    requires left { shard.old.left ≡ [] }
+    ensures entries { shard.new.entries ≡ without_stale stale.file stale.below shard.old.entries }
+    ensures behind { AreBehind (words_of shard.old) shard.new }
+    ensures stored { KeepsStored W.files (λ terms. ⊤) shard.old shard.new }
+{
+    let _tiles = shard.tiles();
+    shard.purge(stale.file, stale.below);
+    let _tiles = shard.tiles();
 }
 
 /// What a shard has, whose unpinned tiles may take so many bytes.

@@ -3,15 +3,25 @@ use Rattle.std.proofs.Common.{◌++◌, ◌∷◌, [], List, length, map, ap, su
 use Rattle.std.specs.List.{All}
 use Rattle.std.proofs.lemmas.List.{length_push, map-append}
 use Rattle.std.proofs.lemmas.List.Elements.{All-push}
-use Rattle.tile_store.specs.Slots.{ShardState}
-use Rattle.tile_store.specs.Lawful.{Lawful}
+use Rattle.tile_store.specs.Slots.{ShardState, empty_shard}
+use Rattle.shard_gate.specs.Words.{AreBlank}
+use Rattle.shard_gate.specs.Home.{IsHome, words_of}
+use Rattle.shard_gate.proofs.HomeLemmas.{blank_home, blank_words}
 use Rattle.shard_gate.specs.Seated.{ShardId, IsMadeBy, first_seat}
 use Rattle.shard_gate.proofs.laid.laid.Goals as goal
 
-pub new-requires-in-loop-shard : goal.new-requires-in-loop-shard
-new-requires-in-loop-shard g c =
-    subst (λ (es : ShardState). Lawful g.W.World.files c.args.terms.now.tag es.entries)
-    (sym c.new.ensures) (c.in-Ok.ensures.lawful c.args.terms.now.tag)
+pub new-requires-in-loop-shard-clause-lawful : goal.new-requires-in-loop-shard-clause-lawful
+new-requires-in-loop-shard-clause-lawful g c =
+    subst (λ (t : ShardState). IsHome g.W.World.files c.args.terms.now t) (sym c.new.ensures)
+    (blank_home g.W.World.files c.args.terms.now c.in-Ok.shard
+    (c.in-Ok.ensures.value ∙ ap empty_shard c.slots.ensures)
+    (c.in-Ok.ensures.lawful c.args.terms.now.tag) c.tiles-tiles.ensures.slots)
+
+pub new-requires-in-loop-shard-clause-blank : goal.new-requires-in-loop-shard-clause-blank
+new-requires-in-loop-shard-clause-blank g c =
+    subst (λ (t : ShardState). AreBlank c.args.terms.now.passes (words_of t)) (sym c.new.ensures)
+    (blank_words c.args.terms.now.passes c.in-Ok.shard
+    (c.in-Ok.ensures.value ∙ ap empty_shard c.slots.ensures))
 
 pub loop-shard-preserved : goal.loop-shard-preserved
 loop-shard-preserved g c =

@@ -1,21 +1,29 @@
 -- What a visit to one shard leaves of the seat, and what it answers.
 use Rattle.std.proofs.Common.{subst, ℕ}
 use Rattle.shard_gate.specs.Given.{Counts}
-use Rattle.shard_gate.proofs.VisitLemmas.{same_pins, at_shard, same_seat, if_ok, on_err}
+use Rattle.shard_gate.proofs.VisitLemmas.{same_pins, seat_same, at_shard, same_seat, if_ok, on_err}
 use Rattle.shard_gate.proofs.VisitLemmas.{tag_here, share_here}
 use Rattle.shard_gate.proofs.gate.Gate.count.Goals as goal
 
-pub returns-clause-same : goal.returns-clause-same
-returns-clause-same g c =
-    same_pins c.p.inside.seats.items c.p.inside.permits c.p.inside.pins.items
-    c.args.p.now c.p.view_is c.args.self.now.id c.requires.gate c.args.shard
+pub invariant_of-p : goal.invariant_of-p
+invariant_of-p g c = seat_same
+    c.p.inside.seats.items c.p.inside.permits c.args.p.now c.p.view_is c.args.self.now.id
+    c.requires.gate c.args.shard
     c.requires.shard c.index_mut.result.now c.count.new.seat _ c.index_mut.ensures.value
-    c.count.ensures.seat
+    c.p.invariant c.count.ensures.seat c.count.ensures.pins
+
+pub returns-clause-same : goal.returns-clause-same
+returns-clause-same g c = same_pins
+    c.p.inside.seats.items c.p.inside.permits c.args.p.now c.p.view_is c.args.self.now.id
+    c.requires.gate c.args.shard
+    c.requires.shard c.index_mut.result.now c.count.new.seat _ c.index_mut.ensures.value
+    c.count.ensures.seat c.count.ensures.pins
 
 pub returns-clause-lawful : goal.returns-clause-lawful
 returns-clause-lawful g c = if_ok c.count.result _ _
-    (λ count counted. at_shard c.p.inside.seats.items c.p.inside.permits c.p.inside.pins.items
-    c.args.p.now c.p.view_is c.args.self.now.id c.requires.gate c.args.shard
+    (λ count counted. at_shard
+    c.p.inside.seats.items c.p.inside.permits c.args.p.now c.p.view_is c.args.self.now.id
+    c.requires.gate c.args.shard
     c.requires.shard c.index_mut.result.now c.count.new.seat _ c.index_mut.ensures.value
     (Counts g.W.World.files _ count)
     (subst (λ (tag : ℕ). Counts g.W.World.files tag count c.index_mut.result.now.visits
@@ -27,8 +35,9 @@ returns-clause-lawful g c = if_ok c.count.result _ _
 
 pub returns-clause-err : goal.returns-clause-err
 returns-clause-err g c = on_err c.count.result _ _
-    (same_seat c.p.inside.seats.items c.p.inside.permits c.p.inside.pins.items
-    c.args.p.now c.p.view_is c.args.self.now.id c.requires.gate c.args.shard
+    (same_seat
+    c.p.inside.seats.items c.p.inside.permits c.args.p.now c.p.view_is c.args.self.now.id
+    c.requires.gate c.args.shard
     c.requires.shard c.index_mut.result.now c.count.new.seat _ c.index_mut.ensures.value)
     c.count.ensures.err
 

@@ -4,12 +4,10 @@ use Rattle.shard_gate.proofs.gate.Gate.new.Goals as goal
 
 pub invariant_of-seat : goal.invariant_of-seat
 invariant_of-seat g c =
-    first_kept c.in-Ok.tables.items c.in-Ok.seats.items c.in-Ok-with_capacity.pins.items
-    c.args.passes c.in-Ok.ensures.seats c.in-Ok-with_capacity.ensures.items c.args.budget
-    c.args.shards _ _ c.args.cut c.requires c.in-Ok.ensures.made c.in-Ok.ensures.count
-    c.in-Ok-with_capacity.ensures.capacity
+    first_kept c.in-Ok.tables.items c.in-Ok.seats.items c.args.passes c.in-Ok.ensures.seats
+    c.args.budget c.args.shards _ c.args.cut c.requires c.in-Ok.ensures.made c.in-Ok.ensures.count
 
 pub returns-clause-seat : goal.returns-clause-seat
 returns-clause-seat g c =
-    first_seat_is c.in-Ok.tables.items c.in-Ok.seats.items c.in-Ok-with_capacity.pins.items
-    c.args.passes c.in-Ok.ensures.seats c.in-Ok-with_capacity.ensures.items _ c.args.cut
+    first_seat_is c.in-Ok.tables.items c.in-Ok.seats.items c.args.passes c.in-Ok.ensures.seats _
+    c.args.cut

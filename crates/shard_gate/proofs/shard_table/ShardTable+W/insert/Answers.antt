@@ -1,19 +1,86 @@
--- A visit that met a full shard is one more of that kind, and the tile came back.
-use Rattle.std.proofs.Common.{◌∙◌}
-use Rattle.shard_gate.proofs.VisitLemmas.{wait_more}
+-- There is a slot for the tile, and the words that the seat knows are those of the shard.
+use Rattle.std.proofs.Common.{◌≡◌, ◌∷◌, length, ap, subst, sym, ◌∙◌, refl, arith}
+use Rattle.atomic_table.specs.Table.{Me, rest}
+use Rattle.crossbeam_utils.specs.Padded.{padded_value, padded_with_value}
+use Rattle.tile_store.specs.Lawful.{FitsTag}
+use Rattle.shard_gate.specs.declared.standing.Standing.{Standing}
+use Rattle.shard_gate.specs.Words.{keys_of_pins}
+use Rattle.shard_gate.specs.Seated.{ShardId, SeatAt}
+use Rattle.shard_gate.specs.Turn.{terms_of}
+use Rattle.shard_gate.proofs.PinLemmas.{length_keys}
+use Rattle.shard_gate.proofs.TurnLemmas.{in_turn, pins_low, slots_left, may_keep, give_kept}
+use Rattle.shard_gate.proofs.TurnLemmas.{kept_pins}
 use Rattle.shard_gate.proofs.shard_table.ShardTable+W.insert.Goals as goal
 
-pub loop-failed-preserved : goal.loop-failed-preserved
-loop-failed-preserved g c =
-    let so_far = c.loop-failed.invariant in
-    let did = rw (c.in-Ok-Err-Full.field-0-is, c.in-Ok-Err-Full.field-0-0-is) at
-    c.in-Ok-Err-Full.ensures.ok in
-    record {
-      seat = record {
-        shard = c.visit_insert.ensures.seat.shard ∙ so_far.seat.shard;
-        permits = c.visit_insert.ensures.seat.permits ∙ so_far.seat.permits;
-      };
-      visits = wait_more did.taken did.given _ _ _ did.cause did.same did.left so_far.visits;
-      tile = (rw (c.in-Ok-Err-Full.field-0-is, c.in-Ok-Err-Full.field-0-0-is) at
-          c.in-Ok-Err-Full.ensures.full) ∙ so_far.tile;
-    }
+pub insert_in-requires-clause-pins : goal.insert_in-requires-clause-pins
+insert_in-requires-clause-pins g c =
+    let passes : c.seat.inside.seat.me.0.passes ≡ c.self.inside.table.shared.key.passes =
+    ap (λ (v : SeatAt). v.shard.passes) c.seat.view_is
+    ∙ (ap (λ (z : ShardId). z.passes) c.requires.shard
+    ∙ sym (ap (λ (z : ShardId). z.passes) c.self.view_is)) in
+    pins_low padded_value g.W.World.files c.seat.inside.seat.me.0
+    c.take.new.seat.me c.deref_mut.result.now
+    (in_turn padded_value g.W.World.files c.seat.inside.seat.me.0 c.take.new.seat.me
+    c.in_default.ensures.ok c.slot_mut-slot.result.now (rest c.take.new.seat.me.1)
+    c.deref_mut.result.now c.slot_mut-slot.ensures.value c.deref_mut.ensures.value)
+    (omega (arith, passes, c.self.invariant.few))
+
+pub insert_in-requires-clause-room : goal.insert_in-requires-clause-room
+insert_in-requires-clause-room g c =
+    slots_left padded_value g.W.World.files c.seat.inside.seat.me.0
+    c.take.new.seat.me c.deref_mut.result.now
+    (in_turn padded_value g.W.World.files c.seat.inside.seat.me.0 c.take.new.seat.me
+    c.in_default.ensures.ok c.slot_mut-slot.result.now (rest c.take.new.seat.me.1)
+    c.deref_mut.result.now c.slot_mut-slot.ensures.value c.deref_mut.ensures.value)
+
+pub keep_slot-requires-clause-may : goal.keep_slot-requires-clause-may
+keep_slot-requires-clause-may g c =
+    may_keep padded_value g.W.World.files c.seat.inside.seat.me.0
+    c.take.new.seat.me c.deref_mut.result.now
+    (in_turn padded_value g.W.World.files c.seat.inside.seat.me.0 c.take.new.seat.me
+    c.in_default.ensures.ok c.slot_mut-slot.result.now (rest c.take.new.seat.me.1)
+    c.deref_mut.result.now c.slot_mut-slot.ensures.value c.deref_mut.ensures.value)
+    c.args.tile.key c.in-Ok.field-0.slot c.number-key.result c.insert_in.new.shard
+    c.in-Ok.ensures.words (c.number-key.ensures.value ∙ c.key.ensures.value)
+    c.seat.invariant.idle.live
+    (omega (
+      arith,
+      c.requires.room,
+      ap (λ (v : SeatAt). length v.pins) c.seat.view_is,
+      ap (λ (v : SeatAt). v.permits) c.seat.view_is,
+      length_keys c.seat.inside.seat.me.0.pins,
+    ))
+    c.number-key.ensures.some
+
+pub give-requires-clause-lawful : goal.give-requires-clause-lawful
+give-requires-clause-lawful g c =
+    let turn = (in_turn padded_value g.W.World.files c.seat.inside.seat.me.0 c.take.new.seat.me
+    c.in_default.ensures.ok c.slot_mut-slot.result.now (rest c.take.new.seat.me.1)
+    c.deref_mut.result.now c.slot_mut-slot.ensures.value c.deref_mut.ensures.value) in
+    let tag : c.seat.inside.seat.me.0.tag ≡ c.args.self.now.tag =
+    ap (λ (v : SeatAt). v.shard.tag) c.seat.view_is ∙ ap (λ (z : ShardId). z.tag) c.requires.shard in
+    give_kept padded_value g.W.World.files c.seat.inside.seat.me.0
+    c.take.new.seat.me c.deref_mut.result.now
+    (in_turn padded_value g.W.World.files c.seat.inside.seat.me.0 c.take.new.seat.me
+    c.in_default.ensures.ok c.slot_mut-slot.result.now (rest c.take.new.seat.me.1)
+    c.deref_mut.result.now c.slot_mut-slot.ensures.value c.deref_mut.ensures.value)
+    c.args.tile.key c.in-Ok.field-0.slot c.number-key.result c.insert_in.new.shard
+    c.in-Ok.ensures.words (c.number-key.ensures.value ∙ c.key.ensures.value)
+    (padded_with_value c.slot_mut-slot.result.now c.insert_in.new.shard) refl
+    (c.insert_in.ensures.stored (terms_of c.seat.inside.seat.me.0)
+    (subst (λ n. FitsTag g.W.World.files c.args.tile n) (sym tag) c.requires.fits)
+    turn.home.stored)
+    c.insert_in.ensures.left c.keep_slot.new.seat.me c.keep_slot.ensures.seat
+
+pub returns-in-Ok-clause-pinned : goal.returns-in-Ok-clause-pinned
+returns-in-Ok-clause-pinned g c =
+    ap (λ (v : Standing). keys_of_pins v.pins) c.give.ensures.view
+    ∙ (kept_pins padded_value g.W.World.files c.seat.inside.seat.me.0
+    c.take.new.seat.me c.deref_mut.result.now
+    (in_turn padded_value g.W.World.files c.seat.inside.seat.me.0 c.take.new.seat.me
+    c.in_default.ensures.ok c.slot_mut-slot.result.now (rest c.take.new.seat.me.1)
+    c.deref_mut.result.now c.slot_mut-slot.ensures.value c.deref_mut.ensures.value)
+    c.args.tile.key c.in-Ok.field-0.slot c.number-key.result c.insert_in.new.shard
+    c.in-Ok.ensures.words (c.number-key.ensures.value ∙ c.key.ensures.value)
+    c.keep_slot.new.seat.me.0 (ap (λ (m : Me _ Standing). m.0) c.keep_slot.ensures.seat)
+    ∙ ap (λ l. c.args.tile.key ∷ l) (ap (λ (v : SeatAt). v.pins) c.seat.view_is))

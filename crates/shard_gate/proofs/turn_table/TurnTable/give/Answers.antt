@@ -1,5 +1,5 @@
 -- A give keeps the rule.
-use Rattle.std.proofs.Common.{ap, subst, sym, ◌∙◌, arith}
+use Rattle.std.proofs.Common.{ap, sym, ◌∙◌, arith}
 use Rattle.shard_gate.specs.Seated.{ShardId}
 use Rattle.shard_gate.proofs.RuleLemmas.{give_allowed}
 use Rattle.shard_gate.proofs.turn_table.TurnTable.give.Goals as goal
@@ -11,7 +11,6 @@ store-requires g c =
     let body = c.requires.lawful in (
       ap (λ (z : ShardId). z.table) same,
       omega (arith, c.self.invariant.words),
-      give_allowed g.L.BodyRule.lawful g.L.BodyRule.shown key _ _ _ body.0 c.requires.turn.0 c.requires.turn.1
-          body.1 (subst (λ (z : ShardId). g.L.BodyRule.lawful z.tag body.0)
-          (sym c.requires.table) body.2) c.self.invariant.slots,
+      give_allowed g.L.BodyRule.lawful g.L.BodyRule.shown g.L.BodyRule.words key _ _ _ body.0
+          c.requires.turn.0 c.requires.turn.1 body.1 body.2 body.3 c.self.invariant.slots,
     )

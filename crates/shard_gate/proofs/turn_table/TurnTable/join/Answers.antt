@@ -3,6 +3,7 @@ use Rattle.std.proofs.Common.{ap, sym, ◌∙◌, arith}
 use Rattle.atomic_table.specs.Table.{Me}
 use Rattle.shard_gate.specs.declared.standing.Standing.{Standing}
 use Rattle.shard_gate.specs.Seated.{ShardId, SeatAt}
+use Rattle.shard_gate.proofs.PinLemmas.{no_pins}
 use Rattle.shard_gate.proofs.RuleLemmas.{join_allowed, count_allowed}
 use Rattle.shard_gate.proofs.turn_table.TurnTable.join.Goals as goal
 
@@ -15,7 +16,9 @@ join_seat-requires g c =
       ap (λ (z : ShardId). z.table) theirs,
       c.other.invariant.idle.slots,
       omega (arith, c.self.invariant.words),
-      join_allowed g.L.BodyRule.lawful g.L.BodyRule.shown key _ _ _ _ c.seat.invariant.idle.live c.other.invariant.idle.turn,
+      join_allowed g.L.BodyRule.lawful g.L.BodyRule.shown g.L.BodyRule.words key _ _ _ _ c.seat.invariant.idle.live c.other.invariant.idle.turn
+          (no_pins c.other.inside.seat.me.0.pins
+          (ap (λ (v : SeatAt). v.pins) c.other.view_is ∙ c.requires.pins)),
     )
 
 pub load-requires : goal.load-requires
@@ -24,6 +27,6 @@ load-requires g c =
     let joined = c.join_seat.ensures in (
       joined.0 ∙ ap (λ (z : ShardId). z.table) own,
       omega (arith, c.self.invariant.words),
-      count_allowed g.L.BodyRule.lawful g.L.BodyRule.shown c.self.inside.table.shared.key _ _ _
+      count_allowed g.L.BodyRule.lawful g.L.BodyRule.shown g.L.BodyRule.words c.self.inside.table.shared.key _ _ _
           (ap (λ (m : Me g.row.S.Denot Standing). m.0.live) joined.2 ∙ c.seat.invariant.idle.live),
     )

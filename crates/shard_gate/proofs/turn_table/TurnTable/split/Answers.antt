@@ -1,5 +1,6 @@
 -- A split keeps the rule.
-use Rattle.std.proofs.Common.{ap, sym, ◌∙◌, arith}
+use Rattle.std.proofs.Common.{length, ap, sym, ◌∙◌, arith}
+use Rattle.shard_gate.proofs.PinLemmas.{length_keys}
 use Rattle.shard_gate.specs.Seated.{ShardId, SeatAt}
 use Rattle.shard_gate.proofs.RuleLemmas.{split_allowed}
 use Rattle.shard_gate.proofs.turn_table.TurnTable.split.Goals as goal
@@ -10,6 +11,13 @@ split_seat-new-requires g c =
     let key = c.self.inside.table.shared.key in (
       ap (λ (z : ShardId). z.table) same,
       omega (arith, c.self.invariant.words),
-      split_allowed g.L.BodyRule.lawful g.L.BodyRule.shown key _ _ c.seat.invariant.idle.live c.seat.invariant.idle.turn
-          (omega (arith, ap (λ (v : SeatAt). v.permits) c.seat.view_is, c.requires.permits)),
+      split_allowed g.L.BodyRule.lawful g.L.BodyRule.shown g.L.BodyRule.words key _ _ c.seat.invariant.idle.live c.seat.invariant.idle.turn
+          (omega (arith, ap (λ (v : SeatAt). v.permits) c.seat.view_is, c.requires.permits))
+          (omega (
+            arith,
+            ap (λ (v : SeatAt). v.permits) c.seat.view_is,
+            ap (λ (v : SeatAt). length v.pins) c.seat.view_is,
+            c.requires.pins,
+            length_keys c.seat.inside.seat.me.0.pins,
+          )),
     )

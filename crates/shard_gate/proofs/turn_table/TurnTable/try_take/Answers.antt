@@ -10,5 +10,5 @@ compare_exchange-requires g c =
     let key = c.self.inside.table.shared.key in (
       ap (λ (z : ShardId). z.table) same,
       omega (arith, c.self.invariant.words),
-      take_allowed g.L.BodyRule.lawful g.L.BodyRule.shown key _ _ _ c.requires.idle,
+      take_allowed g.L.BodyRule.lawful g.L.BodyRule.shown g.L.BodyRule.words key _ _ _ c.requires.idle,
     )

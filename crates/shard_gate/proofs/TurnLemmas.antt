@@ -1,0 +1,398 @@
+-- What a seat that has the turn of a shard knows, and what it keeps while it tells slots.
+use Rattle.std.proofs.Common.{◌≡◌, ℕ, ◌+◌, ◌*◌, ◌^◌, ◌<◌, ◌≤◌, true, false, List, [], ◌∷◌}
+use Rattle.std.proofs.Common.{length, Some, None, IsSome, refl, sym, ap, subst, ◌∙◌, arith}
+use Rattle.std.specs.Prelude.{slice_index, Contains, IsPermutation, IsSomeAnd, option_map}
+use Rattle.std.proofs.Common.{set}
+use Rattle.std.proofs.lemmas.List.{get_or-set_same}
+use Rattle.atomic_table.specs.Table.{Me, rest}
+use Rattle.tex_world.specs.World.{Files}
+use Rattle.tile_store.specs.Entry.{EntryState, entry_at, tile_at, pin_sum, HasPin}
+use Rattle.tile_store.specs.Keys.{slot_of, AreApart}
+use Rattle.tile_store.specs.Lawful.{Lawful}
+use Rattle.tile_store.specs.Slots.{ShardState, TellsSlot}
+use Rattle.shard_gate.specs.declared.standing.Standing.{Standing}
+use Rattle.shard_gate.specs.declared.rule.Terms.{Terms}
+use Rattle.shard_gate.specs.Words.{SlotWords, pinned_words, unpinned_words, keyed_words, AreAmong, AreFewPins}
+use Rattle.shard_gate.specs.Words.{keys_of_pins, pins_on, without_pin_of, max_passes, max_pins, slots_of}
+use Rattle.shard_gate.specs.Turn.{HasBody, AreLawful, MayUnpin, MayFill, terms_of, with_turn, without_turn}
+use Rattle.shard_gate.specs.Turn.{with_pin, without_pin, with_key, entries_of}
+use Rattle.shard_gate.specs.Visit.{begun, ended, visit}
+use Rattle.shard_gate.specs.Home.{words_of, IsStored, IsHome}
+use Rattle.shard_gate.specs.Work.{PinsSlot, InsertsSlot, AreBehind, MayKeep, IsTellingOf, HasToldOf}
+use Rattle.shard_gate.proofs.HomeLemmas.{few_pins_in, told_free, told_more, all_told}
+use Rattle.shard_gate.proofs.HomeLemmas.{IsThere, is_there, slot_low, slot_word, length_of_keys}
+use Rattle.shard_gate.proofs.PinLemmas.{pinned_slot, keys-without}
+
+-- The shard is one, and stays so where its entries and its slots do.
+pub stored_same : (files : Files) (terms : Terms) (s new : ShardState) → new.entries ≡ s.entries
+    → new.slots ≡ s.slots → IsStored files terms s → IsStored files terms new
+stored_same files terms s new entries slots is = record {
+  entries = subst (λ es. Lawful files terms.tag es) (sym entries) is.entries;
+  in_slots = record {
+    apart = subst (λ l. AreApart l) (sym slots) is.in_slots.apart;
+    some = λ key slot found. subst (λ es. IsSome (entry_at key es)) (sym entries)
+        (is.in_slots.some key slot (ap (slot_of key) (sym slots) ∙ found));
+    none = λ key missing. ap (entry_at key) entries
+        ∙ is.in_slots.none key (ap (slot_of key) (sym slots) ∙ missing);
+  };
+  count = ap length slots ∙ is.count;
+}
+
+module _ {A : Type 0} (value : A → ShardState) where
+  -- the slots of the shard that a seat has which are to be told
+  abbrev pub left_in : List (ℕ × A) → List ℕ
+  left_in [] = []
+  left_in (x ∷ xs) = (value x.1).left
+
+  -- The seat has told some slots, and the shard has the same entries in the same slots.
+  pub record ToldSoFar (old now : Me A Standing) : Type 0 where
+    pub body : A
+    pub before : A
+    pub slots : now.1 ≡ (0, body) ∷ []
+    pub slots_before : old.1 ≡ (0, before) ∷ []
+    pub view : now.0 ≡ record old.0 { known = now.0.known }
+    pub entries : (value body).entries ≡ (value before).entries
+    pub same : (value body).slots ≡ (value before).slots
+    pub behind : AreBehind now.0.known (value body)
+
+  module _ (files : Files) where
+    pub told_start : (me : Me A Standing) → IsTellingOf value files me → ToldSoFar me me
+    told_start me is = record {
+      body = is.body;
+      before = is.body;
+      slots = is.slots;
+      slots_before = is.slots;
+      view = refl;
+      entries = refl;
+      same = refl;
+      behind = is.behind;
+    }
+
+-- the shard in the slot that a seat has, or another
+abbrev shard_in : {A : Type 0} → List (ℕ × A) → A → A
+shard_in [] other = other
+shard_in (x ∷ xs) other = x.1
+
+-- A seat has one slot, and what is lent of it is what lies in it.
+pub one_slot : {A : Type 0} (l r : List (ℕ × A)) (x y : A) → l ≡ (0, x) ∷ [] → l ≡ (0, y) ∷ r → y ≡ x
+one_slot l r x y is lent = ap (λ k. shard_in k x) (sym lent ∙ is)
+
+module _ {A : Type 0} (value : A → ShardState) (files : Files) (old now : Me A Standing)
+    (is : IsTellingOf value files old) (told : ToldSoFar value old now) (there : A)
+    (r : List (ℕ × A)) (s new : ShardState) (lent : now.1 ≡ (0, there) ∷ r) (same : s ≡ value there)
+    (new_body : A) (put : value new_body ≡ new) where
+  here : s ≡ value told.body
+  here = same ∙ ap value (one_slot now.1 r told.body there told.slots lent)
+
+  first : value told.before ≡ value is.body
+  first = ap value (one_slot old.1 [] is.body told.before is.slots told.slots_before)
+
+  known_behind : AreBehind now.0.known s
+  known_behind = subst (λ t. AreBehind now.0.known t) (sym here) told.behind
+
+  count : length s.slots ≡ slots_of old.0.passes
+  count = ap (λ (t : ShardState). length t.slots) here
+      ∙ (ap length told.same ∙ (ap (λ (t : ShardState). length t.slots) first ∙ is.stored.count))
+
+  carried : rest now.1 ≡ []
+  carried = ap rest told.slots
+
+  -- There are as many slots as at the start.
+  pub told_low : (before : A) (others : List (ℕ × A)) (slot n : ℕ) → old.1 ≡ (0, before) ∷ others
+      → n ≡ length (value before).slots → slot < n → slot < length s.slots
+  told_low before others slot n was long low =
+      let start : value before ≡ value is.body =
+      ap value (one_slot old.1 others is.body before is.slots was) in
+      omega (
+        arith,
+        count,
+        is.stored.count,
+        ap (λ (t : ShardState). length t.slots) start,
+      )
+
+  module _ (slot : ℕ) (tells : TellsSlot (Some slot) s new) (low : slot < length s.slots) where
+    pub may_fill : MayFill slot now.0
+    may_fill = record {
+      inside = subst (λ n. slot < slots_of n) (sym (ap (λ (v : Standing). v.passes) told.view))
+          (omega (arith, low, count));
+      live = ap (λ (v : Standing). v.live) told.view ∙ is.live;
+      turn = ap (λ (v : Standing). v.has_turn) told.view ∙ is.turn;
+      unpinned = told_free now.0.known s new slot tells.entries tells.slots tells.left known_behind;
+    }
+
+    pub tell_more : (me : Me A Standing) → me ≡ (with_key slot 0 now.0, (0, new_body) ∷ rest now.1)
+        → ToldSoFar value old me
+    tell_more me filled = subst (λ (m : Me A Standing). ToldSoFar value old m) (sym filled)
+        (record {
+          body = new_body;
+          before = told.before;
+          slots = ap (λ l. (0, new_body) ∷ l) carried;
+          slots_before = told.slots_before;
+          view = λ i. record (told.view i) { known = (with_key slot 0 now.0).known };
+          entries = ap (λ (t : ShardState). t.entries) put ∙ (tells.entries
+              ∙ (ap (λ (t : ShardState). t.entries) here ∙ told.entries));
+          same = ap (λ (t : ShardState). t.slots) put ∙ (tells.slots
+              ∙ (ap (λ (t : ShardState). t.slots) here ∙ told.same));
+          behind = subst (λ t. AreBehind (keyed_words slot 0 now.0.known) t) (sym put)
+              (told_more now.0.known s new slot tells.entries tells.slots tells.left known_behind low);
+        })
+
+  pub tell_all : (entries : new.entries ≡ s.entries) → new.slots ≡ s.slots → s.left ≡ []
+      → new.left ≡ []
+      → HasToldOf value files old (now.0, (0, new_body) ∷ rest now.1)
+  tell_all entries slots none left =
+      let words : words_of s ≡ words_of (value new_body) =
+      sym (ap words_of put ∙ (λ i. words_of (record { entries = entries i; slots = slots i; left = [] }))) in
+      let same_entries : (value new_body).entries ≡ (value told.before).entries =
+      ap (λ (t : ShardState). t.entries) put
+      ∙ (entries ∙ (ap (λ (t : ShardState). t.entries) here ∙ told.entries)) in
+      let same_slots : (value new_body).slots ≡ (value told.before).slots =
+      ap (λ (t : ShardState). t.slots) put
+      ∙ (slots ∙ (ap (λ (t : ShardState). t.slots) here ∙ told.same)) in
+      record {
+        body = new_body;
+        before = told.before;
+        slots = ap (λ l. (0, new_body) ∷ l) carried;
+        slots_before = told.slots_before;
+        view = told.view ∙ (λ i. record old.0 {
+          known = (all_told now.0.known s known_behind none ∙ words) i;
+        });
+        entries = same_entries;
+        home = record {
+          stored = stored_same files (terms_of old.0) (value is.body) (value new_body)
+              (same_entries ∙ ap (λ (t : ShardState). t.entries) first)
+              (same_slots ∙ ap (λ (t : ShardState). t.slots) first) is.stored;
+          left = ap (λ (t : ShardState). t.left) put ∙ left;
+        };
+      }
+
+-- ---- a seat that has taken the turn
+
+-- It has this shard, knows its words, and they have its own pins.
+pub record InTurn (files : Files) {A : Type 0} (old : Standing) (me : Me A Standing) (s : ShardState)
+    : Type 0 where
+  pub view : me.0 ≡ with_turn s.entries (words_of s) old
+  pub home : IsHome files (terms_of old) s
+  pub among : AreAmong (words_of s) old.pins
+  pub few : AreFewPins old.passes (words_of s)
+  pub alone : rest me.1 ≡ []
+
+-- A pin of the seat is one of a slot that has the key, and an entry with a pin.
+pub record OwnsPin (key : ℕ) (old : Standing) (s : ShardState) : Type 0 where
+  pub slot : ℕ
+  pub there : IsThere key s slot
+  pub own : 1 ≤ pins_on slot old.pins
+
+module _ {A : Type 0} (value : A → ShardState) (files : Files) (old : Standing)
+    (me : Me A Standing) where
+  pub in_turn : HasBody (λ terms body. IsHome files terms (value body)) (λ body. (value body).entries)
+      (λ body. words_of (value body)) old me
+      → (there : A) (r : List (ℕ × A)) (s : ShardState) → me.1 ≡ (0, there) ∷ r → s ≡ value there
+      → InTurn files old me s
+  in_turn has there r s lent is =
+      let slots : me.1 ≡ (0, has.0) ∷ [] = ap (λ (m : Me A Standing). m.1) has.1 in
+      let same : value has.0 ≡ s = sym (is ∙ ap value (one_slot me.1 r has.0 there slots lent)) in
+      record {
+        view = ap (λ (m : Me A Standing). m.0) has.1
+            ∙ ap (λ (t : ShardState). with_turn t.entries (words_of t) old) same;
+        home = subst (λ (t : ShardState). IsHome files (terms_of old) t) same has.2;
+        among = subst (λ (t : ShardState). AreAmong (words_of t) old.pins) same has.3;
+        few = subst (λ (t : ShardState). AreFewPins old.passes (words_of t)) same has.4;
+        alone = ap rest slots;
+      }
+
+  module _ (s : ShardState) (turn : InTurn files old me s) where
+    pins_high : pin_sum s.entries ≤ max_pins * old.passes
+    pins_high = few_pins_in s turn.home.stored.in_slots old.passes
+        turn.home.stored.entries.distinct turn.few
+
+    -- There is room for one pin more,
+    pub pins_low : old.passes ≤ max_passes → pin_sum s.entries + 1 < 2 ^ 32
+    pins_low few = omega (arith, pins_high)
+
+    -- and there are more slots than pins.
+    pub slots_left : pin_sum s.entries < length s.slots
+    slots_left = omega (arith, pins_high, turn.home.stored.count)
+
+    pub owns_pin : (key : ℕ) → Contains (keys_of_pins old.pins) key → OwnsPin key old s
+    owns_pin key has =
+        let is = pinned_slot (words_of s) key old.pins turn.among has in
+        record {
+          slot = is.slot;
+          there = is_there key s old.pins turn.home.stored.in_slots is;
+          own = is.own;
+        }
+
+    pub own_entry : (key : ℕ) → Contains (keys_of_pins old.pins) key → HasPin key s.entries
+    own_entry key has =
+        let is = owns_pin key has in
+        subst (λ o. IsSomeAnd o (λ (e : EntryState). 1 ≤ e.pins)) (sym is.there.found) is.there.pin
+
+    -- A key that the seat has pinned is found.
+    pub own_found : (key : ℕ) → Contains (keys_of_pins old.pins) key → None ≡ tile_at key s.entries
+        → false ≡ true
+    own_found key has none =
+        let is = owns_pin key has in
+        let both : None ≡ Some is.there.entry.tile =
+        none ∙ ap (option_map (λ (e : EntryState). e.tile)) is.there.found in
+        absurd cc
+
+    -- the slot of its pin
+    pub own_slot : (key slot : ℕ) → Contains (keys_of_pins old.pins) key
+        → slot_of key s.slots ≡ Some slot → 1 ≤ pins_on slot old.pins
+    own_slot key slot has is =
+        let own = owns_pin key has in
+        let both : Some own.slot ≡ Some slot = sym own.there.slot_is ∙ is in
+        let one : own.slot ≡ slot = cc in
+        subst (λ k. 1 ≤ pins_on k old.pins) one own.own
+
+    known : me.0.known ≡ words_of s
+    known = ap (λ (v : Standing). v.known) turn.view
+
+    inside : (slot : ℕ) → slot < length s.slots → slot < slots_of me.0.passes
+    inside slot low =
+        subst (λ n. slot < slots_of n) (sym (ap (λ (v : Standing). v.passes) turn.view))
+        (omega (arith, low, turn.home.stored.count))
+
+    -- ---- the shard that is given back
+
+    pub give_ready : (now : Me A Standing) (body : A) (new : ShardState) → value body ≡ new
+        → now.1 ≡ (0, body) ∷ rest me.1 → terms_of now.0 ≡ terms_of me.0
+        → IsHome files (terms_of old) new → now.0.known ≡ words_of new
+        → AreLawful (λ terms b. IsHome files terms (value b)) (λ b. words_of (value b)) now.0 now.1
+    give_ready now body new is slots terms home words = (
+      body,
+      slots ∙ ap (λ l. (0, body) ∷ l) turn.alone,
+      subst (λ t. IsHome files t (value body)) (sym (terms ∙ ap terms_of turn.view))
+          (subst (λ (t : ShardState). IsHome files (terms_of old) t) (sym is) home),
+      words ∙ ap words_of (sym is),
+    )
+
+    pub give_pinned : (key slot : ℕ) (body : A) (new : ShardState) → value body ≡ new
+        → PinsSlot key slot s new → IsStored files (terms_of old) new → new.left ≡ s.left
+        → (now : Me A Standing) → now ≡ (with_pin slot me.0, (0, body) ∷ rest me.1)
+        → AreLawful (λ terms b. IsHome files terms (value b)) (λ b. words_of (value b)) now.0 now.1
+    give_pinned key slot body new is pins stored left now pinned = give_ready now body new is
+        (ap (λ (m : Me A Standing). m.1) pinned)
+        (ap (λ (m : Me A Standing). terms_of m.0) pinned)
+        (record { stored = stored; left = left ∙ turn.home.left })
+        (ap (λ (m : Me A Standing). m.0.known) pinned
+        ∙ (ap (pinned_words slot) known ∙ sym pins.words))
+
+    -- ---- a tile that is kept
+
+    module _ (key slot number : ℕ) (new : ShardState) (inserts : InsertsSlot key slot s new)
+        (number_is : number ≡ key) where
+      pub may_keep : old.live ≡ true → length old.pins + 1 ≤ max_pins * old.permits → 1 ≤ number
+          → MayKeep slot number me.0
+      may_keep live room some = record {
+        inside = inside slot inserts.inside;
+        live = ap (λ (v : Standing). v.live) turn.view ∙ live;
+        turn = ap (λ (v : Standing). v.has_turn) turn.view;
+        count = omega (
+          arith,
+          ap (λ (w : SlotWords). length w.keys) known,
+          length_of_keys s,
+          inserts.inside,
+        );
+        room = subst (λ (v : Standing). length v.pins + 1 ≤ max_pins * v.permits) (sym turn.view) room;
+        some = some;
+        free = λ other. ap (λ (w : SlotWords). slice_index w.pins slot) known
+            ∙ inserts.free (λ same. other (ap (λ (w : SlotWords). slice_index w.keys slot) known
+            ∙ (same ∙ sym number_is)));
+      }
+
+      pub give_kept : (body : A) → value body ≡ new → IsStored files (terms_of old) new
+          → new.left ≡ [] → (now : Me A Standing)
+          → now ≡ (with_pin slot (with_key slot number me.0), (0, body) ∷ rest me.1)
+          → AreLawful (λ terms b. IsHome files terms (value b)) (λ b. words_of (value b)) now.0 now.1
+      give_kept body is stored left now kept = give_ready now body new is
+          (ap (λ (m : Me A Standing). m.1) kept)
+          (ap (λ (m : Me A Standing). terms_of m.0) kept)
+          (record { stored = stored; left = left })
+          (ap (λ (m : Me A Standing). m.0.known) kept
+          ∙ ((λ i. pinned_words slot (keyed_words slot (number_is i) (known i))) ∙ sym inserts.words))
+
+      -- The pin is of the key.
+      pub kept_key : slice_index (set me.0.known.keys slot number) slot ≡ key
+      kept_key = get_or-set_same me.0.known.keys slot number 0 (omega (
+        arith,
+        ap (λ (w : SlotWords). length w.keys) known,
+        length_of_keys s,
+        inserts.inside,
+      )) ∙ number_is
+
+      pub kept_pins : (now : Standing) → now ≡ with_pin slot (with_key slot number me.0)
+          → keys_of_pins now.pins ≡ key ∷ keys_of_pins old.pins
+      kept_pins now is = ap (λ (v : Standing). keys_of_pins v.pins) is
+          ∙ (λ i. kept_key i ∷ keys_of_pins ((turn.view i).pins))
+
+    -- ---- a pin that is given back
+
+    module _ (key slot : ℕ) (has : Contains (keys_of_pins old.pins) key)
+        (is : slot_of key s.slots ≡ Some slot) where
+      pub may_unpin : old.live ≡ true → MayUnpin slot me.0
+      may_unpin live = record {
+        inside = inside slot (slot_low s s turn.home.stored.in_slots key slot is);
+        live = ap (λ (v : Standing). v.live) turn.view ∙ live;
+        turn = ap (λ (v : Standing). v.has_turn) turn.view;
+        own = subst (λ (v : Standing). 1 ≤ pins_on slot v.pins) (sym turn.view)
+            (own_slot key slot has is);
+      }
+
+      pub telling : old.live ≡ true → (new : ShardState) (body : A) → value body ≡ new
+          → AreBehind (unpinned_words slot (words_of s)) new → IsStored files (terms_of old) new
+          → (now : Me A Standing) → now ≡ (without_pin slot me.0, (0, body) ∷ rest me.1)
+          → IsTellingOf value files now
+      telling live new body put behind stored now unpinned = record {
+        body = body;
+        slots = ap (λ (m : Me A Standing). m.1) unpinned ∙ ap (λ l. (0, body) ∷ l) turn.alone;
+        live = ap (λ (m : Me A Standing). m.0.live) unpinned
+            ∙ (ap (λ (v : Standing). v.live) turn.view ∙ live);
+        turn = ap (λ (m : Me A Standing). m.0.has_turn) unpinned
+            ∙ ap (λ (v : Standing). v.has_turn) turn.view;
+        behind = subst (λ w. AreBehind w (value body))
+            (sym (ap (λ (m : Me A Standing). m.0.known) unpinned ∙ ap (unpinned_words slot) known))
+            (subst (λ (t : ShardState). AreBehind (unpinned_words slot (words_of s)) t) (sym put) behind);
+        stored = subst (λ t. IsStored files t (value body))
+            (sym (ap (λ (m : Me A Standing). terms_of m.0) unpinned ∙ ap terms_of turn.view))
+            (subst (λ (t : ShardState). IsStored files (terms_of old) t) (sym put) stored);
+      }
+
+      -- The key is one of its pins no more.
+      pub keys_less : IsPermutation (keys_of_pins old.pins)
+          (key ∷ keys_of_pins (without_pin_of slot old.pins))
+      keys_less = subst
+          (λ k. IsPermutation (keys_of_pins old.pins) (k ∷ keys_of_pins (without_pin_of slot old.pins)))
+          (slot_word s s turn.home.stored.in_slots key slot is)
+          (keys-without (words_of s) slot old.pins turn.among (own_slot key slot has is))
+
+    -- The seat gives back the shard of which each slot was told.
+    module _ (slot : ℕ) (body : A) (new : ShardState) (put : value body ≡ new)
+        (mid last : Me A Standing) (given : Standing)
+        (unpinned : mid ≡ (without_pin slot me.0, (0, body) ∷ rest me.1))
+        (told : HasToldOf value files mid last)
+        (gave : given ≡ without_turn (entries_of (λ b. (value b).entries) last.1) last.0) where
+      pub last_pins : given.pins ≡ without_pin_of slot old.pins
+      last_pins = ap (λ (v : Standing). v.pins) gave
+          ∙ (ap (λ (v : Standing). v.pins) told.view
+          ∙ (ap (λ (m : Me A Standing). m.0.pins) unpinned
+          ∙ ap (λ (v : Standing). without_pin_of slot v.pins) turn.view))
+
+      last_before : value told.before ≡ new
+      last_before =
+          sym (ap value (one_slot mid.1 (rest me.1) told.before body told.slots_before
+          (ap (λ (m : Me A Standing). m.1) unpinned))) ∙ put
+
+      last_entries : entries_of (λ b. (value b).entries) last.1 ≡ new.entries
+      last_entries = ap (entries_of (λ b. (value b).entries)) told.slots
+          ∙ (told.entries ∙ ap (λ (t : ShardState). t.entries) last_before)
+
+      visits_mid : last.0.visits ≡ begun s.entries ∷ old.visits
+      visits_mid = ap (λ (v : Standing). v.visits) told.view
+          ∙ (ap (λ (m : Me A Standing). m.0.visits) unpinned
+          ∙ ap (λ (v : Standing). v.visits) turn.view)
+
+      pub last_visits : given.visits ≡ visit s.entries new.entries ∷ old.visits
+      last_visits = ap (λ (v : Standing). v.visits) gave
+          ∙ (λ i. ended (last_entries i) (visits_mid i))
