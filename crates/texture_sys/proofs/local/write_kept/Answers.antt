@@ -12,7 +12,7 @@ pub returns-clause-value : goal.returns-clause-value
 returns-clause-value g c bytes held =
     look_told g.T.W.World.files c.args.known.now c.args.r.now c.fetch_kept.new.out bytes
     (subst (λ (k : RecordState). IsRecord g.T.W.World.files k) c.record.ensures.value
-    c.generation-generation.ensures.told) c.record.ensures.serves.fits (omega arith) held
+    c.generation-generation.ensures.told) c.record.ensures.serves (omega arith) held
     (c.in-Ok.ensures.told (channel_value_of bytes) (ap (option_map channel_value_of) held))
 
 pub returns-clause-asks : goal.returns-clause-asks

@@ -1,5 +1,8 @@
 -- The tile is taken in hand, and then placed.
-use Rattle.std.proofs.Common.{inl, ap}
+use Rattle.std.proofs.Common.{◌∙◌, ap, inl, sym, subst, List}
+use Rattle.micro.specs.Items.{HasKey}
+use Rattle.tile_store.specs.Tile.{CachedTile}
+use Rattle.pinned_tiles.specs.Pinned.{key_in}
 use Rattle.image_cache.proofs.ReadingLemmas.{brings_by, brings_refused, brings_placed}
 use Rattle.image_cache.proofs.ReadingLemmas.{cold_before, cold_after}
 use Rattle.image_cache.proofs.reading.Reading.bring.Goals as goal
@@ -28,3 +31,14 @@ returns-clause-missed g c =
     (cold_after c.args.cell.now.key c.find.new.self c.take_in_hand.new.self c.place.new.self
     c.take_in_hand.ensures.missed
     c.in_ok-take_in_hand.ensures.made.steps.call c.place.ensures.left c.place.ensures.tap)
+
+-- what the pass holds is there
+pub returns-clause-held : goal.returns-clause-held
+returns-clause-held g c has =
+    let there = subst (λ (tiles : List CachedTile). HasKey key_in c.args.cell.now.key tiles)
+    (sym c.find.ensures.left.steps.left.need.holds) has in
+    let taken = c.take_in_hand.ensures.held there in
+    record {
+      tap = ap g.T.Tap.state c.place.ensures.tap ∙ (taken.tap ∙ ap g.T.Tap.state c.find.ensures.tap);
+      wants = tt;
+    }
