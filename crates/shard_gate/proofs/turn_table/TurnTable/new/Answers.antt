@@ -2,7 +2,7 @@
 use Rattle.std.proofs.Common.{◌≡◌, ℕ, List, [], ◌∷◌, ◌++◌, subst, sym, ap, ◌∙◌}
 use Rattle.atomic_table.specs.Table.{opening}
 use Rattle.shard_gate.specs.Turn.{OneTurn, first_standing}
-use Rattle.shard_gate.proofs.RuleLemmas.{opened}
+use Rattle.shard_gate.proofs.SeatRule.{opened}
 use Rattle.shard_gate.proofs.turn_table.TurnTable.new.Goals as goal
 
 pub new-requires : goal.new-requires
