@@ -16,7 +16,7 @@ use Rattle.shard_gate.specs.declared.rule.Terms.{Terms}
 use Rattle.shard_gate.specs.Words.{SlotWords, AreWords, AreHeld, AreFewPins}
 use Rattle.shard_gate.specs.Words.{turn_word, tag_word, first_word, pin_word}
 use Rattle.shard_gate.specs.Words.{max_pins, pins_on}
-use Rattle.shard_gate.specs.Turn.{OneTurn, IsOf}
+use Rattle.shard_gate.specs.Turn.{OneTurn, IsOf, TookLawful}
 use Rattle.shard_gate.specs.Turn.{terms_of}
 use Rattle.shard_gate.specs.Turn.{turn_of, permits_of, pinned}
 use Rattle.shard_gate.specs.Turn.{spent_standing}
@@ -70,6 +70,10 @@ module _ {S : Type 0} (lawful : Terms → S → Type 0) (shown : S → Entries)
   abbrev pub KnowsOf : List ℕ → Standing → Type 0
   KnowsOf words v = v.has_turn ≡ true → AreWords terms.passes words v.known
 
+  -- its last visit took the entries of a lawful body
+  abbrev pub TakesOf : Standing → Type 0
+  TakesOf v = v.has_turn ≡ true → TookLawful lawful shown terms v.visits
+
   -- A lawful body is at home, and the words are its own.
   abbrev pub IsIn : List ℕ → List (Option S) → Type 0
   IsIn words homes = (body : S) × (get_elem? homes 0 ≡ some (some body)) × lawful terms body
@@ -92,16 +96,17 @@ module _ {S : Type 0} (lawful : Terms → S → Type 0) (shown : S → Entries)
 
   -- A step on the turn word that changes the word as it changes who has the turn.
   pub after : (s : State S Standing) (id n : ℕ) (old new : Standing) (homes : List (Option S))
-      → OneTurn lawful words_in terms s → get_elem? s.views id ≡ some old → n ≤ 1
+      → OneTurn lawful shown words_in terms s → get_elem? s.views id ≡ some old → n ≤ 1
       → slice_index s.words turn_word + turn_of new ≡ n + turn_of old
       → new.permits ≡ old.permits → new.pins ≡ old.pins → IsOf terms new → KnowsOf s.words new
+      → TakesOf new
       → (n ≡ 0 → IsIn s.words homes)
-      → OneTurn lawful words_in terms (record {
+      → OneTurn lawful shown words_in terms (record {
         words = set s.words turn_word n;
         homes = homes;
         views = set s.views id new;
       })
-  after s id n old new homes kept at few turn permits pins right knows home =
+  after s id n old new homes kept at few turn permits pins right knows takes_new home =
       let words = set s.words turn_word n in
       let inside : turn_word < length s.words = omega (arith, kept.count) in
       let there : slice_index words turn_word ≡ n =
@@ -132,6 +137,7 @@ module _ {S : Type 0} (lawful : Terms → S → Type 0) (shown : S → Entries)
             words_stay terms.passes s.words turn_word n v.known (omega arith) (is has))
             kept.known
             (λ has. words_stay terms.passes s.words turn_word n new.known (omega arith) (knows has));
+        taken = one_view TakesOf TakesOf s.views id new (λ seat v ne there is. is) kept.taken takes_new;
         home = λ e. let in_place = home (sym there ∙ e) in (
           in_place.0,
           in_place.1,
@@ -143,18 +149,18 @@ module _ {S : Type 0} (lawful : Terms → S → Type 0) (shown : S → Entries)
 
   -- A step of the seat that has the turn on a word of a slot.
   pub after_slot : (s : State S Standing) (id word n : ℕ) (old new : Standing)
-      → OneTurn lawful words_in terms s → get_elem? s.views id ≡ some old → first_word ≤ word
-      → old.has_turn ≡ true → new.has_turn ≡ true → new.permits ≡ old.permits → IsOf terms new
+      → OneTurn lawful shown words_in terms s → get_elem? s.views id ≡ some old → first_word ≤ word
+      → old.has_turn ≡ true → new.has_turn ≡ true → new.permits ≡ old.permits → new.visits ≡ old.visits → IsOf terms new
       → ((slot : ℕ) → slice_index (set s.words word n) (pin_word slot) + pins_on slot old.pins
       ≡ slice_index s.words (pin_word slot) + pins_on slot new.pins)
       → Each (λ v. AreHeld (set s.words word n) v.pins) (set s.views id new)
       → AreWords terms.passes (set s.words word n) new.known
-      → OneTurn lawful words_in terms (record {
+      → OneTurn lawful shown words_in terms (record {
         words = set s.words word n;
         homes = s.homes;
         views = set s.views id new;
       })
-  after_slot s id word n old new kept at low turn still permits right shift held knows =
+  after_slot s id word n old new kept at low turn still permits visits right shift held knows =
       let words = set s.words word n in
       let same_turn : slice_index words turn_word ≡ slice_index s.words turn_word =
       get_or-set_other s.words word turn_word n 0 (λ e. absurd (omega arith)) in
@@ -180,6 +186,8 @@ module _ {S : Type 0} (lawful : Terms → S → Type 0) (shown : S → Entries)
             (omega (arith, kept.turn, kept.most)) seat v ne there other))
             kept.known
             (λ _. knows);
+        taken = one_view TakesOf TakesOf s.views id new (λ seat v ne there is. is) kept.taken
+            (λ _. subst (λ l. TookLawful lawful shown terms l) (sym visits) (kept.taken id old at turn));
         home = λ e. absurd (omega (arith, same_turn, kept.turn));
         permits = omega (arith, sum_set permits_of s.views id old new at, kept.permits, permits);
       }
@@ -193,7 +201,7 @@ module _ {S : Type 0} (lawful : Terms → S → Type 0) (shown : S → Entries)
 
   -- All seats together have no more pins than the passes allow.
   pub few_known : (s : State S Standing) (id : ℕ) (v : Standing) (known : SlotWords)
-      → OneTurn lawful words_in terms s → get_elem? s.views id ≡ some v → v.live ≡ true
+      → OneTurn lawful shown words_in terms s → get_elem? s.views id ≡ some v → v.live ≡ true
       → AreWords terms.passes s.words known → AreFewPins v.passes known
   few_known s id v known kept at live are slots distinct = omega (
     arith,

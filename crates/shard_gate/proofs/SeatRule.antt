@@ -16,7 +16,7 @@ use Rattle.shard_gate.specs.Turn.{first_standing}
 use Rattle.shard_gate.specs.Turn.{turn_of, permits_of}
 use Rattle.shard_gate.specs.Turn.{kept_standing, new_standing, both_standings, spent_standing}
 use Rattle.shard_gate.proofs.SumLemmas.{sum_set}
-use Rattle.shard_gate.proofs.RuleLemmas.{Each, one_view, one_more, one_only, KnowsOf, other_view}
+use Rattle.shard_gate.proofs.RuleLemmas.{TakesOf, Each, one_view, one_more, one_only, KnowsOf, other_view}
 
 module _ {S : Type 0} (lawful : Terms → S → Type 0) (shown : S → Entries)
     (words_in : S → SlotWords) (terms : Terms) where
@@ -24,7 +24,7 @@ module _ {S : Type 0} (lawful : Terms → S → Type 0) (shown : S → Entries)
 
   pub split_allowed : (id : ℕ) (v : Standing) → v.live ≡ true → v.has_turn ≡ false
       → 0 < v.permits → length v.pins ≤ max_pins * (v.permits - 1)
-      → Splits (OneTurn lawful words_in terms) id v (kept_standing v) (new_standing v)
+      → Splits (OneTurn lawful shown words_in terms) id v (kept_standing v) (new_standing v)
   split_allowed id v live turn enough few s kept at =
       let right : IsOf terms v = kept.views id v at in
       let left = kept_standing v in
@@ -59,6 +59,10 @@ module _ {S : Type 0} (lawful : Terms → S → Type 0) (shown : S → Entries)
             (one_view (KnowsOf lawful shown words_in terms s.words) (KnowsOf lawful shown words_in terms s.words) s.views id left
             (λ seat w ne there is. is) kept.known (kept.known id v at))
             (kept.known id v at);
+        taken = one_more (TakesOf lawful shown words_in terms) (set s.views id left) new
+            (one_view (TakesOf lawful shown words_in terms) (TakesOf lawful shown words_in terms) s.views id left (λ seat w ne there is. is) kept.taken
+            (kept.taken id v at))
+            (λ e. absurd (cc (turn, e)));
         home = kept.home;
         permits = omega (
           arith,
@@ -71,7 +75,7 @@ module _ {S : Type 0} (lawful : Terms → S → Type 0) (shown : S → Entries)
 
   pub join_allowed : (id : ℕ) (v : Standing) (other : ℕ) (w : Standing) → v.live ≡ true
       → w.has_turn ≡ false → w.pins ≡ []
-      → Joins (OneTurn lawful words_in terms) id v other w (both_standings v w) spent_standing
+      → Joins (OneTurn lawful shown words_in terms) id v other w (both_standings v w) spent_standing
   join_allowed id v other w live turn none_held s kept at apart there =
       let right : IsOf terms v = kept.views id v at in
       let both = both_standings v w in
@@ -116,6 +120,11 @@ module _ {S : Type 0} (lawful : Terms → S → Type 0) (shown : S → Entries)
             (one_view (KnowsOf lawful shown words_in terms s.words) (KnowsOf lawful shown words_in terms s.words) s.views id both
             (λ seat u ne is_there is. is) kept.known (kept.known id v at))
             (λ e. absurd (cc e));
+        taken = one_view (TakesOf lawful shown words_in terms) (TakesOf lawful shown words_in terms) (set s.views id both) other spent_standing
+            (λ seat u ne is_there is. is)
+            (one_view (TakesOf lawful shown words_in terms) (TakesOf lawful shown words_in terms) s.views id both (λ seat u ne is_there is. is) kept.taken
+            (kept.taken id v at))
+            (λ e. absurd (cc e));
         home = kept.home;
         permits = omega (
           arith,
@@ -131,7 +140,7 @@ module _ {S : Type 0} (lawful : Terms → S → Type 0) (shown : S → Entries)
       → slice_index words turn_word ≡ 0 → slice_index words tag_word ≡ terms.tag
       → ((k : ℕ) → first_word ≤ k → slice_index words k ≡ 0) → lawful terms body
       → AreBlank terms.passes (words_in body)
-      → OneTurn lawful words_in terms (opening words (body ∷ []) (first_standing terms))
+      → OneTurn lawful shown words_in terms (opening words (body ∷ []) (first_standing terms))
   opened words body count turn tag blank right clear =
       let first = first_standing terms in
       let only : (P : Standing → Type 0) → P first → Each P (first ∷ []) = λ P is. one_only P first is in
@@ -151,6 +160,7 @@ module _ {S : Type 0} (lawful : Terms → S → Type 0) (shown : S → Entries)
         pins = λ slot. blank (pin_word slot) (omega arith);
         held = only (λ v. AreHeld words v.pins) tt;
         known = only (KnowsOf lawful shown words_in terms words) (λ e. absurd (cc e));
+        taken = only (TakesOf lawful shown words_in terms) (λ e. absurd (cc e));
         home = λ _. (
           body,
           refl,

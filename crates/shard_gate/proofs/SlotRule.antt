@@ -30,7 +30,7 @@ module _ {S : Type 0} (lawful : Terms → S → Type 0) (shown : S → Entries)
   -- ---- the words of a slot
 
   pub look_allowed : (slots id slot : ℕ) (me : Me S Standing) → MayLook slot me.0
-      → Allows (OneTurn lawful words_in terms) slots id me (key_word slot) (λ n. n)
+      → Allows (OneTurn lawful shown words_in terms) slots id me (key_word slot) (λ n. n)
       (Looked (step slots (key_word slot) 0 0 none) me)
   look_allowed slots id slot me may s kept homes at fits =
       let n : ℕ = slice_index s.words (key_word slot) in
@@ -40,7 +40,7 @@ module _ {S : Type 0} (lawful : Terms → S → Type 0) (shown : S → Entries)
         me.0,
         keeps,
         tt,
-        after_slot lawful shown words_in terms s id (key_word slot) n me.0 me.0 kept at (omega arith) may.turn may.turn refl
+        after_slot lawful shown words_in terms s id (key_word slot) n me.0 me.0 kept at (omega arith) may.turn may.turn refl refl
             right
             (λ other. ap (λ l. slice_index l (pin_word other) + pins_on other me.0.pins) same)
             (one_view (λ v. AreHeld s.words v.pins) (λ v. AreHeld (set s.words (key_word slot) n) v.pins)
@@ -57,7 +57,7 @@ module _ {S : Type 0} (lawful : Terms → S → Type 0) (shown : S → Entries)
 
   pub pin_allowed : (slots id slot : ℕ) (me : Me S Standing) → MayPin slot me.0
       → terms.passes ≤ max_passes
-      → Allows (OneTurn lawful words_in terms) slots id me (pin_word slot) (λ n. (n + 1) % 2 ^ 64)
+      → Allows (OneTurn lawful shown words_in terms) slots id me (pin_word slot) (λ n. (n + 1) % 2 ^ 64)
       (Pinned (step slots (pin_word slot) 1 0 none) me)
   pin_allowed slots id slot me may small s kept homes at fits =
       let n : ℕ = slice_index s.words (pin_word slot) in
@@ -82,8 +82,8 @@ module _ {S : Type 0} (lawful : Terms → S → Type 0) (shown : S → Entries)
         new,
         keeps,
         tt,
-        subst (λ m. OneTurn lawful words_in terms (stepped s (pin_word slot) m id me.1 new keeps)) (sym more)
-            (after_slot lawful shown words_in terms s id (pin_word slot) (n + 1) me.0 new kept at (omega arith) may.turn may.turn refl
+        subst (λ m. OneTurn lawful shown words_in terms (stepped s (pin_word slot) m id me.1 new keeps)) (sym more)
+            (after_slot lawful shown words_in terms s id (pin_word slot) (n + 1) me.0 new kept at (omega arith) may.turn may.turn refl refl
             (other_view lawful shown words_in terms me.0 new right may.live refl refl refl (omega (arith, may.room))
             (λ e. absurd (cc (may.turn, e))))
             (λ other. pin_shift s.words slot n other me.0.pins (slice_index me.0.known.keys slot) low refl)
@@ -107,7 +107,7 @@ module _ {S : Type 0} (lawful : Terms → S → Type 0) (shown : S → Entries)
       )
 
   pub unpin_allowed : (slots id slot : ℕ) (me : Me S Standing) → MayUnpin slot me.0
-      → Allows (OneTurn lawful words_in terms) slots id me (pin_word slot)
+      → Allows (OneTurn lawful shown words_in terms) slots id me (pin_word slot)
       (λ n. (n + (2 ^ 64 - 1)) % 2 ^ 64)
       (Unpinned (step slots (pin_word slot) 1 0 none) me)
   unpin_allowed slots id slot me may s kept homes at fits =
@@ -133,8 +133,8 @@ module _ {S : Type 0} (lawful : Terms → S → Type 0) (shown : S → Entries)
         new,
         keeps,
         tt,
-        subst (λ m. OneTurn lawful words_in terms (stepped s (pin_word slot) m id me.1 new keeps)) (sym less)
-            (after_slot lawful shown words_in terms s id (pin_word slot) (n - 1) me.0 new kept at (omega arith) may.turn may.turn refl
+        subst (λ m. OneTurn lawful shown words_in terms (stepped s (pin_word slot) m id me.1 new keeps)) (sym less)
+            (after_slot lawful shown words_in terms s id (pin_word slot) (n - 1) me.0 new kept at (omega arith) may.turn may.turn refl refl
             (other_view lawful shown words_in terms me.0 new right may.live refl refl refl
             (omega (arith, right.few, length-without slot me.0.pins))
             (λ e. absurd (cc (may.turn, e))))
@@ -159,7 +159,7 @@ module _ {S : Type 0} (lawful : Terms → S → Type 0) (shown : S → Entries)
       )
 
   pub fill_allowed : (slots id slot key : ℕ) (me : Me S Standing) → MayFill slot me.0
-      → Allows (OneTurn lawful words_in terms) slots id me (key_word slot) (λ _. key)
+      → Allows (OneTurn lawful shown words_in terms) slots id me (key_word slot) (λ _. key)
       (λ _. Filled (step slots (key_word slot) key 0 none) me key)
   fill_allowed slots id slot key me may s kept homes at fits =
       let right : IsOf terms me.0 = kept.views id me.0 at in
@@ -176,7 +176,7 @@ module _ {S : Type 0} (lawful : Terms → S → Type 0) (shown : S → Entries)
         new,
         keeps,
         tt,
-        after_slot lawful shown words_in terms s id (key_word slot) key me.0 new kept at (omega arith) may.turn may.turn refl
+        after_slot lawful shown words_in terms s id (key_word slot) key me.0 new kept at (omega arith) may.turn may.turn refl refl
             (other_view lawful shown words_in terms me.0 new right may.live refl refl refl right.few
             (λ e. absurd (cc (may.turn, e))))
             (λ other. ap (λ m. m + pins_on other me.0.pins) (pins_beside s.words slot key other))

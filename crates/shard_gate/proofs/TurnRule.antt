@@ -30,7 +30,7 @@ module _ {S : Type 0} (lawful : Terms → S → Type 0) (shown : S → Entries)
   -- ---- the turn
 
   pub take_allowed : (slots id : ℕ) (me : Me S Standing) → IsIdle me
-      → Allows (OneTurn lawful words_in terms) slots id me turn_word (λ n. either (n == 0) 1 n)
+      → Allows (OneTurn lawful shown words_in terms) slots id me turn_word (λ n. either (n == 0) 1 n)
       (Took lawful shown words_in (step slots turn_word 0 1 none) me)
   take_allowed slots id me idle s kept homes at fits =
       let n : ℕ = slice_index s.words turn_word in
@@ -38,7 +38,7 @@ module _ {S : Type 0} (lawful : Terms → S → Type 0) (shown : S → Entries)
       let none_out : turn_of me.0 ≡ 0 = ap (λ b. cond b 1 0) idle.turn in
       exchanged n 0 1
       (λ m. (w : Standing) × (a : Act S) × Valid s.homes me.1 a
-      × OneTurn lawful words_in terms (stepped s turn_word m id me.1 w a)
+      × OneTurn lawful shown words_in terms (stepped s turn_word m id me.1 w a)
       × Took lawful shown words_in (step slots turn_word 0 1 none) me n (w, carried_after me.1 a))
       (λ free.
       let home = kept.home free in
@@ -52,6 +52,7 @@ module _ {S : Type 0} (lawful : Terms → S → Type 0) (shown : S → Entries)
             (other_view lawful shown words_in terms me.0 won right idle.live refl refl refl right.few
             (λ e. absurd (cc e)))
             (λ _. home.3)
+            (λ _. record { body = home.0; before = me.0.visits; right = home.2; last = refl })
             (λ e. absurd (omega arith)),
         record {
           won = λ _. (
@@ -75,14 +76,14 @@ module _ {S : Type 0} (lawful : Terms → S → Type 0) (shown : S → Entries)
         keeps,
         tt,
         after lawful shown words_in terms s id n me.0 me.0 s.homes kept at kept.most refl refl refl right
-            (kept.known id me.0 at) kept.home,
+            (kept.known id me.0 at) (kept.taken id me.0 at) kept.home,
         record { won = λ e. absurd (out e); lost = λ _. refl },
       ))
 
   pub give_allowed : (slots id : ℕ) (me : Me S Standing) (body : S) → me.0.live ≡ true
       → me.0.has_turn ≡ true → me.1 ≡ (0, body) ∷ [] → lawful (terms_of me.0) body
       → me.0.known ≡ words_in body → slots ≡ 1
-      → Allows (OneTurn lawful words_in terms) slots id me turn_word (λ _. 0)
+      → Allows (OneTurn lawful shown words_in terms) slots id me turn_word (λ _. 0)
       (λ _. Gave shown (step slots turn_word 0 0 none) me 0)
   give_allowed slots id me body live turn has right same one s kept homes at fits =
       let view : IsOf terms me.0 = kept.views id me.0 at in
@@ -99,7 +100,7 @@ module _ {S : Type 0} (lawful : Terms → S → Type 0) (shown : S → Entries)
         after lawful shown words_in terms s id 0 me.0 left (put_back s.homes me.1) kept at zero-le
             (omega (arith, one_out, out, kept.most)) refl refl
             (other_view lawful shown words_in terms me.0 left view live refl refl refl view.few (λ _. refl))
-            (λ e. absurd (cc e))
+            (λ e. absurd (cc e)) (λ e. absurd (cc e))
             (λ _. (
               body,
               there,
@@ -110,7 +111,7 @@ module _ {S : Type 0} (lawful : Terms → S → Type 0) (shown : S → Entries)
       )
 
   pub count_allowed : (slots id : ℕ) (me : Me S Standing) → me.0.live ≡ true
-      → Allows (OneTurn lawful words_in terms) slots id me turn_word (λ n. n)
+      → Allows (OneTurn lawful shown words_in terms) slots id me turn_word (λ n. n)
       (Counted (step slots turn_word 0 0 none) me)
   count_allowed slots id me live s kept homes at fits =
       let n : ℕ = slice_index s.words turn_word in
@@ -119,7 +120,7 @@ module _ {S : Type 0} (lawful : Terms → S → Type 0) (shown : S → Entries)
         keeps,
         tt,
         after lawful shown words_in terms s id n me.0 me.0 s.homes kept at kept.most refl refl refl right
-            (kept.known id me.0 at) kept.home,
+            (kept.known id me.0 at) (kept.taken id me.0 at) kept.home,
         record {
           same = refl;
           few = omega (

@@ -8,7 +8,7 @@ use lib.ListN.{get_elem?}
 use Rattle.atomic_table.specs.Table.{State}
 use Rattle.shard_gate.specs.declared.standing.Standing.{Standing}
 use Rattle.shard_gate.specs.declared.rule.Terms.{Terms}
-use Rattle.shard_gate.specs.Visit.{begun, ended}
+use Rattle.shard_gate.specs.Visit.{Visit, begun, ended}
 use Rattle.shard_gate.specs.Words.{turn_word, tag_word, pin_word, word_count, max_pins}
 use Rattle.shard_gate.specs.Words.{SlotWords, no_words, AreWords, pins_on, without_pin_of}
 use Rattle.shard_gate.specs.Words.{AreHeld}
@@ -106,14 +106,22 @@ spent_standing = record {
 }
 
 module _ {S : Type 0} where
+  -- The last visit took the entries of a body that was lawful for the terms.
+  pub record TookLawful (lawful : Terms → S → Type 0) (shown : S → Entries) (terms : Terms)
+      (visits : List Visit) : Type 0 where
+    pub body : S
+    pub before : List Visit
+    pub right : lawful terms body
+    pub last : visits ≡ begun (shown body) ∷ before
+
   -- The rule. The turn word is 0 or 1, and it is the number of seats that have the turn. The tag
   -- word is the tag of the table, which each live seat names. A pin word is the number of pins that
   -- all seats have of the slot, and the key word of a pinned slot is the pin's key. What a seat that
-  -- has the turn knows of the slots' words is so. While the turn word is 0 the body is at home: it
-  -- is lawful for the terms, and the words of the slots are its own. The permits of all seats are
-  -- the passes.
-  pub record OneTurn (lawful : Terms → S → Type 0) (words_in : S → SlotWords) (terms : Terms)
-      (s : State S Standing) : Type 0 where
+  -- has the turn knows of the slots' words is so, and its last visit took the entries of a lawful
+  -- body. While the turn word is 0 the body is at home: it is lawful for the terms, and the words of
+  -- the slots are its own. The permits of all seats are the passes.
+  pub record OneTurn (lawful : Terms → S → Type 0) (shown : S → Entries)
+      (words_in : S → SlotWords) (terms : Terms) (s : State S Standing) : Type 0 where
     pub count : length s.words ≡ word_count terms.passes
     pub most : slice_index s.words turn_word ≤ 1
     pub turn : sum_by turn_of s.views ≡ slice_index s.words turn_word
@@ -124,6 +132,8 @@ module _ {S : Type 0} where
         → AreHeld s.words v.pins
     pub known : (seat : ℕ) (v : Standing) → get_elem? s.views seat ≡ some v
         → v.has_turn ≡ true → AreWords terms.passes s.words v.known
+    pub taken : (seat : ℕ) (v : Standing) → get_elem? s.views seat ≡ some v
+        → v.has_turn ≡ true → TookLawful lawful shown terms v.visits
     pub home : slice_index s.words turn_word ≡ 0
         → (body : S) × (get_elem? s.homes 0 ≡ some (some body)) × lawful terms body
         × AreWords terms.passes s.words (words_in body)
