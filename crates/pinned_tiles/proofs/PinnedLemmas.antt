@@ -2,7 +2,7 @@
 use Rattle.std.proofs.Common.{◌≡◌, ℕ, ◌+◌, ◌*◌, ◌<◌, ◌≤◌, Bool, true, false, not, nat_eq}
 use Rattle.std.proofs.Common.{List, [], ◌∷◌, ◌++◌, length, refl, sym, ap, subst, arith}
 use Rattle.std.proofs.Common.{Option, Some, None, IfSome, cond, ◌-◌, ◌∙◌, length-append}
-use Rattle.std.proofs.Common.{suc, map, take, drop, get_or, append_assoc}
+use Rattle.std.proofs.Common.{zero, suc, map, take, drop, get_or, append_assoc}
 use Rattle.std.proofs.lemmas.List.{append-nil, map-append, take-map, drop-map}
 use Rattle.std.proofs.lemmas.List.Edits.{length-remove}
 use Rattle.std.proofs.lemmas.List.Elements.{All-take, All-drop, All-get_or}
@@ -24,7 +24,7 @@ use Rattle.tile_store.specs.Tile.{CachedTile}
 use Rattle.tile_store.specs.Lawful.{FitsCut}
 use Rattle.shard_gate.specs.Gate.{PinSeatState, PinState, OnePinMore, OnePinLess, SamePins, IsTileOf}
 use Rattle.shard_gate.specs.Gate.{max_pins}
-use Rattle.micro.specs.Items.{has_key, key_first, placed}
+use Rattle.micro.specs.Items.{HasKey, has_key, key_first, placed}
 use Rattle.pinned_tiles.specs.Pinned.{max_holds, ArePinned, pinned_tiles, key_sum, hand_sum, key_in}
 
 -- ---- sums
@@ -52,6 +52,30 @@ times_has key (k ∷ keys) some = here (nat_eq k key) refl (times_has key keys)
     here false is rest =
         let one = sum_by-cons (λ j. one_if (nat_eq j key)) k keys in
         Contains-append_right (k ∷ []) keys key (rest (omega (arith, some, one, ap one_if is)))
+
+-- and where a tile has the key it is counted
+has_times : (key : ℕ) (tiles : List CachedTile) → HasKey key_in key tiles
+    → 1 ≤ key_sum (λ k. one_if (nat_eq k key)) tiles
+has_times key [] (k, low, is) = absurd (omega arith)
+has_times key (t ∷ tiles) (zero, low, is) = omega (
+  arith,
+  sum_by-cons (λ (tile : CachedTile). one_if (nat_eq tile.key key)) t tiles,
+  ap one_if (eq-eqb t.key key is),
+)
+has_times key (t ∷ tiles) (suc k, low, is) = omega (
+  arith,
+  sum_by-cons (λ (tile : CachedTile). one_if (nat_eq tile.key key)) t tiles,
+  has_times key tiles (k, omega arith, is),
+)
+
+-- The key of a tile that is held is pinned.
+pub held_key : (files : Files) (p : PinnedState) (key : ℕ) → ArePinned files p
+    → HasKey key_in key p.holds → Contains p.seat.pins key
+held_key files p key are has = times_has key p.seat.pins (omega (
+  arith,
+  are.pins (λ k. one_if (nat_eq k key)),
+  has_times key p.holds has,
+))
 
 hand_list : (f : ℕ → ℕ) (hand : Option CachedTile)
     → key_sum f (option_to_list hand) ≡ hand_sum f hand

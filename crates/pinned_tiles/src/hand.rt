@@ -4,7 +4,8 @@ ghost use Rattle.std.specs.Prelude.{None, Some, OnOk, OnErr, IfOk, IfSome};
 ghost use Rattle.shard_gate.specs.Gate.{HasCellRect, IsTileOf};
 ghost use Rattle.shard_gate.specs.Since.{PurgesNone, Misses};
 ghost use Rattle.pinned_tiles.specs.Cell.{is_tile_of};
-ghost use Rattle.pinned_tiles.specs.Pinned.{ArePinned, PinsAt, KeepsTiles, LeavesPart};
+ghost use Rattle.micro.specs.Items.{HasKey};
+ghost use Rattle.pinned_tiles.specs.Pinned.{ArePinned, PinsAt, KeepsTiles, LeavesPart, key_in};
 
 use crate::cell::{CellAt, is_tile_of};
 use crate::pinned::Pinned;
@@ -76,6 +77,8 @@ impl<W: World> Pinned<W> {
         ensures found { IfOk result (λ found. IsTrue found →
             IsSomeAnd self.new.hand (IsTileOf W.files self.new.cut key)) }
         ensures none { IfOk result (λ found. IsFalse found → self.new.hand ≡ None) }
+        // A tile that the pass holds is there.
+        ensures held { IfOk result (λ found. HasKey key_in key self.old.holds → IsTrue found) }
         ensures err { OnErr result (self.new.hand ≡ None) }
         ensures same { KeepsTiles self.old self.new }
         ensures visits { PurgesNone gate.now self.old.seat self.new.seat }
@@ -133,6 +136,7 @@ impl<W: World> Pinned<W> {
         ensures found { IfOk result (λ found. IsTrue found →
             IsSomeAnd self.new.hand (IsTileOf W.files self.new.cut key)) }
         ensures none { IfOk result (λ found. IsFalse found → self.new.hand ≡ None) }
+        ensures held { IfOk result (λ found. HasKey key_in key self.old.holds → IsTrue found) }
         ensures err { OnErr result ((self.new.hand ≡ None) ⊎ V.Busy) }
         ensures same { KeepsTiles self.old self.new }
         ensures visits { PurgesNone gate.now self.old.seat self.new.seat }

@@ -1,10 +1,11 @@
 -- There was room for one pin more.
-use Rattle.std.proofs.Common.{◌∙◌, ap, subst, map, Option, OnSome, IfSome}
+use Rattle.std.proofs.Common.{◌∙◌, ap, subst, sym, map, Option, OnSome, IfSome}
 use Rattle.std.specs.Option.{option_map}
 use Rattle.shard_gate.specs.Gate.{PinState, OnePinMore, IsTileOf}
 use Rattle.pinned_tiles.specs.Pinned.{PinnedState}
-use Rattle.pinned_tiles.specs.Pinned.{tile_of_pin}
-use Rattle.pinned_tiles.proofs.PinnedLemmas.{room_for_pin, tile_pinned}
+use Rattle.pinned_tiles.specs.Pinned.{tile_of_pin, pinned_state, key_in}
+use Rattle.micro.specs.Items.{HasKey}
+use Rattle.pinned_tiles.proofs.PinnedLemmas.{room_for_pin, tile_pinned, held_key}
 use Rattle.shard_gate.specs.Given.{Finds}
 use Rattle.shard_gate.specs.Calls.{tile_of, VisitsAt}
 use Rattle.shard_gate.proofs.SinceLemmas.{purges_none_pin, misses_pin}
@@ -51,6 +52,13 @@ pub returns-in-Err-clause-visits : goal.returns-in-Err-clause-visits
 returns-in-Err-clause-visits g c = rw (← c.self.view_is)
     (purges_none_pin c.args.gate.now c.args.key c.self.inside.seat c.pin.new.p c.pin.result
     c.pin.ensures.visits c.pin.ensures.refused)
+
+pub returns-in-Ok-None-clause-held : goal.returns-in-Ok-None-clause-held
+returns-in-Ok-None-clause-held g c = λ has.
+    (rw c.in-Ok-None.field-0-is at c.in-Ok-None.ensures.held)
+    (held_key g.W.World.files (pinned_state c.self.inside.seat c.self.inside.cut c.self.inside.recent
+    c.self.inside.holds.items c.self.inside.hand) c.args.key c.self.invariant.0
+    (subst (λ (p : PinnedState). HasKey key_in c.args.key p.holds) (sym c.self.view_is) has))
 
 pub returns-in-Ok-None-clause-missed : goal.returns-in-Ok-None-clause-missed
 returns-in-Ok-None-clause-missed g c = λ none. rw (← c.self.view_is)
