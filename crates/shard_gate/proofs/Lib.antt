@@ -1,13 +1,21 @@
+mod EntryLemmas
+mod HomeLemmas
+mod LeaveLemmas
 mod ListLemmas
 mod NewLemmas
 mod PermitLemmas
 mod PinLemmas
-mod HomeLemmas
 mod RuleLemmas
 mod SeatLemmas
+mod SeatRule
 pub mod SinceLemmas
+mod SlotLemmas
+mod SlotRule
 mod SumLemmas
 mod TagLemmas
+mod TellLemmas
 mod TileLemmas
 mod TurnLemmas
+mod TurnRule
 mod VisitLemmas
+mod WordLemmas

@@ -2,6 +2,7 @@ pub mod Visit
 pub mod Given
 pub mod Words
 pub mod Turn
+pub mod Steps
 pub mod Seated
 pub mod Gate
 pub mod Kept

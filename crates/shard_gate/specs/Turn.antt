@@ -1,17 +1,17 @@
 -- What holds of a table between any two atomic steps, and what each kind of step tells its seat.
-use Rattle.std.specs.Prelude.{◌≡◌, ◌≢◌, ℕ, ◌+◌, ◌-◌, ◌*◌, ◌<◌, ◌≤◌, true, false, cond, List, [], ◌∷◌}
+use Rattle.std.specs.Prelude.{◌≡◌, ℕ, ◌+◌, ◌-◌, ◌*◌, ◌≤◌, true, false, cond, List, [], ◌∷◌}
 use Rattle.std.specs.Prelude.{length, slice_index}
 use Rattle.std.specs.List.{sum_by}
 use Rattle.tile_store.specs.Entry.{Entries}
 use mathlib.Core.Option.{some}
 use lib.ListN.{get_elem?}
-use Rattle.atomic_table.specs.Table.{State, Me, Step}
+use Rattle.atomic_table.specs.Table.{State}
 use Rattle.shard_gate.specs.declared.standing.Standing.{Standing}
 use Rattle.shard_gate.specs.declared.rule.Terms.{Terms}
-use Rattle.shard_gate.specs.Visit.{begun, ended}
-use Rattle.shard_gate.specs.Words.{turn_word, tag_word, key_word, pin_word, word_count, max_pins, slots_of}
+use Rattle.shard_gate.specs.Visit.{Visit, begun, ended}
+use Rattle.shard_gate.specs.Words.{turn_word, tag_word, pin_word, word_count, max_pins}
 use Rattle.shard_gate.specs.Words.{SlotWords, no_words, AreWords, pins_on, without_pin_of}
-use Rattle.shard_gate.specs.Words.{AreHeld, AreAmong, AreFewPins}
+use Rattle.shard_gate.specs.Words.{AreHeld}
 use Rattle.shard_gate.specs.Words.{pinned_words, unpinned_words, keyed_words}
 
 -- 1 for a seat that has the turn, else 0
@@ -105,45 +105,23 @@ spent_standing = record {
   visits = [];
 }
 
--- ---- what a seat has to know for a step on a word of a slot
-
--- It may look at the slot.
-pub record MayLook (slot : ℕ) (v : Standing) : Type 0 where
-  pub inside : slot < slots_of v.passes
-  pub live : v.live ≡ true
-  pub turn : v.has_turn ≡ true
-
--- It may pin the slot: the slot has a key, and the seat has room for a pin.
-pub record MayPin (slot : ℕ) (v : Standing) : Type 0 where
-  pub inside : slot < slots_of v.passes
-  pub live : v.live ≡ true
-  pub turn : v.has_turn ≡ true
-  pub room : length v.pins + 1 ≤ max_pins * v.permits
-  pub key : 1 ≤ slice_index v.known.keys slot
-
--- It may unpin the slot: it has a pin of it.
-pub record MayUnpin (slot : ℕ) (v : Standing) : Type 0 where
-  pub inside : slot < slots_of v.passes
-  pub live : v.live ≡ true
-  pub turn : v.has_turn ≡ true
-  pub own : 1 ≤ pins_on slot v.pins
-
--- It may write the key of the slot: no seat has a pin of it.
-pub record MayFill (slot : ℕ) (v : Standing) : Type 0 where
-  pub inside : slot < slots_of v.passes
-  pub live : v.live ≡ true
-  pub turn : v.has_turn ≡ true
-  pub unpinned : slice_index v.known.pins slot ≡ 0
-
 module _ {S : Type 0} where
+  -- The last visit took the entries of a body that was lawful for the terms.
+  pub record TookLawful (lawful : Terms → S → Type 0) (shown : S → Entries) (terms : Terms)
+      (visits : List Visit) : Type 0 where
+    pub body : S
+    pub before : List Visit
+    pub right : lawful terms body
+    pub last : visits ≡ begun (shown body) ∷ before
+
   -- The rule. The turn word is 0 or 1, and it is the number of seats that have the turn. The tag
   -- word is the tag of the table, which each live seat names. A pin word is the number of pins that
   -- all seats have of the slot, and the key word of a pinned slot is the pin's key. What a seat that
-  -- has the turn knows of the slots' words is so. While the turn word is 0 the body is at home: it
-  -- is lawful for the terms, and the words of the slots are its own. The permits of all seats are
-  -- the passes.
-  pub record OneTurn (lawful : Terms → S → Type 0) (words_in : S → SlotWords) (terms : Terms)
-      (s : State S Standing) : Type 0 where
+  -- has the turn knows of the slots' words is so, and its last visit took the entries of a lawful
+  -- body. While the turn word is 0 the body is at home: it is lawful for the terms, and the words of
+  -- the slots are its own. The permits of all seats are the passes.
+  pub record OneTurn (lawful : Terms → S → Type 0) (shown : S → Entries)
+      (words_in : S → SlotWords) (terms : Terms) (s : State S Standing) : Type 0 where
     pub count : length s.words ≡ word_count terms.passes
     pub most : slice_index s.words turn_word ≤ 1
     pub turn : sum_by turn_of s.views ≡ slice_index s.words turn_word
@@ -154,68 +132,9 @@ module _ {S : Type 0} where
         → AreHeld s.words v.pins
     pub known : (seat : ℕ) (v : Standing) → get_elem? s.views seat ≡ some v
         → v.has_turn ≡ true → AreWords terms.passes s.words v.known
+    pub taken : (seat : ℕ) (v : Standing) → get_elem? s.views seat ≡ some v
+        → v.has_turn ≡ true → TookLawful lawful shown terms v.visits
     pub home : slice_index s.words turn_word ≡ 0
         → (body : S) × (get_elem? s.homes 0 ≡ some (some body)) × lawful terms body
         × AreWords terms.passes s.words (words_in body)
     pub permits : sum_by permits_of s.views ≡ terms.passes
-
-  -- The seat has the turn, with a body that is lawful for its terms. That began a visit. It knows
-  -- the body's words, among which are its own pins.
-  abbrev pub HasBody : (Terms → S → Type 0) → (S → Entries) → (S → SlotWords) → Standing
-      → Me S Standing → Type 0
-  HasBody lawful shown words_in old new = (body : S)
-      × (new ≡ (with_turn (shown body) (words_in body) old, (0, body) ∷ []))
-      × lawful (terms_of old) body × AreAmong (words_in body) old.pins
-      × AreFewPins old.passes (words_in body)
-
-  -- the entries of the body in the slot that a seat has
-  abbrev pub entries_of : (S → Entries) → List (ℕ × S) → Entries
-  entries_of shown [] = []
-  entries_of shown (slot ∷ slots) = shown slot.1
-
-  -- These slots are one body, which is lawful for the terms, and has these words.
-  abbrev pub AreLawful : (Terms → S → Type 0) → (S → SlotWords) → Standing → List (ℕ × S) → Type 0
-  AreLawful lawful words_in v slots = (body : S) × (slots ≡ (0, body) ∷ [])
-      × lawful (terms_of v) body × (v.known ≡ words_in body)
-
-  -- A take that finds the turn free has it, and else nothing has changed.
-  pub record Took (lawful : Terms → S → Type 0) (shown : S → Entries) (words_in : S → SlotWords)
-      (step : Step S) (old : Me S Standing) (found : ℕ) (new : Me S Standing) : Type 0 where
-    pub won : found ≡ 0 → HasBody lawful shown words_in old.0 new
-    pub lost : found ≢ 0 → new ≡ old
-
-  -- After a give the seat has neither turn nor body, and its last visit is over.
-  pub record Gave (shown : S → Entries) (step : Step S) (old : Me S Standing) (found : ℕ)
-      (new : Me S Standing) : Type 0 where
-    pub view : new.0 ≡ without_turn (entries_of shown old.1) old.0
-    pub slots : new.1 ≡ []
-
-  -- A load of the turn word changes nothing, and tells that the seat has no more permits than all
-  -- together.
-  pub record Counted (step : Step S) (old : Me S Standing) (found : ℕ) (new : Me S Standing)
-      : Type 0 where
-    pub same : new ≡ old
-    pub few : old.0.permits ≤ old.0.passes
-
-  -- A look at the key word of a slot changes nothing, and finds what the seat knows.
-  pub record Looked (step : Step S) (old : Me S Standing) (found : ℕ) (new : Me S Standing)
-      : Type 0 where
-    pub same : new ≡ old
-    pub key : (slot : ℕ) → step.word ≡ key_word slot
-        → found ≡ slice_index old.0.known.keys slot
-
-  -- After a pin the seat has a pin more, of the slot whose pin word it was.
-  pub record Pinned (step : Step S) (old : Me S Standing) (found : ℕ) (new : Me S Standing)
-      : Type 0 where
-    pub pin : (slot : ℕ) → step.word ≡ pin_word slot → new ≡ (with_pin slot old.0, old.1)
-
-  -- After an unpin it has a pin less of that slot.
-  pub record Unpinned (step : Step S) (old : Me S Standing) (found : ℕ) (new : Me S Standing)
-      : Type 0 where
-    pub pin : (slot : ℕ) → step.word ≡ pin_word slot → new ≡ (without_pin slot old.0, old.1)
-
-  -- After a fill the slot whose key word it was has the key that was written.
-  pub record Filled (step : Step S) (old : Me S Standing) (found : ℕ) (new : Me S Standing)
-      : Type 0 where
-    pub key : (slot : ℕ) → step.word ≡ key_word slot
-        → new ≡ (with_key slot step.first old.0, old.1)

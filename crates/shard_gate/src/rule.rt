@@ -54,7 +54,7 @@ pub(crate) struct Turns<L> {
 }
 
 impl<S, L: BodyRule<S>> TableRule<S, Standing, Terms> for Turns<L> {
-    ghost holds = { OneTurn L.lawful L.words };
+    ghost holds = { OneTurn L.lawful L.shown L.words };
 
     ghost first = { first_standing };
 }

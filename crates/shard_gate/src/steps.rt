@@ -1,5 +1,5 @@
 //! The kinds of step, and what each tells its seat.
-ghost use Rattle.shard_gate.specs.Turn.{Took, Gave, Counted, Looked, Pinned, Unpinned, Filled};
+ghost use Rattle.shard_gate.specs.Steps.{Took, Gave, Counted, Looked, Pinned, Unpinned, Filled};
 ghost use Rattle.shard_gate.specs.Turn.{kept_standing, new_standing};
 ghost use Rattle.shard_gate.specs.Turn.{both_standings, spent_standing};
 

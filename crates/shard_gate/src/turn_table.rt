@@ -2,8 +2,9 @@ ghost use Rattle.std.specs.Prelude.{◌≡◌, ℕ, ◌-◌, ◌*◌, ◌<◌, �
 ghost use Rattle.std.specs.Prelude.{◌∷◌, IfOk, OnOk, OnErr};
 ghost use Rattle.shard_gate.specs.Words.{turn_word, tag_word, first_word, word_count};
 ghost use Rattle.shard_gate.specs.Words.{max_passes, max_pins, AreBlank};
-ghost use Rattle.shard_gate.specs.Turn.{HasBody, AreLawful, MayLook, MayPin, MayUnpin, MayFill};
-ghost use Rattle.shard_gate.specs.Turn.{without_turn, entries_of, with_pin, without_pin, with_key};
+ghost use Rattle.shard_gate.specs.Steps.{HasBody, AreLawful, MayLook, MayPin, MayUnpin, MayFill};
+ghost use Rattle.shard_gate.specs.Turn.{without_turn, with_pin, without_pin, with_key};
+ghost use Rattle.shard_gate.specs.Steps.{entries_of};
 ghost use Rattle.shard_gate.specs.Seated.{IsIdle, seat_at, IsMadeBy, first_seat};
 ghost use Rattle.shard_gate.specs.Seated.{kept_seat, new_seat, both_seats};
 

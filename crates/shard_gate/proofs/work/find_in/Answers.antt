@@ -6,7 +6,7 @@ use Rattle.tile_store.specs.Keys.{slot_of}
 use Rattle.tile_store.specs.Tag.{cut_of}
 use Rattle.tile_store.proofs.PinLemmas.{entry_from_tile}
 use Rattle.shard_gate.proofs.TileLemmas.{found_is}
-use Rattle.shard_gate.proofs.HomeLemmas.{pins_slot}
+use Rattle.shard_gate.proofs.SlotLemmas.{pins_slot}
 use Rattle.shard_gate.proofs.work.find_in.Goals as goal
 
 pub returns-in-Some-clause-some : goal.returns-in-Some-clause-some

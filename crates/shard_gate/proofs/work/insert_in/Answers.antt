@@ -4,7 +4,7 @@ use Rattle.std.specs.Arc.{arc_value}
 use Rattle.tile_store.specs.Keys.{slot_of}
 use Rattle.tile_store.specs.Tag.{cut_of}
 use Rattle.shard_gate.proofs.TileLemmas.{kept_is}
-use Rattle.shard_gate.proofs.HomeLemmas.{inserts_slot}
+use Rattle.shard_gate.proofs.SlotLemmas.{inserts_slot}
 use Rattle.shard_gate.proofs.work.insert_in.Goals as goal
 
 pub returns-clause-ok : goal.returns-clause-ok

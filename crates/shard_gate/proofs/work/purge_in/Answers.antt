@@ -1,5 +1,5 @@
 -- Only tiles without a pin have left.
-use Rattle.shard_gate.proofs.HomeLemmas.{behind_purge}
+use Rattle.shard_gate.proofs.LeaveLemmas.{behind_purge}
 use Rattle.shard_gate.proofs.work.purge_in.Goals as goal
 
 pub returns-clause-behind : goal.returns-clause-behind

@@ -2,7 +2,7 @@
 use Rattle.std.proofs.Common.{◌≤◌}
 use Rattle.tile_store.specs.Entry.{EntryState, entry_at}
 use Rattle.tile_store.proofs.PinLemmas.{some_entry}
-use Rattle.shard_gate.proofs.HomeLemmas.{behind_release}
+use Rattle.shard_gate.proofs.LeaveLemmas.{behind_release}
 use Rattle.shard_gate.proofs.work.release_in.Goals as goal
 
 pub returns-clause-behind : goal.returns-clause-behind

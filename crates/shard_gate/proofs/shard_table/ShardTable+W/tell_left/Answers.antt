@@ -3,7 +3,7 @@ use Rattle.std.proofs.Common.{length, ap, ◌∙◌, refl}
 use Rattle.atomic_table.specs.Table.{rest}
 use Rattle.crossbeam_utils.specs.Padded.{padded_value, padded_with_value}
 use Rattle.tile_store.specs.Slots.{ShardState}
-use Rattle.shard_gate.proofs.TurnLemmas.{may_fill, told_low, tell_more, tell_all}
+use Rattle.shard_gate.proofs.TellLemmas.{may_fill, told_low, tell_more, tell_all}
 use Rattle.shard_gate.proofs.shard_table.ShardTable+W.tell_left.Goals as goal
 
 pub fill_slot-requires-clause-may : goal.fill_slot-requires-clause-may

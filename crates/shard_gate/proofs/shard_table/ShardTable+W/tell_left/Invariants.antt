@@ -1,7 +1,7 @@
 -- Some slots were told, and the shard has the same entries in the same slots.
 use Rattle.std.proofs.Common.{◌≡◌, length}
 use Rattle.crossbeam_utils.specs.Padded.{padded_value}
-use Rattle.shard_gate.proofs.TurnLemmas.{ToldSoFar, left_in}
+use Rattle.shard_gate.proofs.TellLemmas.{ToldSoFar, left_in}
 use Rattle.shard_gate.proofs.shard_table.ShardTable+W.tell_left.Given as goal
 
 abbrev pub invariant-telling : goal.invariant-telling

@@ -2,7 +2,7 @@
 use Rattle.std.proofs.Common.{ap, subst, sym, ◌∙◌, ◌<◌, arith}
 use Rattle.shard_gate.specs.Seated.{ShardId}
 use Rattle.shard_gate.specs.Words.{slots_of}
-use Rattle.shard_gate.proofs.RuleLemmas.{fill_allowed}
+use Rattle.shard_gate.proofs.SlotRule.{fill_allowed}
 use Rattle.shard_gate.proofs.turn_table.TurnTable.fill_slot.Goals as goal
 
 pub store-requires : goal.store-requires

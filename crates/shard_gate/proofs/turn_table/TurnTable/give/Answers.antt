@@ -1,7 +1,7 @@
 -- A give keeps the rule.
 use Rattle.std.proofs.Common.{ap, sym, ◌∙◌, arith}
 use Rattle.shard_gate.specs.Seated.{ShardId}
-use Rattle.shard_gate.proofs.RuleLemmas.{give_allowed}
+use Rattle.shard_gate.proofs.TurnRule.{give_allowed}
 use Rattle.shard_gate.proofs.turn_table.TurnTable.give.Goals as goal
 
 pub store-requires : goal.store-requires

@@ -4,7 +4,8 @@ use Rattle.atomic_table.specs.Table.{Me}
 use Rattle.shard_gate.specs.declared.standing.Standing.{Standing}
 use Rattle.shard_gate.specs.Seated.{ShardId, SeatAt}
 use Rattle.shard_gate.proofs.PinLemmas.{no_pins}
-use Rattle.shard_gate.proofs.RuleLemmas.{join_allowed, count_allowed}
+use Rattle.shard_gate.proofs.SeatRule.{join_allowed}
+use Rattle.shard_gate.proofs.TurnRule.{count_allowed}
 use Rattle.shard_gate.proofs.turn_table.TurnTable.join.Goals as goal
 
 pub join_seat-requires : goal.join_seat-requires

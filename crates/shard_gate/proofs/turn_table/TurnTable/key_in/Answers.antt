@@ -2,7 +2,7 @@
 use Rattle.std.proofs.Common.{ap, subst, sym, ◌∙◌, ◌<◌, arith}
 use Rattle.shard_gate.specs.Seated.{ShardId}
 use Rattle.shard_gate.specs.Words.{slots_of}
-use Rattle.shard_gate.proofs.RuleLemmas.{look_allowed}
+use Rattle.shard_gate.proofs.SlotRule.{look_allowed}
 use Rattle.shard_gate.proofs.turn_table.TurnTable.key_in.Goals as goal
 
 pub load-requires : goal.load-requires

@@ -2,7 +2,7 @@
 use Rattle.std.proofs.Common.{length, ap, sym, ◌∙◌, arith}
 use Rattle.shard_gate.proofs.PinLemmas.{length_keys}
 use Rattle.shard_gate.specs.Seated.{ShardId, SeatAt}
-use Rattle.shard_gate.proofs.RuleLemmas.{split_allowed}
+use Rattle.shard_gate.proofs.SeatRule.{split_allowed}
 use Rattle.shard_gate.proofs.turn_table.TurnTable.split.Goals as goal
 
 pub split_seat-new-requires : goal.split_seat-new-requires

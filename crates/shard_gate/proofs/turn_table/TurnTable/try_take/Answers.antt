@@ -1,7 +1,7 @@
 -- A take keeps the rule.
 use Rattle.std.proofs.Common.{ap, sym, ◌∙◌, arith}
 use Rattle.shard_gate.specs.Seated.{ShardId}
-use Rattle.shard_gate.proofs.RuleLemmas.{take_allowed}
+use Rattle.shard_gate.proofs.TurnRule.{take_allowed}
 use Rattle.shard_gate.proofs.turn_table.TurnTable.try_take.Goals as goal
 
 pub compare_exchange-requires : goal.compare_exchange-requires

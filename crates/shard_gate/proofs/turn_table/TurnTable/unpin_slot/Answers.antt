@@ -2,7 +2,7 @@
 use Rattle.std.proofs.Common.{ap, subst, sym, ◌∙◌, ◌<◌, arith}
 use Rattle.shard_gate.specs.Seated.{ShardId}
 use Rattle.shard_gate.specs.Words.{slots_of}
-use Rattle.shard_gate.proofs.RuleLemmas.{unpin_allowed}
+use Rattle.shard_gate.proofs.SlotRule.{unpin_allowed}
 use Rattle.shard_gate.proofs.turn_table.TurnTable.unpin_slot.Goals as goal
 
 pub fetch_sub-requires : goal.fetch_sub-requires

@@ -1,0 +1,133 @@
+-- A take, a give and a load of the turn word keep the rule of a table.
+use Rattle.std.proofs.Common.{◌≡◌, ℕ, ◌≤◌, ◌==◌, true, cond}
+use Rattle.std.proofs.Common.{[], ◌∷◌, set, refl, subst, sym, ap, ◌∙◌, zero-le}
+use Rattle.std.proofs.Common.{arith}
+use Rattle.std.specs.Prelude.{slice_index}
+use mathlib.Core.Option.{some, none}
+use lib.ListN.{get_elem?}
+use prog.Atomic.{either}
+use Rattle.atomic_table.specs.Table.{Me, Act, keeps, takes, gives, step, rest, put_back}
+use Rattle.atomic_table.specs.Table.{Valid, stepped, carried_after, Allows}
+use Rattle.atomic_table.proofs.Lists.{set_here, exchanged}
+use Rattle.tile_store.specs.Entry.{Entries}
+use Rattle.shard_gate.specs.declared.standing.Standing.{Standing}
+use Rattle.shard_gate.specs.declared.rule.Terms.{Terms}
+use Rattle.shard_gate.specs.Words.{SlotWords, AreWords}
+use Rattle.shard_gate.specs.Words.{turn_word}
+use Rattle.shard_gate.specs.Words.{pins_on}
+use Rattle.shard_gate.specs.Turn.{OneTurn, IsOf}
+use Rattle.shard_gate.specs.Steps.{Took, Gave, Counted}
+use Rattle.shard_gate.specs.Turn.{terms_of}
+use Rattle.shard_gate.specs.Turn.{turn_of, permits_of, with_turn, without_turn}
+use Rattle.shard_gate.specs.Steps.{entries_of}
+use Rattle.shard_gate.specs.Seated.{IsIdle}
+use Rattle.shard_gate.proofs.SumLemmas.{sum_has}
+use Rattle.shard_gate.proofs.PinLemmas.{among_held}
+use Rattle.shard_gate.proofs.RuleLemmas.{other_view, after, named, few_known}
+
+module _ {S : Type 0} (lawful : Terms → S → Type 0) (shown : S → Entries)
+    (words_in : S → SlotWords) (terms : Terms) where
+  -- ---- the turn
+
+  pub take_allowed : (slots id : ℕ) (me : Me S Standing) → IsIdle me
+      → Allows (OneTurn lawful shown words_in terms) slots id me turn_word (λ n. either (n == 0) 1 n)
+      (Took lawful shown words_in (step slots turn_word 0 1 none) me)
+  take_allowed slots id me idle s kept homes at fits =
+      let n : ℕ = slice_index s.words turn_word in
+      let right : IsOf terms me.0 = kept.views id me.0 at in
+      let none_out : turn_of me.0 ≡ 0 = ap (λ b. cond b 1 0) idle.turn in
+      exchanged n 0 1
+      (λ m. (w : Standing) × (a : Act S) × Valid s.homes me.1 a
+      × OneTurn lawful shown words_in terms (stepped s turn_word m id me.1 w a)
+      × Took lawful shown words_in (step slots turn_word 0 1 none) me n (w, carried_after me.1 a))
+      (λ free.
+      let home = kept.home free in
+      let known = words_in home.0 in
+      let won = with_turn (shown home.0) known me.0 in (
+        won,
+        takes 0 home.0,
+        home.1,
+        after lawful shown words_in terms s id 1 me.0 won (set s.homes 0 none) kept at (omega arith)
+            (omega (arith, free, none_out)) refl refl
+            (other_view lawful shown words_in terms me.0 won right idle.live refl refl refl right.few
+            (λ e. absurd (cc e)))
+            (λ _. home.3)
+            (λ _. record { body = home.0; before = me.0.visits; right = home.2; last = refl })
+            (λ e. absurd (omega arith)),
+        record {
+          won = λ _. (
+            home.0,
+            ap (λ l. (won, (0, home.0) ∷ l)) idle.slots,
+            subst (λ t. lawful t home.0) (named lawful shown words_in terms me.0 right idle.live) home.2,
+            among_held terms.passes s.words known me.0.pins home.3 (kept.held id me.0 at)
+                (λ slot. omega (
+                  arith,
+                  home.3.pins slot,
+                  kept.pins slot,
+                  sum_has (λ (v : Standing). pins_on slot v.pins) s.views id me.0 at,
+                )),
+            few_known lawful shown words_in terms s id me.0 known kept at idle.live home.3,
+          );
+          lost = λ e. absurd (e free);
+        },
+      ))
+      (λ out. (
+        me.0,
+        keeps,
+        tt,
+        after lawful shown words_in terms s id n me.0 me.0 s.homes kept at kept.most refl refl refl right
+            (kept.known id me.0 at) (kept.taken id me.0 at) kept.home,
+        record { won = λ e. absurd (out e); lost = λ _. refl },
+      ))
+
+  pub give_allowed : (slots id : ℕ) (me : Me S Standing) (body : S) → me.0.live ≡ true
+      → me.0.has_turn ≡ true → me.1 ≡ (0, body) ∷ [] → lawful (terms_of me.0) body
+      → me.0.known ≡ words_in body → slots ≡ 1
+      → Allows (OneTurn lawful shown words_in terms) slots id me turn_word (λ _. 0)
+      (λ _. Gave shown (step slots turn_word 0 0 none) me 0)
+  give_allowed slots id me body live turn has right same one s kept homes at fits =
+      let view : IsOf terms me.0 = kept.views id me.0 at in
+      let left = without_turn (entries_of shown me.1) me.0 in
+      let one_out : turn_of me.0 ≡ 1 = ap (λ b. cond b 1 0) turn in
+      let out : turn_of me.0 ≤ slice_index s.words turn_word =
+      subst (λ n. turn_of me.0 ≤ n) kept.turn (sum_has turn_of s.views id me.0 at) in
+      let there : get_elem? (put_back s.homes me.1) 0 ≡ some (some body) =
+      ap (λ c. get_elem? (put_back s.homes c) 0) has
+      ∙ set_here s.homes 0 (some body) (omega (arith, homes, one)) in (
+        left,
+        gives,
+        tt,
+        after lawful shown words_in terms s id 0 me.0 left (put_back s.homes me.1) kept at zero-le
+            (omega (arith, one_out, out, kept.most)) refl refl
+            (other_view lawful shown words_in terms me.0 left view live refl refl refl view.few (λ _. refl))
+            (λ e. absurd (cc e)) (λ e. absurd (cc e))
+            (λ _. (
+              body,
+              there,
+              subst (λ t. lawful t body) (sym (named lawful shown words_in terms me.0 view live)) right,
+              subst (λ k. AreWords terms.passes s.words k) same (kept.known id me.0 at turn),
+            )),
+        record { view = refl; slots = ap rest has },
+      )
+
+  pub count_allowed : (slots id : ℕ) (me : Me S Standing) → me.0.live ≡ true
+      → Allows (OneTurn lawful shown words_in terms) slots id me turn_word (λ n. n)
+      (Counted (step slots turn_word 0 0 none) me)
+  count_allowed slots id me live s kept homes at fits =
+      let n : ℕ = slice_index s.words turn_word in
+      let right : IsOf terms me.0 = kept.views id me.0 at in (
+        me.0,
+        keeps,
+        tt,
+        after lawful shown words_in terms s id n me.0 me.0 s.homes kept at kept.most refl refl refl right
+            (kept.known id me.0 at) (kept.taken id me.0 at) kept.home,
+        record {
+          same = refl;
+          few = omega (
+            arith,
+            sum_has permits_of s.views id me.0 at,
+            kept.permits,
+            right.passes live,
+          );
+        },
+      )
