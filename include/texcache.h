@@ -431,6 +431,8 @@ static inline void texc_leave(texcache_pass *pass)
     __atomic_store_n(&pass->in_use, 0, __ATOMIC_RELEASE);
 }
 
+static const texcache_answer texc_no_answer __attribute__((unused)) = {0, 0, 0, 0, 0, 0, 0, 0, 0, 0, 0, 0};
+
 /* A call of the library, until it is answered or refused. */
 #define TEXC_CALL(pass, answer, call)                                           \
     do {                                                                        \
@@ -440,7 +442,7 @@ static inline void texc_leave(texcache_pass *pass)
         int texc_entered = texc_enter(pass);                                    \
         if (texc_entered) return texc_entered;                                  \
         do {                                                                    \
-            memset(texc_said, 0, sizeof *texc_said);                            \
+            *texc_said = texc_no_answer;                                        \
             texc_code = call;                                                   \
         } while (__builtin_expect(texc_code != 0, 0)                            \
                  && texc_goes_on(pass, texc_code, texc_said, &texc_anew));      \

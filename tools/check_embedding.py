@@ -144,16 +144,20 @@ def main():
             over_a_folder("valgrind, files that are replaced", "replaced", "4", "1500", before=grind)
         flags = ["-std=gnu11", "-g", "-fsanitize=thread"]
         (made / "empty.c").write_text("int main(void) { return 0; }\n")
-        # what one thread allocates in the library and another frees there is handed over by the library's own atomic
-        # steps, which the sanitizer does not see: it looks at the C side alone
-        (made / "library").write_text("race:rattle_alloc\nrace:rattle_realloc\nrace:rattle_dealloc\n")
+        # the library hands its blocks from thread to thread by atomic steps of its own, which the sanitizer does not
+        # see; in a shared object it can be told to look at the C side alone
+        core = made / "libtex_c_core.so"
+        ran([cc, "-shared", "-o", core, "-Wl,--whole-archive", over[0], "-Wl,--no-whole-archive", heap])
+        (made / "library").write_text(f"called_from_lib:{core.name}\n")
         os.environ["TSAN_OPTIONS"] = f"suppressions={made / 'library'} exitcode=66"
+        over[:2] = [core, f"-Wl,-rpath,{made}"]
         has_sanitizer = ran([cc, *flags, "-o", made / "empty", made / "empty.c"])[0] == 0 and ran([made / "empty"])[0] == 0
         if has_sanitizer and built("lines_races", HERE / "lines.c", *flags):
             for name, folder, given, wanted in lists():
                 compare(f"races, {name}, 8 threads", [made / "lines_races"], folder, given, wanted, None, "8")
         if has_sanitizer and built("replaced_races", HERE / "replaced.c", *flags):
             over_a_folder("races, files that are replaced", "replaced_races", "8", "3000")
+        over[:2] = [words.library.resolve(), heap]
         if built("renderer", TOP / "examples" / "renderer" / "renderer.c", "-std=gnu11"):
             pictures = []
             for number, more in enumerate((["1"], ["8"], ["8", "--closest"])):

@@ -98,21 +98,38 @@ static void by_hand(void)
     SAYS(tex_c_invalidate(held, &held, 1, true, &a), TEXCACHE_OK);
     IS(a.generation == 5);
     SAYS(tex_c_texture(held, &held, 1, &r, out, 8, &a), TEXCACHE_NEEDED);
-    while (a.need == 1) {
+    if (a.need == 1) {
         SAYS(tex_c_supply_look(held, &held, 1, 5, size), TEXCACHE_OK);
         SAYS(tex_c_texture(held, &held, 1, &r, out, 8, &a), TEXCACHE_NEEDED);
     }
     SAYS(tex_c_supply_look(held, &held, 1, 6, size), TEXCACHE_OK);
-    SAYS(tex_c_texture(held, &held, 1, &r, out, 8, &a), TEXCACHE_AGAIN);
-    IS(a.generation == 5 && a.newer == 6);
     SAYS(tex_c_texture(held, &held, 1, &r, out, 8, &a), TEXCACHE_NEEDED);
-    IS(a.need == 1 && a.need_generation == 6);
-    SAYS(tex_c_supply_look(held, &held, 1, 5, size), TEXCACHE_OLDER);
-    SAYS(tex_c_supply_look(held, &held, 1, 6, size), TEXCACHE_OK);
-    SAYS(tex_c_texture(held, &held, 1, &r, out, 8, &a), TEXCACHE_NEEDED);
+    IS(a.need == 2 && a.need_generation == 6);
+    SAYS(tex_c_supply_look(held, &held, 1, 6, size), TEXCACHE_OLDER);
+    SAYS(tex_c_supply_bytes(held, &held, 1, 5, a.need_at, bytes, size), TEXCACHE_OLDER);
     SAYS(tex_c_supply_bytes(held, &held, 1, 6, a.need_at, other + a.need_at, size - (size_t)a.need_at), TEXCACHE_OK);
     SAYS(tex_c_texture(held, &held, 1, &r, out, 8, &a), TEXCACHE_OK);
     IS(a.generation == 6 && out[0] == 9 * 257);
+    /* what is known of it is of generation 7, and its texels are gone for those of generation 8 */
+    SAYS(tex_c_invalidate(held, &held, 1, false, &a), TEXCACHE_NEEDED);
+    SAYS(tex_c_supply_look(held, &held, 1, 7, size), TEXCACHE_OK);
+    SAYS(tex_c_invalidate(held, &held, 1, false, &a), TEXCACHE_OK);
+    IS(a.generation == 7);
+    while (tex_c_info(held, &held, 1, &info, &a) == TEXCACHE_NEEDED) {
+        if (a.need == 1) SAYS(tex_c_supply_look(held, &held, 1, 7, size), TEXCACHE_OK);
+        else SAYS(tex_c_supply_bytes(held, &held, 1, 7, a.need_at, other + a.need_at, size - (size_t)a.need_at), TEXCACHE_OK);
+    }
+    IS(a.generation == 7 && info.width == 8 && info.levels == 4);
+    SAYS(tex_c_texture(held, &held, 1, &r, out, 8, &a), TEXCACHE_NEEDED);
+    IS(a.need == 1 && a.need_generation == 7);
+    SAYS(tex_c_supply_look(held, &held, 1, 8, size), TEXCACHE_OK);
+    SAYS(tex_c_texture(held, &held, 1, &r, out, 8, &a), TEXCACHE_AGAIN);
+    IS(a.generation == 7 && a.newer == 8);
+    SAYS(tex_c_texture(held, &held, 1, &r, out, 8, &a), TEXCACHE_NEEDED);
+    IS(a.need == 1 && a.need_generation == 8);
+    SAYS(tex_c_supply_look(held, &held, 1, 7, size), TEXCACHE_OLDER);
+    SAYS(tex_c_supply_fault(held, &held), TEXCACHE_OK);
+    SAYS(tex_c_texture(held, &held, 1, &r, out, 8, &a), TEXCACHE_READ_FAULT);
     /* what cannot be had is a read fault, and the next call asks anew */
     SAYS(tex_c_texture(held, &held, 2, &r, out, 8, &a), TEXCACHE_NEEDED);
     SAYS(tex_c_supply_fault(held, &held), TEXCACHE_OK);
@@ -123,7 +140,7 @@ static void by_hand(void)
 
 static void options_out_of_range(const char *folder)
 {
-    texcache *cache;
+    texcache *cache = NULL;
     uint32_t bad = 0;
     texcache_options o[5];
     for (int i = 0; i < 5; i++) o[i] = texcache_default_options();
