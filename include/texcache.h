@@ -4,7 +4,7 @@
  * says which bytes it lacks, and this header reads and supplies them. Build and link: docs/EMBEDDING.md.
  *
  *     texcache *cache;
- *     texcache_pass *pass;
+ *     texcache_pass *pass = NULL;
  *     uint32_t file;
  *     uint16_t values[3];
  *     if (texcache_open(&cache, "textures", NULL) == TEXCACHE_OK
@@ -14,6 +14,7 @@
  *         int refused = texcache_texture(pass, file, &at, values, 3, NULL);
  *         if (refused) fprintf(stderr, "%s\n", texcache_error_string(refused));
  *     }
+ *     texcache_end(&pass);
  *     texcache_close(&cache);
  *
  * Names and meanings are OpenImageIO's where they mean the same; docs/FILTERING.md says what differs.

@@ -125,6 +125,17 @@ def main():
                     wrong = differences(got, wanted) if status == 0 else got
                     say(not wrong, f"Python, {name}, {threads} threads", wrong)
 
+        page = (TOP / "docs" / "EMBEDDING.md").read_text(encoding="utf-8")
+        (made / "page.c").write_text(page.split("```c\n")[1].split("```")[0])
+        if built("page", made / "page.c"):
+            status, said = ran([made / "page"], cwd=TOP)
+            say((status, said) == (0, "ok 42919 36494 34759\n"), "the lines of C of docs/EMBEDDING.md", said)
+        if shared.is_file():
+            text = page.split("```python\n")[1].split("```")[0]
+            status, said = ran([sys.executable, "-c", text], cwd=TOP, env={**os.environ, "TEXCACHE_LIBRARY": str(shared)})
+            say(status == 0 and "[42919, 36494, 34759]" in said and said.endswith("no level 6\n"),
+                "the lines of Python of docs/EMBEDDING.md", said)
+
         def over_a_folder(what, name, *more, before=(), seconds=600):
             with tempfile.TemporaryDirectory() as folder:
                 status, said = ran([*before, made / name, folder, *more], seconds=seconds)
