@@ -1,0 +1,29 @@
+-- Which number has a refusal in C?
+use Rattle.std.specs.Prelude.{ℕ}
+use Rattle.image_cache.specs.declared.error.CacheError.{CacheError}
+use Rattle.image_cache.specs.declared.error.CacheError.TheVariants as refused
+use Rattle.tex_c.specs.declared.supply.SupplyError.{SupplyError}
+use Rattle.tex_c.specs.declared.supply.SupplyError.TheVariants as supplied
+
+-- the number of a refused call
+abbrev pub code_of : {B : Type 0} → CacheError B → ℕ
+code_of (refused.BadFile generation fault) = 10
+code_of (refused.TileTooLarge generation) = 11
+code_of (refused.NoLevel generation levels) = 12
+code_of (refused.Outside generation) = 13
+code_of refused.RegionTooLarge = 14
+code_of refused.HoldsFull = 15
+code_of (refused.Again from to) = 16
+code_of refused.ReadFault = 17
+code_of refused.NoMemory = 18
+code_of (refused.Busy b) = 19
+
+-- the number of a refused supply
+abbrev pub supply_code_of : SupplyError → ℕ
+supply_code_of supplied.NotNeeded = 20
+supply_code_of supplied.OtherPlace = 21
+supply_code_of supplied.Older = 22
+supply_code_of supplied.OtherGeneration = 23
+supply_code_of supplied.Short = 24
+supply_code_of supplied.Long = 25
+supply_code_of supplied.NoMemory = 18

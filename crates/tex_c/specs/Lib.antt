@@ -1,0 +1,9 @@
+pub mod SuppliedWorld
+pub mod SuppliedHandle
+pub mod Supply
+pub mod SuppliedTap
+pub mod Client
+pub mod Held
+pub mod Code
+pub mod Request
+pub mod Need

@@ -1,0 +1,194 @@
+//! What a caller in C has of a cache: the cache, which others may share, a pass of it, and what was
+//! supplied for the call at hand.
+ghost use Rattle.std.specs.Prelude.{◌≡◌, ◌⊎◌, ◌≤◌, IfOk, IfErr, IsSomeAnd};
+ghost use Rattle.std.specs.Arc.{arc_value};
+ghost use Rattle.tex_world.specs.World.{max_files};
+ghost use Rattle.image_cache.specs.Pass.{IsNewCache, IsFirstPass, IsSecondPass};
+ghost use Rattle.image_cache.specs.Options.{NewCause};
+ghost use Rattle.tex_c.specs.SuppliedTap.{tap_state};
+ghost use Rattle.tex_c.specs.Code as spec;
+ghost use Rattle.tex_c.specs.Need.{SaysNeed};
+
+use crate::answer::{NEEDED, TexAnswer, code_of};
+use crate::tap::SuppliedTap;
+use crate::world::SuppliedWorld;
+use image_cache::{Cache, CacheError, NewError, Options, Pass, SplitError};
+use std::alloc::Global;
+use std::marker::Model;
+use std::sync::Arc;
+use tex_world::NoMemory;
+use waiter::GaveUp;
+
+/// What a caller in C has of a cache. In a clause it is the cache, the pass and the tap.
+#[derive(Drop)]
+pub struct Client {
+    pub(crate) alloc: Global,
+    pub(crate) cache: Arc<Cache<SuppliedTap>>,
+    pub(crate) pass: Pass<SuppliedWorld>,
+    pub(crate) tap: SuppliedTap,
+    files: u32,
+    /// The values of a region, until they are copied out.
+    pub(crate) values: Vec<u16>,
+    /// The counts of the pass when the round began.
+    begun: PassCounts,
+    /// What was counted in rounds that lacked something, and is counted again when the call goes on.
+    twice: PassCounts,
+}
+
+/// Needs and hits.
+#[derive(Clone, Copy, Debug)]
+struct PassCounts {
+    needs: u64,
+    hits: u64,
+}
+
+const NO_COUNTS: PassCounts = PassCounts { needs: 0, hits: 0 };
+
+impl Model for Client {
+    ghost use Rattle.std.specs.Prelude.{◌≡◌};
+    ghost use Rattle.std.specs.Arc.{arc_value};
+    ghost use Rattle.image_cache.specs.Pass.{IsPassOf};
+    ghost use Rattle.tex_c.specs.Client.{ClientState, client_state};
+
+    ghost Value = { ClientState };
+
+    ghost view = { λ c. client_state (arc_value c.cache) c.pass c.tap };
+
+    ghost invariant = { λ c. IsPassOf (arc_value c.cache) c.pass
+        × (c.files ≡ (arc_value c.cache).files.board.files) };
+}
+
+impl Client {
+    /// A cache of so many files, and its first pass.
+    pub(crate) fn new(alloc: Global, options: Options, files: u32) -> Result<Client, NewError>
+        requires files { files ≤ max_files }
+        ensures cache { IfOk result (λ c. IsNewCache options files c.cache) }
+        ensures pass { IfOk result (λ c. IsFirstPass c.cache c.pass) }
+        ensures cause { IfErr result (NewCause options) }
+    {
+        let (cache, pass) = Cache::new(alloc, options, files)?;
+        let cache = shared(alloc, cache)?;
+        Ok(Client {
+            alloc,
+            cache,
+            pass,
+            tap: SuppliedTap::new(alloc),
+            files,
+            values: Vec::new(alloc),
+            begun: NO_COUNTS,
+            twice: NO_COUNTS,
+        })
+    }
+
+    /// A second pass of the cache, with one permit of this one, for another thread.
+    pub(crate) fn split(&mut self) -> Result<Client, SplitError>
+        ensures ok { IfOk result (λ c. (c.cache ≡ self.old.cache) × IsSecondPass self.old.pass c.pass) }
+        ensures cache { self.new.cache ≡ self.old.cache }
+    {
+        let cache = again(&self.cache)?;
+        let pass = self.cache.split(&mut self.pass)?;
+        Ok(Client {
+            alloc: self.alloc,
+            cache,
+            pass,
+            tap: SuppliedTap::new(self.alloc),
+            files: self.files,
+            values: Vec::new(self.alloc),
+            begun: NO_COUNTS,
+            twice: NO_COUNTS,
+        })
+    }
+
+    /// How many files there are.
+    pub(crate) fn files(&self) -> u32
+        ensures { result ≡ self.now.cache.files.board.files }
+    {
+        self.files
+    }
+
+    /// A round begins: nothing is lacking yet.
+    pub(crate) fn begin(&mut self)
+        ensures cache { self.new.cache ≡ self.old.cache }
+        ensures pass { self.new.pass ≡ self.old.pass }
+        ensures tap { tap_state self.new.tap ≡ tap_state self.old.tap }
+    {
+        self.tap.begin();
+        self.begun = self.counted();
+    }
+
+    /// The call is answered, or refused: what was supplied for it is given up.
+    pub(crate) fn end(&mut self)
+        ensures cache { self.new.cache ≡ self.old.cache }
+        ensures pass { self.new.pass ≡ self.old.pass }
+    {
+        self.tap.end();
+    }
+
+    /// The round lacks something, or room for its answer: what it counted will be counted again.
+    pub(crate) fn count_twice(&mut self)
+        ensures cache { self.new.cache ≡ self.old.cache }
+        ensures pass { self.new.pass ≡ self.old.pass }
+        ensures tap { self.new.tap ≡ self.old.tap }
+    {
+        let now = self.counted();
+        let (begun, twice) = (self.begun, self.twice);
+        self.twice = PassCounts {
+            needs: twice
+                .needs
+                .saturating_add(now.needs.saturating_sub(begun.needs)),
+            hits: twice
+                .hits
+                .saturating_add(now.hits.saturating_sub(begun.hits)),
+        };
+    }
+
+    /// The counts of the pass.
+    fn counted(&self) -> PassCounts {
+        PassCounts {
+            needs: self.pass.needs(),
+            hits: self.pass.hits(),
+        }
+    }
+
+    /// How many cells the answered calls needed.
+    pub(crate) fn needs(&self) -> u64 {
+        self.pass.needs().saturating_sub(self.twice.needs)
+    }
+
+    /// How many of these the microcache had.
+    pub(crate) fn hits(&self) -> u64 {
+        self.pass.hits().saturating_sub(self.twice.hits)
+    }
+
+    /// What a refused round says: what is lacking, where it was refused for that, and else its cause.
+    pub(crate) fn refuse(&mut self, e: &CacheError<GaveUp>, answer: &mut TexAnswer) -> u32
+        ensures code { (result ≡ 1) ⊎ (result ≡ spec.code_of e.now) }
+        ensures needed { result ≡ 1 → IsSomeAnd self.new.tap.need (SaysNeed answer.new) }
+        ensures other { (result ≡ 0) → ⊥ }
+        ensures cache { self.new.cache ≡ self.old.cache }
+        ensures pass { self.new.pass ≡ self.old.pass }
+    {
+        if let (CacheError::ReadFault, Some(need)) = (e, self.tap.need()) {
+            *answer = TexAnswer::of_need(need);
+            self.count_twice();
+            return NEEDED;
+        }
+        *answer = TexAnswer::of_refusal(e);
+        self.end();
+        code_of(e)
+    }
+}
+
+/// A cache that others may share.
+fn shared(alloc: Global, cache: Cache<SuppliedTap>) -> Result<Arc<Cache<SuppliedTap>>, NoMemory>
+    ensures { IfOk result (λ c. arc_value c ≡ cache) }
+{
+    Arc::new(alloc, cache).map_err(|_| NoMemory)
+}
+
+/// The same cache once more.
+fn again(cache: &Arc<Cache<SuppliedTap>>) -> Result<Arc<Cache<SuppliedTap>>, NoMemory>
+    ensures { IfOk result (λ c. arc_value c ≡ arc_value cache.now) }
+{
+    Arc::try_clone(cache).map_err(|_| NoMemory)
+}

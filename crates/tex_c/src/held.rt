@@ -1,0 +1,63 @@
+//! What a caller in C holds: a pointer to what it has of a cache.
+ghost use Rattle.std.specs.Prelude.{◌≡◌, Option, Some, IsSome};
+ghost use Rattle.tex_c.specs.Client.{ClientState};
+ghost use Rattle.tex_c.specs.Held.{held_coded, held_owns};
+
+use crate::client::Client;
+use crate::parts::Parts;
+use std::alloc::Global;
+use std::marker::Model;
+
+/// A handle of C: nothing, or a client. It is passed by value, and the call that takes it hands one
+/// back. What is dropped here is not freed: a client leaves by `into_box`.
+#[repr(C)]
+#[derive(Drop)]
+pub struct Held {
+    at: *mut u8,
+    alloc: Global,
+    pub ghost value: { Option ClientState } by { held_coded },
+}
+
+impl Model for Held {
+    ghost also_owns = { λ h. held_owns h.alloc h.at h.value };
+}
+
+impl Held {
+    /// The handle of a client.
+    pub(crate) fn of(client: Box<Client>) -> Held
+        ensures { result.value ≡ Some client.value }
+    {
+        Held::of_parts(Parts::of(client))
+    }
+
+    /// The client of a handle.
+    pub(crate) fn into_box(self) -> Box<Client>
+        requires { IsSome self.value }
+        ensures { self.value ≡ Some result.value }
+    {
+        self.into_parts().into_box()
+    }
+
+    fn of_parts(parts: Parts<Client, Global>) -> Held
+        ensures { result.value ≡ Some parts.value }
+    {
+        let Parts { ptr, alloc } = parts;
+        Held {
+            at: ptr as *mut u8,
+            alloc,
+        }
+    }
+
+    fn into_parts(self) -> Parts<Client, Global>
+        requires { IsSome self.value }
+        ensures { self.value ≡ Some result.value }
+    {
+        let Held { at, alloc } = self;
+        Parts {
+            ptr: at as *mut Client,
+            alloc,
+        }
+    }
+}
+
+unsafe impl Send for Held {}

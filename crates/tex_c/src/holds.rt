@@ -1,0 +1,141 @@
+//! What a pass holds and has counted, and how it ends.
+ghost use Rattle.std.specs.Prelude.{◌≡◌, ◌<◌, length, IfOk};
+ghost use Rattle.image_cache.specs.Pass.{IsPassOf};
+
+use crate::answer::{ANSWERED, BUSY, NO_PART, NOTHING_HELD, SMALL_BUFFER};
+use crate::client::Client;
+use image_cache::NotReleased;
+use waiter::Tries;
+
+/// How often a call tries before it says that it is busy.
+const TRIES: u64 = 1 << 20;
+
+/// The tile that a pass holds at a place.
+#[repr(C)]
+#[derive(Clone, Copy, Debug, PartialEq, Eq)]
+pub struct TexTile {
+    /// Its rectangle in its level.
+    pub x: u32,
+    pub y: u32,
+    pub w: u32,
+    pub h: u32,
+    /// The samples of a texel.
+    pub channels: u32,
+}
+
+/// What a pass has counted.
+#[repr(C)]
+#[derive(Clone, Copy, Debug, PartialEq, Eq)]
+pub struct TexCounts {
+    /// How many cells its answers needed.
+    pub needs: u64,
+    /// How many of these its microcache had.
+    pub hits: u64,
+    /// How many tiles it holds.
+    pub holds: u64,
+    /// How many shards the cache has.
+    pub shards: u32,
+}
+
+/// What a shard has.
+#[repr(C)]
+#[derive(Clone, Copy, Debug, PartialEq, Eq)]
+pub struct TexShard {
+    pub tiles: u32,
+    pub pins: u32,
+    /// The bytes of its unpinned tiles.
+    pub loose: u64,
+    /// The bytes that its unpinned tiles may take.
+    pub share: u64,
+}
+
+impl Client {
+    /// The tile that is held at a place.
+    pub(crate) fn say_tile(&mut self, place: usize, out: &mut TexTile) -> u32
+        ensures cache { self.new.cache ≡ self.old.cache }
+    {
+        match self.pass.held(place) {
+            Some(tile) => {
+                let rect = tile.rect();
+                *out = TexTile {
+                    x: rect.x,
+                    y: rect.y,
+                    w: rect.w,
+                    h: rect.h,
+                    channels: tile.channels(),
+                };
+                ANSWERED
+            }
+            None => NOTHING_HELD,
+        }
+    }
+
+    /// Writes the samples of a row of the tile that is held at a place.
+    pub(crate) fn say_row(&mut self, place: usize, row: u32, out: &mut [u16]) -> u32
+        ensures cache { self.new.cache ≡ self.old.cache }
+    {
+        let Some(tile) = self.pass.held(place) else {
+            return NOTHING_HELD;
+        };
+        // it tells that the tile is one
+        let _key = tile.key();
+        let rect = tile.rect();
+        if rect.h <= row {
+            return NO_PART;
+        }
+        let Some(y) = rect.y.checked_add(row) else {
+            return NO_PART;
+        };
+        let samples = tile.row(rect.x, y, rect.w);
+        if out.len() < samples.len() {
+            return SMALL_BUFFER;
+        }
+        out[..samples.len()].copy_from_slice(samples);
+        ANSWERED
+    }
+
+    /// The hold at a place is released.
+    pub(crate) fn say_release(&mut self, place: usize) -> u32
+        ensures cache { self.new.cache ≡ self.old.cache }
+    {
+        match self.release_tile(place) {
+            Ok(()) => ANSWERED,
+            Err(NotReleased::NothingHeld) => NOTHING_HELD,
+            Err(NotReleased::Busy(_)) => BUSY,
+        }
+    }
+
+    /// What the pass has counted.
+    pub(crate) fn say_counts(&mut self, out: &mut TexCounts)
+        ensures cache { self.new.cache ≡ self.old.cache }
+    {
+        *out = TexCounts {
+            needs: self.needs(),
+            hits: self.hits(),
+            holds: self.pass.held_count() as u64,
+            shards: self.cache.shards(),
+        };
+    }
+
+    /// What a shard has.
+    pub(crate) fn say_shard(&mut self, shard: u32, out: &mut TexShard) -> u32
+        ensures cache { self.new.cache ≡ self.old.cache }
+    {
+        if self.cache.shards() <= shard {
+            return NO_PART;
+        }
+        let waiter = Tries::new(TRIES);
+        match self.cache.count(&waiter, &mut self.pass, shard) {
+            Ok(count) => {
+                *out = TexShard {
+                    tiles: count.tiles,
+                    pins: count.pins,
+                    loose: count.loose,
+                    share: count.share,
+                };
+                ANSWERED
+            }
+            Err(_) => BUSY,
+        }
+    }
+}

@@ -1,0 +1,192 @@
+//! The calls of the cache, each as one round: it is answered, or it is refused, where something was
+//! lacking also for that.
+ghost use Rattle.std.specs.Prelude.{◌≡◌, ◌<◌, length, IfOk, IfErr, IfSome, OnOk, OnErr};
+ghost use Rattle.std.specs.List.{remove};
+ghost use Rattle.texel_filter.specs.Image.{IsChannelCount};
+ghost use Rattle.texel_filter.specs.Deriv.{IsDerivRequest};
+ghost use Rattle.file_table.specs.Calls.{sighted};
+ghost use Rattle.texel_values.specs.Region.{max_texels};
+ghost use Rattle.image_cache.specs.Call.{KeepsGiven, HoldsCell};
+ghost use Rattle.image_cache.specs.Cause.{around, HasCause, Never, InfoRefuses, PixelsRefuses};
+ghost use Rattle.image_cache.specs.Cause.{TooManyTexels, NoFurtherHold, TileRefuses, ReleaseCause};
+ghost use Rattle.image_cache.specs.Facts.{info_of};
+ghost use Rattle.image_cache.specs.Invalid.{invalid, MakesInvalid, InvalidCause};
+ghost use Rattle.std.specs.Prelude.{IsOkAnd};
+ghost use Rattle.texture_sys.specs.Call.{Answers, TextureCause};
+ghost use Rattle.texture_sys.specs.declared.lookup_request.LookupRequest.TheVariants as LookupRequest;
+ghost use Rattle.tex_c.specs.SuppliedWorld.{untold_files};
+ghost use Rattle.tex_c.specs.SuppliedTap.{tap_state};
+
+use crate::client::Client;
+use image_cache::{CacheError, NotReleased, Pixels, Region, TexelAt};
+use texel_filter::{DerivRequest, TexRequest};
+use texture_sys::{texture, texture_d, texture_local};
+use tiff_format::Info;
+use waiter::{GaveUp, Tries};
+
+/// How often a call tries before it says that it is busy.
+const TRIES: u64 = 1 << 20;
+
+impl Client {
+    /// What a file is.
+    pub(crate) fn info(&mut self, file: u32) -> Result<Info, CacheError<GaveUp>>
+        requires file { file < self.old.cache.files.board.files }
+        ensures ok { IfOk result (λ info. KeepsGiven untold_files file self.old.cache.gate.cut
+            self.old.pass self.new.pass info.generation (λ r. IsOkAnd r.layout (λ kept.
+            info ≡ info_of r.generation kept r.cut))) }
+        ensures cause { IfErr result (HasCause (around untold_files file self.old.cache.gate.cut
+            self.old.pass self.new.pass (tap_state self.old.tap) (tap_state self.new.tap))
+            Never InfoRefuses) }
+        ensures cache { self.new.cache ≡ self.old.cache }
+    {
+        self.begin();
+        let waiter = Tries::new(TRIES);
+        self.cache
+            .info(&waiter, &mut self.pass, &mut self.tap, file)
+    }
+
+    /// Writes the values of a lookup.
+    pub(crate) fn texture(
+        &mut self,
+        file: u32,
+        r: &TexRequest,
+        out: &mut [u16],
+    ) -> Result<u32, CacheError<GaveUp>>
+        requires file { file < self.old.cache.files.board.files }
+        requires count { length out.old ≡ r.now.nch }
+        requires channels { IsChannelCount r.now.nch }
+        ensures value { IfOk result (Answers untold_files file self.old.cache.gate.cut
+            (LookupRequest.Point r.now) self.old.pass.view self.new.pass.view out.new) }
+        ensures cause { IfErr result (TextureCause untold_files file self.old.cache.gate.cut
+            (sighted self.old.pass.view (tap_state self.old.tap))
+            (sighted self.new.pass.view (tap_state self.new.tap))) }
+        ensures err { OnErr result (out.new ≡ out.old) }
+        ensures cache { self.new.cache ≡ self.old.cache }
+    {
+        self.begin();
+        let waiter = Tries::new(TRIES);
+        texture(
+            &self.cache,
+            &waiter,
+            &mut self.pass,
+            &mut self.tap,
+            file,
+            r,
+            out,
+        )
+    }
+
+    /// The same along a footprint.
+    pub(crate) fn texture_d(
+        &mut self,
+        file: u32,
+        r: &DerivRequest,
+        out: &mut [u16],
+    ) -> Result<u32, CacheError<GaveUp>>
+        requires file { file < self.old.cache.files.board.files }
+        requires count { length out.old ≡ r.now.nch }
+        requires request { IsDerivRequest r.now }
+        ensures value { IfOk result (Answers untold_files file self.old.cache.gate.cut
+            (LookupRequest.Footprint r.now) self.old.pass.view self.new.pass.view out.new) }
+        ensures cause { IfErr result (TextureCause untold_files file self.old.cache.gate.cut
+            (sighted self.old.pass.view (tap_state self.old.tap))
+            (sighted self.new.pass.view (tap_state self.new.tap))) }
+        ensures err { OnErr result (out.new ≡ out.old) }
+        ensures cache { self.new.cache ≡ self.old.cache }
+    {
+        self.begin();
+        let waiter = Tries::new(TRIES);
+        texture_d(
+            &self.cache,
+            &waiter,
+            &mut self.pass,
+            &mut self.tap,
+            file,
+            r,
+            out,
+        )
+    }
+
+    /// The values of a lookup, where the microcache has all that it needs.
+    pub(crate) fn texture_local(
+        &mut self,
+        file: u32,
+        r: &TexRequest,
+        out: &mut [u16],
+    ) -> Option<u32>
+        requires file { file < self.old.cache.files.board.files }
+        requires count { length out.old ≡ r.now.nch }
+        requires channels { IsChannelCount r.now.nch }
+        ensures value { IfSome result (Answers untold_files file self.old.cache.gate.cut
+            (LookupRequest.Point r.now) self.old.pass.view self.new.pass.view out.new) }
+        ensures cache { self.new.cache ≡ self.old.cache }
+        ensures tap { self.new.tap ≡ self.old.tap }
+    {
+        texture_local(&self.cache, &mut self.pass, file, r, out)
+    }
+
+    /// Reads a region into the values that are kept until they are copied out.
+    pub(crate) fn pixels(
+        &mut self,
+        file: u32,
+        region: &Region,
+    ) -> Result<Pixels, CacheError<GaveUp>>
+        requires file { file < self.old.cache.files.board.files }
+        ensures cause { IfErr result (HasCause (around untold_files file self.old.cache.gate.cut
+            self.old.pass self.new.pass (tap_state self.old.tap) (tap_state self.new.tap))
+            (TooManyTexels region.now.w region.now.h) (PixelsRefuses region.now.level)) }
+        ensures cache { self.new.cache ≡ self.old.cache }
+    {
+        self.begin();
+        self.values.clear();
+        let waiter = Tries::new(TRIES);
+        let (pass, tap, values) = (&mut self.pass, &mut self.tap, &mut self.values);
+        self.cache
+            .get_pixels(&waiter, pass, tap, file, region, values)
+    }
+
+    /// The cell that holds a texel becomes the latest hold.
+    pub(crate) fn get_tile(&mut self, file: u32, at: TexelAt) -> Result<u32, CacheError<GaveUp>>
+        requires file { file < self.old.cache.files.board.files }
+        ensures ok { IfOk result (λ generation. KeepsGiven untold_files file
+            self.old.cache.gate.cut self.old.pass self.new.pass generation
+            (HoldsCell untold_files at self.old.pass self.new.pass)) }
+        ensures cause { IfErr result (HasCause (around untold_files file self.old.cache.gate.cut
+            self.old.pass self.new.pass (tap_state self.old.tap) (tap_state self.new.tap))
+            (NoFurtherHold self.old.pass) (TileRefuses at)) }
+        ensures cache { self.new.cache ≡ self.old.cache }
+    {
+        self.begin();
+        let waiter = Tries::new(TRIES);
+        self.cache
+            .get_tile(&waiter, &mut self.pass, &mut self.tap, file, at)
+    }
+
+    /// The hold at a place is released.
+    pub(crate) fn release_tile(&mut self, place: usize) -> Result<(), NotReleased<GaveUp>>
+        ensures ok { OnOk result
+            (self.new.pass.pinned.holds ≡ remove self.old.pass.pinned.holds place) }
+        ensures cause { IfErr result (ReleaseCause place self.old.pass) }
+        ensures cache { self.new.cache ≡ self.old.cache }
+        ensures tap { self.new.tap ≡ self.old.tap }
+    {
+        let waiter = Tries::new(TRIES);
+        self.cache.release_tile(&waiter, &mut self.pass, place)
+    }
+
+    /// A file is made invalid.
+    pub(crate) fn invalidate(&mut self, file: u32, force: bool) -> Result<u32, CacheError<GaveUp>>
+        requires file { file < self.old.cache.files.board.files }
+        ensures ok { IfOk result (MakesInvalid untold_files self.old.cache.gate
+            (invalid file force) self.old.pass self.new.pass
+            (tap_state self.old.tap) (tap_state self.new.tap)) }
+        ensures cause { IfErr result
+            (InvalidCause (tap_state self.old.tap) (tap_state self.new.tap)) }
+        ensures cache { self.new.cache ≡ self.old.cache }
+    {
+        self.begin();
+        let waiter = Tries::new(TRIES);
+        self.cache
+            .invalidate(&waiter, &mut self.pass, &mut self.tap, file, force)
+    }
+}

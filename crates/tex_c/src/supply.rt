@@ -1,0 +1,104 @@
+//! What a call lacks, and what the caller supplies.
+ghost use Rattle.std.specs.Prelude.{◌≡◌, ◌≤◌, ℕ, List, length, IfSome};
+ghost use Rattle.tex_world.specs.World.{last_generation};
+ghost use Rattle.tiff_format.specs.Bytes.{IsPartAt};
+ghost use Rattle.tex_c.specs.Supply.{IsTrueOf, AreTrue};
+
+use crate::handle::SuppliedHandle;
+use tex_world::TapHandle;
+
+/// What a call lacks to go on.
+#[derive(Clone, Copy, Debug, PartialEq, Eq)]
+pub enum Need {
+    /// A look at a file: its generation, which is to be at least this one, and its length.
+    Look {
+        file: u32,
+        least: u32,
+    },
+    /// Bytes of this generation of a file: from a place on so many at least, and so many at most,
+    /// which is up to the end of the file.
+    Bytes {
+        file: u32,
+        generation: u32,
+        at: u64,
+        least: u64,
+        most: u64,
+    },
+}
+
+/// Why a supply is refused. All is then as before.
+#[derive(Clone, Copy, Debug, PartialEq, Eq)]
+pub enum SupplyError {
+    /// No call lacks anything of this kind.
+    NotNeeded,
+    /// It is of another file or another place than what is lacking.
+    OtherPlace,
+    /// Its generation is older than what is lacking.
+    Older,
+    /// Its generation is another one that is not older, or none from 1 to 1048575.
+    OtherGeneration,
+    /// It has fewer bytes than are lacking.
+    Short,
+    /// It has bytes past the end of the file.
+    Long,
+    /// No memory was found.
+    NoMemory,
+}
+
+/// What was seen of a file: its generation and its length.
+#[derive(Clone, Copy, Debug)]
+pub struct Look {
+    pub file: u32,
+    pub generation: u32,
+    pub len: u64,
+    ghost low: { 1 ≤ generation },
+    ghost high: { generation ≤ last_generation },
+}
+
+/// Bytes of a generation of a file, from a place on.
+#[derive(Drop)]
+pub struct Part {
+    pub file: u32,
+    pub generation: u32,
+    pub at: u64,
+    pub bytes: Vec<u8>,
+}
+
+impl Part {
+    /// So many bytes from a place of a handle's file on, where the part has them all.
+    fn slice(&self, handle: &SuppliedHandle, at: u64, size: usize) -> Option<&[u8]>
+        ensures long { IfSome result (λ bytes. length bytes.now ≡ size) }
+        ensures told { IfSome result (λ bytes. (held : ℕ → ℕ → List ℕ)
+            → IsTrueOf held self.now
+            → IsPartAt (held handle.now.file handle.now.generation) at bytes.now) }
+    {
+        if self.file != handle.file() || self.generation != handle.generation() {
+            return None;
+        }
+        let bytes = &self.bytes[..];
+        if at < self.at || size > bytes.len() || at - self.at > (bytes.len() - size) as u64 {
+            return None;
+        }
+        let start = (at - self.at) as usize;
+        Some(&bytes[start..start + size])
+    }
+}
+
+/// So many bytes from a place of a handle's file on, where they were supplied in one part.
+pub(crate) fn supplied<'a>(
+    parts: &'a [Part],
+    handle: &SuppliedHandle,
+    at: u64,
+    size: usize,
+) -> Option<&'a [u8]>
+    ensures long { IfSome result (λ bytes. length bytes.now ≡ size) }
+    ensures told { IfSome result (λ bytes. (held : ℕ → ℕ → List ℕ) → AreTrue held parts.now
+        → IsPartAt (held handle.now.file handle.now.generation) at bytes.now) }
+{
+    for part in parts {
+        if let Some(bytes) = part.slice(handle, at, size) {
+            return Some(bytes);
+        }
+    }
+    None
+}

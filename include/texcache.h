@@ -1,0 +1,861 @@
+/* texcache.h: textures of a folder of TIFF files, for programs in C and C++.
+ *
+ * Header only, beside the static library libtex_c.a, which is proved and has no input or output: it
+ * says which bytes it lacks, and this header reads and supplies them. Build and link: docs/EMBEDDING.md.
+ *
+ *     texcache *cache;
+ *     texcache_pass *pass = NULL;
+ *     uint32_t file;
+ *     uint16_t values[3];
+ *     if (texcache_open(&cache, "textures", NULL) == TEXCACHE_OK
+ *         && texcache_perthread(cache, &pass) == TEXCACHE_OK
+ *         && texcache_find(cache, "wall.tif", &file) == TEXCACHE_OK) {
+ *         texcache_lookup at = texcache_lookup_at(32768, 32768, 0, 3);
+ *         int refused = texcache_texture(pass, file, &at, values, 3, NULL);
+ *         if (refused) fprintf(stderr, "%s\n", texcache_error_string(refused));
+ *     }
+ *     texcache_end(&pass);
+ *     texcache_close(&cache);
+ *
+ * Names and meanings are OpenImageIO's where they mean the same; docs/FILTERING.md says what differs.
+ *
+ * What a caller must see to, since nothing here can test it:
+ * - A pass serves one thread at a time. Two calls in one pass at once are refused (TEXCACHE_IN_USE);
+ *   but a pass that has ended, and a cache that was closed, must not be used through another copy of
+ *   their pointers. texcache_end and texcache_close set the pointer that they are given to NULL, and
+ *   every call refuses NULL (TEXCACHE_CLOSED).
+ * - Buffers have the sizes that are given for them.
+ * - No call from a signal handler, and none in the forked child of a process with threads.
+ */
+#ifndef TEXCACHE_H
+#define TEXCACHE_H
+
+#ifndef _GNU_SOURCE
+#define _GNU_SOURCE
+#endif
+#include <dirent.h>
+#include <errno.h>
+#include <fcntl.h>
+#include <math.h>
+#include <pthread.h>
+#include <sched.h>
+#include <stdbool.h>
+#include <stddef.h>
+#include <stdint.h>
+#include <stdlib.h>
+#include <string.h>
+#include <sys/stat.h>
+#include <sys/types.h>
+#include <unistd.h>
+
+#ifndef TEXCACHE_API
+#define TEXCACHE_API static inline __attribute__((unused))
+#endif
+
+#ifdef __cplusplus
+extern "C" {
+#endif
+
+/* ---- refusals */
+
+/* Why a call is refused. 0 to 25 are the library's numbers, those from 40 on this header's. */
+enum texcache_status {
+    TEXCACHE_OK = 0,
+    TEXCACHE_NEEDED = 1,            /* bytes are lacking; no call of this header answers it */
+    TEXCACHE_BAD_OPTIONS = 2,       /* detail: 1 budget, 2 shards, 3 passes, 4 handles, 5 autotile */
+    TEXCACHE_NO_FILE = 3,           /* no file has this number */
+    TEXCACHE_BAD_REQUEST = 4,       /* a wrap, a filter, the channels or a derivative is out of range */
+    TEXCACHE_SMALL_BUFFER = 5,      /* value: how many values there are */
+    TEXCACHE_NO_PERMIT = 6,         /* there are as many passes as the cache was made for */
+    TEXCACHE_NOT_LOCAL = 7,         /* the microcache has not all that the lookup needs */
+    TEXCACHE_NOTHING_HELD = 8,      /* no tile is held at that place */
+    TEXCACHE_NO_PART = 9,           /* there is no such shard or row */
+    TEXCACHE_BAD_FILE = 10,         /* detail: the fault, 1 to 12 (docs/FORMAT.md, "Faults") */
+    TEXCACHE_TILE_TOO_LARGE = 11,   /* a cell of the file takes more than 33554432 bytes */
+    TEXCACHE_NO_LEVEL = 12,         /* detail: how many levels the file has */
+    TEXCACHE_OUTSIDE = 13,          /* the texel is not in the level */
+    TEXCACHE_REGION_TOO_LARGE = 14, /* more than 1048576 texels */
+    TEXCACHE_HOLDS_FULL = 15,       /* the pass holds four tiles */
+    TEXCACHE_AGAIN = 16,            /* the file was replaced again and again while it was read */
+    TEXCACHE_READ_FAULT = 17,       /* the file is gone, or was not read */
+    TEXCACHE_NO_MEMORY = 18,
+    TEXCACHE_BUSY = 19,             /* other threads kept a shard for too long */
+    TEXCACHE_NOT_NEEDED = 20,       /* 20 to 25: a supply that is not what was lacking */
+    TEXCACHE_OTHER_PLACE = 21,
+    TEXCACHE_OLDER = 22,
+    TEXCACHE_OTHER_GENERATION = 23,
+    TEXCACHE_SHORT = 24,
+    TEXCACHE_LONG = 25,
+    TEXCACHE_NO_FOLDER = 40,        /* the folder is not opened or not read */
+    TEXCACHE_TOO_MANY_FILES = 41,   /* more than 4096 plain files */
+    TEXCACHE_NO_NAME = 42,          /* the folder had no plain file of this name */
+    TEXCACHE_IN_USE = 43,           /* another call runs in this pass */
+    TEXCACHE_CLOSED = 44,           /* a pass, a cache or a place for the answer that is NULL */
+    TEXCACHE_PASSES_LEFT = 45       /* a pass of the cache has not ended */
+};
+
+/* The name of a refusal. */
+TEXCACHE_API const char *texcache_error_string(int status)
+{
+    static const char *const low[] = {
+        "ok", "needed", "bad options", "no such file", "bad request", "buffer too small", "no permit",
+        "not local", "nothing held", "no such part", "bad file", "tile too large", "no level", "outside",
+        "region too large", "holds full", "again", "read fault", "no memory", "busy", "not needed",
+        "other place", "older", "other generation", "short", "long"};
+    static const char *const high[] = {"no folder", "too many files", "no such name", "pass in use",
+                                       "closed", "passes left"};
+    if (status >= 0 && status < (int)(sizeof low / sizeof *low)) return low[status];
+    if (status >= 40 && status - 40 < (int)(sizeof high / sizeof *high)) return high[status - 40];
+    return "unknown";
+}
+
+/* ---- what crosses to the library */
+
+/* What a cache is made with. */
+typedef struct texcache_options {
+    uint64_t budget;    /* the bytes that unpinned tiles may take, 0 to 4294967296 */
+    uint32_t shards;    /* 1 to 64 */
+    uint32_t passes;    /* the passes that there may be at once, 1 to 16; the cache keeps one for itself */
+    uint32_t handles;   /* the files that may lie open, 1 to 1024 */
+    uint32_t autotile;  /* the side of the cells of a stripped level: 0, or a multiple of 16 up to 4096 */
+    bool automip;       /* a file that stores one level has those down to 1 by 1 */
+} texcache_options;
+
+/* What belongs to an answer or a refusal. What it does not fill is 0. */
+typedef struct texcache_answer {
+    uint32_t generation;   /* the version of the file that is answered, or that the refusal is of */
+    uint32_t newer;        /* AGAIN: the version that was met */
+    uint32_t detail;
+    uint32_t part;         /* BAD_FILE: the tag or the level that the fault is of */
+    uint64_t value;        /* BAD_FILE: the value or the index; get_pixels: how many values there are */
+    uint32_t channels;     /* get_pixels: the values of each texel */
+    uint32_t need;         /* 0 nothing, 1 a look at a file, 2 bytes of it */
+    uint32_t need_file;
+    uint32_t need_generation;
+    uint64_t need_at, need_least, need_most;
+} texcache_answer;
+
+enum texcache_wrap { TEXCACHE_BLACK, TEXCACHE_CLAMP, TEXCACHE_PERIODIC, TEXCACHE_MIRROR };
+
+enum texcache_filter { TEXCACHE_CLOSEST, TEXCACHE_BILINEAR, TEXCACHE_TRILINEAR };
+
+/* A lookup. Coordinates and derivatives are in 1/65536 of the image, S from its left edge across and T
+ * from its upper edge down; LOD is in 1/65536 of a level, 0 the largest. */
+typedef struct texcache_lookup {
+    int32_t s, t;
+    uint32_t lod;
+    uint32_t swrap, twrap;  /* enum texcache_wrap */
+    uint32_t filter;        /* enum texcache_filter */
+    uint32_t channels;      /* 1 to 8, from channel 0 on */
+    int32_t dsdx, dtdx, dsdy, dtdy;  /* of texcache_texture_d, which takes no LOD and no filter */
+} texcache_lookup;
+
+/* What a file is. */
+typedef struct texcache_info {
+    uint32_t width, height, channels, depth, stored, levels;
+} texcache_info;
+
+/* A region of a level; it may lie beside the level, where all is 0. */
+typedef struct texcache_region {
+    uint32_t level;
+    int32_t x, y;
+    uint32_t w, h;
+} texcache_region;
+
+/* A tile that a pass holds: its rectangle in its level, and the samples of a texel. */
+typedef struct texcache_tile {
+    uint32_t x, y, w, h, channels;
+} texcache_tile;
+
+/* What a pass has counted. */
+typedef struct texcache_counts {
+    uint64_t needs, hits, holds;
+    uint32_t shards;
+} texcache_counts;
+
+/* What a shard has: tiles, pins, the bytes of its unpinned tiles and how many these may be. */
+typedef struct texcache_shard {
+    uint32_t tiles, pins;
+    uint64_t loose, share;
+} texcache_shard;
+
+/* A handle of the library. It goes in by value, and comes back. */
+typedef struct texcache_held {
+    void *at;
+} texcache_held;
+
+uint32_t tex_c_new(texcache_held *to, const texcache_options *options, uint32_t files, texcache_answer *answer);
+uint32_t tex_c_split(texcache_held from, texcache_held *to, texcache_held *second);
+void tex_c_free(texcache_held from);
+uint32_t tex_c_info(texcache_held from, texcache_held *to, uint32_t file, texcache_info *info, texcache_answer *answer);
+uint32_t tex_c_texture(texcache_held from, texcache_held *to, uint32_t file, const texcache_lookup *lookup,
+                       uint16_t *out, size_t room, texcache_answer *answer);
+uint32_t tex_c_texture_d(texcache_held from, texcache_held *to, uint32_t file, const texcache_lookup *lookup,
+                         uint16_t *out, size_t room, texcache_answer *answer);
+uint32_t tex_c_texture_local(texcache_held from, texcache_held *to, uint32_t file, const texcache_lookup *lookup,
+                             uint16_t *out, size_t room, texcache_answer *answer);
+uint32_t tex_c_pixels(texcache_held from, texcache_held *to, uint32_t file, const texcache_region *region,
+                      uint16_t *out, size_t room, texcache_answer *answer);
+uint32_t tex_c_get_tile(texcache_held from, texcache_held *to, uint32_t file, uint32_t level, uint32_t x, uint32_t y,
+                        texcache_answer *answer);
+uint32_t tex_c_tile(texcache_held from, texcache_held *to, size_t place, texcache_tile *out);
+uint32_t tex_c_tile_row(texcache_held from, texcache_held *to, size_t place, uint32_t row, uint16_t *out, size_t room);
+uint32_t tex_c_release_tile(texcache_held from, texcache_held *to, size_t place);
+uint32_t tex_c_invalidate(texcache_held from, texcache_held *to, uint32_t file, bool force, texcache_answer *answer);
+void tex_c_counts(texcache_held from, texcache_held *to, texcache_counts *out);
+uint32_t tex_c_shard(texcache_held from, texcache_held *to, uint32_t shard, texcache_shard *out);
+uint32_t tex_c_supply_look(texcache_held from, texcache_held *to, uint32_t file, uint32_t generation, uint64_t len);
+uint32_t tex_c_supply_bytes(texcache_held from, texcache_held *to, uint32_t file, uint32_t generation, uint64_t at,
+                            const uint8_t *bytes, size_t count);
+uint32_t tex_c_supply_fault(texcache_held from, texcache_held *to);
+
+/* ---- the folder */
+
+/* A generation is a version of a file, 1 to 1048575; its stamp is (length + 1000003 * time) mod 2^44. */
+#define TEXC_LAST_GENERATION 1048575u
+#define TEXC_STAMP_MASK ((UINT64_C(1) << 44) - 1)
+#define TEXC_NO_STAMP UINT64_MAX
+/* So many bytes are read at least where a few are lacking, if the file has them. */
+#define TEXC_BLOCK 16384
+/* How often a call is tried anew after the file was replaced under it, or where it is busy. */
+#define TEXC_AGAIN 64
+#define TEXC_TRIES 100000
+
+/* An open file of one generation. It is closed when nobody reads it and it is no longer its file's. */
+typedef struct texc_open {
+    int fd;
+    unsigned users;
+} texc_open;
+
+typedef struct texc_file {
+    char *name;
+    pthread_mutex_t lock;  /* guards what follows */
+    uint32_t generation;   /* the latest one, 0 before the first look */
+    uint64_t stamp, len;   /* those of that generation */
+    texc_open *open;       /* open at that generation, or NULL */
+} texc_file;
+
+typedef struct texcache_pass texcache_pass;
+
+typedef struct texcache {
+    int folder;
+    texc_file *files;
+    uint32_t count;
+    texcache_options options;
+    uint32_t idle;              /* files that lie open */
+    uint64_t looks, opens, reads, bytes;
+    pthread_mutex_t lock;       /* guards what follows */
+    texcache_held first;        /* the pass that the others are split from */
+    texcache_pass *ended;       /* passes that have ended, to be given out again */
+    unsigned passes;            /* passes that have not */
+} texcache;
+
+struct texcache_pass {
+    texcache *cache;
+    texcache_held held;
+    int in_use;
+    uint8_t *bytes;
+    size_t room;
+    texcache_pass *next;
+};
+
+/* What the cache has read, and what a pass has counted. */
+typedef struct texcache_statistics {
+    texcache_counts pass;
+    uint64_t looks, opens, reads, bytes;  /* of all passes */
+} texcache_statistics;
+
+static inline uint64_t texc_stamp(const struct stat *seen)
+{
+    uint64_t nanos = seen->st_mtim.tv_sec < 0
+        ? 0 : (uint64_t)seen->st_mtim.tv_sec * 1000000000u + (uint64_t)seen->st_mtim.tv_nsec;
+    return ((uint64_t)seen->st_size + UINT64_C(1000003) * nanos) & TEXC_STAMP_MASK;
+}
+
+static inline void texc_add(uint64_t *count, uint64_t by)
+{
+    __atomic_fetch_add(count, by, __ATOMIC_RELAXED);
+}
+
+/* Lets go of an open file; the file's lock is held, or the cache is being closed. */
+static inline void texc_release(texcache *cache, texc_file *file, texc_open *open)
+{
+    int is_own = file->open == open;
+    if (open->users > 0) return;
+    if (is_own && __atomic_load_n(&cache->idle, __ATOMIC_RELAXED) <= cache->options.handles) return;
+    if (is_own) file->open = NULL;
+    close(open->fd);
+    free(open);
+    __atomic_fetch_sub(&cache->idle, 1, __ATOMIC_RELAXED);
+}
+
+/* Looks at a file and settles its generation; its lock is held. Whether it is a plain file with one. */
+static inline int texc_settle(texcache *cache, texc_file *file)
+{
+    struct stat seen;
+    texc_add(&cache->looks, 1);
+    if (fstatat(cache->folder, file->name, &seen, AT_SYMLINK_NOFOLLOW) || !S_ISREG(seen.st_mode)) return 0;
+    uint64_t stamp = texc_stamp(&seen);
+    if (file->generation && file->stamp == stamp) return 1;
+    if (file->generation == TEXC_LAST_GENERATION) return 0;
+    texc_open *old = file->open;
+    file->open = NULL;
+    if (old) texc_release(cache, file, old);
+    file->generation++;
+    file->stamp = stamp;
+    file->len = (uint64_t)seen.st_size;
+    return 1;
+}
+
+/* The file, open at its latest generation, to be read; its lock is held. */
+static inline texc_open *texc_take(texcache *cache, texc_file *file)
+{
+    struct stat seen;
+    texc_open *open = file->open;
+    if (!open) {
+        int fd = openat(cache->folder, file->name, O_RDONLY | O_CLOEXEC | O_NOFOLLOW | O_NONBLOCK | O_NOCTTY);
+        if (fd < 0) return NULL;
+        texc_add(&cache->opens, 1);
+        if (fstat(fd, &seen) || !S_ISREG(seen.st_mode) || texc_stamp(&seen) != file->stamp
+            || !(open = (texc_open *)malloc(sizeof *open))) {
+            close(fd);
+            return NULL;
+        }
+        open->fd = fd;
+        open->users = 0;
+        file->open = open;
+        __atomic_fetch_add(&cache->idle, 1, __ATOMIC_RELAXED);
+    }
+    open->users++;
+    return open;
+}
+
+/* Reads until the buffer is full or the file ends; how many bytes were read. */
+static inline size_t texc_pread(int fd, uint8_t *to, size_t count, uint64_t at)
+{
+    size_t done = 0;
+    while (done < count) {
+        ssize_t read = pread(fd, to + done, count - done, (off_t)(at + done));
+        if (read < 0 && errno == EINTR) continue;
+        if (read <= 0) break;
+        done += (size_t)read;
+    }
+    return done;
+}
+
+static inline int texc_room(texcache_pass *pass, size_t count)
+{
+    if (count <= pass->room) return 1;
+    uint8_t *more = (uint8_t *)realloc(pass->bytes, count);
+    if (!more) return 0;
+    pass->bytes = more;
+    pass->room = count;
+    return 1;
+}
+
+/* Reads the bytes that are lacking under their generation, and supplies them. Where the file has a newer
+ * one that is supplied, and where it is not read nothing is. */
+static inline uint32_t texc_supply_bytes(texcache_pass *pass, const texcache_answer *need)
+{
+    texcache *cache = pass->cache;
+    texc_file *file = &cache->files[need->need_file];
+    uint64_t wanted = need->need_least < TEXC_BLOCK ? TEXC_BLOCK : need->need_least;
+    size_t count = (size_t)(wanted < need->need_most ? wanted : need->need_most), read = 0;
+    uint32_t code = TEXCACHE_READ_FAULT;
+    if (!texc_room(pass, count)) return TEXCACHE_NO_MEMORY;
+    pthread_mutex_lock(&file->lock);
+    texc_open *open = NULL;
+    int is_there = texc_settle(cache, file);
+    if (is_there && file->generation == need->need_generation) open = texc_take(cache, file);
+    if (open) {
+        pthread_mutex_unlock(&file->lock);
+        read = texc_pread(open->fd, pass->bytes, count, need->need_at);
+        texc_add(&cache->reads, 1);
+        texc_add(&cache->bytes, read);
+        pthread_mutex_lock(&file->lock);
+        is_there = texc_settle(cache, file);
+        open->users--;
+        texc_release(cache, file, open);
+    }
+    uint32_t generation = file->generation;
+    uint64_t len = file->len;
+    pthread_mutex_unlock(&file->lock);
+    if (is_there && generation > need->need_generation)
+        code = tex_c_supply_look(pass->held, &pass->held, need->need_file, generation, len);
+    else if (is_there && open && read >= need->need_least)
+        code = tex_c_supply_bytes(pass->held, &pass->held, need->need_file, generation, need->need_at,
+                                  pass->bytes, read);
+    return code;
+}
+
+static inline uint32_t texc_supply_look(texcache_pass *pass, const texcache_answer *need)
+{
+    texc_file *file = &pass->cache->files[need->need_file];
+    pthread_mutex_lock(&file->lock);
+    int is_there = texc_settle(pass->cache, file);
+    uint32_t generation = file->generation;
+    uint64_t len = file->len;
+    pthread_mutex_unlock(&file->lock);
+    if (!is_there) return TEXCACHE_READ_FAULT;
+    return tex_c_supply_look(pass->held, &pass->held, need->need_file, generation, len);
+}
+
+/* Supplies what is lacking, or says that it cannot be had. */
+static inline void texc_supply(texcache_pass *pass, const texcache_answer *need)
+{
+    uint32_t code = need->need == 2 ? texc_supply_bytes(pass, need) : texc_supply_look(pass, need);
+    if (code) tex_c_supply_fault(pass->held, &pass->held);
+}
+
+/* Whether a call that is not answered goes on: something was supplied, or it is tried anew. */
+static inline int texc_goes_on(texcache_pass *pass, uint32_t code, const texcache_answer *answer, unsigned *anew)
+{
+    if (code == TEXCACHE_NEEDED) {
+        texc_supply(pass, answer);
+        return 1;
+    }
+    if (code == TEXCACHE_AGAIN) return ++*anew < TEXC_AGAIN;
+    if (code != TEXCACHE_BUSY) return 0;
+    sched_yield();
+    return ++*anew < TEXC_TRIES;
+}
+
+/* A pass is used by one call at a time. */
+static inline int texc_enter(texcache_pass *pass)
+{
+    if (!pass) return TEXCACHE_CLOSED;
+    return __atomic_exchange_n(&pass->in_use, 1, __ATOMIC_ACQUIRE) ? TEXCACHE_IN_USE : TEXCACHE_OK;
+}
+
+static inline void texc_leave(texcache_pass *pass)
+{
+    __atomic_store_n(&pass->in_use, 0, __ATOMIC_RELEASE);
+}
+
+static const texcache_answer texc_no_answer __attribute__((unused)) = {0, 0, 0, 0, 0, 0, 0, 0, 0, 0, 0, 0};
+
+/* A call of the library, until it is answered or refused. */
+#define TEXC_CALL(pass, answer, call)                                           \
+    do {                                                                        \
+        texcache_answer texc_own, *texc_said = (answer) ? (answer) : &texc_own; \
+        unsigned texc_anew = 0;                                                 \
+        uint32_t texc_code;                                                     \
+        int texc_entered = texc_enter(pass);                                    \
+        if (texc_entered) return texc_entered;                                  \
+        do {                                                                    \
+            *texc_said = texc_no_answer;                                        \
+            texc_code = call;                                                   \
+        } while (__builtin_expect(texc_code != 0, 0)                            \
+                 && texc_goes_on(pass, texc_code, texc_said, &texc_anew));      \
+        texc_leave(pass);                                                       \
+        return (int)texc_code;                                                  \
+    } while (0)
+
+/* ---- caches and passes */
+
+/* The options of the program where none are given. */
+TEXCACHE_API texcache_options texcache_default_options(void)
+{
+    texcache_options o = {UINT64_C(268435456), 16, 16, 100, 64, true};
+    return o;
+}
+
+static inline int texc_by_name(const void *a, const void *b)
+{
+    return strcmp(((const texc_file *)a)->name, ((const texc_file *)b)->name);
+}
+
+/* Lists the plain files of the folder, in the order of their names. */
+static inline int texc_list(texcache *cache)
+{
+    int copy = openat(cache->folder, ".", O_RDONLY | O_DIRECTORY | O_CLOEXEC), refused = TEXCACHE_OK;
+    DIR *dir = copy < 0 ? NULL : fdopendir(copy);
+    size_t room = 0;
+    if (!dir) {
+        if (copy >= 0) close(copy);
+        return TEXCACHE_NO_FOLDER;
+    }
+    while (!refused) {
+        struct stat seen;
+        errno = 0;
+        struct dirent *entry = readdir(dir);
+        if (!entry) {
+            if (errno) refused = TEXCACHE_NO_FOLDER;
+            break;
+        }
+        if (fstatat(cache->folder, entry->d_name, &seen, AT_SYMLINK_NOFOLLOW) || !S_ISREG(seen.st_mode)) continue;
+        if (cache->count == 4096) {
+            refused = TEXCACHE_TOO_MANY_FILES;
+            break;
+        }
+        if (cache->count == room) {
+            size_t more = room ? 2 * room : 64;
+            texc_file *files = (texc_file *)realloc(cache->files, more * sizeof *files);
+            if (!files) {
+                refused = TEXCACHE_NO_MEMORY;
+                break;
+            }
+            cache->files = files;
+            room = more;
+        }
+        texc_file *file = &cache->files[cache->count];
+        memset(file, 0, sizeof *file);
+        if (!(file->name = strdup(entry->d_name))) refused = TEXCACHE_NO_MEMORY;
+        else cache->count++;
+    }
+    closedir(dir);
+    if (cache->count) qsort(cache->files, cache->count, sizeof *cache->files, texc_by_name);
+    for (uint32_t n = 0; n < cache->count; n++) pthread_mutex_init(&cache->files[n].lock, NULL);
+    return refused;
+}
+
+static inline void texc_free(texcache *cache)
+{
+    while (cache->ended) {
+        texcache_pass *pass = cache->ended;
+        cache->ended = pass->next;
+        if (pass->held.at) tex_c_free(pass->held);
+        free(pass->bytes);
+        free(pass);
+    }
+    if (cache->first.at) tex_c_free(cache->first);
+    for (uint32_t n = 0; n < cache->count; n++) {
+        texc_file *file = &cache->files[n];
+        if (file->open) {
+            close(file->open->fd);
+            free(file->open);
+        }
+        pthread_mutex_destroy(&file->lock);
+        free(file->name);
+    }
+    free(cache->files);
+    pthread_mutex_destroy(&cache->lock);
+    if (cache->folder >= 0) close(cache->folder);
+    free(cache);
+}
+
+/* A cache of the plain files that the folder has now; a symbolic link is none. Where it is refused the
+ * cache is NULL, and of BAD_OPTIONS the first bad option is answered in *bad, if that is given. */
+TEXCACHE_API int texcache_open_saying(texcache **out, const char *folder, const texcache_options *options,
+                                      uint32_t *bad)
+{
+    texcache_answer answer;
+    if (!out || !folder) return TEXCACHE_CLOSED;
+    *out = NULL;
+    texcache *cache = (texcache *)calloc(1, sizeof *cache);
+    if (!cache) return TEXCACHE_NO_MEMORY;
+    pthread_mutex_init(&cache->lock, NULL);
+    cache->options = options ? *options : texcache_default_options();
+    cache->folder = open(folder, O_RDONLY | O_DIRECTORY | O_CLOEXEC);
+    int refused = cache->folder < 0 ? TEXCACHE_NO_FOLDER : texc_list(cache);
+    if (!refused) {
+        memset(&answer, 0, sizeof answer);
+        refused = (int)tex_c_new(&cache->first, &cache->options, cache->count, &answer);
+        if (bad) *bad = answer.detail;
+    }
+    if (refused) {
+        texc_free(cache);
+        return refused;
+    }
+    *out = cache;
+    return TEXCACHE_OK;
+}
+
+TEXCACHE_API int texcache_open(texcache **out, const char *folder, const texcache_options *options)
+{
+    return texcache_open_saying(out, folder, options, NULL);
+}
+
+/* Closes a cache whose passes have all ended, and sets the pointer to NULL. */
+TEXCACHE_API int texcache_close(texcache **cache)
+{
+    if (!cache || !*cache) return TEXCACHE_CLOSED;
+    pthread_mutex_lock(&(*cache)->lock);
+    unsigned left = (*cache)->passes;
+    pthread_mutex_unlock(&(*cache)->lock);
+    if (left) return TEXCACHE_PASSES_LEFT;
+    texc_free(*cache);
+    *cache = NULL;
+    return TEXCACHE_OK;
+}
+
+/* A pass, for one thread at a time. Each thread that looks up textures has its own. */
+TEXCACHE_API int texcache_perthread(texcache *cache, texcache_pass **out)
+{
+    int refused = TEXCACHE_OK;
+    if (!cache || !out) return TEXCACHE_CLOSED;
+    *out = NULL;
+    pthread_mutex_lock(&cache->lock);
+    texcache_pass *pass = cache->ended;
+    if (pass) {
+        cache->ended = pass->next;
+    } else if (!(pass = (texcache_pass *)calloc(1, sizeof *pass))) {
+        refused = TEXCACHE_NO_MEMORY;
+    } else if ((refused = (int)tex_c_split(cache->first, &cache->first, &pass->held))) {
+        free(pass);
+    }
+    if (!refused) {
+        pass->cache = cache;
+        pass->next = NULL;
+        cache->passes++;
+        *out = pass;
+    }
+    pthread_mutex_unlock(&cache->lock);
+    return refused;
+}
+
+/* A pass ends, and the pointer becomes NULL. Its tiles are released; the next pass goes on with it. */
+TEXCACHE_API int texcache_end(texcache_pass **end)
+{
+    int refused = texc_enter(end ? *end : NULL);
+    if (refused) return refused;
+    texcache_pass *pass = *end;
+    texcache *cache = pass->cache;
+    uint32_t code = TEXCACHE_OK;
+    for (unsigned anew = 0; code != TEXCACHE_NOTHING_HELD;) {
+        code = tex_c_release_tile(pass->held, &pass->held, 0);
+        if (code == TEXCACHE_BUSY && !texc_goes_on(pass, code, NULL, &anew)) break;
+    }
+    *end = NULL;
+    texc_leave(pass);
+    pthread_mutex_lock(&cache->lock);
+    pass->next = cache->ended;
+    cache->ended = pass;
+    cache->passes--;
+    pthread_mutex_unlock(&cache->lock);
+    return TEXCACHE_OK;
+}
+
+/* ---- files */
+
+/* How many files the folder had, and the name of one of them. */
+TEXCACHE_API uint32_t texcache_file_count(const texcache *cache)
+{
+    return cache ? cache->count : 0;
+}
+
+TEXCACHE_API const char *texcache_file_name(const texcache *cache, uint32_t file)
+{
+    return cache && file < cache->count ? cache->files[file].name : NULL;
+}
+
+/* The number of the file of this name. */
+TEXCACHE_API int texcache_find(const texcache *cache, const char *name, uint32_t *file)
+{
+    if (!cache || !name || !file) return TEXCACHE_CLOSED;
+    uint32_t low = 0, high = cache->count;
+    while (low < high) {
+        uint32_t middle = low + (high - low) / 2;
+        int order = strcmp(cache->files[middle].name, name);
+        if (!order) {
+            *file = middle;
+            return TEXCACHE_OK;
+        }
+        if (order < 0) low = middle + 1;
+        else high = middle;
+    }
+    return TEXCACHE_NO_NAME;
+}
+
+/* What a file is. The answer may be NULL, here and below. */
+TEXCACHE_API int texcache_get_info(texcache_pass *pass, uint32_t file, texcache_info *info, texcache_answer *answer)
+{
+    if (!info) return TEXCACHE_CLOSED;
+    TEXC_CALL(pass, answer, tex_c_info(pass->held, &pass->held, file, info, texc_said));
+}
+
+/* ---- lookups */
+
+/* A lookup at a place: periodic, bilinear. */
+TEXCACHE_API texcache_lookup texcache_lookup_at(int32_t s, int32_t t, uint32_t lod, uint32_t channels)
+{
+    texcache_lookup r = {s, t, lod, TEXCACHE_PERIODIC, TEXCACHE_PERIODIC, TEXCACHE_BILINEAR, channels, 0, 0, 0, 0};
+    return r;
+}
+
+/* The 16-bit values of a lookup at S, T and LOD. */
+TEXCACHE_API int texcache_texture(texcache_pass *pass, uint32_t file, const texcache_lookup *r, uint16_t *out,
+                                  size_t room, texcache_answer *answer)
+{
+    if (!r || !out) return TEXCACHE_CLOSED;
+    TEXC_CALL(pass, answer, tex_c_texture(pass->held, &pass->held, file, r, out, room, texc_said));
+}
+
+/* The same along the longer axis of a pixel's footprint, by its derivatives. */
+TEXCACHE_API int texcache_texture_d(texcache_pass *pass, uint32_t file, const texcache_lookup *r, uint16_t *out,
+                                    size_t room, texcache_answer *answer)
+{
+    if (!r || !out) return TEXCACHE_CLOSED;
+    TEXC_CALL(pass, answer, tex_c_texture_d(pass->held, &pass->held, file, r, out, room, texc_said));
+}
+
+/* The same at S, T and LOD where the pass's two latest tiles have all that is needed, at once and without
+ * reading; else TEXCACHE_NOT_LOCAL. */
+TEXCACHE_API int texcache_texture_local(texcache_pass *pass, uint32_t file, const texcache_lookup *r, uint16_t *out,
+                                        size_t room, texcache_answer *answer)
+{
+    if (!r || !out) return TEXCACHE_CLOSED;
+    TEXC_CALL(pass, answer, tex_c_texture_local(pass->held, &pass->held, file, r, out, room, texc_said));
+}
+
+/* floor(65536 * value + 0.5), where it is in a range. */
+static inline int texc_fixed(double value, double least, double most, int32_t *out)
+{
+    double found = floor(value * 65536.0 + 0.5);
+    if (!(found >= least && found <= most)) return 0;
+    *out = (int32_t)found;
+    return 1;
+}
+
+/* A lookup with floats: coordinates and derivatives in parts of the image, rounded to 1/65536, a half up.
+ * The LOD is 65536 times the logarithm to base 2 of how many texels of level 0 the longer side of a pixel
+ * has. The wraps, the filter and the channels are those of `like`; with `along` it is a lookup along the
+ * footprint, which takes no filter. */
+TEXCACHE_API int texcache_round(texcache_lookup *r, const texcache_lookup *like, const texcache_info *info, double s,
+                                double t, double dsdx, double dtdx, double dsdy, double dtdy, bool along)
+{
+    const double end = 1073741824.0, edge = 2147483648.0;
+    *r = *like;
+    if (along) {
+        return texc_fixed(s, -end, end - 1, &r->s) && texc_fixed(t, -end, end - 1, &r->t)
+            && texc_fixed(dsdx, -end, end - 1, &r->dsdx) && texc_fixed(dtdx, -end, end - 1, &r->dtdx)
+            && texc_fixed(dsdy, -end, end - 1, &r->dsdy) && texc_fixed(dtdy, -end, end - 1, &r->dtdy)
+            ? TEXCACHE_OK : TEXCACHE_BAD_REQUEST;
+    }
+    if (!texc_fixed(s, -edge, edge - 1, &r->s) || !texc_fixed(t, -edge, edge - 1, &r->t)) return TEXCACHE_BAD_REQUEST;
+    double right = hypot(dsdx * info->width, dtdx * info->height);
+    double below = hypot(dsdy * info->width, dtdy * info->height);
+    double longest = right > below ? right : below;
+    double lod = longest > 1 ? floor(65536.0 * log2(longest) + 0.5) : 0;
+    r->lod = lod >= 4294967295.0 ? UINT32_MAX : lod >= 0 ? (uint32_t)lod : 0;
+    return TEXCACHE_OK;
+}
+
+/* The values of such a lookup, as parts of 1. */
+TEXCACHE_API int texcache_texture_f(texcache_pass *pass, uint32_t file, const texcache_lookup *like, float s, float t,
+                                    float dsdx, float dtdx, float dsdy, float dtdy, bool along, float *out,
+                                    size_t room, texcache_answer *answer)
+{
+    texcache_lookup r;
+    texcache_info info;
+    uint16_t values[8];
+    memset(&info, 0, sizeof info);
+    if (!like || !out) return TEXCACHE_CLOSED;
+    if (room < like->channels) return TEXCACHE_SMALL_BUFFER;
+    bool has_derivatives = dsdx != 0 || dtdx != 0 || dsdy != 0 || dtdy != 0;
+    int refused = along || !has_derivatives ? TEXCACHE_OK : texcache_get_info(pass, file, &info, answer);
+    if (!refused) refused = texcache_round(&r, like, &info, s, t, dsdx, dtdx, dsdy, dtdy, along);
+    if (!refused) refused = along ? texcache_texture_d(pass, file, &r, values, 8, answer)
+                                  : texcache_texture(pass, file, &r, values, 8, answer);
+    if (!refused)
+        for (uint32_t c = 0; c < like->channels; c++) out[c] = (float)values[c] / 65535.0f;
+    return refused;
+}
+
+/* The 16-bit values of a region, row by row, channels side by side. The answer has the channels, and how
+ * many values there are; where the room is too small for them it is TEXCACHE_SMALL_BUFFER. */
+TEXCACHE_API int texcache_get_pixels(texcache_pass *pass, uint32_t file, const texcache_region *region, uint16_t *out,
+                                     size_t room, texcache_answer *answer)
+{
+    uint16_t none = 0;
+    if (!region) return TEXCACHE_CLOSED;
+    if (!out) {
+        out = &none;
+        room = 0;
+    }
+    TEXC_CALL(pass, answer, tex_c_pixels(pass->held, &pass->held, file, region, out, room, texc_said));
+}
+
+/* ---- tiles that are held */
+
+/* The cell that holds a texel of a level becomes the pass's latest hold; it holds four at most, the
+ * oldest at place 0. A tile that is held stays as it is, whatever becomes of the file. */
+TEXCACHE_API int texcache_get_tile(texcache_pass *pass, uint32_t file, uint32_t level, uint32_t x, uint32_t y,
+                                   texcache_answer *answer)
+{
+    TEXC_CALL(pass, answer, tex_c_get_tile(pass->held, &pass->held, file, level, x, y, texc_said));
+}
+
+/* The rectangle of the tile that is held at a place. */
+TEXCACHE_API int texcache_tile_at(texcache_pass *pass, size_t place, texcache_tile *tile)
+{
+    texcache_answer *none = NULL;
+    if (!tile) return TEXCACHE_CLOSED;
+    TEXC_CALL(pass, none, tex_c_tile(pass->held, &pass->held, place, tile));
+}
+
+/* Its samples, in the depth of the file (an 8-bit sample counts as 257 times itself), row by row. */
+TEXCACHE_API int texcache_tile_texels(texcache_pass *pass, size_t place, uint16_t *out, size_t room)
+{
+    texcache_tile tile;
+    int refused = texcache_tile_at(pass, place, &tile);
+    if (refused) return refused;
+    size_t row = (size_t)tile.w * tile.channels;
+    if (!out || room / (row ? row : 1) < tile.h) return TEXCACHE_SMALL_BUFFER;
+    if ((refused = texc_enter(pass))) return refused;
+    for (uint32_t y = 0; y < tile.h && !refused; y++)
+        refused = (int)tex_c_tile_row(pass->held, &pass->held, place, y, out + y * row, row);
+    texc_leave(pass);
+    return refused;
+}
+
+/* The hold at a place is released, and the later ones close up. */
+TEXCACHE_API int texcache_release_tile(texcache_pass *pass, size_t place)
+{
+    texcache_answer *none = NULL;
+    TEXC_CALL(pass, none, tex_c_release_tile(pass->held, &pass->held, place));
+}
+
+/* ---- files that are made invalid */
+
+/* The file is looked at again; where it was replaced, what is kept of older versions goes. With force it
+ * goes in any case. The answer has the newest generation. */
+TEXCACHE_API int texcache_invalidate(texcache_pass *pass, uint32_t file, bool force, texcache_answer *answer)
+{
+    TEXC_CALL(pass, answer, tex_c_invalidate(pass->held, &pass->held, file, force, texc_said));
+}
+
+/* The same without force for each file that was looked at, in the order of their numbers. It ends at the
+ * first that is refused. */
+TEXCACHE_API int texcache_invalidate_all(texcache_pass *pass)
+{
+    if (!pass) return TEXCACHE_CLOSED;
+    for (uint32_t n = 0; n < pass->cache->count; n++) {
+        texc_file *file = &pass->cache->files[n];
+        pthread_mutex_lock(&file->lock);
+        uint32_t generation = file->generation;
+        pthread_mutex_unlock(&file->lock);
+        int refused = generation ? texcache_invalidate(pass, n, false, NULL) : TEXCACHE_OK;
+        if (refused) return refused;
+    }
+    return TEXCACHE_OK;
+}
+
+/* ---- counts */
+
+/* What the pass has counted, and what was looked at, opened and read by all passes. */
+TEXCACHE_API int texcache_stats(texcache_pass *pass, texcache_statistics *out)
+{
+    int refused = out ? texc_enter(pass) : TEXCACHE_CLOSED;
+    if (refused) return refused;
+    tex_c_counts(pass->held, &pass->held, &out->pass);
+    out->looks = __atomic_load_n(&pass->cache->looks, __ATOMIC_RELAXED);
+    out->opens = __atomic_load_n(&pass->cache->opens, __ATOMIC_RELAXED);
+    out->reads = __atomic_load_n(&pass->cache->reads, __ATOMIC_RELAXED);
+    out->bytes = __atomic_load_n(&pass->cache->bytes, __ATOMIC_RELAXED);
+    texc_leave(pass);
+    return TEXCACHE_OK;
+}
+
+/* What a shard of the cache has. */
+TEXCACHE_API int texcache_shard_stats(texcache_pass *pass, uint32_t shard, texcache_shard *out)
+{
+    texcache_answer *none = NULL;
+    if (!out) return TEXCACHE_CLOSED;
+    TEXC_CALL(pass, none, tex_c_shard(pass->held, &pass->held, shard, out));
+}
+
+#ifdef __cplusplus
+}
+#endif
+#endif

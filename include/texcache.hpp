@@ -1,0 +1,192 @@
+// texcache.hpp: textures of a folder of TIFF files, for programs in C++17. Header only, over texcache.h.
+//
+//     texcache_cpp::Cache cache("textures");
+//     texcache_cpp::Pass pass(cache);                    // one for each thread
+//     std::vector<std::uint16_t> wall = pass.texture(cache.find("wall.tif"), texcache_lookup_at(32768, 32768, 0, 3));
+//
+// A refusal is thrown as a Refused, which has its number, its text and what belongs to it. A pass ends before
+// its cache does. What a caller must see to is in texcache.h.
+#ifndef TEXCACHE_HPP
+#define TEXCACHE_HPP
+
+#include "texcache.h"
+
+#include <cstdint>
+#include <stdexcept>
+#include <string>
+#include <utility>
+#include <vector>
+
+namespace texcache_cpp {
+
+// A refused call.
+class Refused : public std::runtime_error {
+public:
+    explicit Refused(int status, const texcache_answer &answer = texcache_answer())
+        : std::runtime_error(texcache_error_string(status)), status(status), answer(answer) {}
+
+    int status;              // enum texcache_status
+    texcache_answer answer;  // the generation, the fault and what else belongs to it
+};
+
+inline void check(int status, const texcache_answer &answer = texcache_answer())
+{
+    if (status != TEXCACHE_OK) throw Refused(status, answer);
+}
+
+// A cache of the plain files of a folder.
+class Cache {
+public:
+    explicit Cache(const std::string &folder, const texcache_options &options = texcache_default_options())
+    {
+        texcache_answer answer = texcache_answer();
+        int status = texcache_open_saying(&cache_, folder.c_str(), &options, &answer.detail);
+        check(status, answer);
+    }
+
+    Cache(Cache &&other) noexcept : cache_(std::exchange(other.cache_, nullptr)) {}
+    Cache(const Cache &) = delete;
+    Cache &operator=(const Cache &) = delete;
+    Cache &operator=(Cache &&) = delete;
+    ~Cache() { texcache_close(&cache_); }
+
+    // The number of the file of this name.
+    std::uint32_t find(const std::string &name) const
+    {
+        std::uint32_t file = 0;
+        check(texcache_find(cache_, name.c_str(), &file));
+        return file;
+    }
+
+    std::uint32_t file_count() const { return texcache_file_count(cache_); }
+    texcache *get() const { return cache_; }
+
+private:
+    texcache *cache_ = nullptr;
+};
+
+// The values of a region, and what they are of.
+struct Pixels {
+    std::vector<std::uint16_t> values;
+    std::uint32_t channels = 0, generation = 0;
+};
+
+// What one thread has of a cache.
+class Pass {
+public:
+    explicit Pass(const Cache &cache) { check(texcache_perthread(cache.get(), &pass_)); }
+
+    Pass(Pass &&other) noexcept : pass_(std::exchange(other.pass_, nullptr)) {}
+    Pass(const Pass &) = delete;
+    Pass &operator=(const Pass &) = delete;
+    Pass &operator=(Pass &&) = delete;
+    ~Pass() { texcache_end(&pass_); }
+
+    texcache_info info(std::uint32_t file, texcache_answer *said = nullptr)
+    {
+        texcache_info info = texcache_info();
+        called([&](texcache_answer *answer) { return texcache_get_info(pass_, file, &info, answer); }, said);
+        return info;
+    }
+
+    // The values of a lookup at S, T and LOD, and along a footprint.
+    std::vector<std::uint16_t> texture(std::uint32_t file, const texcache_lookup &r, texcache_answer *said = nullptr)
+    {
+        std::vector<std::uint16_t> out(r.channels);
+        called([&](texcache_answer *answer) {
+            return texcache_texture(pass_, file, &r, out.data(), out.size(), answer); }, said);
+        return out;
+    }
+
+    std::vector<std::uint16_t> texture_d(std::uint32_t file, const texcache_lookup &r, texcache_answer *said = nullptr)
+    {
+        std::vector<std::uint16_t> out(r.channels);
+        called([&](texcache_answer *answer) {
+            return texcache_texture_d(pass_, file, &r, out.data(), out.size(), answer); }, said);
+        return out;
+    }
+
+    // Whether the two latest tiles of the pass had all that the lookup at S, T and LOD needs.
+    bool texture_local(std::uint32_t file, const texcache_lookup &r, std::vector<std::uint16_t> &out)
+    {
+        out.resize(r.channels);
+        int status = texcache_texture_local(pass_, file, &r, out.data(), out.size(), nullptr);
+        if (status == TEXCACHE_NOT_LOCAL) return false;
+        check(status);
+        return true;
+    }
+
+    Pixels pixels(std::uint32_t file, const texcache_region &region)
+    {
+        Pixels pixels;
+        texcache_answer answer;
+        int status;
+        std::uint64_t texels = std::uint64_t(region.w) * region.h;
+        if (texels <= 1048576) pixels.values.resize(texels * info(file).channels);
+        do {
+            status = texcache_get_pixels(pass_, file, &region, pixels.values.data(), pixels.values.size(), &answer);
+            // where the file was replaced it may have other channels
+            if (status == TEXCACHE_OK || status == TEXCACHE_SMALL_BUFFER) pixels.values.resize(answer.value);
+        } while (status == TEXCACHE_SMALL_BUFFER);
+        check(status, answer);
+        pixels.channels = answer.channels;
+        pixels.generation = answer.generation;
+        return pixels;
+    }
+
+    std::uint32_t invalidate(std::uint32_t file, bool force = false)
+    {
+        texcache_answer answer;
+        called([&](texcache_answer *a) { return texcache_invalidate(pass_, file, force, a); }, &answer);
+        return answer.generation;
+    }
+
+    void invalidate_all() { check(texcache_invalidate_all(pass_)); }
+
+    // The cell that holds a texel is held behind the others, until its place is released.
+    std::uint32_t get_tile(std::uint32_t file, std::uint32_t level, std::uint32_t x, std::uint32_t y)
+    {
+        texcache_answer answer;
+        called([&](texcache_answer *a) { return texcache_get_tile(pass_, file, level, x, y, a); }, &answer);
+        return answer.generation;
+    }
+
+    texcache_tile tile_at(std::size_t place)
+    {
+        texcache_tile tile;
+        check(texcache_tile_at(pass_, place, &tile));
+        return tile;
+    }
+
+    std::vector<std::uint16_t> tile_texels(std::size_t place)
+    {
+        texcache_tile tile = tile_at(place);
+        std::vector<std::uint16_t> out(std::size_t(tile.w) * tile.h * tile.channels);
+        check(texcache_tile_texels(pass_, place, out.data(), out.size()));
+        return out;
+    }
+
+    void release_tile(std::size_t place) { check(texcache_release_tile(pass_, place)); }
+
+    texcache_statistics stats()
+    {
+        texcache_statistics stats = texcache_statistics();
+        check(texcache_stats(pass_, &stats));
+        return stats;
+    }
+
+    texcache_pass *get() const { return pass_; }
+
+private:
+    template <class Call> static void called(Call call, texcache_answer *said)
+    {
+        texcache_answer own, *answer = said ? said : &own;
+        int status = call(answer);
+        check(status, *answer);
+    }
+
+    texcache_pass *pass_ = nullptr;
+};
+
+}  // namespace texcache_cpp
+#endif

@@ -1,0 +1,278 @@
+"""Textures of a folder of TIFF files, over include/texcache.h and the proved library tex_c.
+
+    import texcache
+    with texcache.Cache("textures") as cache, cache.perthread() as textures:
+        wall = cache.find("wall.tif")
+        print(textures.info(wall).width)
+        print(textures.texture(wall, 32768, 32768, channels=3))
+
+The shared object is libtexcache.so beside this file, or what TEXCACHE_LIBRARY names (docs/EMBEDDING.md). Each
+thread has a pass of its own. A refusal is a Refused, with its number, its text and what belongs to it. Values are
+lists of whole numbers, 0 to 65535; regions and tiles are numpy arrays where numpy is there.
+"""
+import ctypes
+import os
+from ctypes import POINTER, byref, c_bool, c_char_p, c_int, c_int32, c_size_t, c_uint16, c_uint32, c_uint64, c_void_p
+from pathlib import Path
+
+try:
+    import numpy
+except ImportError:
+    numpy = None
+
+BLACK, CLAMP, PERIODIC, MIRROR = range(4)
+CLOSEST, BILINEAR, TRILINEAR = range(3)
+OK, SMALL_BUFFER, NOT_LOCAL = 0, 5, 7
+
+
+class _Struct(ctypes.Structure):
+    def __repr__(self):
+        return f"{type(self).__name__}({', '.join(f'{n}={getattr(self, n)}' for n, _ in self._fields_)})"
+
+
+class Options(_Struct):
+    """What a cache is made with: texcache_options."""
+    _fields_ = [("budget", c_uint64), ("shards", c_uint32), ("passes", c_uint32), ("handles", c_uint32),
+                ("autotile", c_uint32), ("automip", c_bool)]
+
+
+class Answer(_Struct):
+    """What belongs to an answer or a refusal: texcache_answer."""
+    _fields_ = [("generation", c_uint32), ("newer", c_uint32), ("detail", c_uint32), ("part", c_uint32),
+                ("value", c_uint64), ("channels", c_uint32), ("need", c_uint32), ("need_file", c_uint32),
+                ("need_generation", c_uint32), ("need_at", c_uint64), ("need_least", c_uint64),
+                ("need_most", c_uint64)]
+
+
+class Lookup(_Struct):
+    """A lookup: texcache_lookup."""
+    _fields_ = [("s", c_int32), ("t", c_int32), ("lod", c_uint32), ("swrap", c_uint32), ("twrap", c_uint32),
+                ("filter", c_uint32), ("channels", c_uint32), ("dsdx", c_int32), ("dtdx", c_int32),
+                ("dsdy", c_int32), ("dtdy", c_int32)]
+
+
+class Info(_Struct):
+    """What a file is: texcache_info."""
+    _fields_ = [(n, c_uint32) for n in ("width", "height", "channels", "depth", "stored", "levels")]
+
+
+class Region(_Struct):
+    """A region of a level: texcache_region."""
+    _fields_ = [("level", c_uint32), ("x", c_int32), ("y", c_int32), ("w", c_uint32), ("h", c_uint32)]
+
+
+class Tile(_Struct):
+    """The rectangle of a tile that is held: texcache_tile."""
+    _fields_ = [(n, c_uint32) for n in ("x", "y", "w", "h", "channels")]
+
+
+class Counts(_Struct):
+    _fields_ = [("needs", c_uint64), ("hits", c_uint64), ("holds", c_uint64), ("shards", c_uint32)]
+
+
+class Statistics(_Struct):
+    """What a pass has counted, and what all have read: texcache_statistics."""
+    _fields_ = [("own", Counts), ("looks", c_uint64), ("opens", c_uint64), ("reads", c_uint64), ("bytes", c_uint64)]
+
+
+class Shard(_Struct):
+    """What a shard has: texcache_shard."""
+    _fields_ = [("tiles", c_uint32), ("pins", c_uint32), ("loose", c_uint64), ("share", c_uint64)]
+
+
+def _declared(library):
+    values, answer = POINTER(c_uint16), POINTER(Answer)
+    lookup = [c_void_p, c_uint32, POINTER(Lookup), values, c_size_t, answer]
+    calls = {
+        "open_saying": [POINTER(c_void_p), c_char_p, POINTER(Options), POINTER(c_uint32)],
+        "close": [POINTER(c_void_p)], "perthread": [c_void_p, POINTER(c_void_p)], "end": [POINTER(c_void_p)],
+        "find": [c_void_p, c_char_p, POINTER(c_uint32)],
+        "get_info": [c_void_p, c_uint32, POINTER(Info), answer],
+        "texture": lookup, "texture_d": lookup, "texture_local": lookup,
+        "get_pixels": [c_void_p, c_uint32, POINTER(Region), values, c_size_t, answer],
+        "get_tile": [c_void_p, c_uint32, c_uint32, c_uint32, c_uint32, answer],
+        "tile_at": [c_void_p, c_size_t, POINTER(Tile)], "tile_texels": [c_void_p, c_size_t, values, c_size_t],
+        "release_tile": [c_void_p, c_size_t], "invalidate": [c_void_p, c_uint32, c_bool, answer],
+        "invalidate_all": [c_void_p], "stats": [c_void_p, POINTER(Statistics)],
+        "shard_stats": [c_void_p, c_uint32, POINTER(Shard)],
+    }
+    for name, given in calls.items():
+        call = getattr(library, "texcache_" + name)
+        call.argtypes, call.restype = given, c_int
+    library.texcache_error_string.argtypes = [c_int]
+    library.texcache_error_string.restype = c_char_p
+    library.texcache_default_options.argtypes = []
+    library.texcache_default_options.restype = Options
+    library.texcache_file_count.argtypes = [c_void_p]
+    library.texcache_file_count.restype = c_uint32
+    library.texcache_file_name.argtypes = [c_void_p, c_uint32]
+    library.texcache_file_name.restype = c_char_p
+    return library
+
+
+_lib = _declared(ctypes.CDLL(os.environ.get("TEXCACHE_LIBRARY", str(Path(__file__).with_name("libtexcache.so")))))
+
+
+class Refused(Exception):
+    """A refused call: its number, and what belongs to it."""
+
+    def __init__(self, status, answer=None):
+        super().__init__(_lib.texcache_error_string(status).decode())
+        self.status, self.answer = status, answer or Answer()
+
+
+def _check(status, answer=None):
+    if status != OK:
+        raise Refused(status, answer)
+
+
+def _shaped(values, *sides):
+    return numpy.ctypeslib.as_array(values).reshape(sides) if numpy else list(values)
+
+
+class Cache:
+    """A cache of the plain files of a folder. Options: budget, shards, passes, handles, autotile, automip."""
+
+    def __init__(self, folder, **options):
+        self._at, made, bad = c_void_p(), _lib.texcache_default_options(), Answer()
+        for name, value in options.items():
+            setattr(made, name, value)
+        detail = c_uint32()
+        status = _lib.texcache_open_saying(byref(self._at), os.fsencode(folder), byref(made), byref(detail))
+        bad.detail = detail.value
+        _check(status, bad)
+
+    def close(self):
+        """Closes the cache, once all its passes have ended."""
+        if self._at:
+            _check(_lib.texcache_close(byref(self._at)))
+
+    def __enter__(self):
+        return self
+
+    def __exit__(self, *_):
+        self.close()
+
+    def find(self, name):
+        """The number of the file of this name."""
+        file = c_uint32()
+        _check(_lib.texcache_find(self._at, os.fsencode(name), byref(file)))
+        return file.value
+
+    def names(self):
+        """The names of the files, in the order of their numbers."""
+        return [os.fsdecode(_lib.texcache_file_name(self._at, n)) for n in range(_lib.texcache_file_count(self._at))]
+
+    def perthread(self):
+        """A pass, for one thread at a time."""
+        return Pass(self)
+
+
+class Pass:
+    """What one thread has of a cache."""
+
+    def __init__(self, cache):
+        self._cache, self._at = cache, c_void_p()
+        _check(_lib.texcache_perthread(cache._at, byref(self._at)))
+
+    def end(self):
+        """The pass ends; its tiles are released."""
+        if self._at:
+            _check(_lib.texcache_end(byref(self._at)))
+
+    def __enter__(self):
+        return self
+
+    def __exit__(self, *_):
+        self.end()
+
+    def _called(self, call, *words):
+        self.answer = Answer()
+        _check(call(self._at, *words, byref(self.answer)), self.answer)
+
+    def info(self, file):
+        """What a file is."""
+        info = Info()
+        self._called(_lib.texcache_get_info, file, byref(info))
+        return info
+
+    def _looked_up(self, call, file, lookup):
+        values = (c_uint16 * max(1, min(lookup.channels, 8)))()
+        self._called(call, file, byref(lookup), values, len(values))
+        return list(values)
+
+    def texture(self, file, s, t, lod=0, swrap=PERIODIC, twrap=PERIODIC, filter=BILINEAR, channels=3):
+        """The values at S, T and LOD, in 1/65536."""
+        return self._looked_up(_lib.texcache_texture, file, Lookup(s, t, lod, swrap, twrap, filter, channels))
+
+    def texture_d(self, file, s, t, dsdx, dtdx, dsdy, dtdy, swrap=PERIODIC, twrap=PERIODIC, channels=3):
+        """The values along the footprint of these derivatives, in 1/65536."""
+        return self._looked_up(_lib.texcache_texture_d, file,
+                               Lookup(s, t, 0, swrap, twrap, 0, channels, dsdx, dtdx, dsdy, dtdy))
+
+    def texture_local(self, file, s, t, lod=0, swrap=PERIODIC, twrap=PERIODIC, filter=BILINEAR, channels=3):
+        """The values at S, T and LOD where the two latest tiles have all that is needed, and else None."""
+        try:
+            return self._looked_up(_lib.texcache_texture_local, file,
+                                   Lookup(s, t, lod, swrap, twrap, filter, channels))
+        except Refused as refused:
+            if refused.status == NOT_LOCAL:
+                return None
+            raise
+
+    def pixels(self, file, level, x, y, w, h):
+        """The values of a region: rows, columns, channels."""
+        region, answer = Region(level, x, y, w, h), Answer()
+        room = w * h * self.info(file).channels if w * h <= 1048576 else 0
+        while True:
+            values = (c_uint16 * room)()
+            status = _lib.texcache_get_pixels(self._at, file, byref(region), values, room, byref(answer))
+            if status != SMALL_BUFFER and (status != OK or answer.value == room):
+                break
+            room = answer.value  # the file was replaced, and has other channels
+        self.answer = answer
+        _check(status, answer)
+        return _shaped(values, h, w, answer.channels)
+
+    def get_tile(self, file, level, x, y):
+        """The cell that holds a texel is held, behind the others."""
+        self._called(_lib.texcache_get_tile, file, level, x, y)
+        return self.answer.generation
+
+    def tile_at(self, place):
+        """The rectangle of the tile that is held at a place."""
+        tile = Tile()
+        _check(_lib.texcache_tile_at(self._at, place, byref(tile)))
+        return tile
+
+    def tile_texels(self, place):
+        """Its samples: rows, columns, channels."""
+        tile = self.tile_at(place)
+        values = (c_uint16 * (tile.w * tile.h * tile.channels))()
+        _check(_lib.texcache_tile_texels(self._at, place, values, len(values)))
+        return _shaped(values, tile.h, tile.w, tile.channels)
+
+    def release_tile(self, place):
+        """The hold at a place is released."""
+        _check(_lib.texcache_release_tile(self._at, place))
+
+    def invalidate(self, file, force=False):
+        """The file is looked at again; its newest generation."""
+        self._called(_lib.texcache_invalidate, file, force)
+        return self.answer.generation
+
+    def invalidate_all(self):
+        """The same for each file that was looked at."""
+        _check(_lib.texcache_invalidate_all(self._at))
+
+    def stats(self):
+        """What the pass has counted, and what all have read."""
+        found = Statistics()
+        _check(_lib.texcache_stats(self._at, byref(found)))
+        return found
+
+    def shard_stats(self, shard):
+        """What a shard has."""
+        found = Shard()
+        _check(_lib.texcache_shard_stats(self._at, shard, byref(found)))
+        return found

@@ -1,0 +1,314 @@
+/* Bad use and bad input, each with its refusal: bad_use FOLDER, an empty folder that it may write to.
+ * The library alone is driven by hand first, and then texcache.h. */
+#include "texcache.h"
+#include <stdio.h>
+
+static int failures;
+
+#define SAYS(call, wanted)                                                                                          \
+    do {                                                                                                            \
+        int said = (int)(call);                                                                                     \
+        if (said != (wanted)) {                                                                                     \
+            printf("line %d: %s is '%s', wanted '%s'\n", __LINE__, #call, texcache_error_string(said),               \
+                   texcache_error_string(wanted));                                                                  \
+            failures++;                                                                                             \
+        }                                                                                                           \
+    } while (0)
+
+#define IS(holds)                                                         \
+    do {                                                                  \
+        if (!(holds)) {                                                   \
+            printf("line %d: not so: %s\n", __LINE__, #holds);            \
+            failures++;                                                   \
+        }                                                                 \
+    } while (0)
+
+/* A grey picture of 8 by 8 samples of 8 bits with one value, in one strip: 8 entries, 8 + 2 + 96 + 4 + 64 bytes. */
+static size_t picture(uint8_t *to, uint8_t value)
+{
+    static const uint16_t entries[8][3] = {{256, 3, 8},  {257, 3, 8},   {258, 3, 8}, {259, 3, 1},
+                                           {262, 3, 1},  {273, 4, 110}, {278, 3, 8}, {279, 4, 64}};
+    memset(to, 0, 174);
+    memcpy(to, "II*\0\10\0\0\0\10", 9);
+    for (int i = 0; i < 8; i++) {
+        uint8_t *at = to + 10 + 12 * i;
+        at[0] = entries[i][0] & 255, at[1] = entries[i][0] >> 8, at[2] = (uint8_t)entries[i][1], at[4] = 1;
+        at[8] = entries[i][2] & 255, at[9] = entries[i][2] >> 8;
+    }
+    memset(to + 110, value, 64);
+    return 174;
+}
+
+static void write_file(const char *folder, const char *name, const uint8_t *bytes, size_t count)
+{
+    char path[4096];
+    snprintf(path, sizeof path, "%s/%s", folder, name);
+    FILE *to = fopen(path, "wb");
+    if (!to || fwrite(bytes, 1, count, to) != count || fclose(to)) exit(2);
+}
+
+/* The library by hand: each wrong supply is refused and changes nothing, and the right one goes on. */
+static void by_hand(void)
+{
+    uint8_t bytes[200], other[200];
+    size_t size = picture(bytes, 7);
+    texcache_options o = texcache_default_options();
+    texcache_held held = {NULL}, second = {NULL};
+    texcache_answer a;
+    texcache_info info;
+    texcache_lookup r = texcache_lookup_at(32768, 32768, 0, 1);
+    uint16_t out[8];
+    picture(other, 9);
+    memset(&a, 0, sizeof a);
+    o.passes = 1;
+    SAYS(tex_c_new(&held, &o, 4097, &a), TEXCACHE_BAD_REQUEST);
+    SAYS(tex_c_new(&held, &o, 3, &a), TEXCACHE_OK);
+    SAYS(tex_c_split(held, &held, &second), TEXCACHE_NO_PERMIT);
+    SAYS(tex_c_info(held, &held, 3, &info, &a), TEXCACHE_NO_FILE);
+    SAYS(tex_c_supply_look(held, &held, 1, 1, 174), TEXCACHE_NOT_NEEDED);
+    SAYS(tex_c_supply_bytes(held, &held, 1, 1, 0, bytes, size), TEXCACHE_NOT_NEEDED);
+    SAYS(tex_c_supply_fault(held, &held), TEXCACHE_NOT_NEEDED);
+    /* a look is lacking */
+    SAYS(tex_c_texture(held, &held, 1, &r, out, 8, &a), TEXCACHE_NEEDED);
+    IS(a.need == 1 && a.need_file == 1 && a.need_generation == 0);
+    SAYS(tex_c_supply_bytes(held, &held, 1, 1, 0, bytes, size), TEXCACHE_NOT_NEEDED);
+    SAYS(tex_c_supply_look(held, &held, 2, 1, size), TEXCACHE_OTHER_PLACE);
+    SAYS(tex_c_supply_look(held, &held, 1, 0, size), TEXCACHE_OTHER_GENERATION);
+    SAYS(tex_c_supply_look(held, &held, 1, 1048576, size), TEXCACHE_OTHER_GENERATION);
+    SAYS(tex_c_supply_look(held, &held, 1, 5, size), TEXCACHE_OK);
+    /* bytes of generation 5 are lacking */
+    SAYS(tex_c_texture(held, &held, 1, &r, out, 8, &a), TEXCACHE_NEEDED);
+    IS(a.need == 2 && a.need_file == 1 && a.need_generation == 5 && a.need_at == 0 && a.need_most == size);
+    SAYS(tex_c_supply_bytes(held, &held, 2, 5, 0, bytes, size), TEXCACHE_OTHER_PLACE);
+    SAYS(tex_c_supply_bytes(held, &held, 1, 5, 1, bytes + 1, size - 1), TEXCACHE_OTHER_PLACE);
+    SAYS(tex_c_supply_bytes(held, &held, 1, 4, 0, other, size), TEXCACHE_OLDER);
+    SAYS(tex_c_supply_bytes(held, &held, 1, 6, 0, other, size), TEXCACHE_OTHER_GENERATION);
+    SAYS(tex_c_supply_bytes(held, &held, 1, 5, 0, bytes, (size_t)a.need_least - 1), TEXCACHE_SHORT);
+    SAYS(tex_c_supply_bytes(held, &held, 1, 5, 0, bytes, size + 1), TEXCACHE_LONG);
+    SAYS(tex_c_supply_look(held, &held, 1, 5, size), TEXCACHE_OLDER);
+    SAYS(tex_c_supply_look(held, &held, 1, 4, size), TEXCACHE_OLDER);
+    SAYS(tex_c_supply_bytes(held, &held, 1, 5, 0, bytes, size), TEXCACHE_OK);
+    SAYS(tex_c_texture(held, &held, 1, &r, out, 8, &a), TEXCACHE_OK);
+    IS(a.generation == 5 && out[0] == 7 * 257);
+    /* it is replaced while it is read again: the newer look is met, and the bytes of generation 5 are gone */
+    SAYS(tex_c_invalidate(held, &held, 1, true, &a), TEXCACHE_NEEDED);
+    IS(a.need == 1 && a.need_generation == 5);
+    SAYS(tex_c_supply_look(held, &held, 1, 4, size), TEXCACHE_OLDER);
+    SAYS(tex_c_supply_look(held, &held, 1, 5, size), TEXCACHE_OK);
+    SAYS(tex_c_invalidate(held, &held, 1, true, &a), TEXCACHE_OK);
+    IS(a.generation == 5);
+    SAYS(tex_c_texture(held, &held, 1, &r, out, 8, &a), TEXCACHE_NEEDED);
+    if (a.need == 1) {
+        SAYS(tex_c_supply_look(held, &held, 1, 5, size), TEXCACHE_OK);
+        SAYS(tex_c_texture(held, &held, 1, &r, out, 8, &a), TEXCACHE_NEEDED);
+    }
+    SAYS(tex_c_supply_look(held, &held, 1, 6, size), TEXCACHE_OK);
+    SAYS(tex_c_texture(held, &held, 1, &r, out, 8, &a), TEXCACHE_NEEDED);
+    IS(a.need == 2 && a.need_generation == 6);
+    SAYS(tex_c_supply_look(held, &held, 1, 6, size), TEXCACHE_OLDER);
+    SAYS(tex_c_supply_bytes(held, &held, 1, 5, a.need_at, bytes, size), TEXCACHE_OLDER);
+    SAYS(tex_c_supply_bytes(held, &held, 1, 6, a.need_at, other + a.need_at, size - (size_t)a.need_at), TEXCACHE_OK);
+    SAYS(tex_c_texture(held, &held, 1, &r, out, 8, &a), TEXCACHE_OK);
+    IS(a.generation == 6 && out[0] == 9 * 257);
+    /* what is known of it is of generation 7, and its texels are gone for those of generation 8 */
+    SAYS(tex_c_invalidate(held, &held, 1, false, &a), TEXCACHE_NEEDED);
+    SAYS(tex_c_supply_look(held, &held, 1, 7, size), TEXCACHE_OK);
+    SAYS(tex_c_invalidate(held, &held, 1, false, &a), TEXCACHE_OK);
+    IS(a.generation == 7);
+    while (tex_c_info(held, &held, 1, &info, &a) == TEXCACHE_NEEDED) {
+        if (a.need == 1) SAYS(tex_c_supply_look(held, &held, 1, 7, size), TEXCACHE_OK);
+        else SAYS(tex_c_supply_bytes(held, &held, 1, 7, a.need_at, other + a.need_at, size - (size_t)a.need_at), TEXCACHE_OK);
+    }
+    IS(a.generation == 7 && info.width == 8 && info.levels == 4);
+    SAYS(tex_c_texture(held, &held, 1, &r, out, 8, &a), TEXCACHE_NEEDED);
+    IS(a.need == 1 && a.need_generation == 7);
+    SAYS(tex_c_supply_look(held, &held, 1, 8, size), TEXCACHE_OK);
+    SAYS(tex_c_texture(held, &held, 1, &r, out, 8, &a), TEXCACHE_AGAIN);
+    IS(a.generation == 7 && a.newer == 8);
+    SAYS(tex_c_texture(held, &held, 1, &r, out, 8, &a), TEXCACHE_NEEDED);
+    IS(a.need == 1 && a.need_generation == 8);
+    SAYS(tex_c_supply_look(held, &held, 1, 7, size), TEXCACHE_OLDER);
+    SAYS(tex_c_supply_fault(held, &held), TEXCACHE_OK);
+    SAYS(tex_c_texture(held, &held, 1, &r, out, 8, &a), TEXCACHE_READ_FAULT);
+    /* what cannot be had is a read fault, and the next call asks anew */
+    SAYS(tex_c_texture(held, &held, 2, &r, out, 8, &a), TEXCACHE_NEEDED);
+    SAYS(tex_c_supply_fault(held, &held), TEXCACHE_OK);
+    SAYS(tex_c_texture(held, &held, 2, &r, out, 8, &a), TEXCACHE_READ_FAULT);
+    SAYS(tex_c_texture(held, &held, 2, &r, out, 8, &a), TEXCACHE_NEEDED);
+    tex_c_free(held);
+}
+
+static void options_out_of_range(const char *folder)
+{
+    texcache *cache = NULL;
+    uint32_t bad = 0;
+    texcache_options o[5];
+    for (int i = 0; i < 5; i++) o[i] = texcache_default_options();
+    o[0].budget = UINT64_C(4294967297);
+    o[1].shards = 65;
+    o[2].passes = 17;
+    o[3].handles = 0;
+    o[4].autotile = 65;
+    for (uint32_t i = 0; i < 5; i++) {
+        SAYS(texcache_open_saying(&cache, folder, &o[i], &bad), TEXCACHE_BAD_OPTIONS);
+        IS(bad == i + 1 && !cache);
+    }
+    SAYS(texcache_open(&cache, "no such folder", NULL), TEXCACHE_NO_FOLDER);
+    SAYS(texcache_open(NULL, folder, NULL), TEXCACHE_CLOSED);
+}
+
+static void over_a_folder(const char *folder)
+{
+    texcache *cache;
+    texcache_pass *pass, *more[16];
+    texcache_answer a;
+    texcache_info info;
+    texcache_tile tile;
+    texcache_region region = {0, -1, 0, 3, 2};
+    texcache_lookup r = texcache_lookup_at(32768, 32768, 0, 1), bad = r;
+    texcache_options o = texcache_default_options();
+    uint32_t grey, cut, gone, pipe, link, late;
+    uint8_t bytes[200];
+    uint16_t out[600];
+    float parts[8];
+    char path[4096];
+    size_t size = picture(bytes, 7);
+    write_file(folder, "grey.tif", bytes, size);
+    write_file(folder, "cut.tif", bytes, size - 1);
+    write_file(folder, "gone.tif", bytes, size);
+    write_file(folder, "pipe.tif", bytes, size);
+    write_file(folder, "link.tif", bytes, size);
+    write_file(folder, "late.tif", bytes, size);
+    o.passes = 3;
+    SAYS(texcache_open(&cache, folder, &o), TEXCACHE_OK);
+    IS(texcache_file_count(cache) == 6 && !strcmp(texcache_file_name(cache, 2), "grey.tif"));
+    SAYS(texcache_find(cache, "grey.tif", &grey), TEXCACHE_OK);
+    SAYS(texcache_find(cache, "cut.tif", &cut), TEXCACHE_OK);
+    SAYS(texcache_find(cache, "gone.tif", &gone), TEXCACHE_OK);
+    SAYS(texcache_find(cache, "pipe.tif", &pipe), TEXCACHE_OK);
+    SAYS(texcache_find(cache, "link.tif", &link), TEXCACHE_OK);
+    SAYS(texcache_find(cache, "late.tif", &late), TEXCACHE_OK);
+    SAYS(texcache_find(cache, "moon.tif", &gone), TEXCACHE_NO_NAME);
+    SAYS(texcache_find(NULL, "moon.tif", &gone), TEXCACHE_CLOSED);
+    SAYS(texcache_perthread(cache, &pass), TEXCACHE_OK);
+    SAYS(texcache_perthread(cache, &more[0]), TEXCACHE_OK);
+    SAYS(texcache_perthread(cache, &more[1]), TEXCACHE_NO_PERMIT);
+    IS(!more[1]);
+    SAYS(texcache_close(&cache), TEXCACHE_PASSES_LEFT);
+    /* a call in a pass that runs another, and in none */
+    pass->in_use = 1;
+    SAYS(texcache_texture(pass, grey, &r, out, 8, &a), TEXCACHE_IN_USE);
+    SAYS(texcache_end(&pass), TEXCACHE_IN_USE);
+    pass->in_use = 0;
+    SAYS(texcache_texture(NULL, grey, &r, out, 8, &a), TEXCACHE_CLOSED);
+    /* numbers out of range, and buffers that are too small */
+    SAYS(texcache_texture(pass, 6, &r, out, 8, &a), TEXCACHE_NO_FILE);
+    SAYS(texcache_get_info(pass, UINT32_MAX, &info, &a), TEXCACHE_NO_FILE);
+    bad.channels = 9;
+    SAYS(texcache_texture(pass, grey, &bad, out, 8, &a), TEXCACHE_BAD_REQUEST);
+    bad.channels = 0;
+    SAYS(texcache_texture_d(pass, grey, &bad, out, 8, &a), TEXCACHE_BAD_REQUEST);
+    bad = r, bad.swrap = 4;
+    SAYS(texcache_texture(pass, grey, &bad, out, 8, &a), TEXCACHE_BAD_REQUEST);
+    bad = r, bad.filter = 3;
+    SAYS(texcache_texture_local(pass, grey, &bad, out, 8, &a), TEXCACHE_BAD_REQUEST);
+    bad = r, bad.dsdx = 1 << 30;
+    SAYS(texcache_texture_d(pass, grey, &bad, out, 8, &a), TEXCACHE_BAD_REQUEST);
+    bad = r, bad.channels = 3;
+    SAYS(texcache_texture(pass, grey, &bad, out, 2, &a), TEXCACHE_SMALL_BUFFER);
+    SAYS(texcache_texture_f(pass, grey, &r, 1e30f, 0, 0, 0, 0, 0, false, parts, 8, &a), TEXCACHE_BAD_REQUEST);
+    SAYS(texcache_get_pixels(pass, grey, &region, out, 5, &a), TEXCACHE_SMALL_BUFFER);
+    IS(a.value == 6);
+    SAYS(texcache_get_pixels(pass, grey, &region, out, 6, &a), TEXCACHE_OK);
+    IS(a.value == 6 && a.channels == 1 && a.generation == 1 && out[0] == 0 && out[1] == 1799 && out[5] == 1799);
+    region.w = 2048, region.h = 1024;
+    SAYS(texcache_get_pixels(pass, grey, &region, out, 6, &a), TEXCACHE_REGION_TOO_LARGE);
+    region.w = 1, region.h = 1, region.level = 9;
+    SAYS(texcache_get_pixels(pass, grey, &region, out, 6, &a), TEXCACHE_NO_LEVEL);
+    IS(a.detail == 4);
+    /* lookups, and the microcache alone */
+    SAYS(texcache_texture_f(pass, grey, &r, 0.5f, 0.5f, 0.25f, 0, 0, 0.25f, true, parts, 8, &a), TEXCACHE_OK);
+    IS(parts[0] == 1799 / 65535.0f);
+    SAYS(texcache_texture_local(more[0], grey, &r, out, 8, &a), TEXCACHE_NOT_LOCAL);
+    SAYS(texcache_texture(more[0], grey, &r, out, 8, &a), TEXCACHE_OK);
+    SAYS(texcache_texture_local(more[0], grey, &r, out, 8, &a), TEXCACHE_OK);
+    /* a file that shows a fault, one that is gone, a pipe and a link in its place */
+    SAYS(texcache_get_info(pass, cut, &info, &a), TEXCACHE_BAD_FILE);
+    IS(a.detail == 12 && a.part == 0 && a.value == 0);
+    SAYS(texcache_find(cache, "gone.tif", &gone), TEXCACHE_OK);
+    snprintf(path, sizeof path, "%s/gone.tif", folder);
+    unlink(path);
+    SAYS(texcache_get_info(pass, gone, &info, &a), TEXCACHE_READ_FAULT);
+    snprintf(path, sizeof path, "%s/pipe.tif", folder);
+    unlink(path);
+    mkfifo(path, 0600);
+    SAYS(texcache_get_info(pass, pipe, &info, &a), TEXCACHE_READ_FAULT);
+    unlink(path);
+    snprintf(path, sizeof path, "%s/link.tif", folder);
+    unlink(path);
+    if (symlink("grey.tif", path)) exit(2);
+    SAYS(texcache_get_info(pass, link, &info, &a), TEXCACHE_READ_FAULT);
+    unlink(path);
+    /* one that vanishes once it was looked at and before it is read: what is kept of it is answered on */
+    SAYS(texcache_get_info(pass, late, &info, &a), TEXCACHE_OK);
+    snprintf(path, sizeof path, "%s/late.tif", folder);
+    unlink(path);
+    SAYS(texcache_get_info(pass, late, &info, &a), TEXCACHE_OK);
+    SAYS(texcache_texture(pass, late, &r, out, 8, &a), TEXCACHE_READ_FAULT);
+    SAYS(texcache_invalidate(pass, late, false, &a), TEXCACHE_READ_FAULT);
+    write_file(folder, "late.tif", bytes, size);
+    SAYS(texcache_texture(pass, late, &r, out, 8, &a), TEXCACHE_OK);
+    IS(out[0] == 1799);
+    /* holds */
+    SAYS(texcache_release_tile(pass, 0), TEXCACHE_NOTHING_HELD);
+    SAYS(texcache_tile_at(pass, 0, &tile), TEXCACHE_NOTHING_HELD);
+    SAYS(texcache_get_tile(pass, grey, 0, 8, 0, &a), TEXCACHE_OUTSIDE);
+    for (int i = 0; i < 4; i++) SAYS(texcache_get_tile(pass, grey, 0, 7, 7, &a), TEXCACHE_OK);
+    SAYS(texcache_get_tile(pass, grey, 0, 7, 7, &a), TEXCACHE_HOLDS_FULL);
+    SAYS(texcache_tile_at(pass, 3, &tile), TEXCACHE_OK);
+    IS(tile.x == 0 && tile.y == 0 && tile.w == 8 && tile.h == 8 && tile.channels == 1);
+    SAYS(texcache_tile_texels(pass, 3, out, 63), TEXCACHE_SMALL_BUFFER);
+    SAYS(texcache_tile_texels(pass, 3, out, 64), TEXCACHE_OK);
+    IS(out[0] == 7 && out[63] == 7);
+    SAYS(texcache_release_tile(pass, 4), TEXCACHE_NOTHING_HELD);
+    SAYS(texcache_release_tile(pass, 0), TEXCACHE_OK);
+    SAYS(texcache_tile_at(pass, 3, &tile), TEXCACHE_NOTHING_HELD);
+    /* a file that is replaced is met once it is looked at */
+    size = picture(bytes, 9);
+    usleep(20000);
+    write_file(folder, "grey.tif", bytes, size);
+    SAYS(texcache_texture(pass, grey, &r, out, 8, &a), TEXCACHE_OK);
+    IS(out[0] == 1799 && a.generation == 1);
+    SAYS(texcache_invalidate_all(pass), TEXCACHE_OK);
+    SAYS(texcache_texture(pass, grey, &r, out, 8, &a), TEXCACHE_OK);
+    IS(out[0] == 9 * 257 && a.generation == 2);
+    SAYS(texcache_tile_texels(pass, 0, out, 64), TEXCACHE_OK);
+    IS(out[0] == 7);
+    /* counts */
+    texcache_statistics stats;
+    texcache_shard shard;
+    SAYS(texcache_stats(pass, &stats), TEXCACHE_OK);
+    IS(stats.pass.holds == 3 && stats.pass.needs >= stats.pass.hits && stats.opens > 0 && stats.reads > 0);
+    SAYS(texcache_shard_stats(pass, stats.pass.shards, &shard), TEXCACHE_NO_PART);
+    SAYS(texcache_shard_stats(pass, 0, &shard), TEXCACHE_OK);
+    IS(shard.share == o.budget / 16 && shard.loose <= shard.share);
+    /* ends */
+    SAYS(texcache_end(&pass), TEXCACHE_OK);
+    SAYS(texcache_end(&pass), TEXCACHE_CLOSED);
+    SAYS(texcache_perthread(cache, &pass), TEXCACHE_OK);
+    SAYS(texcache_tile_at(pass, 0, &tile), TEXCACHE_NOTHING_HELD);
+    SAYS(texcache_end(&pass), TEXCACHE_OK);
+    SAYS(texcache_end(&more[0]), TEXCACHE_OK);
+    SAYS(texcache_close(&cache), TEXCACHE_OK);
+    SAYS(texcache_close(&cache), TEXCACHE_CLOSED);
+}
+
+int main(int count, char **words)
+{
+    if (count != 2) return 2;
+    by_hand();
+    options_out_of_range(words[1]);
+    over_a_folder(words[1]);
+    printf("%d failed\n", failures);
+    return failures != 0;
+}

@@ -1,0 +1,103 @@
+/* Files that are replaced while they are read never mix within an answer: replaced FOLDER THREADS MILLISECONDS,
+ * where FOLDER is empty. Each file has one value in all its texels, and each version another; a version is put in
+ * the place of the one before by a rename. */
+#include "texcache.h"
+#include <stdio.h>
+#include <time.h>
+
+enum { FILES = 4, SIDE = 200 };
+
+static texcache *cache;
+static const char *folder;
+static int ends, mixed, older, answers, newest;
+
+/* A grey picture of 8 bits in strips of one row, with one value. */
+static void put(int file, int value)
+{
+    static const int tags[8][3] = {{256, 3, SIDE}, {257, 3, SIDE}, {258, 3, 8}, {259, 3, 1}, {262, 3, 1},
+                                   {273, 4, 110},  {278, 3, SIDE}, {279, 4, SIDE * SIDE}};
+    static uint8_t bytes[110 + SIDE * SIDE];
+    char name[4096], part[4096];
+    memset(bytes, 0, 110);
+    memcpy(bytes, "II*\0\10\0\0\0\10", 9);
+    for (int i = 0; i < 8; i++) {
+        uint8_t *at = bytes + 10 + 12 * i;
+        at[0] = tags[i][0] & 255, at[1] = (uint8_t)(tags[i][0] >> 8), at[2] = (uint8_t)tags[i][1], at[4] = 1;
+        for (int k = 0; k < 4; k++) at[8 + k] = (uint8_t)(tags[i][2] >> 8 * k);
+    }
+    memset(bytes + 110, value, SIDE * SIDE);
+    snprintf(name, sizeof name, "%s/f%d.tif", folder, file);
+    snprintf(part, sizeof part, "%s/part", folder);
+    FILE *to = fopen(part, "wb");
+    if (!to || fwrite(bytes, 1, sizeof bytes, to) != sizeof bytes || fclose(to) || rename(part, name)) exit(2);
+}
+
+static void *reads(void *given)
+{
+    unsigned random = 12345 + (unsigned)(uintptr_t)given;
+    uint32_t seen[FILES] = {0};
+    texcache_pass *pass;
+    texcache_answer a;
+    uint16_t *out = malloc(SIDE * SIDE * sizeof *out);
+    if (texcache_perthread(cache, &pass)) exit(2);
+    while (!__atomic_load_n(&ends, __ATOMIC_RELAXED)) {
+        random = random * 1664525u + 1013904223u;
+        uint32_t file = (random >> 24) % FILES;
+        size_t count;
+        int status;
+        if (random >> 16 & 3) {
+            texcache_region all = {0, 0, 0, SIDE, SIDE};
+            status = texcache_get_pixels(pass, file, &all, out, SIDE * SIDE, &a);
+            count = SIDE * SIDE;
+        } else {
+            texcache_lookup r = texcache_lookup_at((int32_t)(random & 65535), 777, random & 262143, 1);
+            r.filter = TEXCACHE_TRILINEAR;
+            status = texcache_texture(pass, file, &r, out, 8, &a);
+            count = 1;
+        }
+        if (status == TEXCACHE_AGAIN || status == TEXCACHE_READ_FAULT) continue;
+        if (status) {
+            fprintf(stderr, "replaced: %s\n", texcache_error_string(status));
+            exit(2);
+        }
+        for (size_t i = 1; i < count; i++)
+            if (out[i] != out[0]) {
+                __atomic_fetch_add(&mixed, 1, __ATOMIC_RELAXED);
+                break;
+            }
+        if (a.generation < seen[file]) __atomic_fetch_add(&older, 1, __ATOMIC_RELAXED);
+        seen[file] = a.generation;
+        __atomic_fetch_add(&answers, 1, __ATOMIC_RELAXED);
+        if (!(random & 15)) texcache_invalidate(pass, file, false, NULL);
+    }
+    for (int i = 0; i < FILES; i++)
+        if ((int)seen[i] > __atomic_load_n(&newest, __ATOMIC_RELAXED)) __atomic_store_n(&newest, (int)seen[i], __ATOMIC_RELAXED);
+    free(out);
+    texcache_end(&pass);
+    return NULL;
+}
+
+int main(int count, char **words)
+{
+    if (count != 4) return 2;
+    folder = words[1];
+    int threads = atoi(words[2]), milliseconds = atoi(words[3]);
+    texcache_options o = texcache_default_options();
+    o.budget = 200000;
+    o.handles = 2;
+    for (int i = 0; i < FILES; i++) put(i, i);
+    if (texcache_open(&cache, folder, &o)) return 2;
+    pthread_t *ids = malloc(threads * sizeof *ids);
+    for (int i = 0; i < threads; i++) pthread_create(&ids[i], NULL, reads, (void *)(uintptr_t)i);
+    struct timespec pause = {0, 5000000};
+    for (int i = 0; 5 * i < milliseconds; i++) {
+        put(i % FILES, i % 251);
+        nanosleep(&pause, NULL);
+    }
+    __atomic_store_n(&ends, 1, __ATOMIC_RELAXED);
+    for (int i = 0; i < threads; i++) pthread_join(ids[i], NULL);
+    free(ids);
+    texcache_close(&cache);
+    printf("answers %d mixed %d older %d newest %d\n", answers, mixed, older, newest);
+    return mixed || older || !answers;
+}
