@@ -4,6 +4,7 @@
     python3 tools/check_embedding.py                 # over crates/tex_c/out/libtex_c.a
     python3 tools/check_embedding.py --program crates/texcache/out/texcache    # and the counts of that program
     python3 tools/check_embedding.py --library L.a   # over another library
+    python3 tools/check_embedding.py --if-built      # as behind the gate, which proves the library and does not keep it
 
 Each line of the demo's list and of the stored run of texcache, by 1 and by 8 threads, is that of expected.txt and of
 the run's stdout, but for requests of textures in tiles, which are no matter of the library. With --program the
@@ -81,11 +82,15 @@ def main():
     asked = argparse.ArgumentParser(description=__doc__, formatter_class=argparse.RawDescriptionHelpFormatter)
     asked.add_argument("--library", type=Path, default=TOP / "crates" / "tex_c" / "out" / "libtex_c.a")
     asked.add_argument("--program", type=Path)
+    asked.add_argument("--if-built", action="store_true", help="where the library is not built, nothing is tested")
     words = asked.parse_args()
     compilers = [it for it in (os.environ.get("CC", "cc"), "gcc", "clang") if shutil.which(it)]
     doc = shutil.which("rt") and ran(["rt", "doc"])[1].strip()
     if not compilers or not doc:
         print("no C compiler, or no toolchain: nothing is tested\n0 passed, 0 failed")
+        return 0
+    if words.if_built and not words.library.is_file():
+        print(f"no {words.library}: ./build tex_c makes it, and nothing is tested\n0 passed, 0 failed")
         return 0
     if not words.library.is_file():
         print(f"no {words.library}: it is proved and built", flush=True)
