@@ -179,7 +179,11 @@ fn begin<F: Folder>(
     ensures pass { ArePassesOf cache.now posts.new }
 {
     carry_all(cache, posts)?;
-    deal(folder, requests, tasks)?;
-    make_room(posts, requests.len())?;
+    let Ok(()) = deal(folder, requests, tasks) else {
+        return Err(NoMemory);
+    };
+    let Ok(()) = make_room(posts, requests.len()) else {
+        return Err(NoMemory);
+    };
     Ok(())
 }

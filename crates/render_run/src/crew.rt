@@ -189,7 +189,9 @@ fn add<F: Folder>(
     ensures made { OnOk result (MakesMore 1 (F.state folder.old) (F.state folder.new)) }
     ensures none { OnErr result (MakesMore 0 (F.state folder.old) (F.state folder.new)) }
 {
-    posts.reserve(1)?;
+    let Ok(()) = posts.reserve(1) else {
+        return Err(NoMemory);
+    };
     let tap = folder.tap(alloc)?;
     let answers = Vec::new(alloc);
     let worker = Worker { pass, tap };
