@@ -74,6 +74,18 @@ pub(crate) const NO_BYTES: Options = Options {
     },
 };
 
+/// One shard, in which no tile stays without a pin, since none is of one byte.
+pub(crate) const ONE_BYTE: Options = Options {
+    budget: 1,
+    shards: 1,
+    passes: 2,
+    handles: 4,
+    cut: Cut {
+        autotile: 64,
+        automip: false,
+    },
+};
+
 fn rise(tap: u32, file: u32, at: u64) -> Rise {
     Rise {
         tap,

@@ -1,8 +1,8 @@
 //! The record of a file, and fetches by it: what its microcache has, and where calls of the tap fail
 //! and the file changes.
-use crate::asks::Answer::{Again, Nothing, Of, Other, ReadFault, There};
-use crate::asks::Ask::{Fetch, FetchLocal, HasLocal, Keep, Local, Open};
-use crate::planned::{CHANGED, CHANGING, FAILING, FAULTY, ONE_SHARD, PLAIN, steps_met};
+use crate::asks::Answer::{Again, Nothing, Of, Other, ReadFault, Shard, There};
+use crate::asks::Ask::{Count, Fetch, FetchLocal, HasLocal, Hold, Keep, Local, Open};
+use crate::planned::{CHANGED, CHANGING, FAILING, FAULTY, ONE_BYTE, ONE_SHARD, PLAIN, steps_met};
 use crate::small_files::{A, B};
 use crate::steps::{CALLS, QUIET, Step};
 use std::test::Fail;
@@ -284,5 +284,88 @@ fn fetches_by_a_record(rt: HostRuntime) -> Result<(), Fail> {
         let met = steps_met(rt.alloc(), ONE_SHARD, steps)?;
         assert_eq!(rt; met, steps.len(), "{shows}");
     }
+    Ok(())
+}
+
+// Fetches in the four cells of `B` and then in the first again, which the microcache has no more. A
+// comment names the cells of the microcache then, the latest first. The tiles take 12288, 3072, 6144
+// and 1536 bytes.
+static FIVE_CELLS: &[Step] = &[
+    (PLAIN, Open(B), Of(1), &[], [0, 0, 1, 0], CALLS),
+    (PLAIN, Fetch((0, 0), 1), There, &[0], [1, 0, 0, 0], CALLS), // 0
+    (PLAIN, Fetch((64, 0), 1), There, &[64], [2, 0, 0, 0], CALLS), // 1 0
+    (
+        PLAIN,
+        Fetch((0, 32), 1),
+        There,
+        &[3200],
+        [3, 0, 0, 0],
+        CALLS,
+    ), // 2 1
+    (
+        PLAIN,
+        Fetch((64, 32), 1),
+        There,
+        &[3264],
+        [4, 0, 0, 0],
+        CALLS,
+    ), // 3 2
+    // no hit, and no call
+    (
+        PLAIN,
+        Fetch((63, 31), 1),
+        There,
+        &[3163],
+        [5, 0, 0, 0],
+        QUIET,
+    ), // 0 3
+    (
+        PLAIN,
+        Count(0),
+        Shard([4, 2, 9216, 268435456]),
+        &[],
+        [5, 0, 0, 0],
+        QUIET,
+    ),
+];
+
+#[test]
+fn fetches_a_cell_of_the_shards_by_no_call(rt: HostRuntime) -> Result<(), Fail> {
+    let met = steps_met(rt.alloc(), ONE_SHARD, FIVE_CELLS)?;
+    assert_eq!(rt; met, FIVE_CELLS.len());
+    Ok(())
+}
+
+// The first cell of `B` is held. It stays in a shard in which no tile has room, and the second does
+// not.
+static HELD_CELL: &[Step] = &[
+    (PLAIN, Hold(B, (0, 0, 0)), Of(1), &[], [0, 0, 1, 1], CALLS),
+    (PLAIN, Open(B), Of(1), &[], [0, 0, 1, 1], QUIET),
+    (PLAIN, Fetch((64, 0), 1), There, &[64], [1, 0, 0, 1], CALLS), // 1
+    (
+        PLAIN,
+        Fetch((0, 32), 1),
+        There,
+        &[3200],
+        [2, 0, 0, 1],
+        CALLS,
+    ), // 2 1
+    // no hit, and no call
+    (PLAIN, Fetch((5, 4), 1), There, &[405], [3, 0, 0, 1], QUIET), // 0 2
+    (PLAIN, Fetch((64, 0), 1), There, &[64], [4, 0, 0, 1], CALLS), // 1 0
+    (
+        PLAIN,
+        Count(0),
+        Shard([2, 3, 0, 1]),
+        &[],
+        [4, 0, 0, 1],
+        QUIET,
+    ),
+];
+
+#[test]
+fn fetches_a_held_cell_by_no_call(rt: HostRuntime) -> Result<(), Fail> {
+    let met = steps_met(rt.alloc(), ONE_BYTE, HELD_CELL)?;
+    assert_eq!(rt; met, HELD_CELL.len());
     Ok(())
 }
