@@ -1,6 +1,7 @@
-//! Four threads that pin, keep, unpin and purge the tiles of one gate.
+//! Four threads that pin, keep, unpin, purge and count the tiles of one gate.
 ghost use Rattle.std.specs.Prelude.{◌≡◌, ◌≤◌, length, IfOk, OnOk};
 ghost use Rattle.std.specs.Thread.{IsSync};
+ghost use Rattle.shard_gate.specs.Gate.{SamePins};
 ghost use Rattle.sharing_tests.specs.Held.{IsIdleAt, HoldsAt};
 
 use crate::gate_calls::{CUT, OneGate, OnePin, OneSeat, Stop, counts, find, keep, unpin};
@@ -14,8 +15,12 @@ use std::thread::Threads;
 use tile_layout::TileKey;
 use waiter::{Forever, Waiter};
 
-// What each thread does, so often.
-const ROUNDS: u64 = 3000;
+// The rounds of each thread, and the shards of the gate.
+#[derive(Clone, Copy)]
+struct Work {
+    rounds: u64,
+    shards: u32,
+}
 
 // The keys of 24 tiles that all threads use, over two files and three generations.
 const SHARED: u32 = 24;
@@ -55,7 +60,33 @@ fn pinned<T: Waiter>(
     }
 }
 
-// A purge, or a pin that is given back.
+// A purge or a look at each shard, now and then.
+fn look_over<T: Waiter>(
+    gate: &OneGate,
+    waiter: &T,
+    seat: &mut OneSeat,
+    shards: u32,
+    number: u32,
+) -> Result<(), Stop>
+    requires idle { IsIdleAt gate.now.id seat.old }
+    requires shards { shards ≡ length gate.now.id }
+    ensures { OnOk result (IsIdleAt gate.now.id seat.new) }
+{
+    let key = one_key(number % SHARED);
+    match number / SHARED % 16 {
+        0 => match gate.purge(waiter, seat, key.file(), key.generation()) {
+            Ok(()) => Ok(()),
+            Err(_) => Err(Stop::Busy),
+        },
+        1 => match counts(gate, waiter, seat, shards) {
+            Ok(_sums) => Ok(()),
+            Err(e) => Err(e),
+        },
+        _ => Ok(()),
+    }
+}
+
+// A pin that is given back: two calls or more.
 fn one_round<T: Waiter>(
     gate: &OneGate,
     waiter: &T,
@@ -66,14 +97,7 @@ fn one_round<T: Waiter>(
     requires { IsIdleAt gate.now.id seat.old }
     ensures { OnOk result (IsIdleAt gate.now.id seat.new) }
 {
-    let key = one_key(number % SHARED);
-    if number / SHARED % 16 == 0 {
-        return match gate.purge(waiter, seat, key.file(), key.generation()) {
-            Ok(()) => Ok(()),
-            Err(_) => Err(Stop::Busy),
-        };
-    }
-    let pin = pinned(gate, waiter, alloc, seat, key)?;
+    let pin = pinned(gate, waiter, alloc, seat, one_key(number % SHARED))?;
     unpin(gate, waiter, seat, pin)
 }
 
@@ -83,14 +107,18 @@ fn many_rounds<T: Waiter>(
     waiter: &T,
     alloc: Global,
     seat: &mut OneSeat,
+    work: Work,
     seed: u64,
 ) -> Result<(), Stop>
-    requires { IsIdleAt gate.now.id seat.old }
+    requires idle { IsIdleAt gate.now.id seat.old }
+    requires shards { work.shards ≡ length gate.now.id }
     ensures { OnOk result (IsIdleAt gate.now.id seat.new) }
 {
     let mut seed = seed;
-    for round in 0..ROUNDS {
-        one_round(gate, waiter, alloc, seat, next(&mut seed))?;
+    for round in 0..work.rounds {
+        let number = next(&mut seed);
+        look_over(gate, waiter, seat, work.shards, number)?;
+        one_round(gate, waiter, alloc, seat, number)?;
     }
     Ok(())
 }
@@ -108,13 +136,15 @@ fn rounds<R: Wait>(
     gate: &OneGate,
     alloc: Global,
     mut seat: OneSeat,
+    work: Work,
     thread: u32,
 ) -> Result<Held, Stop>
-    requires { IsIdleAt gate.now.id seat }
+    requires idle { IsIdleAt gate.now.id seat }
+    requires shards { work.shards ≡ length gate.now.id }
     ensures { IfOk result (λ held. HoldsAt gate.now.id held.pin.tile.key held.seat) }
 {
     let waiter = Forever::new(rt);
-    many_rounds(gate, &waiter, alloc, &mut seat, thread as u64)?;
+    many_rounds(gate, &waiter, alloc, &mut seat, work, thread as u64)?;
     let own = one_key(SHARED.saturating_add(thread));
     let pin = pinned(gate, &waiter, alloc, &mut seat, own)?;
     Ok(Held { seat, pin })
@@ -126,10 +156,12 @@ fn two_threads<R: Threads + Wait + Sync>(
     gate: &OneGate,
     alloc: Global,
     seats: (OneSeat, OneSeat),
+    work: Work,
     thread: u32,
 ) -> Result<(Held, Held), Stop>
     requires first { IsIdleAt gate.now.id seats.0 }
     requires second { IsIdleAt gate.now.id seats.1 }
+    requires shards { work.shards ≡ length gate.now.id }
     ensures first { IfOk result (λ held. HoldsAt gate.now.id held.0.pin.tile.key held.0.seat) }
     ensures second { IfOk result (λ held. HoldsAt gate.now.id held.1.pin.tile.key held.1.seat) }
 {
@@ -137,8 +169,8 @@ fn two_threads<R: Threads + Wait + Sync>(
     let thread_after = thread.saturating_add(1);
     let (a, b) = thread::join(
         rt,
-        move || rounds(rt, gate, alloc, first, thread),
-        move || rounds(rt, gate, alloc, second, thread_after),
+        move || rounds(rt, gate, alloc, first, work, thread),
+        move || rounds(rt, gate, alloc, second, work, thread_after),
     );
     Ok((a?, b?))
 }
@@ -198,12 +230,35 @@ fn found<T: Waiter>(gate: &OneGate, waiter: &T, seat: &mut OneSeat) -> Result<u6
     Ok(found)
 }
 
-// What the shards have while each thread holds a pin, and after that, how many keys then have a
-// tile, and the permits of the one seat that is left.
+// No shard has a pin, and none has more unpinned bytes than its share.
+fn is_settled<T: Waiter>(
+    gate: &OneGate,
+    waiter: &T,
+    seat: &mut OneSeat,
+    shards: u32,
+) -> Result<bool, Stop>
+    requires gate { seat.old.gate ≡ gate.now.id }
+    requires shards { shards ≡ length gate.now.id }
+    ensures { SamePins seat.old seat.new }
+{
+    for shard in 0..shards {
+        let Ok(count) = gate.count(waiter, seat, shard) else {
+            return Err(Stop::Busy);
+        };
+        if count.pins > 0 || count.loose > count.share {
+            return Ok(false);
+        }
+    }
+    Ok(true)
+}
+
+// What the shards have while each thread holds a pin, and after that, whether each shard is then
+// settled, how many keys then have a tile, and the permits of the one seat that is left.
 #[derive(Clone, Copy)]
 struct Left {
     held: [u64; 4],
     after: [u64; 4],
+    settled: bool,
     found: u64,
     permits: u32,
 }
@@ -231,10 +286,12 @@ fn left_by<T: Waiter>(
     let seat = taken_in(gate, waiter, seat, third)?;
     let mut seat = taken_in(gate, waiter, seat, fourth)?;
     let after = counts(gate, waiter, &mut seat, shards)?;
+    let settled = is_settled(gate, waiter, &mut seat, shards)?;
     let found = found(gate, waiter, &mut seat)?;
     Ok(Left {
         held,
         after,
+        settled,
         found,
         permits: seat.permits(),
     })
@@ -245,12 +302,12 @@ fn four_threads<R: Threads + Wait + Sync>(
     rt: &R,
     gate: &OneGate,
     alloc: Global,
-    shards: u32,
+    work: Work,
     mut seat: OneSeat,
 ) -> Result<Left, Stop>
     requires idle { IsIdleAt gate.now.id seat }
     requires permits { seat.permits ≡ 4 }
-    requires shards { shards ≡ length gate.now.id }
+    requires shards { work.shards ≡ length gate.now.id }
 {
     let Ok(second) = gate.split(&mut seat) else {
         return Err(Stop::NoMemory);
@@ -269,35 +326,37 @@ fn four_threads<R: Threads + Wait + Sync>(
             requires sync { IsSync R.row }
             requires first { IsIdleAt gate.now.id one_half.0 }
             requires second { IsIdleAt gate.now.id one_half.1 }
+            requires shards { work.shards ≡ length gate.now.id }
             ensures first { IfOk result (λ held.
                 HoldsAt gate.entry.now.id held.0.pin.tile.key held.0.seat) }
             ensures second { IfOk result (λ held.
                 HoldsAt gate.entry.now.id held.1.pin.tile.key held.1.seat) }
-        { two_threads(rt, gate, alloc, one_half, 0) },
+        { two_threads(rt, gate, alloc, one_half, work, 0) },
         move || -> Result<(Held, Held), Stop>
             requires sync { IsSync R.row }
             requires first { IsIdleAt gate.now.id other_half.0 }
             requires second { IsIdleAt gate.now.id other_half.1 }
+            requires shards { work.shards ≡ length gate.now.id }
             ensures first { IfOk result (λ held.
                 HoldsAt gate.entry.now.id held.0.pin.tile.key held.0.seat) }
             ensures second { IfOk result (λ held.
                 HoldsAt gate.entry.now.id held.1.pin.tile.key held.1.seat) }
-        { two_threads(rt, gate, alloc, other_half, 2) },
+        { two_threads(rt, gate, alloc, other_half, work, 2) },
     );
-    left_by(gate, &Forever::new(rt), shards, left?, right?)
+    left_by(gate, &Forever::new(rt), work.shards, left?, right?)
 }
 
 // What four threads leave of a new gate.
 fn left_in<R: Threads + Wait + Sync>(
     rt: &R,
     alloc: Global,
-    shards: u32,
+    work: Work,
     budget: u64,
 ) -> Result<Left, Stop>
-    requires { (1 ≤ shards) × (shards ≤ 64) × (budget ≤ 20000) }
+    requires { (1 ≤ work.shards) × (work.shards ≤ 64) × (budget ≤ 20000) }
 {
-    match OneGate::new(alloc, budget, shards, 4, CUT) {
-        Ok((gate, seat)) => four_threads(rt, &gate, alloc, shards, seat),
+    match OneGate::new(alloc, budget, work.shards, 4, CUT) {
+        Ok((gate, seat)) => four_threads(rt, &gate, alloc, work, seat),
         Err(_) => Err(Stop::NoMemory),
     }
 }
@@ -313,27 +372,49 @@ fn assert_left(rt: &impl Abort, left: Left, most: u64) {
         "bytes with the pins"
     );
     assert!(rt; pins == 0, "all pins given back");
+    assert!(rt; left.settled, "no shard has a pin or too much");
     assert!(rt; tiles.saturating_mul(TILE_BYTES) == loose, "bytes without");
     assert!(rt; tiles == left.found, "a tile is found by its key");
     assert!(rt; tiles <= most, "what fits the shares");
     assert!(rt; left.permits == 4, "one seat has all permits again");
 }
 
+// Each thread makes 3000 rounds, over so many shards.
+fn short(shards: u32) -> Work
+    ensures { result.shards ≡ shards }
+{
+    Work {
+        rounds: 3000,
+        shards,
+    }
+}
+
 // Of tiles of 1536 bytes four fit each share of 6666 bytes, and thirteen one of 20000.
 #[test]
 fn four_threads_leave_what_fits_three_shards(rt: HostRuntime) -> Result<(), Fail> {
-    assert_left(&rt, left_in(&rt, rt.alloc(), 3, 20000)?, 12);
+    assert_left(&rt, left_in(&rt, rt.alloc(), short(3), 20000)?, 12);
     Ok(())
 }
 
 #[test]
 fn four_threads_leave_what_fits_one_shard(rt: HostRuntime) -> Result<(), Fail> {
-    assert_left(&rt, left_in(&rt, rt.alloc(), 1, 20000)?, 13);
+    assert_left(&rt, left_in(&rt, rt.alloc(), short(1), 20000)?, 13);
     Ok(())
 }
 
 #[test]
 fn four_threads_leave_nothing_in_no_bytes(rt: HostRuntime) -> Result<(), Fail> {
-    assert_left(&rt, left_in(&rt, rt.alloc(), 1, 0)?, 0);
+    assert_left(&rt, left_in(&rt, rt.alloc(), short(1), 0)?, 0);
+    Ok(())
+}
+
+// Four threads of 62500 rounds, each of two calls or more.
+#[test]
+fn half_a_million_calls_leave_what_fits_two_shards(rt: HostRuntime) -> Result<(), Fail> {
+    let work = Work {
+        rounds: 62500,
+        shards: 2,
+    };
+    assert_left(&rt, left_in(&rt, rt.alloc(), work, 20000)?, 12);
     Ok(())
 }
