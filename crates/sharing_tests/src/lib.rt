@@ -31,6 +31,8 @@ mod script;
 #[cfg(test)]
 mod seat;
 #[cfg(test)]
+mod seven_pins;
+#[cfg(test)]
 mod shared_table;
 #[cfg(test)]
 mod slots;
