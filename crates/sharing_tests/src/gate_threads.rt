@@ -1,4 +1,4 @@
-//! Four threads that pin, keep, unpin and purge the tiles of one gate.
+//! Four threads that pin, keep, unpin, purge and count the tiles of one gate.
 ghost use Rattle.std.specs.Prelude.{◌≡◌, ◌≤◌, length, IfOk, OnOk};
 ghost use Rattle.std.specs.Thread.{IsSync};
 ghost use Rattle.shard_gate.specs.Gate.{SamePins};
@@ -408,11 +408,11 @@ fn four_threads_leave_nothing_in_no_bytes(rt: HostRuntime) -> Result<(), Fail> {
     Ok(())
 }
 
-// Four threads of 250000 rounds, each of two calls or more.
+// Four threads of 62500 rounds, each of two calls or more.
 #[test]
-fn two_million_calls_leave_what_fits_two_shards(rt: HostRuntime) -> Result<(), Fail> {
+fn half_a_million_calls_leave_what_fits_two_shards(rt: HostRuntime) -> Result<(), Fail> {
     let work = Work {
-        rounds: 250000,
+        rounds: 62500,
         shards: 2,
     };
     assert_left(&rt, left_in(&rt, rt.alloc(), work, 20000)?, 12);

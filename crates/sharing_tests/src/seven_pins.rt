@@ -2,7 +2,8 @@
 ghost use Rattle.std.specs.Prelude.{◌≡◌, ◌+◌, ◌*◌, ◌<◌, ◌≤◌, length, IfOk, OnOk};
 ghost use Rattle.std.specs.Option.{ForSome};
 ghost use Rattle.tex_world.specs.World.{IsFile};
-ghost use Rattle.tile_load.specs.Load.{IsLayoutOf};
+ghost use Rattle.tile_layout.specs.Cell.{CellsFit};
+ghost use Rattle.tile_load.specs.Load.{IsLayoutOf, NamesCell};
 ghost use Rattle.shard_gate.specs.Gate.{HasCellRect, SamePins, max_pins};
 ghost use Rattle.sharing_tests.specs.Held.{HasSameKeys};
 ghost use Rattle.sharing_tests.specs.declared.gate_calls.TheConstants.{CUT};
@@ -34,6 +35,29 @@ fn layout_of<T: Tap>(alloc: Global, tap: &mut T, handle: &mut T::Handle) -> Resu
     }
 }
 
+/// The tile of a cell.
+#[tactic(auto, using(crate::proofs::ToldCells::cell_told))]
+fn cell_of<T: Tap>(
+    alloc: Global,
+    tap: &mut T,
+    file: &mut OpenFile<T>,
+    layout: &Layout,
+    key: TileKey,
+) -> Result<Tile<T::W>, Fail>
+    requires cell { NamesCell (T.Handle.named file.old.handle) layout.now CUT key }
+    requires fits { CellsFit layout.now CUT }
+    requires layout { ForSome (T.W.files.held (T.Handle.named file.old.handle).file
+        (T.Handle.named file.old.handle).generation) (λ bytes. IsLayoutOf bytes layout.now) }
+    ensures { IfOk result (HasCellRect T.W.files CUT) }
+{
+    // each stored level is one of the levels
+    let _levels = layout.levels(CUT);
+    match load_at(alloc, tap, file, layout, key, CUT) {
+        Ok(tile) => Ok(tile),
+        Err(_) => Err("not loaded".into()),
+    }
+}
+
 /// The tile of the cell at a column of the first row of the first file.
 fn tile_at<T: Tap>(alloc: Global, tap: &mut T, x: u32) -> Result<Tile<T::W>, Fail>
     requires { IsFile T.W.files 0 }
@@ -52,10 +76,7 @@ fn tile_at<T: Tap>(alloc: Global, tap: &mut T, x: u32) -> Result<Tile<T::W>, Fai
     let ahead = ReadAhead::none(alloc, 0, generation);
     let mut open = OpenFile { handle, ahead };
     let key = TileKey::new(generation, 0, 0, layout.cell_at(0, CUT, x, 0));
-    match load_at(alloc, tap, &mut open, &layout, key, CUT) {
-        Ok(tile) => Ok(tile),
-        Err(_) => Err("not loaded".into()),
-    }
+    cell_of(alloc, tap, &mut open, &layout, key)
 }
 
 /// The tiles, the pins and the unpinned bytes of the one shard.
@@ -71,6 +92,7 @@ fn count_of<W: World>(gate: &Gate<W>, seat: &mut PinSeat<W>) -> Result<[u64; 3],
 }
 
 /// What the shard has while so many cells more are pinned. Each is then given back.
+#[tactic(auto, using(crate::proofs::SevenLemmas::room_for_one, crate::proofs::SevenLemmas::room_for_rest, crate::proofs::SevenLemmas::still_has, crate::proofs::SevenLemmas::given_back, crate::proofs::SevenLemmas::counted,))]
 fn count_with<T: Tap>(
     alloc: Global,
     gate: &Gate<T::W>,
