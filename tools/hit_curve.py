@@ -1,15 +1,17 @@
 #!/usr/bin/env python3
 """How much memory does a scene need? Runs a list under budgets from 256 MiB down to 1 MiB, each half the one before,
-and draws how often the files are read, and how long it takes, over the budget.
+tells how often the files are read, and how long it takes, and with --svg draws both over the budget.
 
     python3 tools/hit_curve.py FOLDER LIST [--most SIZE] [--least SIZE] [--svg FILE] [--program FILE] [WORDS]
 
 A SIZE is in MiB, or has K, M or G behind it. WORDS are further ones of texcache, as --workers 1. It prints a row for
 each budget: the reads, the MiB that were read, the seconds of a processor, and the greatest resident memory; down to
-where the rows begin to change, the scene fits. A run that takes longer than --seconds (20) ends the rows. Reads are
+where the rows begin to change, the scene fits, and the last line names that budget. The system counts the memory of
+the one who starts a program as the program's, so where it is not above that of this script, the row says `<`. A run
+that takes longer than --seconds (20) ends the rows. Reads are
 calls by which the program read, as the system counts them (/proc/PID/io), without those of a list as long that asks
 nothing of a file; so they are those of the files. What the program's own lines tell are the needs and the hits of the
-workers' two latest cells, which no budget changes: they stand in the last line.
+workers' two latest cells, which no budget changes: they stand below the rows.
 
 With --reads-only the picture has the reads alone, which with one worker are the same at each run, and with --check it
 is compared with the file and not written. The program is the proved one where there is one, and else the unproved one
@@ -17,12 +19,14 @@ of tools/unproved.py.
 """
 import argparse
 import os
+import resource
 import signal
 import subprocess
 import sys
 import tempfile
 import threading
 from collections import namedtuple
+from itertools import takewhile
 from pathlib import Path
 from xml.sax.saxutils import escape
 
@@ -32,6 +36,8 @@ from unproved import usual  # noqa: E402
 KIB, MIB, GIB = 2 ** 10, 2 ** 20, 2 ** 30
 INK, BLUE, AMBER = "#1f2430", "#3b6ea8", "#c98a1b"
 TAIL = 4096
+# by so many reads two runs of the same work may differ, and by one in a hundred
+NOISE = 2
 
 # A run under a budget: the calls that read, the bytes that they read, the seconds of a processor, the bytes of memory,
 # and the lines that close it.
@@ -109,9 +115,27 @@ def budgets(most, least):
     yield least
 
 
+def memory_text(size):
+    """The memory of a program that this script has started, in MiB."""
+    own = 1024 * resource.getrusage(resource.RUSAGE_SELF).ru_maxrss
+    return f"{size / MIB:.1f}" if size > own else f"< {own / MIB:.1f}"
+
+
 def row(it):
     return (f"{size_text(it.budget):>10} {it.calls:>10} {it.read / MIB:>10.1f} {it.seconds:>9.3f} "
-            f"{it.memory / MIB:>11.1f}")
+            f"{memory_text(it.memory):>11}")
+
+
+def verdict(runs):
+    """Which budget is enough, of runs from the greatest to the least."""
+    greatest, least = runs[0], runs[-1]
+    most = greatest.calls + NOISE + greatest.calls // 100
+    enough = list(takewhile(lambda it: it.calls <= most, runs))[-1]
+    if enough is greatest:
+        return f"the reads still fall at {size_text(greatest.budget)}; --most tries more"
+    if enough is least:
+        return f"{size_text(least.budget)} is enough; --least tries less"
+    return f"{size_text(enough.budget)} is enough: with more the files are read no less"
 
 
 def needed(it):
@@ -170,6 +194,8 @@ def main():
     asked.add_argument("--reads-only", action="store_true")
     asked.add_argument("--check", action="store_true")
     given, words = asked.parse_known_args()
+    if given.least > given.most:
+        asked.error(f"--least {size_text(given.least)} is more than --most {size_text(given.most)}")
     program = Path(given.program).resolve() if given.program else usual("texcache")
     for it in (program, Path(given.list)):
         if not it.is_file():
@@ -183,6 +209,7 @@ def main():
     if not runs:
         sys.exit(1)
     print(needed(runs[0]))
+    print(verdict(runs))
     runs.reverse()
     if given.svg:
         title = given.title or f"{Path(given.list).name} over {Path(given.folder).resolve().name}"
