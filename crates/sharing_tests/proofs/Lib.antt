@@ -1,3 +1,1 @@
 pub mod HeldLemmas
-pub mod SevenLemmas
-pub mod ToldCells

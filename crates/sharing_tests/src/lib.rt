@@ -31,8 +31,6 @@ mod script;
 #[cfg(test)]
 mod seat;
 #[cfg(test)]
-mod seven_pins;
-#[cfg(test)]
 mod shared_table;
 #[cfg(test)]
 mod slots;
