@@ -408,11 +408,11 @@ fn four_threads_leave_nothing_in_no_bytes(rt: HostRuntime) -> Result<(), Fail> {
     Ok(())
 }
 
-// Four threads of 62500 rounds, each of two calls or more.
+// Four threads of 250000 rounds, each of two calls or more.
 #[test]
-fn half_a_million_calls_leave_what_fits_two_shards(rt: HostRuntime) -> Result<(), Fail> {
+fn two_million_calls_leave_what_fits_two_shards(rt: HostRuntime) -> Result<(), Fail> {
     let work = Work {
-        rounds: 62500,
+        rounds: 250000,
         shards: 2,
     };
     assert_left(&rt, left_in(&rt, rt.alloc(), work, 20000)?, 12);
