@@ -8,6 +8,7 @@ ghost use Rattle.tile_layout.specs.FormatOf.{IsFormatOf};
 ghost use Rattle.tile_layout.specs.Pieces.{LiesSideBySide};
 ghost use Rattle.piece_samples.specs.Places.{FitsPlaces};
 ghost use Rattle.piece_samples.specs.Row.{IsReadSample, AfterReads, max_row_texels};
+ghost use Rattle.piece_samples.specs.Unpacked.{KeepsDepth};
 
 use crate::places::Places;
 use crate::samples::{clear_to, unpack_to};
@@ -55,6 +56,7 @@ pub(crate) fn read_piece<B: ByteReader>(
     ensures others { OnOk result ((k c : ℕ) → c < places.now.step → c ≢ places.now.first
         → slice_index samples.new (k * places.now.step + c)
         ≡ slice_index samples.old (k * places.now.step + c)) }
+    ensures low { OnOk result (KeepsDepth format.now samples.old samples.new) }
     ensures unread { B.size reader.old < piece.now.at + piece.now.n * format.now.texel_bytes
         → reader.new ≡ reader.old }
     ensures reader { AfterReads B.keeps B.refuses reader.old reader.new result }

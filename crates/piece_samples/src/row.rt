@@ -4,9 +4,10 @@ ghost use Rattle.std.specs.Prelude.{◌≡◌, ◌≢◌, ◌+◌, ◌*◌, ◌�
 ghost use Rattle.std.specs.Option.{ForSome};
 ghost use Rattle.tiff_format.specs.Texel.{sample_in};
 ghost use Rattle.tile_layout.specs.Blocks.{HoldsBlocks};
+ghost use Rattle.tile_layout.specs.Cell.{bit_depth_in};
 ghost use Rattle.tile_layout.specs.Kept.{level_in};
 ghost use Rattle.tile_layout.specs.Plane.{plane_in};
-ghost use Rattle.tile_layout.specs.Texel.{AreTexelsOn};
+ghost use Rattle.tile_layout.specs.Texel.{AreTexelsOn, FitDepth};
 ghost use Rattle.piece_samples.specs.Beyond.{CountAsZero, IsAllBeyond, IsPlaneBeyond};
 ghost use Rattle.piece_samples.specs.Row.{AfterReads, IsReadSample, IsRow, row_rect};
 
@@ -67,6 +68,8 @@ fn read_plane<B: ByteReader>(
         (k * (level_in row.now.layout.now row.now.level).shape.planes + q)
         ≡ slice_index samples.old
         (k * (level_in row.now.layout.now row.now.level).shape.planes + q)) }
+    ensures low { OnOk result (FitDepth (bit_depth_in row.now.layout.now) samples.old
+        → FitDepth (bit_depth_in row.now.layout.now) samples.new) }
     ensures unread { IsPlaneBeyond (plane_in row.now.layout.now row.now.level plane)
         (B.size reader.old) (row_rect row.now.x row.now.y row.now.n) → reader.new ≡ reader.old }
     ensures reader { AfterReads B.keeps B.refuses reader.old reader.new result }
@@ -92,7 +95,8 @@ fn read_plane<B: ByteReader>(
 
 /// Reads the samples of a row of texels, in the depth of the file, those of a texel side by side. A
 /// piece of the row of a plane that does not lie below the reader's length is not read, and its
-/// samples count as 0: over told bytes there is none. After a refusal what the samples are is open.
+/// samples count as 0: over told bytes there is none. The samples fit that depth where what stood
+/// in their places did. After a refusal what they are is open.
 ///
 /// It takes no memory.
 pub fn read_row<B: ByteReader>(
@@ -113,6 +117,8 @@ pub fn read_row<B: ByteReader>(
         (sample_in row.now.layout.now.big bytes (level_in row.now.layout.now row.now.level))
         (level_in row.now.layout.now row.now.level).shape.channels
         (row_rect row.now.x row.now.y row.now.n) samples.new)) }
+    ensures low { OnOk result (FitDepth (bit_depth_in row.now.layout.now) samples.old
+        → FitDepth (bit_depth_in row.now.layout.now) samples.new) }
     ensures reader { AfterReads B.keeps B.refuses reader.old reader.new result }
 {
     let planes = row.layout.planes(row.level);

@@ -3,6 +3,7 @@
 ghost use Rattle.std.specs.Prelude.{◌≡◌, ◌≢◌, ◌+◌, ◌*◌, ◌≤◌, ◌<◌, ℕ, length, slice_index};
 ghost use Rattle.tiff_format.specs.Block.{sample_bytes};
 ghost use Rattle.tiff_format.specs.Texel.{greatest_sample};
+ghost use Rattle.tile_layout.specs.Texel.{FitDepth};
 ghost use Rattle.unpack.specs.Sample.{depth_of};
 ghost use Rattle.piece_samples.specs.Places.{FitsPlaces};
 ghost use Rattle.piece_samples.specs.Unpacked.{is_wide, unpacked, KeepsDepth};
@@ -78,6 +79,7 @@ fn unpack_from(format: &TexelFormat, bytes: &[u8], count: usize, from: usize, sa
     ensures before { (k : ℕ) → k < from → slice_index samples.new k ≡ slice_index samples.old k }
     ensures values { (k : ℕ) → k < count
         → slice_index samples.new (from + k) ≡ unpacked format.now bytes.now k }
+    ensures low { KeepsDepth format.now samples.old samples.new }
 {
     unpack_samples(format, bytes, &mut samples[from..from + count]);
 }
@@ -103,6 +105,7 @@ pub(crate) fn unpack_to(
     ensures others { (k c : ℕ) → c < places.now.step → c ≢ places.now.first
         → slice_index samples.new (k * places.now.step + c)
         ≡ slice_index samples.old (k * places.now.step + c) }
+    ensures low { KeepsDepth format.now samples.old samples.new }
 {
     if places.step == 1 {
         unpack_from(format, bytes, count, places.done, samples);
@@ -124,6 +127,7 @@ pub(crate) fn clear_to(count: usize, places: &Places, samples: &mut [u16])
     ensures others { (k c : ℕ) → c < places.now.step → c ≢ places.now.first
         → slice_index samples.new (k * places.now.step + c)
         ≡ slice_index samples.old (k * places.now.step + c) }
+    ensures low { (depth : ℕ) → FitDepth depth samples.old → FitDepth depth samples.new }
 {
     for k in 0..count {
         samples[(places.done + k) * places.step + places.first] = 0;

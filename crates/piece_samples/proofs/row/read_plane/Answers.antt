@@ -120,6 +120,7 @@ pieces-preserved g c =
           (omega (arith, taken.fits, takes.lies.some)) taken.column taken.row in
           let unit = unit_of row.layout.now.big level format c.format-format.ensures.value in
           read.unread (rw (still, unit) there) ∙ before.unread far;
+      low = λ fit. read.low (before.low fit);
     }
 
 pub returns-clause-read : goal.returns-clause-read
@@ -132,3 +133,6 @@ returns-clause-read g c = λ i d column channel.
     let below : i < c.pieces.done = omega (arith, done, column) in
     rw (is.order, is.channels, c.planes-planes.ensures.value) at
     (before.read i d below (rw is.channels channel))
+
+pub returns-clause-low : goal.returns-clause-low
+returns-clause-low g c = rw c.format-format.ensures.depth at c.pieces.invariant.low

@@ -4,6 +4,7 @@ use Rattle.tile_layout.specs.Pieces.{row_texels}
 use Rattle.tile_layout.specs.Plane.{plane_in}
 use Rattle.piece_samples.specs.Beyond.{IsPlaneBeyond}
 use Rattle.piece_samples.specs.Row.{IsReadSample, row_rect}
+use Rattle.piece_samples.specs.Unpacked.{KeepsDepth}
 use Rattle.piece_samples.proofs.row.read_plane.Given as goal
 
 abbrev pub invariant-pieces : goal.invariant-pieces
@@ -24,6 +25,7 @@ invariant-pieces g l = record {
   unread : IsPlaneBeyond (plane_in l.row.layout.now l.row.level l.plane)
       (g.B.ByteReader.size l.initial.reader) (row_rect l.row.x l.row.y l.row.n)
       → l.reader ≡ l.initial.reader;
+  low : KeepsDepth l.format l.initial.samples l.samples;
 }
 
 abbrev pub decreases-pieces : goal.decreases-pieces

@@ -53,6 +53,7 @@ each-preserved g c =
             refl refl refl (read.read i a column place))
       ];
       unread = λ far. read.unread (rw still (far p there)) ∙ before.unread far;
+      low = λ fit. read.low (before.low fit);
     }
 
 pub returns-clause-zeros : goal.returns-clause-zeros

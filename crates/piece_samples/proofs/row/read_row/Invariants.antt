@@ -1,8 +1,10 @@
 -- The samples of the planes before this one are at their places.
 use Rattle.std.proofs.Common.{◌≡◌, ◌+◌, ◌*◌, ◌<◌, ℕ, get_or}
 use Rattle.tiff_format.specs.Block.{samples_aside}
+use Rattle.tile_layout.specs.Cell.{bit_depth_in}
 use Rattle.tile_layout.specs.Kept.{level_in}
 use Rattle.tile_layout.specs.Plane.{plane_in}
+use Rattle.tile_layout.specs.Texel.{FitDepth}
 use Rattle.piece_samples.specs.Beyond.{IsAllBeyond}
 use Rattle.piece_samples.specs.Row.{IsReadSample, row_rect}
 use Rattle.piece_samples.proofs.row.read_row.Given as goal
@@ -20,4 +22,6 @@ invariant-each g l = record {
   unread : IsAllBeyond (level_in l.row.layout.now l.row.level)
       (g.B.ByteReader.size l.initial.reader) (row_rect l.row.x l.row.y l.row.n)
       → l.reader ≡ l.initial.reader;
+  low : FitDepth (bit_depth_in l.row.layout.now) l.initial.samples
+      → FitDepth (bit_depth_in l.row.layout.now) l.samples;
 }

@@ -2,6 +2,8 @@ use Rattle.std.proofs.Common.{ℕ, ◌+◌, ◌*◌, ◌<◌, ◌≤◌, length,
 use Rattle.std.proofs.Common.{◌∙◌, arith}
 use Rattle.std.proofs.Math.Nat.{mul-le-mul_right}
 use Rattle.std.proofs.lemmas.List.{get_or-set_other, get_or-set_same}
+use Rattle.std.proofs.lemmas.List.Elements.{All-set}
+use Rattle.tiff_format.specs.Texel.{greatest_sample}
 use Rattle.piece_samples.proofs.PlaneWrites.{same_place}
 use Rattle.piece_samples.proofs.samples.clear_to.Goals as goal
 
@@ -36,4 +38,6 @@ loop-k-preserved c =
           get_or-set_other xs at (j * p.step + d) 0 0
           (λ e. other (same_place j (p.done + c.loop-k.k) p.step d p.first below p.own e).1)
           ∙ before.others j d below other;
+      low = λ depth fit.
+          All-set (λ s. s ≤ greatest_sample depth) xs at 0 (omega arith) (before.low depth fit);
     }

@@ -1,5 +1,6 @@
 -- So many places have a 0, and all others are as they were.
 use Rattle.std.proofs.Common.{◌≡◌, ◌≢◌, ℕ, ◌+◌, ◌*◌, ◌<◌, get_or}
+use Rattle.tile_layout.specs.Texel.{FitDepth}
 use Rattle.piece_samples.proofs.samples.clear_to.Given as goal
 
 abbrev pub invariant-loop-k : goal.invariant-loop-k
@@ -12,4 +13,5 @@ invariant-loop-k l = record {
   others : (j c : ℕ) → c < l.places.step → c ≢ l.places.first
       → get_or l.samples (j * l.places.step + c) 0
       ≡ get_or l.initial.samples (j * l.places.step + c) 0;
+  low : (depth : ℕ) → FitDepth depth l.initial.samples → FitDepth depth l.samples;
 }
