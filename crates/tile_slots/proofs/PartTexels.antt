@@ -1,17 +1,22 @@
 -- The samples of a row that was read are those of the level's texels.
 use Rattle.std.proofs.Common.{◌≡◌, ℕ, ◌+◌, ◌-◌, ◌*◌, ◌/◌, ◌%◌, ◌<◌, ◌++◌, min, List, length, get_or}
 use Rattle.std.proofs.Common.{Option, None, Some, IsSome, IsSomeAnd, refl, sym, ap, subst, ◌∙◌, arith}
+use Rattle.std.proofs.Common.{◌≤◌, replicate}
 use Rattle.std.specs.Option.{ForSome}
 use Rattle.std.proofs.lemmas.List.{get_or_append_left}
+use Rattle.std.proofs.lemmas.List.Elements.{All-replicate}
 use Rattle.std.proofs.lemmas.Nat.{mul-add-lt}
-use Rattle.tiff_format.specs.Texel.{sample_in}
+use Rattle.tiff_format.specs.Texel.{sample_in, greatest_sample}
 use Rattle.tile_layout.specs.Blocks.{HoldsBlocks}
+use Rattle.tile_layout.specs.Cell.{bit_depth_in, bit_depth_of}
 use Rattle.tile_layout.specs.Kept.{Kept, kept_of, stored_count, level_in}
-use Rattle.tile_layout.specs.Texel.{texel_at, AreTexelsOn}
+use Rattle.tile_layout.specs.Texel.{texel_at, AreTexelsOn, FitDepth}
 use Rattle.tile_layout.proofs.StoredTexels.{texel_stored, holds_level}
 use Rattle.piece_samples.specs.Beyond.{CountAsZero}
 use Rattle.piece_samples.specs.LayoutOf.{IsLayoutOf}
 use Rattle.piece_samples.specs.Row.{row_rect}
+use Rattle.piece_samples.proofs.LowSamples.{each_low}
+use Rattle.tile_slots.specs.Part.{IsTexelSample}
 use Rattle.tile_slots.specs.Slot.{AreRowZeros}
 
 -- ---- a row that was read to the front of its room
@@ -53,6 +58,16 @@ module _ (layout : Kept) (l x y n : ℕ) (samples rest : List ℕ)
       let row : y ≡ y + 0 = omega arith in
       front i c column below ∙ zeros i 0 c column (omega arith) below (rw row at beyond)
 
+-- ---- the depth of the file
+
+-- what was read over so many zeros fits it
+pub low_told : (bytes : List ℕ) (layout : Kept) (n : ℕ) (samples : List ℕ) → IsLayoutOf bytes layout
+    → (FitDepth (bit_depth_in layout) (replicate n 0) → FitDepth (bit_depth_in layout) samples)
+    → FitDepth (bit_depth_of bytes) samples
+low_told bytes layout n samples is read =
+    subst (λ (k : Kept). FitDepth (bit_depth_in k) samples) is.kept
+    (read (All-replicate (λ s. s ≤ greatest_sample (bit_depth_in layout)) n 0 (omega arith)))
+
 -- ---- the texel in one of its columns
 
 pub some_told : (held : Option (List ℕ)) (P : List ℕ → Type 0) → IsSome held → ForSome held P
@@ -81,12 +96,16 @@ module _ (x left n channels : ℕ) (column : IsColumn x left n) (samples out : L
       copied c (omega (arith, below, long))
       ∙ ap (λ (k : ℕ). get_or samples (x % 64 * k + c) 0) same
 
-  pub texel_told : (texel : ℕ → ℕ → ℕ) → ((i c : ℕ) → i < n → c < channels
-      → get_or samples (i * channels + c) 0 ≡ texel (left + i) c)
-      → (c : ℕ) → c < length out → get_or out c 0 ≡ texel x c
-  texel_told texel told c below =
-      copy_is c below ∙ told (x % 64) c column.below (omega (arith, below, long, same))
-      ∙ ap (λ (k : ℕ). texel k c) column.place
+  pub texel_told : (bytes : List ℕ) (l y : ℕ) → FitDepth (bit_depth_of bytes) samples
+      → ((i c : ℕ) → i < n → c < channels
+      → get_or samples (i * channels + c) 0 ≡ texel_at bytes l (left + i) y c)
+      → (c : ℕ) → c < length out → IsTexelSample bytes l x y c (get_or out c 0)
+  texel_told bytes l y fit told c below = record {
+    value = copy_is c below ∙ told (x % 64) c column.below (omega (arith, below, long, same))
+        ∙ ap (λ (k : ℕ). texel_at bytes l k y c) column.place;
+    low = rw (copy_is c below)
+        (each_low (bit_depth_of bytes) samples fit (x % 64 * channels + c));
+  }
 
   pub texel_zero : (beyond : ℕ → ℕ → Type 0) → ((i c : ℕ) → i < n → c < channels
       → beyond (left + i) c → get_or samples (i * channels + c) 0 ≡ 0)

@@ -1,10 +1,10 @@
 -- Which texels has a part of a row, and when are samples those of a texel?
-use Rattle.std.specs.Prelude.{◌≡◌, ℕ, ◌+◌, ◌-◌, ◌*◌, ◌%◌, ◌<◌, min, IsTrue, IsSomeAnd, List}
+use Rattle.std.specs.Prelude.{◌≡◌, ℕ, ◌+◌, ◌-◌, ◌*◌, ◌%◌, ◌<◌, ◌≤◌, min, IsTrue, IsSomeAnd, List}
 use Rattle.std.specs.Prelude.{length, slice_index}
 use Rattle.tex_world.specs.Tap.{Named}
 use Rattle.tex_world.specs.World.{Files}
-use Rattle.tiff_format.specs.Texel.{plane_of}
-use Rattle.tile_layout.specs.Cell.{channels_in}
+use Rattle.tiff_format.specs.Texel.{plane_of, greatest_sample}
+use Rattle.tile_layout.specs.Cell.{channels_in, bit_depth_of}
 use Rattle.tile_layout.specs.Kept.{Kept, stored_count, level_in}
 use Rattle.tile_layout.specs.Level.{width_in, height_in}
 use Rattle.tile_layout.specs.Plane.{plane_level}
@@ -42,10 +42,16 @@ pub record IsTexelOf (layout : Kept) (key : PartKey) (x n : ℕ) : Type 0 where
   pub down : key.row < height_in layout key.level
   pub channels : n ≡ channels_in layout
 
--- these are the samples of that texel in a file with these bytes
+-- it is sample c of texel (x, y) of a level of a file with these bytes, and no greater than a
+-- sample of the file can be
+pub record IsTexelSample (bytes : List ℕ) (level x y c sample : ℕ) : Type 0 where
+  pub value : sample ≡ texel_at bytes level x y c
+  pub low : sample ≤ greatest_sample (bit_depth_of bytes)
+
+-- these are the samples of the texel in column x of the key's row in a file with these bytes
 abbrev pub AreTexelOf : List ℕ → PartKey → ℕ → List ℕ → Type 0
 AreTexelOf bytes key x samples = (c : ℕ) → c < length samples
-    → slice_index samples c ≡ texel_at bytes key.level x key.row c
+    → IsTexelSample bytes key.level x key.row c (slice_index samples c)
 
 -- where the world tells, it holds bytes for the key's generation of its file, and they are those of
 -- that texel in them

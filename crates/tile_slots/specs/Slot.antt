@@ -3,23 +3,25 @@ use Rattle.std.specs.Prelude.{◌≡◌, ℕ, ◌+◌, ◌*◌, ◌%◌, ◌<◌
 use Rattle.tex_world.specs.World.{Files}
 use Rattle.tiff_format.specs.Block.{Level}
 use Rattle.tiff_format.specs.Texel.{plane_of}
-use Rattle.tile_layout.specs.Cell.{channels_of}
+use Rattle.tile_layout.specs.Cell.{channels_of, bit_depth_of}
 use Rattle.tile_layout.specs.Kept.{kept_of}
 use Rattle.tile_layout.specs.Level.{width_in}
 use Rattle.tile_layout.specs.Plane.{plane_level}
-use Rattle.tile_layout.specs.Texel.{texel_at}
+use Rattle.tile_layout.specs.Texel.{texel_at, FitDepth}
 use Rattle.piece_samples.specs.Beyond.{IsBeyond}
 use Rattle.tile_slots.specs.declared.extent.Extent.{Extent}
 use Rattle.tile_slots.specs.declared.part_key.PartKey.{PartKey}
 use Rattle.tile_slots.specs.Part.{part_left, part_texels, texels_of}
 
--- these are the samples of a part in a file with these bytes, those of a texel side by side
+-- these are the samples of a part in a file with these bytes, those of a texel side by side, and
+-- they fit the depth of the file
 pub record ArePartOf (bytes : List ℕ) (extent : Extent) (samples : List ℕ) : Type 0 where
   pub wide : extent.texels ≡ texels_of (width_in (kept_of bytes) extent.key.level) extent.key
   pub count : extent.channels ≡ channels_of bytes
   pub each : (i c : ℕ) → i < extent.texels → c < extent.channels
       → slice_index samples (i * extent.channels + c)
       ≡ texel_at bytes extent.key.level (part_left extent.key + i) extent.key.row c
+  pub low : FitDepth (bit_depth_of bytes) samples
 
 -- where the world tells, they are those of the part in the bytes of the key's generation of its file
 abbrev pub IsToldPart : Files → Extent → List ℕ → Type 0

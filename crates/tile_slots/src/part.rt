@@ -18,7 +18,7 @@ use tex_world::World;
 pub(crate) const PART_SAMPLES: usize = 512;
 
 /// The samples of a part of a row, those of a texel side by side, or none yet. Where the world
-/// tells, they are those of the level.
+/// tells, they are those of the level, and fit the depth of the file.
 #[derive(Drop)]
 pub(crate) struct Part<W: World> {
     extent: Option<Extent>,

@@ -3,8 +3,9 @@
 ghost use Rattle.std.specs.Prelude.{◌≡◌, ◌+◌, ◌*◌, ◌<◌, ◌≤◌, ℕ, length, slice_index, OnOk};
 ghost use Rattle.std.specs.Option.{ForSome};
 ghost use Rattle.tap_reader.specs.TapReader.{lent_of};
+ghost use Rattle.tile_layout.specs.Cell.{bit_depth_in};
 ghost use Rattle.tile_layout.specs.Kept.{level_in};
-ghost use Rattle.tile_layout.specs.Texel.{texel_at};
+ghost use Rattle.tile_layout.specs.Texel.{texel_at, FitDepth};
 ghost use Rattle.piece_samples.specs.Beyond.{IsAllBeyond};
 ghost use Rattle.piece_samples.specs.LayoutOf.{IsLayoutOf};
 ghost use Rattle.piece_samples.specs.Row.{row_rect};
@@ -34,6 +35,8 @@ pub(crate) fn read_samples<T: Tap>(
         → slice_index samples.new
         (i * (level_in row.now.layout.now row.now.level).shape.channels + c)
         ≡ texel_at bytes row.now.level (row.now.x + i) row.now.y c)) }
+    ensures low { OnOk result (FitDepth (bit_depth_in row.now.layout.now) samples.old
+        → FitDepth (bit_depth_in row.now.layout.now) samples.new) }
     ensures zeros { OnOk result (AreRowZeros (level_in row.now.layout.now row.now.level)
         (T.Handle.named h.old).len row.now.x row.now.y row.now.n samples.new) }
     ensures unread { IsAllBeyond (level_in row.now.layout.now row.now.level)

@@ -1,12 +1,15 @@
-use Rattle.std.proofs.Common.{◌≡◌, ℕ, ◌+◌, ◌-◌, ◌*◌, ◌<◌, min, length, get_or, sym, ap, subst, ◌∙◌, arith}
+use Rattle.std.proofs.Common.{◌≡◌, ℕ, ◌+◌, ◌-◌, ◌*◌, ◌<◌, min, List, Some, length, get_or}
+use Rattle.std.proofs.Common.{sym, ap, subst, ◌∙◌, arith}
+use Rattle.std.proofs.lemmas.Grind.{common_steps}
 use Rattle.tiff_format.specs.Texel.{plane_of}
+use Rattle.tile_layout.specs.Cell.{bit_depth_of}
 use Rattle.tile_layout.specs.Kept.{level_in}
 use Rattle.tile_layout.specs.Level.{width_in}
 use Rattle.tile_layout.specs.Plane.{plane_level}
-use Rattle.tile_layout.specs.Texel.{texel_at}
+use Rattle.tile_layout.specs.Texel.{FitDepth}
 use Rattle.piece_samples.specs.Beyond.{IsBeyond}
 use Rattle.tile_slots.specs.Part.{AreTexelOf, part_right}
-use Rattle.tile_slots.proofs.PartTexels.{some_told, is_column, texel_told, texel_zero}
+use Rattle.tile_slots.proofs.PartTexels.{some_told, is_column, texel_told, texel_zero, low_told}
 use Rattle.tile_slots.proofs.slots.Slots.fill.Goals as goal
 
 pub returns-clause-told : goal.returns-clause-told
@@ -28,8 +31,20 @@ returns-clause-told g c = λ tells.
     (λ bytes. AreTexelOf bytes key c.args.x c.copy_texel.new.out) there
     (λ bytes is. texel_told c.args.x (key.part * 64) c.min.result level.shape.channels column
     c.read_samples.new.samples c.copy_texel.new.out (length c.args.out.now) same
-    c.copy_texel.auto.out c.copy_texel.ensures
-    (λ i d. texel_at bytes key.level i key.row d) (c.in_ok-read_samples.ensures.told bytes is)))
+    c.copy_texel.auto.out c.copy_texel.ensures bytes key.level key.row
+    (low_told bytes c.args.layout.now 512 c.read_samples.new.samples
+    (c.requires.layout bytes (rw (c.requires.key.file, c.requires.key.generation) is))
+    c.in_ok-read_samples.ensures.low)
+    (c.in_ok-read_samples.ensures.told bytes is)))
+
+pub put-requires : goal.put-requires
+put-requires g c =
+    let fit : (bytes : List ℕ)
+    → g.W.World.files.held c.args.key.file c.args.key.generation ≡ Some bytes
+    → FitDepth (bit_depth_of bytes) c.of.result.samples =
+    λ bytes told. rw c.of.ensures.samples (low_told bytes c.args.layout.now 512
+    c.read_samples.new.samples (c.requires.layout bytes told) c.in_ok-read_samples.ensures.low) in
+    grind (arith, common_steps, fit)
 
 pub returns-clause-zeros : goal.returns-clause-zeros
 returns-clause-zeros g c =
