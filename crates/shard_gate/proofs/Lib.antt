@@ -1,8 +1,10 @@
+mod CountLemmas
 mod EntryLemmas
 mod HomeLemmas
 mod LeaveLemmas
 mod ListLemmas
 mod NewLemmas
+mod OwnLemmas
 mod PermitLemmas
 mod PinLemmas
 mod RuleLemmas
