@@ -10,8 +10,8 @@ use Rattle.shard_gate.specs.Words.{SlotWords, pins_on}
 use Rattle.shard_gate.specs.Words.{AreAmong, AreFewPins}
 use Rattle.shard_gate.specs.Turn.{terms_of, with_turn, without_turn, with_pin, without_pin, with_key}
 
--- In the word of each slot stand the pins that the seat has of it, and no others where the seat has
--- all permits.
+-- In the pin word of each slot stand the pins that the seat has of it, and no others where the seat
+-- has all permits.
 pub record HasOwnPins (v : Standing) (known : SlotWords) : Type 0 where
   pub own : (slot : ℕ) → pins_on slot v.pins ≤ slice_index known.pins slot
   pub alone : v.permits ≡ v.passes

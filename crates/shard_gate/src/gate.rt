@@ -202,7 +202,7 @@ impl<W: World> Gate<W> {
             (Counts W.files (tag_of self.now.share self.now.cut) count) p.old.visits p.new.visits) }
         ensures share { IfOk result (λ count. count.share ≡ self.now.share) }
         ensures within { IfOk result (λ count. count.loose ≤ count.share) }
-        // The seat's own pins of the shard are among those counted, and alone where it has all permits.
+        // The seat's own pins of the shard are counted, and no others where it has all permits.
         ensures own { IfOk result (λ count.
             own_pins (length self.now.id) shard p.old.pins ≤ count.pins) }
         ensures alone { IfOk result (λ count. p.old.permits ≡ self.now.passes
