@@ -10,6 +10,7 @@ mod PinLemmas
 mod RuleLemmas
 mod SeatLemmas
 mod SeatRule
+pub mod ShardSums
 pub mod SinceLemmas
 mod SlotLemmas
 mod SlotRule
