@@ -1,3 +1,4 @@
 mod PinnedLemmas
+pub mod TileSums
 pub mod TurnLemmas
 mod VisitLemmas

@@ -68,7 +68,7 @@ keyed_there key (t ∷ tiles) (suc i, lt, is) = omega (
   keyed_there key tiles (i, omega (arith, lt), is),
 )
 
-hand_list : (f : ℕ → ℕ) (hand : Option CachedTile)
+pub hand_list : (f : ℕ → ℕ) (hand : Option CachedTile)
     → key_sum f (option_to_list hand) ≡ hand_sum f hand
 hand_list f None = refl
 hand_list f (Some t) = omega (arith, sum_by-cons (λ (tile : CachedTile). f tile.key) t [])

@@ -7,7 +7,7 @@ use Rattle.tex_world.specs.World.{Files}
 use Rattle.tiff_format.specs.declared.cut.Cut.{Cut}
 use Rattle.tile_store.specs.Tile.{CachedTile}
 use Rattle.tile_store.specs.Lawful.{FitsCut}
-use Rattle.shard_gate.specs.Gate.{GateState, PinSeatState, PinState}
+use Rattle.shard_gate.specs.Gate.{GateState, PinSeatState, PinState, one_of_shard}
 use Rattle.micro.specs.Items.{HasKey, key_first}
 use Rattle.micro.specs.Recent.{AreRecent}
 use Rattle.micro.specs.Runs.{IsAsked}
@@ -61,6 +61,11 @@ key_sum f tiles = sum_by (λ tile. f tile.key) tiles
 abbrev pub hand_sum : (ℕ → ℕ) → Option CachedTile → ℕ
 hand_sum f None = 0
 hand_sum f (Some tile) = f tile.key
+
+-- how many of its tiles are of this shard, among so many
+abbrev pub tiles_at : ℕ → ℕ → PinnedState → ℕ
+tiles_at shards shard p = hand_sum (one_of_shard shards shard) p.hand
+    + (key_sum (one_of_shard shards shard) p.recent + key_sum (one_of_shard shards shard) p.holds)
 
 -- Its pins are those of its tiles. Where the world tells each of these is a cell of its file under
 -- the cut. Its microcache has two at most, and it holds four at most.

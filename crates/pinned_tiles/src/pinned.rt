@@ -3,7 +3,7 @@ ghost use Rattle.std.specs.Prelude.{◌≡◌, ◌+◌, ◌-◌, ◌<◌, ◌≤
 ghost use Rattle.std.specs.Prelude.{OnOk, OnErr, IfOk};
 ghost use Rattle.tile_store.specs.Tag.{tag_of};
 ghost use Rattle.shard_gate.specs.Given.{AtShard, AtFirst, Counts, Purges};
-ghost use Rattle.pinned_tiles.specs.Pinned.{max_holds, ArePinned, PinsAt, KeepsTiles};
+ghost use Rattle.pinned_tiles.specs.Pinned.{max_holds, ArePinned, PinsAt, KeepsTiles, tiles_at};
 ghost use Rattle.pinned_tiles.specs.Pinned.{IsNewPart, IsSecondPart, KeepsAllButPermits};
 
 use crate::lately::Lately;
@@ -112,6 +112,12 @@ impl<W: World> Pinned<W> {
             self.old.seat.visits self.new.seat.visits) }
         ensures share { IfOk result (λ count. count.share ≡ gate.now.share) }
         ensures within { IfOk result (λ count. count.loose ≤ count.share) }
+        // The pins of its own tiles are counted, and no others where it has all permits.
+        ensures own { IfOk result (λ count.
+            tiles_at (length gate.now.id) shard self.old ≤ count.pins) }
+        ensures alone { IfOk result (λ count. self.old.seat.permits ≡ gate.now.passes
+            → count.pins ≡ tiles_at (length gate.now.id) shard self.old) }
+        // What the call leaves.
         ensures pins { self.new.seat.pins ≡ self.old.seat.pins }
         ensures hand { self.new.hand ≡ self.old.hand }
         ensures same { KeepsTiles self.old self.new }

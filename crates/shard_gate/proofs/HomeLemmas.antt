@@ -56,7 +56,7 @@ is_there key s pins in_slots is =
 -- ---- the pins of all entries
 
 -- each of these entries is found under its key
-abbrev AreFound : Entries → Entries → Type 0
+abbrev pub AreFound : Entries → Entries → Type 0
 AreFound all [] = Unit {0}
 AreFound all (e ∷ es) = (entry_at e.0 all ≡ Some e.1) × AreFound all es
 
@@ -69,20 +69,20 @@ found_behind e all (f ∷ es) apart found =
     ne_eqb f.0 e.0 (λ (is : f.0 ≡ e.0). eqb-false e.0 f.0 apart.0 (sym is)) in
     (rw other found.0, found_behind e all es apart.1 found.1)
 
-are_found : (es : Entries) → IsDistinct nat_eq (keys_of es) → AreFound es es
+pub are_found : (es : Entries) → IsDistinct nat_eq (keys_of es) → AreFound es es
 unfolding IsDistinct
 are_found [] distinct = tt
 are_found (e ∷ es) distinct =
     (rw (eq-eqb e.0 e.0 refl) refl, found_behind e es es distinct.0 (are_found es distinct.1))
 
 -- the number of a slot, if there is one
-abbrev number_of : Option ℕ → ℕ
+abbrev pub number_of : Option ℕ → ℕ
 number_of None = 0
 number_of (Some slot) = slot
 
 module _ (s : ShardState) (in_slots : AreInSlots s) where
   -- the slots of some entries
-  abbrev slots_of_entries : Entries → List ℕ
+  abbrev pub slots_of_entries : Entries → List ℕ
   slots_of_entries [] = []
   slots_of_entries (e ∷ es) = number_of (slot_of e.0 s.slots) ∷ slots_of_entries es
 
@@ -111,14 +111,14 @@ module _ (s : ShardState) (in_slots : AreInSlots s) where
     slots_apart e es found apart.1 rest.1,
   )
 
-  slots_distinct : (es : Entries) → IsDistinct nat_eq (keys_of es) → AreFound s.entries es
+  pub slots_distinct : (es : Entries) → IsDistinct nat_eq (keys_of es) → AreFound s.entries es
       → IsDistinct nat_eq (slots_of_entries es)
   unfolding IsDistinct
   slots_distinct [] distinct found = tt
   slots_distinct (e ∷ es) distinct found =
       (slots_apart e es found.0 distinct.0 found.1, slots_distinct es distinct.1 found.1)
 
-  slots_sum : (es : Entries) → AreFound s.entries es
+  pub slots_sum : (es : Entries) → AreFound s.entries es
       → sum_by (λ slot. slice_index (words_of s).pins slot) (slots_of_entries es) ≡ pin_sum es
   slots_sum [] found = refl
   slots_sum (e ∷ es) found =

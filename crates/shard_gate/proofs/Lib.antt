@@ -1,13 +1,16 @@
+mod CountLemmas
 mod EntryLemmas
 mod HomeLemmas
 mod LeaveLemmas
 mod ListLemmas
 mod NewLemmas
+mod OwnLemmas
 mod PermitLemmas
 mod PinLemmas
 mod RuleLemmas
 mod SeatLemmas
 mod SeatRule
+pub mod ShardSums
 pub mod SinceLemmas
 mod SlotLemmas
 mod SlotRule

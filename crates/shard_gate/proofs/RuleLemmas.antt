@@ -20,7 +20,8 @@ use Rattle.shard_gate.specs.Turn.{OneTurn, IsOf, TookLawful}
 use Rattle.shard_gate.specs.Turn.{terms_of}
 use Rattle.shard_gate.specs.Turn.{turn_of, permits_of, pinned}
 use Rattle.shard_gate.specs.Turn.{spent_standing}
-use Rattle.shard_gate.proofs.SumLemmas.{sum_set, sum_has, sum_same, few_pins}
+use Rattle.shard_gate.specs.Steps.{HasOwnPins}
+use Rattle.shard_gate.proofs.SumLemmas.{sum_set, sum_has, sum_same, few_pins, few_pins_of}
 use Rattle.shard_gate.proofs.PinLemmas.{held_same}
 use Rattle.shard_gate.proofs.WordLemmas.{keys_stay, pins_stay, words_stay}
 
@@ -52,6 +53,21 @@ only_turn views id v at has most seat w apart there other =
       sum_set turn_of views id v spent_standing at,
       sum_has turn_of (set views id spent_standing) seat w still,
     )
+
+-- Where a seat has all permits, no other has a pin.
+pins_alone : (views : List Standing) (id : ℕ) (v : Standing) → get_elem? views id ≡ some v
+    → sum_by permits_of views ≤ v.permits
+    → Each (λ w. length w.pins ≤ max_pins * w.permits) views
+    → (slot : ℕ) → pinned slot views ≡ pins_on slot v.pins
+pins_alone views id v at all few slot = omega (
+  arith,
+  sum_set permits_of views id v spent_standing at,
+  sum_set (λ (w : Standing). pins_on slot w.pins) views id v spent_standing at,
+  few_pins_of (set views id spent_standing) slot
+      (one_view (λ w. length w.pins ≤ max_pins * w.permits)
+      (λ w. length w.pins ≤ max_pins * w.permits) views id spent_standing
+      (λ seat w ne there is. is) few (omega arith)),
+)
 
 pub one_more : (P : Standing → Type 0) (views : List Standing) (new : Standing) → Each P views → P new
     → Each P (views ++ new ∷ [])
@@ -211,3 +227,23 @@ module _ {S : Type 0} (lawful : Terms → S → Type 0) (shown : S → Entries)
     kept.permits,
     (kept.views id v at).passes live,
   )
+
+  -- The pins of a seat stand in the words of the slots, and alone where it has all permits.
+  pub own_known : (s : State S Standing) (id : ℕ) (v : Standing) (known : SlotWords)
+      → OneTurn lawful shown words_in terms s → get_elem? s.views id ≡ some v → v.live ≡ true
+      → AreWords terms.passes s.words known → HasOwnPins v known
+  own_known s id v known kept at live are = record {
+    own = λ slot. omega (
+      arith,
+      are.pins slot,
+      kept.pins slot,
+      sum_has (λ (w : Standing). pins_on slot w.pins) s.views id v at,
+    );
+    alone = λ all slot. omega (
+      arith,
+      are.pins slot,
+      kept.pins slot,
+      pins_alone s.views id v at (omega (arith, kept.permits, (kept.views id v at).passes live, all))
+          (λ seat w there. (kept.views seat w there).few) slot,
+    );
+  }

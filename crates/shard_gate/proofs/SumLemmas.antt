@@ -46,6 +46,12 @@ module _ {X : Type 0} (f : X → ℕ) where
   sum_same g (x ∷ xs) each =
       omega (arith, sum_by-cons f x xs, sum_by-cons g x xs, each x, sum_same g xs each)
 
+  -- at most as much for each
+  pub sum_less : (g : X → ℕ) (xs : List X) → ((x : X) → f x ≤ g x) → sum_by f xs ≤ sum_by g xs
+  sum_less g [] each = omega arith
+  sum_less g (x ∷ xs) each =
+      omega (arith, sum_by-cons f x xs, sum_by-cons g x xs, each x, sum_less g xs each)
+
   pub sum_none : (xs : List X) → ((x : X) → f x ≡ 0) → sum_by f xs ≡ 0
   sum_none [] each = refl
   sum_none (x ∷ xs) each = omega (arith, sum_by-cons f x xs, each x, sum_none xs each)
@@ -80,7 +86,7 @@ one_of slot (s ∷ slots) distinct =
     ]) refl
 
 -- A seat has no more pins of them than it has.
-pins_of_seat : (pins : List (ℕ × ℕ)) (slots : List ℕ) → IsDistinct nat_eq slots
+pub pins_of_seat : (pins : List (ℕ × ℕ)) (slots : List ℕ) → IsDistinct nat_eq slots
     → sum_by (λ slot. pins_on slot pins) slots ≤ length pins
 pins_of_seat [] slots distinct = omega (arith, sum_none (λ (slot : ℕ). 0) slots (λ _. refl))
 pins_of_seat (p ∷ ps) slots distinct = omega (

@@ -13,17 +13,18 @@ use Rattle.shard_gate.specs.declared.standing.Standing.{Standing}
 use Rattle.shard_gate.specs.Words.{SlotWords, pinned_words, unpinned_words, keyed_words, AreAmong, AreFewPins}
 use Rattle.shard_gate.specs.Words.{keys_of_pins, pins_on, without_pin_of, max_passes, max_pins, slots_of}
 use Rattle.shard_gate.specs.Turn.{terms_of, with_turn, without_turn}
-use Rattle.shard_gate.specs.Steps.{HasBody, AreLawful, MayUnpin}
+use Rattle.shard_gate.specs.Steps.{HasBody, HasOwnPins, AreLawful, MayUnpin}
 use Rattle.shard_gate.specs.Turn.{with_pin, without_pin, with_key}
 use Rattle.shard_gate.specs.Steps.{entries_of}
 use Rattle.shard_gate.specs.Visit.{begun, ended, visit}
 use Rattle.shard_gate.specs.Home.{words_of, IsStored, IsHome}
 use Rattle.shard_gate.specs.Work.{PinsSlot, InsertsSlot, AreBehind, MayKeep, IsTellingOf, HasToldOf}
+use Rattle.shard_gate.proofs.CountLemmas.{own_in_sum, all_in_sum}
 use Rattle.shard_gate.proofs.HomeLemmas.{few_pins_in}
 use Rattle.shard_gate.proofs.HomeLemmas.{IsThere, is_there}
 use Rattle.shard_gate.proofs.SlotLemmas.{slot_low, slot_word}
 use Rattle.shard_gate.proofs.EntryLemmas.{length_of_keys}
-use Rattle.shard_gate.proofs.PinLemmas.{pinned_slot, keys-without}
+use Rattle.shard_gate.proofs.PinLemmas.{pinned_slot, keys-without, length_keys}
 use Rattle.shard_gate.proofs.TellLemmas.{one_slot}
 
 -- ---- a seat that has taken the turn
@@ -35,6 +36,7 @@ pub record InTurn (files : Files) {A : Type 0} (old : Standing) (me : Me A Stand
   pub home : IsHome files (terms_of old) s
   pub among : AreAmong (words_of s) old.pins
   pub few : AreFewPins old.passes (words_of s)
+  pub own : HasOwnPins old (words_of s)
   pub alone : rest me.1 ≡ []
 
 -- A pin of the seat is one of a slot that has the key, and an entry with a pin.
@@ -58,6 +60,7 @@ module _ {A : Type 0} (value : A → ShardState) (files : Files) (old : Standing
         home = subst (λ (t : ShardState). IsHome files (terms_of old) t) same has.2;
         among = subst (λ (t : ShardState). AreAmong (words_of t) old.pins) same has.3;
         few = subst (λ (t : ShardState). AreFewPins old.passes (words_of t)) same has.4;
+        own = subst (λ (t : ShardState). HasOwnPins old (words_of t)) same has.5;
         alone = ap rest slots;
       }
 
@@ -73,6 +76,23 @@ module _ {A : Type 0} (value : A → ShardState) (files : Files) (old : Standing
     -- and there are more slots than pins.
     pub slots_left : pin_sum s.entries < length s.slots
     slots_left = omega (arith, pins_high, turn.home.stored.count)
+
+    -- It has no more pins than the entries have,
+    pub own_counted : length (keys_of_pins old.pins) ≤ pin_sum s.entries
+    own_counted = omega (
+      arith,
+      length_keys old.pins,
+      own_in_sum s turn.home.stored.in_slots old turn.home.stored.entries.distinct turn.own turn.among,
+    )
+
+    -- and as many where it has all permits.
+    pub all_counted : old.permits ≡ old.passes → pin_sum s.entries ≡ length (keys_of_pins old.pins)
+    all_counted all = omega (
+      arith,
+      length_keys old.pins,
+      all_in_sum s turn.home.stored.in_slots old turn.home.stored.entries.distinct turn.own turn.among
+          all,
+    )
 
     pub owns_pin : (key : ℕ) → Contains (keys_of_pins old.pins) key → OwnsPin key old s
     owns_pin key has =

@@ -14,7 +14,6 @@ use Rattle.shard_gate.specs.declared.standing.Standing.{Standing}
 use Rattle.shard_gate.specs.declared.rule.Terms.{Terms}
 use Rattle.shard_gate.specs.Words.{SlotWords, AreWords}
 use Rattle.shard_gate.specs.Words.{turn_word}
-use Rattle.shard_gate.specs.Words.{pins_on}
 use Rattle.shard_gate.specs.Turn.{OneTurn, IsOf}
 use Rattle.shard_gate.specs.Steps.{Took, Gave, Counted}
 use Rattle.shard_gate.specs.Turn.{terms_of}
@@ -23,7 +22,7 @@ use Rattle.shard_gate.specs.Steps.{entries_of}
 use Rattle.shard_gate.specs.Seated.{IsIdle}
 use Rattle.shard_gate.proofs.SumLemmas.{sum_has}
 use Rattle.shard_gate.proofs.PinLemmas.{among_held}
-use Rattle.shard_gate.proofs.RuleLemmas.{other_view, after, named, few_known}
+use Rattle.shard_gate.proofs.RuleLemmas.{other_view, after, named, few_known, own_known}
 
 module _ {S : Type 0} (lawful : Terms → S → Type 0) (shown : S → Entries)
     (words_in : S → SlotWords) (terms : Terms) where
@@ -43,6 +42,7 @@ module _ {S : Type 0} (lawful : Terms → S → Type 0) (shown : S → Entries)
       (λ free.
       let home = kept.home free in
       let known = words_in home.0 in
+      let own = own_known lawful shown words_in terms s id me.0 known kept at idle.live home.3 in
       let won = with_turn (shown home.0) known me.0 in (
         won,
         takes 0 home.0,
@@ -59,14 +59,9 @@ module _ {S : Type 0} (lawful : Terms → S → Type 0) (shown : S → Entries)
             home.0,
             ap (λ l. (won, (0, home.0) ∷ l)) idle.slots,
             subst (λ t. lawful t home.0) (named lawful shown words_in terms me.0 right idle.live) home.2,
-            among_held terms.passes s.words known me.0.pins home.3 (kept.held id me.0 at)
-                (λ slot. omega (
-                  arith,
-                  home.3.pins slot,
-                  kept.pins slot,
-                  sum_has (λ (v : Standing). pins_on slot v.pins) s.views id me.0 at,
-                )),
+            among_held terms.passes s.words known me.0.pins home.3 (kept.held id me.0 at) own.own,
             few_known lawful shown words_in terms s id me.0 known kept at idle.live home.3,
+            own,
           );
           lost = λ e. absurd (e free);
         },

@@ -1,8 +1,8 @@
 -- Which gate is it, what is known of a caller's seat at it, and what does each call leave of that?
 use Rattle.std.specs.Prelude.{◌≡◌, ℕ, ◌+◌, ◌-◌, ◌*◌, ◌/◌, ◌%◌, ◌^◌, ◌≤◌, List, [], ◌∷◌}
-use Rattle.std.specs.Prelude.{length, IsPermutation, Result, Option, IfOk, IfSome}
+use Rattle.std.specs.Prelude.{cond, nat_eq, length, IsPermutation, Result, Option, IfOk, IfSome}
 use Rattle.std.specs.Prelude.{IfNone}
-use Rattle.std.specs.List.{All}
+use Rattle.std.specs.List.{All, sum_by}
 use Rattle.tex_world.specs.World.{Files}
 use Rattle.tiff_format.specs.declared.cut.Cut.{Cut}
 use Rattle.tiff_format.specs.declared.shard_count.ShardCount.{ShardCount}
@@ -32,6 +32,14 @@ max_shards = 64
 abbrev pub shard_of : ℕ → ℕ → ℕ
 shard_of shards key =
     (index_of key + 7 * level_of key + 13 * file_of key + 31 * generation_of key) % shards
+
+-- 1 for a key of this shard, among so many, else 0
+abbrev pub one_of_shard : ℕ → ℕ → ℕ → ℕ
+one_of_shard shards shard key = cond (nat_eq (shard_of shards key) shard) 1 0
+
+-- how many of these keys are of the shard
+abbrev pub own_pins : ℕ → ℕ → List ℕ → ℕ
+own_pins shards shard keys = sum_by (one_of_shard shards shard) keys
 
 -- What is known of a gate.
 pub record GateState : Type 0 where

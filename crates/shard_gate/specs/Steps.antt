@@ -10,6 +10,13 @@ use Rattle.shard_gate.specs.Words.{SlotWords, pins_on}
 use Rattle.shard_gate.specs.Words.{AreAmong, AreFewPins}
 use Rattle.shard_gate.specs.Turn.{terms_of, with_turn, without_turn, with_pin, without_pin, with_key}
 
+-- In the pin word of each slot stand the pins that the seat has of it, and no others where the seat
+-- has all permits.
+pub record HasOwnPins (v : Standing) (known : SlotWords) : Type 0 where
+  pub own : (slot : ℕ) → pins_on slot v.pins ≤ slice_index known.pins slot
+  pub alone : v.permits ≡ v.passes
+      → (slot : ℕ) → slice_index known.pins slot ≡ pins_on slot v.pins
+
 -- It may look at the slot.
 pub record MayLook (slot : ℕ) (v : Standing) : Type 0 where
   pub inside : slot < slots_of v.passes
@@ -40,13 +47,13 @@ pub record MayFill (slot : ℕ) (v : Standing) : Type 0 where
 
 module _ {S : Type 0} where
   -- The seat has the turn, with a body that is lawful for its terms. That began a visit. It knows
-  -- the body's words, among which are its own pins.
+  -- the body's words, in which its own pins stand.
   abbrev pub HasBody : (Terms → S → Type 0) → (S → Entries) → (S → SlotWords) → Standing
       → Me S Standing → Type 0
   HasBody lawful shown words_in old new = (body : S)
       × (new ≡ (with_turn (shown body) (words_in body) old, (0, body) ∷ []))
       × lawful (terms_of old) body × AreAmong (words_in body) old.pins
-      × AreFewPins old.passes (words_in body)
+      × AreFewPins old.passes (words_in body) × HasOwnPins old (words_in body)
 
   -- the entries of the body in the slot that a seat has
   abbrev pub entries_of : (S → Entries) → List (ℕ × S) → Entries

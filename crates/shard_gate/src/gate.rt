@@ -2,7 +2,7 @@ ghost use Rattle.std.specs.Prelude.{◌≡◌, ◌-◌, ◌*◌, ◌<◌, ◌≤
 ghost use Rattle.std.specs.Prelude.{IfOk, IfErr, OnOk, OnErr, OnSome, IsSome, option_map};
 ghost use Rattle.shard_gate.specs.Gate.{max_pins, shard_of, AreLimits, IsNewGate, IsFirstSeat};
 ghost use Rattle.shard_gate.specs.Gate.{IsTileOf, HasCellRect, SamePins, OnePinMore, OnePinLess};
-ghost use Rattle.shard_gate.specs.Gate.{IsSameSeat, slots_of};
+ghost use Rattle.shard_gate.specs.Gate.{IsSameSeat, slots_of, own_pins};
 ghost use Rattle.shard_gate.specs.Given.{Finds, Inserts, Releases, Purges, Counts};
 ghost use Rattle.shard_gate.specs.Given.{AtShard, AtFirst, AtSome};
 ghost use Rattle.shard_gate.specs.Calls.{tile_of, VisitsAt, IfNotPinned, IfNotInserted};
@@ -202,6 +202,11 @@ impl<W: World> Gate<W> {
             (Counts W.files (tag_of self.now.share self.now.cut) count) p.old.visits p.new.visits) }
         ensures share { IfOk result (λ count. count.share ≡ self.now.share) }
         ensures within { IfOk result (λ count. count.loose ≤ count.share) }
+        // The seat's own pins of the shard are counted, and no others where it has all permits.
+        ensures own { IfOk result (λ count.
+            own_pins (length self.now.id) shard p.old.pins ≤ count.pins) }
+        ensures alone { IfOk result (λ count. p.old.permits ≡ self.now.passes
+            → count.pins ≡ own_pins (length self.now.id) shard p.old.pins) }
         // What the call leaves of the seat.
         ensures same { SamePins p.old p.new }
         ensures err { OnErr result (IsSameSeat p.old p.new) }

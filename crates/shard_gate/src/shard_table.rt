@@ -226,6 +226,9 @@ impl<W: World> ShardTable<W> {
         requires share { share_in_tag self.now.tag ≡ share }
         ensures share { IfOk result (λ count. count.share ≡ share) }
         ensures within { IfOk result (λ count. count.loose ≤ count.share) }
+        ensures own { IfOk result (λ count. length seat.old.pins ≤ count.pins) }
+        ensures alone { IfOk result (λ count. seat.old.permits ≡ self.now.passes
+            → count.pins ≡ length seat.old.pins) }
         ensures seat { IsSeatOf seat.old seat.new }
         ensures pins { seat.new.pins ≡ seat.old.pins }
         ensures ok { IfOk result (λ count.

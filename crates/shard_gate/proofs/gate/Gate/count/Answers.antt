@@ -1,8 +1,9 @@
 -- What a visit to one shard leaves of the seat, and what it answers.
-use Rattle.std.proofs.Common.{subst, ℕ}
+use Rattle.std.proofs.Common.{subst, ℕ, arith}
 use Rattle.shard_gate.specs.Given.{Counts}
 use Rattle.shard_gate.proofs.VisitLemmas.{same_pins, seat_same, at_shard, same_seat, if_ok, on_err}
-use Rattle.shard_gate.proofs.VisitLemmas.{tag_here, share_here}
+use Rattle.shard_gate.proofs.VisitLemmas.{tag_here, share_here, passes_here}
+use Rattle.shard_gate.proofs.OwnLemmas.{own_here, permits_here}
 use Rattle.shard_gate.proofs.gate.Gate.count.Goals as goal
 
 pub invariant_of-p : goal.invariant_of-p
@@ -32,6 +33,37 @@ returns-clause-lawful g c = if_ok c.count.result _ _
     c.self.inside.passes c.args.self.now c.self.view_is c.self.invariant c.args.shard
     c.requires.shard c.index.result.now _ c.index.ensures) counted))
     c.count.ensures.ok
+
+pub returns-clause-own : goal.returns-clause-own
+returns-clause-own g c = if_ok c.count.result _ _
+    (λ count own. omega (
+      arith,
+      own,
+      own_here c.p.inside.seats.items c.p.inside.permits c.args.p.now c.p.view_is c.args.self.now.id
+          c.requires.gate c.args.shard c.requires.shard c.index_mut.result.now _
+          c.index_mut.ensures.value c.p.invariant,
+    ))
+    c.count.ensures.own
+
+pub returns-clause-alone : goal.returns-clause-alone
+returns-clause-alone g c = if_ok c.count.result _ _
+    (λ count alone all. omega (
+      arith,
+      alone (omega (
+        arith,
+        all,
+        permits_here c.p.inside.seats.items c.p.inside.permits c.args.p.now c.p.view_is
+            c.args.self.now.id c.requires.gate c.args.shard c.requires.shard c.index_mut.result.now _
+            c.index_mut.ensures.value c.p.invariant,
+        passes_here c.self.inside.tables.items c.self.inside.share c.self.inside.cut
+            c.self.inside.passes c.args.self.now c.self.view_is c.self.invariant c.args.shard
+            c.requires.shard c.index.result.now _ c.index.ensures,
+      )),
+      own_here c.p.inside.seats.items c.p.inside.permits c.args.p.now c.p.view_is c.args.self.now.id
+          c.requires.gate c.args.shard c.requires.shard c.index_mut.result.now _
+          c.index_mut.ensures.value c.p.invariant,
+    ))
+    c.count.ensures.alone
 
 pub returns-clause-err : goal.returns-clause-err
 returns-clause-err g c = on_err c.count.result _ _
