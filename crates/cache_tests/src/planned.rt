@@ -60,6 +60,7 @@ pub(crate) const ONE_SHARD: Options = Options {
         autotile: 64,
         automip: false,
     },
+    slots: 1024,
 };
 
 /// One shard, in which no tile stays without a pin, and one idle handle.
@@ -72,6 +73,7 @@ pub(crate) const NO_BYTES: Options = Options {
         autotile: 64,
         automip: false,
     },
+    slots: 1024,
 };
 
 /// One shard, in which no tile stays without a pin, since none is of one byte.
@@ -84,6 +86,7 @@ pub(crate) const ONE_BYTE: Options = Options {
         autotile: 64,
         automip: false,
     },
+    slots: 1024,
 };
 
 fn rise(tap: u32, file: u32, at: u64) -> Rise {

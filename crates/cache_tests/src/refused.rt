@@ -228,6 +228,7 @@ const WHOLE: Options = Options {
         autotile: 0,
         automip: false,
     },
+    slots: 1024,
 };
 
 // The one cell of the large file takes 67108864 bytes.

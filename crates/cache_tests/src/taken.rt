@@ -32,6 +32,7 @@ const THREE_PASSES: Options = Options {
         autotile: 64,
         automip: false,
     },
+    slots: 1024,
 };
 
 /// So often the first thread takes the shard at most. It ends once the second one has.

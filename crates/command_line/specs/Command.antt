@@ -21,9 +21,10 @@ abbrev pub bare : App
 bare = on_top (λ s. record s { no_binary_name = true; disable_help_flag = true })
     (new_app (codes "texcache"))
 
--- The command: its folder, its five options and its flag.
+-- The command: its folder, its six options and its flag.
 unfoldable pub command : App
 command =
-    with_rule (with_rule (with_rule (with_rule (with_rule (with_rule (with_rule bare folder)
-    (option (codes "workers"))) (option (codes "budget"))) (option (codes "shards")))
-    (option (codes "handles"))) (option (codes "autotile"))) (flag (codes "no-automip"))
+    with_rule (with_rule (with_rule (with_rule (with_rule (with_rule (with_rule (with_rule bare
+    folder) (option (codes "workers"))) (option (codes "budget"))) (option (codes "shards")))
+    (option (codes "handles"))) (option (codes "autotile"))) (option (codes "slots")))
+    (flag (codes "no-automip"))

@@ -31,12 +31,14 @@ options_of rows = do
   shards ← number range.shards (codes "shards") rows
   handles ← number range.handles (codes "handles") rows
   autotile ← number range.autotile (codes "autotile") rows
+  slots ← number range.slots (codes "slots") rows
   Some (record {
     workers = workers;
     budget = budget;
     shards = shards;
     handles = handles;
     cut = record { autotile = autotile; automip = not (is_given (codes "no-automip") rows) };
+    slots = slots;
   })
 
 -- each number is in its range
@@ -46,3 +48,4 @@ pub record IsInRange (o : Options) : Type 0 where
   pub shards : (1 ≤ o.shards) × (o.shards ≤ 64)
   pub handles : (1 ≤ o.handles) × (o.handles ≤ 1024)
   pub cut : IsCut o.cut
+  pub slots : o.slots ≤ 65536

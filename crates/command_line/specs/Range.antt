@@ -45,3 +45,7 @@ handles = range 1 1024 1 100
 -- --autotile
 abbrev pub autotile : NumberRange
 autotile = range 0 max_autotile autotile_step 64
+
+-- --slots
+abbrev pub slots : NumberRange
+slots = range 0 65536 1 1024

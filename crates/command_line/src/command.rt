@@ -46,5 +46,6 @@ pub(crate) fn command<'a>(alloc: Global) -> Result<Command<'a>, AllocError>
         .arg(option(alloc, "shards"))?
         .arg(option(alloc, "handles"))?
         .arg(option(alloc, "autotile"))?
+        .arg(option(alloc, "slots"))?
         .arg(flag(alloc, "no-automip"))
 }

@@ -4,7 +4,8 @@ ghost use Rattle.std.specs.Prelude.{◌≡◌, ◌<◌, ◌≤◌, IfSome, optio
 ghost use Rattle.clap.specs.Words.{first_of, found_of, rows_of};
 ghost use Rattle.command_line.specs.Options as spec;
 
-use crate::range::{AUTOTILE, BUDGET, HANDLES, NumberRange, SHARDS, WORKERS, number_or_default};
+use crate::range::{AUTOTILE, BUDGET, HANDLES, NumberRange, SHARDS, SLOTS, WORKERS};
+use crate::range::number_or_default;
 use clap::ArgMatches;
 use tiff_format::Cut;
 
@@ -21,6 +22,8 @@ pub struct Options {
     pub handles: u32,
     /// How levels are cut into cells, and which levels a file has.
     pub cut: Cut,
+    /// How many slots there are for parts of rows that find no memory as tiles.
+    pub slots: u32,
 }
 
 /// The text of an argument, if it was given or has one by default.
@@ -57,6 +60,7 @@ pub(crate) fn options_of(matches: &ArgMatches<'_>) -> Option<Options>
     let shards = number(matches, "shards", SHARDS)?;
     let handles = number(matches, "handles", HANDLES)?;
     let autotile = number(matches, "autotile", AUTOTILE)?;
+    let slots = number(matches, "slots", SLOTS)?;
     Some(Options {
         workers: workers as u32,
         budget,
@@ -66,5 +70,6 @@ pub(crate) fn options_of(matches: &ArgMatches<'_>) -> Option<Options>
             autotile: autotile as u32,
             automip: !is_given(matches, "no-automip"),
         },
+        slots: slots as u32,
     })
 }

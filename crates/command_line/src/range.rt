@@ -60,6 +60,14 @@ pub(crate) const AUTOTILE: NumberRange = NumberRange {
     default: 64,
 };
 
+/// How many slots there are for parts of rows.
+pub(crate) const SLOTS: NumberRange = NumberRange {
+    least: 0,
+    most: 65536,
+    step: 1,
+    default: 1024,
+};
+
 /// The number of the range that a text spells.
 pub(crate) fn value_in_range(range: NumberRange, text: &str) -> Option<u64>
     requires { 0 < range.step }

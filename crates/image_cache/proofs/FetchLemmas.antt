@@ -40,8 +40,9 @@ pub asks_met : (files : Files) (state : RecordState) (texel : Texel) (old new : 
     → MeetsAt files state (at_of texel) old new → AsksForCell files state texel old new
 asks_met files state texel old new met = record {
   need = subst (λ (hit : Bool). CountsNeed hit old new) (sym met.had) met.need;
-  asked = met.asked;
-  needs = met.needs;
+  apart = record { later = omega (arith, met.apart); either = inl met.apart };
+  asked = λ none. met.asked;
+  needs = λ none. met.needs;
 }
 
 -- so it was fetched

@@ -12,3 +12,4 @@ mod InvalidLemmas
 mod HoldLemmas
 pub mod UnreadLemmas
 pub mod FetchLemmas
+mod ApartLemmas

@@ -21,7 +21,7 @@ use Rattle.image_cache.proofs.TexelLemmas.{cause_since, rises_since}
 use Rattle.image_cache.specs.Reading.{PassTap, ReadsOn, pass_tap}
 use Rattle.image_cache.proofs.FillLemmas.{keeps_view_chain, none_fell, none_falls_chain, hand_chain}
 
-opens_falls : (a b : TapState) → OpensIfAtAll a b → NoneFalls a b
+pub opens_falls : (a b : TapState) → OpensIfAtAll a b → NoneFalls a b
 opens_falls a b (inl same) = subst (λ (s : TapState). NoneFalls a s) (sym same) (none_fell a)
 opens_falls a b (inr once) = record {
   faults = once.faults;
@@ -60,6 +60,7 @@ module _ {files : Files} {gate : GateState} {known : RecordState} {Busy : Type 0
     counts = record {
       needs = omega (arith, opened.counts.needs, left.counts.needs, kept.counts.needs);
       hits = omega (arith, opened.counts.hits, left.counts.hits, kept.counts.hits);
+      apart = omega (arith, opened.counts.apart, left.counts.apart, kept.counts.apart);
     };
   }
 

@@ -110,6 +110,7 @@ counts_then : {a b c : PassState} → SameCounts a b → SameCounts b c → Same
 counts_then first later = record {
   needs = later.needs ∙ first.needs;
   hits = later.hits ∙ first.hits;
+  apart = later.apart ∙ first.apart;
 }
 
 -- ---- steps
@@ -119,7 +120,7 @@ pub reads_none : (files : Files) (gate : GateState) (known : RecordState) (a : P
 reads_none files gate known a Busy few = record {
   tap = none_fell a.tap;
   need = after_none known.file a.pass few;
-  counts = record { needs = omega arith; hits = omega arith };
+  counts = record { needs = omega arith; hits = omega arith; apart = omega arith };
   hand = inr (inl refl);
   visits = visits_same gate a.pass.pinned.seat a.pass.pinned.seat refl;
 }
@@ -147,6 +148,7 @@ reads_at_then {B} {files} {gate} {known} {a} {b} {c} {refused} first later = rec
   counts = record {
     needs = omega (arith, first.counts.needs, later.counts.needs);
     hits = omega (arith, first.counts.hits, later.counts.hits);
+    apart = omega (arith, first.counts.apart, later.counts.apart);
   };
   hand = hand_chain B a.pass b.pass c.pass first.hand later.hand;
 }
@@ -189,6 +191,7 @@ module _ {V T Busy W H : Type 0} {v : a_waiter.Ghosts V Busy} {t : a_tap.Ghosts 
     counts = record {
       needs = later.counts.needs ∙ first.counts.needs;
       hits = later.counts.hits ∙ first.counts.hits;
+      apart = later.counts.apart ∙ first.counts.apart;
     };
     recent = later.recent ∙ first.recent;
     empty = later.empty;
@@ -247,6 +250,58 @@ module _ {V T Busy W H : Type 0} {v : a_waiter.Ghosts V Busy} {t : a_tap.Ghosts 
   }
 
   -- a read of the file alone
+  steps_seen : {files : Files} {a b : Reading V T Busy W H v t h} {refused : Option (CacheError Busy)} → IsSameCall a b
+      → OnlySees a.known.now.file a.pass.now b.pass.now
+      → NoneFalls (t.state a.tap.now) (t.state b.tap.now)
+      → IfSome refused (FetchCause files a.known.now b.pass.now.view (t.state a.tap.now)
+      (t.state b.tap.now)) → MeetsOnlyAgain refused (t.state a.tap.now) (t.state b.tap.now)
+      → Steps files a b refused
+  steps_seen {files} {a} {b} {refused} call sees falls cause moves = record {
+    call = call;
+    left = record {
+      cause = cause;
+      moves = moves;
+      tap = falls;
+      need = record {
+        place = record {
+          board = sees.view.board;
+          gate = ap (λ (p : PinnedState). p.seat.gate) sees.pinned;
+          cut = ap (λ (p : PinnedState). p.cut) sees.pinned;
+          permits = ap (λ (p : PinnedState). p.seat.permits) sees.pinned;
+        };
+        view = sees.view;
+        steps = sees.steps;
+        few = sees.few;
+        holds = ap (λ (p : PinnedState). p.holds) sees.pinned;
+        latest = sees.latest;
+      };
+      visits = visits_same a.cache.now.gate a.pass.now.pinned.seat b.pass.now.pinned.seat
+          (ap (λ (p : PinnedState). p.seat) sees.pinned);
+    };
+  }
+
+  pub reads_seen : {files : Files} {a b : Reading V T Busy W H v t h} {refused : Option (CacheError Busy)} → IsSameCall a b
+      → OnlySees a.known.now.file a.pass.now b.pass.now
+      → NoneFalls (t.state a.tap.now) (t.state b.tap.now)
+      → IfSome refused (FetchCause files a.known.now b.pass.now.view (t.state a.tap.now)
+      (t.state b.tap.now)) → MeetsOnlyAgain refused (t.state a.tap.now) (t.state b.tap.now)
+      → Reads files a b refused
+  reads_seen {files} {a} {b} {refused} call sees falls cause moves =
+      let steps = steps_seen {files = files} {a = a} {b = b} {refused = refused} call sees falls
+      cause moves in
+      record {
+        call = call;
+        left = record {
+          steps = steps.left;
+          counts = record {
+            needs = omega (arith, sees.counts.needs);
+            hits = omega (arith, sees.counts.hits);
+            apart = omega (arith, sees.counts.apart);
+          };
+          hand = inr (inl (ap (λ (p : PinnedState). p.hand) sees.pinned));
+        };
+      }
+
   pub makes_seen : {files : Files} {a b : Reading V T Busy W H v t h} {refused : Option (CacheError Busy)} → IsSameCall a b
       → OnlySees a.known.now.file a.pass.now b.pass.now
       → NoneFalls (t.state a.tap.now) (t.state b.tap.now)
@@ -254,29 +309,8 @@ module _ {V T Busy W H : Type 0} {v : a_waiter.Ghosts V Busy} {t : a_tap.Ghosts 
       (t.state b.tap.now)) → MeetsOnlyAgain refused (t.state a.tap.now) (t.state b.tap.now)
       → IfSome refused (λ _. (b.pass.now.pinned.hand ≡ None) ⊎ Busy) → Makes files a b refused
   makes_seen {files} {a} {b} {refused} call sees falls cause moves empty = record {
-    steps = record {
-      call = call;
-      left = record {
-        cause = cause;
-        moves = moves;
-        tap = falls;
-        need = record {
-          place = record {
-            board = sees.view.board;
-            gate = ap (λ (p : PinnedState). p.seat.gate) sees.pinned;
-            cut = ap (λ (p : PinnedState). p.cut) sees.pinned;
-            permits = ap (λ (p : PinnedState). p.seat.permits) sees.pinned;
-          };
-          view = sees.view;
-          steps = sees.steps;
-          few = sees.few;
-          holds = ap (λ (p : PinnedState). p.holds) sees.pinned;
-          latest = sees.latest;
-        };
-        visits = visits_same a.cache.now.gate a.pass.now.pinned.seat b.pass.now.pinned.seat
-            (ap (λ (p : PinnedState). p.seat) sees.pinned);
-      };
-    };
+    steps = steps_seen {files = files} {a = a} {b = b} {refused = refused} call sees falls cause
+        moves;
     counts = sees.counts;
     recent = ap (λ (p : PinnedState). p.recent) sees.pinned;
     empty = empty;
@@ -296,7 +330,7 @@ module _ {V T Busy W H : Type 0} {v : a_waiter.Ghosts V Busy} {t : a_tap.Ghosts 
         holds = refl;
         latest = refl;
         visits = visits_same a.cache.now.gate a.pass.now.pinned.seat a.pass.now.pinned.seat refl;
-      }) (record { needs = refl; hits = refl }) refl want empty
+      }) (record { needs = refl; hits = refl; apart = refl }) refl want empty
 
   -- ---- answers of `?`
 
@@ -372,6 +406,7 @@ module _ {V T Busy W H : Type 0} {v : a_waiter.Ghosts V Busy} {t : a_tap.Ghosts 
       counts = record {
         needs = omega (arith, brought.counts.needs);
         hits = omega (arith, brought.counts.hits);
+        apart = omega (arith, brought.counts.apart);
       };
       hand = brought.hand;
     };
@@ -391,7 +426,7 @@ module _ {V T Busy W H : Type 0} {v : a_waiter.Ghosts V Busy} {t : a_tap.Ghosts 
         latest = refl;
         visits = visits_same a.cache.now.gate a.pass.now.pinned.seat a.pass.now.pinned.seat refl;
       }) want).left;
-      counts = record { needs = omega arith; hits = omega arith };
+      counts = record { needs = omega arith; hits = omega arith; apart = omega arith };
       hand = inr (inl refl);
     };
   }

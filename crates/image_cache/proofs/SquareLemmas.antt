@@ -112,10 +112,12 @@ module _ (files : Files) (state : RecordState) (cell : CellAt) where
       → has_cell cell old.pinned.recent ≡ true
       → IsAsked key_in old.pinned.recent cell.key true new.pinned.recent
       → AsksFor cell.key old.pinned.recent new.pinned.recent → CountsNeed true old new
-      → KeepsAllBut recent_and_counts old new → MeetsAt files state at old new
-  meets_first at old new is has asked asks need kept = record {
+      → new.apart ≡ old.apart → KeepsAllBut recent_and_counts old new
+      → MeetsAt files state at old new
+  meets_first at old new is has asked asks need apart kept = record {
     had = has_at state at cell old.pinned.recent is ∙ has;
     need = need;
+    apart = apart;
     asked = asks_at state at cell old.pinned.recent new.pinned.recent is asks;
     turned = at_cell (λ key. IsAskedFor key old.pinned.recent new.pinned.recent) state at cell is
         (true, asked);
@@ -129,13 +131,13 @@ module _ (files : Files) (state : RecordState) (cell : CellAt) where
   -- and each further one finds it there
   meets_again : (at : TexelAt) (old new : PassState) → IsCellIn state at cell
       → StandsFirst cell old.pinned.recent → StaysAskedFor cell.key old.pinned.recent
-      → new.pinned.recent ≡ old.pinned.recent → CountsNeed true old new
+      → new.pinned.recent ≡ old.pinned.recent → CountsNeed true old new → new.apart ≡ old.apart
       → KeepsAllBut recent_and_counts old new → MeetsAt files state at old new
-  meets_again at old new is first stays same need kept =
+  meets_again at old new is first stays same need apart kept =
       meets_first at old new is (stands_has cell old.pinned.recent first)
       (stays.there, same ∙ stays.moved)
       (subst (λ (tiles : List CachedTile). AsksFor cell.key old.pinned.recent tiles) (sym same)
-      stays.again) need kept
+      stays.again) need apart kept
 
 -- a pass that has counted so many
 abbrev with_counts : PassState → ℕ → ℕ → PassState
@@ -160,8 +162,9 @@ pub meets_square : (files : Files) (state : RecordState) (square : Square) (cell
     → AsksFor cell.key old.pinned.recent new.pinned.recent
     → StandsFirst cell new.pinned.recent → StaysAskedFor cell.key new.pinned.recent
     → KeepsAllBut recent_and_counts old new → new.needs ≡ counted_together old.needs 4
-    → new.hits ≡ counted_together old.hits 4 → MeetsSquare files state square old new
-meets_square files state square cell old new is one has asked asks first stays kept needs hits =
+    → new.hits ≡ counted_together old.hits 4 → new.apart ≡ old.apart
+    → MeetsSquare files state square old new
+meets_square files state square cell old new is one has asked asks first stays kept needs hits apart =
     let each = cell_of_each state square cell is one in
     let n1 = counted old.needs in
     let h1 = counted old.hits in
@@ -179,7 +182,7 @@ meets_square files state square cell old new is one has asked asks first stays k
       second = two_more;
       third = three_more;
       to_first = meets_first files state cell (left_top square) old one_more each.first has asked asks
-          (record { needs = refl; hits = refl })
+          (record { needs = refl; hits = refl }) apart
           (record {
             place = record {
               board = kept.place.board;
@@ -198,13 +201,13 @@ meets_square files state square cell old new is one has asked asks first stays k
             latest = kept.latest;
           });
       to_second = meets_again files state cell (right_top square) one_more two_more each.second first
-          stays refl (record { needs = refl; hits = refl })
+          stays refl (record { needs = refl; hits = refl }) refl
           (same_but_counts new n1 h1 n2 h2 kept.tiles.few);
       to_third = meets_again files state cell (left_bottom square) two_more three_more each.third first
-          stays refl (record { needs = refl; hits = refl })
+          stays refl (record { needs = refl; hits = refl }) refl
           (same_but_counts new n2 h2 n3 h3 kept.tiles.few);
       to_last = meets_again files state cell (right_bottom square) three_more new each.last first
-          stays refl (record { needs = last_need; hits = last_hit })
+          stays refl (record { needs = last_need; hits = last_hit }) refl
           (same_but_counts new n3 h3 new.needs new.hits kept.tiles.few);
     }
 

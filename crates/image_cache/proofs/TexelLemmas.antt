@@ -24,10 +24,10 @@ use Rattle.image_cache.specs.Texel.{IsCellIn, IsCellAt, IsCellOf, IsCellUnder, c
 use Rattle.texel_values.specs.Values.{AreValuesAt, AreToldValues}
 use Rattle.pinned_tiles.specs.Pinned.{AsksFor}
 use Rattle.image_cache.specs.Call.{AsksForCellAt, NoneFalls}
-use Rattle.image_cache.specs.Cause.{FetchCause}
+use Rattle.image_cache.specs.Cause.{FetchCause, WantsByOpening}
 
 -- a world that holds bytes tells
-tells_of : (files : Files) → IsWorld files → (n g : ℕ) (bytes : List ℕ)
+pub tells_of : (files : Files) → IsWorld files → (n g : ℕ) (bytes : List ℕ)
     → files.held n g ≡ Some bytes → IsTrue files.tells
 tells_of files world n g bytes held = by files.tells refl
   where
@@ -36,7 +36,7 @@ tells_of files world n g bytes held = by files.tells refl
     by false is = absurd (cc (world.untold is n g, held))
 
 -- what is so of the bytes that are held
-of_held : (o : Option (List ℕ)) (bytes : List ℕ) (P : List ℕ → Type 0) → o ≡ Some bytes
+pub of_held : (o : Option (List ℕ)) (bytes : List ℕ) (P : List ℕ → Type 0) → o ≡ Some bytes
     → IsSomeAnd o P → P bytes
 of_held o bytes P is holds = subst (λ (q : Option (List ℕ)). IsSomeAnd q P) is holds
 
@@ -171,6 +171,21 @@ cause_since files r view old mid new (refused.NoLevel generation levels) later n
 cause_since files r view old mid new (refused.Outside generation) later none = none
 cause_since files r view old mid new refused.RegionTooLarge later none = none
 cause_since files r view old mid new refused.HoldsFull later none = none
+
+-- memory that was wanting by an opening was so since an earlier moment
+pub wants_since : {B : Type 0} (old mid new : TapState) (e : CacheError B) → NoneFalls old mid
+    → WantsByOpening mid new e → WantsByOpening old new e
+wants_since old mid new refused.NoMemory later rises =
+    rises_since old.opens mid.opens new.opens later.opens rises
+wants_since old mid new (refused.Again from to) later free = tt
+wants_since old mid new refused.ReadFault later free = tt
+wants_since old mid new (refused.Busy b) later free = tt
+wants_since old mid new (refused.BadFile generation fault) later free = tt
+wants_since old mid new (refused.TileTooLarge generation) later free = tt
+wants_since old mid new (refused.NoLevel generation levels) later free = tt
+wants_since old mid new (refused.Outside generation) later free = tt
+wants_since old mid new refused.RegionTooLarge later free = tt
+wants_since old mid new refused.HoldsFull later free = tt
 
 -- a record has the level of each of its cells
 pub level_of_cell : (state : RecordState) (cell : CellAt) → IsCellOf state cell

@@ -17,7 +17,7 @@ pub recent_of : (old new : PassState) → KeepsAllBut view_and_record old new �
 recent_of old new kept = record { recent = kept.tiles.recent; counts = kept.counts }
 
 pub recent_same : (pass : PassState) → KeepsRecent pass pass
-recent_same pass = record { recent = refl; counts = record { needs = refl; hits = refl } }
+recent_same pass = record { recent = refl; counts = record { needs = refl; hits = refl; apart = refl } }
 
 chain : (a b c d : PassState) → KeepsRecent a b → KeepsRecent b c → KeepsRecent c d
     → KeepsRecent a d
@@ -26,6 +26,7 @@ chain a b c d first next last = record {
   counts = record {
     needs = last.counts.needs ∙ (next.counts.needs ∙ first.counts.needs);
     hits = last.counts.hits ∙ (next.counts.hits ∙ first.counts.hits);
+    apart = last.counts.apart ∙ (next.counts.apart ∙ first.counts.apart);
   };
 }
 

@@ -1,5 +1,5 @@
 -- What do the calls of a cache give, when may each be refused, and what do they leave of the pass?
-use Rattle.std.specs.Prelude.{◌≡◌, ◌⊎◌, ℕ, ◌≤◌, ◌++◌, Bool, IsTrue, List, ◌∷◌, []}
+use Rattle.std.specs.Prelude.{◌≡◌, ◌⊎◌, ℕ, ◌<◌, ◌≤◌, ◌++◌, Bool, IsTrue, List, ◌∷◌, []}
 use Rattle.std.specs.Prelude.{length, count_by, slice_index}
 use Rattle.std.specs.Prelude.{if◌then◌else◌, None, Result, Ok, IfOk, IsOkAnd, IsSomeAnd}
 use Rattle.tex_world.specs.World.{Files}
@@ -16,12 +16,27 @@ use Rattle.tile_store.specs.Lawful.{FitsCut}
 use Rattle.shard_gate.specs.Gate.{GateState}
 use Rattle.shard_gate.specs.Since.{Misses}
 use Rattle.texel_values.specs.declared.texel_at.TexelAt.{TexelAt}
-use Rattle.image_cache.specs.Pass.{PassState, SamePlace, SameCounts, counted}
+use Rattle.image_cache.specs.Pass.{PassState, SamePlace, SameCounts, counted, max_count}
 use Rattle.image_cache.specs.Pass.{counted_together, KeepsAllBut, view_and_record}
 use Rattle.pinned_tiles.specs.Pinned.{key_in, AsksFor, IsAskedFor}
 use Rattle.image_cache.specs.Texel.{IsTexelOf, cell_of}
 
 -- ---- a need
+
+-- The pass has answered nothing apart, which its count tells until it stands at its most.
+pub record NoneApart (old new : PassState) : Type 0 where
+  pub same : new.apart ≡ old.apart
+  pub low : old.apart < max_count
+
+-- A need was answered apart, and counted so. Where the world tells, its microcache is as it was.
+pub record IsApart (files : Files) (old new : PassState) : Type 0 where
+  pub counted : new.apart ≡ counted old.apart
+  pub recent : IsTrue files.tells → new.pinned.recent ≡ old.pinned.recent
+
+-- So it was, or it was not answered apart.
+pub record MayBeApart (files : Files) (old new : PassState) : Type 0 where
+  pub later : old.apart ≤ new.apart
+  pub either : (new.apart ≡ old.apart) ⊎ IsApart files old new
 
 -- The pass has counted one need, and one hit where its microcache had the cell.
 pub record CountsNeed (hit : Bool) (old new : PassState) : Type 0 where
@@ -109,6 +124,7 @@ NeedsCellAt files state at old new = IfOk state.layout (λ kept. Needs files
 pub record CountsOn (old new : PassState) : Type 0 where
   pub needs : old.needs ≤ new.needs
   pub hits : old.hits ≤ new.hits
+  pub apart : old.apart ≤ new.apart
 
 -- ---- the calls on a file
 

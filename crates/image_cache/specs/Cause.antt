@@ -103,6 +103,22 @@ IsWanting refused.NoMemory = ⊤
 IsWanting (refused.Busy b) = ⊤
 IsWanting _ = ⊥
 
+-- The refusal is that the waiter gave up.
+abbrev pub IsBusy : {B : Type 0} → CacheError B → Type 0
+IsBusy (refused.Busy b) = ⊤
+IsBusy _ = ⊥
+
+-- Memory is wanting only where a file was opened.
+abbrev pub WantsByOpening : {B : Type 0} → TapState → TapState → CacheError B → Type 0
+WantsByOpening old new refused.NoMemory = Rises old.opens new.opens
+WantsByOpening old new _ = ⊤
+
+-- The tap had no call, and nothing but a waiter that gave up refuses.
+pub record AnswersFromHold {A B : Type 0} (old new : TapState) (result : Result A (CacheError B))
+    : Type 0 where
+  pub tap : new ≡ old
+  pub busy : IfErr result IsBusy
+
 -- The tap had no call, and the answer is refused for nothing else.
 pub record AnswersHeld {A B : Type 0} (old new : TapState) (result : Result A (CacheError B))
     : Type 0 where

@@ -1,5 +1,5 @@
 -- What does the fetch of a texel leave, as a lookup fetches it?
-use Rattle.std.specs.Prelude.{◌≡◌, true, false}
+use Rattle.std.specs.Prelude.{◌≡◌, ◌≤◌, true, false}
 use Rattle.tex_world.specs.declared.tap.Tap as a_tap
 use Rattle.tex_world.specs.declared.tap.TapHandle as a_handle
 use Rattle.waiter.specs.declared.waiting.Waiter as a_waiter
@@ -11,10 +11,10 @@ use Rattle.texel_filter.specs.Image.{Texel}
 use Rattle.texel_values.specs.declared.texel_at.TexelAt.{TexelAt}
 use Rattle.image_cache.specs.declared.error.CacheError.{CacheError}
 use Rattle.image_cache.specs.Pass.{PassState}
-use Rattle.image_cache.specs.Texel.{has_cell_at}
+use Rattle.image_cache.specs.Texel.{has_cell_at, IsStoredAt}
 use Rattle.image_cache.specs.Call.{CountsNeed, AsksForCellAt, NeedsCellAt, AfterNeed, NoneFalls}
-use Rattle.image_cache.specs.Call.{MovesCellAt}
-use Rattle.image_cache.specs.Cause.{FetchCause}
+use Rattle.image_cache.specs.Call.{MovesCellAt, NoneApart, MayBeApart}
+use Rattle.image_cache.specs.Cause.{FetchCause, WantsByOpening}
 use Rattle.image_cache.specs.declared.reading.Reading.{Reading}
 use Rattle.image_cache.specs.Reading.{PassTap, IsSameCall, moment}
 
@@ -23,12 +23,15 @@ abbrev pub at_of : Texel → TexelAt
 at_of texel = record { level = texel.level; x = texel.x; y = texel.y }
 
 -- The pass asked for the cell that holds a texel of a record: one need is counted, and a hit where
--- its microcache had the cell, which has then the latest of the keys that were asked for.
+-- its microcache had the cell. Unless the need was answered apart the microcache has then the latest
+-- of the keys that were asked for.
 pub record AsksForCell (files : Files) (state : RecordState) (texel : Texel) (old new : PassState)
     : Type 0 where
   pub need : CountsNeed (has_cell_at state (at_of texel) old.pinned.recent) old new
-  pub asked : AsksForCellAt state (at_of texel) old.pinned.recent new.pinned.recent
-  pub needs : NeedsCellAt files state (at_of texel) old new
+  pub apart : MayBeApart files old new
+  pub asked : NoneApart old new
+      → AsksForCellAt state (at_of texel) old.pinned.recent new.pinned.recent
+  pub needs : NoneApart old new → NeedsCellAt files state (at_of texel) old new
 
 -- The tap had no call, the pass has seen and looked at nothing, and the tile was moved to the first
 -- place of its microcache.
@@ -50,7 +53,7 @@ pub record Fetches (files : Files) (gate : GateState) (state : RecordState) (old
       → IsWarmFetch state old texel new
 
 -- It was not, for one of the causes of `fetch`. The microcache lacked its cell, and one need is
--- counted.
+-- counted. Of a stored level memory is wanting only where a file was opened.
 pub record Refuses {B : Type 0} (files : Files) (gate : GateState) (state : RecordState)
     (old : PassTap) (texel : Texel) (e : CacheError B) (new : PassTap) : Type 0 where
   pub cause : FetchCause files state new.pass.view old.tap new.tap e
@@ -59,6 +62,8 @@ pub record Refuses {B : Type 0} (files : Files) (gate : GateState) (state : Reco
   pub visits : PurgesNone gate old.pass.pinned.seat new.pass.pinned.seat
   pub cold : has_cell_at state (at_of texel) old.pass.pinned.recent ≡ false
   pub need : CountsNeed (has_cell_at state (at_of texel) old.pass.pinned.recent) old.pass new.pass
+  pub apart : old.pass.apart ≤ new.pass.apart
+  pub memory : IsStoredAt state (at_of texel) → WantsByOpening old.tap new.tap e
 
 -- ---- of a call by a record
 

@@ -15,3 +15,4 @@ pub mod Cause
 pub mod Region
 pub mod Sizes
 pub mod Fetches
+pub mod Apart

@@ -11,6 +11,10 @@ use Rattle.image_cache.specs.declared.options.NewError.TheVariants as new
 abbrev pub max_handles : ℕ
 max_handles = 1024
 
+-- the slots for parts of rows
+abbrev pub max_slots : ℕ
+max_slots = 65536
+
 -- the number is 1 at least
 abbrev pub is_from_one_to : ℕ → ℕ → Bool
 is_from_one_to most n = nat_le 1 n && nat_le n most
@@ -20,15 +24,16 @@ abbrev pub is_autotile : ℕ → Bool
 is_autotile side = nat_le side max_autotile && side % autotile_step == 0
 
 -- The first option that is out of its range, by its number: 1 budget, 2 shards, 3 passes,
--- 4 handles, 5 autotile.
+-- 4 handles, 5 autotile, 6 slots.
 abbrev pub first_bad : Options → Option ℕ
 first_bad o =
     if nat_le o.budget max_budget then
     if is_from_one_to max_shards o.shards then
     if is_from_one_to max_passes o.passes then
     if is_from_one_to max_handles o.handles then
-    if is_autotile o.cut.autotile then None
-    else Some 5 else Some 4 else Some 3 else Some 2 else Some 1
+    if is_autotile o.cut.autotile then
+    if nat_le o.slots max_slots then None
+    else Some 6 else Some 5 else Some 4 else Some 3 else Some 2 else Some 1
 
 -- why no cache was made
 abbrev pub NewCause : Options → NewError → Type 0

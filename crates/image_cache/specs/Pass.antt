@@ -28,22 +28,43 @@ pub record PassState : Type 0 where
   pub pinned : PinnedState
   -- the record that it keeps for its next lookup
   pub latest : Option RecordState
-  -- how many cells its answers needed, and how many of these its microcache had
+  -- how many cells its answers needed, how many of these its microcache had, and how many were
+  -- answered apart
   pub needs : ℕ
   pub hits : ℕ
+  pub apart : ℕ
 
 abbrev pub cache_state : FilesState → GateState → CacheState
 cache_state files gate = record { files = files; gate = gate }
 
-abbrev pub pass_state : ViewState → PinnedState → Option RecordState → ℕ → ℕ → PassState
-pass_state view pinned latest needs hits =
-    record { view = view; pinned = pinned; latest = latest; needs = needs; hits = hits }
+-- What a pass counts.
+pub record PassCounts : Type 0 where
+  pub needs : ℕ
+  pub hits : ℕ
+  pub apart : ℕ
+
+-- nothing yet
+abbrev pub no_counts : PassCounts
+no_counts = record { needs = 0; hits = 0; apart = 0 }
+
+abbrev pub pass_state : ViewState → PinnedState → Option RecordState → PassCounts → PassState
+pass_state view pinned latest counts = record {
+  view = view;
+  pinned = pinned;
+  latest = latest;
+  needs = counts.needs;
+  hits = counts.hits;
+  apart = counts.apart;
+}
 
 -- the same, of a record that is shared
-abbrev pub kept_pass : {Z : Type 0} → ViewState → PinnedState → Option (Arc RecordState Z) → ℕ → ℕ
-    → PassState
-kept_pass view pinned latest needs hits =
-    pass_state view pinned (option_map arc_value latest) needs hits
+abbrev pub kept_pass : {Z : Type 0} → ViewState → PinnedState → Option (Arc RecordState Z)
+    → PassCounts → PassState
+kept_pass view pinned latest counts = pass_state view pinned (option_map arc_value latest) counts
+
+-- the three counts
+abbrev pub pass_counts : ℕ → ℕ → ℕ → PassCounts
+pass_counts needs hits apart = record { needs = needs; hits = hits; apart = apart }
 
 -- What holds of every pass: its pins are those of its tiles, two at most in its microcache and four
 -- at most that it holds, and where the world tells each is a cell of its file. Its record is used
@@ -104,6 +125,7 @@ pub record IsFresh (pass : PassState) : Type 0 where
   pub latest : pass.latest ≡ None
   pub needs : pass.needs ≡ 0
   pub hits : pass.hits ≡ 0
+  pub apart : pass.apart ≡ 0
 
 -- The pass is the cache's first one. It has all permits and has seen nothing.
 pub record IsFirstPass (cache : CacheState) (pass : PassState) : Type 0 where
@@ -141,6 +163,7 @@ pub record SameTiles (old new : PassState) : Type 0 where
 pub record SameCounts (old new : PassState) : Type 0 where
   pub needs : new.needs ≡ old.needs
   pub hits : new.hits ≡ old.hits
+  pub apart : new.apart ≡ old.apart
 
 -- It has seen and counted the same.
 pub record SameView (old new : PassState) : Type 0 where
@@ -270,3 +293,4 @@ pub record PassAfterJoin (other old new : PassState) : Type 0 where
   pub steps : new.view.steps ≡ old.view.steps
   pub needs : new.needs ≡ counted_together old.needs other.needs
   pub hits : new.hits ≡ counted_together old.hits other.hits
+  pub apart : new.apart ≡ counted_together old.apart other.apart

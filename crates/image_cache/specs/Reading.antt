@@ -17,7 +17,7 @@ use Rattle.pinned_tiles.specs.Pinned.{key_in, AsksFor}
 use Rattle.micro.specs.Runs.{IsAsked}
 use Rattle.image_cache.specs.declared.error.CacheError.{CacheError}
 use Rattle.image_cache.specs.declared.reading.Reading.{Reading}
-use Rattle.image_cache.specs.Pass.{PassState, SameCounts}
+use Rattle.image_cache.specs.Pass.{PassState, SameCounts, counted}
 use Rattle.texel_values.specs.declared.texel_at.TexelAt.{TexelAt}
 use Rattle.image_cache.specs.Call.{AfterNeed, CountsOn, HasNoCall, LeavesNoHand, NoneFalls}
 use Rattle.image_cache.specs.Call.{AsksForCellAt, TurnsToCellAt, NeedsCellAt}
@@ -59,6 +59,19 @@ pub record PlacesKey (key : ℕ) (old new : List CachedTile) : Type 0 where
   pub asked : IsAsked key_in old key false new
   pub latest : AsksFor key old new
   pub first : HasFirst key new
+
+-- A read of a part of a row leaves the tiles and the counts of a pass as they were.
+pub record IsReadApart (old new : PassState) : Type 0 where
+  pub pinned : new.pinned ≡ old.pinned
+  pub counts : SameCounts old new
+
+-- What it leaves of a pass that a need is answered apart, or is to be: its tiles and its other
+-- counts are as they were.
+pub record IsTakenApart (old new : PassState) : Type 0 where
+  pub pinned : new.pinned ≡ old.pinned
+  pub needs : new.needs ≡ old.needs
+  pub hits : new.hits ≡ old.hits
+  pub apart : (new.apart ≡ old.apart) ⊎ (new.apart ≡ counted old.apart)
 
 -- ---- what a step leaves, whatever it answers
 

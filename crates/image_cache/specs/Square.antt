@@ -55,6 +55,7 @@ pub record MeetsAt (files : Files) (state : RecordState) (at : TexelAt) (old new
     : Type 0 where
   pub had : has_cell_at state at old.pinned.recent ≡ true
   pub need : CountsNeed true old new
+  pub apart : new.apart ≡ old.apart
   pub asked : AsksForCellAt state at old.pinned.recent new.pinned.recent
   pub turned : TurnsToCellAt state at old.pinned.recent new.pinned.recent
   pub moved : MovesCellAt state at old.pinned.recent new.pinned.recent

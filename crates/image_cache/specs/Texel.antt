@@ -5,7 +5,7 @@ use Rattle.tex_world.specs.World.{Files, IsFile}
 use Rattle.tiff_format.specs.declared.fault.TiffFault.{TiffFault}
 use Rattle.tiff_format.specs.declared.cut.Cut.{Cut}
 use Rattle.tile_layout.specs.Key.{key_of, generation_of, file_of, level_of, index_of}
-use Rattle.tile_layout.specs.Kept.{Kept}
+use Rattle.tile_layout.specs.Kept.{Kept, stored_count}
 use Rattle.tile_layout.specs.Level.{width_in, height_in, level_count_in}
 use Rattle.tile_layout.specs.Cell.{cut_level_in, cell_count, cell_index, cell_rect, channels_in}
 use Rattle.tile_layout.specs.Cell.{CellsFit, HoldsTexel}
@@ -50,6 +50,17 @@ pub record IsGivenBy (files : Files) (cache : CacheState) (state : RecordState) 
   pub number : state.file < cache.files.board.files
   pub file : IsFile files state.file
   pub cut : state.cut ≡ cache.gate.cut
+
+-- The texel lies in a stored level, and has so many samples.
+pub record IsStoredTexel (kept : Kept) (at : TexelAt) (n : ℕ) : Type 0 where
+  pub stored : at.level < stored_count kept
+  pub column : at.x < width_in kept at.level
+  pub row : at.y < height_in kept at.level
+  pub channels : n ≡ channels_in kept
+
+-- the level of the texel is a stored one of the record
+abbrev pub IsStoredAt : RecordState → TexelAt → Type 0
+IsStoredAt state at = IsOkAnd state.layout (λ kept. at.level < stored_count kept)
 
 -- the texel lies in a level of the record
 abbrev pub IsTexelIn : RecordState → TexelAt → Type 0

@@ -9,7 +9,7 @@ ghost use Rattle.image_cache.specs.Pass.{IsPassOf, IsNewCache, IsFirstPass, IsSe
 ghost use Rattle.image_cache.specs.Pass.{PassAfterSplit, PassAfterJoin, SeesBoth};
 ghost use Rattle.image_cache.specs.Pass.{KeepsAllBut, nothing, the_view, its_visits, its_tiles};
 ghost use Rattle.image_cache.specs.Cause.{SplitCause};
-ghost use Rattle.pinned_tiles.specs.Pinned.{LeavesPart};
+ghost use Rattle.pinned_tiles.specs.Pinned.{LeavesPart, tiles_at};
 
 use crate::error::{NotJoined, SplitError};
 use crate::options::{NewError, Options};
@@ -21,6 +21,7 @@ use std::alloc::Global;
 use std::marker::Model;
 use tex_world::{NoMemory, Tap};
 use tiff_format::{Cut, ShardCount};
+use tile_slots::Slots;
 use waiter::Waiter;
 
 /// The texels of the files of a folder, for many passes at once. In a clause it is its files and
@@ -30,6 +31,7 @@ pub struct Cache<T: Tap> {
     pub(crate) alloc: Global,
     pub(crate) files: Files<T>,
     pub(crate) gate: Gate<T::W>,
+    pub(crate) slots: Slots<T::W>,
     pub(crate) cut: Cut,
     shards: u32,
 }
@@ -99,6 +101,12 @@ impl<T: Tap> Cache<T> {
             pass.old.pinned.seat.visits pass.new.pinned.seat.visits) }
         ensures share { IfOk result (λ count. count.share ≡ self.now.gate.share) }
         ensures within { IfOk result (λ count. count.loose ≤ count.share) }
+        // The pins of the pass's own tiles are counted, and no others where it has all permits.
+        ensures own { IfOk result (λ count.
+            tiles_at (length self.now.gate.id) shard pass.old.pinned ≤ count.pins) }
+        ensures alone { IfOk result (λ count.
+            pass.old.pinned.seat.permits ≡ self.now.gate.passes
+            → count.pins ≡ tiles_at (length self.now.gate.id) shard pass.old.pinned) }
         ensures same { KeepsAllBut its_visits pass.old pass.new }
     {
         pass.pinned.count(&self.gate, waiter, shard)
@@ -174,11 +182,13 @@ impl<T: Tap> Cache<T> {
             latest: _,
             needs,
             hits,
+            apart,
         } = other;
         self.files.board().join(&mut keep.view, view);
         keep.pinned.join(&self.gate, pinned);
         keep.needs = keep.needs.saturating_add(needs);
         keep.hits = keep.hits.saturating_add(hits);
+        keep.apart = keep.apart.saturating_add(apart);
     }
 
     /// A second pass.
@@ -212,10 +222,12 @@ fn made<T: Tap>(
     let (gate, seat) = Gate::new(alloc, options.budget, options.shards, options.passes, cut)?;
     let pinned = Pinned::new(alloc, seat, cut)?;
     pinned.know();
+    let slots = Slots::new(alloc, options.slots)?;
     let cache = Cache {
         alloc,
         files,
         gate,
+        slots,
         cut,
         shards: options.shards,
     };

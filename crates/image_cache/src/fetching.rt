@@ -1,20 +1,21 @@
 //! One texel: from the microcache, else from the shards, else from the file.
-ghost use Rattle.std.specs.Prelude.{◌≡◌, ◌⊎◌, true, false, OnOk, OnErr, IfErr, IsTrue, IsFalse};
+ghost use Rattle.std.specs.Prelude.{◌≡◌, ◌⊎◌, ◌≤◌, true, false, OnOk, OnErr, IfErr, IsTrue};
+ghost use Rattle.std.specs.Prelude.{IsFalse};
 ghost use Rattle.std.specs.Option.{ForSome};
 ghost use Rattle.file_table.specs.Calls.{sighted};
 ghost use Rattle.shard_gate.specs.Since.{PurgesNone};
 ghost use Rattle.image_cache.specs.Pass.{IsPassOf};
 ghost use Rattle.pinned_tiles.specs.Cell.{is_tile_of, has_cell, StandsFirst};
 ghost use Rattle.image_cache.specs.Texel.{IsRecordOf, IsKnownTo, IsTexelIn, IsCellAt};
-ghost use Rattle.image_cache.specs.Texel.{has_cell_at};
+ghost use Rattle.image_cache.specs.Texel.{has_cell_at, IsStoredAt};
 ghost use Rattle.texel_values.specs.Values.{AreValuesAt};
 ghost use Rattle.image_cache.specs.Call.{CountsNeed, AsksForCellAt, TurnsToCellAt, MovesCellAt};
 ghost use Rattle.image_cache.specs.Call.{NeedsCellAt, AfterNeed, HasNoCall, MissesCellAt};
-ghost use Rattle.image_cache.specs.Call.{HoldsCellAt};
+ghost use Rattle.image_cache.specs.Call.{HoldsCellAt, NoneApart, MayBeApart};
 ghost use Rattle.image_cache.specs.Reading.{refusal, IsSameCall, Reads, IsNeededAt};
 ghost use Rattle.image_cache.specs.Call.{LeavesNoHand, NoneFalls, AnswersWarm};
 ghost use Rattle.image_cache.specs.Square.{MeetsAt};
-ghost use Rattle.image_cache.specs.Cause.{FetchCause, MovesOnlyAgain, AnswersHeld};
+ghost use Rattle.image_cache.specs.Cause.{FetchCause, MovesOnlyAgain, AnswersFromHold, WantsByOpening};
 ghost use Rattle.micro.specs.Items.{HasKey};
 ghost use Rattle.pinned_tiles.specs.Pinned.{key_in};
 
@@ -58,22 +59,29 @@ impl<T: Tap> Cache<T> {
         // What the call leaves of the pass.
         ensures need { CountsNeed (has_cell_at known.now at pass.old.pinned.recent)
             pass.old pass.new }
-        ensures asked { OnOk result (AsksForCellAt known.now at
+        ensures apart { OnOk result (MayBeApart T.W.files pass.old pass.new) }
+        ensures asked { OnOk result (NoneApart pass.old pass.new → AsksForCellAt known.now at
             pass.old.pinned.recent pass.new.pinned.recent) }
-        ensures turned { OnOk result (TurnsToCellAt known.now at
+        ensures turned { OnOk result (NoneApart pass.old pass.new → TurnsToCellAt known.now at
             pass.old.pinned.recent pass.new.pinned.recent) }
-        ensures needs { OnOk result (NeedsCellAt T.W.files known.now at pass.old pass.new) }
+        ensures needs { OnOk result (NoneApart pass.old pass.new
+            → NeedsCellAt T.W.files known.now at pass.old pass.new) }
+        ensures later { pass.old.apart ≤ pass.new.apart }
         ensures hand { LeavesNoHand V.Busy pass.old pass.new }
         ensures same { AfterNeed known.now.file pass.old pass.new }
         // Each visit that it makes is that of a `pin`, a `pin_new`, an `unpin` or a `count`. Where
-        // the world tells, the tap has a call only where one of them missed the cell.
+        // the world tells, the tap has a call only where one of them missed the cell, or where the
+        // need was answered apart.
         ensures visits { PurgesNone self.now.gate pass.old.pinned.seat pass.new.pinned.seat }
-        ensures missed { IsTrue T.W.files.tells → HasNoCall (T.state tap.old) (T.state tap.new)
+        ensures missed { IsTrue T.W.files.tells → NoneApart pass.old pass.new
+            → HasNoCall (T.state tap.old) (T.state tap.new)
             ⊎ MissesCellAt self.now.gate known.now at pass.old pass.new }
-        // So it has none where the pass holds the cell, and nothing but want of memory or a waiter
-        // that gives up can refuse.
-        ensures held { IsTrue T.W.files.tells → HoldsCellAt known.now at pass.old → AnswersHeld
+        // It has none where the pass holds the cell, and nothing but a waiter that gives up refuses.
+        ensures held { IsTrue T.W.files.tells → HoldsCellAt known.now at pass.old → AnswersFromHold
             (T.state tap.old) (T.state tap.new) result }
+        // Of a stored level memory is wanting only where a file was opened.
+        ensures memory { IsStoredAt known.now at → IfErr result
+            (WantsByOpening (T.state tap.old) (T.state tap.new)) }
         // A cell that the microcache has takes no call of the tap and no memory.
         ensures warm { IsTrue (has_cell_at known.now at pass.old.pinned.recent) → AnswersWarm
             (sighted pass.old.view (T.state tap.old)) (sighted pass.new.view (T.state tap.new))
@@ -200,37 +208,47 @@ impl<'a, V: Waiter, T: Tap> Reading<'a, V, T> {
         out: &mut [u16],
     ) -> Result<(), CacheError<V::Busy>>
         requires cell { IsCellAt self.old.known.now at cell.now }
+        requires inside { IsTexelIn self.old.known.now at }
         requires lacks { has_cell cell.now self.old.pass.now.pinned.recent ≡ false }
         ensures value { ForSome (T.W.files.held self.old.known.now.file
             self.old.known.now.generation) (λ bytes. OnOk result (AreValuesAt bytes at out.new)) }
         ensures err { OnErr result (out.new ≡ out.old) }
         ensures need { CountsNeed false self.old.pass.now self.new.pass.now }
-        ensures needed { OnOk result (IsNeededAt T.W.files self.old.known.now at
-            self.old.pass.now self.new.pass.now) }
+        ensures apart { OnOk result
+            (MayBeApart T.W.files self.old.pass.now self.new.pass.now) }
+        ensures needed { OnOk result (NoneApart self.old.pass.now self.new.pass.now
+            → IsNeededAt T.W.files self.old.known.now at self.old.pass.now self.new.pass.now) }
         ensures call { IsSameCall self.old self.new }
         ensures left { Reads T.W.files self.old self.new (refusal result) }
-        ensures missed { IsTrue T.W.files.tells → HasNoCall (T.state self.old.tap.now)
-            (T.state self.new.tap.now) ⊎ MissesCellAt self.old.cache.now.gate self.old.known.now at
+        ensures missed { IsTrue T.W.files.tells → NoneApart self.old.pass.now self.new.pass.now
+            → HasNoCall (T.state self.old.tap.now) (T.state self.new.tap.now)
+            ⊎ MissesCellAt self.old.cache.now.gate self.old.known.now at
             self.old.pass.now self.new.pass.now }
         ensures held { IsTrue T.W.files.tells
-            → HasKey key_in cell.now.key self.old.pass.now.pinned.holds → AnswersHeld
+            → HasKey key_in cell.now.key self.old.pass.now.pinned.holds → AnswersFromHold
             (T.state self.old.tap.now) (T.state self.new.tap.now) result }
+        ensures memory { IsStoredAt self.old.known.now at → IfErr result (WantsByOpening
+            (T.state self.old.tap.now) (T.state self.new.tap.now)) }
     {
         self.count(false);
-        match self.need_tile(cell)? {
-            Some(apart) => {
-                self.write_by(&apart, cell, at, out);
+        match self.need_tile(cell) {
+            Ok(Some(alone)) => {
+                self.write_by(&alone, cell, at, out);
                 Ok(())
             }
-            None => {
+            Ok(None) => {
                 self.write_first(cell, at, out);
                 Ok(())
             }
+            Err(e) => match e {
+                CacheError::NoMemory => self.fetch_apart(cell, at, out),
+                e => Err(e),
+            },
         }
     }
 
     /// Writes the values of a texel by a tile of its cell.
-    fn write_by(&self, tile: &Tile<T::W>, cell: &CellAt, at: TexelAt, out: &mut [u16])
+    pub(crate) fn write_by(&self, tile: &Tile<T::W>, cell: &CellAt, at: TexelAt, out: &mut [u16])
         requires keyed { tile.now.key ≡ cell.now.key }
         requires of_cell { IsTrue (is_tile_of cell.now tile.now) }
         requires cell { IsCellAt self.now.known.now at cell.now }

@@ -2,6 +2,7 @@
 //! own, and what may wait is generic over how it waits.
 #![tactic(auto)]
 
+mod apart;
 mod cache;
 mod checks;
 mod error;

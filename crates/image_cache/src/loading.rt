@@ -1,5 +1,7 @@
 //! A cell that no shard has: loaded from its file, under a handle that the table lends.
-ghost use Rattle.std.specs.Prelude.{◌≡◌, ◌<◌, ◌≤◌, IfOk, IfErr, IsOkAnd, IsTrue, slice_index};
+ghost use Rattle.std.specs.Prelude.{◌≡◌, ◌<◌, ◌≤◌, IfOk, IfErr, OnOk, OnErr, IsOkAnd, IsTrue};
+ghost use Rattle.std.specs.Prelude.{length, slice_index};
+ghost use Rattle.tex_world.specs.World.{IsReal};
 ghost use Rattle.file_table.specs.Calls.{KeepsView, OpensIfAtAll};
 ghost use Rattle.tile_layout.specs.Key.{level_of};
 ghost use Rattle.tile_layout.specs.Kept.{stored_count};
@@ -7,9 +9,11 @@ ghost use Rattle.tile_load.specs.Load.{IsReadBy};
 ghost use Rattle.tile_store.specs.Told.{IsTold};
 ghost use Rattle.shard_gate.specs.Gate.{HasCellRect};
 ghost use Rattle.pinned_tiles.specs.Cell.{is_tile_of};
-ghost use Rattle.image_cache.specs.Texel.{IsRecordOf, IsCellOf};
+ghost use Rattle.image_cache.specs.Texel.{IsRecordOf, IsCellOf, IsStoredTexel};
+ghost use Rattle.image_cache.specs.declared.error.CacheError.TheVariants.{Again};
+ghost use Rattle.image_cache.specs.Apart.{part_at, AreSamplesAt};
 ghost use Rattle.image_cache.specs.Call.{NoneFalls};
-ghost use Rattle.image_cache.specs.Cause.{FetchCause, MovesOnlyAgain};
+ghost use Rattle.image_cache.specs.Cause.{FetchCause, MovesOnlyAgain, WantsByOpening};
 
 use crate::cache::Cache;
 use crate::error::CacheError;
@@ -17,8 +21,10 @@ use file_table::Record;
 use gen_board::View;
 use pinned_tiles::CellAt;
 use tap_reader::OpenFile;
-use tex_world::Tap;
+use tex_world::{Tap, World};
+use texel_values::TexelAt;
 use tile_load::{LoadError, load};
+use tile_slots::{FillError, PART_TEXELS, PartKey};
 use tile_store::Tile;
 use waiter::Waiter;
 
@@ -64,13 +70,87 @@ impl<T: Tap> Cache<T> {
                 Err(CacheError::NoMemory)
             }
             Err(LoadError::ReadFault) => Err(CacheError::ReadFault),
-            Err(LoadError::Gone(to)) => {
-                self.files.board().raise(view, known.file(), to);
-                Err(CacheError::Again {
-                    from: known.generation(),
-                    to,
-                })
+            Err(LoadError::Gone(to)) => Err(self.outdated(view, known, to)),
+        }
+    }
+
+    /// The samples of a texel of a stored level, read under a handle of exactly the record's
+    /// generation, which then lies idle unless it failed. It takes no memory but to open the file.
+    pub(crate) fn read_samples<V: Waiter>(
+        &self,
+        waiter: &V,
+        view: &mut View<T::W>,
+        tap: &mut T,
+        known: &Record<T::W>,
+        at: TexelAt,
+        samples: &mut [u16],
+    ) -> Result<(), CacheError<V::Busy>>
+        requires view { view.old.board ≡ self.now.files.board }
+        requires known { IsRecordOf T.W.files self.now known.now }
+        requires texel { IsOkAnd known.now.layout (λ kept.
+            IsStoredTexel kept at (length samples.old)) }
+        ensures told { OnOk result (AreSamplesAt T.W.files known.now at samples.new) }
+        ensures cause { IfErr result (FetchCause T.W.files known.now view.new
+            (T.state tap.old) (T.state tap.new)) }
+        ensures memory { IfErr result (WantsByOpening (T.state tap.old) (T.state tap.new)) }
+        ensures moves { MovesOnlyAgain (T.state tap.old) (T.state tap.new) result }
+        ensures keeps { KeepsView known.now.file view.old view.new }
+        ensures steps { slice_index view.old.steps known.now.file
+            ≤ slice_index view.new.steps known.now.file }
+        ensures tap { NoneFalls (T.state tap.old) (T.state tap.new) }
+    {
+        // the record's layout is that of its bytes
+        let _known = known.generation();
+        let Ok(layout) = known.layout() else {
+            unreachable!()
+        };
+        let mut file = self.lend(waiter, view, tap, known)?;
+        let part = part_of(known, at);
+        match self
+            .slots
+            .fill(tap, &mut file.handle, layout, part, at.x, samples)
+        {
+            Ok(_put) => {
+                // where the waiter gives up the handle is closed
+                let _settled = self.files.settle(waiter, file);
+                Ok(())
             }
+            Err(FillError::ReadFault) => Err(CacheError::ReadFault),
+            Err(FillError::Gone(to)) => Err(self.outdated(view, known, to)),
+        }
+    }
+
+    /// The samples of a texel of a stored level, where a slot shows them.
+    pub(crate) fn show_samples(
+        &self,
+        known: &Record<T::W>,
+        at: TexelAt,
+        samples: &mut [u16],
+    ) -> bool
+        requires texel { IsOkAnd known.now.layout (λ kept.
+            IsStoredTexel kept at (length samples.old)) }
+        ensures told { IsTrue result → AreSamplesAt T.W.files known.now at samples.new }
+    {
+        // the record's layout is that of its bytes
+        let _known = known.generation();
+        self.slots.show(part_of(known, at), at.x, samples)
+    }
+
+    /// A read by a record met a newer generation, which is made known.
+    fn outdated<B>(&self, view: &mut View<T::W>, known: &Record<T::W>, to: u32) -> CacheError<B>
+        requires view { view.old.board ≡ self.now.files.board }
+        requires number { known.now.file < self.now.files.board.files }
+        requires real { IsReal T.W.files known.now.file to }
+        ensures value { result ≡ Again known.now.generation to }
+        ensures seen { to ≤ slice_index view.new.seen known.now.file }
+        ensures keeps { KeepsView known.now.file view.old view.new }
+        ensures steps { slice_index view.old.steps known.now.file
+            ≤ slice_index view.new.steps known.now.file }
+    {
+        self.files.board().raise(view, known.file(), to);
+        CacheError::Again {
+            from: known.generation(),
+            to,
         }
     }
 
@@ -87,6 +167,7 @@ impl<T: Tap> Cache<T> {
         ensures ok { IfOk result (λ f. IsReadBy (T.Handle.named f.handle) known.now) }
         ensures cause { IfErr result (FetchCause T.W.files known.now view.new
             (T.state tap.old) (T.state tap.new)) }
+        ensures memory { IfErr result (WantsByOpening (T.state tap.old) (T.state tap.new)) }
         ensures moves { MovesOnlyAgain (T.state tap.old) (T.state tap.new) result }
         ensures keeps { KeepsView known.now.file view.old view.new }
         ensures steps { slice_index view.old.steps known.now.file
@@ -97,5 +178,18 @@ impl<T: Tap> Cache<T> {
             .files
             .lend(waiter, view, tap, known.file(), known.generation());
         Ok(lent?)
+    }
+}
+
+/// The part of a row that has a texel of a record.
+fn part_of<W: World>(known: &Record<W>, at: TexelAt) -> PartKey
+    ensures { result ≡ part_at known.now at }
+{
+    PartKey {
+        generation: known.generation(),
+        file: known.file(),
+        level: at.level,
+        part: at.x / PART_TEXELS,
+        row: at.y,
     }
 }

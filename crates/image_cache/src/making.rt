@@ -154,7 +154,7 @@ impl<'a, V: Waiter, T: Tap> Reading<'a, V, T> {
     /// The next part of a cell is added, which is the cell `part` of the level before.
     ///
     /// Over a world that does not tell, a shard may have another tile of that cell's key. It is not
-    /// read, and one that is made apart is added.
+    /// read, and one that is made for it alone is added.
     #[cycle(making)]
     fn add_part(
         &mut self,
@@ -172,8 +172,8 @@ impl<'a, V: Waiter, T: Tap> Reading<'a, V, T> {
             return self.give_back();
         }
         self.give_back()?;
-        let apart = self.make(part)?;
-        add_tile(&apart, part, halving);
+        let alone = self.make(part)?;
+        add_tile(&alone, part, halving);
         Ok(())
     }
 
@@ -233,7 +233,7 @@ impl<'a, V: Waiter, T: Tap> Reading<'a, V, T> {
 }
 
 /// Whether a level of a record is stored. The first one is.
-fn is_stored<W: World>(known: &Record<W>, key: TileKey) -> bool
+pub(crate) fn is_stored<W: World>(known: &Record<W>, key: TileKey) -> bool
     requires { IsOkAnd known.now.layout (λ kept. ⊤) }
     ensures stored { IsTrue result → IsOkAnd known.now.layout (λ kept.
         level_of key < stored_count kept) }

@@ -1,5 +1,6 @@
 //! A cell that is needed: from the microcache, else from the shards or the file.
-ghost use Rattle.std.specs.Prelude.{◌≡◌, ◌≤◌, ◌⊎◌, ◌∷◌, [], None, IfOk, OnOk, IsTrue, IsFalse};
+ghost use Rattle.std.specs.Prelude.{◌≡◌, ◌≤◌, ◌⊎◌, ◌∷◌, [], None, IfOk, OnOk, OnErr, IsTrue};
+ghost use Rattle.std.specs.Prelude.{IsFalse};
 ghost use Rattle.std.specs.Prelude.{IsSomeAnd};
 ghost use Rattle.std.specs.List.{All};
 ghost use Rattle.tile_store.specs.Lawful.{FitsCut};
@@ -42,7 +43,7 @@ impl<'a, V: Waiter, T: Tap> Reading<'a, V, T> {
     /// The tile of a cell that is needed. None where it stands first in the microcache then.
     ///
     /// Over a world that does not tell, a shard may have another tile of the cell's key. It is not
-    /// read, and one that is made apart is answered.
+    /// read, and one that is made for it alone is answered.
     pub(crate) fn need_tile(
         &mut self,
         cell: &CellAt,
@@ -53,6 +54,8 @@ impl<'a, V: Waiter, T: Tap> Reading<'a, V, T> {
             self.old.pass.now.pinned.recent self.new.pass.now.pinned.recent) }
         ensures turned { OnOk result (IsAskedFor cell.now.key
             self.old.pass.now.pinned.recent self.new.pass.now.pinned.recent) }
+        ensures stays { OnErr result (IsTrue T.W.files.tells
+            → self.new.pass.now.pinned.recent ≡ self.old.pass.now.pinned.recent) }
         ensures left { Brings T.W.files self.old self.new (refusal result) }
         ensures missed { IsTrue T.W.files.tells → IsCold cell.now.key self.old self.new }
         ensures held { IsTrue T.W.files.tells
@@ -63,12 +66,12 @@ impl<'a, V: Waiter, T: Tap> Reading<'a, V, T> {
         if self.is_latest(cell) {
             return Ok(None);
         }
-        let apart = self.make_apart(cell)?;
-        Ok(Some(apart))
+        let alone = self.make_alone(cell)?;
+        Ok(Some(alone))
     }
 
     /// The tile of a cell, made for one need alone.
-    fn make_apart(&mut self, cell: &CellAt) -> Result<Tile<T::W>, CacheError<V::Busy>>
+    fn make_alone(&mut self, cell: &CellAt) -> Result<Tile<T::W>, CacheError<V::Busy>>
         requires cell { IsCellOf self.old.known.now cell.now }
         ensures tile { IfOk result (IsMadeFor T.W.files self.old.cache.now.gate.cut cell.now) }
         ensures hand { OnOk result (self.new.pass.now.pinned.hand ≡ None) }
@@ -87,6 +90,8 @@ impl<'a, V: Waiter, T: Tap> Reading<'a, V, T> {
         ensures turned { OnOk result (IsAskedFor cell.now.key
             self.old.pass.now.pinned.recent self.new.pass.now.pinned.recent) }
         ensures first { OnOk result (HasFirst cell.now.key self.new.pass.now.pinned.recent) }
+        ensures stays { OnErr result
+            (self.new.pass.now.pinned.recent ≡ self.old.pass.now.pinned.recent) }
         ensures left { Brings T.W.files self.old self.new (refusal result) }
         ensures missed { IsCold cell.now.key self.old self.new }
         ensures held { HasKey key_in cell.now.key self.old.pass.now.pinned.holds → AnswersHeld
@@ -103,6 +108,7 @@ impl<'a, V: Waiter, T: Tap> Reading<'a, V, T> {
     /// Counts a need of a cell, which the microcache has or not.
     pub(crate) fn count(&mut self, hit: bool)
         ensures counts { CountsNeed hit self.old.pass.now self.new.pass.now }
+        ensures apart { self.new.pass.now.apart ≡ self.old.pass.now.apart }
         ensures low { self.old.pass.now.hits ≤ max_count }
         ensures told { IsRecord T.W.files self.old.known.now }
         ensures fits { All (FitsCut T.W.files self.old.pass.now.pinned.cut)

@@ -5,6 +5,7 @@ ghost use Rattle.image_cache.specs.Options.{first_bad};
 use tex_world::NoMemory;
 use thiserror::Error;
 use tiff_format::{AUTOTILE_STEP, Cut, MAX_AUTOTILE};
+use tile_slots::MAX_SLOTS;
 
 /// What a cache is made with.
 #[derive(Clone, Copy, Debug, PartialEq, Eq)]
@@ -19,13 +20,15 @@ pub struct Options {
     pub handles: u32,
     /// How the levels of files are cut.
     pub cut: Cut,
+    /// The slots for parts of rows that find no memory as tiles, 0 to 65536.
+    pub slots: u32,
 }
 
 /// Why no cache was made.
 #[derive(Clone, Copy, Debug, PartialEq, Eq, Error)]
 pub enum NewError {
     /// The option of this number is the first that is out of its range: 1 budget, 2 shards,
-    /// 3 passes, 4 handles, 5 autotile.
+    /// 3 passes, 4 handles, 5 autotile, 6 slots.
     #[error("BadOptions")]
     BadOptions(u32),
     /// No memory was found.
@@ -72,6 +75,9 @@ impl Options {
         let side = self.cut.autotile;
         if MAX_AUTOTILE < side || side % AUTOTILE_STEP != 0 {
             return Some(5);
+        }
+        if MAX_SLOTS < self.slots {
+            return Some(6);
         }
         None
     }

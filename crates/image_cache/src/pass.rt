@@ -3,8 +3,8 @@ ghost use Rattle.std.specs.List.{All};
 ghost use Rattle.std.specs.Option.{option_copied};
 ghost use Rattle.tile_store.specs.Lawful.{FitsCut};
 ghost use Rattle.pinned_tiles.specs.Pinned.{ArePinned};
-ghost use Rattle.image_cache.specs.Pass.{pass_state, max_count, CountsAlone};
-ghost use Rattle.image_cache.specs.Pass.{counted_together};
+ghost use Rattle.image_cache.specs.Pass.{pass_state, no_counts, max_count, CountsAlone};
+ghost use Rattle.image_cache.specs.Pass.{counted, counted_together};
 ghost use Rattle.image_cache.specs.Call.{CountsNeed};
 
 use file_table::Record;
@@ -24,24 +24,27 @@ pub struct Pass<W: World> {
     pub(crate) latest: Option<Arc<Record<W>>>,
     pub(crate) needs: u64,
     pub(crate) hits: u64,
+    pub(crate) apart: u64,
 }
 
 impl<W: World> Model for Pass<W> {
-    ghost use Rattle.image_cache.specs.Pass.{PassState, kept_pass, IsPass};
+    ghost use Rattle.image_cache.specs.Pass.{PassState, kept_pass, pass_counts, IsPass};
 
     ghost Value = { PassState };
 
-    ghost view = { λ p. kept_pass p.view p.pinned p.latest p.needs p.hits };
+    ghost view = { λ p. kept_pass p.view p.pinned p.latest
+        (pass_counts p.needs p.hits p.apart) };
 
     ghost invariant = { λ p.
-        IsPass W.files (kept_pass p.view p.pinned p.latest p.needs p.hits) };
+        IsPass W.files (kept_pass p.view p.pinned p.latest
+        (pass_counts p.needs p.hits p.apart)) };
 }
 
 impl<W: World> Pass<W> {
     /// A pass that has pinned nothing.
     pub(crate) fn of(view: View<W>, pinned: Pinned<W>) -> Pass<W>
         requires { ArePinned W.files pinned }
-        ensures { result ≡ pass_state view pinned None 0 0 }
+        ensures { result ≡ pass_state view pinned None no_counts }
     {
         Pass {
             view,
@@ -49,6 +52,7 @@ impl<W: World> Pass<W> {
             latest: None,
             needs: 0,
             hits: 0,
+            apart: 0,
         }
     }
 
@@ -65,6 +69,14 @@ impl<W: World> Pass<W> {
         ensures most { self.now.hits ≤ self.now.needs }
     {
         self.hits
+    }
+
+    /// How many were answered apart, since no memory was found for a tile: from a tile that it holds,
+    /// from a slot, or from the file. It stays at 18446744073709551615 once it is there.
+    pub fn apart(&self) -> u64
+        ensures { result ≡ self.now.apart }
+    {
+        self.apart
     }
 
     /// The generation that it has seen of a file, or 0.
@@ -95,15 +107,18 @@ impl<W: World> Pass<W> {
         ensures cells { All (FitsCut W.files self.now.pinned.cut) self.now.pinned.recent }
         ensures needs { self.now.needs ≤ max_count }
         ensures hits { self.now.hits ≤ max_count }
+        ensures apart { self.now.apart ≤ max_count }
     {
         self.pinned.know();
         let _needs = self.needs;
         let _hits = self.hits;
+        let _apart = self.apart;
     }
 
     /// Counts a need, which the microcache had or not.
     pub(crate) fn count_need(&mut self, hit: bool)
         ensures counts { CountsNeed hit self.old self.new }
+        ensures apart { self.new.apart ≡ self.old.apart }
         ensures kept { CountsAlone self.old self.new }
         ensures low { self.old.hits ≤ max_count }
     {
@@ -117,9 +132,20 @@ impl<W: World> Pass<W> {
     pub(crate) fn count_four(&mut self)
         ensures needs { self.new.needs ≡ counted_together self.old.needs 4 }
         ensures hits { self.new.hits ≡ counted_together self.old.hits 4 }
+        ensures apart { self.new.apart ≡ self.old.apart }
         ensures kept { CountsAlone self.old self.new }
     {
         self.needs = self.needs.saturating_add(4);
         self.hits = self.hits.saturating_add(4);
+    }
+
+    /// Counts a need that is answered apart.
+    pub(crate) fn count_apart(&mut self)
+        ensures apart { self.new.apart ≡ counted self.old.apart }
+        ensures needs { self.new.needs ≡ self.old.needs }
+        ensures hits { self.new.hits ≡ self.old.hits }
+        ensures kept { CountsAlone self.old self.new }
+    {
+        self.apart = self.apart.saturating_add(1);
     }
 }

@@ -231,7 +231,7 @@ impl<'a, V: Waiter, T: Tap> Reading<'a, V, T> {
     {
         let cell = self.cell_of(area, k);
         match self.need_counted(&cell)? {
-            Some(apart) => paint_part(&apart, self.known.record(), &cell, area, values),
+            Some(alone) => paint_part(&alone, self.known.record(), &cell, area, values),
             None => self.paint_local(&cell, area, values),
         }
         Ok(())

@@ -106,6 +106,7 @@ fn cache_of<T: Tap>(
         passes: options.workers,
         handles: options.handles,
         cut: options.cut,
+        slots: options.slots,
     };
     match Cache::new(alloc, options, files) {
         Ok(made) => Ok(made),

@@ -1,4 +1,4 @@
-mod ValueLemmas
+pub mod ValueLemmas
 pub mod PlaceLemmas
 pub mod AreaLemmas
 mod SquareLemmas

@@ -114,6 +114,26 @@ told_values files tile depth at samples out told are rows is tells =
     (λ c low. is c low ∙ ap (λ (d : ℕ). sample_value samples d c) same) level)
     (told tells) (rows tells)
 
+-- the values of the samples of a texel are those of its file
+pub values_of_texel : (at : TexelAt) (samples out bytes : List ℕ)
+    → length samples ≡ channels_of bytes
+    → ((c : ℕ) → c < length samples
+    → slice_index samples c ≡ texel_at bytes at.level at.x at.y c)
+    → ((c : ℕ) → c < length samples
+    → slice_index samples c ≤ greatest_sample (bit_depth_of bytes))
+    → ((c : ℕ) → c < length out → slice_index out c ≡ sample_value samples (bit_depth_of bytes) c)
+    → AreValuesAt bytes at out
+values_of_texel at samples out bytes count value fits is c low =
+    let n = channels_of bytes in
+    let depth = bit_depth_of bytes in
+    is c low
+    ∙ (ap (λ (k : ℕ). where_low (nat_lt c k) (kept_value depth (slice_index samples c))) count
+    ∙ same_where (nat_lt c n) c n (kept_value depth (slice_index samples c))
+    (value_of depth (texel_at bytes at.level at.x at.y c)) refl
+    (λ here.
+    let below : c < length samples = omega (arith, count, here) in
+    kept_low depth (slice_index samples c) (fits c below) ∙ ap (value_of depth) (value c below)))
+
 -- ---- a tile of a region
 
 -- a texel of a tile has the value of its file's

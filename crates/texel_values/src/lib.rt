@@ -18,5 +18,5 @@ pub use painting::paint;
 pub use region::Region;
 pub use square::write_square;
 pub use texel_at::TexelAt;
-pub use values::write_values;
+pub use values::{write_channels, write_values};
 pub use window::Window;

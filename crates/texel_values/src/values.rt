@@ -40,8 +40,9 @@ pub(crate) fn channel_value(samples: &[u16], depth: u32, c: usize) -> u16
     }
 }
 
-/// Writes the values of the first channels of these samples of a texel.
-fn write_channels(samples: &[u16], depth: u32, out: &mut [u16])
+/// Writes the values of the first channels of these samples of a texel, and 0 for those that they
+/// lack.
+pub fn write_channels(samples: &[u16], depth: u32, out: &mut [u16])
     ensures values { (c : ℕ) → c < length out.new
         → slice_index out.new c ≡ sample_value samples.now depth c }
     ensures long { length out.new ≡ length out.old }

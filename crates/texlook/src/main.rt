@@ -24,6 +24,7 @@ const OPTIONS: Options = Options {
         autotile: 64,
         automip: true,
     },
+    slots: 1024,
 };
 
 /// The first channel in the middle of level 0.

@@ -1,5 +1,5 @@
 -- What is said of the cells that a pass asked for is so of a pass with another record.
-use Rattle.std.proofs.Common.{◌≡◌, ℕ, ap, refl, subst, ◌∙◌, List}
+use Rattle.std.proofs.Common.{◌≡◌, ℕ, ap, refl, sym, subst, ◌∙◌, List, inl, inr, arith}
 use Rattle.std.proofs.Common.{[], ◌∷◌, length}
 use Rattle.std.specs.Prelude.{if◌then◌else◌, IfOk}
 use Rattle.tex_world.specs.World.{Files}
@@ -7,13 +7,23 @@ use Rattle.tile_layout.specs.Kept.{Kept}
 use Rattle.tile_store.specs.Tile.{CachedTile}
 use Rattle.file_table.specs.Record.{RecordState}
 use Rattle.texel_filter.specs.Image.{Texel}
-use Rattle.image_cache.specs.Pass.{PassState, counted, counted_together}
+use Rattle.image_cache.specs.Pass.{PassState, SameCounts, counted, counted_together}
 use Rattle.image_cache.specs.Pass.{KeepsAllBut, view_and_record}
 use Rattle.image_cache.specs.Texel.{has_cell_at}
-use Rattle.image_cache.specs.Call.{AsksForCellAt, Needs}
+use Rattle.image_cache.specs.Call.{AsksForCellAt, Needs, NoneApart}
 use Rattle.image_cache.proofs.FillLemmas.{if_ok, needs_between}
 use Rattle.image_cache.specs.Fetches.{at_of}
 use Rattle.texture_sys.specs.Needs.{look_keys_on, AsksForEach, AsksForCells}
+
+-- nothing is answered apart between moments at which the counts are the same
+none_to : (a b c : PassState) → SameCounts b c → NoneApart a c → NoneApart a b
+none_to a b c same none = record { same = sym same.apart ∙ none.same; low = none.low }
+
+none_from : (a b c : PassState) → SameCounts a b → NoneApart a c → NoneApart b c
+none_from a b c same none = record {
+  same = none.same ∙ sym same.apart;
+  low = omega (arith, same.apart, none.low);
+}
 
 module _ (files : Files) (state : RecordState) where
   -- what was needed of a record between two moments at which only the record was another
@@ -23,7 +33,7 @@ module _ (files : Files) (state : RecordState) where
   needs_from keys old mid new same needs = if_ok state.layout
       (λ kept. Needs files (keys kept) mid new) (λ kept. Needs files (keys kept) old new)
       (λ kept. needs_between files (keys kept) old mid new new same.tiles.recent same.counts refl
-      (record { needs = refl; hits = refl })) needs
+      (record { needs = refl; hits = refl; apart = refl })) needs
 
   needs_to : (keys : Kept → List ℕ) (old mid new : PassState) → KeepsAllBut view_and_record mid new
       → IfOk state.layout (λ kept. Needs files (keys kept) old mid)
@@ -31,7 +41,7 @@ module _ (files : Files) (state : RecordState) where
   needs_to keys old mid new same needs = if_ok state.layout
       (λ kept. Needs files (keys kept) old mid) (λ kept. Needs files (keys kept) old new)
       (λ kept. needs_between files (keys kept) old old mid new refl
-      (record { needs = refl; hits = refl }) same.tiles.recent same.counts) needs
+      (record { needs = refl; hits = refl; apart = refl }) same.tiles.recent same.counts) needs
 
   -- the keys of the cells that hold these texels
   abbrev keys_of : List Texel → Kept → List ℕ
@@ -43,6 +53,7 @@ module _ (files : Files) (state : RecordState) where
     record {
       needs = same.counts.needs ∙ counts.needs;
       hits = same.counts.hits ∙ counts.hits;
+      apart = same.counts.apart ∙ counts.apart;
     },
     same.tiles.recent ∙ recent,
   )
@@ -55,7 +66,8 @@ module _ (files : Files) (state : RecordState) where
   asks_to texels old mid new same asks = record {
     each = each_to texels old mid new same asks.each;
     needs = same.counts.needs ∙ asks.needs;
-    keys = needs_to (keys_of texels) old mid new same asks.keys;
+    keys = λ none. needs_to (keys_of texels) old mid new same
+        (asks.keys (none_to old mid new same.counts none));
   }
 
   each_from : (texels : List Texel) (old mid new : PassState) → KeepsAllBut view_and_record old mid
@@ -64,6 +76,7 @@ module _ (files : Files) (state : RecordState) where
     record {
       needs = counts.needs ∙ same.counts.needs;
       hits = counts.hits ∙ same.counts.hits;
+      apart = counts.apart ∙ same.counts.apart;
     },
     recent ∙ same.tiles.recent,
   )
@@ -78,9 +91,22 @@ module _ (files : Files) (state : RecordState) where
             ≡ (if has_cell_at state (at_of t) mid.pinned.recent then counted n else n))
             same.counts.hits first.need.hits);
       };
-      asked = subst (λ (tiles : List CachedTile). AsksForCellAt state (at_of t) tiles
-          next.pinned.recent) same.tiles.recent first.asked;
-      needs = needs_from (keys_of (t ∷ [])) old mid next same first.needs;
+      apart = record {
+        later = omega (arith, first.apart.later, same.counts.apart);
+        either = elim first.apart.either [
+          | inl none ↦ inl (none ∙ same.counts.apart)
+          | inr apart ↦
+              inr (record {
+                counted = apart.counted ∙ ap counted same.counts.apart;
+                recent = λ tells. apart.recent tells ∙ same.tiles.recent;
+              })
+        ];
+      };
+      asked = λ none. subst (λ (tiles : List CachedTile). AsksForCellAt state (at_of t) tiles
+          next.pinned.recent) same.tiles.recent
+          (first.asked (none_from old mid next same.counts none));
+      needs = λ none. needs_from (keys_of (t ∷ [])) old mid next same
+          (first.needs (none_from old mid next same.counts none));
     },
     rest,
   )
@@ -90,5 +116,6 @@ module _ (files : Files) (state : RecordState) where
   asks_from texels old mid new same asks = record {
     each = each_from texels old mid new same asks.each;
     needs = asks.needs ∙ ap (λ (n : ℕ). counted_together n (length texels)) same.counts.needs;
-    keys = needs_from (keys_of texels) old mid new same asks.keys;
+    keys = λ none. needs_from (keys_of texels) old mid new same
+        (asks.keys (none_from old mid new same.counts none));
   }

@@ -13,11 +13,13 @@ use Rattle.texel_filter.specs.Image.{Texel}
 use Rattle.texel_filter.specs.Calls.{EachAnswered, OneRefused, LeftBy}
 use Rattle.image_cache.specs.declared.error.CacheError.{CacheError}
 use Rattle.image_cache.specs.Pass.{PassState}
-use Rattle.image_cache.specs.Texel.{has_cell_at}
+use Rattle.image_cache.specs.Texel.{has_cell_at, IsStoredAt}
+use Rattle.std.specs.List.{All}
 use Rattle.image_cache.specs.Call.{MovesCellAt, CountsOn}
 use Rattle.image_cache.specs.declared.error.CacheError.TheVariants as refused
 use Rattle.image_cache.specs.Cause.{FetchCause, StepCause, LookRefuses, KeepsRecentAt}
-use Rattle.image_cache.proofs.TexelLemmas.{cause_since}
+use Rattle.image_cache.specs.Cause.{WantsByOpening}
+use Rattle.image_cache.proofs.TexelLemmas.{cause_since, wants_since}
 use Rattle.image_cache.proofs.UnreadLemmas.{at_fetch}
 use Rattle.image_cache.specs.Fetches.{at_of, Fetches, Refuses}
 use Rattle.image_cache.specs.Reading.{PassTap}
@@ -47,7 +49,11 @@ module _ (files : Files) (gate : GateState) (state : RecordState) where
       → AsksForEach files state texels p.pass q.pass
   each_asks [] p q is =
       let pass : q.pass ≡ p.pass = ap (λ (x : PassTap). x.pass) is in (
-        record { needs = ap (λ (x : PassState). x.needs) pass; hits = ap (λ (x : PassState). x.hits) pass },
+        record {
+          needs = ap (λ (x : PassState). x.needs) pass;
+          hits = ap (λ (x : PassState). x.hits) pass;
+          apart = ap (λ (x : PassState). x.apart) pass;
+        },
         ap (λ (x : PassState). x.pinned.recent) pass,
       )
   each_asks (t ∷ texels) p q (mid, first, rest) =
@@ -82,10 +88,10 @@ module _ (files : Files) (gate : GateState) (state : RecordState) where
     one_counts [] p q e are none = absurd none
     one_counts (t ∷ texels) p q e are (inl is) =
         (need_counts (has_cell_at state (at_of t) p.pass.pinned.recent) p.pass q.pass are
-        is.need).on
+        is.need is.apart).on
     one_counts (t ∷ texels) p q e are (inr (mid, first, rest)) =
         let further = need_counts (has_cell_at state (at_of t) p.pass.pinned.recent) p.pass
-        mid.pass are first.asks.need in
+        mid.pass are first.asks.need first.asks.apart.later in
         counts_chain p.pass mid.pass q.pass further.on
         (one_counts texels mid q e further.are rest)
 
@@ -97,6 +103,18 @@ module _ (files : Files) (gate : GateState) (state : RecordState) where
     one_cause (t ∷ texels) p q e (inr (mid, first, rest)) =
         cause_since files state q.pass.view p.tap mid.tap q.tap e first.tap
         (one_cause texels mid q e rest)
+
+    -- of stored levels memory is wanting only where a file was opened
+    one_memory : (texels : List Texel) (p q : PassTap) (e : CacheError B)
+        → All (λ texel. IsStoredAt state (at_of texel)) texels
+        → OneRefused (Fetches files gate state) (Refuses files gate state) p texels e q
+        → WantsByOpening p.tap q.tap e
+    one_memory [] p q e stored none = absurd none
+    one_memory (t ∷ texels) p q e stored (inl is) =
+        is.memory (All-head (λ texel. IsStoredAt state (at_of texel)) t texels stored)
+    one_memory (t ∷ texels) p q e stored (inr (mid, first, rest)) =
+        wants_since p.tap mid.tap q.tap e first.tap (one_memory texels mid q e
+        (All-tail (λ texel. IsStoredAt state (at_of texel)) t texels stored) rest)
 
     -- none is refused where the microcache has all cells
     pub one_cold : (texels : List Texel) (p q : PassTap) (e : CacheError B)
@@ -141,6 +159,13 @@ module _ {B : Type 0} (files : Files) (gate : GateState) (state : RecordState)
   left_cause (Ok done) left = tt
   left_cause (Err e) left =
       look_cause files state q.pass.view p.tap q.tap e (one_cause files gate state texels p q e left)
+
+  pub left_memory : (result : Result (Unit {0}) (CacheError B))
+      → LeftBy (Fetches files gate state) (Refuses files gate state) p texels q result
+      → All (λ texel. IsStoredAt state (at_of texel)) texels
+      → IfErr result (WantsByOpening p.tap q.tap)
+  left_memory (Ok done) left stored = tt
+  left_memory (Err e) left stored = one_memory files gate state texels p q e stored left
 
   pub left_unread : (result : Result (Unit {0}) (CacheError B))
       → LeftBy (Fetches files gate state) (Refuses files gate state) p texels q result

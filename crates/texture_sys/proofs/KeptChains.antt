@@ -61,6 +61,7 @@ module _ (files : Files) (state : RecordState) where
     record {
       needs = ap (λ (x : PassState). x.needs) is;
       hits = ap (λ (x : PassState). x.hits) is;
+      apart = ap (λ (x : PassState). x.apart) is;
     },
     ap (λ (x : PassState). x.pinned.recent) is,
   )

@@ -1,6 +1,6 @@
 -- What does a lookup through the cache answer, when may it be refused, and what does it leave?
 use Rattle.std.specs.Prelude.{◌≡◌, ◌⊎◌, ℕ, ◌<◌, ◌≤◌, ⊤, List, length, slice_index}
-use Rattle.std.specs.Prelude.{None, Some, Result, Ok, Err, IsOkAnd, IsSomeAnd}
+use Rattle.std.specs.Prelude.{None, Some, Result, Ok, Err, IsOkAnd, IsSomeAnd, IfErr}
 use Rattle.std.specs.Option.{ForSome}
 use Rattle.tex_world.specs.World.{Files, IsReal}
 use Rattle.gen_board.specs.View.{ViewState}
@@ -15,10 +15,11 @@ use Rattle.texture_sys.specs.declared.lookup_request.LookupRequest.{LookupReques
 use Rattle.image_cache.specs.declared.error.CacheError.{CacheError}
 use Rattle.image_cache.specs.declared.error.CacheError.TheVariants as refused
 use Rattle.image_cache.specs.Pass.{PassState, SamePlace}
-use Rattle.image_cache.specs.Call.{Serves, CountsOn, IsUnopened, KeepsOne}
+use Rattle.image_cache.specs.Call.{Serves, CountsOn, IsUnopened, KeepsOne, NoneApart}
 use Rattle.image_cache.specs.Cause.{RefusedFor, LookRefuses, MetNewer, MetAtOpening}
+use Rattle.image_cache.specs.Cause.{WantsByOpening}
 use Rattle.texture_sys.specs.Look.{look_on}
-use Rattle.texture_sys.specs.Needs.{visits_on, HasCells, AsksForCells, NeedsCells}
+use Rattle.texture_sys.specs.Needs.{visits_on, HasCells, AsksForCells, NeedsCells, VisitsStored}
 
 -- ---- answers
 
@@ -66,6 +67,13 @@ TextureCause files file cut old new e = RefusedFor
     × (to ≤ slice_index new.view.seen file))
     old.tap new.tap ⊤ ⊤ (IsNotLookedUp files file cut old.view new.view) e
 
+-- Where the record that the pass then keeps has the levels stored that the lookup visits, memory is
+-- wanting only where a file was opened.
+abbrev pub MemoryCause : {A B : Type 0} → LookupRequest → PassState → TapState → TapState
+    → Result A (CacheError B) → Type 0
+MemoryCause r new tap_old tap_new result =
+    IsSomeAnd new.latest (VisitsStored r) → IfErr result (WantsByOpening tap_old tap_new)
+
 -- ---- what a lookup leaves
 
 -- The pass has looked at this file's word, and at no other. No number that it had seen and no count
@@ -85,7 +93,7 @@ pub record IsLookedUp (files : Files) (file : ℕ) (cut : Cut) (r : LookupReques
   pub given : GivesRecord files file cut old.view new.view state
   pub of : state.generation ≡ generation
   pub asks : AsksForCells files state (visits_on state r) old new
-  pub needs : NeedsCells files state (visits_on state r) old new
+  pub needs : NoneApart old new → NeedsCells files state (visits_on state r) old new
 
 -- The record is that of the generation that was refused.
 pub record IsRefused {B : Type 0} (files : Files) (file : ℕ) (cut : Cut) (old new : PassState)

@@ -10,8 +10,8 @@ use Rattle.texture_sys.specs.declared.lookup_request.LookupRequest.{LookupReques
 use Rattle.texel_filter.specs.Image.{Texel}
 use Rattle.texture_sys.specs.Asked.{asked_visits}
 use Rattle.image_cache.specs.Pass.{PassState, SameCounts, counted_together}
-use Rattle.image_cache.specs.Texel.{has_cell_at, cell_of}
-use Rattle.image_cache.specs.Call.{Needs}
+use Rattle.image_cache.specs.Texel.{has_cell_at, cell_of, IsStoredAt}
+use Rattle.image_cache.specs.Call.{Needs, NoneApart}
 use Rattle.image_cache.specs.Sizes.{sizes_known}
 use Rattle.image_cache.specs.Fetches.{at_of, AsksForCell}
 
@@ -28,6 +28,12 @@ HasCell state tiles texel = has_cell_at state (at_of texel) tiles ≡ true
 -- all cells that hold these texels are
 abbrev pub HasCells : RecordState → List CachedTile → List Texel → Type 0
 HasCells state tiles texels = All (HasCell state tiles) texels
+
+-- ---- stored levels
+
+-- the lookup visits texels of stored levels alone
+abbrev pub VisitsStored : LookupRequest → RecordState → Type 0
+VisitsStored r state = All (λ texel. IsStoredAt state (at_of texel)) (visits_on state r)
 
 -- ---- asking for them
 
@@ -48,9 +54,10 @@ AsksForEach files state (texel ∷ rest) old new =
     (mid : PassState) × AsksForCell files state texel old mid
     × AsksForEach files state rest mid new
 
--- So it did, and counted as many needs: the microcache was asked for their keys in turn.
+-- So it did, and counted as many needs. Unless one of them was answered apart the microcache was asked
+-- for their keys in turn.
 pub record AsksForCells (files : Files) (state : RecordState) (texels : List Texel)
     (old new : PassState) : Type 0 where
   pub each : AsksForEach files state texels old new
   pub needs : new.needs ≡ counted_together old.needs (length texels)
-  pub keys : NeedsCells files state texels old new
+  pub keys : NoneApart old new → NeedsCells files state texels old new

@@ -8,7 +8,8 @@ ghost use Rattle.shard_gate.specs.Since.{PurgesNone};
 ghost use Rattle.image_cache.specs.Pass.{IsPassOf};
 ghost use Rattle.image_cache.specs.Call.{NoneFalls};
 ghost use Rattle.image_cache.specs.Cause.{KeepsRecentAt};
-ghost use Rattle.texture_sys.specs.Call.{Answers, TextureCause, AfterLookup, KeepsRecord};
+ghost use Rattle.texture_sys.specs.Call.{Answers, TextureCause, MemoryCause, AfterLookup};
+ghost use Rattle.texture_sys.specs.Call.{KeepsRecord};
 ghost use Rattle.texture_sys.specs.Call.{IsWarm, AnswersWarm};
 
 use crate::lookup_request::LookupRequest;
@@ -47,6 +48,9 @@ pub fn texture<V: Waiter, T: Tap>(
     ensures tap { NoneFalls (T.state tap.old) (T.state tap.new) }
     // Each visit that it makes is that of a `pin`, a `pin_new`, an `unpin` or a `count`.
     ensures visits { PurgesNone cache.now.gate pass.old.pinned.seat pass.new.pinned.seat }
+    // Of stored levels it is refused for memory only where it opens a file.
+    ensures memory { MemoryCause (LookupRequest.Point r.now) pass.new (T.state tap.old)
+        (T.state tap.new) result }
     // Where all cells that it needs are in the microcache, there is no call of the tap.
     ensures warm { IfSome pass.old.latest (λ known. IsWarm file (LookupRequest.Point r.now)
         pass.old known → AnswersWarm file known.generation
@@ -92,6 +96,9 @@ pub fn texture_d<V: Waiter, T: Tap>(
     ensures tap { NoneFalls (T.state tap.old) (T.state tap.new) }
     // Each visit that it makes is that of a `pin`, a `pin_new`, an `unpin` or a `count`.
     ensures visits { PurgesNone cache.now.gate pass.old.pinned.seat pass.new.pinned.seat }
+    // Of stored levels it is refused for memory only where it opens a file.
+    ensures memory { MemoryCause (LookupRequest.Footprint r.now) pass.new (T.state tap.old)
+        (T.state tap.new) result }
     // Where all cells that it needs are in the microcache, there is no call of the tap.
     ensures warm { IfSome pass.old.latest (λ known. IsWarm file (LookupRequest.Footprint r.now)
         pass.old known → AnswersWarm file known.generation

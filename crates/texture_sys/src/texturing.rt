@@ -9,10 +9,11 @@ ghost use Rattle.shard_gate.specs.Since.{PurgesNone};
 ghost use Rattle.image_cache.specs.Pass.{IsPassOf};
 ghost use Rattle.image_cache.specs.Call.{AfterNeed, CountsOn, NoneFalls};
 ghost use Rattle.image_cache.specs.Cause.{OpeningCause, StepCause, LookRefuses, KeepsRecentAt};
+ghost use Rattle.image_cache.specs.Cause.{WantsByOpening};
 ghost use Rattle.image_cache.specs.Texel.{IsUnder};
 ghost use Rattle.texture_sys.specs.Asked.{channels_asked, MayBeLookedUp};
-ghost use Rattle.texture_sys.specs.Needs.{visits_on, HasCells, AsksForCells};
-ghost use Rattle.texture_sys.specs.Call.{Answers, IsLookOn, TextureCause};
+ghost use Rattle.texture_sys.specs.Needs.{visits_on, HasCells, AsksForCells, VisitsStored};
+ghost use Rattle.texture_sys.specs.Call.{Answers, IsLookOn, TextureCause, MemoryCause};
 ghost use Rattle.texture_sys.specs.Call.{AfterLookup, KeepsRecord};
 ghost use Rattle.texture_sys.specs.Call.{IsReady, IsWarm, AnswersWarm};
 ghost use Rattle.texture_sys.specs.Steps.{AfterOpening, AfterLook};
@@ -54,6 +55,8 @@ pub(crate) fn texture_of<V: Waiter, T: Tap>(
     ensures tap { NoneFalls (T.state tap.old) (T.state tap.new) }
     // Each visit that it makes is that of a `pin`, a `pin_new`, an `unpin` or a `count`.
     ensures visits { PurgesNone cache.now.gate pass.old.pinned.seat pass.new.pinned.seat }
+    // Of stored levels it is refused for memory only where it opens a file.
+    ensures memory { MemoryCause r.now pass.new (T.state tap.old) (T.state tap.new) result }
     // Where all cells that it needs are in the microcache, there is no call of the tap.
     ensures warm { IfSome pass.old.latest (λ known. IsWarm file r.now pass.old known
         → AnswersWarm file known.generation (sighted pass.old.view (T.state tap.old))
@@ -129,6 +132,8 @@ fn look_at<V: Waiter, T: Tap>(
         pass.old pass.new) }
     ensures tap { NoneFalls (T.state tap.old) (T.state tap.new) }
     ensures visits { PurgesNone cache.now.gate pass.old.pinned.seat pass.new.pinned.seat }
+    ensures memory { VisitsStored r.now known.value
+        → IfErr result (WantsByOpening (T.state tap.old) (T.state tap.new)) }
     ensures warm { IsOkAnd known.value.layout (λ kept. CellsFit kept known.value.cut)
         → HasCells known.value pass.old.pinned.recent (visits_on known.value r.now)
         → (result ≡ Ok known.value.generation) × (T.state tap.new ≡ T.state tap.old) }
@@ -171,6 +176,8 @@ fn look_up<V: Waiter, T: Tap>(
         pass.old pass.new) }
     ensures tap { NoneFalls (T.state tap.old) (T.state tap.new) }
     ensures visits { PurgesNone cache.now.gate pass.old.pinned.seat pass.new.pinned.seat }
+    ensures memory { VisitsStored r.now known.now
+        → IfErr result (WantsByOpening (T.state tap.old) (T.state tap.new)) }
     ensures warm { IsOkAnd known.now.layout (λ kept. CellsFit kept known.now.cut)
         → HasCells known.now pass.old.pinned.recent (visits_on known.now r.now)
         → (result ≡ Ok tt) × (T.state tap.new ≡ T.state tap.old) }

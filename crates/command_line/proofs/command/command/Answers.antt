@@ -22,6 +22,8 @@ returns c =
     ∙ ap₂ with_rule four c.option-4.ensures.rule in
     let six = c.in_ok-arg-6.ensures.shape c.option-5.ensures.local
     ∙ ap₂ with_rule five c.option-5.ensures.rule in
-    IfOk-weaker c.arg-7.result _ _
-    (λ r adds. adds.shape c.flag.ensures.local ∙ ap₂ with_rule six c.flag.ensures.rule)
-    c.arg-7.ensures
+    let seven = c.in_ok-arg-7.ensures.shape c.option-6.ensures.local
+    ∙ ap₂ with_rule six c.option-6.ensures.rule in
+    IfOk-weaker c.arg-8.result _ _
+    (λ r adds. adds.shape c.flag.ensures.local ∙ ap₂ with_rule seven c.flag.ensures.rule)
+    c.arg-8.ensures

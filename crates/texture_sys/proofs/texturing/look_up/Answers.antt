@@ -11,7 +11,7 @@ use Rattle.image_cache.specs.Reading.{pass_tap}
 use Rattle.texture_sys.specs.Asked.{asked_value}
 use Rattle.texture_sys.specs.Needs.{visits_on}
 use Rattle.texture_sys.proofs.Chains.{left_leaves, left_cause, left_unread, left_asks}
-use Rattle.texture_sys.proofs.Chains.{left_counts, left_warm}
+use Rattle.texture_sys.proofs.Chains.{left_counts, left_warm, left_memory}
 use Rattle.texture_sys.proofs.Lent.{same_after, left_known}
 use Rattle.texture_sys.proofs.LookLemmas.{look_told}
 use Rattle.texture_sys.proofs.texturing.look_up.Goals as goal
@@ -146,3 +146,18 @@ returns-clause-warm g c = λ fits has.
     (pass_tap c.args.pass.now (g.T.Tap.state c.args.tap.now))
     (pass_tap c.look_for.new.f.pass.now (g.T.Tap.state c.look_for.new.f.tap.now))
     c.look_for.result left has)
+
+pub returns-clause-memory : goal.returns-clause-memory
+returns-clause-memory g c = λ stored.
+    let files = g.T.W.World.files in
+    let k = c.args.known.now in
+    let gate = c.args.cache.now.gate in
+    let same = same_after files c.look_for.new.f _ (λ x. visits_on x c.args.r.now) c.look_for.result _ _
+    c.look_for.ensures.left (λ a b t p. (p.call, p.left)) (λ a b t e p. (p.call, p.left)) in
+    let left = left_known files c.look_for.new.f _ (λ x. visits_on x c.args.r.now) c.look_for.result _ _
+    c.look_for.ensures.left (λ a b t p. (p.call, p.left)) (λ a b t e p. (p.call, p.left)) k c.of-lent.ensures in
+    let tap_back : c.look_for.new.f.tap.now ≡ c.tap-1.given.0 = search (rules, same.tap_name) in
+    rw (← tap_back) (left_memory files gate k (visits_on k c.args.r.now)
+    (pass_tap c.args.pass.now (g.T.Tap.state c.args.tap.now))
+    (pass_tap c.look_for.new.f.pass.now (g.T.Tap.state c.look_for.new.f.tap.now))
+    c.look_for.result left stored)

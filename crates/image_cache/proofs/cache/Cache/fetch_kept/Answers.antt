@@ -23,6 +23,7 @@ returns-clause-met g c = λ _.
     record {
       had = search rules;
       need = counts;
+      apart = search rules;
       asked = search rules;
       turned = search rules;
       moved = search rules;

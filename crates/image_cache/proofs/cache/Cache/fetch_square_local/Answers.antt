@@ -32,7 +32,7 @@ returns-clause-met g c = λ _.
     (c.turn_to.ensures.first is))
     (subst (λ (q : PinnedState). StaysAskedFor cell.key q.recent) (sym pinned)
     (c.turn_to.ensures.again is))
-    kept (search rules) (search rules)
+    kept (search rules) (search rules) (search rules)
 
 pub returns-clause-has : goal.returns-clause-has
 returns-clause-has g c = (

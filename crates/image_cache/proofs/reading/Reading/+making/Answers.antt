@@ -47,11 +47,11 @@ add_part-returns-in_err-give_back-clause-made g t c =
     makes_by _ c.from_residual-in_err-give_back.ensures.1
     (makes_then c.in_ok-take_in_hand.ensures.made c.in_err-give_back.ensures.made)
 
-pub add_part-returns-in_err-apart-clause-made : goal.add_part-returns-in_err-apart-clause-made
-add_part-returns-in_err-apart-clause-made g t c =
-    makes_by _ c.from_residual-in_err-apart.ensures.1
+pub add_part-returns-in_err-alone-clause-made : goal.add_part-returns-in_err-alone-clause-made
+add_part-returns-in_err-alone-clause-made g t c =
+    makes_by _ c.from_residual-in_err-alone.ensures.1
     (makes_then (makes_then c.in_ok-take_in_hand.ensures.made c.in_ok-give_back.ensures.made)
-    c.in_err-apart.ensures.made)
+    c.in_err-alone.ensures.made)
 
 pub add_part-add_tile-requires-clause-next : goal.add_part-add_tile-requires-clause-next
 add_part-add_tile-requires-clause-next g t c = c.if-add_in_hand.ensures.next refl
@@ -64,7 +64,7 @@ add_part-returns-clause-ok g t c =
 pub add_part-returns-clause-made : goal.add_part-returns-clause-made
 add_part-returns-clause-made g t c =
     makes_then (makes_then c.in_ok-take_in_hand.ensures.made c.in_ok-give_back.ensures.made)
-    c.in_ok-apart.ensures.made
+    c.in_ok-alone.ensures.made
 
 -- ---- halving
 

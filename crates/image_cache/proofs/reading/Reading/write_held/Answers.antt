@@ -1,0 +1,17 @@
+-- Where the world tells a hold of the key is that of the cell.
+use Rattle.std.proofs.Common.{subst, sym, refl, ◌∙◌}
+use Rattle.std.specs.List.{All}
+use Rattle.tiff_format.specs.declared.cut.Cut.{Cut}
+use Rattle.tile_store.specs.Lawful.{FitsCut}
+use Rattle.image_cache.proofs.ApartLemmas.{held_found}
+use Rattle.image_cache.proofs.reading.Reading.write_held.Goals as goal
+
+pub returns-in-None-clause-told : goal.returns-in-None-clause-told
+returns-in-None-clause-told g c = λ tells has.
+    let files = g.T.W.World.files in
+    let first = c.args.self.now in
+    absurd (held_found files first.known.now c.args.cell.now first.pass.now.pinned.holds tells
+    c.record-known.ensures.told c.requires.cell.of
+    (subst (λ (k : Cut). All (FitsCut files k) first.pass.now.pinned.holds)
+    (first.pass_of.cut ∙ sym first.under.cut) c.hold_of.ensures.fits) has
+    (c.in-None.ensures.none refl))

@@ -1,0 +1,191 @@
+//! A need that is answered apart: no memory was found for the tile of its cell.
+ghost use Rattle.std.specs.Prelude.{◌≡◌, ℕ, ◌<◌, length, slice_get, Some, IsTrue, IsFalse, IsNone};
+ghost use Rattle.std.specs.Prelude.{false, IfErr, IfSome, OnOk, OnErr, IsOkAnd, Ok, None};
+ghost use Rattle.std.specs.List.{All};
+ghost use Rattle.std.specs.Option.{ForSome};
+ghost use Rattle.micro.specs.Items.{HasKey};
+ghost use Rattle.tile_store.specs.Tile.{CachedTile};
+ghost use Rattle.tile_store.specs.Lawful.{FitsCut};
+ghost use Rattle.pinned_tiles.specs.Pinned.{key_in};
+ghost use Rattle.pinned_tiles.specs.Cell.{is_tile_of};
+ghost use Rattle.texel_values.specs.Values.{AreValuesAt};
+ghost use Rattle.image_cache.specs.Pass.{counted};
+ghost use Rattle.image_cache.specs.Texel.{IsCellAt, IsTexelIn, IsStoredAt, IsStoredTexel};
+ghost use Rattle.image_cache.specs.Apart.{AreSamplesAt};
+ghost use Rattle.image_cache.specs.Cause.{WantsByOpening};
+ghost use Rattle.image_cache.specs.Call.{NoneApart};
+ghost use Rattle.image_cache.specs.Reading.{refusal, Reads, IsTakenApart, IsReadApart};
+
+use crate::error::CacheError;
+use crate::making::is_stored;
+use crate::pass::Pass;
+use crate::reading::Reading;
+use crate::texel::{channels_of, depth_of};
+use pinned_tiles::{CellAt, is_tile_of};
+use tex_world::{Tap, World};
+use texel_values::{TexelAt, write_channels};
+use tiff_format::MAX_CHANNELS;
+use tile_store::Tile;
+use waiter::Waiter;
+
+impl<W: World> Pass<W> {
+    /// The first of the tiles that it holds which is that of the cell.
+    fn hold_of(&self, cell: &CellAt) -> Option<&Tile<W>>
+        ensures keyed { IfSome result (λ tile. tile.now.key ≡ cell.now.key) }
+        ensures of_cell { IfSome result (λ tile. IsTrue (is_tile_of cell.now tile.now)) }
+        ensures none { IsNone result → (k : ℕ) (tile : CachedTile)
+            → slice_get self.now.pinned.holds k ≡ Some tile → tile.key ≡ cell.now.key
+            → is_tile_of cell.now tile ≡ false }
+        ensures fits { All (FitsCut W.files self.now.pinned.cut) self.now.pinned.holds }
+    {
+        self.pinned.know();
+        'holds: for place in 0..self.pinned.held_count() {
+            if let Some(tile) = self.hold_at(place, cell) {
+                return Some(tile);
+            }
+        }
+        None
+    }
+
+    /// The tile that it holds at a place, where that is the one of the cell.
+    fn hold_at(&self, place: usize, cell: &CellAt) -> Option<&Tile<W>>
+        ensures keyed { IfSome result (λ tile. tile.now.key ≡ cell.now.key) }
+        ensures of_cell { IfSome result (λ tile. IsTrue (is_tile_of cell.now tile.now)) }
+        ensures none { IsNone result → (tile : CachedTile)
+            → slice_get self.now.pinned.holds place ≡ Some tile → tile.key ≡ cell.now.key
+            → is_tile_of cell.now tile ≡ false }
+    {
+        let tile = self.pinned.held(place)?;
+        if tile.key() == cell.key && is_tile_of(tile, cell) {
+            Some(tile)
+        } else {
+            None
+        }
+    }
+}
+
+impl<'a, V: Waiter, T: Tap> Reading<'a, V, T> {
+    /// Writes the values of a texel for whose tile no memory was found: those of a tile that the pass
+    /// holds, or else of a stored level those that a slot shows or that are read from the file. Such
+    /// a need is counted as one answered apart. It takes no memory but to open the file.
+    pub(crate) fn fetch_apart(
+        &mut self,
+        cell: &CellAt,
+        at: TexelAt,
+        out: &mut [u16],
+    ) -> Result<(), CacheError<V::Busy>>
+        requires cell { IsCellAt self.old.known.now at cell.now }
+        requires inside { IsTexelIn self.old.known.now at }
+        ensures value { ForSome (T.W.files.held self.old.known.now.file
+            self.old.known.now.generation) (λ bytes. OnOk result (AreValuesAt bytes at out.new)) }
+        ensures err { OnErr result (out.new ≡ out.old) }
+        ensures ok { OnOk result (self.new.pass.now.apart ≡ counted self.old.pass.now.apart) }
+        ensures left { Reads T.W.files self.old self.new (refusal result) }
+        ensures taken { IsTakenApart self.old.pass.now self.new.pass.now }
+        // Where it is not counted the tap had no call.
+        ensures uncounted { NoneApart self.old.pass.now self.new.pass.now
+            → self.new.tap.now ≡ self.old.tap.now }
+        ensures memory { IsStoredAt self.old.known.now at → IfErr result (WantsByOpening
+            (T.state self.old.tap.now) (T.state self.new.tap.now)) }
+        ensures held { IsTrue T.W.files.tells
+            → HasKey key_in cell.now.key self.old.pass.now.pinned.holds
+            → (result ≡ Ok tt) × (self.new.tap.now ≡ self.old.tap.now) }
+    {
+        if self.write_held(cell, at, out) {
+            self.count_apart();
+            return Ok(());
+        }
+        self.know();
+        if !is_stored(self.known.record(), cell.key) {
+            return Err(CacheError::NoMemory);
+        }
+        self.count_apart();
+        self.write_part(cell, at, out)
+    }
+
+    /// Writes the values of a texel by a tile that the pass holds, where one is that of its cell.
+    fn write_held(&self, cell: &CellAt, at: TexelAt, out: &mut [u16]) -> bool
+        requires cell { IsCellAt self.now.known.now at cell.now }
+        ensures value { IsTrue result → ForSome (T.W.files.held self.now.known.now.file
+            self.now.known.now.generation) (λ bytes. AreValuesAt bytes at out.new) }
+        ensures same { IsFalse result → out.new ≡ out.old }
+        ensures told { IsTrue T.W.files.tells
+            → HasKey key_in cell.now.key self.now.pass.now.pinned.holds → IsTrue result }
+    {
+        // the record's layout is that of its bytes, and a tile of the key that of its cell
+        let _known = self.known.record();
+        let pass = &*self.pass;
+        match pass.hold_of(cell) {
+            Some(tile) => {
+                self.write_by(tile, cell, at, out);
+                true
+            }
+            None => false,
+        }
+    }
+
+    /// Counts a need that is answered apart.
+    fn count_apart(&mut self)
+        ensures apart { self.new.pass.now.apart ≡ counted self.old.pass.now.apart }
+        ensures tap { self.new.tap.now ≡ self.old.tap.now }
+        ensures taken { IsTakenApart self.old.pass.now self.new.pass.now }
+        ensures left { Reads T.W.files self.old self.new None }
+    {
+        let pass = &mut *self.pass;
+        pass.know();
+        pass.count_apart();
+    }
+
+    /// Writes the values of a texel of a stored level by its samples, which a slot shows or which are
+    /// read from the file.
+    fn write_part(
+        &mut self,
+        cell: &CellAt,
+        at: TexelAt,
+        out: &mut [u16],
+    ) -> Result<(), CacheError<V::Busy>>
+        requires cell { IsCellAt self.old.known.now at cell.now }
+        requires inside { IsTexelIn self.old.known.now at }
+        requires stored { IsStoredAt self.old.known.now at }
+        ensures value { ForSome (T.W.files.held self.old.known.now.file
+            self.old.known.now.generation) (λ bytes. OnOk result (AreValuesAt bytes at out.new)) }
+        ensures err { OnErr result (out.new ≡ out.old) }
+        ensures left { Reads T.W.files self.old self.new (refusal result) }
+        ensures taken { IsReadApart self.old.pass.now self.new.pass.now }
+        ensures memory { IfErr result (WantsByOpening
+            (T.state self.old.tap.now) (T.state self.new.tap.now)) }
+    {
+        let depth = depth_of(self.known.record(), at.level);
+        let channels = channels_of(self.known.record()) as usize;
+        let mut room = [0; MAX_CHANNELS];
+        let samples = &mut room[..channels];
+        self.take_samples(at, samples)?;
+        write_channels(samples, depth, out);
+        Ok(())
+    }
+
+    /// The samples of a texel of a stored level, from a slot or else from the file.
+    fn take_samples(&mut self, at: TexelAt, samples: &mut [u16]) -> Result<(), CacheError<V::Busy>>
+        requires texel { IsOkAnd self.old.known.now.layout (λ kept.
+            IsStoredTexel kept at (length samples.old)) }
+        ensures told { OnOk result (AreSamplesAt T.W.files self.old.known.now at samples.new) }
+        ensures left { Reads T.W.files self.old self.new (refusal result) }
+        ensures taken { IsReadApart self.old.pass.now self.new.pass.now }
+        ensures memory { IfErr result (WantsByOpening
+            (T.state self.old.tap.now) (T.state self.new.tap.now)) }
+    {
+        self.know();
+        if self.cache.show_samples(self.known.record(), at, samples) {
+            return Ok(());
+        }
+        let (cache, pass) = (self.cache, &mut *self.pass);
+        cache.read_samples(
+            self.waiter,
+            &mut pass.view,
+            self.tap,
+            self.known.record(),
+            at,
+            samples,
+        )
+    }
+}
