@@ -1,5 +1,5 @@
 -- Which numbers does an option take, and which does it have where it is not given?
-use Rattle.std.specs.Prelude.{ℕ, ◌%◌, ◌==◌, ◌&&◌, ◌^◌, nat_le, List, Option, Some, None}
+use Rattle.std.specs.Prelude.{◌≡◌, ℕ, ◌≤◌, ◌%◌, ◌==◌, ◌&&◌, ◌^◌, nat_le, List, Option, Some, None}
 use Rattle.std.specs.Prelude.{if◌then◌else◌, option_and_then}
 use Rattle.request_lang.specs.LineField.{digits_number}
 use Rattle.tiff_format.specs.Cut.{autotile_step, max_autotile}
@@ -9,6 +9,12 @@ use Rattle.command_line.specs.declared.range.NumberRange.{NumberRange}
 abbrev pub range : ℕ → ℕ → ℕ → ℕ → NumberRange
 range least most step default =
     record { least = least; most = most; step = step; default = default }
+
+-- The option takes the number.
+pub record Takes (range : NumberRange) (n : ℕ) : Type 0 where
+  pub least : range.least ≤ n
+  pub most : n ≤ range.most
+  pub step : n % range.step ≡ 0
 
 -- the number, if the option takes it
 abbrev pub taken : NumberRange → ℕ → Option ℕ

@@ -2,6 +2,7 @@
 
 ghost use Rattle.std.specs.Prelude.{◌≡◌, ◌<◌, ◌≤◌, IfSome, option_map};
 ghost use Rattle.clap.specs.Words.{first_of, found_of, rows_of};
+ghost use Rattle.command_line.specs.Range.{Takes};
 ghost use Rattle.command_line.specs.Options as spec;
 
 use crate::range::{AUTOTILE, BUDGET, HANDLES, NumberRange, SHARDS, SLOTS, WORKERS};
@@ -36,9 +37,9 @@ pub(crate) fn text_of<'a>(matches: &ArgMatches<'a>, name: &str) -> Option<&'a st
 /// The number of an option, by its value or its default.
 fn number(matches: &ArgMatches<'_>, name: &str, range: NumberRange) -> Option<u64>
     requires step { 0 < range.step }
-    requires default { range.default ≤ range.most }
+    requires default { Takes range range.default }
     ensures value { result ≡ spec.number range name.now (rows_of (found_of matches.now)) }
-    ensures within { IfSome result (λ n. n ≤ range.most) }
+    ensures within { IfSome result (Takes range) }
 {
     number_or_default(range, text_of(matches, name))
 }

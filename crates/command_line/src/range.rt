@@ -72,7 +72,7 @@ pub(crate) const SLOTS: NumberRange = NumberRange {
 pub(crate) fn value_in_range(range: NumberRange, text: &str) -> Option<u64>
     requires { 0 < range.step }
     ensures value { result ≡ spec.value_in_range range text.now }
-    ensures within { IfSome result (λ n. n ≤ range.most) }
+    ensures within { IfSome result (spec.Takes range) }
 {
     let number = digits_number(text.as_bytes())?;
     if number < range.least || number > range.most || number % range.step != 0 {
@@ -84,9 +84,9 @@ pub(crate) fn value_in_range(range: NumberRange, text: &str) -> Option<u64>
 /// The number of the range that a value spells, or the default where none is given.
 pub(crate) fn number_or_default(range: NumberRange, value: Option<&str>) -> Option<u64>
     requires step { 0 < range.step }
-    requires default { range.default ≤ range.most }
+    requires default { spec.Takes range range.default }
     ensures value { result ≡ spec.number_or_default range (option_map (λ s. s.now) value.entry) }
-    ensures within { IfSome result (λ n. n ≤ range.most) }
+    ensures within { IfSome result (spec.Takes range) }
 {
     match value {
         None => Some(range.default),

@@ -86,7 +86,7 @@ sum_none f (x ∷ xs) all =
 
 -- a fresh pass has counted nothing
 same_tally : (pass : PassState) → IsFresh pass → tally_of pass ≡ no_tally
-same_tally pass fresh = rw (fresh.recent, fresh.needs, fresh.hits) refl
+same_tally pass fresh = rw (fresh.recent, fresh.needs, fresh.hits, fresh.apart) refl
 
 module _ {T W H : Type 0} (state : T → TapState) (cache : CacheState) where
   -- their taps have done nothing

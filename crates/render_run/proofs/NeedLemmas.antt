@@ -29,8 +29,8 @@ use Rattle.texel_values.specs.Area.{area_cells}
 use Rattle.texel_values.specs.Met.{cells_met, count_met}
 use Rattle.image_cache.specs.declared.error.CacheError.{CacheError}
 use Rattle.image_cache.specs.declared.error.CacheError.TheVariants as refused
-use Rattle.image_cache.specs.Pass.{PassState}
-use Rattle.image_cache.specs.Call.{Needs, KeepsRecent, CountsOn, KeepsGiven}
+use Rattle.image_cache.specs.Pass.{PassState, counted_together}
+use Rattle.image_cache.specs.Call.{Needs, KeepsRecent, CountsOn, KeepsGiven, NoneApart}
 use Rattle.image_cache.specs.Cause.{KeepsRecentAt}
 use Rattle.image_cache.specs.Region.{ReadsRegion, area_keys}
 use Rattle.image_cache.specs.Sizes.{sizes_by, sizes_in}
@@ -57,13 +57,14 @@ module _ (files : Files) (cut : Cut) (task : Task) (old new : Tally) (line : Ans
     (none : AreNeeded files cut task line []) where
   -- the microcache and the counts are as they were
   pub keeps_tally : new.recent ≡ old.recent → new.needs ≡ old.needs → new.hits ≡ old.hits
-      → empties line ≡ false → TalliesAnswer files cut task old new line
-  keeps_tally recent needs hits kept = record {
+      → new.apart ≡ old.apart → empties line ≡ false → TalliesAnswer files cut task old new line
+  keeps_tally recent needs hits apart kept = record {
     needed = [];
     are = none;
     few = omega arith;
     least = omega (arith, needs);
-    counts = λ tells calm low.
+    later = omega (arith, apart);
+    counts = λ tells calm none_apart low.
         subst (λ (b : Bool). TalliesAs b [] old new) (sym kept) (record {
           answers = [];
           asked = recent;
@@ -73,14 +74,15 @@ module _ (files : Files) (cut : Cut) (task : Task) (old new : Tally) (line : Ans
   }
 
   -- it failed
-  pub fails_tally : old.needs ≤ new.needs → is_calm (basis_of line) ≡ false
-      → TalliesAnswer files cut task old new line
-  fails_tally later fails = record {
+  pub fails_tally : old.needs ≤ new.needs → old.apart ≤ new.apart
+      → is_calm (basis_of line) ≡ false → TalliesAnswer files cut task old new line
+  fails_tally needs apart fails = record {
     needed = [];
     are = none;
     few = omega arith;
-    least = omega (arith, later);
-    counts = λ tells calm low. absurd (cc (fails, calm));
+    least = omega (arith, needs);
+    later = apart;
+    counts = λ tells calm none_apart low. absurd (cc (fails, calm));
   }
 
 -- a question to the file of a tile counts as one to any file
@@ -92,6 +94,7 @@ tile_tally files cut n q old new line t = record {
   are = t.are;
   few = t.few;
   least = t.least;
+  later = t.later;
   counts = t.counts;
 }
 
@@ -142,19 +145,19 @@ module _ (files : Files) (cut : Cut) (file : ℕ) (old new : PassState) where
       → TalliesAnswer files cut task (tally_of old) (tally_of new) (refusal_of e)
   refused_kept task e none kept =
       keeps_tally files cut task (tally_of old) (tally_of new) (refusal_of e) none kept.recent
-      kept.counts.needs kept.counts.hits (refusal_keeps e)
+      kept.counts.needs kept.counts.hits kept.counts.apart (refusal_keeps e)
 
   refused_by : {B : Type 0} → (task : Task) (e : CacheError B)
       → AreNeeded files cut task (refusal_of e) [] → KeepsRecentAt old new e → CountsOn old new
       → TalliesAnswer files cut task (tally_of old) (tally_of new) (refusal_of e)
   refused_by task (refused.Again from to) none kept on =
-      fails_tally files cut task (tally_of old) (tally_of new) (line.Again from to) none on.needs refl
+      fails_tally files cut task (tally_of old) (tally_of new) (line.Again from to) none on.needs on.apart refl
   refused_by task refused.ReadFault none kept on =
-      fails_tally files cut task (tally_of old) (tally_of new) line.ReadFault none on.needs refl
+      fails_tally files cut task (tally_of old) (tally_of new) line.ReadFault none on.needs on.apart refl
   refused_by task refused.NoMemory none kept on =
-      fails_tally files cut task (tally_of old) (tally_of new) line.NoMemory none on.needs refl
+      fails_tally files cut task (tally_of old) (tally_of new) line.NoMemory none on.needs on.apart refl
   refused_by task (refused.Busy b) none kept on =
-      fails_tally files cut task (tally_of old) (tally_of new) line.NoMemory none on.needs refl
+      fails_tally files cut task (tally_of old) (tally_of new) line.NoMemory none on.needs on.apart refl
   refused_by {B = B} task (refused.BadFile generation fault) none kept on =
       refused_kept {B = B} task (refused.BadFile generation fault) none kept
   refused_by {B = B} task (refused.TileTooLarge generation) none kept on =
@@ -184,23 +187,32 @@ module _ (files : Files) (cut : Cut) (file : ℕ) (old new : PassState) where
 
 -- ---- cells were needed
 
--- of the keys of several cells
+-- of the keys of several cells, of which none was answered apart or some were
 pub needs_tally : (files : Files) (cut : Cut) (task : Task) (line : Answer) (keys : List ℕ)
     (old new : PassState) → AreNeeded files cut task line keys → length keys ≤ max_texels
-    → Needs files keys old new → empties line ≡ false
+    → new.needs ≡ counted_together old.needs (length keys) → old.apart ≤ new.apart
+    → (new.apart ≡ 0 → Needs files keys old new) → empties line ≡ false
     → TalliesAnswer files cut task (tally_of old) (tally_of new) line
-needs_tally files cut task line keys old new are few needs kept = record {
+needs_tally files cut task line keys old new are few count later needs kept = record {
   needed = keys;
   are = are;
   few = few;
-  least = omega (arith, needs.needs);
-  counts = λ tells calm low.
+  least = omega (arith, count);
+  later = later;
+  counts = λ tells calm apart low.
       subst (λ (b : Bool). TalliesAs b keys (tally_of old) (tally_of new)) (sym kept) (record {
-        answers = needs.answers;
-        asked = needs.asked;
-        needs = needs.needs;
-        hits = needs.hits tells;
+        answers = (needs apart).answers;
+        asked = (needs apart).asked;
+        needs = count;
+        hits = (needs apart).hits tells;
       });
+}
+
+-- a pass that has answered nothing apart has not done so in a call
+none_apart : (old new : PassState) → old.apart ≤ new.apart → new.apart ≡ 0 → NoneApart old new
+none_apart old new later none = record {
+  same = omega (arith, later, none);
+  low = omega (arith, later, none);
 }
 
 -- ---- how many a region needs
@@ -251,7 +263,7 @@ region_few level columns rows w h across down few =
 module _ (files : Files) (cut : Cut) (file generation : ℕ) (old new : PassState) where
   -- by a region
   module _ (region : Region) (channels : ℕ) (values : List ℕ)
-      (few : region.w * region.h ≤ max_texels) where
+      (few : region.w * region.h ≤ max_texels) (later : old.apart ≤ new.apart) where
     region_by : (r : RecordState) → GivesRecord files file cut old.view new.view r
         → r.generation ≡ generation → ReadsRegion files region channels old new r
         → TalliesAnswer files cut (Ask (Some file) (Values region)) (tally_of old) (tally_of new)
@@ -285,7 +297,7 @@ module _ (files : Files) (cut : Cut) (file generation : ℕ) (old new : PassStat
         (rw (length-map-range_with_len _ 0 (area_cells area))
         (region_few grid columns rows region.w region.h
         (omega (arith, is.columns.total)) (omega (arith, is.rows.total)) few))
-        reads.needs refl
+        reads.needs.needs later (λ none. reads.needs) refl
 
     region_at : (kept : Option RecordState) → IsSomeAnd kept (λ r.
         GivesRecord files file cut old.view new.view r × (r.generation ≡ generation)
@@ -328,11 +340,13 @@ module _ (files : Files) (cut : Cut) (file generation : ℕ) (old new : PassStat
     keys_by g f u k = look_keys_on g f u k (asked_visits (sizes_in k u) r)
 
     look_at : (state : RecordState) → GivesRecord files file cut old.view new.view state
-        → state.generation ≡ generation → NeedsCells files state (visits_on state r) old new
+        → state.generation ≡ generation
+        → new.needs ≡ counted_together old.needs (length (visits_on state r))
+        → (NoneApart old new → NeedsCells files state (visits_on state r) old new)
         → (layout : Result Kept TiffFault) → state.layout ≡ layout
         → TalliesAnswer files cut (Ask (Some file) (Look r)) (tally_of old) (tally_of new)
         answer
-    look_at state gives of needs (Ok kept) is =
+    look_at state gives of count needs (Ok kept) is =
         let visits = visits_on state r in
         needs_tally files cut (Ask (Some file) (Look r)) answer
         (look_keys_on state.generation state.file state.cut kept visits) old new
@@ -347,14 +361,17 @@ module _ (files : Files) (cut : Cut) (file generation : ℕ) (old new : PassStat
         ∙ ap (λ (k : Kept). keys_by generation file cut k) (sym layout.1)))
         (rw length-map (let few = visits_few (sizes_by state.cut state.layout) r in
         omega (arith, few)))
-        (subst (λ (l : Result Kept TiffFault). IfOk l (λ (k : Kept). Needs files
-        (look_keys_on state.generation state.file state.cut k visits) old new)) is needs) full
-    look_at state gives of needs (Err fault) is = record {
+        (count ∙ ap (counted_together old.needs) (sym length-map)) on.apart
+        (λ none. subst (λ (l : Result Kept TiffFault). IfOk l (λ (k : Kept). Needs files
+        (look_keys_on state.generation state.file state.cut k visits) old new)) is
+        (needs (none_apart old new on.apart none))) full
+    look_at state gives of count needs (Err fault) is = record {
       needed = [];
       are = told [] (λ bytes held. absurd (no_fault state gives of fault is bytes held));
       few = omega arith;
       least = omega (arith, on.needs);
-      counts = λ tells calm low.
+      later = on.apart;
+      counts = λ tells calm apart low.
           absurd (none_held (files.held file generation) (real.held tells)
           (no_fault state gives of fault is));
     }
@@ -365,7 +382,7 @@ module _ (files : Files) (cut : Cut) (file generation : ℕ) (old new : PassStat
         answer
     look_by None looked = absurd looked
     look_by (Some state) looked =
-        look_at state looked.given looked.of looked.needs state.layout refl
+        look_at state looked.given looked.of looked.asks.needs looked.needs state.layout refl
 
     pub look_tally : IsSomeAnd new.latest (IsLookedUp files file cut r old new generation)
         → TalliesAnswer files cut (Ask (Some file) (Look r)) (tally_of old) (tally_of new)

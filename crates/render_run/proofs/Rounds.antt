@@ -403,16 +403,17 @@ module _ (setup : Setup) (requests : List Request) (crew : List Sight) (old mid 
   -- the counts of a worker are those of its lines
   counts_told : (w : ℕ) → w < setup.workers → (counts : Counts) → counts.hits ≤ counts.needs
       → counts.needs ≡ (sight_at crew w).tally.needs → counts.hits ≡ (sight_at crew w).tally.hits
+      → counts.apart ≡ (sight_at crew w).tally.apart
       → AreCountsOf setup.files.tells w so_far.lines counts
-  counts_told w low counts few needs hits =
+  counts_told w low counts few needs hits apart =
       let told = so_far.so_far.tallied w low in
       let below : needs_by w so_far.lines < max_count = omega (arith, needs_short w) in
       record {
         few = few;
         least = λ tells. short_least max_count (needs_by w so_far.lines) counts.needs
             (omega (arith, below)) (rw needs told.least);
-        exact = λ tells calm.
-            let exact = told.exact tells calm in
+        exact = λ tells calm none.
+            let exact = told.exact tells calm (sym apart ∙ none) in
             let all : counts.needs ≡ needs_by w so_far.lines =
             short_exact max_count (needs_by w so_far.lines) counts.needs (omega (arith, below))
             (needs ∙ exact.needs) in
@@ -448,7 +449,8 @@ module _ {T W H : Type 0} (state : T → TapState) (posts : List (Post T W H)) (
         (counts_told setup requests (sights_of state posts) old mid page refused so_far short w low
         (counts_of (get_or posts w d).worker.pass) (few w d here)
         (sym (ap (λ (s : Sight). s.tally.needs) sight_is))
-        (sym (ap (λ (s : Sight). s.tally.hits) sight_is)));
+        (sym (ap (λ (s : Sight). s.tally.hits) sight_is))
+        (sym (ap (λ (s : Sight). s.tally.apart) sight_is)));
     tells = rw (so_far.count, ← so_far.refusal) refl;
   }
 

@@ -72,7 +72,7 @@ no_hits h none = omega (arith, none)
 pub none_tallied : (files : Files) (w : ℕ) (t : Tally) → t ≡ no_tally → IsTallied files w [] t
 none_tallied files w t none = record {
   least = omega arith;
-  exact = λ tells calm. record {
+  exact = λ tells calm apart. record {
     needs = ap (λ (u : Tally). u.needs) none ∙ omega arith;
     hits = ap (λ (u : Tally). u.hits) none ∙ no_hits (hit_count []) hit_count-none;
     items = rw none (no_items key_in);
@@ -127,7 +127,7 @@ module _ (w : ℕ) (lines : List Line) (line : Line) where
     pub tally_other : line.place.worker ≢ w → IsTallied files w (lines ++ line ∷ []) old
     tally_other other = record {
       least = omega (arith, told.least, needs_other other);
-      exact = λ tells calm. let so_far = told.exact tells (calm_front calm) in record {
+      exact = λ tells calm apart. let so_far = told.exact tells (calm_front calm) apart in record {
         needs = so_far.needs ∙ ap (λ (n : ℕ). min n max_count) (sym (needs_other other));
         hits = so_far.hits
             ∙ ap (λ (n : Needed). min (hits_in n) max_count) (sym (needed_other other));
@@ -186,13 +186,13 @@ module _ (w : ℕ) (lines : List Line) (line : Line) where
       tally_own one same = record {
         least = min_least max_count (needs_by w lines) (length line.needed) _ old.needs new.needs
             told.least (rw same one.least) (needs_own own);
-        exact = λ tells calm.
-            let so_far = told.exact tells (calm_front calm) in
+        exact = λ tells calm apart.
+            let so_far = told.exact tells (calm_front calm) (omega (arith, one.later, apart)) in
             let low : IsLow old = record {
               needs = min_low max_count (needs_by w lines) old.needs so_far.needs;
               hits = min_low max_count (hits_by w lines) old.hits so_far.hits;
             } in
             exact_as (empties line.answer) refl
             (subst (λ (keys : List ℕ). TalliesAs (empties line.answer) keys old new) (sym same)
-            (one.counts tells (calm_last calm own) low)) so_far;
+            (one.counts tells (calm_last calm own) apart low)) so_far;
       }

@@ -45,7 +45,7 @@ module _ {T W H : Type 0} (state : T → TapState) (files : Files) (cache : Cach
       meets = meets;
       after = rw none (idle_after line (sight state w) same cause);
       tallies = keeps_tally files cache.gate.cut task (tally_of w.pass) (tally_of w.pass) line
-          needed refl refl refl full;
+          needed refl refl refl refl full;
     };
     pass = of;
     oldest = oldest;

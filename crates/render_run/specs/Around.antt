@@ -80,11 +80,12 @@ pub record Setup : Type 0 where
   pub terms : Terms
   pub workers : ℕ
 
--- The microcache of a worker, and what it has counted.
+-- The microcache of a worker, and what it has counted: needs, hits, and needs answered apart.
 pub record Tally : Type 0 where
   pub recent : List CachedTile
   pub needs : ℕ
   pub hits : ℕ
+  pub apart : ℕ
 
 -- What a worker has seen of each file, how many tiles it holds, what it has counted, and the source
 -- that its tap is.
@@ -121,11 +122,16 @@ setup_of files folder terms workers =
 
 -- what a pass has counted
 abbrev pub tally_of : PassState → Tally
-tally_of pass = record { recent = pass.pinned.recent; needs = pass.needs; hits = pass.hits }
+tally_of pass = record {
+  recent = pass.pinned.recent;
+  needs = pass.needs;
+  hits = pass.hits;
+  apart = pass.apart;
+}
 
 -- what the line of a worker tells of it
 abbrev pub counts_of : PassState → Counts
-counts_of pass = record { needs = pass.needs; hits = pass.hits }
+counts_of pass = record { needs = pass.needs; hits = pass.hits; apart = pass.apart }
 
 -- what a worker sees by its pass and its tap
 abbrev pub sight_of : PassState → TapState → Sight
@@ -140,7 +146,7 @@ sight_of pass tap = record {
 
 -- nothing is counted
 abbrev pub no_tally : Tally
-no_tally = record { recent = []; needs = 0; hits = 0 }
+no_tally = record { recent = []; needs = 0; hits = 0; apart = 0 }
 
 -- a worker that has seen nothing
 abbrev pub no_sight : Sight

@@ -57,13 +57,14 @@ pub record AreExact (w : ℕ) (lines : List Line) (counts : Counts) : Type 0 whe
   pub hits : counts.hits ≡ hits_by w lines
 
 -- What the counts of a worker say, over a world that tells or does not: hits are needs. Where it
--- tells, its answers needed no more, and exactly these where none of its lines failed.
+-- tells, its answers needed no more, and exactly these where none of its lines failed and nothing was
+-- answered apart.
 pub record AreCountsOf (tells : Bool) (w : ℕ) (lines : List Line) (counts : Counts)
     : Type 0 where
   pub few : counts.hits ≤ counts.needs
   pub least : IsTrue tells → needs_by w lines ≤ counts.needs
-  pub exact : IsTrue tells → AreCalm w lines → AreExact w lines counts
+  pub exact : IsTrue tells → AreCalm w lines → counts.apart ≡ 0 → AreExact w lines counts
 
 -- a worker that counted nothing
 abbrev pub no_counts : Counts
-no_counts = record { needs = 0; hits = 0 }
+no_counts = record { needs = 0; hits = 0; apart = 0 }

@@ -43,14 +43,15 @@ TalliesAs true keys old new = (keys ≡ []) × IsEmptied old new
 TalliesAs false keys old new = Asks keys old new
 
 -- What a worker counts at an answer: the cells that it needed, which are no more than a region may
--- have texels. Where it failed at least these.
+-- have texels. Where it failed, or a cell was answered apart, at least these.
 pub record TalliesAnswer (files : Files) (cut : Cut) (task : Task) (old new : Tally) (line : Answer)
     : Type 0 where
   pub needed : List ℕ
   pub are : AreNeeded files cut task line needed
   pub few : length needed ≤ max_texels
   pub least : counted_together old.needs (length needed) ≤ new.needs
-  pub counts : IsTrue files.tells → IsTrue (is_calm (basis_of line)) → IsLow old
+  pub later : old.apart ≤ new.apart
+  pub counts : IsTrue files.tells → IsTrue (is_calm (basis_of line)) → new.apart ≡ 0 → IsLow old
       → TalliesAs (empties line) needed old new
 
 -- ---- by its lines
@@ -64,7 +65,7 @@ pub record IsExactly (w : ℕ) (lines : List Line) (t : Tally) : Type 0 where
   pub latest : AreRecent key_in (needed_by w lines).since t.recent
 
 -- What a worker has counted, where the world tells: at least what its answers needed, and exactly
--- what its lines say where none of them failed.
+-- what its lines say where none of them failed and nothing was answered apart.
 pub record IsTallied (files : Files) (w : ℕ) (lines : List Line) (t : Tally) : Type 0 where
   pub least : min (needs_by w lines) max_count ≤ t.needs
-  pub exact : IsTrue files.tells → AreCalm w lines → IsExactly w lines t
+  pub exact : IsTrue files.tells → AreCalm w lines → t.apart ≡ 0 → IsExactly w lines t

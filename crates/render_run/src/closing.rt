@@ -13,8 +13,8 @@ use request_lang::Counts;
 use tex_world::{Failed, Sink, Tap};
 
 /// Passes the lines on that close a run, and puts all that waits: of each worker how many cells its
-/// answers needed and how many of these its microcache had, then how many lines there are and how many
-/// of them are refusals.
+/// answers needed, how many of these its microcache had and how many were answered apart, then how many
+/// lines there are and how many of them are refusals.
 pub(crate) fn close<T: Tap, O: Sink>(
     page: &mut Page,
     posts: &[Post<T>],
@@ -62,6 +62,7 @@ fn pass_workers<T: Tap, O: Sink>(
         let counts = Counts {
             needs: pass.needs(),
             hits: pass.hits(),
+            apart: pass.apart(),
         };
         if let Err(failed) = page.pass_worker(out, w as u32, counts) {
             return Err(failed);

@@ -29,6 +29,10 @@ max_part_bytes = 8192
 abbrev pub max_number_bytes : ℕ
 max_number_bytes = 21
 
+-- the most bytes of how many cells were answered apart
+abbrev pub max_apart_bytes : ℕ
+max_apart_bytes = 27
+
 -- the most bytes of what a shard has
 abbrev pub max_shard_bytes : ℕ
 max_shard_bytes = 84

@@ -1,14 +1,18 @@
 -- What do the lines say that close a run? (docs/REQUESTS.md, "The closing lines")
-use Rattle.std.specs.Prelude.{ℕ, ◌+◌, codes, List, [], ◌∷◌, ◌++◌}
+use Rattle.std.specs.Prelude.{ℕ, ◌+◌, ◌==◌, if◌then◌else◌, codes, List, [], ◌∷◌, ◌++◌}
 use Rattle.request_lang.specs.Grammar.{line_feed}
 use Rattle.request_lang.specs.Line.{fields}
 use Rattle.request_lang.specs.declared.closing.Counts.{Counts}
+
+-- how many cells were answered apart, where any was
+abbrev pub apart_field : ℕ → List ℕ
+apart_field apart = if apart == 0 then [] else codes " apart" ++ fields (apart ∷ [])
 
 -- the line of a worker, with its line feed
 abbrev pub worker_line : ℕ → Counts → List ℕ
 worker_line worker counts =
     (codes "worker" ++ fields (worker ∷ [])) ++ (codes " needs" ++ fields (counts.needs ∷ []))
-    ++ (codes " hits" ++ fields (counts.hits ∷ [])) ++ line_feed ∷ []
+    ++ (codes " hits" ++ fields (counts.hits ∷ [])) ++ apart_field counts.apart ++ line_feed ∷ []
 
 -- the line of how many requests there were, and how many were refused, with its line feed
 abbrev pub total_line : ℕ → ℕ → List ℕ

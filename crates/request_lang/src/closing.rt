@@ -1,19 +1,32 @@
 //! The lines that close a run.
 
 ghost use Rattle.std.specs.Prelude.{◌≡◌, ◌++◌, ◌≤◌, OnOk, OnErr};
-ghost use Rattle.request_lang.specs.Appending.{Pushes, Fits, max_part_bytes};
-ghost use Rattle.request_lang.specs.Closing.{worker_line, total_line};
+ghost use Rattle.request_lang.specs.Appending.{Pushes, Fits, max_part_bytes, max_apart_bytes};
+ghost use Rattle.request_lang.specs.Closing.{worker_line, total_line, apart_field};
 
 use crate::line::push_line;
 use crate::number::push_text;
 use std::alloc::AllocError;
 use tex_world::NoMemory;
 
-/// How many cells the answers of a worker needed, and how many of these its microcache had.
+/// How many cells the answers of a worker needed, how many of these its microcache had, and for how
+/// many no tile was made.
 #[derive(Clone, Copy, Debug, PartialEq, Eq)]
 pub struct Counts {
     pub needs: u64,
     pub hits: u64,
+    pub apart: u64,
+}
+
+/// Appends how many cells were answered apart, where any was.
+fn push_apart(out: &mut Vec<u8>, apart: u64) -> Result<(), AllocError>
+    ensures text { Pushes (apart_field apart) out.old.items out.new.items result }
+    ensures fits { Fits max_apart_bytes out.old out.new result }
+{
+    if apart == 0 {
+        return Ok(());
+    }
+    push_line(out, " apart", &[apart])
 }
 
 /// Appends the line of a worker, with its line feed.
@@ -25,6 +38,7 @@ fn push_worker(out: &mut Vec<u8>, worker: u32, counts: Counts) -> Result<(), All
     push_line(out, "worker", &[u64::from(worker)])?;
     push_line(out, " needs", &[counts.needs])?;
     push_line(out, " hits", &[counts.hits])?;
+    push_apart(out, counts.apart)?;
     push_text(out, b"\n")
 }
 
@@ -39,8 +53,9 @@ fn push_total(out: &mut Vec<u8>, total: u64, refused: u64) -> Result<(), AllocEr
     push_text(out, b"\n")
 }
 
-/// Appends the line that says how many cells the answers of a worker needed, and how many of these its
-/// microcache had. Where there is room for `MAX_PART_BYTES` bytes it takes no memory.
+/// Appends the line that says how many cells the answers of a worker needed, how many of these its
+/// microcache had, and, where that is more than 0, for how many no tile was made. Where there is room
+/// for `MAX_PART_BYTES` bytes it takes no memory.
 pub fn worker_text(worker: u32, counts: Counts, out: &mut Vec<u8>) -> Result<(), NoMemory>
     ensures ok { OnOk result (out.new.items ≡ out.old.items ++ worker_line worker counts) }
     ensures err { OnErr result (out.new.items ≡ out.old.items) }

@@ -37,11 +37,15 @@ returns-in-Err g c =
 pub loop-w-preserved : goal.loop-w-preserved
 loop-w-preserved g c =
     let posts = c.args.posts.now in
-    let one : Counts = record { needs = c.needs.result; hits = c.hits.result } in
+    let one : Counts = record {
+      needs = c.needs.result;
+      hits = c.hits.result;
+      apart = c.apart.result;
+    } in
     let low : c.loop-w.w < length posts = c.loop-w-test.true in
     let here : get_or (all_counts posts) c.loop-w.w one ≡ one =
     get_or-map (λ p. counts_of p.worker.pass) posts c.loop-w.w c.index-posts-w.result one low
-    ∙ rw (c.needs.ensures, c.hits.ensures.value) refl in
+    ∙ rw (c.needs.ensures, c.hits.ensures.value, c.apart.ensures) refl in
     record {
       front = c.loop-w.invariant.front ++ worker_line c.loop-w.w one;
       split = lines_split c.loop-w.invariant.front _ c.loop-w.w (all_counts posts) one one

@@ -11,7 +11,7 @@ returns-in-Ok g c = record {
     after = search rules;
     tallies = keeps_tally _ _ _ (tally_of c.args.self.now.pass) (tally_of c.info.new.pass) _ refl
         c.info.ensures.same.tiles.recent c.info.ensures.same.counts.needs
-        c.info.ensures.same.counts.hits refl;
+        c.info.ensures.same.counts.hits c.info.ensures.same.counts.apart refl;
   };
   pass = search rules;
   oldest = tt;
@@ -26,6 +26,7 @@ returns-in-Err g c = record {
         (keeps_tally _ _ _ (tally_of c.args.self.now.pass) (tally_of c.info.new.pass)
         (refusal_of c.in-Err.e) refl c.info.ensures.same.tiles.recent
         c.info.ensures.same.counts.needs c.info.ensures.same.counts.hits
+        c.info.ensures.same.counts.apart
         (refusal_keeps c.in-Err.e));
   };
   pass = search rules;

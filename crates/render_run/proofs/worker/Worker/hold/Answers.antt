@@ -39,7 +39,8 @@ returns-in-Ok g c = record {
     tallies =
         keeps_tally g.T.W.World.files c.args.desk.now.cache.now.gate.cut _ (tally_of c.args.self.now.pass)
         (tally_of c.get_tile.new.pass) _ refl c.get_tile.ensures.same.1.recent
-        c.get_tile.ensures.same.1.counts.needs c.get_tile.ensures.same.1.counts.hits refl;
+        c.get_tile.ensures.same.1.counts.needs c.get_tile.ensures.same.1.counts.hits
+        c.get_tile.ensures.same.1.counts.apart refl;
   };
   pass = search rules;
   oldest = tt;
@@ -68,7 +69,7 @@ returns-in-Err g c = record {
         (keeps_tally g.T.W.World.files c.args.desk.now.cache.now.gate.cut _ (tally_of c.args.self.now.pass)
         (tally_of c.get_tile.new.pass) (refusal_of c.in-Err.e) refl c.get_tile.ensures.same.1.recent
         c.get_tile.ensures.same.1.counts.needs c.get_tile.ensures.same.1.counts.hits
-        (refusal_keeps c.in-Err.e));
+        c.get_tile.ensures.same.1.counts.apart (refusal_keeps c.in-Err.e));
   };
   pass = search rules;
   oldest = tt;

@@ -12,7 +12,7 @@ returns-in-Ok g c = record {
     tallies = keeps_tally _ _ _ (tally_of c.args.self.now.pass)
         (tally_of c.release_tile.new.pass) _ refl c.release_tile.ensures.same.tiles
         c.release_tile.ensures.same.counts.needs
-        c.release_tile.ensures.same.counts.hits refl;
+        c.release_tile.ensures.same.counts.hits c.release_tile.ensures.same.counts.apart refl;
   };
   pass = search rules;
   oldest = c.in-Ok.ensures.ok;
@@ -26,7 +26,7 @@ returns-in-Err-NothingHeld g c = record {
     tallies = keeps_tally _ _ _ (tally_of c.args.self.now.pass)
         (tally_of c.release_tile.new.pass) _ refl c.release_tile.ensures.same.tiles
         c.release_tile.ensures.same.counts.needs
-        c.release_tile.ensures.same.counts.hits refl;
+        c.release_tile.ensures.same.counts.hits c.release_tile.ensures.same.counts.apart refl;
   };
   pass = search rules;
   oldest = none_gone c.args.self.now.pass.pinned.holds c.release_tile.new.pass.pinned.holds

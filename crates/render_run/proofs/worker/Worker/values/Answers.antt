@@ -38,7 +38,7 @@ returns-in-Ok g c = record {
         let none = (c.in-Ok.ensures.too_large many).0 in absurd (cc (none, c.in-Ok.is))) in
         region_tally g.T.W.World.files c.args.desk.now.cache.now.gate.cut c.args.file c.in-Ok.pixels.generation
         c.args.self.now.pass c.get_pixels.new.pass c.args.region.now c.in-Ok.pixels.channels _ fits
-        c.in-Ok.ensures.ok;
+        c.get_pixels.ensures.same.0.counts.apart c.in-Ok.ensures.ok;
   };
   pass = search rules;
   oldest = tt;
