@@ -121,6 +121,7 @@ module _ (files : Files) (terms : Terms) (old new : Sight) where
       are = needs_none file r one.tallies.needed one.tallies.are;
       few = one.tallies.few;
       least = one.tallies.least;
+      later = one.tallies.later;
       counts = one.tallies.counts;
     };
   }
