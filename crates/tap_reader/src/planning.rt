@@ -17,6 +17,8 @@ const MAX_STRETCHES: usize = 8;
 pub struct Band {
     pub slot: usize,
     pub rows: Option<Rows>,
+    /// Where bytes are not there, up to 8 KiB round them are read.
+    pub is_window: bool,
 }
 
 /// The stretch that has the bytes of rows.
@@ -107,6 +109,19 @@ impl<W: World> ReadAhead<W> {
         }
     }
 
+    /// A stretch that short reads of bytes that stand close together are cut from, as those of directories
+    /// are. None where no memory is found.
+    pub fn window(&mut self) -> Option<Band>
+        ensures { self.new ≡ self.old }
+    {
+        let slot = self.spare()?;
+        Some(Band {
+            slot,
+            rows: None,
+            is_window: true,
+        })
+    }
+
     /// From which stretch the rows of a cell are to be cut, and what is to be read into it first. None
     /// where no memory is found.
     pub fn plan(&mut self, cell: &CellRows) -> Option<Band>
@@ -115,13 +130,18 @@ impl<W: World> ReadAhead<W> {
         if let Some(slot) = slot_with(&self.stretches, &cell.rows) {
             let cells = self.stretches[slot].course.cells;
             self.pass(slot, cell, cells);
-            return Some(Band { slot, rows: None });
+            return Some(Band {
+                slot,
+                rows: None,
+                is_window: false,
+            });
         }
         let (slot, cells) = self.begin(cell.rows.at)?;
         self.pass(slot, cell, cells);
         Some(Band {
             slot,
             rows: cell.with(cells),
+            is_window: false,
         })
     }
 }
