@@ -1,2 +1,3 @@
 mod KnownLevels
 mod IdleLemmas
+mod AheadLemmas

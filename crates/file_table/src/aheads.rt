@@ -1,6 +1,6 @@
 ghost use Rattle.std.specs.Prelude.{◌≡◌, ◌≤◌, IfSome, length};
 ghost use Rattle.tap_reader.specs.ReadAhead.{IsOf};
-ghost use Rattle.file_table.specs.Aheads.{max_aheads};
+ghost use Rattle.file_table.specs.Aheads.{max_aheads, max_kept_bytes, kept_bytes};
 
 use lru::LruCache;
 use std::alloc::{AllocFailed, Global};
@@ -9,14 +9,21 @@ use tap_reader::ReadAhead;
 use tex_world::{NoMemory, World};
 
 /// Of how many files what was read ahead is kept.
-const MAX_AHEADS: usize = 4;
+const MAX_AHEADS: usize = 256;
 
-/// What was read ahead of files that nobody reads, at most one for each file and for so many files
-/// in all. The one that was kept longest ago leaves first.
+/// How many bytes of it are kept, of all files together: 16 MiB.
+pub const MAX_KEPT_BYTES: usize = 16777216;
+
+/// What was read ahead of files that nobody reads, at most one for each file, for so many files and of
+/// so many bytes in all. The one that was kept longest ago leaves first.
 #[derive(Drop)]
 pub struct Aheads<W: World> {
     aheads: LruCache<u32, ReadAhead<W>>,
+    /// The bytes of all of them, or more.
+    held: usize,
     ghost cap: { aheads.cap ≡ max_aheads },
+    ghost few: { held ≤ max_kept_bytes },
+    ghost all: { kept_bytes aheads.entries ≤ held },
 }
 
 impl<W: World> Aheads<W> {
@@ -24,7 +31,7 @@ impl<W: World> Aheads<W> {
     pub fn new(alloc: Global) -> Result<Aheads<W>, NoMemory> {
         let cap = NonZeroUsize::new(MAX_AHEADS).unwrap();
         let aheads = LruCache::sparse(alloc, cap)?;
-        Ok(Aheads { aheads })
+        Ok(Aheads { aheads, held: 0 })
     }
 
     /// Of how many files there is something: never more than may be.
@@ -33,6 +40,14 @@ impl<W: World> Aheads<W> {
         ensures few { result ≤ max_aheads }
     {
         self.aheads.len()
+    }
+
+    /// How many bytes there are, or more: never more than may be kept of all files together.
+    pub fn bytes(&self) -> usize
+        ensures all { kept_bytes self.now.aheads.entries ≤ result }
+        ensures few { result ≤ max_kept_bytes }
+    {
+        self.held
     }
 
     /// What was read ahead of a file, where it is of this generation. It stays here too, and takes
@@ -49,8 +64,12 @@ impl<W: World> Aheads<W> {
     }
 
     /// Takes out what was read ahead of a file, of whatever generation.
-    pub fn forget(&mut self, file: u32) -> Option<ReadAhead<W>> {
-        self.aheads.pop(&file)
+    pub fn forget(&mut self, file: u32) -> Option<ReadAhead<W>>
+        ensures { self.new.held ≤ self.old.held }
+    {
+        let ahead = self.aheads.pop(&file)?;
+        self.held = self.held.saturating_sub(ahead.len());
+        Some(ahead)
     }
 
     /// Keeps what was read ahead of a file over what there was (`ReadAhead::over`). What is not kept
@@ -59,7 +78,7 @@ impl<W: World> Aheads<W> {
         if ahead.is_blank() {
             return Some(ahead);
         }
-        match self.aheads.pop(&ahead.file()) {
+        match self.forget(ahead.file()) {
             Some(kept) => {
                 let (stays, left) = ahead.over(kept);
                 let _out = self.put(stays);
@@ -69,12 +88,49 @@ impl<W: World> Aheads<W> {
         }
     }
 
+    /// Drops what was kept longest ago.
+    fn drop_oldest(&mut self) {
+        let oldest = match self.aheads.peek_lru() {
+            Some((file, _)) => *file,
+            None => return,
+        };
+        let _dropped = self.forget(oldest);
+    }
+
+    /// So many bytes of one file more may be kept.
+    fn has_room(&self, size: usize) -> bool {
+        let few = self.held.saturating_add(size) <= MAX_KEPT_BYTES;
+        few && self.aheads.len() < MAX_AHEADS
+    }
+
+    /// Drops what was kept longest ago until so many bytes of one file more may be kept.
+    fn make_room(&mut self, size: usize) {
+        for _ in 0..MAX_AHEADS {
+            if self.has_room(size) {
+                return;
+            }
+            self.drop_oldest();
+        }
+    }
+
     /// Puts what was read ahead of a file before that of all others. What leaves for it comes back,
     /// or it itself where no memory is found.
     fn put(&mut self, ahead: ReadAhead<W>) -> Option<ReadAhead<W>> {
+        let size = ahead.len();
+        self.make_room(size);
+        let held = self.held.saturating_add(size);
+        if held > MAX_KEPT_BYTES {
+            return Some(ahead);
+        }
         match self.aheads.push(ahead.file(), ahead) {
-            Ok(None) => None,
-            Ok(Some((_file, out))) => Some(out),
+            Ok(None) => {
+                self.held = held;
+                None
+            }
+            Ok(Some((_file, out))) => {
+                self.held = held;
+                Some(out)
+            }
             Err(
                 AllocFailed {
                     value: (_file, ahead),

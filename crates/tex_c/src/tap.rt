@@ -387,6 +387,31 @@ impl Tap for SuppliedTap {
         self.lack_bytes(h, at, buf.len());
         Err(ReadError::Failed)
     }
+
+    /// As `read_at`, row by row: what is lacking is the first row that was not supplied.
+    fn read_rows(
+        &mut self,
+        h: &mut SuppliedHandle,
+        at: u64,
+        stride: u64,
+        row: usize,
+        buf: &mut [u8],
+    ) -> Result<(), ReadError> {
+        self.calls = self.calls.saturating_add(1);
+        if let Some(look) = self.look(h.file(), h.generation() + 1) {
+            self.count_loss();
+            return Err(ReadError::Gone(look.generation));
+        }
+        let mut from = at;
+        for part in buf.chunks_mut(row) {
+            if !self.fill(h, from, part) {
+                self.lack_row(h, from, part.len());
+                return Err(ReadError::Failed);
+            }
+            from = from.saturating_add(stride);
+        }
+        Ok(())
+    }
 }
 
 impl SuppliedTap {
@@ -405,6 +430,19 @@ impl SuppliedTap {
             least: size as u64,
             most: h.len() - at,
         });
+    }
+
+    /// The same, also where so many bytes do not lie in the file: then none of them can be had.
+    fn lack_row(&mut self, h: &SuppliedHandle, at: u64, size: usize)
+        ensures adds { AddsFault (tap_state self.old) (tap_state self.new) }
+        ensures parts { parts_of self.new ≡ parts_of self.old }
+    {
+        let len = h.len();
+        if at <= len && size as u64 <= len - at {
+            self.lack_bytes(h, at, size);
+        } else {
+            self.count_fault();
+        }
     }
 
     /// Keeps the look that a handle stands for, if none is kept and memory is there.
