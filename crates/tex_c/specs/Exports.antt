@@ -1,5 +1,5 @@
 -- What do the exported calls leave that are no calls of the cache: making one, splitting it, supplies?
-use Rattle.std.specs.Prelude.{◌≡◌, ◌⊎◌, ℕ, ◌<◌, List, length, Option, None, Some, IsSomeAnd}
+use Rattle.std.specs.Prelude.{◌≡◌, ◌⊎◌, ℕ, ◌<◌, List, Option, Some, IsSomeAnd}
 use Rattle.tex_world.specs.World.{max_files}
 use Rattle.image_cache.specs.Pass.{IsNewCache, IsFirstPass, IsSecondPass}
 use Rattle.image_cache.specs.Options.{first_bad}
@@ -7,10 +7,11 @@ use Rattle.image_cache.specs.declared.options.Options.{Options}
 use Rattle.tex_c.specs.declared.answer.TexAnswer.{TexAnswer}
 use Rattle.tex_c.specs.declared.bytes.Bytes.{Bytes}
 use Rattle.tex_c.specs.declared.supply.RowsAt.{RowsAt}
-use Rattle.tex_c.specs.declared.supply.SupplyError.{SupplyError}
+use Rattle.tex_c.specs.declared.supply.Seen.{Seen}
 use Rattle.tex_c.specs.declared.options.TexOptions.{TexOptions}
 use Rattle.tex_c.specs.Client.{ClientState}
-use Rattle.tex_c.specs.Supply.{FitsBytes, FitsRows, LookCause, BytesCause, RowsCause}
+use Rattle.tex_c.specs.Supply.{FitsBytes, FitsRows, LookCause, LooksCause}
+use Rattle.tex_c.specs.Supply.{BytesCause, RowsCause}
 use Rattle.tex_c.specs.SuppliedTap.{tap_state, KeepsBytes, KeepsSupplies}
 use Rattle.tex_c.specs.Unanswered.{IsRefusedSupply}
 
@@ -57,6 +58,12 @@ pub record SaysLook (file generation code : ℕ) (old new : ClientState) : Type 
   pub rest : KeepsRest old new
   pub same : KeepsSupplies old.tap new.tap
   pub cause : ¬ (code ≡ 0) → IsRefusedSupply (LookCause old.tap.need file generation) code
+
+-- The same of several.
+pub record SaysLooks (looks : List Seen) (code : ℕ) (old new : ClientState) : Type 0 where
+  pub rest : KeepsRest old new
+  pub same : KeepsSupplies old.tap new.tap
+  pub cause : ¬ (code ≡ 0) → IsRefusedSupply (LooksCause old.tap.need looks) code
 
 -- What bytes leave that are supplied: they are taken only where they are what is lacking, and refused
 -- for their cause.

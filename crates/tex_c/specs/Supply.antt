@@ -1,9 +1,10 @@
 -- Which supplies are what is lacking, and why is another refused?
-use Rattle.std.specs.Prelude.{◌≡◌, ◌⊎◌, ℕ, ◌+◌, ◌<◌, ◌≤◌, ⊤, Option, None, Some}
+use Rattle.std.specs.Prelude.{◌≡◌, ◌⊎◌, ℕ, ◌+◌, ◌<◌, ◌≤◌, ⊤, Option, None, Some, List, [], ◌∷◌}
 use Rattle.tex_world.specs.World.{last_generation}
 use Rattle.tex_c.specs.declared.supply.Need.{Need}
 use Rattle.tex_c.specs.declared.supply.Need.TheVariants.{Look, Bytes, Rows}
 use Rattle.tex_c.specs.declared.supply.RowsAt.{RowsAt}
+use Rattle.tex_c.specs.declared.supply.Seen.{Seen}
 use Rattle.tex_c.specs.declared.supply.SupplyError.{SupplyError}
 use Rattle.tex_c.specs.declared.supply.SupplyError.TheVariants as refused
 
@@ -23,6 +24,11 @@ LookCause need file generation refused.Older = LacksLook need (λ _ least. gener
 LookCause need file generation refused.OtherGeneration = (generation ≡ 0) ⊎ (last_generation < generation)
 LookCause need file generation refused.NoMemory = ⊤
 LookCause need file generation e = ⊥
+
+-- why several are: there are none, or the first is refused
+abbrev pub LooksCause : Option Need → List Seen → SupplyError → Type 0
+LooksCause need [] e = e ≡ refused.Short
+LooksCause need (first ∷ more) e = LookCause need first.file first.generation e
 
 -- What is lacking is a stretch of bytes: P is so of its file, its generation, its place, and of how
 -- many there have to be and may be.

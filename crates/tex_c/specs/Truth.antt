@@ -1,6 +1,8 @@
 -- When is what the caller says of a file true?
 use Rattle.std.specs.Prelude.{◌≡◌, ℕ, ◌+◌, ◌<◌, List, length, slice_index}
+use Rattle.std.specs.List.{All}
 use Rattle.tex_c.specs.declared.supply.RowsAt.{RowsAt}
+use Rattle.tex_c.specs.declared.supply.Seen.{Seen}
 use Rattle.tex_c.specs.Rows.{place_in_rows}
 use Rattle.tex_c.specs.SuppliedWorld.{held_by_caller}
 
@@ -17,6 +19,10 @@ pub record AgreesInRows (held : List ℕ) (at stride row : ℕ) (bytes : List �
 -- The generation of the file has this length.
 abbrev pub IsTrueLook : ℕ → ℕ → ℕ → Type 0
 IsTrueLook file generation len = len ≡ length (held_by_caller file generation)
+
+-- So is each of these.
+abbrev pub AreTrueLooks : List Seen → Type 0
+AreTrueLooks looks = All (λ seen. IsTrueLook seen.file seen.generation seen.len) looks
 
 -- The bytes are those of the generation of the file from the place on.
 abbrev pub AreTrueBytes : ℕ → ℕ → ℕ → List ℕ → Type 0

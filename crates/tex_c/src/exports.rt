@@ -213,11 +213,7 @@ pub extern "C" fn tex_c_invalidate(
 
 /// Each file that is known is made invalid.
 #[unsafe(no_mangle)]
-pub extern "C" fn tex_c_invalidate_all(
-    from: Held,
-    to: &mut Held,
-    answer: &mut TexAnswer,
-) -> u32
+pub extern "C" fn tex_c_invalidate_all(from: Held, to: &mut Held, answer: &mut TexAnswer) -> u32
     requires from { IsSome from.value }
     ensures { Hands from.value to.new.value (λ old new.
         SaysAllInvalid result answer.new old new) }

@@ -1,14 +1,14 @@
 //! What C calls: supplies, and the room that they come in.
 ghost use Rattle.std.specs.Prelude.{◌≡◌, length, IfSome, IsNone, IsSome, IsSomeAnd};
 ghost use Rattle.tex_c.specs.Calls.{Hands};
-ghost use Rattle.tex_c.specs.Exports.{KeepsRest, SaysLook, SaysBytes, SaysRows, HasBytes};
+ghost use Rattle.tex_c.specs.Exports.{KeepsRest, SaysLook, SaysLooks, SaysBytes, SaysRows, HasBytes};
 ghost use Rattle.tex_c.specs.SuppliedTap.{KeepsSupplies};
-ghost use Rattle.tex_c.specs.Truth.{IsTrueLook, AreTrueBytes, AreTrueRows};
+ghost use Rattle.tex_c.specs.Truth.{IsTrueLook, AreTrueLooks, AreTrueBytes, AreTrueRows};
 
 use crate::answer::{ANSWERED, NO_MEMORY};
 use crate::held::Held;
 use crate::room::Room;
-use crate::supply::RowsAt;
+use crate::supply::{RowsAt, Seen};
 use std::alloc::Global;
 
 /// What was seen of a file.
@@ -27,6 +27,20 @@ pub extern "C" fn tex_c_supply_look(
 {
     let mut client = from.into_box();
     let code = client.supply_look(file, generation, len);
+    *to = Held::of(client);
+    code
+}
+
+/// What was seen of several files: the first is lacking, the others the call may ask for next.
+#[unsafe(no_mangle)]
+pub extern "C" fn tex_c_supply_looks(from: Held, to: &mut Held, looks: &[Seen]) -> u32
+    requires from { IsSome from.value }
+    requires told { AreTrueLooks looks.now }
+    ensures { Hands from.value to.new.value (λ old new.
+        SaysLooks looks.now result old new) }
+{
+    let mut client = from.into_box();
+    let code = client.supply_looks(looks);
     *to = Held::of(client);
     code
 }

@@ -28,12 +28,7 @@ pub extern "C" fn tex_c_get_tile(
 
 /// The tile that is held at a place.
 #[unsafe(no_mangle)]
-pub extern "C" fn tex_c_tile(
-    from: Held,
-    to: &mut Held,
-    place: usize,
-    out: &mut TexTile,
-) -> u32
+pub extern "C" fn tex_c_tile(from: Held, to: &mut Held, place: usize, out: &mut TexTile) -> u32
     requires from { IsSome from.value }
     ensures { Hands from.value to.new.value (λ old new.
         SaysHeld place result out.new old new) }
@@ -65,11 +60,7 @@ pub extern "C" fn tex_c_tile_row(
 
 /// The hold at a place is released.
 #[unsafe(no_mangle)]
-pub extern "C" fn tex_c_release_tile(
-    from: Held,
-    to: &mut Held,
-    place: usize,
-) -> u32
+pub extern "C" fn tex_c_release_tile(from: Held, to: &mut Held, place: usize) -> u32
     requires from { IsSome from.value }
     ensures { Hands from.value to.new.value (λ old new.
         SaysRelease place result old new) }
@@ -93,12 +84,7 @@ pub extern "C" fn tex_c_counts(from: Held, to: &mut Held, out: &mut TexCounts)
 
 /// What a shard has.
 #[unsafe(no_mangle)]
-pub extern "C" fn tex_c_shard(
-    from: Held,
-    to: &mut Held,
-    shard: u32,
-    out: &mut TexShard,
-) -> u32
+pub extern "C" fn tex_c_shard(from: Held, to: &mut Held, shard: u32, out: &mut TexShard) -> u32
     requires from { IsSome from.value }
     ensures { Hands from.value to.new.value (λ old new.
         new.cache ≡ old.cache) }

@@ -33,6 +33,6 @@ pub use options::TexOptions;
 pub use request::TexLookup;
 pub use room::Room;
 pub use saying::{TexInfo, TexRegion};
-pub use supply::{Look, Need, Part, RowsAt, RowsPart, SupplyError};
+pub use supply::{Look, Need, Part, RowsAt, RowsPart, Seen, SupplyError};
 pub use tap::SuppliedTap;
 pub use world::SuppliedWorld;

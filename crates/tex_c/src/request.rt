@@ -32,6 +32,7 @@ pub struct TexLookup {
 
 /// The least and the greatest number of a lookup along a footprint.
 const LEAST: i32 = -1073741824;
+
 const GREATEST: i32 = 1073741823;
 
 impl TexLookup {

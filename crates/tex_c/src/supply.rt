@@ -61,6 +61,15 @@ pub enum SupplyError {
     NoMemory,
 }
 
+/// What a caller says of a file: its generation, and the length that it has at it.
+#[repr(C)]
+#[derive(Clone, Copy, Debug, PartialEq, Eq)]
+pub struct Seen {
+    pub file: u32,
+    pub generation: u32,
+    pub len: u64,
+}
+
 /// What was seen of a file: its generation and its length.
 #[derive(Clone, Copy, Debug)]
 pub struct Look {

@@ -1,13 +1,13 @@
 //! What the caller supplies, as C says it.
 ghost use Rattle.std.specs.Prelude.{◌≡◌, length, IfSome};
-ghost use Rattle.tex_c.specs.Truth.{IsTrueLook, AreTrueBytes, AreTrueRows};
-ghost use Rattle.tex_c.specs.Exports.{KeepsRest, SaysLook, SaysBytes, SaysRows};
+ghost use Rattle.tex_c.specs.Truth.{IsTrueLook, AreTrueLooks, AreTrueBytes, AreTrueRows};
+ghost use Rattle.tex_c.specs.Exports.{KeepsRest, SaysLook, SaysLooks, SaysBytes, SaysRows};
 ghost use Rattle.tex_c.specs.SuppliedTap.{KeepsSupplies};
 
 use crate::answer::{ANSWERED, supply_code_of};
 use crate::bytes::Bytes;
 use crate::client::Client;
-use crate::supply::RowsAt;
+use crate::supply::{RowsAt, Seen};
 
 impl Client {
     /// What was seen of a file.
@@ -19,6 +19,17 @@ impl Client {
             Ok(()) => ANSWERED,
             Err(e) => supply_code_of(e),
         }
+    }
+
+    /// What was seen of several files.
+    pub(crate) fn supply_looks(&mut self, looks: &[Seen]) -> u32
+        requires told { AreTrueLooks looks.now }
+        ensures { SaysLooks looks.now result self.old self.new }
+    {
+        if let Err(e) = self.tap.supply_looks(looks) {
+            return supply_code_of(e);
+        }
+        ANSWERED
     }
 
     /// Room for so many bytes.

@@ -1,12 +1,12 @@
 //! What the caller supplies for the call at hand.
 ghost use Rattle.std.specs.Prelude.{◌≡◌, ◌⊎◌, ◌+◌, ◌<◌, None, length, IfErr, IfSome, IsNone, OnErr, OnOk, IsTrue, IsFalse};
 ghost use Rattle.tex_world.specs.World.{last_generation};
-ghost use Rattle.tex_c.specs.Truth.{IsTrueLook, AreTrueBytes, AreTrueRows};
+ghost use Rattle.tex_c.specs.Truth.{IsTrueLook, AreTrueLooks, AreTrueBytes, AreTrueRows};
 ghost use Rattle.tex_c.specs.Supply.{FitsBytes, FitsRows, LacksLook, AreElsewhere};
-ghost use Rattle.tex_c.specs.Supply.{LookCause, BytesCause, RowsCause};
+ghost use Rattle.tex_c.specs.Supply.{LookCause, LooksCause, BytesCause, RowsCause};
 ghost use Rattle.tex_c.specs.SuppliedTap.{tap_state, KeepsBytes, KeepsSupplies};
 
-use crate::supply::{Look, Need, Part, RowsAt, RowsPart, SupplyError};
+use crate::supply::{Look, Need, Part, RowsAt, RowsPart, Seen, SupplyError};
 use crate::tap::{SuppliedTap, keep_spare};
 use tex_world::LAST_GENERATION;
 
@@ -53,6 +53,21 @@ impl SuppliedTap {
             }
             Err(_) => Err(SupplyError::NoMemory),
         }
+    }
+
+    /// What was seen of several files. The first is what is lacking, as it would be alone; the others are
+    /// kept for what the call asks next, and passed over where they are no generation of a file.
+    pub fn supply_looks(&mut self, looks: &[Seen]) -> Result<(), SupplyError>
+        requires told { AreTrueLooks looks.now }
+        ensures same { KeepsSupplies self.old self.new }
+        ensures cause { IfErr result (LooksCause self.old.need looks.now) }
+    {
+        let Some(first) = looks.first() else {
+            return Err(SupplyError::Short);
+        };
+        self.supply_look(first.file, first.generation, first.len)?;
+        keep_looks(&mut self.looks, &looks[1..]);
+        Ok(())
     }
 
     /// Room for so many bytes.
@@ -148,6 +163,17 @@ fn look_of(file: u32, generation: u32, len: u64) -> Result<Look, SupplyError>
         generation,
         len,
     })
+}
+
+/// Keeps looks, where their generations are ones that a file may have and memory is there.
+fn keep_looks(kept: &mut Vec<Look>, looks: &[Seen])
+    requires told { AreTrueLooks looks.now }
+{
+    for seen in looks {
+        if let Ok(look) = look_of(seen.file, seen.generation, seen.len) {
+            if let Err(_refused) = kept.push(look) {}
+        }
+    }
 }
 
 /// Which look is lacking. Where bytes are it is one at a newer generation of their file.

@@ -18,6 +18,7 @@ use tex_world::{Failed, OpenError, ReadError, Tap, TapHandle};
 
 /// How much room is kept for the next supplies: so many pieces of so many bytes at most.
 const MAX_SPARE: usize = 8;
+
 const MAX_SPARE_BYTES: usize = 262144;
 
 /// A source of what the caller supplied for the call at hand. A call of the tap that lacks something
@@ -79,7 +80,10 @@ impl SuppliedTap {
     pub fn begin(&mut self)
         ensures same { KeepsSupplies self.old self.new }
     {
-        self.need = None;
+        // seldom, and cheaper to ask than to write
+        if self.need.is_some() {
+            self.need = None;
+        }
     }
 
     /// The call has ended: what was supplied for it is given up.
@@ -89,9 +93,11 @@ impl SuppliedTap {
         ensures parts { parts_of self.new ≡ [] }
         ensures rows { rows_of self.new ≡ [] }
     {
-        self.need = None;
+        self.begin();
         self.failed = false;
-        self.looks.clear();
+        if !self.looks.is_empty() {
+            self.looks.clear();
+        }
         if !self.parts.is_empty() {
             spare_parts(&mut self.parts, &mut self.spare);
         }
@@ -298,7 +304,12 @@ impl Tap for SuppliedTap {
 
     /// The bytes are those that were supplied of the handle's generation. Where a newer look at the
     /// file was supplied they are gone.
-    fn read_at(&mut self, h: &mut SuppliedHandle, at: u64, buf: &mut [u8]) -> Result<(), ReadError> {
+    fn read_at(
+        &mut self,
+        h: &mut SuppliedHandle,
+        at: u64,
+        buf: &mut [u8],
+    ) -> Result<(), ReadError> {
         self.calls = self.calls.saturating_add(1);
         if let Some(look) = self.look(h.file(), h.generation() + 1) {
             self.count_loss();
