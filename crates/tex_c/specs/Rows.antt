@@ -1,7 +1,8 @@
 -- Where do the bytes of rows stand, and which bytes are those of rows of a file?
 use Rattle.std.specs.Prelude.{◌≡◌, ℕ, ◌+◌, ◌*◌, ◌/◌, ◌%◌, ◌<◌, ◌≤◌, List, length, slice_index}
 
--- where byte k of rows of `row` bytes stands, of which each begins `stride` bytes behind the one before
+-- where byte k of rows of `row` bytes stands, of which each begins `stride` bytes behind the one
+-- before
 abbrev pub place_in_rows : ℕ → ℕ → ℕ → ℕ → ℕ
 place_in_rows at stride row k = at + k / row * stride + k % row
 
