@@ -390,10 +390,11 @@ static inline texc_wanted texc_want(const texcache_answer *need)
 /* Reads what is wanted of an open file into the room, and says whether all of it was read. */
 static inline int texc_read(texcache *cache, int fd, const texc_wanted *w, uint8_t *to)
 {
+    size_t row = w->rows.stride == w->rows.row ? w->size : (size_t)w->rows.row;
     uint64_t at = w->rows.at;
-    for (size_t done = 0; done < w->size; done += (size_t)w->rows.row, at += w->rows.stride) {
+    for (size_t done = 0; done < w->size; done += row, at += w->rows.stride) {
         texc_add(&cache->reads, 1);
-        if (texc_pread(fd, to + done, (size_t)w->rows.row, at) != w->rows.row) return 0;
+        if (texc_pread(fd, to + done, row, at) != row) return 0;
     }
     texc_add(&cache->bytes, w->size);
     return 1;
