@@ -129,10 +129,11 @@ typedef struct texcache_answer {
     uint32_t part;         /* BAD_FILE: the tag or the level that the fault is of */
     uint64_t value;        /* BAD_FILE: the value or the index; get_pixels: how many values there are */
     uint32_t channels;     /* get_pixels: the values of each texel */
-    uint32_t need;         /* 0 nothing, 1 a look at a file, 2 bytes of it */
+    uint32_t need;         /* 0 nothing, 1 a look at a file, 2 bytes of it, 3 rows of it */
     uint32_t need_file;
     uint32_t need_generation;
     uint64_t need_at, need_least, need_most;
+    uint64_t need_stride, need_row;  /* rows: each begins so many bytes behind the one before, and has so many */
 } texcache_answer;
 
 enum texcache_wrap { TEXCACHE_BLACK, TEXCACHE_CLAMP, TEXCACHE_PERIODIC, TEXCACHE_MIRROR };
@@ -162,6 +163,11 @@ typedef struct texcache_region {
     uint32_t w, h;
 } texcache_region;
 
+/* A texel of a level. */
+typedef struct texcache_texel {
+    uint32_t level, x, y;
+} texcache_texel;
+
 /* A tile that a pass holds: its rectangle in its level, and the samples of a texel. */
 typedef struct texcache_tile {
     uint32_t x, y, w, h, channels;
@@ -179,14 +185,31 @@ typedef struct texcache_shard {
     uint64_t loose, share;
 } texcache_shard;
 
-/* A handle of the library. It goes in by value, and comes back. */
+/* A handle of the library. It goes in by value, and comes back; NULL is none. */
 typedef struct texcache_held {
     void *at;
 } texcache_held;
 
+/* Room for bytes, which the library lends: it comes back with a supply, or by tex_c_give_back. */
+typedef struct texcache_room {
+    void *at;
+} texcache_room;
+
+/* What is seen of a file: its generation, and the length that it has at it. */
+typedef struct texcache_seen {
+    uint32_t file, generation;
+    uint64_t len;
+} texcache_seen;
+
+/* Rows of a generation of a file: the first from a place on, each `stride` bytes behind the one before. */
+typedef struct texcache_rows {
+    uint32_t file, generation;
+    uint64_t at, stride, row;
+} texcache_rows;
+
 uint32_t tex_c_new(texcache_held *to, const texcache_options *options, uint32_t files, texcache_answer *answer);
 uint32_t tex_c_split(texcache_held from, texcache_held *to, texcache_held *second);
-void tex_c_free(texcache_held from);
+void tex_c_free(texcache_held from, texcache_held none, texcache_held *to);
 uint32_t tex_c_info(texcache_held from, texcache_held *to, uint32_t file, texcache_info *info, texcache_answer *answer);
 uint32_t tex_c_texture(texcache_held from, texcache_held *to, uint32_t file, const texcache_lookup *lookup,
                        uint16_t *out, size_t room, texcache_answer *answer);
@@ -196,17 +219,22 @@ uint32_t tex_c_texture_local(texcache_held from, texcache_held *to, uint32_t fil
                              uint16_t *out, size_t room, texcache_answer *answer);
 uint32_t tex_c_pixels(texcache_held from, texcache_held *to, uint32_t file, const texcache_region *region,
                       uint16_t *out, size_t room, texcache_answer *answer);
-uint32_t tex_c_get_tile(texcache_held from, texcache_held *to, uint32_t file, uint32_t level, uint32_t x, uint32_t y,
+uint32_t tex_c_get_tile(texcache_held from, texcache_held *to, uint32_t file, const texcache_texel *at,
                         texcache_answer *answer);
 uint32_t tex_c_tile(texcache_held from, texcache_held *to, size_t place, texcache_tile *out);
 uint32_t tex_c_tile_row(texcache_held from, texcache_held *to, size_t place, uint32_t row, uint16_t *out, size_t room);
 uint32_t tex_c_release_tile(texcache_held from, texcache_held *to, size_t place);
 uint32_t tex_c_invalidate(texcache_held from, texcache_held *to, uint32_t file, bool force, texcache_answer *answer);
+uint32_t tex_c_invalidate_all(texcache_held from, texcache_held *to, texcache_answer *answer);
 void tex_c_counts(texcache_held from, texcache_held *to, texcache_counts *out);
 uint32_t tex_c_shard(texcache_held from, texcache_held *to, uint32_t shard, texcache_shard *out);
 uint32_t tex_c_supply_look(texcache_held from, texcache_held *to, uint32_t file, uint32_t generation, uint64_t len);
+uint32_t tex_c_supply_looks(texcache_held from, texcache_held *to, const texcache_seen *looks, size_t count);
+uint32_t tex_c_room(texcache_held from, texcache_held *to, size_t size, texcache_room *room, uint8_t **bytes);
+void tex_c_give_back(texcache_held from, texcache_held *to, texcache_room room);
 uint32_t tex_c_supply_bytes(texcache_held from, texcache_held *to, uint32_t file, uint32_t generation, uint64_t at,
-                            const uint8_t *bytes, size_t count);
+                            texcache_room room);
+uint32_t tex_c_supply_rows(texcache_held from, texcache_held *to, const texcache_rows *rows, texcache_room room);
 uint32_t tex_c_supply_fault(texcache_held from, texcache_held *to);
 
 /* ---- the folder */
@@ -217,6 +245,8 @@ uint32_t tex_c_supply_fault(texcache_held from, texcache_held *to);
 #define TEXC_NO_STAMP UINT64_MAX
 /* So many bytes are read at least where a few are lacking, if the file has them. */
 #define TEXC_BLOCK 16384
+/* What one thread writes to shares no so many bytes with what another does. */
+#define TEXC_LINE 128
 /* How often a call is tried anew after the file was replaced under it, or where it is busy. */
 #define TEXC_AGAIN 64
 #define TEXC_TRIES 100000
@@ -254,8 +284,6 @@ struct texcache_pass {
     texcache *cache;
     texcache_held held;
     int in_use;
-    uint8_t *bytes;
-    size_t room;
     texcache_pass *next;
 };
 
@@ -343,35 +371,56 @@ static inline size_t texc_pread(int fd, uint8_t *to, size_t count, uint64_t at)
     return done;
 }
 
-static inline int texc_room(texcache_pass *pass, size_t count)
+/* What is lacking of a file: so many bytes in all, in rows, of which one is a stretch. */
+typedef struct texc_wanted {
+    texcache_rows rows;
+    size_t size;
+} texc_wanted;
+
+static inline texc_wanted texc_want(const texcache_answer *need)
 {
-    if (count <= pass->room) return 1;
-    uint8_t *more = (uint8_t *)realloc(pass->bytes, count);
-    if (!more) return 0;
-    pass->bytes = more;
-    pass->room = count;
+    texc_wanted w = {{need->need_file, need->need_generation, need->need_at, need->need_stride, need->need_row},
+                     (size_t)need->need_least};
+    if (need->need == 2) {
+        uint64_t wanted = need->need_least < TEXC_BLOCK ? TEXC_BLOCK : need->need_least;
+        w.size = (size_t)(wanted < need->need_most ? wanted : need->need_most);
+        w.rows.stride = w.rows.row = w.size;
+    }
+    return w;
+}
+
+/* Reads what is wanted of an open file into the room, and says whether all of it was read. */
+static inline int texc_read(texcache *cache, int fd, const texc_wanted *w, uint8_t *to)
+{
+    size_t row = w->rows.stride == w->rows.row ? w->size : (size_t)w->rows.row;
+    uint64_t at = w->rows.at;
+    for (size_t done = 0; done < w->size; done += row, at += w->rows.stride) {
+        texc_add(&cache->reads, 1);
+        if (texc_pread(fd, to + done, row, at) != row) return 0;
+    }
+    texc_add(&cache->bytes, w->size);
     return 1;
 }
 
-/* Reads the bytes that are lacking under their generation, and supplies them. Where the file has a newer
- * one that is supplied, and where it is not read nothing is. */
+/* Reads the bytes or the rows that are lacking under their generation into room of the library, and
+ * supplies them. Where the file has a newer one that is supplied, and where it is not read nothing is. */
 static inline uint32_t texc_supply_bytes(texcache_pass *pass, const texcache_answer *need)
 {
     texcache *cache = pass->cache;
     texc_file *file = &cache->files[need->need_file];
-    uint64_t wanted = need->need_least < TEXC_BLOCK ? TEXC_BLOCK : need->need_least;
-    size_t count = (size_t)(wanted < need->need_most ? wanted : need->need_most), read = 0;
-    uint32_t code = TEXCACHE_READ_FAULT;
-    if (!texc_room(pass, count)) return TEXCACHE_NO_MEMORY;
+    texc_wanted w = texc_want(need);
+    texcache_room room = {NULL};
+    uint8_t *bytes;
+    int is_read = 0;
+    uint32_t code = tex_c_room(pass->held, &pass->held, w.size, &room, &bytes);
+    if (code) return code;
     pthread_mutex_lock(&file->lock);
     texc_open *open = NULL;
     int is_there = texc_settle(cache, file);
     if (is_there && file->generation == need->need_generation) open = texc_take(cache, file);
     if (open) {
         pthread_mutex_unlock(&file->lock);
-        read = texc_pread(open->fd, pass->bytes, count, need->need_at);
-        texc_add(&cache->reads, 1);
-        texc_add(&cache->bytes, read);
+        is_read = texc_read(cache, open->fd, &w, bytes);
         pthread_mutex_lock(&file->lock);
         is_there = texc_settle(cache, file);
         open->users--;
@@ -380,31 +429,69 @@ static inline uint32_t texc_supply_bytes(texcache_pass *pass, const texcache_ans
     uint32_t generation = file->generation;
     uint64_t len = file->len;
     pthread_mutex_unlock(&file->lock);
+    if (is_there && is_read && generation == need->need_generation) {
+        if (need->need == 2)
+            return tex_c_supply_bytes(pass->held, &pass->held, w.rows.file, generation, w.rows.at, room);
+        return tex_c_supply_rows(pass->held, &pass->held, &w.rows, room);
+    }
+    tex_c_give_back(pass->held, &pass->held, room);
     if (is_there && generation > need->need_generation)
-        code = tex_c_supply_look(pass->held, &pass->held, need->need_file, generation, len);
-    else if (is_there && open && read >= need->need_least)
-        code = tex_c_supply_bytes(pass->held, &pass->held, need->need_file, generation, need->need_at,
-                                  pass->bytes, read);
-    return code;
+        return tex_c_supply_look(pass->held, &pass->held, need->need_file, generation, len);
+    return TEXCACHE_READ_FAULT;
+}
+
+/* Looks at a file. Whether it is there, at a generation that is told. */
+static inline int texc_look(texcache *cache, uint32_t number, texcache_seen *seen)
+{
+    texc_file *file = &cache->files[number];
+    pthread_mutex_lock(&file->lock);
+    int is_there = texc_settle(cache, file);
+    seen->file = number;
+    seen->generation = file->generation;
+    seen->len = file->len;
+    pthread_mutex_unlock(&file->lock);
+    return is_there;
 }
 
 static inline uint32_t texc_supply_look(texcache_pass *pass, const texcache_answer *need)
 {
-    texc_file *file = &pass->cache->files[need->need_file];
-    pthread_mutex_lock(&file->lock);
-    int is_there = texc_settle(pass->cache, file);
-    uint32_t generation = file->generation;
-    uint64_t len = file->len;
-    pthread_mutex_unlock(&file->lock);
-    if (!is_there) return TEXCACHE_READ_FAULT;
-    return tex_c_supply_look(pass->held, &pass->held, need->need_file, generation, len);
+    texcache_seen seen;
+    if (!texc_look(pass->cache, need->need_file, &seen)) return TEXCACHE_READ_FAULT;
+    return tex_c_supply_look(pass->held, &pass->held, seen.file, seen.generation, seen.len);
+}
+
+/* Supplies the look that is lacking, with one at each later file that was looked at before. */
+static inline uint32_t texc_supply_looks(texcache_pass *pass, const texcache_answer *need)
+{
+    texcache *cache = pass->cache;
+    uint32_t first = need->need_file, code = TEXCACHE_READ_FAULT;
+    size_t count = 0;
+    texcache_seen *seen = (texcache_seen *)malloc((cache->count - first) * sizeof *seen);
+    if (!seen) return TEXCACHE_NO_MEMORY;
+    for (uint32_t n = first; n < cache->count; n++) {
+        pthread_mutex_lock(&cache->files[n].lock);
+        int is_known = n == first || cache->files[n].generation;
+        pthread_mutex_unlock(&cache->files[n].lock);
+        if (is_known && texc_look(cache, n, &seen[count])) count++;
+        if (!count) break;
+    }
+    if (count) code = tex_c_supply_looks(pass->held, &pass->held, seen, count);
+    free(seen);
+    return code;
 }
 
 /* Supplies what is lacking, or says that it cannot be had. */
 static inline void texc_supply(texcache_pass *pass, const texcache_answer *need)
 {
-    uint32_t code = need->need == 2 ? texc_supply_bytes(pass, need) : texc_supply_look(pass, need);
+    uint32_t code = need->need == 1 ? texc_supply_look(pass, need) : texc_supply_bytes(pass, need);
     if (code) tex_c_supply_fault(pass->held, &pass->held);
+}
+
+/* Another thread keeps a shard: it is tried again, unless that was done too often. */
+static inline int texc_waits(unsigned *anew)
+{
+    sched_yield();
+    return ++*anew < TEXC_TRIES;
 }
 
 /* Whether a call that is not answered goes on: something was supplied, or it is tried anew. */
@@ -415,9 +502,7 @@ static inline int texc_goes_on(texcache_pass *pass, uint32_t code, const texcach
         return 1;
     }
     if (code == TEXCACHE_AGAIN) return ++*anew < TEXC_AGAIN;
-    if (code != TEXCACHE_BUSY) return 0;
-    sched_yield();
-    return ++*anew < TEXC_TRIES;
+    return code == TEXCACHE_BUSY && texc_waits(anew);
 }
 
 /* A pass is used by one call at a time. */
@@ -432,8 +517,6 @@ static inline void texc_leave(texcache_pass *pass)
     __atomic_store_n(&pass->in_use, 0, __ATOMIC_RELEASE);
 }
 
-static const texcache_answer texc_no_answer __attribute__((unused)) = {0, 0, 0, 0, 0, 0, 0, 0, 0, 0, 0, 0};
-
 /* A call of the library, until it is answered or refused. */
 #define TEXC_CALL(pass, answer, call)                                           \
     do {                                                                        \
@@ -443,12 +526,25 @@ static const texcache_answer texc_no_answer __attribute__((unused)) = {0, 0, 0, 
         int texc_entered = texc_enter(pass);                                    \
         if (texc_entered) return texc_entered;                                  \
         do {                                                                    \
-            *texc_said = texc_no_answer;                                        \
             texc_code = call;                                                   \
         } while (__builtin_expect(texc_code != 0, 0)                            \
                  && texc_goes_on(pass, texc_code, texc_said, &texc_anew));      \
         texc_leave(pass);                                                       \
         return (int)texc_code;                                                  \
+    } while (0)
+
+/* The same of a call that reads nothing, and is tried anew only where it is busy. */
+#define TEXC_BARE(pass, call)                                                             \
+    do {                                                                                  \
+        unsigned texc_anew = 0;                                                           \
+        uint32_t texc_code;                                                               \
+        int texc_entered = texc_enter(pass);                                              \
+        if (texc_entered) return texc_entered;                                            \
+        do {                                                                              \
+            texc_code = call;                                                             \
+        } while (texc_code == TEXCACHE_BUSY && texc_waits(&texc_anew));                   \
+        texc_leave(pass);                                                                 \
+        return (int)texc_code;                                                            \
     } while (0)
 
 /* ---- caches and passes */
@@ -509,16 +605,22 @@ static inline int texc_list(texcache *cache)
     return refused;
 }
 
+/* A handle ends, and is NULL. */
+static inline void texc_end_held(texcache_held *held)
+{
+    texcache_held none = {NULL};
+    if (held->at) tex_c_free(*held, none, held);
+}
+
 static inline void texc_free(texcache *cache)
 {
     while (cache->ended) {
         texcache_pass *pass = cache->ended;
         cache->ended = pass->next;
-        if (pass->held.at) tex_c_free(pass->held);
-        free(pass->bytes);
+        texc_end_held(&pass->held);
         free(pass);
     }
-    if (cache->first.at) tex_c_free(cache->first);
+    texc_end_held(&cache->first);
     for (uint32_t n = 0; n < cache->count; n++) {
         texc_file *file = &cache->files[n];
         if (file->open) {
@@ -549,7 +651,6 @@ TEXCACHE_API int texcache_open_saying(texcache **out, const char *folder, const 
     cache->folder = open(folder, O_RDONLY | O_DIRECTORY | O_CLOEXEC);
     int refused = cache->folder < 0 ? TEXCACHE_NO_FOLDER : texc_list(cache);
     if (!refused) {
-        memset(&answer, 0, sizeof answer);
         refused = (int)tex_c_new(&cache->first, &cache->options, cache->count, &answer);
         if (bad) *bad = answer.detail;
     }
@@ -579,6 +680,15 @@ TEXCACHE_API int texcache_close(texcache **cache)
     return TEXCACHE_OK;
 }
 
+/* A pass in lines of memory of its own, since its thread writes to it at each call. */
+static inline texcache_pass *texc_new_pass(void)
+{
+    void *at = NULL;
+    size_t size = (sizeof(texcache_pass) + TEXC_LINE - 1) / TEXC_LINE * TEXC_LINE;
+    if (posix_memalign(&at, TEXC_LINE, size)) return NULL;
+    return (texcache_pass *)memset(at, 0, size);
+}
+
 /* A pass, for one thread at a time. Each thread that looks up textures has its own. */
 TEXCACHE_API int texcache_perthread(texcache *cache, texcache_pass **out)
 {
@@ -589,7 +699,7 @@ TEXCACHE_API int texcache_perthread(texcache *cache, texcache_pass **out)
     texcache_pass *pass = cache->ended;
     if (pass) {
         cache->ended = pass->next;
-    } else if (!(pass = (texcache_pass *)calloc(1, sizeof *pass))) {
+    } else if (!(pass = texc_new_pass())) {
         refused = TEXCACHE_NO_MEMORY;
     } else if ((refused = (int)tex_c_split(cache->first, &cache->first, &pass->held))) {
         free(pass);
@@ -614,7 +724,7 @@ TEXCACHE_API int texcache_end(texcache_pass **end)
     uint32_t code = TEXCACHE_OK;
     for (unsigned anew = 0; code != TEXCACHE_NOTHING_HELD;) {
         code = tex_c_release_tile(pass->held, &pass->held, 0);
-        if (code == TEXCACHE_BUSY && !texc_goes_on(pass, code, NULL, &anew)) break;
+        if (code == TEXCACHE_BUSY && !texc_waits(&anew)) break;
     }
     *end = NULL;
     texc_leave(pass);
@@ -773,15 +883,15 @@ TEXCACHE_API int texcache_get_pixels(texcache_pass *pass, uint32_t file, const t
 TEXCACHE_API int texcache_get_tile(texcache_pass *pass, uint32_t file, uint32_t level, uint32_t x, uint32_t y,
                                    texcache_answer *answer)
 {
-    TEXC_CALL(pass, answer, tex_c_get_tile(pass->held, &pass->held, file, level, x, y, texc_said));
+    texcache_texel at = {level, x, y};
+    TEXC_CALL(pass, answer, tex_c_get_tile(pass->held, &pass->held, file, &at, texc_said));
 }
 
 /* The rectangle of the tile that is held at a place. */
 TEXCACHE_API int texcache_tile_at(texcache_pass *pass, size_t place, texcache_tile *tile)
 {
-    texcache_answer *none = NULL;
     if (!tile) return TEXCACHE_CLOSED;
-    TEXC_CALL(pass, none, tex_c_tile(pass->held, &pass->held, place, tile));
+    TEXC_BARE(pass, tex_c_tile(pass->held, &pass->held, place, tile));
 }
 
 /* Its samples, in the depth of the file (an 8-bit sample counts as 257 times itself), row by row. */
@@ -802,8 +912,7 @@ TEXCACHE_API int texcache_tile_texels(texcache_pass *pass, size_t place, uint16_
 /* The hold at a place is released, and the later ones close up. */
 TEXCACHE_API int texcache_release_tile(texcache_pass *pass, size_t place)
 {
-    texcache_answer *none = NULL;
-    TEXC_CALL(pass, none, tex_c_release_tile(pass->held, &pass->held, place));
+    TEXC_BARE(pass, tex_c_release_tile(pass->held, &pass->held, place));
 }
 
 /* ---- files that are made invalid */
@@ -815,20 +924,26 @@ TEXCACHE_API int texcache_invalidate(texcache_pass *pass, uint32_t file, bool fo
     TEXC_CALL(pass, answer, tex_c_invalidate(pass->held, &pass->held, file, force, texc_said));
 }
 
-/* The same without force for each file that was looked at, in the order of their numbers. It ends at the
- * first that is refused. */
-TEXCACHE_API int texcache_invalidate_all(texcache_pass *pass)
+/* The same without force for each file that is known, in the order of their numbers. It ends at the first
+ * that is refused. */
+TEXCACHE_API int texcache_invalidate_all(texcache_pass *pass, texcache_answer *answer)
 {
-    if (!pass) return TEXCACHE_CLOSED;
-    for (uint32_t n = 0; n < pass->cache->count; n++) {
-        texc_file *file = &pass->cache->files[n];
-        pthread_mutex_lock(&file->lock);
-        uint32_t generation = file->generation;
-        pthread_mutex_unlock(&file->lock);
-        int refused = generation ? texcache_invalidate(pass, n, false, NULL) : TEXCACHE_OK;
-        if (refused) return refused;
-    }
-    return TEXCACHE_OK;
+    texcache_answer own, *said = answer ? answer : &own;
+    unsigned anew = 0;
+    uint32_t code;
+    int goes_on, entered = texc_enter(pass);
+    if (entered) return entered;
+    do {
+        code = tex_c_invalidate_all(pass->held, &pass->held, said);
+        if (code == TEXCACHE_NEEDED) {
+            if (texc_supply_looks(pass, said)) tex_c_supply_fault(pass->held, &pass->held);
+            goes_on = 1;
+        } else {
+            goes_on = code == TEXCACHE_BUSY && texc_waits(&anew);
+        }
+    } while (goes_on);
+    texc_leave(pass);
+    return (int)code;
 }
 
 /* ---- counts */
@@ -850,9 +965,8 @@ TEXCACHE_API int texcache_stats(texcache_pass *pass, texcache_statistics *out)
 /* What a shard of the cache has. */
 TEXCACHE_API int texcache_shard_stats(texcache_pass *pass, uint32_t shard, texcache_shard *out)
 {
-    texcache_answer *none = NULL;
     if (!out) return TEXCACHE_CLOSED;
-    TEXC_CALL(pass, none, tex_c_shard(pass->held, &pass->held, shard, out));
+    TEXC_BARE(pass, tex_c_shard(pass->held, &pass->held, shard, out));
 }
 
 #ifdef __cplusplus

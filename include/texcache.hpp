@@ -141,7 +141,10 @@ public:
         return answer.generation;
     }
 
-    void invalidate_all() { check(texcache_invalidate_all(pass_)); }
+    void invalidate_all()
+    {
+        called([&](texcache_answer *answer) { return texcache_invalidate_all(pass_, answer); }, nullptr);
+    }
 
     // The cell that holds a texel is held behind the others, until its place is released.
     std::uint32_t get_tile(std::uint32_t file, std::uint32_t level, std::uint32_t x, std::uint32_t y)

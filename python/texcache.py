@@ -41,7 +41,7 @@ class Answer(_Struct):
     _fields_ = [("generation", c_uint32), ("newer", c_uint32), ("detail", c_uint32), ("part", c_uint32),
                 ("value", c_uint64), ("channels", c_uint32), ("need", c_uint32), ("need_file", c_uint32),
                 ("need_generation", c_uint32), ("need_at", c_uint64), ("need_least", c_uint64),
-                ("need_most", c_uint64)]
+                ("need_most", c_uint64), ("need_stride", c_uint64), ("need_row", c_uint64)]
 
 
 class Lookup(_Struct):
@@ -93,7 +93,7 @@ def _declared(library):
         "get_tile": [c_void_p, c_uint32, c_uint32, c_uint32, c_uint32, answer],
         "tile_at": [c_void_p, c_size_t, POINTER(Tile)], "tile_texels": [c_void_p, c_size_t, values, c_size_t],
         "release_tile": [c_void_p, c_size_t], "invalidate": [c_void_p, c_uint32, c_bool, answer],
-        "invalidate_all": [c_void_p], "stats": [c_void_p, POINTER(Statistics)],
+        "invalidate_all": [c_void_p, answer], "stats": [c_void_p, POINTER(Statistics)],
         "shard_stats": [c_void_p, c_uint32, POINTER(Shard)],
     }
     for name, given in calls.items():
@@ -262,8 +262,8 @@ class Pass:
         return self.answer.generation
 
     def invalidate_all(self):
-        """The same for each file that was looked at."""
-        _check(_lib.texcache_invalidate_all(self._at))
+        """The same for each file that is known."""
+        self._called(_lib.texcache_invalidate_all)
 
     def stats(self):
         """What the pass has counted, and what all have read."""

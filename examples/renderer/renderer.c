@@ -2,12 +2,16 @@
  * footprint that the rays of its neighbours span; --closest takes the nearest texel of level 0 in its place.
  *
  *     renderer FOLDER OUT.ppm [--threads N] [--width W] [--height H] [--budget BYTES] [--closest]
+ *              [--replace NAME FILE] [--many]
  *
- * FOLDER has bricks.tif, squares.tif, hills.tif and rings.tif, as the demo's. The picture is the same for any
+ * FOLDER has bricks.tif, squares.tif, hills.tif and rings.tif, as the demo's. With --replace FILE is put in the
+ * place of the texture of that name once the upper half stands, and the lower half shows it. With --many FOLDER
+ * has t00.tif to t63.tif, which textures.py makes, and the floor shows all. The picture is the same for any
  * number of threads. The counts go to standard error.
  */
 #include "texcache.h"
 #include <stdio.h>
+#include <sys/resource.h>
 
 typedef struct vec {
     double x, y, z;
@@ -25,32 +29,57 @@ typedef struct plane {
     const char *name;
 } plane;
 
-static const plane planes[] = {
+static const plane room[] = {
     {{-6, -1, 1}, {12, 0, 0}, {0, 0, 24}, 6, 12, "squares.tif"},    /* the floor */
     {{-6, 3, 1}, {0, 0, 24}, {0, -4, 0}, 9, 2.5, "bricks.tif"},     /* the wall at the left */
     {{6, 3, 25}, {0, 0, -24}, {0, -4, 0}, 9, 2.5, "bricks.tif"},    /* the wall at the right */
     {{-6, 3, 25}, {12, 0, 0}, {0, -4, 0}, 1, 1, "hills.tif"},       /* the view at the end */
 };
-enum { PLANES = sizeof planes / sizeof *planes, BALL = PLANES, NOTHING };
+enum { SIDE = 8, MOST = SIDE * SIDE + 3, BALL = MOST, NOTHING };
+
+static plane planes[MOST];
+static int plane_count;
+static char names[SIDE * SIDE][16];
 
 static const vec ball = {0.4, 0, 6}, light = {-0.5, 0.7, -0.5};
 static const double ball_radius = 1;
-static const char *const ball_name = "rings.tif";
+static const char *ball_name = "rings.tif";
 
 typedef struct settings {
     const char *folder, *out;
-    int threads, width, height, is_closest;
+    const char *replaced, *by;  /* the name of a texture, and the file that takes its place */
+    int threads, width, height, is_closest, is_many;
     texcache_options options;
 } settings;
 
 static settings asked;
 static texcache *cache;
-static uint32_t files[PLANES + 1];
-static texcache_info infos[PLANES + 1];
+static uint32_t files[MOST + 1];
+static texcache_info infos[MOST + 1];
 static uint8_t *pixels;
-static int next_row;
+static int next_row, end_row;
 static pthread_mutex_t lock = PTHREAD_MUTEX_INITIALIZER;
 static texcache_statistics totals;
+
+/* The room, or one whose floor is a grid of planes with a texture each. */
+static void lay_out(void)
+{
+    if (!asked.is_many) {
+        plane_count = sizeof room / sizeof *room;
+        memcpy(planes, room, sizeof room);
+        return;
+    }
+    for (int i = 0; i < SIDE * SIDE; i++) {
+        snprintf(names[i], sizeof names[i], "t%02d.tif", i);
+        planes[plane_count++] = (plane){{-6 + 1.5 * (i % SIDE), -1, 1 + 3.0 * (i / SIDE)}, {1.5, 0, 0}, {0, 0, 3}, 1, 1,
+                                        names[i]};
+    }
+    for (size_t i = 1; i < sizeof room / sizeof *room; i++) {
+        planes[plane_count] = room[i];
+        planes[plane_count++].name = names[i];
+    }
+    ball_name = names[SIDE * SIDE - 1];
+}
 
 /* The ray of a place of the picture. */
 static vec ray_at(double x, double y)
@@ -105,7 +134,7 @@ static int first_met(vec ray, double *far)
     int found = NOTHING;
     double at, u, v;
     *far = 1e30;
-    for (int i = 0; i < PLANES; i++)
+    for (int i = 0; i < plane_count; i++)
         if (meets_plane(&planes[i], ray, &at, &u, &v) && at < *far && u >= 0 && u <= 1 && v >= 0 && v <= 1) {
             found = i;
             *far = at;
@@ -176,9 +205,9 @@ static void *render(void *unused)
     if (status) fail("a pass", status);
     for (;;) {
         pthread_mutex_lock(&lock);
-        int y = next_row++;
+        int y = next_row < end_row ? next_row++ : end_row;
         pthread_mutex_unlock(&lock);
-        if (y >= asked.height) break;
+        if (y >= end_row) break;
         for (int x = 0; x < asked.width; x++) {
             double colour[3];
             shade(pass, x, y, colour);
@@ -203,22 +232,25 @@ static void *render(void *unused)
 
 static void usage(void)
 {
-    fprintf(stderr, "renderer FOLDER OUT.ppm [--threads N] [--width W] [--height H] [--budget BYTES] [--closest]\n");
+    fprintf(stderr, "renderer FOLDER OUT.ppm [--threads N] [--width W] [--height H] [--budget BYTES] [--closest]"
+                    " [--replace NAME FILE] [--many]\n");
     exit(2);
 }
 
 static void read_words(int count, char **words)
 {
     int plain = 0;
-    asked = (settings){NULL, NULL, 8, 640, 400, 0, texcache_default_options()};
+    asked = (settings){NULL, NULL, NULL, NULL, 8, 640, 400, 0, 0, texcache_default_options()};
     for (int i = 1; i < count; i++) {
         const char *word = words[i], *value = i + 1 < count ? words[i + 1] : NULL;
         if (!strcmp(word, "--closest")) asked.is_closest = 1;
+        else if (!strcmp(word, "--many")) asked.is_many = 1;
         else if (!strncmp(word, "--", 2) && !value) usage();
         else if (!strcmp(word, "--threads")) asked.threads = atoi(words[++i]);
         else if (!strcmp(word, "--width")) asked.width = atoi(words[++i]);
         else if (!strcmp(word, "--height")) asked.height = atoi(words[++i]);
         else if (!strcmp(word, "--budget")) asked.options.budget = strtoull(words[++i], NULL, 10);
+        else if (!strcmp(word, "--replace") && i + 2 < count) asked.replaced = words[++i], asked.by = words[++i];
         else if (plain++ == 0) asked.folder = word;
         else asked.out = word;
     }
@@ -227,35 +259,79 @@ static void read_words(int count, char **words)
         usage();
 }
 
-int main(int count, char **words)
+/* Finds the textures, and what they are. */
+static void find_textures(texcache_pass *pass)
 {
-    pthread_t threads[16];
-    texcache_pass *pass;
-    read_words(count, words);
-    int status = texcache_open(&cache, asked.folder, &asked.options);
-    if (!status) status = texcache_perthread(cache, &pass);
-    if (status) fail(asked.folder, status);
-    for (int i = 0; i <= PLANES; i++) {
+    for (int i = 0; i <= MOST; i++) {
         const char *name = i == BALL ? ball_name : planes[i].name;
-        status = texcache_find(cache, name, &files[i]);
+        if (i >= plane_count && i < BALL) continue;
+        int status = texcache_find(cache, name, &files[i]);
         if (!status) status = texcache_get_info(pass, files[i], &infos[i], NULL);
         if (status) fail(name, status);
     }
-    texcache_end(&pass);
-    pixels = calloc((size_t)asked.width * asked.height, 3);
-    if (!pixels) fail("the picture", TEXCACHE_NO_MEMORY);
+}
+
+/* Renders the rows from the next one up to an end. */
+static void render_rows(int end)
+{
+    pthread_t threads[16];
+    end_row = end;
     for (int i = 0; i < asked.threads; i++)
         if (pthread_create(&threads[i], NULL, render, NULL)) fail("a thread", TEXCACHE_NO_MEMORY);
     for (int i = 0; i < asked.threads; i++) pthread_join(threads[i], NULL);
+}
+
+/* Puts a file in the place of a texture, by a rename, and has the cache look at all that it knows. */
+static void replace(texcache_pass *pass)
+{
+    char part[4096], name[4096], block[65536];
+    size_t count;
+    snprintf(part, sizeof part, "%s/.part", asked.folder);
+    snprintf(name, sizeof name, "%s/%s", asked.folder, asked.replaced);
+    FILE *from = fopen(asked.by, "rb"), *to = fopen(part, "wb");
+    while (from && to && (count = fread(block, 1, sizeof block, from)) > 0)
+        if (fwrite(block, 1, count, to) != count) fail(part, TEXCACHE_READ_FAULT);
+    if (!from || !to || fclose(from) || fclose(to) || rename(part, name)) fail(name, TEXCACHE_READ_FAULT);
+    int status = texcache_invalidate_all(pass, NULL);
+    if (status) fail("looking again", status);
+    find_textures(pass);
+}
+
+static void write_picture(void)
+{
+    size_t count = (size_t)asked.width * asked.height;
     FILE *to = fopen(asked.out, "wb");
-    if (!to || fprintf(to, "P6\n%d %d\n255\n", asked.width, asked.height) < 0
-        || fwrite(pixels, 3, (size_t)asked.width * asked.height, to) != (size_t)asked.width * asked.height || fclose(to)) {
+    if (!to || fprintf(to, "P6\n%d %d\n255\n", asked.width, asked.height) < 0 || fwrite(pixels, 3, count, to) != count
+        || fclose(to)) {
         perror(asked.out);
-        return 1;
+        exit(1);
     }
-    fprintf(stderr, "needs %llu hits %llu looks %llu opens %llu reads %llu bytes %llu\n", (unsigned long long)totals.pass.needs,
-            (unsigned long long)totals.pass.hits, (unsigned long long)totals.looks, (unsigned long long)totals.opens,
-            (unsigned long long)totals.reads, (unsigned long long)totals.bytes);
+}
+
+int main(int count, char **words)
+{
+    texcache_pass *pass;
+    struct rusage used;
+    read_words(count, words);
+    lay_out();
+    int status = texcache_open(&cache, asked.folder, &asked.options);
+    if (!status) status = texcache_perthread(cache, &pass);
+    if (status) fail(asked.folder, status);
+    find_textures(pass);
+    pixels = calloc((size_t)asked.width * asked.height, 3);
+    if (!pixels) fail("the picture", TEXCACHE_NO_MEMORY);
+    if (asked.replaced) {
+        render_rows(asked.height / 2);
+        replace(pass);
+    }
+    render_rows(asked.height);
+    texcache_end(&pass);
+    write_picture();
+    getrusage(RUSAGE_SELF, &used);
+    fprintf(stderr, "needs %llu hits %llu looks %llu opens %llu reads %llu bytes %llu, %ld KB at most\n",
+            (unsigned long long)totals.pass.needs, (unsigned long long)totals.pass.hits, (unsigned long long)totals.looks,
+            (unsigned long long)totals.opens, (unsigned long long)totals.reads, (unsigned long long)totals.bytes,
+            used.ru_maxrss);
     free(pixels);
     return texcache_close(&cache);
 }

@@ -47,6 +47,25 @@ static void write_file(const char *folder, const char *name, const uint8_t *byte
     if (!to || fwrite(bytes, 1, count, to) != count || fclose(to)) exit(2);
 }
 
+/* Bytes are copied to room of the library and supplied. */
+static uint32_t supply(texcache_held *held, uint32_t file, uint32_t generation, uint64_t at, const uint8_t *bytes, size_t count)
+{
+    texcache_room room = {NULL};
+    uint8_t *to;
+    if (tex_c_room(*held, held, count, &room, &to)) exit(2);
+    memcpy(to, bytes, count);
+    return tex_c_supply_bytes(*held, held, file, generation, at, room);
+}
+
+static uint32_t supply_rows(texcache_held *held, texcache_rows rows, const uint8_t *bytes, size_t count)
+{
+    texcache_room room = {NULL};
+    uint8_t *to;
+    if (tex_c_room(*held, held, count, &room, &to)) exit(2);
+    memcpy(to, bytes, count);
+    return tex_c_supply_rows(*held, held, &rows, room);
+}
+
 /* The library by hand: each wrong supply is refused and changes nothing, and the right one goes on. */
 static void by_hand(void)
 {
@@ -66,12 +85,14 @@ static void by_hand(void)
     SAYS(tex_c_split(held, &held, &second), TEXCACHE_NO_PERMIT);
     SAYS(tex_c_info(held, &held, 3, &info, &a), TEXCACHE_NO_FILE);
     SAYS(tex_c_supply_look(held, &held, 1, 1, 174), TEXCACHE_NOT_NEEDED);
-    SAYS(tex_c_supply_bytes(held, &held, 1, 1, 0, bytes, size), TEXCACHE_NOT_NEEDED);
+    SAYS(supply(&held, 1, 1, 0, bytes, size), TEXCACHE_NOT_NEEDED);
+    texcache_rows rows = {1, 1, 110, 8, 8};
+    SAYS(supply_rows(&held, rows, bytes + 110, 64), TEXCACHE_NOT_NEEDED);
     SAYS(tex_c_supply_fault(held, &held), TEXCACHE_NOT_NEEDED);
     /* a look is lacking */
     SAYS(tex_c_texture(held, &held, 1, &r, out, 8, &a), TEXCACHE_NEEDED);
     IS(a.need == 1 && a.need_file == 1 && a.need_generation == 0);
-    SAYS(tex_c_supply_bytes(held, &held, 1, 1, 0, bytes, size), TEXCACHE_NOT_NEEDED);
+    SAYS(supply(&held, 1, 1, 0, bytes, size), TEXCACHE_NOT_NEEDED);
     SAYS(tex_c_supply_look(held, &held, 2, 1, size), TEXCACHE_OTHER_PLACE);
     SAYS(tex_c_supply_look(held, &held, 1, 0, size), TEXCACHE_OTHER_GENERATION);
     SAYS(tex_c_supply_look(held, &held, 1, 1048576, size), TEXCACHE_OTHER_GENERATION);
@@ -79,15 +100,17 @@ static void by_hand(void)
     /* bytes of generation 5 are lacking */
     SAYS(tex_c_texture(held, &held, 1, &r, out, 8, &a), TEXCACHE_NEEDED);
     IS(a.need == 2 && a.need_file == 1 && a.need_generation == 5 && a.need_at == 0 && a.need_most == size);
-    SAYS(tex_c_supply_bytes(held, &held, 2, 5, 0, bytes, size), TEXCACHE_OTHER_PLACE);
-    SAYS(tex_c_supply_bytes(held, &held, 1, 5, 1, bytes + 1, size - 1), TEXCACHE_OTHER_PLACE);
-    SAYS(tex_c_supply_bytes(held, &held, 1, 4, 0, other, size), TEXCACHE_OLDER);
-    SAYS(tex_c_supply_bytes(held, &held, 1, 6, 0, other, size), TEXCACHE_OTHER_GENERATION);
-    SAYS(tex_c_supply_bytes(held, &held, 1, 5, 0, bytes, (size_t)a.need_least - 1), TEXCACHE_SHORT);
-    SAYS(tex_c_supply_bytes(held, &held, 1, 5, 0, bytes, size + 1), TEXCACHE_LONG);
+    rows.generation = 5;
+    SAYS(supply_rows(&held, rows, bytes + 110, 64), TEXCACHE_NOT_NEEDED);
+    SAYS(supply(&held, 2, 5, 0, bytes, size), TEXCACHE_OTHER_PLACE);
+    SAYS(supply(&held, 1, 5, 1, bytes + 1, size - 1), TEXCACHE_OTHER_PLACE);
+    SAYS(supply(&held, 1, 4, 0, other, size), TEXCACHE_OLDER);
+    SAYS(supply(&held, 1, 6, 0, other, size), TEXCACHE_OTHER_GENERATION);
+    SAYS(supply(&held, 1, 5, 0, bytes, (size_t)a.need_least - 1), TEXCACHE_SHORT);
+    SAYS(supply(&held, 1, 5, 0, bytes, size + 1), TEXCACHE_LONG);
     SAYS(tex_c_supply_look(held, &held, 1, 5, size), TEXCACHE_OLDER);
     SAYS(tex_c_supply_look(held, &held, 1, 4, size), TEXCACHE_OLDER);
-    SAYS(tex_c_supply_bytes(held, &held, 1, 5, 0, bytes, size), TEXCACHE_OK);
+    SAYS(supply(&held, 1, 5, 0, bytes, size), TEXCACHE_OK);
     SAYS(tex_c_texture(held, &held, 1, &r, out, 8, &a), TEXCACHE_OK);
     IS(a.generation == 5 && out[0] == 7 * 257);
     /* it is replaced while it is read again: the newer look is met, and the bytes of generation 5 are gone */
@@ -106,8 +129,8 @@ static void by_hand(void)
     SAYS(tex_c_texture(held, &held, 1, &r, out, 8, &a), TEXCACHE_NEEDED);
     IS(a.need == 2 && a.need_generation == 6);
     SAYS(tex_c_supply_look(held, &held, 1, 6, size), TEXCACHE_OLDER);
-    SAYS(tex_c_supply_bytes(held, &held, 1, 5, a.need_at, bytes, size), TEXCACHE_OLDER);
-    SAYS(tex_c_supply_bytes(held, &held, 1, 6, a.need_at, other + a.need_at, size - (size_t)a.need_at), TEXCACHE_OK);
+    SAYS(supply(&held, 1, 5, a.need_at, bytes, size), TEXCACHE_OLDER);
+    SAYS(supply(&held, 1, 6, a.need_at, other + a.need_at, size - (size_t)a.need_at), TEXCACHE_OK);
     SAYS(tex_c_texture(held, &held, 1, &r, out, 8, &a), TEXCACHE_OK);
     IS(a.generation == 6 && out[0] == 9 * 257);
     /* what is known of it is of generation 7, and its texels are gone for those of generation 8 */
@@ -117,7 +140,7 @@ static void by_hand(void)
     IS(a.generation == 7);
     while (tex_c_info(held, &held, 1, &info, &a) == TEXCACHE_NEEDED) {
         if (a.need == 1) SAYS(tex_c_supply_look(held, &held, 1, 7, size), TEXCACHE_OK);
-        else SAYS(tex_c_supply_bytes(held, &held, 1, 7, a.need_at, other + a.need_at, size - (size_t)a.need_at), TEXCACHE_OK);
+        else SAYS(supply(&held, 1, 7, a.need_at, other + a.need_at, size - (size_t)a.need_at), TEXCACHE_OK);
     }
     IS(a.generation == 7 && info.width == 8 && info.levels == 4);
     SAYS(tex_c_texture(held, &held, 1, &r, out, 8, &a), TEXCACHE_NEEDED);
@@ -135,7 +158,15 @@ static void by_hand(void)
     SAYS(tex_c_supply_fault(held, &held), TEXCACHE_OK);
     SAYS(tex_c_texture(held, &held, 2, &r, out, 8, &a), TEXCACHE_READ_FAULT);
     SAYS(tex_c_texture(held, &held, 2, &r, out, 8, &a), TEXCACHE_NEEDED);
-    tex_c_free(held);
+    /* room that is not needed goes back */
+    texcache_room room = {NULL};
+    uint8_t *to = NULL;
+    SAYS(tex_c_room(held, &held, 1000000, &room, &to), TEXCACHE_OK);
+    memset(to, 1, 1000000);
+    tex_c_give_back(held, &held, room);
+    texcache_held none = {NULL};
+    tex_c_free(held, none, &held);
+    IS(!held.at);
 }
 
 static void options_out_of_range(const char *folder)
@@ -259,6 +290,33 @@ static void over_a_folder(const char *folder)
     write_file(folder, "late.tif", bytes, size);
     SAYS(texcache_texture(pass, late, &r, out, 8, &a), TEXCACHE_OK);
     IS(out[0] == 1799);
+    /* one that changes, or vanishes, between the need of its bytes and their supply */
+    SAYS(texcache_invalidate(pass, late, true, &a), TEXCACHE_OK);
+    while (tex_c_texture(pass->held, &pass->held, late, &r, out, 8, &a) == TEXCACHE_NEEDED && a.need == 1) texc_supply(pass, &a);
+    IS(a.need == 2 && a.need_file == late);
+    uint32_t before = a.need_generation;
+    picture(bytes, 11);
+    usleep(20000);
+    write_file(folder, "late.tif", bytes, size);
+    texc_supply(pass, &a);
+    SAYS(texcache_texture(pass, late, &r, out, 8, &a), TEXCACHE_OK);
+    IS(out[0] == 11 * 257 && a.generation > before);
+    SAYS(texcache_invalidate(pass, late, true, &a), TEXCACHE_OK);
+    while (tex_c_texture(pass->held, &pass->held, late, &r, out, 8, &a) == TEXCACHE_NEEDED && a.need == 1) texc_supply(pass, &a);
+    IS(a.need == 2 && a.need_file == late);
+    unlink(path);
+    texc_supply(pass, &a);
+    SAYS(tex_c_texture(pass->held, &pass->held, late, &r, out, 8, &a), TEXCACHE_READ_FAULT);
+    /* so is one that is cut short */
+    write_file(folder, "late.tif", bytes, size);
+    while (tex_c_texture(pass->held, &pass->held, late, &r, out, 8, &a) == TEXCACHE_NEEDED && a.need == 1) texc_supply(pass, &a);
+    IS(a.need == 2 && a.need_file == late);
+    usleep(20000);
+    write_file(folder, "late.tif", bytes, size - 30);
+    texc_supply(pass, &a);
+    SAYS(texcache_texture(pass, late, &r, out, 8, &a), TEXCACHE_BAD_FILE);
+    IS(a.detail == 12);
+    picture(bytes, 7);
     /* holds */
     SAYS(texcache_release_tile(pass, 0), TEXCACHE_NOTHING_HELD);
     SAYS(texcache_tile_at(pass, 0, &tile), TEXCACHE_NOTHING_HELD);
@@ -279,7 +337,7 @@ static void over_a_folder(const char *folder)
     write_file(folder, "grey.tif", bytes, size);
     SAYS(texcache_texture(pass, grey, &r, out, 8, &a), TEXCACHE_OK);
     IS(out[0] == 1799 && a.generation == 1);
-    SAYS(texcache_invalidate_all(pass), TEXCACHE_OK);
+    SAYS(texcache_invalidate_all(pass, &a), TEXCACHE_OK);
     SAYS(texcache_texture(pass, grey, &r, out, 8, &a), TEXCACHE_OK);
     IS(out[0] == 9 * 257 && a.generation == 2);
     SAYS(texcache_tile_texels(pass, 0, out, 64), TEXCACHE_OK);

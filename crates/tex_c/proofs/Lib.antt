@@ -1,1 +1,3 @@
 pub mod AsBox
+pub mod AsRoom
+pub mod Causes

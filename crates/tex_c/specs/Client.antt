@@ -1,5 +1,4 @@
 -- What has a caller in C of a cache, and what does a call leave of it?
-use Rattle.std.specs.Prelude.{◌≡◌}
 use Rattle.image_cache.specs.Pass.{CacheState, PassState}
 use Rattle.tex_c.specs.declared.tap.SuppliedTap.{SuppliedTap}
 

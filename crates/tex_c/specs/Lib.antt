@@ -1,9 +1,15 @@
 pub mod SuppliedWorld
 pub mod SuppliedHandle
+pub mod Rows
+pub mod Truth
 pub mod Supply
 pub mod SuppliedTap
 pub mod Client
 pub mod Held
+pub mod Room
 pub mod Code
+pub mod Answer
 pub mod Request
-pub mod Need
+pub mod Unanswered
+pub mod Calls
+pub mod Exports

@@ -1,41 +1,100 @@
--- What does a request of C ask for?
-use Rattle.std.specs.Prelude.{◌≡◌, ℕ, Option, Some, None, ◌==◌, if◌then◌else◌}
+-- What does a request of C ask for, and which can be asked?
+use Rattle.std.specs.Prelude.{ℕ, ◌<◌, ◌==◌, if◌then◌else◌}
+use Rattle.tiff_format.specs.declared.info.Info.{Info}
+use Rattle.texel_values.specs.declared.region.Region.{Region}
+use Rattle.texel_values.specs.declared.texel_at.TexelAt.{TexelAt}
+use Rattle.texel_filter.specs.Image.{IsChannelCount}
+use Rattle.texel_filter.specs.Deriv.{IsDerivNumber}
 use Rattle.texel_filter.specs.declared.mode.Wrap.{Wrap}
 use Rattle.texel_filter.specs.declared.mode.Wrap.TheVariants as wrap
 use Rattle.texel_filter.specs.declared.request.Filter.{Filter}
 use Rattle.texel_filter.specs.declared.request.Filter.TheVariants as by
 use Rattle.texel_filter.specs.declared.request.TexRequest.{TexRequest}
 use Rattle.texel_filter.specs.declared.request.DerivRequest.{DerivRequest}
+use Rattle.tex_c.specs.declared.holds.TexTexel.{TexTexel}
 use Rattle.tex_c.specs.declared.request.TexLookup.{TexLookup}
+use Rattle.tex_c.specs.declared.saying.TexInfo.{TexInfo}
+use Rattle.tex_c.specs.declared.saying.TexRegion.{TexRegion}
 
--- the wrap of a number
-abbrev pub wrap_of : ℕ → Option Wrap
-wrap_of n = if n == 0 then Some wrap.Black else if n == 1 then Some wrap.Clamp
-    else if n == 2 then Some wrap.Periodic else if n == 3 then Some wrap.Mirror else None
+-- the wrap of a number below 4
+abbrev pub wrap_of : ℕ → Wrap
+wrap_of n = if n == 0 then wrap.Black else if n == 1 then wrap.Clamp
+    else if n == 2 then wrap.Periodic else wrap.Mirror
 
--- the filter of a number
-abbrev pub filter_of : ℕ → Option Filter
-filter_of n = if n == 0 then Some by.Closest else if n == 1 then Some by.Bilinear
-    else if n == 2 then Some by.Trilinear else None
+-- the filter of a number below 3
+abbrev pub filter_of : ℕ → Filter
+filter_of n = if n == 0 then by.Closest else if n == 1 then by.Bilinear else by.Trilinear
 
--- The lookup at a place is what C asked for.
-pub record IsAskedAs (l : TexLookup) (r : TexRequest) : Type 0 where
-  pub s : r.s ≡ l.s
-  pub t : r.t ≡ l.t
-  pub lod : r.lod ≡ l.lod
-  pub swrap : wrap_of l.swrap ≡ Some r.swrap
-  pub twrap : wrap_of l.twrap ≡ Some r.twrap
-  pub filter : filter_of l.filter ≡ Some r.filter
-  pub channels : r.nch ≡ l.channels
+-- ---- lookups at a place
 
--- The lookup along a footprint is what C asked for.
-pub record IsAskedAlong (l : TexLookup) (r : DerivRequest) : Type 0 where
-  pub s : r.s ≡ l.s
-  pub t : r.t ≡ l.t
-  pub dsdx : r.dsdx ≡ l.dsdx
-  pub dtdx : r.dtdx ≡ l.dtdx
-  pub dsdy : r.dsdy ≡ l.dsdy
-  pub dtdy : r.dtdy ≡ l.dtdy
-  pub swrap : wrap_of l.swrap ≡ Some r.swrap
-  pub twrap : wrap_of l.twrap ≡ Some r.twrap
-  pub channels : r.nch ≡ l.channels
+-- Each number is in its range.
+pub record IsPoint (l : TexLookup) : Type 0 where
+  pub swrap : l.swrap < 4
+  pub twrap : l.twrap < 4
+  pub filter : l.filter < 3
+  pub channels : IsChannelCount l.channels
+
+-- what is then asked for
+abbrev pub point_of : TexLookup → TexRequest
+point_of l = record {
+  s = l.s;
+  t = l.t;
+  lod = l.lod;
+  swrap = wrap_of l.swrap;
+  twrap = wrap_of l.twrap;
+  filter = filter_of l.filter;
+  nch = l.channels;
+}
+
+-- ---- lookups along a footprint
+
+-- Coordinates and derivatives are in their range.
+pub record AreDerivNumbers (l : TexLookup) : Type 0 where
+  pub s : IsDerivNumber l.s
+  pub t : IsDerivNumber l.t
+  pub dsdx : IsDerivNumber l.dsdx
+  pub dtdx : IsDerivNumber l.dtdx
+  pub dsdy : IsDerivNumber l.dsdy
+  pub dtdy : IsDerivNumber l.dtdy
+
+-- Each number is in its range.
+pub record IsFootprint (l : TexLookup) : Type 0 where
+  pub numbers : AreDerivNumbers l
+  pub swrap : l.swrap < 4
+  pub twrap : l.twrap < 4
+  pub channels : IsChannelCount l.channels
+
+-- what is then asked for
+abbrev pub footprint_of : TexLookup → DerivRequest
+footprint_of l = record {
+  s = l.s;
+  t = l.t;
+  dsdx = l.dsdx;
+  dtdx = l.dtdx;
+  dsdy = l.dsdy;
+  dtdy = l.dtdy;
+  swrap = wrap_of l.swrap;
+  twrap = wrap_of l.twrap;
+  nch = l.channels;
+}
+
+-- ---- regions, and what a file is
+
+-- the region that C asks for
+abbrev pub region_of : TexRegion → Region
+region_of r = record { level = r.level; x = r.x; y = r.y; w = r.w; h = r.h }
+
+-- the texel that C asks for
+abbrev pub texel_of : TexTexel → TexelAt
+texel_of t = record { level = t.level; x = t.x; y = t.y }
+
+-- what C is told of a file
+abbrev pub told_info : Info → TexInfo
+told_info info = record {
+  width = info.width;
+  height = info.height;
+  channels = info.channels;
+  depth = info.depth;
+  stored = info.stored;
+  levels = info.levels;
+}

@@ -3,6 +3,7 @@ use Rattle.std.specs.Prelude.{◌≡◌, List}
 use Rattle.tex_world.specs.Counts.{Rises}
 use Rattle.tex_world.specs.Tap.{TapState}
 use Rattle.tex_c.specs.declared.supply.Part.{Part}
+use Rattle.tex_c.specs.declared.supply.RowsPart.{RowsPart}
 use Rattle.tex_c.specs.declared.tap.SuppliedTap.{SuppliedTap}
 
 -- the counts that its fields keep, and its latest answer of a newest generation
@@ -17,9 +18,13 @@ tap_state tap = record {
   newest = tap.newest;
 }
 
--- the bytes that were supplied for the call at hand
+-- the stretches of bytes that were supplied for the call at hand
 abbrev pub parts_of : SuppliedTap → List Part
 parts_of tap = tap.parts.items
+
+-- the rows that were
+abbrev pub rows_of : SuppliedTap → List RowsPart
+rows_of tap = tap.rows.items
 
 -- the count of faults rose, and nothing else changed
 pub record AddsFault (old new : TapState) : Type 0 where
@@ -37,7 +42,12 @@ pub record AddsLoss (old new : TapState) : Type 0 where
   pub lost : Rises old.lost new.lost
   pub others : new ≡ record old { moves = new.moves; lost = new.lost }
 
--- The counts are as they were, and so are the bytes that were supplied.
+-- The bytes that were supplied are as they were.
+pub record KeepsBytes (old new : SuppliedTap) : Type 0 where
+  pub parts : parts_of new ≡ parts_of old
+  pub rows : rows_of new ≡ rows_of old
+
+-- So are the counts.
 pub record KeepsSupplies (old new : SuppliedTap) : Type 0 where
   pub state : tap_state new ≡ tap_state old
-  pub parts : parts_of new ≡ parts_of old
+  pub bytes : KeepsBytes old new

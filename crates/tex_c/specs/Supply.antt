@@ -1,13 +1,91 @@
--- When are supplied bytes those of a file?
-use Rattle.std.specs.Prelude.{ℕ, List}
-use Rattle.std.specs.List.{All}
-use Rattle.tiff_format.specs.Bytes.{IsPartAt}
-use Rattle.tex_c.specs.declared.supply.Part.{Part}
+-- Which supplies are what is lacking, and why is another refused?
+use Rattle.std.specs.Prelude.{◌≡◌, ◌⊎◌, ℕ, ◌+◌, ◌<◌, ◌≤◌, ⊤, Option, None, Some, List, [], ◌∷◌}
+use Rattle.tex_world.specs.World.{last_generation}
+use Rattle.tex_c.specs.declared.supply.Need.{Need}
+use Rattle.tex_c.specs.declared.supply.Need.TheVariants.{Look, Bytes, Rows}
+use Rattle.tex_c.specs.declared.supply.RowsAt.{RowsAt}
+use Rattle.tex_c.specs.declared.supply.Seen.{Seen}
+use Rattle.tex_c.specs.declared.supply.SupplyError.{SupplyError}
+use Rattle.tex_c.specs.declared.supply.SupplyError.TheVariants as refused
 
--- The part has the bytes that its generation of its file has at its place.
-abbrev pub IsTrueOf : (ℕ → ℕ → List ℕ) → Part → Type 0
-IsTrueOf held part = IsPartAt (held part.file part.generation) part.at part.bytes.items
+-- What is lacking is a look, or bytes in whose place a newer look may come: P is so of the file and
+-- of the least generation.
+abbrev pub LacksLook : Option Need → (ℕ → ℕ → Type 0) → Type 0
+LacksLook None P = ⊥
+LacksLook (Some (Look file least)) P = P file least
+LacksLook (Some (Bytes file generation at least most)) P = P file (generation + 1)
+LacksLook (Some (Rows rows size)) P = P rows.file (rows.generation + 1)
 
--- So has each of the parts.
-abbrev pub AreTrue : (ℕ → ℕ → List ℕ) → List Part → Type 0
-AreTrue held parts = All (IsTrueOf held) parts
+-- a look at a generation of a file, which it may have, is what is lacking
+abbrev pub FitsLook : Option Need → ℕ → ℕ → Type 0
+FitsLook need file generation =
+    LacksLook need (λ f least. (f ≡ file) × (least ≤ generation))
+    × (1 ≤ generation) × (generation ≤ last_generation)
+
+-- why a look is refused
+abbrev pub LookCause : Option Need → ℕ → ℕ → SupplyError → Type 0
+LookCause need file generation refused.NotNeeded = need ≡ None
+LookCause need file generation refused.OtherPlace = LacksLook need (λ f _. ¬ (f ≡ file))
+LookCause need file generation refused.Older = LacksLook need (λ _ least. generation < least)
+LookCause need file generation refused.OtherGeneration =
+    (generation ≡ 0) ⊎ (last_generation < generation)
+LookCause need file generation refused.NoMemory = ⊤
+LookCause need file generation e = ⊥
+
+-- why several are: there are none, or the first is refused
+abbrev pub LooksCause : Option Need → List Seen → SupplyError → Type 0
+LooksCause need [] e = e ≡ refused.Short
+LooksCause need (first ∷ more) e = LookCause need first.file first.generation e
+
+-- What is lacking is a stretch of bytes: P is so of its file, its generation, its place, and of how
+-- many there have to be and may be.
+abbrev pub LacksBytes : Option Need → (ℕ → ℕ → ℕ → ℕ → ℕ → Type 0) → Type 0
+LacksBytes None P = ⊥
+LacksBytes (Some (Look file least)) P = ⊥
+LacksBytes (Some (Bytes file generation at least most)) P = P file generation at least most
+LacksBytes (Some (Rows rows size)) P = ⊥
+
+-- so many bytes of a generation of a file from a place on are what is lacking
+abbrev pub FitsBytes : Option Need → ℕ → ℕ → ℕ → ℕ → Type 0
+FitsBytes need file generation at size = LacksBytes need (λ f g a least most.
+    (f ≡ file) × (g ≡ generation) × (a ≡ at) × (least ≤ size) × (size ≤ most))
+
+-- why they are refused
+abbrev pub BytesCause : Option Need → ℕ → ℕ → ℕ → ℕ → SupplyError → Type 0
+BytesCause need file generation at size refused.NotNeeded = ¬ LacksBytes need (λ _ _ _ _ _. ⊤)
+BytesCause need file generation at size refused.OtherPlace =
+    LacksBytes need (λ f _ a _ _. ¬ ((f ≡ file) × (a ≡ at)))
+BytesCause need file generation at size refused.Older =
+    LacksBytes need (λ _ g _ _ _. generation < g)
+BytesCause need file generation at size refused.OtherGeneration =
+    LacksBytes need (λ _ g _ _ _. g < generation)
+BytesCause need file generation at size refused.Short =
+    LacksBytes need (λ _ _ _ least _. size < least)
+BytesCause need file generation at size refused.Long =
+    LacksBytes need (λ _ _ _ _ most. most < size)
+BytesCause need file generation at size refused.NoMemory = ⊤
+
+-- What is lacking is rows: P is so of them, and of how many bytes they have.
+abbrev pub LacksRows : Option Need → (RowsAt → ℕ → Type 0) → Type 0
+LacksRows None P = ⊥
+LacksRows (Some (Look file least)) P = ⊥
+LacksRows (Some (Bytes file generation at least most)) P = ⊥
+LacksRows (Some (Rows rows size)) P = P rows size
+
+-- these rows, of so many bytes, are what is lacking
+abbrev pub FitsRows : Option Need → RowsAt → ℕ → Type 0
+FitsRows need p size = LacksRows need (λ q whole. (q ≡ p) × (whole ≡ size))
+
+-- they stand at other places
+abbrev pub AreElsewhere : RowsAt → RowsAt → Type 0
+AreElsewhere p q = ¬ ((p.file ≡ q.file) × (p.at ≡ q.at) × (p.stride ≡ q.stride) × (p.row ≡ q.row))
+
+-- why rows are refused
+abbrev pub RowsCause : Option Need → RowsAt → ℕ → SupplyError → Type 0
+RowsCause need p size refused.NotNeeded = ¬ LacksRows need (λ _ _. ⊤)
+RowsCause need p size refused.OtherPlace = LacksRows need (λ q _. AreElsewhere q p)
+RowsCause need p size refused.Older = LacksRows need (λ q _. p.generation < q.generation)
+RowsCause need p size refused.OtherGeneration = LacksRows need (λ q _. q.generation < p.generation)
+RowsCause need p size refused.Short = LacksRows need (λ _ whole. size < whole)
+RowsCause need p size refused.Long = LacksRows need (λ _ whole. whole < size)
+RowsCause need p size refused.NoMemory = ⊤

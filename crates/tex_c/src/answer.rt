@@ -1,7 +1,8 @@
 //! What a call tells C: a number, and what belongs to it.
 ghost use Rattle.std.specs.Prelude.{◌≡◌};
+ghost use Rattle.tex_c.specs.Answer.{SaysNeed};
+ghost use Rattle.tex_c.specs.Answer as said;
 ghost use Rattle.tex_c.specs.Code as spec;
-ghost use Rattle.tex_c.specs.Need.{SaysNeed};
 
 use crate::supply::{Need, SupplyError};
 use image_cache::CacheError;
@@ -59,7 +60,7 @@ pub struct TexAnswer {
     pub value: u64,
     /// The values of each texel.
     pub channels: u32,
-    /// What is lacking: 0 nothing, 1 a look at a file, 2 bytes of it.
+    /// What is lacking: 0 nothing, 1 a look at a file, 2 bytes of it, 3 rows of it.
     pub need: u32,
     pub need_file: u32,
     /// The generation that a look is to be of at least, or that the bytes are to be of.
@@ -68,11 +69,16 @@ pub struct TexAnswer {
     /// How many bytes there have to be, and may be.
     pub need_least: u64,
     pub need_most: u64,
+    /// Of rows: each begins so many bytes behind the one before, and has so many.
+    pub need_stride: u64,
+    pub need_row: u64,
 }
 
 impl TexAnswer {
     /// An answer that says nothing.
-    pub(crate) fn blank() -> TexAnswer {
+    pub(crate) fn blank() -> TexAnswer
+        ensures { result ≡ said.blank }
+    {
         TexAnswer {
             generation: 0,
             newer: 0,
@@ -86,12 +92,14 @@ impl TexAnswer {
             need_at: 0,
             need_least: 0,
             need_most: 0,
+            need_stride: 0,
+            need_row: 0,
         }
     }
 
     /// An answer of this generation.
     pub(crate) fn of(generation: u32) -> TexAnswer
-        ensures { result.generation ≡ generation }
+        ensures { result ≡ said.of_generation generation }
     {
         TexAnswer {
             generation,
@@ -125,11 +133,24 @@ impl TexAnswer {
                 need_most: most,
                 ..TexAnswer::blank()
             },
+            Need::Rows { rows, size } => TexAnswer {
+                need: 3,
+                need_file: rows.file,
+                need_generation: rows.generation,
+                need_at: rows.at,
+                need_least: size,
+                need_most: size,
+                need_stride: rows.stride,
+                need_row: rows.row,
+                ..TexAnswer::blank()
+            },
         }
     }
 
     /// What belongs to a refusal.
-    pub(crate) fn of_refusal<B>(e: &CacheError<B>) -> TexAnswer {
+    pub(crate) fn of_refusal<B>(e: &CacheError<B>) -> TexAnswer
+        ensures { result ≡ said.of_refusal e.now }
+    {
         match e {
             CacheError::BadFile { generation, fault } => of_fault(*generation, fault),
             CacheError::TileTooLarge { generation } => TexAnswer::of(*generation),
@@ -142,25 +163,48 @@ impl TexAnswer {
                 newer: *to,
                 ..TexAnswer::of(*from)
             },
-            _ => TexAnswer::blank(),
+            CacheError::RegionTooLarge
+            | CacheError::HoldsFull
+            | CacheError::ReadFault
+            | CacheError::NoMemory
+            | CacheError::Busy(_) => TexAnswer::blank(),
         }
     }
 }
 
 /// What belongs to a fault of a file.
-fn of_fault(generation: u32, fault: &TiffFault) -> TexAnswer {
-    let (part, value) = match fault {
-        TiffFault::FieldMissing { tag } => (*tag, 0),
-        TiffFault::FieldShape { tag } => (*tag, 0),
-        TiffFault::Unsupported { tag, value } => (*tag, *value),
-        TiffFault::DataOutside { level, index } => (*level, u64::from(*index)),
-        _ => (0, 0),
-    };
+fn of_fault(generation: u32, fault: &TiffFault) -> TexAnswer
+    ensures { result ≡ said.answer_of_fault generation fault.now }
+{
     TexAnswer {
         detail: fault.code(),
-        part,
-        value,
+        part: part_of(fault),
+        value: value_of(fault),
         ..TexAnswer::of(generation)
+    }
+}
+
+/// The tag, or the level, that a fault is of.
+fn part_of(fault: &TiffFault) -> u32
+    ensures { result ≡ said.part_of fault.now }
+{
+    match fault {
+        TiffFault::FieldMissing { tag } => *tag,
+        TiffFault::FieldShape { tag } => *tag,
+        TiffFault::Unsupported { tag, .. } => *tag,
+        TiffFault::DataOutside { level, .. } => *level,
+        _ => 0,
+    }
+}
+
+/// The value, or the index, that it is of.
+fn value_of(fault: &TiffFault) -> u64
+    ensures { result ≡ said.value_of fault.now }
+{
+    match fault {
+        TiffFault::Unsupported { value, .. } => *value,
+        TiffFault::DataOutside { index, .. } => u64::from(*index),
+        _ => 0,
     }
 }
 

@@ -1,13 +1,12 @@
 //! What a caller in C has of a cache: the cache, which others may share, a pass of it, and what was
 //! supplied for the call at hand.
-ghost use Rattle.std.specs.Prelude.{◌≡◌, ◌⊎◌, ◌≤◌, IfOk, IfErr, IsSomeAnd};
+ghost use Rattle.std.specs.Prelude.{◌≡◌, ◌≤◌, IfOk, IfErr};
 ghost use Rattle.std.specs.Arc.{arc_value};
 ghost use Rattle.tex_world.specs.World.{max_files};
 ghost use Rattle.image_cache.specs.Pass.{IsNewCache, IsFirstPass, IsSecondPass};
 ghost use Rattle.image_cache.specs.Options.{NewCause};
 ghost use Rattle.tex_c.specs.SuppliedTap.{tap_state};
-ghost use Rattle.tex_c.specs.Code as spec;
-ghost use Rattle.tex_c.specs.Need.{SaysNeed};
+ghost use Rattle.tex_c.specs.Unanswered.{Says};
 
 use crate::answer::{NEEDED, TexAnswer, code_of};
 use crate::tap::SuppliedTap;
@@ -27,11 +26,9 @@ pub struct Client {
     pub(crate) pass: Pass<SuppliedWorld>,
     pub(crate) tap: SuppliedTap,
     files: u32,
-    /// The values of a region, until they are copied out.
-    pub(crate) values: Vec<u16>,
     /// The counts of the pass when the round began.
     begun: PassCounts,
-    /// What was counted in rounds that lacked something, and is counted again when the call goes on.
+    /// What was counted in rounds that lacked something, and is counted again as the call goes on.
     twice: PassCounts,
 }
 
@@ -45,8 +42,9 @@ struct PassCounts {
 const NO_COUNTS: PassCounts = PassCounts { needs: 0, hits: 0 };
 
 impl Model for Client {
-    ghost use Rattle.std.specs.Prelude.{◌≡◌};
+    ghost use Rattle.std.specs.Prelude.{◌≡◌, ◌≤◌};
     ghost use Rattle.std.specs.Arc.{arc_value};
+    ghost use Rattle.tex_world.specs.World.{max_files};
     ghost use Rattle.image_cache.specs.Pass.{IsPassOf};
     ghost use Rattle.tex_c.specs.Client.{ClientState, client_state};
 
@@ -55,7 +53,7 @@ impl Model for Client {
     ghost view = { λ c. client_state (arc_value c.cache) c.pass c.tap };
 
     ghost invariant = { λ c. IsPassOf (arc_value c.cache) c.pass
-        × (c.files ≡ (arc_value c.cache).files.board.files) };
+        × (c.files ≡ (arc_value c.cache).files.board.files) × (c.files ≤ max_files) };
 }
 
 impl Client {
@@ -74,7 +72,6 @@ impl Client {
             pass,
             tap: SuppliedTap::new(alloc),
             files,
-            values: Vec::new(alloc),
             begun: NO_COUNTS,
             twice: NO_COUNTS,
         })
@@ -82,7 +79,10 @@ impl Client {
 
     /// A second pass of the cache, with one permit of this one, for another thread.
     pub(crate) fn split(&mut self) -> Result<Client, SplitError>
-        ensures ok { IfOk result (λ c. (c.cache ≡ self.old.cache) × IsSecondPass self.old.pass c.pass) }
+        ensures ok { IfOk result (λ c.
+            (c.cache ≡ self.old.cache) × IsSecondPass self.old.pass c.pass) }
+        ensures cause { IfErr result (λ e. e ≡ SplitError.NoPermit
+            → self.old.pass.pinned.seat.permits ≡ 1) }
         ensures cache { self.new.cache ≡ self.old.cache }
     {
         let cache = again(&self.cache)?;
@@ -93,7 +93,6 @@ impl Client {
             pass,
             tap: SuppliedTap::new(self.alloc),
             files: self.files,
-            values: Vec::new(self.alloc),
             begun: NO_COUNTS,
             twice: NO_COUNTS,
         })
@@ -101,12 +100,14 @@ impl Client {
 
     /// How many files there are.
     pub(crate) fn files(&self) -> u32
-        ensures { result ≡ self.now.cache.files.board.files }
+        ensures value { result ≡ self.now.cache.files.board.files }
+        ensures few { result ≤ max_files }
     {
         self.files
     }
 
     /// A round begins: nothing is lacking yet.
+    #[inline(always)]
     pub(crate) fn begin(&mut self)
         ensures cache { self.new.cache ≡ self.old.cache }
         ensures pass { self.new.pass ≡ self.old.pass }
@@ -117,9 +118,11 @@ impl Client {
     }
 
     /// The call is answered, or refused: what was supplied for it is given up.
+    #[inline(always)]
     pub(crate) fn end(&mut self)
         ensures cache { self.new.cache ≡ self.old.cache }
         ensures pass { self.new.pass ≡ self.old.pass }
+        ensures tap { tap_state self.new.tap ≡ tap_state self.old.tap }
     {
         self.tap.end();
     }
@@ -160,13 +163,13 @@ impl Client {
         self.pass.hits().saturating_sub(self.twice.hits)
     }
 
-    /// What a refused round says: what is lacking, where it was refused for that, and else its cause.
+    /// What a refused round says: what is lacking, where it was refused for that, else its cause.
     pub(crate) fn refuse(&mut self, e: &CacheError<GaveUp>, answer: &mut TexAnswer) -> u32
-        ensures code { (result ≡ 1) ⊎ (result ≡ spec.code_of e.now) }
-        ensures needed { result ≡ 1 → IsSomeAnd self.new.tap.need (SaysNeed answer.new) }
-        ensures other { (result ≡ 0) → ⊥ }
+        ensures says { Says e.now self.new.tap result answer.new }
+        ensures other { ¬ (result ≡ 0) }
         ensures cache { self.new.cache ≡ self.old.cache }
         ensures pass { self.new.pass ≡ self.old.pass }
+        ensures tap { tap_state self.new.tap ≡ tap_state self.old.tap }
     {
         if let (CacheError::ReadFault, Some(need)) = (e, self.tap.need()) {
             *answer = TexAnswer::of_need(need);

@@ -1,41 +1,22 @@
 //! What C calls. Each call takes a handle by value and hands it back.
-ghost use Rattle.std.specs.Prelude.{◌≡◌, ℕ, List, IfSome, IsSome, IsSomeAnd, IsNone};
-ghost use Rattle.tiff_format.specs.Bytes.{IsPartAt};
-ghost use Rattle.texture_sys.specs.Call.{IsOfGeneration};
-ghost use Rattle.tex_c.specs.SuppliedWorld.{untold_files};
-ghost use Rattle.tex_c.specs.SuppliedTap.{parts_of};
-ghost use Rattle.tex_c.specs.Supply.{AreTrue};
-ghost use Rattle.tex_c.specs.Need.{SaysNeed};
+ghost use Rattle.std.specs.Prelude.{◌≡◌, IsNone, IsSome, IsSomeAnd};
+ghost use Rattle.texture_sys.specs.declared.lookup_request.LookupRequest.TheVariants as asked;
+ghost use Rattle.tex_c.specs.Calls.{Hands, SaysLookup, SaysLocally, SaysInfo, SaysRegion};
+ghost use Rattle.tex_c.specs.Calls.{SaysInvalid, SaysAllInvalid};
+ghost use Rattle.tex_c.specs.Exports.{IsMade, IsNotMade, IsSplitOff};
+ghost use Rattle.tex_c.specs.Request.{IsPoint, IsFootprint, point_of, footprint_of};
 
 use crate::answer::{ANSWERED, BAD_OPTIONS, BAD_REQUEST, NO_MEMORY, NO_PERMIT, TexAnswer};
 use crate::client::Client;
 use crate::held::Held;
+use crate::options::TexOptions;
 use crate::request::TexLookup;
 use crate::saying::{TexInfo, TexRegion};
-use image_cache::{NewError, Options, SplitError};
+use image_cache::{NewError, SplitError};
 use std::alloc::Global;
-use tiff_format::Cut;
 
 /// The most files that a folder can have.
 const MAX_FILES: u32 = 4096;
-
-/// What a cache is made with.
-#[repr(C)]
-#[derive(Clone, Copy, Debug, PartialEq, Eq)]
-pub struct TexOptions {
-    /// The bytes that unpinned tiles may take, 0 to 4294967296.
-    pub budget: u64,
-    /// The shards, 1 to 64.
-    pub shards: u32,
-    /// The passes that there may be at once, 1 to 16.
-    pub passes: u32,
-    /// The handles that may lie idle, 1 to 1024.
-    pub handles: u32,
-    /// The side of the cells of a stripped level: 0, or a multiple of 16 up to 4096.
-    pub autotile: u32,
-    /// Whether levels are generated.
-    pub automip: bool,
-}
 
 /// A cache of so many files, and its first pass.
 #[unsafe(no_mangle)]
@@ -47,22 +28,15 @@ pub extern "C" fn tex_c_new(
     answer: &mut TexAnswer,
 ) -> u32
     requires none { IsNone to.old.value }
-    ensures made { result ≡ 0 → IsSome to.new.value }
+    ensures ok { result ≡ 0 → IsSomeAnd to.new.value (IsMade options.now files) }
+    ensures err { ¬ (result ≡ 0) → IsNone to.new.value }
+    ensures cause { ¬ (result ≡ 0) → IsNotMade options.now files result answer.new }
 {
+    *answer = TexAnswer::blank();
     if MAX_FILES < files {
         return BAD_REQUEST;
     }
-    let options = Options {
-        budget: options.budget,
-        shards: options.shards,
-        passes: options.passes,
-        handles: options.handles,
-        cut: Cut {
-            autotile: options.autotile,
-            automip: options.automip,
-        },
-    };
-    match Client::new(alloc, options, files) {
+    match Client::new(alloc, options.options(), files) {
         Ok(client) => match Box::new(alloc, client) {
             Ok(client) => {
                 *to = Held::of(client);
@@ -83,8 +57,11 @@ pub extern "C" fn tex_c_new(
 pub extern "C" fn tex_c_split(alloc: Global, from: Held, to: &mut Held, second: &mut Held) -> u32
     requires from { IsSome from.value }
     requires none { IsNone second.old.value }
-    ensures kept { IsSome to.new.value }
-    ensures made { result ≡ 0 → IsSome second.new.value }
+    ensures same { Hands from.value to.new.value (λ old new. new.cache ≡ old.cache) }
+    ensures ok { result ≡ 0 → Hands from.value second.new.value IsSplitOff }
+    ensures err { ¬ (result ≡ 0) → IsNone second.new.value }
+    ensures cause { result ≡ 6 → IsSomeAnd from.value (λ old.
+        old.pass.pinned.seat.permits ≡ 1) }
 {
     let mut client = from.into_box();
     let split = client.split();
@@ -102,12 +79,15 @@ pub extern "C" fn tex_c_split(alloc: Global, from: Held, to: &mut Held, second: 
     }
 }
 
-/// A handle ends.
+/// A handle ends. The caller gives one that has nothing, and has that from then on.
 #[unsafe(no_mangle)]
-pub extern "C" fn tex_c_free(from: Held)
+pub extern "C" fn tex_c_free(from: Held, none: Held, to: &mut Held)
     requires from { IsSome from.value }
+    requires none { IsNone none.value }
+    ensures { IsNone to.new.value }
 {
     drop(from.into_box());
+    *to = none;
 }
 
 /// What a file is.
@@ -120,9 +100,8 @@ pub extern "C" fn tex_c_info(
     answer: &mut TexAnswer,
 ) -> u32
     requires from { IsSome from.value }
-    ensures kept { IsSome to.new.value }
-    ensures needed { result ≡ 1 → IfSome to.new.value (λ new.
-        IsSomeAnd new.tap.need (SaysNeed answer.new)) }
+    ensures { Hands from.value to.new.value (λ old new.
+        SaysInfo file result answer.new info.new old new) }
 {
     let mut client = from.into_box();
     let code = client.say_info(file, info, answer);
@@ -141,11 +120,9 @@ pub extern "C" fn tex_c_texture(
     answer: &mut TexAnswer,
 ) -> u32
     requires from { IsSome from.value }
-    ensures kept { IsSome to.new.value }
-    ensures needed { result ≡ 1 → IfSome to.new.value (λ new.
-        IsSomeAnd new.tap.need (SaysNeed answer.new)) }
-    ensures ok { result ≡ 0 → IfSome from.value (λ old. IfSome to.new.value (λ new.
-        IsOfGeneration untold_files file old.pass.view new.pass.view answer.new.generation)) }
+    ensures { Hands from.value to.new.value (λ old new.
+        SaysLookup file (IsPoint lookup.now) (asked.Point (point_of lookup.now))
+        lookup.now.channels result answer.new out.old out.new old new) }
 {
     let mut client = from.into_box();
     let code = client.say_texture(file, lookup, out, answer);
@@ -164,11 +141,9 @@ pub extern "C" fn tex_c_texture_d(
     answer: &mut TexAnswer,
 ) -> u32
     requires from { IsSome from.value }
-    ensures kept { IsSome to.new.value }
-    ensures needed { result ≡ 1 → IfSome to.new.value (λ new.
-        IsSomeAnd new.tap.need (SaysNeed answer.new)) }
-    ensures ok { result ≡ 0 → IfSome from.value (λ old. IfSome to.new.value (λ new.
-        IsOfGeneration untold_files file old.pass.view new.pass.view answer.new.generation)) }
+    ensures { Hands from.value to.new.value (λ old new.
+        SaysLookup file (IsFootprint lookup.now) (asked.Footprint (footprint_of lookup.now))
+        lookup.now.channels result answer.new out.old out.new old new) }
 {
     let mut client = from.into_box();
     let code = client.say_texture_d(file, lookup, out, answer);
@@ -187,9 +162,9 @@ pub extern "C" fn tex_c_texture_local(
     answer: &mut TexAnswer,
 ) -> u32
     requires from { IsSome from.value }
-    ensures kept { IsSome to.new.value }
-    ensures ok { result ≡ 0 → IfSome from.value (λ old. IfSome to.new.value (λ new.
-        IsOfGeneration untold_files file old.pass.view new.pass.view answer.new.generation)) }
+    ensures { Hands from.value to.new.value (λ old new.
+        SaysLocally file (IsPoint lookup.now) (asked.Point (point_of lookup.now))
+        lookup.now.channels result answer.new out.old out.new old new) }
 {
     let mut client = from.into_box();
     let code = client.say_texture_local(file, lookup, out, answer);
@@ -208,9 +183,8 @@ pub extern "C" fn tex_c_pixels(
     answer: &mut TexAnswer,
 ) -> u32
     requires from { IsSome from.value }
-    ensures kept { IsSome to.new.value }
-    ensures needed { result ≡ 1 → IfSome to.new.value (λ new.
-        IsSomeAnd new.tap.need (SaysNeed answer.new)) }
+    ensures { Hands from.value to.new.value (λ old new.
+        SaysRegion file region.now result answer.new out.old out.new old new) }
 {
     let mut client = from.into_box();
     let code = client.say_pixels(file, region, out, answer);
@@ -228,9 +202,8 @@ pub extern "C" fn tex_c_invalidate(
     answer: &mut TexAnswer,
 ) -> u32
     requires from { IsSome from.value }
-    ensures kept { IsSome to.new.value }
-    ensures needed { result ≡ 1 → IfSome to.new.value (λ new.
-        IsSomeAnd new.tap.need (SaysNeed answer.new)) }
+    ensures { Hands from.value to.new.value (λ old new.
+        SaysInvalid file force result answer.new old new) }
 {
     let mut client = from.into_box();
     let code = client.say_invalidate(file, force, answer);
@@ -238,56 +211,15 @@ pub extern "C" fn tex_c_invalidate(
     code
 }
 
-/// What was seen of a file.
+/// Each file that is known is made invalid.
 #[unsafe(no_mangle)]
-pub extern "C" fn tex_c_supply_look(
-    from: Held,
-    to: &mut Held,
-    file: u32,
-    generation: u32,
-    len: u64,
-) -> u32
+pub extern "C" fn tex_c_invalidate_all(from: Held, to: &mut Held, answer: &mut TexAnswer) -> u32
     requires from { IsSome from.value }
-    ensures kept { IsSome to.new.value }
+    ensures { Hands from.value to.new.value (λ old new.
+        SaysAllInvalid result answer.new old new) }
 {
     let mut client = from.into_box();
-    let code = client.supply_look(file, generation, len);
-    *to = Held::of(client);
-    code
-}
-
-/// Bytes of a generation of a file, from a place on.
-#[unsafe(no_mangle)]
-pub extern "C" fn tex_c_supply_bytes(
-    from: Held,
-    to: &mut Held,
-    file: u32,
-    generation: u32,
-    at: u64,
-    bytes: &[u8],
-) -> u32
-    requires from { IsSome from.value }
-    ensures kept { IsSome to.new.value }
-    ensures told { result ≡ 0 → IfSome from.value (λ old. IfSome to.new.value (λ new.
-        (held : ℕ → ℕ → List ℕ) → AreTrue held (parts_of old.tap)
-        → IsPartAt (held file generation) at bytes.now → AreTrue held (parts_of new.tap))) }
-    ensures err { (result ≡ 0 → ⊥) → IfSome from.value (λ old. IfSome to.new.value (λ new.
-        parts_of new.tap ≡ parts_of old.tap)) }
-{
-    let mut client = from.into_box();
-    let code = client.supply_bytes(file, generation, at, bytes);
-    *to = Held::of(client);
-    code
-}
-
-/// What is lacking cannot be had.
-#[unsafe(no_mangle)]
-pub extern "C" fn tex_c_supply_fault(from: Held, to: &mut Held) -> u32
-    requires from { IsSome from.value }
-    ensures kept { IsSome to.new.value }
-{
-    let mut client = from.into_box();
-    let code = client.supply_fault();
+    let code = client.say_invalidate_all(answer);
     *to = Held::of(client);
     code
 }

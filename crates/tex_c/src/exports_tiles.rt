@@ -1,11 +1,11 @@
 //! What C calls: tiles that are held, and counts.
-ghost use Rattle.std.specs.Prelude.{◌≡◌, IfSome, IsSome, IsSomeAnd};
-ghost use Rattle.tex_c.specs.Need.{SaysNeed};
+ghost use Rattle.std.specs.Prelude.{◌≡◌, IsSome};
+ghost use Rattle.tex_c.specs.Calls.{Hands, SaysTile, SaysHeld, SaysRow, SaysRelease};
+ghost use Rattle.tex_c.specs.Request.{texel_of};
 
 use crate::answer::TexAnswer;
 use crate::held::Held;
-use crate::holds::{TexCounts, TexShard, TexTile};
-use image_cache::TexelAt;
+use crate::holds::{TexCounts, TexShard, TexTexel, TexTile};
 
 /// The cell that holds a texel becomes the latest hold.
 #[unsafe(no_mangle)]
@@ -13,18 +13,15 @@ pub extern "C" fn tex_c_get_tile(
     from: Held,
     to: &mut Held,
     file: u32,
-    level: u32,
-    x: u32,
-    y: u32,
+    at: &TexTexel,
     answer: &mut TexAnswer,
 ) -> u32
     requires from { IsSome from.value }
-    ensures kept { IsSome to.new.value }
-    ensures needed { result ≡ 1 → IfSome to.new.value (λ new.
-        IsSomeAnd new.tap.need (SaysNeed answer.new)) }
+    ensures { Hands from.value to.new.value (λ old new.
+        SaysTile file (texel_of at.now) result answer.new old new) }
 {
     let mut client = from.into_box();
-    let code = client.say_get_tile(file, TexelAt { level, x, y }, answer);
+    let code = client.say_get_tile(file, at.texel(), answer);
     *to = Held::of(client);
     code
 }
@@ -33,7 +30,8 @@ pub extern "C" fn tex_c_get_tile(
 #[unsafe(no_mangle)]
 pub extern "C" fn tex_c_tile(from: Held, to: &mut Held, place: usize, out: &mut TexTile) -> u32
     requires from { IsSome from.value }
-    ensures kept { IsSome to.new.value }
+    ensures { Hands from.value to.new.value (λ old new.
+        SaysHeld place result out.new old new) }
 {
     let mut client = from.into_box();
     let code = client.say_tile(place, out);
@@ -51,7 +49,8 @@ pub extern "C" fn tex_c_tile_row(
     out: &mut [u16],
 ) -> u32
     requires from { IsSome from.value }
-    ensures kept { IsSome to.new.value }
+    ensures { Hands from.value to.new.value (λ old new.
+        SaysRow place row result out.old out.new old new) }
 {
     let mut client = from.into_box();
     let code = client.say_row(place, row, out);
@@ -63,7 +62,8 @@ pub extern "C" fn tex_c_tile_row(
 #[unsafe(no_mangle)]
 pub extern "C" fn tex_c_release_tile(from: Held, to: &mut Held, place: usize) -> u32
     requires from { IsSome from.value }
-    ensures kept { IsSome to.new.value }
+    ensures { Hands from.value to.new.value (λ old new.
+        SaysRelease place result old new) }
 {
     let mut client = from.into_box();
     let code = client.say_release(place);
@@ -75,7 +75,7 @@ pub extern "C" fn tex_c_release_tile(from: Held, to: &mut Held, place: usize) ->
 #[unsafe(no_mangle)]
 pub extern "C" fn tex_c_counts(from: Held, to: &mut Held, out: &mut TexCounts)
     requires from { IsSome from.value }
-    ensures kept { IsSome to.new.value }
+    ensures { Hands from.value to.new.value (λ old new. new ≡ old) }
 {
     let mut client = from.into_box();
     client.say_counts(out);
@@ -86,7 +86,8 @@ pub extern "C" fn tex_c_counts(from: Held, to: &mut Held, out: &mut TexCounts)
 #[unsafe(no_mangle)]
 pub extern "C" fn tex_c_shard(from: Held, to: &mut Held, shard: u32, out: &mut TexShard) -> u32
     requires from { IsSome from.value }
-    ensures kept { IsSome to.new.value }
+    ensures { Hands from.value to.new.value (λ old new.
+        new.cache ≡ old.cache) }
 {
     let mut client = from.into_box();
     let code = client.say_shard(shard, out);

@@ -1,8 +1,10 @@
 //! A file of the caller, open at one generation.
 ghost use Rattle.std.specs.Prelude.{◌≡◌, ◌≤◌};
 ghost use Rattle.tex_world.specs.World.{last_generation};
+ghost use Rattle.tex_c.specs.Truth.{IsTrueLook};
 ghost use Rattle.tex_c.specs.SuppliedWorld.{handle_in_range};
 
+use crate::supply::Look;
 use crate::world::SuppliedWorld;
 use tex_world::TapHandle;
 
@@ -14,21 +16,33 @@ pub struct SuppliedHandle {
     len: u64,
     ghost low: { 1 ≤ generation },
     ghost high: { generation ≤ last_generation },
+    ghost told: { IsTrueLook file generation len },
 }
 
 impl SuppliedHandle {
-    /// The handle of a file that has this length at this generation.
-    pub(crate) fn new(file: u32, generation: u32, len: u64) -> SuppliedHandle
-        requires low { 1 ≤ generation }
-        requires high { generation ≤ last_generation }
-        ensures file { result.file ≡ file }
-        ensures generation { result.generation ≡ generation }
-        ensures len { result.len ≡ len }
+    /// The handle of a file as it was seen.
+    pub(crate) fn of(look: Look) -> SuppliedHandle
+        ensures file { result.file ≡ look.file }
+        ensures generation { result.generation ≡ look.generation }
+        ensures len { result.len ≡ look.len }
     {
         SuppliedHandle {
-            file,
-            generation,
-            len,
+            file: look.file,
+            generation: look.generation,
+            len: look.len,
+        }
+    }
+
+    /// The look that it stands for.
+    pub(crate) fn look(&self) -> Look
+        ensures file { result.file ≡ self.now.file }
+        ensures generation { result.generation ≡ self.now.generation }
+        ensures len { result.len ≡ self.now.len }
+    {
+        Look {
+            file: self.file,
+            generation: self.generation,
+            len: self.len,
         }
     }
 }
@@ -52,5 +66,5 @@ impl TapHandle for SuppliedHandle {
         self.len
     }
 
-    ghost honest = { λ h. handle_in_range (handle_named h) h.low h.high };
+    ghost honest = { λ h. handle_in_range (handle_named h) h.low h.high h.told };
 }

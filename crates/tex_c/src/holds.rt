@@ -1,10 +1,15 @@
 //! What a pass holds and has counted, and how it ends.
-ghost use Rattle.std.specs.Prelude.{◌≡◌, ◌<◌, length, IfOk};
-ghost use Rattle.image_cache.specs.Pass.{IsPassOf};
+ghost use Rattle.std.specs.Prelude.{◌≡◌, ◌⊎◌, ◌<◌, ◌≤◌, length, slice_get, IsSomeAnd};
+ghost use Rattle.std.specs.List.{remove};
+ghost use Rattle.tex_c.specs.Calls.{SaysRow, SaysTileRow, SaysHeld, SaysRelease};
+ghost use Rattle.tex_c.specs.Request.{texel_of};
 
 use crate::answer::{ANSWERED, BUSY, NO_PART, NOTHING_HELD, SMALL_BUFFER};
 use crate::client::Client;
-use image_cache::NotReleased;
+use crate::saying::copy_out;
+use crate::world::SuppliedWorld;
+use image_cache::{NotReleased, TexelAt};
+use tile_store::Tile;
 use waiter::Tries;
 
 /// How often a call tries before it says that it is busy.
@@ -21,6 +26,28 @@ pub struct TexTile {
     pub h: u32,
     /// The samples of a texel.
     pub channels: u32,
+}
+
+/// A texel of a level.
+#[repr(C)]
+#[derive(Clone, Copy, Debug, PartialEq, Eq)]
+pub struct TexTexel {
+    pub level: u32,
+    pub x: u32,
+    pub y: u32,
+}
+
+impl TexTexel {
+    /// The texel that C asks for.
+    pub(crate) fn texel(&self) -> TexelAt
+        ensures { result ≡ texel_of self.now }
+    {
+        TexelAt {
+            level: self.level,
+            x: self.x,
+            y: self.y,
+        }
+    }
 }
 
 /// What a pass has counted.
@@ -52,7 +79,7 @@ pub struct TexShard {
 impl Client {
     /// The tile that is held at a place.
     pub(crate) fn say_tile(&mut self, place: usize, out: &mut TexTile) -> u32
-        ensures cache { self.new.cache ≡ self.old.cache }
+        ensures { SaysHeld place result out.new self.old self.new }
     {
         match self.pass.held(place) {
             Some(tile) => {
@@ -72,31 +99,17 @@ impl Client {
 
     /// Writes the samples of a row of the tile that is held at a place.
     pub(crate) fn say_row(&mut self, place: usize, row: u32, out: &mut [u16]) -> u32
-        ensures cache { self.new.cache ≡ self.old.cache }
+        ensures { SaysRow place row result out.old out.new self.old self.new }
     {
-        let Some(tile) = self.pass.held(place) else {
-            return NOTHING_HELD;
-        };
-        // it tells that the tile is one
-        let _key = tile.key();
-        let rect = tile.rect();
-        if rect.h <= row {
-            return NO_PART;
+        match self.pass.held(place) {
+            Some(tile) => say_tile_row(tile, row, out),
+            None => NOTHING_HELD,
         }
-        let Some(y) = rect.y.checked_add(row) else {
-            return NO_PART;
-        };
-        let samples = tile.row(rect.x, y, rect.w);
-        if out.len() < samples.len() {
-            return SMALL_BUFFER;
-        }
-        out[..samples.len()].copy_from_slice(samples);
-        ANSWERED
     }
 
     /// The hold at a place is released.
     pub(crate) fn say_release(&mut self, place: usize) -> u32
-        ensures cache { self.new.cache ≡ self.old.cache }
+        ensures { SaysRelease place result self.old self.new }
     {
         match self.release_tile(place) {
             Ok(()) => ANSWERED,
@@ -107,7 +120,7 @@ impl Client {
 
     /// What the pass has counted.
     pub(crate) fn say_counts(&mut self, out: &mut TexCounts)
-        ensures cache { self.new.cache ≡ self.old.cache }
+        ensures { self.new ≡ self.old }
     {
         *out = TexCounts {
             needs: self.needs(),
@@ -137,5 +150,25 @@ impl Client {
             }
             Err(_) => BUSY,
         }
+    }
+}
+
+/// Writes the samples of a row of a tile.
+fn say_tile_row(tile: &Tile<SuppliedWorld>, row: u32, out: &mut [u16]) -> u32
+    ensures { SaysTileRow tile.now row result out.old out.new }
+{
+    // it tells that the tile is one
+    let _key = tile.key();
+    let rect = tile.rect();
+    if rect.h <= row {
+        return NO_PART;
+    }
+    let Some(y) = rect.y.checked_add(row) else {
+        return NO_PART;
+    };
+    if copy_out(tile.row(rect.x, y, rect.w), out) {
+        ANSWERED
+    } else {
+        SMALL_BUFFER
     }
 }

@@ -1,8 +1,9 @@
 //! Requests as C writes them.
-ghost use Rattle.std.specs.Prelude.{◌≡◌, IfSome, ◌<◌};
+ghost use Rattle.std.specs.Prelude.{◌≡◌, ◌↔◌, ◌<◌, IsSome, IfSome, IsTrue};
+ghost use Rattle.texel_filter.specs.Deriv.{IsDerivNumber, IsDerivRequest};
 ghost use Rattle.texel_filter.specs.Image.{IsChannelCount};
-ghost use Rattle.texel_filter.specs.Deriv.{IsDerivRequest, IsDerivNumber};
-ghost use Rattle.tex_c.specs.Request.{IsAskedAs, IsAskedAlong};
+ghost use Rattle.tex_c.specs.Request.{IsPoint, IsFootprint, AreDerivNumbers};
+ghost use Rattle.tex_c.specs.Request.{point_of, footprint_of};
 ghost use Rattle.tex_c.specs.Request as spec;
 
 use texel_filter::{DerivRequest, Filter, TexRequest, Wrap};
@@ -30,79 +31,144 @@ pub struct TexLookup {
     pub dtdy: i32,
 }
 
+/// The least and the greatest number of a lookup along a footprint.
+const LEAST: i32 = -1073741824;
+
+const GREATEST: i32 = 1073741823;
+
 impl TexLookup {
     /// What it asks for at a place, unless a number is out of its range.
     pub(crate) fn point(&self) -> Option<TexRequest>
-        ensures asked { IfSome result (IsAskedAs self.now) }
-        ensures channels { IfSome result (λ r. IsChannelCount r.nch) }
+        ensures asked { IfSome result (λ r. r ≡ point_of self.now) }
+        ensures good { IsSome result ↔ IsPoint self.now }
     {
-        if self.channels < 1 || 8 < self.channels {
+        if !self.is_point() {
             return None;
         }
         Some(TexRequest {
             s: self.s,
             t: self.t,
             lod: self.lod,
-            swrap: wrap_of(self.swrap)?,
-            twrap: wrap_of(self.twrap)?,
-            filter: filter_of(self.filter)?,
+            swrap: wrap_of(self.swrap),
+            twrap: wrap_of(self.twrap),
+            filter: filter_of(self.filter),
             nch: self.channels,
         })
+    }
+
+    /// Whether each number of a lookup at a place is in its range.
+    fn is_point(&self) -> bool
+        ensures { IsTrue result ↔ IsPoint self.now }
+    {
+        if !are_channels(self.channels) {
+            return false;
+        }
+        if 4 <= self.swrap {
+            return false;
+        }
+        if 4 <= self.twrap {
+            return false;
+        }
+        self.filter < 3
     }
 
     /// What it asks for along a footprint, unless a number is out of its range.
     pub(crate) fn footprint(&self) -> Option<DerivRequest>
-        ensures asked { IfSome result (IsAskedAlong self.now) }
-        ensures request { IfSome result IsDerivRequest }
+        ensures asked { IfSome result (λ r. r ≡ footprint_of self.now) }
+        ensures good { IsSome result ↔ IsFootprint self.now }
     {
-        if self.channels < 1 || 8 < self.channels {
+        if !self.is_footprint() {
             return None;
         }
         Some(DerivRequest {
-            s: in_range(self.s)?,
-            t: in_range(self.t)?,
-            dsdx: in_range(self.dsdx)?,
-            dtdx: in_range(self.dtdx)?,
-            dsdy: in_range(self.dsdy)?,
-            dtdy: in_range(self.dtdy)?,
-            swrap: wrap_of(self.swrap)?,
-            twrap: wrap_of(self.twrap)?,
+            s: self.s,
+            t: self.t,
+            dsdx: self.dsdx,
+            dtdx: self.dtdx,
+            dsdy: self.dsdy,
+            dtdy: self.dtdy,
+            swrap: wrap_of(self.swrap),
+            twrap: wrap_of(self.twrap),
             nch: self.channels,
         })
     }
-}
 
-/// A number of a lookup along a footprint: -2^30 to 2^30 - 1.
-fn in_range(n: i32) -> Option<i32>
-    ensures { IfSome result (λ z. (z ≡ n) × IsDerivNumber z) }
-{
-    if n < -1073741824 || 1073741823 < n {
-        return None;
+    /// Whether each number of a lookup along a footprint is in its range.
+    fn is_footprint(&self) -> bool
+        ensures { IsTrue result ↔ IsFootprint self.now }
+    {
+        if !are_channels(self.channels) {
+            return false;
+        }
+        if 4 <= self.swrap {
+            return false;
+        }
+        if 4 <= self.twrap {
+            return false;
+        }
+        self.are_in_range()
     }
-    Some(n)
+
+    /// Whether its coordinates and derivatives may be those of a lookup along a footprint.
+    fn are_in_range(&self) -> bool
+        ensures { IsTrue result ↔ AreDerivNumbers self.now }
+    {
+        if !are_both_in_range(self.s, self.t) {
+            return false;
+        }
+        if !are_both_in_range(self.dsdx, self.dtdx) {
+            return false;
+        }
+        if !are_both_in_range(self.dsdy, self.dtdy) {
+            return false;
+        }
+        true
+    }
 }
 
-/// The wrap of this number.
-fn wrap_of(n: u32) -> Option<Wrap>
+/// Whether a lookup can have so many channels.
+fn are_channels(n: u32) -> bool
+    ensures { IsTrue result ↔ IsChannelCount n }
+{
+    1 <= n && n <= 8
+}
+
+/// Whether it may be a number of a lookup along a footprint.
+fn is_in_range(n: i32) -> bool
+    ensures { IsTrue result ↔ IsDerivNumber n }
+{
+    LEAST <= n && n <= GREATEST
+}
+
+/// Whether both may be.
+fn are_both_in_range(s: i32, t: i32) -> bool
+    ensures { IsTrue result ↔ (IsDerivNumber s × IsDerivNumber t) }
+{
+    if !is_in_range(s) {
+        return false;
+    }
+    is_in_range(t)
+}
+
+/// The wrap of a number below 4.
+fn wrap_of(n: u32) -> Wrap
     ensures { result ≡ spec.wrap_of n }
 {
     match n {
-        0 => Some(Wrap::Black),
-        1 => Some(Wrap::Clamp),
-        2 => Some(Wrap::Periodic),
-        3 => Some(Wrap::Mirror),
-        _ => None,
+        0 => Wrap::Black,
+        1 => Wrap::Clamp,
+        2 => Wrap::Periodic,
+        _ => Wrap::Mirror,
     }
 }
 
-/// The filter of this number.
-fn filter_of(n: u32) -> Option<Filter>
+/// The filter of a number below 3.
+fn filter_of(n: u32) -> Filter
     ensures { result ≡ spec.filter_of n }
 {
     match n {
-        0 => Some(Filter::Closest),
-        1 => Some(Filter::Bilinear),
-        2 => Some(Filter::Trilinear),
-        _ => None,
+        0 => Filter::Closest,
+        1 => Filter::Bilinear,
+        _ => Filter::Trilinear,
     }
 }

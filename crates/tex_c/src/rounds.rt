@@ -1,20 +1,24 @@
 //! The calls of the cache, each as one round: it is answered, or it is refused, where something was
 //! lacking also for that.
-ghost use Rattle.std.specs.Prelude.{◌≡◌, ◌<◌, length, IfOk, IfErr, IfSome, OnOk, OnErr};
+ghost use Rattle.std.specs.Prelude.{◌≡◌, ◌↔◌, ◌<◌, [], length, IfOk, IfErr, IfSome, OnOk, OnErr};
+ghost use Rattle.std.specs.Prelude.{IsOkAnd, IsSome, IsSomeAnd, IsNone};
 ghost use Rattle.std.specs.List.{remove};
+ghost use Rattle.std.specs.Option.{ForSome};
 ghost use Rattle.texel_filter.specs.Image.{IsChannelCount};
 ghost use Rattle.texel_filter.specs.Deriv.{IsDerivRequest};
 ghost use Rattle.file_table.specs.Calls.{sighted};
-ghost use Rattle.texel_values.specs.Region.{max_texels};
+ghost use Rattle.texel_values.specs.Region.{AreRegionValues};
 ghost use Rattle.image_cache.specs.Call.{KeepsGiven, HoldsCell};
 ghost use Rattle.image_cache.specs.Cause.{around, HasCause, Never, InfoRefuses, PixelsRefuses};
 ghost use Rattle.image_cache.specs.Cause.{TooManyTexels, NoFurtherHold, TileRefuses, ReleaseCause};
 ghost use Rattle.image_cache.specs.Facts.{info_of};
 ghost use Rattle.image_cache.specs.Invalid.{invalid, MakesInvalid, InvalidCause};
-ghost use Rattle.std.specs.Prelude.{IsOkAnd};
-ghost use Rattle.texture_sys.specs.Call.{Answers, TextureCause};
-ghost use Rattle.texture_sys.specs.declared.lookup_request.LookupRequest.TheVariants as LookupRequest;
-ghost use Rattle.tex_c.specs.SuppliedWorld.{untold_files};
+ghost use Rattle.image_cache.specs.InvalidAll.{MakesAllInvalid};
+ghost use Rattle.image_cache.specs.Reading.{pass_tap};
+ghost use Rattle.image_cache.specs.Region.{ReadsRegion};
+ghost use Rattle.texture_sys.specs.Call.{Answers, TextureCause, IsWarm, AnswersWarm, ServesLocally};
+ghost use Rattle.texture_sys.specs.declared.lookup_request.LookupRequest.TheVariants as asked;
+ghost use Rattle.tex_c.specs.SuppliedWorld.{supplied_files};
 ghost use Rattle.tex_c.specs.SuppliedTap.{tap_state};
 
 use crate::client::Client;
@@ -31,10 +35,10 @@ impl Client {
     /// What a file is.
     pub(crate) fn info(&mut self, file: u32) -> Result<Info, CacheError<GaveUp>>
         requires file { file < self.old.cache.files.board.files }
-        ensures ok { IfOk result (λ info. KeepsGiven untold_files file self.old.cache.gate.cut
+        ensures ok { IfOk result (λ info. KeepsGiven supplied_files file self.old.cache.gate.cut
             self.old.pass self.new.pass info.generation (λ r. IsOkAnd r.layout (λ kept.
             info ≡ info_of r.generation kept r.cut))) }
-        ensures cause { IfErr result (HasCause (around untold_files file self.old.cache.gate.cut
+        ensures cause { IfErr result (HasCause (around supplied_files file self.old.cache.gate.cut
             self.old.pass self.new.pass (tap_state self.old.tap) (tap_state self.new.tap))
             Never InfoRefuses) }
         ensures cache { self.new.cache ≡ self.old.cache }
@@ -46,6 +50,7 @@ impl Client {
     }
 
     /// Writes the values of a lookup.
+    #[inline(always)]
     pub(crate) fn texture(
         &mut self,
         file: u32,
@@ -55,12 +60,16 @@ impl Client {
         requires file { file < self.old.cache.files.board.files }
         requires count { length out.old ≡ r.now.nch }
         requires channels { IsChannelCount r.now.nch }
-        ensures value { IfOk result (Answers untold_files file self.old.cache.gate.cut
-            (LookupRequest.Point r.now) self.old.pass.view self.new.pass.view out.new) }
-        ensures cause { IfErr result (TextureCause untold_files file self.old.cache.gate.cut
+        ensures value { IfOk result (Answers supplied_files file self.old.cache.gate.cut
+            (asked.Point r.now) self.old.pass.view self.new.pass.view out.new) }
+        ensures cause { IfErr result (TextureCause supplied_files file self.old.cache.gate.cut
             (sighted self.old.pass.view (tap_state self.old.tap))
             (sighted self.new.pass.view (tap_state self.new.tap))) }
         ensures err { OnErr result (out.new ≡ out.old) }
+        ensures warm { IfSome self.old.pass.latest (λ known. IsWarm file (asked.Point r.now)
+            self.old.pass known → AnswersWarm file known.generation
+            (sighted self.old.pass.view (tap_state self.old.tap))
+            (sighted self.new.pass.view (tap_state self.new.tap)) result) }
         ensures cache { self.new.cache ≡ self.old.cache }
     {
         self.begin();
@@ -86,12 +95,16 @@ impl Client {
         requires file { file < self.old.cache.files.board.files }
         requires count { length out.old ≡ r.now.nch }
         requires request { IsDerivRequest r.now }
-        ensures value { IfOk result (Answers untold_files file self.old.cache.gate.cut
-            (LookupRequest.Footprint r.now) self.old.pass.view self.new.pass.view out.new) }
-        ensures cause { IfErr result (TextureCause untold_files file self.old.cache.gate.cut
+        ensures value { IfOk result (Answers supplied_files file self.old.cache.gate.cut
+            (asked.Footprint r.now) self.old.pass.view self.new.pass.view out.new) }
+        ensures cause { IfErr result (TextureCause supplied_files file self.old.cache.gate.cut
             (sighted self.old.pass.view (tap_state self.old.tap))
             (sighted self.new.pass.view (tap_state self.new.tap))) }
         ensures err { OnErr result (out.new ≡ out.old) }
+        ensures warm { IfSome self.old.pass.latest (λ known. IsWarm file (asked.Footprint r.now)
+            self.old.pass known → AnswersWarm file known.generation
+            (sighted self.old.pass.view (tap_state self.old.tap))
+            (sighted self.new.pass.view (tap_state self.new.tap)) result) }
         ensures cache { self.new.cache ≡ self.old.cache }
     {
         self.begin();
@@ -117,30 +130,40 @@ impl Client {
         requires file { file < self.old.cache.files.board.files }
         requires count { length out.old ≡ r.now.nch }
         requires channels { IsChannelCount r.now.nch }
-        ensures value { IfSome result (Answers untold_files file self.old.cache.gate.cut
-            (LookupRequest.Point r.now) self.old.pass.view self.new.pass.view out.new) }
+        ensures some { IsSome result ↔ IsSomeAnd self.old.pass.latest
+            (ServesLocally file (asked.Point r.now) self.old.pass self.new.pass) }
+        ensures value { IfSome result (Answers supplied_files file self.old.cache.gate.cut
+            (asked.Point r.now) self.old.pass.view self.new.pass.view out.new) }
+        ensures none { IsNone result → out.new ≡ out.old }
         ensures cache { self.new.cache ≡ self.old.cache }
         ensures tap { self.new.tap ≡ self.old.tap }
     {
         texture_local(&self.cache, &mut self.pass, file, r, out)
     }
 
-    /// Reads a region into the values that are kept until they are copied out.
+    /// Reads a region into values, of which there are none.
     pub(crate) fn pixels(
         &mut self,
         file: u32,
         region: &Region,
+        values: &mut Vec<u16>,
     ) -> Result<Pixels, CacheError<GaveUp>>
         requires file { file < self.old.cache.files.board.files }
-        ensures cause { IfErr result (HasCause (around untold_files file self.old.cache.gate.cut
+        requires empty { values.old.items ≡ [] }
+        ensures ok { IfOk result (λ pixels. KeepsGiven supplied_files file self.old.cache.gate.cut
+            self.old.pass self.new.pass pixels.generation
+            (ReadsRegion supplied_files region.now pixels.channels self.old.pass self.new.pass)) }
+        ensures value { IfOk result (λ pixels. ForSome
+            (supplied_files.held file pixels.generation) (λ bytes.
+            AreRegionValues bytes region.now values.new.items)) }
+        ensures cause { IfErr result (HasCause (around supplied_files file self.old.cache.gate.cut
             self.old.pass self.new.pass (tap_state self.old.tap) (tap_state self.new.tap))
             (TooManyTexels region.now.w region.now.h) (PixelsRefuses region.now.level)) }
         ensures cache { self.new.cache ≡ self.old.cache }
     {
         self.begin();
-        self.values.clear();
         let waiter = Tries::new(TRIES);
-        let (pass, tap, values) = (&mut self.pass, &mut self.tap, &mut self.values);
+        let (pass, tap) = (&mut self.pass, &mut self.tap);
         self.cache
             .get_pixels(&waiter, pass, tap, file, region, values)
     }
@@ -148,10 +171,10 @@ impl Client {
     /// The cell that holds a texel becomes the latest hold.
     pub(crate) fn get_tile(&mut self, file: u32, at: TexelAt) -> Result<u32, CacheError<GaveUp>>
         requires file { file < self.old.cache.files.board.files }
-        ensures ok { IfOk result (λ generation. KeepsGiven untold_files file
+        ensures ok { IfOk result (λ generation. KeepsGiven supplied_files file
             self.old.cache.gate.cut self.old.pass self.new.pass generation
-            (HoldsCell untold_files at self.old.pass self.new.pass)) }
-        ensures cause { IfErr result (HasCause (around untold_files file self.old.cache.gate.cut
+            (HoldsCell supplied_files at self.old.pass self.new.pass)) }
+        ensures cause { IfErr result (HasCause (around supplied_files file self.old.cache.gate.cut
             self.old.pass self.new.pass (tap_state self.old.tap) (tap_state self.new.tap))
             (NoFurtherHold self.old.pass) (TileRefuses at)) }
         ensures cache { self.new.cache ≡ self.old.cache }
@@ -177,7 +200,7 @@ impl Client {
     /// A file is made invalid.
     pub(crate) fn invalidate(&mut self, file: u32, force: bool) -> Result<u32, CacheError<GaveUp>>
         requires file { file < self.old.cache.files.board.files }
-        ensures ok { IfOk result (MakesInvalid untold_files self.old.cache.gate
+        ensures ok { IfOk result (MakesInvalid supplied_files self.old.cache.gate
             (invalid file force) self.old.pass self.new.pass
             (tap_state self.old.tap) (tap_state self.new.tap)) }
         ensures cause { IfErr result
@@ -188,5 +211,20 @@ impl Client {
         let waiter = Tries::new(TRIES);
         self.cache
             .invalidate(&waiter, &mut self.pass, &mut self.tap, file, force)
+    }
+
+    /// Each file that is known is made invalid.
+    pub(crate) fn invalidate_all(&mut self) -> Result<(), CacheError<GaveUp>>
+        ensures ok { OnOk result (MakesAllInvalid supplied_files self.old.cache.gate
+            self.old.cache.files.board.files (pass_tap self.old.pass (tap_state self.old.tap))
+            (pass_tap self.new.pass (tap_state self.new.tap))) }
+        ensures cause { IfErr result
+            (InvalidCause (tap_state self.old.tap) (tap_state self.new.tap)) }
+        ensures cache { self.new.cache ≡ self.old.cache }
+    {
+        self.begin();
+        let waiter = Tries::new(TRIES);
+        self.cache
+            .invalidate_all(&waiter, &mut self.pass, &mut self.tap)
     }
 }

@@ -1,13 +1,16 @@
 //! The calls as C makes them: numbers are tested, and what is answered is said in numbers.
-ghost use Rattle.std.specs.Prelude.{◌≡◌, IsSomeAnd};
-ghost use Rattle.texture_sys.specs.Call.{IsOfGeneration};
-ghost use Rattle.tex_c.specs.SuppliedWorld.{untold_files};
-ghost use Rattle.tex_c.specs.Need.{SaysNeed};
+ghost use Rattle.std.specs.Prelude.{◌≡◌, ◌<◌, length, take, drop, IsTrue, IsFalse};
+ghost use Rattle.texture_sys.specs.declared.lookup_request.LookupRequest.TheVariants as asked;
+ghost use Rattle.tex_c.specs.Request.{IsPoint, IsFootprint, point_of, footprint_of};
+ghost use Rattle.tex_c.specs.Request.{region_of, told_info};
+ghost use Rattle.tex_c.specs.Calls.{SaysLookup, SaysLocally, SaysInfo, SaysRegion, SaysTile};
+ghost use Rattle.tex_c.specs.Calls.{SaysInvalid, SaysAllInvalid};
 
 use crate::answer::{ANSWERED, BAD_REQUEST, NO_FILE, NOT_LOCAL, SMALL_BUFFER, TexAnswer};
 use crate::client::Client;
 use crate::request::TexLookup;
 use image_cache::{Region, TexelAt};
+use tiff_format::Info;
 
 /// What a file is.
 #[repr(C)]
@@ -38,23 +41,16 @@ pub struct TexRegion {
 impl Client {
     /// `info`.
     pub(crate) fn say_info(&mut self, file: u32, out: &mut TexInfo, answer: &mut TexAnswer) -> u32
-        ensures needed { result ≡ 1 → IsSomeAnd self.new.tap.need (SaysNeed answer.new) }
-        ensures cache { self.new.cache ≡ self.old.cache }
+        ensures { SaysInfo file result answer.new out.new self.old self.new }
     {
+        *answer = TexAnswer::blank();
         if self.files() <= file {
             return NO_FILE;
         }
         match self.info(file) {
             Ok(info) => {
                 *answer = TexAnswer::of(info.generation);
-                *out = TexInfo {
-                    width: info.width,
-                    height: info.height,
-                    channels: info.channels,
-                    depth: info.depth,
-                    stored: info.stored,
-                    levels: info.levels,
-                };
+                *out = TexInfo::of(&info);
                 self.end();
                 ANSWERED
             }
@@ -70,11 +66,10 @@ impl Client {
         out: &mut [u16],
         answer: &mut TexAnswer,
     ) -> u32
-        ensures ok { result ≡ 0 → IsOfGeneration untold_files file
-            self.old.pass.view self.new.pass.view answer.new.generation }
-        ensures needed { result ≡ 1 → IsSomeAnd self.new.tap.need (SaysNeed answer.new) }
-        ensures cache { self.new.cache ≡ self.old.cache }
+        ensures { SaysLookup file (IsPoint lookup.now) (asked.Point (point_of lookup.now))
+            lookup.now.channels result answer.new out.old out.new self.old self.new }
     {
+        *answer = TexAnswer::blank();
         if self.files() <= file {
             return NO_FILE;
         }
@@ -86,7 +81,7 @@ impl Client {
         }
         match self.texture(file, &r, &mut out[..r.nch as usize]) {
             Ok(generation) => {
-                *answer = TexAnswer::of(generation);
+                answer.generation = generation;
                 self.end();
                 ANSWERED
             }
@@ -102,11 +97,11 @@ impl Client {
         out: &mut [u16],
         answer: &mut TexAnswer,
     ) -> u32
-        ensures ok { result ≡ 0 → IsOfGeneration untold_files file
-            self.old.pass.view self.new.pass.view answer.new.generation }
-        ensures needed { result ≡ 1 → IsSomeAnd self.new.tap.need (SaysNeed answer.new) }
-        ensures cache { self.new.cache ≡ self.old.cache }
+        ensures { SaysLookup file (IsFootprint lookup.now)
+            (asked.Footprint (footprint_of lookup.now))
+            lookup.now.channels result answer.new out.old out.new self.old self.new }
     {
+        *answer = TexAnswer::blank();
         if self.files() <= file {
             return NO_FILE;
         }
@@ -118,7 +113,7 @@ impl Client {
         }
         match self.texture_d(file, &r, &mut out[..r.nch as usize]) {
             Ok(generation) => {
-                *answer = TexAnswer::of(generation);
+                answer.generation = generation;
                 self.end();
                 ANSWERED
             }
@@ -134,11 +129,10 @@ impl Client {
         out: &mut [u16],
         answer: &mut TexAnswer,
     ) -> u32
-        ensures ok { result ≡ 0 → IsOfGeneration untold_files file
-            self.old.pass.view self.new.pass.view answer.new.generation }
-        ensures cache { self.new.cache ≡ self.old.cache }
-        ensures tap { self.new.tap ≡ self.old.tap }
+        ensures { SaysLocally file (IsPoint lookup.now) (asked.Point (point_of lookup.now))
+            lookup.now.channels result answer.new out.old out.new self.old self.new }
     {
+        *answer = TexAnswer::blank();
         if self.files() <= file {
             return NO_FILE;
         }
@@ -150,7 +144,7 @@ impl Client {
         }
         match self.texture_local(file, &r, &mut out[..r.nch as usize]) {
             Some(generation) => {
-                *answer = TexAnswer::of(generation);
+                answer.generation = generation;
                 ANSWERED
             }
             None => NOT_LOCAL,
@@ -165,29 +159,20 @@ impl Client {
         out: &mut [u16],
         answer: &mut TexAnswer,
     ) -> u32
-        ensures needed { result ≡ 1 → IsSomeAnd self.new.tap.need (SaysNeed answer.new) }
-        ensures cache { self.new.cache ≡ self.old.cache }
+        ensures { SaysRegion file region.now result answer.new out.old out.new self.old self.new }
     {
+        *answer = TexAnswer::blank();
         if self.files() <= file {
             return NO_FILE;
         }
-        let region = Region {
-            level: region.level,
-            x: region.x,
-            y: region.y,
-            w: region.w,
-            h: region.h,
-        };
-        match self.pixels(file, &region) {
+        let mut values = Vec::new(self.alloc);
+        match self.pixels(file, &region.region(), &mut values) {
             Ok(pixels) => {
-                *answer = TexAnswer {
-                    channels: pixels.channels,
-                    value: self.values.len() as u64,
-                    ..TexAnswer::of(pixels.generation)
-                };
-                let fits = copy_out(&self.values, out);
+                answer.generation = pixels.generation;
+                answer.channels = pixels.channels;
+                answer.value = values.len() as u64;
                 self.end();
-                if fits {
+                if copy_out(&values, out) {
                     return ANSWERED;
                 }
                 self.count_twice();
@@ -199,15 +184,15 @@ impl Client {
 
     /// `get_tile`.
     pub(crate) fn say_get_tile(&mut self, file: u32, at: TexelAt, answer: &mut TexAnswer) -> u32
-        ensures needed { result ≡ 1 → IsSomeAnd self.new.tap.need (SaysNeed answer.new) }
-        ensures cache { self.new.cache ≡ self.old.cache }
+        ensures { SaysTile file at result answer.new self.old self.new }
     {
+        *answer = TexAnswer::blank();
         if self.files() <= file {
             return NO_FILE;
         }
         match self.get_tile(file, at) {
             Ok(generation) => {
-                *answer = TexAnswer::of(generation);
+                answer.generation = generation;
                 self.end();
                 ANSWERED
             }
@@ -217,15 +202,29 @@ impl Client {
 
     /// `invalidate`.
     pub(crate) fn say_invalidate(&mut self, file: u32, force: bool, answer: &mut TexAnswer) -> u32
-        ensures needed { result ≡ 1 → IsSomeAnd self.new.tap.need (SaysNeed answer.new) }
-        ensures cache { self.new.cache ≡ self.old.cache }
+        ensures { SaysInvalid file force result answer.new self.old self.new }
     {
+        *answer = TexAnswer::blank();
         if self.files() <= file {
             return NO_FILE;
         }
         match self.invalidate(file, force) {
             Ok(generation) => {
-                *answer = TexAnswer::of(generation);
+                answer.generation = generation;
+                self.end();
+                ANSWERED
+            }
+            Err(e) => self.refuse(&e, answer),
+        }
+    }
+
+    /// `invalidate_all`.
+    pub(crate) fn say_invalidate_all(&mut self, answer: &mut TexAnswer) -> u32
+        ensures { SaysAllInvalid result answer.new self.old self.new }
+    {
+        *answer = TexAnswer::blank();
+        match self.invalidate_all() {
+            Ok(()) => {
                 self.end();
                 ANSWERED
             }
@@ -234,8 +233,43 @@ impl Client {
     }
 }
 
+impl TexInfo {
+    /// What C is told of a file.
+    fn of(info: &Info) -> TexInfo
+        ensures { result ≡ told_info info.now }
+    {
+        TexInfo {
+            width: info.width,
+            height: info.height,
+            channels: info.channels,
+            depth: info.depth,
+            stored: info.stored,
+            levels: info.levels,
+        }
+    }
+}
+
+impl TexRegion {
+    /// The region that C asks for.
+    fn region(&self) -> Region
+        ensures { result ≡ region_of self.now }
+    {
+        Region {
+            level: self.level,
+            x: self.x,
+            y: self.y,
+            w: self.w,
+            h: self.h,
+        }
+    }
+}
+
 /// Copies values to a buffer of the caller, unless it is too small.
-fn copy_out(values: &[u16], out: &mut [u16]) -> bool {
+pub(crate) fn copy_out(values: &[u16], out: &mut [u16]) -> bool
+    ensures ok { IsTrue result → (take (length values.now) out.new ≡ values.now)
+        × (drop (length values.now) out.new ≡ drop (length values.now) out.old) }
+    ensures err { IsFalse result → (length out.old < length values.now) × (out.new ≡ out.old) }
+{
     if out.len() < values.len() {
         return false;
     }

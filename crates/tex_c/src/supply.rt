@@ -1,11 +1,22 @@
 //! What a call lacks, and what the caller supplies.
-ghost use Rattle.std.specs.Prelude.{◌≡◌, ◌≤◌, ℕ, List, length, IfSome};
+ghost use Rattle.std.specs.Prelude.{◌≡◌, ◌≤◌, length, IfSome};
 ghost use Rattle.tex_world.specs.World.{last_generation};
-ghost use Rattle.tiff_format.specs.Bytes.{IsPartAt};
-ghost use Rattle.tex_c.specs.Supply.{IsTrueOf, AreTrue};
+ghost use Rattle.tex_c.specs.Truth.{IsTrueLook, AreTrueBytes, AreTrueRows};
 
 use crate::handle::SuppliedHandle;
 use tex_world::TapHandle;
+
+/// Rows of a generation of a file: the first from a place on, of so many bytes each, and each so
+/// many bytes behind the one before.
+#[repr(C)]
+#[derive(Clone, Copy, Debug, PartialEq, Eq)]
+pub struct RowsAt {
+    pub file: u32,
+    pub generation: u32,
+    pub at: u64,
+    pub stride: u64,
+    pub row: u64,
+}
 
 /// What a call lacks to go on.
 #[derive(Clone, Copy, Debug, PartialEq, Eq)]
@@ -24,6 +35,11 @@ pub enum Need {
         least: u64,
         most: u64,
     },
+    /// Rows, of so many bytes in all.
+    Rows {
+        rows: RowsAt,
+        size: u64,
+    },
 }
 
 /// Why a supply is refused. All is then as before.
@@ -39,10 +55,19 @@ pub enum SupplyError {
     OtherGeneration,
     /// It has fewer bytes than are lacking.
     Short,
-    /// It has bytes past the end of the file.
+    /// It has bytes past the end of the file, or more than the rows that are lacking.
     Long,
     /// No memory was found.
     NoMemory,
+}
+
+/// What a caller says of a file: its generation, and the length that it has at it.
+#[repr(C)]
+#[derive(Clone, Copy, Debug, PartialEq, Eq)]
+pub struct Seen {
+    pub file: u32,
+    pub generation: u32,
+    pub len: u64,
 }
 
 /// What was seen of a file: its generation and its length.
@@ -53,6 +78,7 @@ pub struct Look {
     pub len: u64,
     ghost low: { 1 ≤ generation },
     ghost high: { generation ≤ last_generation },
+    ghost told: { IsTrueLook file generation len },
 }
 
 /// Bytes of a generation of a file, from a place on.
@@ -62,15 +88,15 @@ pub struct Part {
     pub generation: u32,
     pub at: u64,
     pub bytes: Vec<u8>,
+    ghost told: { AreTrueBytes file generation at bytes.items },
 }
 
 impl Part {
     /// So many bytes from a place of a handle's file on, where the part has them all.
     fn slice(&self, handle: &SuppliedHandle, at: u64, size: usize) -> Option<&[u8]>
         ensures long { IfSome result (λ bytes. length bytes.now ≡ size) }
-        ensures told { IfSome result (λ bytes. (held : ℕ → ℕ → List ℕ)
-            → IsTrueOf held self.now
-            → IsPartAt (held handle.now.file handle.now.generation) at bytes.now) }
+        ensures told { IfSome result (λ bytes.
+            AreTrueBytes handle.now.file handle.now.generation at bytes.now) }
     {
         if self.file != handle.file() || self.generation != handle.generation() {
             return None;
@@ -92,12 +118,37 @@ pub(crate) fn supplied<'a>(
     size: usize,
 ) -> Option<&'a [u8]>
     ensures long { IfSome result (λ bytes. length bytes.now ≡ size) }
-    ensures told { IfSome result (λ bytes. (held : ℕ → ℕ → List ℕ) → AreTrue held parts.now
-        → IsPartAt (held handle.now.file handle.now.generation) at bytes.now) }
+    ensures told { IfSome result (λ bytes.
+        AreTrueBytes handle.now.file handle.now.generation at bytes.now) }
 {
     for part in parts {
         if let Some(bytes) = part.slice(handle, at, size) {
             return Some(bytes);
+        }
+    }
+    None
+}
+
+/// The bytes of rows.
+#[derive(Drop)]
+pub struct RowsPart {
+    pub place: RowsAt,
+    pub bytes: Vec<u8>,
+    ghost told: { AreTrueRows place bytes.items },
+}
+
+/// The bytes of these rows, so many in all, where they were supplied.
+pub(crate) fn supplied_rows<'a>(
+    parts: &'a [RowsPart],
+    place: &RowsAt,
+    size: usize,
+) -> Option<&'a [u8]>
+    ensures long { IfSome result (λ bytes. length bytes.now ≡ size) }
+    ensures told { IfSome result (λ bytes. AreTrueRows place.now bytes.now) }
+{
+    for part in parts {
+        if part.place == *place && part.bytes.len() == size {
+            return Some(&part.bytes[..]);
         }
     }
     None

@@ -1,49 +1,91 @@
 //! What the caller supplies, as C says it.
-ghost use Rattle.std.specs.Prelude.{◌≡◌, ℕ, List, OnOk, OnErr};
-ghost use Rattle.tiff_format.specs.Bytes.{IsPartAt};
-ghost use Rattle.tex_c.specs.SuppliedTap.{parts_of};
-ghost use Rattle.tex_c.specs.Supply.{AreTrue};
+ghost use Rattle.std.specs.Prelude.{◌≡◌, length, IfSome};
+ghost use Rattle.tex_c.specs.Truth.{IsTrueLook, AreTrueLooks, AreTrueBytes, AreTrueRows};
+ghost use Rattle.tex_c.specs.Supply.{FitsLook, FitsBytes, FitsRows};
+ghost use Rattle.tex_c.specs.Exports.{KeepsRest, SaysLook, SaysLooks, SaysBytes, SaysRows};
+ghost use Rattle.tex_c.specs.SuppliedTap.{KeepsSupplies};
 
 use crate::answer::{ANSWERED, supply_code_of};
+use crate::bytes::Bytes;
 use crate::client::Client;
-use crate::supply::SupplyError;
-
-/// The number of what came of a supply.
-fn code(supplied: Result<(), SupplyError>) -> u32
-    ensures ok { OnOk supplied (result ≡ 0) }
-    ensures err { OnErr supplied (result ≡ 0 → ⊥) }
-{
-    match supplied {
-        Ok(()) => ANSWERED,
-        Err(e) => supply_code_of(e),
-    }
-}
+use crate::supply::{RowsAt, Seen};
 
 impl Client {
     /// What was seen of a file.
     pub(crate) fn supply_look(&mut self, file: u32, generation: u32, len: u64) -> u32
-        ensures cache { self.new.cache ≡ self.old.cache }
-        ensures pass { self.new.pass ≡ self.old.pass }
+        requires told { FitsLook self.old.tap.need file generation
+            → IsTrueLook file generation len }
+        ensures { SaysLook file generation result self.old self.new }
     {
-        code(self.tap.supply_look(file, generation, len))
+        match self.tap.supply_look(file, generation, len) {
+            Ok(()) => ANSWERED,
+            Err(e) => supply_code_of(e),
+        }
+    }
+
+    /// What was seen of several files.
+    pub(crate) fn supply_looks(&mut self, looks: &[Seen]) -> u32
+        requires told { AreTrueLooks looks.now }
+        ensures { SaysLooks looks.now result self.old self.new }
+    {
+        if let Err(e) = self.tap.supply_looks(looks) {
+            return supply_code_of(e);
+        }
+        ANSWERED
+    }
+
+    /// Room for so many bytes.
+    pub(crate) fn room(&mut self, size: usize) -> Option<Bytes>
+        ensures size { IfSome result (λ bytes. length bytes.items.items ≡ size) }
+        ensures rest { KeepsRest self.old self.new }
+        ensures same { KeepsSupplies self.old.tap self.new.tap }
+    {
+        match self.tap.room(size) {
+            Some(items) => Some(Bytes { items }),
+            None => None,
+        }
+    }
+
+    /// Room that is not needed.
+    pub(crate) fn give_back(&mut self, bytes: Bytes)
+        ensures rest { KeepsRest self.old self.new }
+        ensures same { KeepsSupplies self.old.tap self.new.tap }
+    {
+        self.tap.give_back(bytes.items);
     }
 
     /// Bytes of a generation of a file, from a place on.
-    pub(crate) fn supply_bytes(&mut self, file: u32, generation: u32, at: u64, bytes: &[u8]) -> u32
-        ensures told { result ≡ 0 → (held : ℕ → ℕ → List ℕ) → AreTrue held (parts_of self.old.tap)
-            → IsPartAt (held file generation) at bytes.now → AreTrue held (parts_of self.new.tap) }
-        ensures err { (result ≡ 0 → ⊥) → parts_of self.new.tap ≡ parts_of self.old.tap }
-        ensures cache { self.new.cache ≡ self.old.cache }
-        ensures pass { self.new.pass ≡ self.old.pass }
+    pub(crate) fn supply_bytes(&mut self, file: u32, generation: u32, at: u64, bytes: Bytes) -> u32
+        requires told { FitsBytes self.old.tap.need file generation at (length bytes.items.items)
+            → AreTrueBytes file generation at bytes.items.items }
+        ensures { SaysBytes file generation at (length bytes.items.items) result self.old self.new }
     {
-        code(self.tap.supply_bytes(file, generation, at, bytes))
+        if let Err(e) = self.tap.supply_bytes(file, generation, at, bytes.items) {
+            return supply_code_of(e);
+        }
+        ANSWERED
+    }
+
+    /// The bytes of rows.
+    pub(crate) fn supply_rows(&mut self, place: RowsAt, bytes: Bytes) -> u32
+        requires told { FitsRows self.old.tap.need place (length bytes.items.items)
+            → AreTrueRows place bytes.items.items }
+        ensures { SaysRows place (length bytes.items.items) result self.old self.new }
+    {
+        if let Err(e) = self.tap.supply_rows(place, bytes.items) {
+            return supply_code_of(e);
+        }
+        ANSWERED
     }
 
     /// What is lacking cannot be had.
     pub(crate) fn supply_fault(&mut self) -> u32
-        ensures cache { self.new.cache ≡ self.old.cache }
-        ensures pass { self.new.pass ≡ self.old.pass }
+        ensures rest { KeepsRest self.old self.new }
+        ensures same { KeepsSupplies self.old.tap self.new.tap }
     {
-        code(self.tap.supply_fault())
+        match self.tap.supply_fault() {
+            Ok(()) => ANSWERED,
+            Err(e) => supply_code_of(e),
+        }
     }
 }

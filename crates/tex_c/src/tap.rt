@@ -1,32 +1,39 @@
 //! A source of bytes that the caller supplies.
-ghost use Rattle.std.specs.Prelude.{◌≡◌, ◌+◌, ◌≤◌, ℕ, List, [], length, slice_index, IsTrue};
-ghost use Rattle.std.specs.Prelude.{IfOk, IfErr, IfSome, OnOk, OnErr};
-ghost use Rattle.std.specs.List.{EachIndex};
+ghost use Rattle.std.specs.Prelude.{◌≡◌, ◌+◌, ◌≤◌, [], length, IsTrue, IfErr, IfSome, OnOk};
 ghost use Rattle.std.specs.Option.{ForSome};
 ghost use Rattle.tex_world.specs.Tap.{IsNew, ReadCause, AfterRead};
-ghost use Rattle.tiff_format.specs.Bytes.{IsPartAt};
-ghost use Rattle.tex_c.specs.Supply.{AreTrue};
+ghost use Rattle.tex_c.specs.Rows.{AreRows, HoldsRows};
+ghost use Rattle.tex_c.specs.Truth.{AreTrueBytes, AreTrueRows};
 ghost use Rattle.tex_c.specs.SuppliedHandle.{handle_named};
-ghost use Rattle.tex_c.specs.SuppliedWorld.{untold_files};
-ghost use Rattle.tex_c.specs.SuppliedTap.{tap_state, parts_of, AddsFault, AddsMove, AddsLoss};
-ghost use Rattle.tex_c.specs.SuppliedTap.{KeepsSupplies};
+ghost use Rattle.tex_c.specs.SuppliedWorld.{supplied_files};
+ghost use Rattle.tex_c.specs.SuppliedTap.{tap_state, parts_of, rows_of};
+ghost use Rattle.tex_c.specs.SuppliedTap.{AddsFault, AddsMove, AddsLoss};
+ghost use Rattle.tex_c.specs.SuppliedTap.{KeepsBytes, KeepsSupplies};
 
 use crate::handle::SuppliedHandle;
-use crate::supply::{Look, Need, Part, SupplyError, supplied};
+use crate::supply::{Look, Need, Part, RowsAt, RowsPart, supplied, supplied_rows};
 use crate::world::SuppliedWorld;
 use std::alloc::Global;
-use tex_world::{Failed, LAST_GENERATION, OpenError, ReadError, Tap, TapHandle};
+use tex_world::{Failed, OpenError, ReadError, Tap, TapHandle};
 
-/// A source of what the caller supplied for the call at hand. A call of the tap that lacks something
-/// says what, and is counted as a fault.
+/// How much room is kept for the next supplies: so many pieces of so many bytes at most.
+const MAX_SPARE: usize = 8;
+
+const MAX_SPARE_BYTES: usize = 262144;
+
+/// A source of what the caller supplied for the call at hand. A call of the tap that lacks
+/// something says what, and is counted as a fault.
 #[derive(Drop)]
 pub struct SuppliedTap {
-    alloc: Global,
-    looks: Vec<Look>,
-    parts: Vec<Part>,
-    need: Option<Need>,
+    pub(crate) alloc: Global,
+    pub(crate) looks: Vec<Look>,
+    pub(crate) parts: Vec<Part>,
+    pub(crate) rows: Vec<RowsPart>,
+    /// Room of supplies that were given up, for the next ones.
+    pub(crate) spare: Vec<Vec<u8>>,
+    pub(crate) need: Option<Need>,
     /// The caller said that what was lacking cannot be had.
-    failed: bool,
+    pub(crate) failed: bool,
     faults: u64,
     calls: u64,
     opens: u64,
@@ -41,11 +48,14 @@ impl SuppliedTap {
     pub fn new(alloc: Global) -> SuppliedTap
         ensures new { IsNew (tap_state result) }
         ensures parts { parts_of result ≡ [] }
+        ensures rows { rows_of result ≡ [] }
     {
         SuppliedTap {
             alloc,
             looks: Vec::new(alloc),
             parts: Vec::new(alloc),
+            rows: Vec::new(alloc),
+            spare: Vec::new(alloc),
             need: None,
             failed: false,
             faults: 0,
@@ -65,118 +75,41 @@ impl SuppliedTap {
         self.need
     }
 
-    /// How many of its calls failed.
-    pub fn faults(&self) -> u64
-        ensures { result ≡ (tap_state self.now).faults }
-    {
-        self.faults
-    }
-
-    /// How often it met a newer generation.
-    pub fn moves(&self) -> u64
-        ensures { result ≡ (tap_state self.now).moves }
-    {
-        self.moves
-    }
-
     /// A call begins, or goes on with what was supplied: nothing is lacking yet.
+    #[inline(always)]
     pub fn begin(&mut self)
-        ensures state { tap_state self.new ≡ tap_state self.old }
-        ensures parts { parts_of self.new ≡ parts_of self.old }
+        ensures same { KeepsSupplies self.old self.new }
     {
-        self.need = None;
+        // seldom, and cheaper to ask than to write
+        if self.need.is_some() {
+            self.need = None;
+        }
     }
 
     /// The call has ended: what was supplied for it is given up.
+    #[inline(always)]
     pub fn end(&mut self)
         ensures state { tap_state self.new ≡ tap_state self.old }
         ensures parts { parts_of self.new ≡ [] }
+        ensures rows { rows_of self.new ≡ [] }
     {
-        self.looks.clear();
-        self.parts.clear();
-        self.need = None;
+        self.begin();
         self.failed = false;
-    }
-
-    /// What was lacking cannot be had.
-    pub fn supply_fault(&mut self) -> Result<(), SupplyError>
-        ensures same { KeepsSupplies self.old self.new }
-    {
-        if self.need.is_none() {
-            return Err(SupplyError::NotNeeded);
+        if !self.looks.is_empty() {
+            self.looks.clear();
         }
-        self.need = None;
-        self.failed = true;
-        Ok(())
-    }
-
-    /// What was seen of a file. Where bytes of it are lacking it is of a newer generation.
-    pub fn supply_look(&mut self, file: u32, generation: u32, len: u64) -> Result<(), SupplyError>
-        ensures same { KeepsSupplies self.old self.new }
-    {
-        let (wanted, least) = match self.need {
-            None => return Err(SupplyError::NotNeeded),
-            Some(Need::Look { file, least }) => (file, least),
-            Some(
-                Need::Bytes {
-                    file,
-                    generation,
-                    at: _,
-                    least: _,
-                    most: _,
-                },
-            ) => (file, generation.saturating_add(1)),
-        };
-        if wanted != file {
-            return Err(SupplyError::OtherPlace);
+        if !self.parts.is_empty() {
+            spare_parts(&mut self.parts, &mut self.spare);
         }
-        if generation < least {
-            return Err(SupplyError::Older);
-        }
-        let look = look_of(file, generation, len)?;
-        self.add_look(look)?;
-        self.need = None;
-        Ok(())
-    }
-
-    /// Keeps a look.
-    fn add_look(&mut self, look: Look) -> Result<(), SupplyError>
-        ensures same { KeepsSupplies self.old self.new }
-    {
-        match self.looks.push(look) {
-            Ok(()) => Ok(()),
-            Err(_) => Err(SupplyError::NoMemory),
-        }
-    }
-
-    /// Bytes of a generation of a file, from a place on.
-    pub fn supply_bytes(
-        &mut self,
-        file: u32,
-        generation: u32,
-        at: u64,
-        bytes: &[u8],
-    ) -> Result<(), SupplyError>
-        ensures state { tap_state self.new ≡ tap_state self.old }
-        ensures told { OnOk result ((held : ℕ → ℕ → List ℕ) → AreTrue held (parts_of self.old)
-            → IsPartAt (held file generation) at bytes.now → AreTrue held (parts_of self.new)) }
-        ensures err { OnErr result (parts_of self.new ≡ parts_of self.old) }
-    {
-        fits_need(self.need, file, generation, at, bytes.len() as u64)?;
-        let part = copied(self.alloc, file, generation, at, bytes)?;
-        match self.parts.push(part) {
-            Ok(()) => {
-                self.need = None;
-                Ok(())
-            }
-            Err(_) => Err(SupplyError::NoMemory),
+        if !self.rows.is_empty() {
+            spare_rows(&mut self.rows, &mut self.spare);
         }
     }
 
     /// Counts a failed call.
     fn count_fault(&mut self)
         ensures adds { AddsFault (tap_state self.old) (tap_state self.new) }
-        ensures parts { parts_of self.new ≡ parts_of self.old }
+        ensures bytes { KeepsBytes self.old self.new }
     {
         self.faults = self.faults.saturating_add(1);
     }
@@ -184,7 +117,7 @@ impl SuppliedTap {
     /// Counts a meeting with a newer generation.
     fn count_move(&mut self)
         ensures adds { AddsMove (tap_state self.old) (tap_state self.new) }
-        ensures parts { parts_of self.new ≡ parts_of self.old }
+        ensures bytes { KeepsBytes self.old self.new }
     {
         self.moves = self.moves.saturating_add(1);
     }
@@ -192,7 +125,7 @@ impl SuppliedTap {
     /// Counts a read that met one.
     fn count_loss(&mut self)
         ensures adds { AddsLoss (tap_state self.old) (tap_state self.new) }
-        ensures parts { parts_of self.new ≡ parts_of self.old }
+        ensures bytes { KeepsBytes self.old self.new }
     {
         self.moves = self.moves.saturating_add(1);
         self.lost = self.lost.saturating_add(1);
@@ -201,7 +134,7 @@ impl SuppliedTap {
     /// This is lacking, unless the caller said that it cannot be had. It is a failed call.
     fn lack(&mut self, need: Need)
         ensures adds { AddsFault (tap_state self.old) (tap_state self.new) }
-        ensures parts { parts_of self.new ≡ parts_of self.old }
+        ensures bytes { KeepsBytes self.old self.new }
     {
         if !self.failed {
             self.need = Some(need);
@@ -218,8 +151,7 @@ impl SuppliedTap {
 
     /// Fills the buffer with what was supplied, where it was.
     fn fill(&self, h: &SuppliedHandle, at: u64, buf: &mut [u8]) -> bool
-        ensures { IsTrue result → (held : ℕ → ℕ → List ℕ) → AreTrue held (parts_of self.now)
-            → IsPartAt (held h.now.file h.now.generation) at buf.new }
+        ensures { IsTrue result → AreTrueBytes h.now.file h.now.generation at buf.new }
     {
         match supplied(&self.parts, h, at, buf.len()) {
             Some(bytes) => {
@@ -229,18 +161,61 @@ impl SuppliedTap {
             None => false,
         }
     }
-}
 
-/// A look, where its generation is one that a file may have.
-fn look_of(file: u32, generation: u32, len: u64) -> Result<Look, SupplyError> {
-    if generation == 0 || LAST_GENERATION < generation {
-        return Err(SupplyError::OtherGeneration);
+    /// Fills the buffer with rows that were supplied, where they were.
+    fn fill_rows(&self, place: &RowsAt, buf: &mut [u8]) -> bool
+        ensures { IsTrue result → AreTrueRows place.now buf.new }
+    {
+        match supplied_rows(&self.rows, place, buf.len()) {
+            Some(bytes) => {
+                buf.copy_from_slice(bytes);
+                true
+            }
+            None => false,
+        }
     }
-    Ok(Look {
-        file,
-        generation,
-        len,
-    })
+
+    /// As `read_at`, of rows: the first from a place on, each `stride` bytes behind the one before.
+    /// What is lacking is all of them.
+    pub fn rows(
+        &mut self,
+        h: &mut SuppliedHandle,
+        at: u64,
+        stride: u64,
+        row: usize,
+        buf: &mut [u8],
+    ) -> Result<(), ReadError>
+        requires { AreRows at stride row (length buf.old) (handle_named h.old).len }
+        ensures bytes { OnOk result (ForSome
+            (supplied_files.held (handle_named h.old).file (handle_named h.old).generation)
+            (λ bytes. HoldsRows bytes at stride row buf.new)) }
+        ensures handle { handle_named h.new ≡ handle_named h.old }
+        ensures cause { IfErr result (ReadCause supplied_files (handle_named h.old)
+            (tap_state self.old) (tap_state self.new)) }
+        ensures counts { AfterRead (tap_state self.old) (tap_state self.new) result }
+    {
+        self.calls = self.calls.saturating_add(1);
+        if let Some(look) = self.look(h.file(), h.generation() + 1) {
+            self.count_loss();
+            return Err(ReadError::Gone(look.generation));
+        }
+        let rows = RowsAt {
+            file: h.file(),
+            generation: h.generation(),
+            at,
+            stride,
+            row: row as u64,
+        };
+        if self.fill_rows(&rows, buf) {
+            return Ok(());
+        }
+        self.remember(h);
+        self.lack(Need::Rows {
+            rows,
+            size: buf.len() as u64,
+        });
+        Err(ReadError::Failed)
+    }
 }
 
 /// The latest of the looks at a file that are of this generation at least.
@@ -255,65 +230,34 @@ fn latest_look(looks: &[Look], file: u32, least: u32) -> Option<Look>
     None
 }
 
-/// Whether a supply of so many bytes is what is lacking.
-fn fits_need(
-    need: Option<Need>,
-    file: u32,
-    generation: u32,
-    at: u64,
-    len: u64,
-) -> Result<(), SupplyError> {
-    let Some(
-        Need::Bytes {
-            file: wanted,
-            generation: exact,
-            at: place,
-            least,
-            most,
-        },
-    ) = need
-    else {
-        return Err(SupplyError::NotNeeded);
-    };
-    if file != wanted || at != place {
-        return Err(SupplyError::OtherPlace);
+/// Gives up parts, and keeps their room.
+fn spare_parts(parts: &mut Vec<Part>, spare: &mut Vec<Vec<u8>>)
+    ensures { parts.new.items ≡ [] }
+{
+    for _ in 0..parts.len() {
+        if let Some(part) = parts.pop() {
+            keep_spare(spare, part.bytes);
+        }
     }
-    if generation < exact {
-        return Err(SupplyError::Older);
-    }
-    if generation != exact {
-        return Err(SupplyError::OtherGeneration);
-    }
-    if len < least {
-        return Err(SupplyError::Short);
-    }
-    if most < len {
-        return Err(SupplyError::Long);
-    }
-    Ok(())
+    parts.clear();
 }
 
-/// A part with a copy of these bytes.
-fn copied(
-    alloc: Global,
-    file: u32,
-    generation: u32,
-    at: u64,
-    bytes: &[u8],
-) -> Result<Part, SupplyError>
-    ensures file { IfOk result (λ part. part.file ≡ file) }
-    ensures generation { IfOk result (λ part. part.generation ≡ generation) }
-    ensures at { IfOk result (λ part. part.at ≡ at) }
-    ensures bytes { IfOk result (λ part. part.bytes.items ≡ bytes.now) }
+/// Gives up rows, and keeps their room.
+fn spare_rows(rows: &mut Vec<RowsPart>, spare: &mut Vec<Vec<u8>>)
+    ensures { rows.new.items ≡ [] }
 {
-    match bytes.to_vec(alloc) {
-        Ok(bytes) => Ok(Part {
-            file,
-            generation,
-            at,
-            bytes,
-        }),
-        Err(_) => Err(SupplyError::NoMemory),
+    for _ in 0..rows.len() {
+        if let Some(part) = rows.pop() {
+            keep_spare(spare, part.bytes);
+        }
+    }
+    rows.clear();
+}
+
+/// Keeps the room of bytes, unless there is enough of it.
+pub(crate) fn keep_spare(spare: &mut Vec<Vec<u8>>, bytes: Vec<u8>) {
+    if spare.len() < MAX_SPARE && bytes.capacity() <= MAX_SPARE_BYTES {
+        if let Err(_refused) = spare.push(bytes) {}
     }
 }
 
@@ -333,7 +277,7 @@ impl Tap for SuppliedTap {
                 if 0 < least && least < look.generation {
                     self.count_move();
                 }
-                Ok(SuppliedHandle::new(look.file, look.generation, look.len))
+                Ok(SuppliedHandle::of(look))
             }
             None => {
                 self.lack(Need::Look { file, least });
@@ -360,22 +304,12 @@ impl Tap for SuppliedTap {
 
     /// The bytes are those that were supplied of the handle's generation. Where a newer look at the
     /// file was supplied they are gone.
-    fn read_at(&mut self, h: &mut SuppliedHandle, at: u64, buf: &mut [u8]) -> Result<(), ReadError>
-        requires { at + length buf.old ≤ (handle_named h.old).len }
-        ensures bytes { OnOk result (ForSome
-            (untold_files.held (handle_named h.old).file (handle_named h.old).generation)
-            (λ bytes. EachIndex buf.new (λ k.
-            slice_index buf.new k ≡ slice_index bytes (at + k)))) }
-        ensures handle { handle_named h.new ≡ handle_named h.old }
-        ensures cause { IfErr result (ReadCause untold_files (handle_named h.old)
-            (tap_state self.old) (tap_state self.new)) }
-        ensures counts { AfterRead (tap_state self.old) (tap_state self.new) result }
-
-        // Whatever the files hold: where what was supplied is true, so is what is read.
-        ensures told { OnOk result ((held : ℕ → ℕ → List ℕ) → AreTrue held (parts_of self.old)
-            → IsPartAt (held h.old.file h.old.generation) at buf.new) }
-        ensures parts { parts_of self.new ≡ parts_of self.old }
-    {
+    fn read_at(
+        &mut self,
+        h: &mut SuppliedHandle,
+        at: u64,
+        buf: &mut [u8],
+    ) -> Result<(), ReadError> {
         self.calls = self.calls.saturating_add(1);
         if let Some(look) = self.look(h.file(), h.generation() + 1) {
             self.count_loss();
@@ -415,12 +349,12 @@ impl Tap for SuppliedTap {
 }
 
 impl SuppliedTap {
-    /// So many bytes of a handle's file are lacking, from a place on. The file is remembered as it was
-    /// seen, so that the call may open it again when it goes on.
+    /// So many bytes of a handle's file are lacking, from a place on. The file is remembered as it
+    /// was seen, so that the call may open it again when it goes on.
     fn lack_bytes(&mut self, h: &SuppliedHandle, at: u64, size: usize)
         requires inside { at + size ≤ h.now.len }
         ensures adds { AddsFault (tap_state self.old) (tap_state self.new) }
-        ensures parts { parts_of self.new ≡ parts_of self.old }
+        ensures bytes { KeepsBytes self.old self.new }
     {
         self.remember(h);
         self.lack(Need::Bytes {
@@ -452,9 +386,6 @@ impl SuppliedTap {
         if self.look(h.file(), h.generation()).is_some() {
             return;
         }
-        let looked = look_of(h.file(), h.generation(), h.len());
-        if let Ok(look) = looked {
-            if let Err(_refused) = self.add_look(look) {}
-        }
+        if let Err(_refused) = self.looks.push(h.look()) {}
     }
 }

@@ -1,0 +1,184 @@
+-- What does each call of C say, and what does it leave?
+use Rattle.std.specs.Prelude.{◌≡◌, ◌⊎◌, ℕ, ◌+◌, ◌*◌, ◌^◌, ◌<◌, ◌≤◌, Bool, List, length}
+use Rattle.std.specs.Prelude.{take, drop, slice_index, slice_get}
+use Rattle.std.specs.Prelude.{Option, IsOkAnd, IsSomeAnd, IfSome}
+use Rattle.std.specs.Option.{ForSome}
+use Rattle.std.specs.List.{remove}
+use Rattle.tile_store.specs.Tile.{CachedTile, AreSamples}
+use Rattle.tile_store.specs.Told.{AreToldSamples}
+use Rattle.file_table.specs.Calls.{sighted}
+use Rattle.texel_values.specs.Region.{AreRegionValues}
+use Rattle.texel_values.specs.declared.texel_at.TexelAt.{TexelAt}
+use Rattle.image_cache.specs.Call.{KeepsGiven, HoldsCell}
+use Rattle.image_cache.specs.Cause.{around, HasCause, Never, InfoRefuses, PixelsRefuses}
+use Rattle.image_cache.specs.Cause.{TooManyTexels, NoFurtherHold, TileRefuses}
+use Rattle.image_cache.specs.Facts.{info_of}
+use Rattle.image_cache.specs.Invalid.{invalid, MakesInvalid, InvalidCause}
+use Rattle.image_cache.specs.InvalidAll.{MakesAllInvalid}
+use Rattle.image_cache.specs.Reading.{pass_tap}
+use Rattle.image_cache.specs.Region.{ReadsRegion}
+use Rattle.texture_sys.specs.Call.{Answers, TextureCause, IsWarm, ServesLocally}
+use Rattle.texture_sys.specs.declared.lookup_request.LookupRequest.{LookupRequest}
+use Rattle.tex_c.specs.declared.answer.TexAnswer.{TexAnswer}
+use Rattle.tex_c.specs.declared.holds.TexTile.{TexTile}
+use Rattle.tex_c.specs.declared.saying.TexInfo.{TexInfo}
+use Rattle.tex_c.specs.declared.saying.TexRegion.{TexRegion}
+use Rattle.tex_c.specs.Client.{ClientState}
+use Rattle.tex_c.specs.Request.{region_of, told_info}
+use Rattle.tex_c.specs.SuppliedTap.{tap_state}
+use Rattle.tex_c.specs.SuppliedWorld.{supplied_files}
+use Rattle.tex_c.specs.Unanswered.{IsUnanswered, RefusesFile, RefusesLookup, RefusesRegion}
+
+-- both handles have a client, and P is so of what they have
+abbrev pub Hands : Option ClientState → Option ClientState → (ClientState → ClientState → Type 0)
+    → Type 0
+Hands from to P = IsSomeAnd from (λ old. IsSomeAnd to (λ new. P old new))
+
+-- how many files the cache has
+abbrev pub files_of : ClientState → ℕ
+files_of c = c.cache.files.board.files
+
+-- ---- lookups
+
+-- What a lookup says, and what it leaves. `Good` says that the numbers of the request are in their
+-- ranges. The values are those of the lookup on the bytes of the generation that is answered; those
+-- behind them, and all where it is refused, are as they were. Where the pass keeps a record of the
+-- file and its microcache has each cell that the lookup needs, it is answered, or a newer
+-- generation was seen.
+pub record SaysLookup (file : ℕ) (Good : Type 0) (r : LookupRequest) (channels code : ℕ)
+    (answer : TexAnswer) (out_old out_new : List ℕ) (old new : ClientState) : Type 0 where
+  pub cache : new.cache ≡ old.cache
+  pub ok : code ≡ 0 → Answers supplied_files file old.cache.gate.cut r old.pass.view new.pass.view
+      (take channels out_new) answer.generation
+  pub beyond : drop channels out_new ≡ drop channels out_old
+  pub err : ¬ (code ≡ 0) → out_new ≡ out_old
+  pub cause : ¬ (code ≡ 0) → IsUnanswered
+      (RefusesLookup (files_of old) file Good channels (length out_old))
+      (TextureCause supplied_files file old.cache.gate.cut
+      (sighted old.pass.view (tap_state old.tap)) (sighted new.pass.view (tap_state new.tap)))
+      new.tap code answer
+  pub warm : file < files_of old → Good → channels ≤ length out_old
+      → IfSome old.pass.latest (λ known. IsWarm file r old.pass known
+      → ((code ≡ 0) × (answer.generation ≡ known.generation))
+      ⊎ (known.generation < slice_index new.pass.view.seen file))
+
+-- why a lookup in the microcache alone is not answered: it is refused, or the microcache has not
+-- all that it needs
+abbrev pub IsNotLocal : ℕ → Type 0 → LookupRequest → ℕ → ℕ → ℕ → ClientState → ClientState → Type 0
+IsNotLocal file Good r channels room code old new =
+    RefusesLookup (files_of old) file Good channels room code
+    ⊎ ((code ≡ 7) × ¬ IsSomeAnd old.pass.latest (ServesLocally file r old.pass new.pass))
+
+-- The same of a lookup in the microcache alone.
+pub record SaysLocally (file : ℕ) (Good : Type 0) (r : LookupRequest) (channels code : ℕ)
+    (answer : TexAnswer) (out_old out_new : List ℕ) (old new : ClientState) : Type 0 where
+  pub cache : new.cache ≡ old.cache
+  pub tap : new.tap ≡ old.tap
+  pub ok : code ≡ 0 → Answers supplied_files file old.cache.gate.cut r old.pass.view new.pass.view
+      (take channels out_new) answer.generation
+  pub beyond : drop channels out_new ≡ drop channels out_old
+  pub err : ¬ (code ≡ 0) → out_new ≡ out_old
+  pub cause : ¬ (code ≡ 0) → IsNotLocal file Good r channels (length out_old) code old new
+
+-- ---- a file, a region
+
+-- What a file is said to be: what its bytes show, of the generation that is answered.
+pub record SaysInfo (file code : ℕ) (answer : TexAnswer) (info : TexInfo) (old new : ClientState)
+    : Type 0 where
+  pub cache : new.cache ≡ old.cache
+  pub ok : code ≡ 0 → KeepsGiven supplied_files file old.cache.gate.cut old.pass new.pass
+      answer.generation (λ r. IsOkAnd r.layout (λ kept.
+      info ≡ told_info (info_of r.generation kept r.cut)))
+  pub cause : ¬ (code ≡ 0) → IsUnanswered (RefusesFile (files_of old) file)
+      (HasCause (around supplied_files file old.cache.gate.cut old.pass new.pass
+      (tap_state old.tap) (tap_state new.tap)) Never InfoRefuses) new.tap code answer
+
+-- The values of a region are those of the level in the bytes of the generation that is answered.
+pub record SaysRegion (file : ℕ) (region : TexRegion) (code : ℕ) (answer : TexAnswer)
+    (out_old out_new : List ℕ) (old new : ClientState) : Type 0 where
+  pub cache : new.cache ≡ old.cache
+  pub ok : code ≡ 0 → KeepsGiven supplied_files file old.cache.gate.cut old.pass new.pass
+      answer.generation
+      (ReadsRegion supplied_files (region_of region) answer.channels old.pass new.pass)
+  pub value : code ≡ 0 → ForSome (supplied_files.held file answer.generation) (λ bytes.
+      AreRegionValues bytes (region_of region) (take answer.value out_new))
+  pub beyond : code ≡ 0 → drop answer.value out_new ≡ drop answer.value out_old
+  pub err : ¬ (code ≡ 0) → out_new ≡ out_old
+  pub cause : ¬ (code ≡ 0) → IsUnanswered
+      (RefusesRegion (files_of old) file answer.value (length out_old))
+      (HasCause (around supplied_files file old.cache.gate.cut old.pass new.pass
+      (tap_state old.tap) (tap_state new.tap)) (TooManyTexels region.w region.h)
+      (PixelsRefuses region.level)) new.tap code answer
+
+-- ---- tiles
+
+-- The cell of a texel is held: of the generation that is answered, and told by its bytes.
+pub record SaysTile (file : ℕ) (at : TexelAt) (code : ℕ) (answer : TexAnswer)
+    (old new : ClientState) : Type 0 where
+  pub cache : new.cache ≡ old.cache
+  pub ok : code ≡ 0 → KeepsGiven supplied_files file old.cache.gate.cut old.pass new.pass
+      answer.generation (HoldsCell supplied_files at old.pass new.pass)
+  pub cause : ¬ (code ≡ 0) → IsUnanswered (RefusesFile (files_of old) file)
+      (HasCause (around supplied_files file old.cache.gate.cut old.pass new.pass
+      (tap_state old.tap) (tap_state new.tap)) (NoFurtherHold old.pass) (TileRefuses at))
+      new.tap code answer
+
+-- The tile that is held at a place: its rectangle and the samples of a texel.
+pub record SaysHeld (place code : ℕ) (out : TexTile) (old new : ClientState) : Type 0 where
+  pub same : new ≡ old
+  pub ok : code ≡ 0 → IsSomeAnd (slice_get old.pass.pinned.holds place) (λ tile.
+      (out.x ≡ tile.rect.x) × (out.y ≡ tile.rect.y) × (out.w ≡ tile.rect.w)
+      × (out.h ≡ tile.rect.h) × (out.channels ≡ tile.channels))
+  pub cause : ¬ (code ≡ 0) → (code ≡ 8) × (length old.pass.pinned.holds ≤ place)
+
+-- The hold at a place is released. It is refused where there is none, or where the waiter gave up.
+pub record SaysRelease (place code : ℕ) (old new : ClientState) : Type 0 where
+  pub cache : new.cache ≡ old.cache
+  pub tap : new.tap ≡ old.tap
+  pub ok : code ≡ 0 → new.pass.pinned.holds ≡ remove old.pass.pinned.holds place
+  pub cause : ¬ (code ≡ 0) → ((code ≡ 8) × (length old.pass.pinned.holds ≤ place))
+      ⊎ ((code ≡ 19) × (place < length old.pass.pinned.holds))
+
+-- why the samples of a row of a tile are not answered: it has no such row, or there is no room
+abbrev pub RefusesRow : CachedTile → ℕ → ℕ → ℕ → Type 0
+RefusesRow tile row room code =
+    ((code ≡ 9) × ((tile.rect.h ≤ row) ⊎ (2 ^ 32 ≤ tile.rect.y + row)))
+    ⊎ ((code ≡ 5) × (room < tile.rect.w * tile.channels))
+
+-- The samples of a row of a tile: those of its texels, which are told by the bytes of its
+-- generation.
+pub record SaysTileRow (tile : CachedTile) (row code : ℕ) (out_old out_new : List ℕ)
+    : Type 0 where
+  pub ok : code ≡ 0 → AreSamples tile tile.rect.x (tile.rect.y + row) tile.rect.w
+      (take (tile.rect.w * tile.channels) out_new)
+  pub told : code ≡ 0 → AreToldSamples supplied_files tile tile.rect.x (tile.rect.y + row)
+      tile.rect.w (take (tile.rect.w * tile.channels) out_new)
+  pub err : ¬ (code ≡ 0) → out_new ≡ out_old
+  pub cause : ¬ (code ≡ 0) → RefusesRow tile row (length out_old) code
+
+-- The same of the tile that is held at a place.
+pub record SaysRow (place row code : ℕ) (out_old out_new : List ℕ) (old new : ClientState)
+    : Type 0 where
+  pub same : new ≡ old
+  pub row_is : ((code ≡ 8) × (length old.pass.pinned.holds ≤ place) × (out_new ≡ out_old))
+      ⊎ IsSomeAnd (slice_get old.pass.pinned.holds place) (λ tile.
+      SaysTileRow tile row code out_old out_new)
+
+-- ---- files that are made invalid
+
+-- A file was made invalid, with this answer.
+pub record SaysInvalid (file : ℕ) (force : Bool) (code : ℕ) (answer : TexAnswer)
+    (old new : ClientState) : Type 0 where
+  pub cache : new.cache ≡ old.cache
+  pub ok : code ≡ 0 → MakesInvalid supplied_files old.cache.gate (invalid file force)
+      old.pass new.pass (tap_state old.tap) (tap_state new.tap) answer.generation
+  pub cause : ¬ (code ≡ 0) → IsUnanswered (RefusesFile (files_of old) file)
+      (InvalidCause (tap_state old.tap) (tap_state new.tap)) new.tap code answer
+
+-- So was each that is known.
+pub record SaysAllInvalid (code : ℕ) (answer : TexAnswer) (old new : ClientState) : Type 0 where
+  pub cache : new.cache ≡ old.cache
+  pub ok : code ≡ 0 → MakesAllInvalid supplied_files old.cache.gate (files_of old)
+      (pass_tap old.pass (tap_state old.tap)) (pass_tap new.pass (tap_state new.tap))
+  pub cause : ¬ (code ≡ 0) → IsUnanswered (λ _. ⊥)
+      (InvalidCause (tap_state old.tap) (tap_state new.tap)) new.tap code answer

@@ -1,0 +1,18 @@
+-- What does a room of C own? Bytes in a box, or nothing.
+use base.Fml.{Fml, ftrue}
+use base.Stored.{Coded}
+use denote.RawPtr.{Ptr}
+use Rattle.std.specs.Prelude.{Option, None, Some}
+use Rattle.std.specs.Coded.{coded_option}
+use Rattle.std.specs.Box.Ownership.{box_owns}
+use Rattle.std.specs.Global.{Global}
+use Rattle.std_heap.specs.contracts.GlobalAllocator.TheImpl.{ghosts}
+use Rattle.tex_c.specs.contracts.bytes.Bytes.{the_row}
+
+-- where there are bytes, the box that they lie in
+abbrev pub room_owns : Global → Ptr → Option the_row.Denot → Fml
+room_owns alloc at None = ftrue
+room_owns alloc at (Some bytes) = box_owns (ghosts.dealloc_token alloc) the_row at bytes
+
+abbrev pub room_coded : Coded (Option the_row.Denot)
+room_coded = coded_option the_row.coded

@@ -1,0 +1,71 @@
+//! Room for bytes, which C fills and hands back.
+ghost use Rattle.std.specs.Prelude.{◌≡◌, Option, Some, IsSome};
+ghost use Rattle.tex_c.specs.declared.bytes.Bytes.{Bytes};
+ghost use Rattle.tex_c.specs.Room.{room_coded, room_owns};
+
+use crate::bytes::Bytes;
+use crate::parts::Parts;
+use std::alloc::Global;
+use std::marker::Model;
+
+/// Room for bytes: nothing, or bytes that are the caller's until it hands them back. What is
+/// dropped here is not freed: bytes leave by `into_box`.
+#[repr(C)]
+#[derive(Drop)]
+pub struct Room {
+    at: *mut u8,
+    alloc: Global,
+    pub ghost value: { Option Bytes } by { room_coded },
+}
+
+impl Model for Room {
+    ghost also_owns = { λ r. room_owns r.alloc r.at r.value };
+}
+
+impl Room {
+    /// The room of these bytes.
+    pub(crate) fn of(bytes: Box<Bytes>) -> Room
+        ensures { result.value ≡ Some bytes.value }
+    {
+        Room::of_parts(Parts::of(bytes))
+    }
+
+    /// The bytes of a room.
+    pub(crate) fn into_box(self) -> Box<Bytes>
+        requires { IsSome self.value }
+        ensures { self.value ≡ Some result.value }
+    {
+        self.into_parts().into_box()
+    }
+
+    /// The bytes of a room, out of their box.
+    pub(crate) fn into_bytes(self) -> Bytes
+        requires { IsSome self.value }
+        ensures { self.value ≡ Some result }
+    {
+        Box::into_inner(self.into_box())
+    }
+
+    fn of_parts(parts: Parts<Bytes, Global>) -> Room
+        ensures { result.value ≡ Some parts.value }
+    {
+        let Parts { ptr, alloc } = parts;
+        Room {
+            at: ptr as *mut u8,
+            alloc,
+        }
+    }
+
+    fn into_parts(self) -> Parts<Bytes, Global>
+        requires { IsSome self.value }
+        ensures { self.value ≡ Some result.value }
+    {
+        let Room { at, alloc } = self;
+        Parts {
+            ptr: at as *mut Bytes,
+            alloc,
+        }
+    }
+}
+
+unsafe impl Send for Room {}

@@ -1,0 +1,308 @@
+//! What the caller supplies for the call at hand.
+ghost use Rattle.std.specs.Prelude.{◌≡◌, ◌⊎◌, ◌+◌, ◌<◌, ◌≤◌, None, length, IsTrue, IsFalse};
+ghost use Rattle.std.specs.Prelude.{IfErr, IfSome, IsNone, OnErr, OnOk};
+ghost use Rattle.tex_world.specs.World.{last_generation};
+ghost use Rattle.tex_c.specs.Truth.{IsTrueLook, AreTrueLooks, AreTrueBytes, AreTrueRows};
+ghost use Rattle.tex_c.specs.Supply.{FitsLook, FitsBytes, FitsRows, LacksLook, AreElsewhere};
+ghost use Rattle.tex_c.specs.Supply.{LookCause, LooksCause, BytesCause, RowsCause};
+ghost use Rattle.tex_c.specs.SuppliedTap.{tap_state, KeepsBytes, KeepsSupplies};
+
+use crate::supply::{Look, Need, Part, RowsAt, RowsPart, Seen, SupplyError};
+use crate::tap::{SuppliedTap, keep_spare};
+use tex_world::LAST_GENERATION;
+
+/// A file, and the least generation that is asked for.
+#[derive(Clone, Copy, Debug)]
+struct Wanted {
+    file: u32,
+    least: u64,
+}
+
+impl SuppliedTap {
+    /// What was lacking cannot be had.
+    pub fn supply_fault(&mut self) -> Result<(), SupplyError>
+        ensures same { KeepsSupplies self.old self.new }
+    {
+        if self.need.is_none() {
+            return Err(SupplyError::NotNeeded);
+        }
+        self.need = None;
+        self.failed = true;
+        Ok(())
+    }
+
+    /// What was seen of a file. Where bytes of it are lacking it is of a newer generation.
+    pub fn supply_look(&mut self, file: u32, generation: u32, len: u64) -> Result<(), SupplyError>
+        requires told { FitsLook self.old.need file generation → IsTrueLook file generation len }
+        ensures same { KeepsSupplies self.old self.new }
+        ensures fits { OnOk result (FitsLook self.old.need file generation) }
+        ensures cause { IfErr result (LookCause self.old.need file generation) }
+    {
+        let Some(wanted) = wanted_look(self.need) else {
+            return Err(SupplyError::NotNeeded);
+        };
+        if wanted.file != file {
+            return Err(SupplyError::OtherPlace);
+        }
+        if u64::from(generation) < wanted.least {
+            return Err(SupplyError::Older);
+        }
+        if !is_generation(generation) {
+            return Err(SupplyError::OtherGeneration);
+        }
+        let look = Look {
+            file,
+            generation,
+            len,
+        };
+        match self.looks.push(look) {
+            Ok(()) => {
+                self.need = None;
+                Ok(())
+            }
+            Err(_) => Err(SupplyError::NoMemory),
+        }
+    }
+
+    /// What was seen of several files. The first is what is lacking, as it would be alone; the
+    /// others are kept for what the call asks next, and passed over where they are no generation of
+    /// a file.
+    pub fn supply_looks(&mut self, looks: &[Seen]) -> Result<(), SupplyError>
+        requires told { AreTrueLooks looks.now }
+        ensures same { KeepsSupplies self.old self.new }
+        ensures cause { IfErr result (LooksCause self.old.need looks.now) }
+    {
+        let Some(first) = looks.first() else {
+            return Err(SupplyError::Short);
+        };
+        self.supply_look(first.file, first.generation, first.len)?;
+        keep_looks(&mut self.looks, &looks[1..]);
+        Ok(())
+    }
+
+    /// Room for so many bytes.
+    pub fn room(&mut self, size: usize) -> Option<Vec<u8>>
+        ensures size { IfSome result (λ bytes. length bytes.items ≡ size) }
+        ensures same { KeepsSupplies self.old self.new }
+    {
+        let mut bytes = match self.spare.pop() {
+            Some(bytes) => bytes,
+            None => Vec::new(self.alloc),
+        };
+        match bytes.resize(size, 0) {
+            Ok(()) => Some(bytes),
+            Err(_) => None,
+        }
+    }
+
+    /// Room that is not needed.
+    pub fn give_back(&mut self, bytes: Vec<u8>)
+        ensures same { KeepsSupplies self.old self.new }
+    {
+        keep_spare(&mut self.spare, bytes);
+    }
+
+    /// Bytes of a generation of a file, from a place on. Their room is the tap's, whatever is
+    /// answered.
+    pub fn supply_bytes(
+        &mut self,
+        file: u32,
+        generation: u32,
+        at: u64,
+        bytes: Vec<u8>,
+    ) -> Result<(), SupplyError>
+        requires told { FitsBytes self.old.need file generation at (length bytes.items)
+            → AreTrueBytes file generation at bytes.items }
+        ensures state { tap_state self.new ≡ tap_state self.old }
+        ensures err { OnErr result (KeepsBytes self.old self.new) }
+        ensures fits { OnOk result
+            (FitsBytes self.old.need file generation at (length bytes.items)) }
+        ensures cause { IfErr result
+            (BytesCause self.old.need file generation at (length bytes.items)) }
+    {
+        if let Err(e) = fits_bytes(self.need, file, generation, at, bytes.len() as u64) {
+            keep_spare(&mut self.spare, bytes);
+            return Err(e);
+        }
+        let part = Part {
+            file,
+            generation,
+            at,
+            bytes,
+        };
+        match self.parts.push(part) {
+            Ok(()) => {
+                self.need = None;
+                Ok(())
+            }
+            Err(_) => Err(SupplyError::NoMemory),
+        }
+    }
+
+    /// The bytes of rows. Their room is the tap's, whatever is answered.
+    pub fn supply_rows(&mut self, place: RowsAt, bytes: Vec<u8>) -> Result<(), SupplyError>
+        requires told { FitsRows self.old.need place (length bytes.items)
+            → AreTrueRows place bytes.items }
+        ensures state { tap_state self.new ≡ tap_state self.old }
+        ensures err { OnErr result (KeepsBytes self.old self.new) }
+        ensures fits { OnOk result (FitsRows self.old.need place (length bytes.items)) }
+        ensures cause { IfErr result (RowsCause self.old.need place (length bytes.items)) }
+    {
+        if let Err(e) = fits_rows(self.need, &place, bytes.len() as u64) {
+            keep_spare(&mut self.spare, bytes);
+            return Err(e);
+        }
+        match self.rows.push(RowsPart { place, bytes }) {
+            Ok(()) => {
+                self.need = None;
+                Ok(())
+            }
+            Err(_) => Err(SupplyError::NoMemory),
+        }
+    }
+}
+
+/// Whether a file may have a generation of this number.
+fn is_generation(generation: u32) -> bool
+    ensures is { IsTrue result → (1 ≤ generation) × (generation ≤ last_generation) }
+    ensures not { IsFalse result → (generation ≡ 0) ⊎ (last_generation < generation) }
+{
+    generation != 0 && generation <= LAST_GENERATION
+}
+
+/// Keeps looks, where their generations are ones that a file may have and memory is there.
+fn keep_looks(kept: &mut Vec<Look>, looks: &[Seen])
+    requires told { AreTrueLooks looks.now }
+{
+    for seen in looks {
+        if is_generation(seen.generation) {
+            let look = Look {
+                file: seen.file,
+                generation: seen.generation,
+                len: seen.len,
+            };
+            if let Err(_refused) = kept.push(look) {}
+        }
+    }
+}
+
+/// Which look is lacking. Where bytes are it is one at a newer generation of their file.
+fn wanted_look(need: Option<Need>) -> Option<Wanted>
+    ensures some { IfSome result (λ w. LacksLook need (λ file least.
+        (file ≡ w.file) × (least ≡ w.least))) }
+    ensures none { IsNone result → need ≡ None }
+{
+    match need {
+        None => None,
+        Some(Need::Look { file, least }) => Some(Wanted {
+            file,
+            least: u64::from(least),
+        }),
+        Some(
+            Need::Bytes {
+                file,
+                generation,
+                at: _,
+                least: _,
+                most: _,
+            },
+        ) => Some(above(file, generation)),
+        Some(Need::Rows { rows, size: _ }) => Some(above(rows.file, rows.generation)),
+    }
+}
+
+/// A newer generation of a file than this one.
+fn above(file: u32, generation: u32) -> Wanted
+    ensures file { result.file ≡ file }
+    ensures least { result.least ≡ generation + 1 }
+{
+    Wanted {
+        file,
+        least: u64::from(generation) + 1,
+    }
+}
+
+/// Whether a stretch of so many bytes is what is lacking.
+fn fits_bytes(
+    need: Option<Need>,
+    file: u32,
+    generation: u32,
+    at: u64,
+    size: u64,
+) -> Result<(), SupplyError>
+    ensures fits { OnOk result (FitsBytes need file generation at size) }
+    ensures cause { IfErr result (BytesCause need file generation at size) }
+{
+    let Some(
+        Need::Bytes {
+            file: wanted,
+            generation: exact,
+            at: place,
+            least,
+            most,
+        },
+    ) = need
+    else {
+        return Err(SupplyError::NotNeeded);
+    };
+    if file != wanted || at != place {
+        return Err(SupplyError::OtherPlace);
+    }
+    if generation < exact {
+        return Err(SupplyError::Older);
+    }
+    if exact < generation {
+        return Err(SupplyError::OtherGeneration);
+    }
+    if size < least {
+        return Err(SupplyError::Short);
+    }
+    if most < size {
+        return Err(SupplyError::Long);
+    }
+    Ok(())
+}
+
+/// Whether rows of so many bytes are what is lacking.
+fn fits_rows(need: Option<Need>, place: &RowsAt, size: u64) -> Result<(), SupplyError>
+    ensures fits { OnOk result (FitsRows need place.now size) }
+    ensures cause { IfErr result (RowsCause need place.now size) }
+{
+    let Some(Need::Rows { rows, size: whole }) = need else {
+        return Err(SupplyError::NotNeeded);
+    };
+    if !stand_alike(&rows, place) {
+        return Err(SupplyError::OtherPlace);
+    }
+    if place.generation < rows.generation {
+        return Err(SupplyError::Older);
+    }
+    if rows.generation < place.generation {
+        return Err(SupplyError::OtherGeneration);
+    }
+    if size < whole {
+        return Err(SupplyError::Short);
+    }
+    if whole < size {
+        return Err(SupplyError::Long);
+    }
+    Ok(())
+}
+
+/// Whether rows stand at the same places of the same file.
+fn stand_alike(p: &RowsAt, q: &RowsAt) -> bool
+    ensures elsewhere { IsFalse result → AreElsewhere p.now q.now }
+    ensures alike { IsTrue result → (p.now.file ≡ q.now.file) × (p.now.at ≡ q.now.at)
+        × (p.now.stride ≡ q.now.stride) × (p.now.row ≡ q.now.row) }
+{
+    if p.file != q.file {
+        return false;
+    }
+    if p.at != q.at {
+        return false;
+    }
+    if p.stride != q.stride {
+        return false;
+    }
+    p.row == q.row
+}
