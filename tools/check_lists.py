@@ -165,6 +165,8 @@ OPTIONS = [
     ("--no-automip|--workers=1|--autotile|0|--shards|1|--handles|1|--budget|0|x", "x", 1, 1, 0, 0, False),
     ("--autotile=16|.", ".", 4, 16, 16777216, 16, True),
     ("--autotile|4096|.", ".", 4, 16, 16777216, 4096, True),
+    ("--slots=0|.", ".", 4, 16, 16777216, 64, True),
+    ("--slots|65536|--shards|2|.", ".", 4, 2, 134217728, 64, True),
     *((words, folder, 4, 16, 16777216, 64, True) for words, folder in PLAIN),
 ]
 
@@ -372,7 +374,7 @@ OF_SIXTEEN = [(4, 0), (1, 0), (1, 0), (0, 0), (1, 0)] + [(0, 0)] * 11
 CLOSINGS = [
     (["-"], OF_FOUR), (["--shards=2", "--", "-x"], OF_FOUR), (["--workers", "1", "."], [(7, 2)]),
     (["--workers=16", "."], OF_SIXTEEN), (["--budget=0", "--handles", "1024", "--autotile=4096", "."], OF_FOUR),
-    (["--budget=0", "--shards=1", "--handles=1", "."], OF_FOUR),
+    (["--budget=0", "--shards=1", "--handles=1", "--slots=0", "."], OF_FOUR),
 ]
 
 

@@ -39,7 +39,7 @@ stat 0,0,0,100 1,2,30,100
 sync
 no such file
 worker 0 needs 1 hits 0
-worker 1 needs 4 hits 3
+worker 1 needs 4 hits 2 apart 1
 total 8 refused 3
 """
 EXPLAINED = """line 2, round 1, worker 0: info lzw.tif
@@ -68,7 +68,8 @@ line 9, round 3, worker 0: info none.tif
     no such file
     Refused: no file of the folder has this name, or the place lies in no tile of the texture.
 worker 0 needed 1 cells, and 0 of them were among the two that it had needed last
-worker 1 needed 4 cells, and 3 of them were among the two that it had needed last
+worker 1 needed 4 cells, and 2 of them were among the two that it had needed last
+    For 1 of them no memory was found, and their texels were answered apart.
 """
 
 # Requests of one worker, what it wrote for each, and what is said of it.

@@ -94,8 +94,10 @@ def explained(requests, lines):
         if helps:
             yield f"    What helps: {helps.replace('{name}', shlex.quote(name_in(request)))}"
     for line in closing:
-        _, worker, _, needs, _, hits = line.split(" ")
+        _, worker, _, needs, _, hits, *apart = line.split(" ")
         yield f"worker {worker} needed {needs} cells, and {hits} of them were among the two that it had needed last"
+        if apart:
+            yield f"    For {apart[-1]} of them no memory was found, and their texels were answered apart."
 
 
 def main():

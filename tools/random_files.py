@@ -106,6 +106,7 @@ def some_words(dice):
     words += ["--budget", str(dice.choice([0, 1000, 100000]))] if dice.random() < 0.5 else []
     words += ["--shards", str(dice.randint(1, 8))] if dice.random() < 0.5 else []
     words += ["--handles", str(dice.randint(1, 3))] if dice.random() < 0.5 else []
+    words += ["--slots", "0"] if workers == 2 else []
     return words, workers
 
 

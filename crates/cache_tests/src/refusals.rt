@@ -8,31 +8,33 @@ use tex_world::{MemTap, Tap};
 use tiff_format::Cut;
 use waiter::GaveUp;
 
-// Budget, shards, passes, handles and autotile, and the number of the first that is out of its
-// range, or 0.
-static ROWS: &[(u64, [u32; 4], u32)] = &[
-    (0, [1, 1, 1, 0], 0),
-    (4294967296, [64, 16, 1024, 4096], 0),
-    (4294967297, [1, 1, 1, 16], 1),
-    (0, [0, 1, 1, 16], 2),
-    (0, [65, 1, 1, 16], 2),
-    (0, [1, 0, 1, 16], 3),
-    (0, [1, 17, 1, 16], 3),
-    (0, [1, 1, 0, 16], 4),
-    (0, [1, 1, 1025, 16], 4),
-    (0, [1, 1, 1, 8], 5),
-    (0, [1, 1, 1, 17], 5),
-    (0, [1, 1, 1, 4112], 5),
+// Budget, then shards, passes, handles, autotile and slots, and the number of the first that is out of
+// its range, or 0.
+static ROWS: &[(u64, [u32; 5], u32)] = &[
+    (0, [1, 1, 1, 0, 0], 0),
+    (4294967296, [64, 16, 1024, 4096, 65536], 0),
+    (4294967297, [1, 1, 1, 16, 0], 1),
+    (0, [0, 1, 1, 16, 0], 2),
+    (0, [65, 1, 1, 16, 0], 2),
+    (0, [1, 0, 1, 16, 0], 3),
+    (0, [1, 17, 1, 16, 0], 3),
+    (0, [1, 1, 0, 16, 0], 4),
+    (0, [1, 1, 1025, 16, 0], 4),
+    (0, [1, 1, 1, 8, 0], 5),
+    (0, [1, 1, 1, 17, 0], 5),
+    (0, [1, 1, 1, 4112, 0], 5),
+    (0, [1, 1, 1, 16, 65537], 6),
     // the first of several
-    (4294967297, [0, 0, 0, 1], 1),
-    (0, [0, 0, 0, 1], 2),
-    (0, [1, 0, 0, 1], 3),
-    (0, [1, 1, 0, 1], 4),
+    (4294967297, [0, 0, 0, 1, 65537], 1),
+    (0, [0, 0, 0, 1, 65537], 2),
+    (0, [1, 0, 0, 1, 65537], 3),
+    (0, [1, 1, 0, 1, 65537], 4),
+    (0, [1, 1, 1, 1, 65537], 5),
 ];
 
 // The number of the option that is refused, 0 where a cache is made.
-fn refused<T: Tap>(alloc: Global, budget: u64, numbers: [u32; 4]) -> u32 {
-    let [shards, passes, handles, autotile] = numbers;
+fn refused<T: Tap>(alloc: Global, budget: u64, numbers: [u32; 5]) -> u32 {
+    let [shards, passes, handles, autotile, slots] = numbers;
     let cut = Cut {
         autotile,
         automip: false,
@@ -43,6 +45,7 @@ fn refused<T: Tap>(alloc: Global, budget: u64, numbers: [u32; 4]) -> u32 {
         passes,
         handles,
         cut,
+        slots,
     };
     match Cache::<T>::new(alloc, options, 1) {
         Ok(_made) => 0,
