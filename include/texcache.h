@@ -62,7 +62,7 @@ extern "C" {
 enum texcache_status {
     TEXCACHE_OK = 0,
     TEXCACHE_NEEDED = 1,            /* bytes are lacking; no call of this header answers it */
-    TEXCACHE_BAD_OPTIONS = 2,       /* detail: 1 budget, 2 shards, 3 passes, 4 handles, 5 autotile */
+    TEXCACHE_BAD_OPTIONS = 2,       /* detail: 1 budget, 2 shards, 3 passes, 4 handles, 5 autotile, 6 slots */
     TEXCACHE_NO_FILE = 3,           /* no file has this number */
     TEXCACHE_BAD_REQUEST = 4,       /* a wrap, a filter, the channels or a derivative is out of range */
     TEXCACHE_SMALL_BUFFER = 5,      /* value: how many values there are */
@@ -118,6 +118,7 @@ typedef struct texcache_options {
     uint32_t passes;    /* the passes that there may be at once, 1 to 16; the cache keeps one for itself */
     uint32_t handles;   /* the files that may lie open, 1 to 1024 */
     uint32_t autotile;  /* the side of the cells of a stripped level: 0, or a multiple of 16 up to 4096 */
+    uint32_t slots;     /* for parts of rows that find no memory as tiles, 0 to 65536; some 1,100 bytes each */
     bool automip;       /* a file that stores one level has those down to 1 by 1 */
 } texcache_options;
 
@@ -175,7 +176,7 @@ typedef struct texcache_tile {
 
 /* What a pass has counted. */
 typedef struct texcache_counts {
-    uint64_t needs, hits, holds;
+    uint64_t needs, hits, apart, holds;
     uint32_t shards;
 } texcache_counts;
 
@@ -552,7 +553,7 @@ static inline void texc_leave(texcache_pass *pass)
 /* The options of the program where none are given. */
 TEXCACHE_API texcache_options texcache_default_options(void)
 {
-    texcache_options o = {UINT64_C(268435456), 16, 16, 100, 64, true};
+    texcache_options o = {UINT64_C(268435456), 16, 16, 100, 64, 1024, true};
     return o;
 }
 

@@ -33,7 +33,7 @@ class _Struct(ctypes.Structure):
 class Options(_Struct):
     """What a cache is made with: texcache_options."""
     _fields_ = [("budget", c_uint64), ("shards", c_uint32), ("passes", c_uint32), ("handles", c_uint32),
-                ("autotile", c_uint32), ("automip", c_bool)]
+                ("autotile", c_uint32), ("slots", c_uint32), ("automip", c_bool)]
 
 
 class Answer(_Struct):
@@ -67,7 +67,7 @@ class Tile(_Struct):
 
 
 class Counts(_Struct):
-    _fields_ = [("needs", c_uint64), ("hits", c_uint64), ("holds", c_uint64), ("shards", c_uint32)]
+    _fields_ = [("needs", c_uint64), ("hits", c_uint64), ("apart", c_uint64), ("holds", c_uint64), ("shards", c_uint32)]
 
 
 class Statistics(_Struct):
@@ -131,7 +131,7 @@ def _shaped(values, *sides):
 
 
 class Cache:
-    """A cache of the plain files of a folder. Options: budget, shards, passes, handles, autotile, automip."""
+    """A cache of the plain files of a folder. Options: budget, shards, passes, handles, autotile, slots, automip."""
 
     def __init__(self, folder, **options):
         self._at, made, bad = c_void_p(), _lib.texcache_default_options(), Answer()

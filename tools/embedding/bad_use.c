@@ -173,14 +173,15 @@ static void options_out_of_range(const char *folder)
 {
     texcache *cache = NULL;
     uint32_t bad = 0;
-    texcache_options o[5];
-    for (int i = 0; i < 5; i++) o[i] = texcache_default_options();
+    texcache_options o[6];
+    for (int i = 0; i < 6; i++) o[i] = texcache_default_options();
     o[0].budget = UINT64_C(4294967297);
     o[1].shards = 65;
     o[2].passes = 17;
     o[3].handles = 0;
     o[4].autotile = 65;
-    for (uint32_t i = 0; i < 5; i++) {
+    o[5].slots = 65537;
+    for (uint32_t i = 0; i < 6; i++) {
         SAYS(texcache_open_saying(&cache, folder, &o[i], &bad), TEXCACHE_BAD_OPTIONS);
         IS(bad == i + 1 && !cache);
     }

@@ -25,6 +25,7 @@ options_of o = record {
   passes = o.passes;
   handles = o.handles;
   cut = record { autotile = o.autotile; automip = o.automip };
+  slots = o.slots;
 }
 
 -- a new cache of so many files, and its first pass

@@ -32,14 +32,19 @@ pub struct Client {
     twice: PassCounts,
 }
 
-/// Needs and hits.
+/// Needs, hits, and needs that are answered apart.
 #[derive(Clone, Copy, Debug)]
 struct PassCounts {
     needs: u64,
     hits: u64,
+    apart: u64,
 }
 
-const NO_COUNTS: PassCounts = PassCounts { needs: 0, hits: 0 };
+const NO_COUNTS: PassCounts = PassCounts {
+    needs: 0,
+    hits: 0,
+    apart: 0,
+};
 
 impl Model for Client {
     ghost use Rattle.std.specs.Prelude.{◌≡◌, ◌≤◌};
@@ -142,6 +147,9 @@ impl Client {
             hits: twice
                 .hits
                 .saturating_add(now.hits.saturating_sub(begun.hits)),
+            apart: twice
+                .apart
+                .saturating_add(now.apart.saturating_sub(begun.apart)),
         };
     }
 
@@ -150,6 +158,7 @@ impl Client {
         PassCounts {
             needs: self.pass.needs(),
             hits: self.pass.hits(),
+            apart: self.pass.apart(),
         }
     }
 
@@ -161,6 +170,11 @@ impl Client {
     /// How many of these the microcache had.
     pub(crate) fn hits(&self) -> u64 {
         self.pass.hits().saturating_sub(self.twice.hits)
+    }
+
+    /// How many were answered apart.
+    pub(crate) fn apart(&self) -> u64 {
+        self.pass.apart().saturating_sub(self.twice.apart)
     }
 
     /// What a refused round says: what is lacking, where it was refused for that, else its cause.

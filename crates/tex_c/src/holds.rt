@@ -58,6 +58,8 @@ pub struct TexCounts {
     pub needs: u64,
     /// How many of these its microcache had.
     pub hits: u64,
+    /// How many were answered apart, since no memory was found for a tile.
+    pub apart: u64,
     /// How many tiles it holds.
     pub holds: u64,
     /// How many shards the cache has.
@@ -125,6 +127,7 @@ impl Client {
         *out = TexCounts {
             needs: self.needs(),
             hits: self.hits(),
+            apart: self.apart(),
             holds: self.pass.held_count() as u64,
             shards: self.cache.shards(),
         };

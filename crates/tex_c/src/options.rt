@@ -19,6 +19,8 @@ pub struct TexOptions {
     pub handles: u32,
     /// The side of the cells of a stripped level: 0, or a multiple of 16 up to 4096.
     pub autotile: u32,
+    /// The slots for parts of rows that find no memory as tiles, 0 to 65536.
+    pub slots: u32,
     /// Whether levels are generated.
     pub automip: bool,
 }
@@ -37,6 +39,7 @@ impl TexOptions {
                 autotile: self.autotile,
                 automip: self.automip,
             },
+            slots: self.slots,
         }
     }
 }
