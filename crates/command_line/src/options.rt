@@ -5,8 +5,9 @@ ghost use Rattle.clap.specs.Words.{first_of, found_of, rows_of};
 ghost use Rattle.command_line.specs.Range.{Takes};
 ghost use Rattle.command_line.specs.Options as spec;
 
-use crate::range::{AUTOTILE, BUDGET, HANDLES, NumberRange, SHARDS, SLOTS, WORKERS};
-use crate::range::number_or_default;
+use crate::range::{
+    AUTOTILE, BUDGET, HANDLES, NumberRange, SHARDS, SLOTS, WORKERS, number_or_default,
+};
 use clap::ArgMatches;
 use tiff_format::Cut;
 

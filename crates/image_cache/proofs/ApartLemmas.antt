@@ -1,7 +1,7 @@
 -- Which of the tiles that a pass holds is that of a cell, and which values have the samples of a part?
-use Rattle.std.proofs.Common.{◌≡◌, ℕ, zero, suc, ◌<◌, ◌≤◌, ◌∙◌, refl, sym, ap, subst, false, arith, List, [], ◌∷◌}
-use Rattle.std.proofs.Common.{length, map, Option, Some, None, Result, Ok, Err}
-use Rattle.std.specs.Prelude.{slice_get, slice_index_or, IsTrue, IsOkAnd, IfOk, IsSomeAnd, slice_index}
+use Rattle.std.proofs.Common.{◌≡◌, ℕ, zero, suc, ◌<◌, ◌≤◌, ◌∙◌, refl, ap, subst, false, arith, List, [], ◌∷◌}
+use Rattle.std.proofs.Common.{length, map, Some, Result, Ok, Err}
+use Rattle.std.specs.Prelude.{slice_get, slice_index_or, IsTrue, IsOkAnd, IfOk, slice_index}
 use Rattle.std.specs.List.{All}
 use Rattle.std.proofs.lemmas.List.Elements.{All-head, All-tail}
 use Rattle.tex_world.specs.World.{Files, IsWorld}

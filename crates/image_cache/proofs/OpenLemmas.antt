@@ -1,5 +1,5 @@
 -- What does a call leave that opens a file, reads by its record and keeps that?
-use Rattle.std.proofs.Common.{◌≡◌, ℕ, ◌<◌, ◌≤◌, ◌∙◌, sym, ap, subst, inl, inr, arith}
+use Rattle.std.proofs.Common.{◌≡◌, ℕ, ◌<◌, ◌≤◌, ◌∙◌, sym, subst, inl, inr, arith}
 use Rattle.std.proofs.Common.{Option, Some, Result, Ok, Err, slice_index}
 use Rattle.std.specs.Prelude.{IsSomeAnd, IfErr}
 use Rattle.tex_world.specs.World.{Files}
@@ -8,7 +8,7 @@ use Rattle.gen_board.specs.View.{ViewState}
 use Rattle.tiff_format.specs.declared.cut.Cut.{Cut}
 use Rattle.shard_gate.specs.Gate.{GateState}
 use Rattle.file_table.specs.Record.{RecordState}
-use Rattle.file_table.specs.Calls.{KeepsView, LooksOnce, GivesRecord, OpensOnce, OpensIfAtAll}
+use Rattle.file_table.specs.Calls.{KeepsView, LooksOnce, GivesRecord, OpensIfAtAll}
 use Rattle.file_table.specs.Calls.{sighted}
 use Rattle.image_cache.specs.Pass.{PassState}
 use Rattle.image_cache.specs.Pass.{KeepsAllBut, view_and_record}

@@ -1,7 +1,7 @@
 -- What do the steps of a call by a record leave, one after another?
 use Rattle.std.proofs.Common.{◌≡◌, ◌⊎◌, ℕ, ◌≤◌, ◌∙◌, refl, sym, ap, subst, arith, inl, inr}
 use Rattle.std.proofs.Common.{length, Option, None, Some, Result, Ok, Err}
-use Rattle.std.specs.Prelude.{IfSome, IfErr, ⊤, slice_index}
+use Rattle.std.specs.Prelude.{IfSome, ⊤, slice_index}
 use Rattle.std.specs.Result.{IsErrAnd}
 use Rattle.tex_world.specs.declared.tap.Tap as a_tap
 use Rattle.tex_world.specs.declared.tap.TapHandle as a_handle
@@ -11,7 +11,6 @@ use Rattle.tex_world.specs.Tap.{TapState}
 use Rattle.gen_board.specs.View.{ViewState}
 use Rattle.shard_gate.specs.Gate.{GateState, PinSeatState}
 use Rattle.shard_gate.specs.Since.{PurgesNone, Misses}
-use Rattle.shard_gate.specs.declared.error.PinError.{PinError}
 use Rattle.shard_gate.specs.declared.error.PinError.TheVariants as unpinned
 use Rattle.shard_gate.proofs.SinceLemmas.{purges_none_chain, misses_before}
 use Rattle.file_table.specs.Calls.{KeepsView}
@@ -20,15 +19,15 @@ use Rattle.pinned_tiles.specs.Pinned.{PinnedState}
 use Rattle.image_cache.specs.declared.error.CacheError.{CacheError}
 use Rattle.image_cache.specs.declared.error.CacheError.TheVariants as refused
 use Rattle.image_cache.specs.declared.reading.Reading.{Reading}
-use Rattle.image_cache.specs.Pass.{CacheState, PassState, SamePlace, SameCounts, IsPassOf}
-use Rattle.image_cache.specs.Call.{AfterNeed, CountsOn, HasNoCall, LeavesNoHand, NoneFalls}
+use Rattle.image_cache.specs.Pass.{PassState, SamePlace, SameCounts}
+use Rattle.image_cache.specs.Call.{NoneFalls}
 use Rattle.image_cache.specs.Pass.{KeepsAllBut, its_holds}
-use Rattle.image_cache.specs.Cause.{StepCause, FetchCause, IsAgain, MovesOnlyAgain, of_pin}
+use Rattle.image_cache.specs.Cause.{FetchCause}
 use Rattle.image_cache.specs.Reading.{MeetsOnlyAgain, PassTap, StepsAt, ReadsAt, ReadsOn, HoldsOn, moment}
 use Rattle.image_cache.specs.Reading.{IsSameCall, Steps, Makes, Brings, Reads, IsCold, refusal}
 use Rattle.image_cache.proofs.FillLemmas.{after_chain, after_none, none_fell, none_falls_chain}
 use Rattle.image_cache.proofs.FillLemmas.{hand_chain}
-use Rattle.image_cache.proofs.MakingLemmas.{cause_before, rises_before}
+use Rattle.image_cache.proofs.MakingLemmas.{cause_before}
 use Rattle.image_cache.proofs.VisitLemmas.{visits_same}
 
 -- ---- refusals

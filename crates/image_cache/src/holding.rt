@@ -133,11 +133,7 @@ impl<T: Tap> Cache<T> {
     }
 
     /// The pin of a tile is given back that stays in hand where a waiter gave up. It takes no memory.
-    pub fn release_hand<V: Waiter>(
-        &self,
-        waiter: &V,
-        pass: &mut Pass<T::W>,
-    ) -> Result<(), V::Busy>
+    pub fn release_hand<V: Waiter>(&self, waiter: &V, pass: &mut Pass<T::W>) -> Result<(), V::Busy>
         requires pass { IsPassOf self.now pass.old }
         ensures ok { OnOk result (pass.new.pinned.hand ≡ None) }
         ensures err { OnErr result (pass.new.pinned.hand ≡ pass.old.pinned.hand) }

@@ -1,4 +1,4 @@
-use Rattle.std.proofs.Common.{◌≡◌, ◌<◌, length, arith}
+use Rattle.std.proofs.Common.{◌≡◌, length, arith}
 use Rattle.render_run.proofs.PinLemmas.{all_counted}
 use Rattle.render_run.proofs.worker.counts_of_shards.Goals as goal
 

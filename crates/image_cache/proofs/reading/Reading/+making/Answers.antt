@@ -1,5 +1,5 @@
 -- The steps of making a tile, one after another.
-use Rattle.std.proofs.Common.{◌≡◌, ◌∙◌, refl, sym, ap, subst, inl, arith}
+use Rattle.std.proofs.Common.{◌∙◌, refl, sym, ap, subst, inl, arith}
 use Rattle.tiff_format.specs.declared.cut.Cut.{Cut}
 use Rattle.tile_load.specs.Halving.{HalvingState}
 use Rattle.shard_gate.specs.Gate.{HasCellRect}

@@ -1,5 +1,5 @@
 -- The values are those of the samples, which are the texel's.
-use Rattle.std.proofs.Common.{◌≡◌, subst, sym, rules, length}
+use Rattle.std.proofs.Common.{◌≡◌, subst, rules, length}
 use Rattle.std.specs.Prelude.{IfOk}
 use Rattle.tile_layout.specs.Cell.{bit_depth_in, channels_in}
 use Rattle.file_table.specs.Record.{RecordState}
