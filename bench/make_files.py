@@ -1,10 +1,11 @@
 #!/usr/bin/env python3
 """Writes the pictures and the request lists of the benchmark into a folder:
-`python3 make_files.py FOLDER`. It takes 1.4 GB, and lists of 150 MB.
+`python3 make_files.py FOLDER`. It takes 1.7 GB, and lists of 150 MB.
 
 The pictures are uncompressed TIFF 6.0, as docs/FORMAT.md has it, of random samples that are the same
 at each run. `main` has a tiled picture with stored levels and two large stripped ones, `many` 64
-files of 16 MB, `small` 4,000 files of 12 KB, `none` nothing. The lists are those of rows.py, two for
+files of 16 MB, `small` 4,000 files of 12 KB, `levels` 400 files of nine levels, `turn` eight stripped
+files and a wide one, `none` nothing. The lists are those of rows.py, two for
 each row, as ROW.short and ROW.long in the folder `lists`, and for the count of instructions smaller
 ones.
 """
@@ -16,7 +17,8 @@ import sys
 from pathlib import Path
 from typing import NamedTuple
 
-from rows import LARGE, MANY, MANY_SIDE, MANY_TILE, ROWS, SIDE, SMALL, SMALL_SIDE, TILE
+from rows import (LARGE, LEVELS, LEVELS_SIDE, MANY, MANY_SIDE, MANY_TILE, ROWS, SIDE, SMALL, SMALL_SIDE, TILE, TURN,
+                  TURN_SIDE, WIDE_SIZE)
 
 NEEDED_BYTES = 2 * 10 ** 9
 CHANNELS = 3
@@ -105,7 +107,7 @@ def write_picture(path, levels, noise):
 
 def write_pictures(folder):
     noise = random.Random(1)
-    for name in ("main", "many", "small", "none"):
+    for name in ("main", "many", "small", "levels", "turn", "none"):
         (folder / name).mkdir(parents=True, exist_ok=True)
     write_picture(folder / "main" / "t.tif", halved(Level(SIDE, SIDE, tile=TILE)), noise)
     for name, side in LARGE.items():
@@ -114,6 +116,11 @@ def write_pictures(folder):
         write_picture(folder / "many" / name, [Level(MANY_SIDE, MANY_SIDE, tile=MANY_TILE)], noise)
     for name in SMALL:
         write_picture(folder / "small" / name, [Level(SMALL_SIDE, SMALL_SIDE, tile=SMALL_SIDE)], noise)
+    for name in LEVELS:
+        write_picture(folder / "levels" / name, halved(Level(LEVELS_SIDE, LEVELS_SIDE, tile=TILE)), noise)
+    for name in TURN:
+        write_picture(folder / "turn" / name, [Level(TURN_SIDE, TURN_SIDE, rows=32)], noise)
+    write_picture(folder / "turn" / "wide.tif", [Level(*WIDE_SIZE, rows=32)], noise)
 
 
 def write_lists(folder, rows):

@@ -14,6 +14,11 @@ MANY = [f"f{number:02}.tif" for number in range(64)]
 MANY_SIDE, MANY_TILE = 2304, 64
 SMALL = [f"s{number:04}.tif" for number in range(4000)]
 SMALL_SIDE = 64
+LEVELS = [f"l{number:03}.tif" for number in range(400)]
+LEVELS_SIDE = 256
+TURN = [f"r{number}.tif" for number in range(8)]
+TURN_SIDE = 2048
+WIDE_SIZE = (32768, 512)
 
 WRAPS = ("black", "clamp", "periodic", "mirror")
 FILTERS = ("closest", "bilinear", "trilinear")
@@ -88,15 +93,29 @@ def stripped_anywhere(many):
                 "strip.tif") for _ in range(many)]
 
 
-def generated(is_all):
+def generated(is_all, name="gen.tif"):
     """The size of a picture with one stored level; then a lookup in each cell of its generated levels."""
-    found, side = ["info gen.tif"], LARGE["gen.tif"]
-    for level in range(1, 13 if is_all else 1):
+    found, side = [f"info {name}"], LARGE[name]
+    for level in range(1, side.bit_length() if is_all else 1):
         long = side >> level
         middles = range(min(TILE, long) // 2, long, TILE)
-        found += [tex(at(x, long, 0), at(y, long, 0), level * ONE, ("clamp", "clamp"), "closest", 3, "gen.tif")
+        found += [tex(at(x, long, 0), at(y, long, 0), level * ONE, ("clamp", "clamp"), "closest", 3, name)
                   for y in middles for x in middles]
     return found
+
+
+def in_turn(rows):
+    """A lookup in each cell of the first rows of eight stripped pictures, the pictures in turn."""
+    middles = range(TILE // 2, TURN_SIDE, TILE)
+    return [tex(at(x, TURN_SIDE, 0), at(y, TURN_SIDE, 0), 0, ("clamp", "clamp"), "closest", 3, name)
+            for y in range(TILE // 2, rows, TILE) for x in middles for name in TURN]
+
+
+def wide_scan(rows):
+    """A lookup in each cell of the first rows of a picture whose rows of cells have more than 4 MiB."""
+    width, height = WIDE_SIZE
+    return [tex(at(x, width, 0), at(y, height, 0), 0, ("clamp", "clamp"), "closest", 3, "wide.tif")
+            for y in range(TILE // 2, rows, TILE) for x in range(TILE // 2, width, TILE)]
 
 
 class Row(NamedTuple):
@@ -165,14 +184,22 @@ def all_rows():
                 few=info[:200], more=info[:1000], more_units=800)
     yield grown("open", "opening 4,000 files: one lookup", "file", "small", look[:1000], look,
                 few=look[:200], more=look[:1000], more_units=800)
+    levels = [f"info {name}" for name in LEVELS]
+    yield grown("levels", "opening 400 files of nine levels: the size", "file", "levels", levels[:100], levels)
     yield grown("strips", "stripped 8192 by 8192, in scan order", "lookup", "main",
                 stripped_scan(1024), stripped_scan(8192), options=STRIPS)
     yield grown("strips_random", "stripped 8192 by 8192, at random", "lookup", "main",
                 stripped_anywhere(100), stripped_anywhere(6000), options=STRIPS)
     yield grown("strips_budget", "the same, budget 64 MB", "lookup", "main",
                 stripped_anywhere(100), stripped_anywhere(1100), options=(*STRIPS, *BUDGET))
+    yield grown("turn", "eight stripped files of 2048 by 2048 in turn", "cell", "turn",
+                in_turn(256), in_turn(2048), options=STRIPS)
+    yield grown("wide", "stripped 32768 by 512, in scan order", "cell", "turn",
+                wide_scan(128), wide_scan(512), options=STRIPS)
     yield Row("generated", "generated levels of 4096 by 4096, all", "picture", "main",
               generated(False), generated(True), 1)
+    yield Row("generated_large", "generated levels of 8192 by 8192, all", "picture", "main",
+              generated(False, "strip.tif"), generated(True, "strip.tif"), 1)
     yield Row("start", "start-up, an empty folder and list", "start", "none", None, [], 1, workers=(1,))
     yield Row("start_many", "start-up, a folder of 4,000 files", "start", "small", None, [], 1, workers=(1,))
 

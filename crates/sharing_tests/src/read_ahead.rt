@@ -425,7 +425,7 @@ static ROWS: &[(&str, &[Step])] = &[
         ],
     ),
     (
-        "what was read ahead is kept of four files",
+        "what was read ahead is kept of five files",
         &[
             (Load(0, 0, (0, 0)), Cell(1), 6),
             (Load(0, 0, (16, 0)), Cell(1), 1),
@@ -438,10 +438,11 @@ static ROWS: &[(&str, &[Step])] = &[
             (Load(0, 0, (32, 0)), Cell(1), 0),
             (Aheads, Kept(4), 0),
             (Load(0, 4, (0, 0)), Cell(1), 6),
-            (Aheads, Kept(4), 0),
+            (Aheads, Kept(5), 0),
             (Load(0, 0, (48, 0)), Cell(1), 1),
             (Load(0, 0, (64, 0)), Cell(1), 0),
-            (Load(0, 1, (32, 0)), Cell(1), 1),
+            (Load(0, 1, (32, 0)), Cell(1), 0),
+            (Forget(1), Done, 0),
             (Aheads, Kept(4), 0),
         ],
     ),
