@@ -186,12 +186,19 @@ SeatAfter unused old new = new.pinned.seat ≡ old.pinned.seat
 SeatAfter visiting old new = new.pinned.seat.pins ≡ old.pinned.seat.pins
 SeatAfter pinning old new = ⊤
 
--- Which of its tiles stay: all, those that it holds, or those of its microcache?
+-- Which of its tiles stay: all, all but the one in hand, those that it holds, or those of its
+-- microcache?
 pub data TilesKept : Type 0 where
   all_stay : TilesKept
+  both_stay : TilesKept
   holds_stay : TilesKept
   recent_stay : TilesKept
   some_stay : TilesKept
+
+-- Its microcache and its holds are as they were.
+pub record SameKept (old new : PassState) : Type 0 where
+  pub recent : new.pinned.recent ≡ old.pinned.recent
+  pub holds : new.pinned.holds ≡ old.pinned.holds
 
 -- Its holds and its hand are as they were, and its microcache has two tiles at most.
 pub record SameHolds (old new : PassState) : Type 0 where
@@ -201,6 +208,7 @@ pub record SameHolds (old new : PassState) : Type 0 where
 
 abbrev pub TilesAfter : TilesKept → PassState → PassState → Type 0
 TilesAfter all_stay old new = SameTiles old new
+TilesAfter both_stay old new = SameKept old new
 TilesAfter holds_stay old new = SameHolds old new
 TilesAfter recent_stay old new = new.pinned.recent ≡ old.pinned.recent
 TilesAfter some_stay old new = ⊤
@@ -243,6 +251,10 @@ view_and_record = record nothing { view = true; latest = true }
 
 abbrev pub its_visits : Parts
 its_visits = record nothing { seat = visiting }
+
+-- the tile in hand
+abbrev pub its_hand : Parts
+its_hand = record nothing { seat = pinning; tiles = both_stay }
 
 -- the tiles that it holds, with the hand by which they come and go
 abbrev pub its_holds : Parts

@@ -37,7 +37,7 @@ pub struct Cache<T: Tap> {
 }
 
 impl<T: Tap> Model for Cache<T> {
-    ghost use Rattle.std.specs.Prelude.{◌≡◌, ◌≤◌, length};
+    ghost use Rattle.std.specs.Prelude.{◌≡◌, ◌<◌, ◌≤◌, length};
     ghost use Rattle.shard_gate.specs.Gate.{max_shards};
     ghost use Rattle.image_cache.specs.Pass.{CacheState, cache_state, IsCache};
 
@@ -47,7 +47,7 @@ impl<T: Tap> Model for Cache<T> {
 
     ghost invariant = { λ c.
         (IsCache (cache_state c.files c.gate)
-        × ((c.shards ≡ length c.gate.id) × (c.shards ≤ max_shards)))
+        × ((c.shards ≡ length c.gate.id) × ((0 < c.shards) × (c.shards ≤ max_shards))))
         × (c.cut ≡ c.gate.cut) };
 }
 
@@ -81,6 +81,7 @@ impl<T: Tap> Cache<T> {
     /// How many shards its tiles lie in, 1 to 64.
     pub fn shards(&self) -> u32
         ensures value { result ≡ length self.now.gate.id }
+        ensures some { 0 < result }
         ensures few { result ≤ max_shards }
     {
         self.shards

@@ -9,7 +9,7 @@ ghost use Rattle.image_cache.specs.Texel.{IsGivenBy, IsCellOf};
 ghost use Rattle.image_cache.specs.Reading.{refusal, moment, IsSameCall, TakesHold, HoldsOn};
 ghost use Rattle.image_cache.specs.Call.{AfterCall, AfterRecordStep, KeepsGiven, KeepsOne, KeepsRecent};
 ghost use Rattle.image_cache.specs.Call.{HoldsCell, LeavesNoHand, NoneFalls};
-ghost use Rattle.image_cache.specs.Pass.{KeepsAllBut, its_holds};
+ghost use Rattle.image_cache.specs.Pass.{KeepsAllBut, its_hand, its_holds};
 ghost use Rattle.image_cache.specs.Cause.{around, HasCause, NoFurtherHold, TileRefuses};
 ghost use Rattle.image_cache.specs.Cause.{StepCause, ReleaseCause};
 
@@ -130,6 +130,21 @@ impl<T: Tap> Cache<T> {
             Ok(()) => Ok(()),
             Err(busy) => Err(NotReleased::Busy(busy)),
         }
+    }
+
+    /// The pin of a tile is given back that stays in hand where a waiter gave up. It takes no memory.
+    pub fn release_hand<V: Waiter>(
+        &self,
+        waiter: &V,
+        pass: &mut Pass<T::W>,
+    ) -> Result<(), V::Busy>
+        requires pass { IsPassOf self.now pass.old }
+        ensures ok { OnOk result (pass.new.pinned.hand ≡ None) }
+        ensures err { OnErr result (pass.new.pinned.hand ≡ pass.old.pinned.hand) }
+        ensures same { KeepsAllBut its_hand pass.old pass.new }
+        ensures visits { PurgesNone self.now.gate pass.old.pinned.seat pass.new.pinned.seat }
+    {
+        pass.pinned.release_hand(&self.gate, waiter)
     }
 }
 

@@ -36,6 +36,7 @@ gathered_more crew i a b so_far more here w low = dite (ℕ_discrete w i)
 pub gives_more : (a b c : PassState) → GivesOn a b → GivesOn b c → GivesOn a c
 gives_more a b c first second = record {
   seen = second.seen ∙ first.seen;
+  permits = second.permits ∙ first.permits;
   holds = second.holds ∙ first.holds;
   tally = second.tally ∙ first.tally;
 }
@@ -46,6 +47,7 @@ gives_more a b c first second = record {
 on_more : (a b c : Sight) → SightsOn a b → SightsOn b c → SightsOn a c
 on_more a b c first second = record {
   seen = λ n. omega (arith, first.seen n, second.seen n);
+  permits = second.permits ∙ first.permits;
   holds = second.holds ∙ first.holds;
   tally = second.tally ∙ first.tally;
   source = second.source ∙ first.source;
@@ -66,7 +68,13 @@ module _ (first crew : List Sight) (i : ℕ) (s : Sight) (low : i < length crew)
 pub see_same : (crew : List Sight) → SeeNoLess crew crew
 see_same crew = record {
   count = refl;
-  each = λ w low. record { seen = λ n. omega arith; holds = refl; tally = refl; source = refl };
+  each = λ w low. record {
+    seen = λ n. omega arith;
+    permits = refl;
+    holds = refl;
+    tally = refl;
+    source = refl;
+  };
 }
 
 -- the taps together are as they were
@@ -163,11 +171,17 @@ module _ {A : Type 0} (sight : A → Sight) where
 
 module _ (whole : List Sight) (f0 f1 : Sight) (o0 mid o1 : List Sight) (seen : List ℕ)
     (is : whole ≡ f0 ∷ o0) (same : mid ≡ o0) (own : SeesNoLess f0.seen seen)
-    (then_seen : f1.seen ≡ seen) (holds : f1.holds ≡ f0.holds) (tally : f1.tally ≡ f0.tally)
-    (source : f1.source ≡ f0.source)
+    (then_seen : f1.seen ≡ seen) (permits : f1.permits ≡ f0.permits) (holds : f1.holds ≡ f0.holds)
+    (tally : f1.tally ≡ f0.tally) (source : f1.source ≡ f0.source)
     (kept : SeeNoLess mid o1) where
   first_on : SightsOn f0 f1
-  first_on = record { seen = rw then_seen own; holds = holds; tally = tally; source = source }
+  first_on = record {
+    seen = rw then_seen own;
+    permits = permits;
+    holds = holds;
+    tally = tally;
+    source = source;
+  }
 
   pub carry_kept : SeeNoLess whole (f1 ∷ o1)
   carry_kept = rw is (both_see f0 f1 o0 o1 first_on (rw (← same) kept))

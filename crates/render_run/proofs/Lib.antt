@@ -12,6 +12,7 @@ mod CrewLemmas
 mod TallyLemmas
 mod VisitCounts
 mod NeedLemmas
+mod PinLemmas
 mod WorkerLemmas
 mod Naming
 mod OneMore

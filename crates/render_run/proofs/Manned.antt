@@ -2,7 +2,7 @@
 use Rattle.std.proofs.Common.{◌≡◌, ℕ, zero, suc, ◌+◌, List, [], ◌∷◌, ◌++◌, length, map, set, take, drop, refl, sym, ap, subst, ◌∙◌, arith}
 use Rattle.std.specs.List.{All, sum_by}
 use Rattle.std.proofs.Math.Seq.{take-append_seam}
-use Rattle.std.proofs.lemmas.List.{length-append, map-append}
+use Rattle.std.proofs.lemmas.List.{length-append, length-map, map-append}
 use Rattle.std.proofs.lemmas.List.Elements.{All-push, All-set, All-map}
 use Rattle.std.proofs.lemmas.List.Sums.{sum_by_push, sum_by-cons}
 use Rattle.tex_world.specs.Tap.{TapState}
@@ -12,7 +12,8 @@ use Rattle.render_run.specs.declared.round.Post.{Post}
 use Rattle.render_run.specs.Around.{Sight, SourceState, source_of_crew, no_sight}
 use Rattle.render_run.specs.Around.{tally_of, no_tally}
 use Rattle.render_run.specs.Crew.{IsNewPost, MakesMore, TakesBack, GivesMore, AreIdle}
-use Rattle.render_run.specs.Posts.{AddsPost, AreNew, ArePassesOf, sight, sights_of}
+use Rattle.render_run.specs.Answering.{HasAllAlone}
+use Rattle.render_run.specs.Posts.{AddsPost, AreNew, ArePassesOf, HasPermitsAlone, sight, sights_of}
 use Rattle.render_run.specs.Written.{LeavesTaps}
 
 -- ---- made
@@ -111,6 +112,16 @@ module _ {T W H : Type 0} (state : T → TapState) (cache : CacheState) where
     tally = same_tally p.worker.pass (all 0 p (omega arith)).fresh;
   }
   crew_idle (p ∷ ps) all (suc w) = crew_idle ps (λ k d lt. all (suc k) d (omega arith)) w
+
+  -- one alone has all permits
+  pub crew_alone : (workers passes : ℕ) (pass : PassState) (posts : List (Post T W H))
+      → length posts ≡ workers → pass.pinned.seat.permits ≡ passes
+      → HasPermitsAlone workers pass posts → HasAllAlone passes (sights_of state posts)
+  crew_alone workers passes pass [] long all has single = absurd (cc single)
+  crew_alone workers passes pass (p ∷ ps) long all has single =
+      let count : workers ≡ 1 = sym long
+      ∙ sym (length-map (p ∷ ps) (λ q. sight state q.worker)) ∙ single in
+      has count 0 p (omega arith) ∙ all
 
   -- the pass of each is one of the cache's
   pub crew_passes : (posts : List (Post T W H)) → AreNew state cache posts

@@ -105,8 +105,10 @@ module _ (files : Files) (terms : Terms) (old new : Sight) where
       → AnswersTask files terms (Tile file (Look r)) old new NoMemory
   unnamed file r one = record {
     meets = meets_none file r;
+    pins = one.pins;
     after = record {
       later = one.after.later;
+      permits = one.after.permits;
       fresh = λ n is. record {
         later = one.after.later n;
         early = λ g none. absurd (cc (none));
@@ -121,6 +123,7 @@ module _ (files : Files) (terms : Terms) (old new : Sight) where
       are = needs_none file r one.tallies.needed one.tallies.are;
       few = one.tallies.few;
       least = one.tallies.least;
+      later = one.tallies.later;
       counts = one.tallies.counts;
     };
   }

@@ -361,7 +361,7 @@ module _ (files : Files) (cut : Cut) (file generation : ℕ) (old new : PassStat
         ∙ ap (λ (k : Kept). keys_by generation file cut k) (sym layout.1)))
         (rw length-map (let few = visits_few (sizes_by state.cut state.layout) r in
         omega (arith, few)))
-        (count ∙ ap (counted_together old.needs) (sym length-map)) on.apart
+        (rw length-map count) on.apart
         (λ none. subst (λ (l : Result Kept TiffFault). IfOk l (λ (k : Kept). Needs files
         (look_keys_on state.generation state.file state.cut k visits) old new)) is
         (needs (none_apart old new on.apart none))) full

@@ -1,6 +1,6 @@
 -- One line more, and the lines of one round more.
 use Rattle.std.proofs.Common.{◌≡◌, ◌≢◌, inl, inr, ℕ, ◌+◌, ◌%◌, ◌<◌, ◌≤◌, List, [], ◌∷◌, ◌++◌, eqb}
-use Rattle.std.proofs.Common.{Bool, set, ◌&&◌}
+use Rattle.std.proofs.Common.{Bool, IsTrue, set, ◌&&◌}
 use Rattle.std.proofs.Common.{map, length, get_or, slice_index, refl, sym, ap, subst, ◌∙◌}
 use Rattle.std.proofs.Common.{append_assoc, arith}
 use Rattle.std.specs.List.{All, count_by, range_with_len}
@@ -13,7 +13,8 @@ use Rattle.request_lang.specs.declared.answer.Answer.{Answer}
 use Rattle.request_lang.specs.Basis.{basis_of, is_fault, is_move}
 use Rattle.tex_world.specs.World.{Files}
 use Rattle.render_run.specs.declared.question.Task.{Task}
-use Rattle.render_run.specs.Around.{SourceState, Sight, Terms, Setup, sight_at, source_of_crew}
+use Rattle.render_run.specs.Around.{SourceState, Sight, Tally, Terms, Setup, sight_at}
+use Rattle.render_run.specs.Around.{source_of_crew}
 use Rattle.render_run.specs.Question.{task_of, file_in}
 use Rattle.render_run.specs.Dealing.{Place, place}
 use Rattle.render_run.specs.Reply.{Line, Meets, MeetsAll}
@@ -23,17 +24,21 @@ use Rattle.render_run.specs.Run.{read_faults, agains}
 use Rattle.render_run.specs.Held.{one_if, is_hold, is_drop, holds_by, drops_by, IsCounted, AreCounted}
 use Rattle.render_run.specs.Crew.{AreCarried, SeeNoLess}
 use Rattle.render_run.specs.Answering.{AnswersTask, AnswersEach, AnswersInTurn, IsSeenOf, IsKnownTo}
-use Rattle.render_run.specs.Answering.{AreLinesSoFar}
+use Rattle.render_run.specs.Answering.{AreLinesSoFar, HasAllAlone}
+use Rattle.micro.specs.Recent.{recent}
+use Rattle.pinned_tiles.specs.Pinned.{key_in}
+use Rattle.render_run.specs.Pins.{TellsPins}
+use Rattle.render_run.specs.Counted.{TellsItsPins, TellTheirPins, needed_by, tiles_by}
 use Rattle.render_run.proofs.Sums.{at_same, at_other, crew_on, crew_cause}
 use Rattle.render_run.proofs.CrewLemmas.{crew_source}
 use Rattle.std.proofs.Math.Nat.{mod-lt}
 use Rattle.std.proofs.lemmas.Bool.{eq-eqb, ne_eqb}
-use Rattle.std.proofs.lemmas.List.{length-set}
+use Rattle.std.proofs.lemmas.List.{length-map, length-set}
 use mathlib.Core.Logic.{dite}
 use native.Mathlib.Decide.{ℕ_discrete}
 use Rattle.render_run.proofs.Counting.{faults_more, moves_more}
 use Rattle.texel_values.specs.Region.{max_texels}
-use Rattle.render_run.specs.Tallied.{IsTallied}
+use Rattle.render_run.specs.Tallied.{IsExactly, IsTallied}
 use Rattle.render_run.proofs.TallyLemmas.{tally_own, tally_other}
 
 -- a line more meets a request more
@@ -46,7 +51,7 @@ meets_push setup (s ∷ rs) [] r line met meets = absurd met
 meets_push setup (s ∷ rs) (l ∷ lines) r line met meets =
     (met.0, meets_push setup rs lines r line met.1 meets)
 
--- ---- what workers hold
+-- ---- what is told of each line by those before it
 
 -- one line more is counted
 counted_push : (before lines : List Line) (line : Line) → AreCounted before lines
@@ -57,6 +62,30 @@ counted_push before (l ∷ lines) line counted here = (
   counted_push (before ++ l ∷ []) lines line counted.1
       (subst (λ (ls : List Line). IsCounted ls line) (sym (append_assoc before (l ∷ []) lines)) here),
 )
+
+-- ---- the pins that lines tell
+
+-- the pins of as many tiles, of a worker that is alone where the other is
+pins_as : (a b : ℕ) (P Q : Type 0) (line : Answer) → a ≡ b → (Q → P) → TellsPins a P line
+    → TellsPins b Q line
+pins_as a b P Q line same alone tells shards is = record {
+  own = omega (arith, (tells shards is).own, same);
+  alone = λ q. (tells shards is).alone (alone q) ∙ same;
+}
+
+-- one line more tells them
+pins_push : (workers w : ℕ) (before lines : List Line) (line : Line)
+    → TellTheirPins workers w before lines → TellsItsPins workers w (before ++ lines) line
+    → TellTheirPins workers w before (lines ++ line ∷ [])
+pins_push workers w before [] line told here = (rw append-nil at here, tt)
+pins_push workers w before (l ∷ lines) line told here = (
+  told.0,
+  pins_push workers w (before ++ l ∷ []) lines line told.1
+      (subst (λ (ls : List Line). TellsItsPins workers w ls line)
+      (sym (append_assoc before (l ∷ []) lines)) here),
+)
+
+-- ---- what workers hold
 
 -- what a worker holds by its lines, with one more of its own
 module _ (w : ℕ) (lines : List Line) (line : Line) where
@@ -141,6 +170,48 @@ module _ (setup : Setup) (old : SourceState) (round : ℕ) where
         (λ (ne : v ≢ w). rw (at_other crew w v after ne)
         (holds_other v lines line (sight_at crew v) (λ e. ne (sym e)) (told.holds v few)))
 
+    -- the tiles of its worker, by the lines before it
+    same_tiles : IsExactly w lines (sight_at crew w).tally
+        → (sight_at crew w).holds + length (sight_at crew w).tally.recent ≡ tiles_by w lines line
+    same_tiles exact =
+        let long : length (sight_at crew w).tally.recent ≡ length (recent (needed_by w lines).since) =
+        sym (length-map (sight_at crew w).tally.recent key_in) ∙ ap length exact.latest in
+        omega (arith, long)
+
+    -- a worker that is alone is this one
+    all_alone : setup.workers ≡ 1 → (sight_at crew w).permits ≡ setup.terms.passes
+    all_alone single =
+        let first : 0 ≡ w = omega (arith, single, low) in
+        subst (λ (u : ℕ). (sight_at crew u).permits ≡ setup.terms.passes) first
+        (told.permits (told.workers ∙ single))
+
+    pins_own : IsTrue setup.files.tells → after.tally.apart ≡ 0
+        → TellTheirPins setup.workers w [] (lines ++ line ∷ [])
+    pins_own tells none =
+        let before : (sight_at crew w).tally.apart ≡ 0 = omega (arith, one.tallies.later, none) in
+        pins_push setup.workers w [] lines line (told.pins w low tells before)
+        (λ own calm. pins_as _ _ _ _ answer
+        (same_tiles ((told.tallied w low).exact tells calm before)) all_alone one.pins)
+
+    pins_then : (v : ℕ) → v < setup.workers → IsTrue setup.files.tells
+        → (sight_at (set crew w after) v).tally.apart ≡ 0
+        → TellTheirPins setup.workers v [] (lines ++ line ∷ [])
+    pins_then v few tells none = dite (ℕ_discrete v w)
+        (λ (e : v ≡ w). rw e (pins_own tells (rw (e, at_same crew w after here) at none)))
+        (λ (ne : v ≢ w). pins_push setup.workers v [] lines line
+        (told.pins v few tells (rw (at_other crew w v after ne) at none))
+        (λ own calm. absurd (ne (sym own))))
+
+    permits_then : HasAllAlone setup.terms.passes (set crew w after)
+    permits_then single =
+        let alone : length crew ≡ 1 = sym (length-set crew w after) ∙ single in
+        let first : 0 ≡ w = omega (arith, alone, here) in
+        let now : sight_at (set crew w after) 0 ≡ after =
+        subst (λ (u : ℕ). sight_at (set crew w after) u ≡ after) (sym first)
+        (at_same crew w after here) in
+        ap (λ (s : Sight). s.permits) now ∙ one.after.permits
+        ∙ all_alone (sym told.workers ∙ alone)
+
     tallied_then : (v : ℕ) → v < setup.workers
         → IsTallied setup.files v (lines ++ line ∷ []) (sight_at (set crew w after) v).tally
     tallied_then v few = dite (ℕ_discrete v w)
@@ -176,8 +247,10 @@ module _ (setup : Setup) (old : SourceState) (round : ℕ) where
           (crew_on crew w after here one.after.counts) (basis_of answer)
           (crew_cause crew w after here (basis_of answer) one.after.cause) told.moves);
       workers = length-set crew w after ∙ told.workers;
+      permits = permits_then;
       holds = holds_then;
       tallied = tallied_then;
+      pins = pins_then;
       of_crew = All-push (λ (l : Line). l.place.worker < setup.workers) lines line told.of_crew low;
       few = All-push (λ (l : Line). length l.needed ≤ max_texels) lines line told.few
           one.tallies.few;
@@ -295,8 +368,13 @@ module _ (setup : Setup) (front : List Request) (old : SourceState) (lines : Lis
     moves = subst (λ (s : SourceState). RisesByAtLeast (agains lines) old.moves s.moves)
         (sym (crew_source before after kept)) told.moves;
     workers = kept.count ∙ told.workers;
+    permits = λ single.
+        let some : 0 < length before = omega (arith, kept.count, single) in
+        (kept.each 0 some).permits ∙ told.permits (sym kept.count ∙ single);
     holds = λ w low. rw ((kept.each w (omega (arith, told.workers))).holds) (told.holds w low);
     tallied = λ w low. rw ((kept.each w (omega (arith, told.workers))).tally) (told.tallied w low);
+    pins = λ w low tells none. told.pins w low tells
+        (sym (ap (λ (t : Tally). t.apart) (kept.each w (omega (arith, told.workers))).tally) ∙ none);
     of_crew = told.of_crew;
     few = told.few;
     seen = seen;
@@ -334,8 +412,10 @@ lines_own setup front old round crew lines told = record {
   faults = told.faults;
   moves = told.moves;
   workers = told.workers;
+  permits = told.permits;
   holds = told.holds;
   tallied = told.tallied;
+  pins = told.pins;
   of_crew = told.of_crew;
   few = told.few;
   seen = λ k d lt w low known. told.seen k d lt w low (own_only (get_or lines k d) w known);

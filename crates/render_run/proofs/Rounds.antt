@@ -39,7 +39,7 @@ use Rattle.render_run.specs.Counted.{needs_by, hits_by, AreCountsOf, no_counts}
 use Rattle.render_run.specs.Run.{Answers, Closes, Finishes, PartWritten, RoundsWritten}
 use Rattle.render_run.specs.Run.{lines_text, refusals}
 use Rattle.render_run.specs.Page.{Passes, PutsPart, outgoing_of}
-use Rattle.render_run.specs.Answering.{AreInTurn, SoFar, answers_text, in_turn}
+use Rattle.render_run.specs.Answering.{AreInTurn, HasAllAlone, SoFar, answers_text, in_turn}
 use Rattle.render_run.proofs.DealingLemmas.{later_rounds}
 use Rattle.render_run.proofs.Passing.{none_passed, passes_more, passes_part, rest_part}
 use Rattle.render_run.proofs.TallyLemmas.{none_tallied}
@@ -49,9 +49,9 @@ use Rattle.render_run.proofs.OneMore.{placed_rounds, Turns, lines_carried, lines
 
 -- before the first round
 pub none_yet : (setup : Setup) (requests : List Request) (crew : List Sight) (old : Progress)
-    → length crew ≡ setup.workers → AreIdle crew → source_of_crew crew ≡ old.source
-    → SoFar setup requests 0 crew old old [] 0
-none_yet setup requests crew old count idle from = record {
+    → length crew ≡ setup.workers → AreIdle crew → HasAllAlone setup.terms.passes crew
+    → source_of_crew crew ≡ old.source → SoFar setup requests 0 crew old old [] 0
+none_yet setup requests crew old count idle alone from = record {
   lines = [];
   round = 0;
   so_far = record {
@@ -59,8 +59,10 @@ none_yet setup requests crew old count idle from = record {
     fresh = λ i j d lt below. absurd (omega arith);
     counted = tt;
     workers = count;
+    permits = alone;
     holds = λ w low. rw (idle w).holds refl;
     tallied = λ w low. none_tallied setup.files w (sight_at crew w).tally (idle w).tally;
+    pins = λ w low tells none. tt;
     of_crew = λ k d lt. absurd (omega arith);
     few = λ k d lt. absurd (omega arith);
     faults = record {
@@ -451,6 +453,13 @@ module _ {T W H : Type 0} (state : T → TapState) (posts : List (Post T W H)) (
         (sym (ap (λ (s : Sight). s.tally.needs) sight_is))
         (sym (ap (λ (s : Sight). s.tally.hits) sight_is))
         (sym (ap (λ (s : Sight). s.tally.apart) sight_is)));
+    pins = λ w low tells none.
+        let d = one_of posts some in
+        let here : w < length posts = omega (arith, low, count) in
+        let sight_is = get_or-map (λ p. sight state p.worker) posts w d no_sight here in
+        let counts_is = get_or-map (λ p. counts_of p.worker.pass) posts w d no_counts here in
+        so_far.so_far.pins w low tells (ap (λ (s : Sight). s.tally.apart) sight_is
+        ∙ sym (ap (λ (c : Counts). c.apart) counts_is) ∙ none);
     tells = rw (so_far.count, ← so_far.refusal) refl;
   }
 

@@ -14,6 +14,7 @@ use Rattle.render_run.specs.Around.{Sight, tally_of, terms_of}
 use Rattle.render_run.specs.Question.{file_in}
 use Rattle.render_run.specs.Held.{one_if, is_hold, is_drop}
 use Rattle.render_run.specs.Needed.{AreNeeded, empties}
+use Rattle.render_run.specs.Pins.{shards_in}
 use Rattle.render_run.specs.Reply.{MeetsTask}
 use Rattle.render_run.specs.Answering.{AfterAnswer, HasCause}
 use Rattle.render_run.specs.Posts.{LetsGo, WorkerAnswers, sight}
@@ -24,6 +25,7 @@ idle_after : (line : Answer) (s : Sight) → is_drop line ≡ is_hold line
     → HasCause s.source s.source (basis_of line) → AfterAnswer None s s line
 idle_after line s same cause = record {
   later = λ n. omega arith;
+  permits = refl;
   fresh = λ n is. absurd cc;
   holds = ap (λ b. s.holds + one_if b) same;
   cause = cause;
@@ -38,11 +40,12 @@ module _ {T W H : Type 0} (state : T → TapState) (files : Files) (cache : Cach
       → is_drop line ≡ is_hold line
       → HasCause (sight state w).source (sight state w).source (basis_of line)
       → AreNeeded files cache.gate.cut task line [] → empties line ≡ false
-      → LetsGo task w.pass.pinned.holds w.pass.pinned.holds
+      → LetsGo task w.pass.pinned.holds w.pass.pinned.holds → shards_in line ≡ None
       → WorkerAnswers state files cache task w w line
-  idle_answers task line none meets same cause needed full oldest = record {
+  idle_answers task line none meets same cause needed full oldest no_shards = record {
     answer = record {
       meets = meets;
+      pins = λ shards is. absurd (cc (no_shards, is));
       after = rw none (idle_after line (sight state w) same cause);
       tallies = keeps_tally files cache.gate.cut task (tally_of w.pass) (tally_of w.pass) line
           needed refl refl refl refl full;
@@ -53,19 +56,19 @@ module _ {T W H : Type 0} (state : T → TapState) (files : Files) (cache : Cach
 
   -- a question to no file
   pub none_found : (q : Question) → WorkerAnswers state files cache (Ask None q) w w NoSuchFile
-  none_found q = idle_answers (Ask None q) NoSuchFile refl refl refl tt refl refl tt
+  none_found q = idle_answers (Ask None q) NoSuchFile refl refl refl tt refl refl tt refl
 
   -- the same in a tile
   pub no_tile_found : (q : Question) → WorkerAnswers state files cache (Tile None q) w w NoSuchFile
-  no_tile_found q = idle_answers (Tile None q) NoSuchFile refl (inl refl) refl tt refl refl tt
+  no_tile_found q = idle_answers (Tile None q) NoSuchFile refl (inl refl) refl tt refl refl tt refl
 
   -- the end of a round
   pub synced : WorkerAnswers state files cache Sync w w Synced
-  synced = idle_answers Sync Synced refl refl refl tt refl refl tt
+  synced = idle_answers Sync Synced refl refl refl tt refl refl tt refl
 
   -- no memory for the name of a tile
   pub unnamed : WorkerAnswers state files cache Unnamed w w NoMemory
-  unnamed = idle_answers Unnamed NoMemory refl refl refl tt refl refl tt
+  unnamed = idle_answers Unnamed NoMemory refl refl refl tt refl refl tt refl
 
 -- a question to the file of a tile is one to any file
 pub in_tile : {T W H : Type 0} (state : T → TapState) (files : Files) (cache : CacheState) (n : ℕ)
@@ -75,6 +78,7 @@ pub in_tile : {T W H : Type 0} (state : T → TapState) (files : Files) (cache :
 in_tile state files cache n q old new line a = record {
   answer = record {
     meets = a.answer.meets;
+    pins = a.answer.pins;
     after = a.answer.after;
     tallies = tile_tally files cache.gate.cut n q (tally_of old.pass) (tally_of new.pass) line
         a.answer.tallies;

@@ -1,6 +1,6 @@
 -- What does a worker leave of what it sees, and how far has answering a list come?
 use Rattle.std.specs.Prelude.{◌≡◌, ◌⊎◌, ℕ, zero, suc, ◌+◌, ◌-◌, ◌/◌, ◌%◌, ◌<◌, ◌≤◌, List, [], ◌∷◌, ◌++◌}
-use Rattle.std.specs.Prelude.{length, slice_index, slice_index_or, slice_set}
+use Rattle.std.specs.Prelude.{IsTrue, length, slice_index, slice_index_or, slice_set}
 use Rattle.std.specs.Prelude.{map, take, drop, Option, Some, IsSome, ⊤}
 use Rattle.std.specs.Option.{ForSome}
 use Rattle.std.specs.List.{All, AllPairs, flat_map}
@@ -23,6 +23,8 @@ use Rattle.render_run.specs.Dealing.{fresh_round, places_from, places_of}
 use Rattle.render_run.specs.Reply.{Line, MeetsTask, MeetsAll}
 use Rattle.render_run.specs.Fresh.{IsFresher, KeepsFresh}
 use Rattle.render_run.specs.Held.{one_if, is_hold, is_drop, holds_by, drops_by, AreCounted}
+use Rattle.render_run.specs.Counted.{TellTheirPins}
+use Rattle.render_run.specs.Pins.{TellsPins}
 use Rattle.render_run.specs.Tallied.{TalliesAnswer, IsTallied}
 use Rattle.render_run.specs.Run.{read_faults, agains, refusals, lines_text}
 use Rattle.render_run.specs.Page.{Passes, outgoing_of}
@@ -45,20 +47,24 @@ abbrev pub SeesNoLess : List ℕ → List ℕ → Type 0
 SeesNoLess old new = (n : ℕ) → slice_index old n ≤ slice_index new n
 
 -- An answer on a file, if there is one, is not older than what the worker had seen of that file, and
--- what it has then seen is not older than the answer. It has seen no file's number fall, it holds a
--- tile more or less as the answer says, and the answer has its cause.
+-- what it has then seen is not older than the answer. It has seen no file's number fall, it has the
+-- same permits, it holds a tile more or less as the answer says, and the answer has its cause.
 pub record AfterAnswer (file : Option ℕ) (old new : Sight) (line : Answer) : Type 0 where
   pub later : SeesNoLess old.seen new.seen
+  pub permits : new.permits ≡ old.permits
   pub fresh : ForSome file (λ n.
       KeepsFresh (slice_index old.seen n) (slice_index new.seen n) line)
   pub holds : new.holds + one_if (is_drop line) ≡ old.holds + one_if (is_hold line)
   pub cause : HasCause old.source new.source (basis_of line)
   pub counts : GoesOn old.source new.source
 
--- The answer meets what a worker was given of a request.
+-- The answer meets what a worker was given of a request. Where it tells what the shards have, it tells
+-- the pins of the tiles that the worker holds and of those of its microcache, and no others where it
+-- has all permits.
 pub record AnswersTask (files : Files) (terms : Terms) (task : Task) (old new : Sight)
     (line : Answer) : Type 0 where
   pub meets : MeetsTask files terms old.holds task line
+  pub pins : TellsPins (old.holds + length old.tally.recent) (old.permits ≡ terms.passes) line
   pub after : AfterAnswer (file_in task) old new line
   pub tallies : TalliesAnswer files terms.cut task old.tally new.tally line
 
@@ -142,6 +148,10 @@ IsSeenOf seen line = (n : ℕ) → line.file ≡ Some n
 abbrev pub IsKnownTo : ℕ → ℕ → Line → Type 0
 IsKnownTo round w line = (line.place.round < round) ⊎ (line.place.worker ≡ w)
 
+-- One worker alone has all permits.
+abbrev pub HasAllAlone : ℕ → List Sight → Type 0
+HasAllAlone passes crew = length crew ≡ 1 → (sight_at crew 0).permits ≡ passes
+
 -- What the lines for some first requests tell. None of those that a worker knows, of its own and of
 -- the rounds before this one, is newer than what it has then seen, and it holds and has counted what
 -- they leave.
@@ -153,10 +163,13 @@ pub record AreLinesSoFar (setup : Setup) (requests : List Request) (old : Source
   pub faults : RisesByAtLeast (read_faults lines) old.faults (source_of_crew crew).faults
   pub moves : RisesByAtLeast (agains lines) old.moves (source_of_crew crew).moves
   pub workers : length crew ≡ setup.workers
+  pub permits : HasAllAlone setup.terms.passes crew
   pub holds : (w : ℕ) → w < setup.workers
       → (sight_at crew w).holds + drops_by w lines ≡ holds_by w lines
   pub tallied : (w : ℕ) → w < setup.workers
       → IsTallied setup.files w lines (sight_at crew w).tally
+  pub pins : (w : ℕ) → w < setup.workers → IsTrue setup.files.tells
+      → (sight_at crew w).tally.apart ≡ 0 → TellTheirPins setup.workers w [] lines
   pub of_crew : All (λ line. line.place.worker < setup.workers) lines
   pub few : All (λ line. length line.needed ≤ max_texels) lines
   pub seen : All (λ line. (w : ℕ) → w < setup.workers → IsKnownTo round w line

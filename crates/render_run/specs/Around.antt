@@ -65,12 +65,13 @@ pub record Progress : Type 0 where
   pub source : SourceState
   pub sink : SinkState
 
--- What a cache was asked for: how levels are cut, how many shards it has, and how many bytes the
--- unpinned tiles of each may take.
+-- What a cache was asked for: how levels are cut, how many shards it has, how many bytes the
+-- unpinned tiles of each may take, and how many passes it has.
 pub record Terms : Type 0 where
   pub cut : Cut
   pub shards : ℕ
   pub share : ℕ
+  pub passes : ℕ
 
 -- What requests are answered over: the files of the world, the number that a name has among those of
 -- the folder, if any, the terms of the cache, and how many workers there are.
@@ -87,21 +88,32 @@ pub record Tally : Type 0 where
   pub hits : ℕ
   pub apart : ℕ
 
--- What a worker has seen of each file, how many tiles it holds, what it has counted, and the source
--- that its tap is.
+-- What a worker has seen of each file, how many of the cache's permits and of its tiles it holds,
+-- what it has counted, and the source that its tap is.
 pub record Sight : Type 0 where
   pub seen : List ℕ
+  pub permits : ℕ
   pub holds : ℕ
   pub tally : Tally
   pub source : SourceState
 
 -- the terms that options ask for: the budget is shared among the shards
 abbrev pub terms_for : Options → Terms
-terms_for o = record { cut = o.cut; shards = o.shards; share = o.budget / o.shards }
+terms_for o = record {
+  cut = o.cut;
+  shards = o.shards;
+  share = o.budget / o.shards;
+  passes = o.workers;
+}
 
 -- those of the tiles of a cache
 abbrev pub terms_of : GateState → Terms
-terms_of gate = record { cut = gate.cut; shards = length gate.id; share = gate.share }
+terms_of gate = record {
+  cut = gate.cut;
+  shards = length gate.id;
+  share = gate.share;
+  passes = gate.passes;
+}
 
 -- all three
 abbrev pub around_of : FolderState → FeedState → SinkState → Around
@@ -137,6 +149,7 @@ counts_of pass = record { needs = pass.needs; hits = pass.hits; apart = pass.apa
 abbrev pub sight_of : PassState → TapState → Sight
 sight_of pass tap = record {
   seen = pass.view.seen;
+  permits = pass.pinned.seat.permits;
   holds = length pass.pinned.holds;
   tally = tally_of pass;
   source = source_of_tap tap;
@@ -152,6 +165,7 @@ no_tally = record { recent = []; needs = 0; hits = 0; apart = 0 }
 abbrev pub no_sight : Sight
 no_sight = record {
   seen = [];
+  permits = 0;
   holds = 0;
   tally = no_tally;
   source = record { faults = 0; moves = 0 };

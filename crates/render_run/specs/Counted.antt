@@ -1,11 +1,12 @@
 -- What has a worker counted, by its lines? (docs/REQUESTS.md, "The closing lines")
 use Rattle.std.specs.Prelude.{◌≡◌, ℕ, ◌+◌, ◌==◌, ◌≤◌, if◌then◌else◌, IsTrue, List, [], ◌++◌, Bool}
-use Rattle.std.specs.Prelude.{length, fold}
+use Rattle.std.specs.Prelude.{length, fold, ◌∷◌, ⊤}
 use Rattle.std.specs.List.{All, sum_by}
-use Rattle.micro.specs.Recent.{hit_count}
+use Rattle.micro.specs.Recent.{hit_count, recent}
 use Rattle.request_lang.specs.declared.closing.Counts.{Counts}
 use Rattle.request_lang.specs.Basis.{basis_of}
 use Rattle.render_run.specs.Needed.{empties, is_calm}
+use Rattle.render_run.specs.Pins.{TellsPins}
 use Rattle.render_run.specs.Reply.{Line}
 
 -- how many cells the answers of a worker needed
@@ -50,6 +51,27 @@ hits_by w lines = hits_in (needed_by w lines)
 abbrev pub AreCalm : ℕ → List Line → Type 0
 AreCalm w lines =
     All (λ line. line.place.worker ≡ w → IsTrue (is_calm (basis_of line.answer))) lines
+
+-- ---- pins
+
+-- How many tiles the worker of a line has: those that it held, and those of the at most two cells that
+-- it needed latest since its microcache was emptied.
+abbrev pub tiles_by : ℕ → List Line → Line → ℕ
+tiles_by w before line = line.held + length (recent (needed_by w before).since)
+
+-- Where no line of a worker before one of its own failed, that line tells the pins of the worker's
+-- tiles, and no others where there is one worker.
+abbrev pub TellsItsPins : ℕ → ℕ → List Line → Line → Type 0
+TellsItsPins workers w before line = line.place.worker ≡ w → AreCalm w before
+    → TellsPins (tiles_by w before line) (workers ≡ 1) line.answer
+
+-- so it is of each of these lines, behind those
+abbrev pub TellTheirPins : ℕ → ℕ → List Line → List Line → Type 0
+TellTheirPins workers w before [] = ⊤
+TellTheirPins workers w before (line ∷ lines) =
+    TellsItsPins workers w before line × TellTheirPins workers w (before ++ line ∷ []) lines
+
+-- ---- the counts
 
 -- The counts of a worker are those of its lines.
 pub record AreExact (w : ℕ) (lines : List Line) (counts : Counts) : Type 0 where

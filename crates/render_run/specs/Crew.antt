@@ -30,22 +30,27 @@ pub record AnswersShares (files : Files) (terms : Terms) (tasks : List Task) (li
   pub each : (w : ℕ) → w < length old → AnswersEach files terms (share_of (length old) w tasks)
       (answers_at lists w) (sight_at old w) (sight_at new w)
 
--- A pass sees no less of a file than before, holds the same tiles and has counted the same.
+-- A pass sees no less of a file than before, has the same permits, holds the same tiles and has counted
+-- the same.
 pub record SeesOn (old new : PassState) : Type 0 where
   pub seen : SeesNoLess old.view.seen new.view.seen
+  pub permits : new.pinned.seat.permits ≡ old.pinned.seat.permits
   pub holds : new.pinned.holds ≡ old.pinned.holds
   pub tally : tally_of new ≡ tally_of old
 
--- A pass has seen the same as before, holds the same tiles and has counted the same.
+-- A pass has seen the same as before, has the same permits, holds the same tiles and has counted the
+-- same.
 pub record GivesOn (old new : PassState) : Type 0 where
   pub seen : new.view.seen ≡ old.view.seen
+  pub permits : new.pinned.seat.permits ≡ old.pinned.seat.permits
   pub holds : new.pinned.holds ≡ old.pinned.holds
   pub tally : tally_of new ≡ tally_of old
 
--- A worker sees no less of a file than before. What it holds, what it has counted and its tap are as
--- before.
+-- A worker sees no less of a file than before. Its permits, what it holds, what it has counted and its
+-- tap are as before.
 pub record SightsOn (old new : Sight) : Type 0 where
   pub seen : SeesNoLess old.seen new.seen
+  pub permits : new.permits ≡ old.permits
   pub holds : new.holds ≡ old.holds
   pub tally : new.tally ≡ old.tally
   pub source : new.source ≡ old.source

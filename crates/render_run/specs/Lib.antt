@@ -14,6 +14,7 @@ pub mod Ending
 pub mod Run
 pub mod Complete
 pub mod Page
+pub mod Pins
 pub mod Answering
 pub mod Crew
 pub mod Posts

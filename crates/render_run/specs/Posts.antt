@@ -78,6 +78,11 @@ module _ {T W H : Type 0} where
   abbrev pub ArePassesOf : CacheState → List (Post T W H) → Type 0
   ArePassesOf cache posts = All (λ post. IsPassOf cache post.worker.pass) posts
 
+  -- One worker alone has the permits of this pass.
+  abbrev pub HasPermitsAlone : ℕ → PassState → List (Post T W H) → Type 0
+  HasPermitsAlone workers pass posts = workers ≡ 1
+      → All (λ post. post.worker.pass.pinned.seat.permits ≡ pass.pinned.seat.permits) posts
+
   -- Each has room for its answers of so many requests, which n workers take in turn, and has none yet.
   abbrev pub HaveRoom : ℕ → ℕ → List (Post T W H) → Type 0
   HaveRoom n count posts =

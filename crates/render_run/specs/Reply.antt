@@ -38,6 +38,7 @@ use Rattle.render_run.specs.declared.question.Task.TheVariants.{Ask, Tile, Unnam
 use Rattle.render_run.specs.declared.question.Task.TheVariants.{Release, RenewAll, Count, Sync}
 use Rattle.render_run.specs.Around.{Setup, Terms}
 use Rattle.render_run.specs.Needed.{AreNeeded}
+use Rattle.render_run.specs.Pins.{all_pins}
 use Rattle.render_run.specs.Dealing.{Place}
 use Rattle.render_run.specs.Question.{task_of, file_in, is_too_large, is_full}
 
@@ -191,11 +192,12 @@ pub record AreShardsOf (terms : Terms) (shards : List ShardCount) : Type 0 where
   pub share : All (λ shard. shard.share ≡ terms.share) shards
   pub loose : All (λ shard. shard.loose ≤ shard.share) shards
 
--- The line tells what the shards have, or that no memory was found for it.
-abbrev pub TellsShards : Terms → Answer → Type 0
-TellsShards terms (Stat shards) = AreShardsOf terms shards
-TellsShards terms NoMemory = ⊤
-TellsShards terms _ = ⊥
+-- The line tells what the shards have, with the pins of at least so many tiles that are held, or that
+-- no memory was found for it.
+abbrev pub TellsShards : Terms → ℕ → Answer → Type 0
+TellsShards terms held (Stat shards) = AreShardsOf terms shards × (held ≤ all_pins shards)
+TellsShards terms held NoMemory = ⊤
+TellsShards terms held _ = ⊥
 
 -- The line meets what a worker is given of a request, which holds so many tiles: `no such file`
 -- exactly where the folder has none of the name, before all else. Of the file of a tile its name may
@@ -204,7 +206,7 @@ abbrev pub MeetsTask : Files → Terms → ℕ → Task → Answer → Type 0
 MeetsTask files terms held Sync line = line ≡ Synced
 MeetsTask files terms held Release line = line ≡ released held
 MeetsTask files terms held RenewAll line = (line ≡ InvalidatedAll) ⊎ (line ≡ ReadFault)
-MeetsTask files terms held Count line = TellsShards terms line
+MeetsTask files terms held Count line = TellsShards terms held line
 MeetsTask files terms held (Ask None q) line = line ≡ NoSuchFile
 MeetsTask files terms held (Ask (Some n) q) line = MeetsOn files terms.cut held n q line
 MeetsTask files terms held (Tile None q) line = (line ≡ NoSuchFile) ⊎ (line ≡ NoMemory)

@@ -20,7 +20,7 @@ use Rattle.render_run.specs.Dealing.{AreWholeRounds, places_of}
 use Rattle.render_run.specs.Reply.{Line, MeetsAll}
 use Rattle.render_run.specs.Fresh.{IsFresher}
 use Rattle.render_run.specs.Held.{AreCounted}
-use Rattle.render_run.specs.Counted.{AreCountsOf, no_counts}
+use Rattle.render_run.specs.Counted.{AreCountsOf, TellTheirPins, no_counts}
 use Rattle.request_lang.specs.declared.closing.Counts.{Counts}
 use Rattle.request_lang.specs.Closing.{closing_lines}
 use Rattle.image_cache.specs.Invalid.{RisesBy}
@@ -64,12 +64,15 @@ pub record Answers (setup : Setup) (requests : List Request) (count : ℕ) (old 
   pub moves : RisesByAtLeast (agains lines) old.moves new.moves
 
 -- The text closes a run of so many workers with these lines: it tells what each worker has counted,
--- how many lines there are, and how many of them are refusals.
+-- how many lines there are, and how many of them are refusals. Where the world tells and a worker
+-- answered nothing apart, its lines tell the pins of its tiles.
 pub record Closes (files : Files) (workers : ℕ) (lines : List Line) (text : List ℕ) : Type 0 where
   pub counts : List Counts
   pub each : length counts ≡ workers
   pub counted : (w : ℕ) → w < workers
       → AreCountsOf files.tells w lines (slice_index_or counts w no_counts)
+  pub pins : (w : ℕ) → w < workers → IsTrue files.tells
+      → (slice_index_or counts w no_counts).apart ≡ 0 → TellTheirPins workers w [] lines
   pub tells : text ≡ closing_lines counts (length lines) (refusals lines)
 
 -- ---- what was written of a list

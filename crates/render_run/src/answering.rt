@@ -6,7 +6,7 @@ ghost use Rattle.std.specs.List.{All};
 ghost use Rattle.request_lang.specs.Grammar.{max_requests};
 ghost use Rattle.render_run.specs.Around.{setup_of, sink_of, terms_of};
 ghost use Rattle.render_run.specs.Question.{MayAsk};
-ghost use Rattle.render_run.specs.Answering.{AreDealt, MayBeAnswered, SoFar};
+ghost use Rattle.render_run.specs.Answering.{AreDealt, HasAllAlone, MayBeAnswered, SoFar};
 ghost use Rattle.render_run.specs.Crew.{max_workers, AnswersRound, AreCarried, AreIdle, SeeNoLess};
 ghost use Rattle.render_run.specs.Posts.{ArePassesOf, HaveRoom, answers_of, progress_by, sights_of};
 ghost use Rattle.render_run.specs.Written.{EndsEarly, Leaves};
@@ -51,6 +51,8 @@ where
     requires pass { ArePassesOf setting.now.cache.now posts.old }
     requires crew { (0 < length posts.old) × (length posts.old ≤ max_workers) }
     requires idle { AreIdle (sights_of F.Tap.state posts.old) }
+    requires alone { HasAllAlone setting.now.cache.now.gate.passes
+        (sights_of F.Tap.state posts.old) }
     requires empty { page.old ≡ [] }
     ensures { Leaves (setup_of F.W.files (F.state folder.now)
         (terms_of setting.now.cache.now.gate) (length posts.old)) requests.now
@@ -87,6 +89,8 @@ where
     requires pass { ArePassesOf setting.now.cache.now posts.old }
     requires crew { (0 < length posts.old) × (length posts.old ≤ max_workers) }
     requires idle { AreIdle (sights_of F.Tap.state posts.old) }
+    requires alone { HasAllAlone setting.now.cache.now.gate.passes
+        (sights_of F.Tap.state posts.old) }
     requires empty { page.old ≡ [] }
     ensures ok { IfOk result (SoFar (setup_of F.W.files (F.state folder.now)
         (terms_of setting.now.cache.now.gate) (length posts.old)) requests.now

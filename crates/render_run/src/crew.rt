@@ -10,7 +10,8 @@ ghost use Rattle.render_run.specs.Around.{source_of_crew};
 ghost use Rattle.render_run.specs.Answering.{SeesNoLess};
 ghost use Rattle.render_run.specs.Crew.{IsNewPost, SeeNoLess, SeesOn, SightsOn, AreCarried};
 ghost use Rattle.render_run.specs.Crew.{GivesOn, MakesMore, TakesBack};
-ghost use Rattle.render_run.specs.Posts.{AddsPost, ArePassesOf, AreNew, sight, sights_of};
+ghost use Rattle.render_run.specs.Posts.{AddsPost, ArePassesOf, AreNew, HasPermitsAlone, sight};
+ghost use Rattle.render_run.specs.Posts.{sights_of};
 ghost use Rattle.render_run.specs.Written.{LeavesTaps};
 
 use crate::round::Post;
@@ -126,6 +127,7 @@ where
     requires some { 0 < workers }
     ensures count { IfOk result (λ posts. length posts.items ≡ workers) }
     ensures new { IfOk result (λ posts. AreNew F.Tap.state cache.now posts.items) }
+    ensures alone { IfOk result (λ posts. HasPermitsAlone workers pass posts.items) }
     ensures made { OnOk result (MakesMore workers (F.state folder.old) (F.state folder.new)) }
     ensures back { OnErr result (LeavesTaps (F.state folder.old) (F.state folder.new)) }
 {
@@ -154,6 +156,7 @@ fn man<F: Folder>(
     requires some { 0 < workers }
     ensures count { OnOk result (length posts.new.items ≡ workers) }
     ensures new { AreNew F.Tap.state cache.now posts.new.items }
+    ensures alone { HasPermitsAlone workers pass posts.new.items }
     ensures made { MakesMore (length posts.new.items) (F.state folder.old) (F.state folder.new) }
 {
     add(alloc, folder, posts, pass)?;

@@ -1,6 +1,6 @@
 //! A worker, which answers what it is given through the cache.
 
-ghost use Rattle.std.specs.Prelude.{◌≡◌, ◌<◌, ◌≤◌, IfSome, IfOk, length, slice_get};
+ghost use Rattle.std.specs.Prelude.{◌≡◌, ◌+◌, ◌<◌, ◌≤◌, None, IfSome, IfOk, length, slice_get};
 ghost use Rattle.tex_world.specs.World.{IsFile};
 ghost use Rattle.image_cache.specs.Pass.{IsPassOf};
 ghost use Rattle.image_cache.specs.Pass.{KeepsAllBut, its_visits};
@@ -9,6 +9,7 @@ ghost use Rattle.render_run.specs.Around.{terms_of};
 ghost use Rattle.texel_filter.specs.Image.{IsChannelCount};
 ghost use Rattle.texel_filter.specs.Deriv.{IsDerivRequest};
 ghost use Rattle.render_run.specs.Question.{MayBeAsked};
+ghost use Rattle.render_run.specs.Pins.{HavePins};
 ghost use Rattle.render_run.specs.Refusal.{refusal_of};
 ghost use Rattle.render_run.specs.Reply.{AreShardsOf};
 ghost use Rattle.render_run.specs.Answering.{AreFiles, MayBeGiven};
@@ -251,12 +252,16 @@ impl<T: Tap> Worker<T> {
         }
     }
 
-    /// What each shard has.
+    /// What each shard has. The pin of a tile that is in hand is given back before.
     fn shards<R: Wait>(&mut self, desk: &Desk<'_, R, T>) -> Answer
         requires { IsPassOf desk.now.cache.now self.old.pass }
         ensures { WorkerAnswers T.state T.W.files desk.now.cache.now Task.Count
             self.old self.new result }
     {
+        match desk.cache.release_hand(desk.waiter, &mut self.pass) {
+            Ok(()) => {}
+            Err(never) => match never {},
+        }
         match counts_of_shards(desk, &mut self.pass) {
             Ok(counts) => Answer::Stat {
                 shards: Shards::new(counts),
@@ -277,14 +282,18 @@ fn held_rect<W: World>(pass: &Pass<W>, place: usize) -> Rect
     }
 }
 
-/// What each shard has, in their order.
+/// What each shard has, in their order. Nothing is in hand.
 fn counts_of_shards<R: Wait, T: Tap>(
     desk: &Desk<'_, R, T>,
     pass: &mut Pass<T::W>,
 ) -> Result<Vec<ShardCount>, AllocError>
     requires pass { IsPassOf desk.now.cache.now pass.old }
+    requires hand { pass.old.pinned.hand ≡ None }
     ensures shards { IfOk result
         (λ counts. AreShardsOf (terms_of desk.now.cache.now.gate) counts.items) }
+    ensures pins { IfOk result (λ counts. HavePins (length pass.old.pinned.holds
+        + length pass.old.pinned.recent)
+        (pass.old.pinned.seat.permits ≡ desk.now.cache.now.gate.passes) counts.items) }
     ensures few { IfOk result (λ counts. length counts.items ≤ max_shards) }
     ensures same { KeepsAllBut its_visits pass.old pass.new }
     ensures of { IsPassOf desk.now.cache.now pass.new }

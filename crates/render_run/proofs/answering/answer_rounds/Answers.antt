@@ -13,7 +13,7 @@ rounds-init g c = record {
       (terms_of c.args.setting.now.cache.now.gate) (length c.args.posts.now))
       c.args.requests.now (sights_of g.F.Tap.Tap.state c.args.posts.now)
       (progress_by g.F.Tap.Tap.state c.args.posts.now (sink_of g.O.Sink c.args.out.now))
-      (length-map c.args.posts.now _) c.requires.idle refl);
+      (length-map c.args.posts.now _) c.requires.idle c.requires.alone refl);
   within = omega arith;
   few = omega arith;
   pass = c.requires.pass;

@@ -11,7 +11,8 @@ returns-in_err-gather-clause-kept g c =
     carry_kept _ (sight g.T.Tap.state c.in-Some.first.now.worker)
     (sight_of c.gather.new.first (g.T.Tap.state c.in-Some.first.now.worker.tap)) _ _ _
     c.gather.new.first.view.seen (rw c.in-Some.ensures.cases.0 refl) c.gather.ensures.same
-    c.gather.ensures.kept.seen refl (ap length c.gather.ensures.kept.holds)
+    c.gather.ensures.kept.seen refl c.gather.ensures.kept.permits
+    (ap length c.gather.ensures.kept.holds)
     c.gather.ensures.kept.tally refl (see_same _)
 
 pub returns-clause-kept : goal.returns-clause-kept
@@ -20,6 +21,7 @@ returns-clause-kept g c =
     (sight_of c.spread.new.first (g.T.Tap.state c.in-Some.first.now.worker.tap)) _ _ _
     c.gather.new.first.view.seen (rw c.in-Some.ensures.cases.0 refl)
     c.gather.ensures.same c.gather.ensures.kept.seen c.spread.ensures.gives.seen
+    (c.spread.ensures.gives.permits ∙ c.gather.ensures.kept.permits)
     (ap length (c.spread.ensures.gives.holds ∙ c.gather.ensures.kept.holds))
     (c.spread.ensures.gives.tally ∙ c.gather.ensures.kept.tally) refl c.spread.ensures.kept
 
@@ -34,6 +36,7 @@ returns-clause-ok g c =
     (sight_of c.spread.new.first (g.T.Tap.state c.in-Some.first.now.worker.tap)) _ _ _
     c.gather.new.first.view.seen (rw c.in-Some.ensures.cases.0 refl)
     c.gather.ensures.same c.gather.ensures.kept.seen c.spread.ensures.gives.seen
+    (c.spread.ensures.gives.permits ∙ c.gather.ensures.kept.permits)
     (ap length (c.spread.ensures.gives.holds ∙ c.gather.ensures.kept.holds))
     (c.spread.ensures.gives.tally ∙ c.gather.ensures.kept.tally) refl c.spread.ensures.kept
     c.spread.result c.in_ok-gather.ensures.ok c.spread.ensures.ok

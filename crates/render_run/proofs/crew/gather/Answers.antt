@@ -15,6 +15,7 @@ loop-post-preserved g c = record {
       c.loop-post.invariant.kept.seen n,
       c.carry_from.ensures.kept.seen n,
     );
+    permits = c.carry_from.ensures.kept.permits ∙ c.loop-post.invariant.kept.permits;
     holds = c.carry_from.ensures.kept.holds ∙ c.loop-post.invariant.kept.holds;
     tally = c.carry_from.ensures.kept.tally ∙ c.loop-post.invariant.kept.tally;
   };

@@ -23,6 +23,7 @@ posts-preserved g c =
           c.in_ok-add-2.ensures.ok c.in_ok-pass.ensures.of c.in_ok-pass.ensures.fresh
           (posts_split g.F.Tap.Tap.state c.args.cache.now c.posts.posts.items
           c.split_off.new.post c.split_off.ensures.new c.posts.invariant.new);
+      alone = λ single. absurd (omega (arith, single, c.posts.invariant.some, c.posts-test.true));
       made =
           makes_both (length c.posts.posts.items) 1 (length after)
           (g.F.Folder.state c.args.folder.now) (g.F.Folder.state c.posts.folder)

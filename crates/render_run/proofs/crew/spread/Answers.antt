@@ -9,7 +9,7 @@ use Rattle.render_run.proofs.crew.spread.Goals as goal
 
 pub loop-post-init : goal.loop-post-init
 loop-post-init g c = record {
-  gives = record { seen = refl; holds = refl; tally = refl };
+  gives = record { seen = refl; permits = refl; holds = refl; tally = refl };
   pass = c.requires.first;
   kept = see_same _;
   passes = c.requires.others;

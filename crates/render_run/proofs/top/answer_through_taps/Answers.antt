@@ -2,7 +2,8 @@ use Rattle.std.proofs.Common.{◌≡◌, ◌∙◌, ℕ, length, ap, subst, arit
 use Rattle.render_run.specs.Around.{sink_of, source_of_crew, terms_for, terms_of}
 use Rattle.render_run.specs.Crew.{TakesBack}
 use Rattle.render_run.specs.Posts.{sights_of}
-use Rattle.render_run.proofs.Manned.{crew_idle, crew_none, crew_passes, taps_back, written_back}
+use Rattle.render_run.proofs.Manned.{crew_alone, crew_idle, crew_none, crew_passes, taps_back}
+use Rattle.render_run.proofs.Manned.{written_back}
 use Rattle.render_run.proofs.Folders.{leaves_through, no_rounds, no_taps, taps_made}
 use Rattle.render_run.proofs.top.answer_through_taps.Goals as goal
 
@@ -43,6 +44,14 @@ answer_list-answered-requires-clause-pass g c κs within =
     rw c.deref_mut.ensures.value
     (crew_passes g.F.Tap.Tap.state c.in-Ok-cache_of.cache c.in-Ok-crew_of.posts.items
     c.in-Ok-crew_of.ensures.new)
+
+pub answer_list-answered-requires-clause-alone : goal.answer_list-answered-requires-clause-alone
+answer_list-answered-requires-clause-alone g c κs within =
+    rw c.deref_mut.ensures.value
+    (crew_alone g.F.Tap.Tap.state c.in-Ok-cache_of.cache c.args.asked.now.options.workers
+    c.in-Ok-cache_of.cache.gate.passes c.in-Ok-cache_of.pass c.in-Ok-crew_of.posts.items
+    c.in-Ok-crew_of.ensures.count c.in-Ok-cache_of.ensures.pass.permits
+    c.in-Ok-crew_of.ensures.alone)
 
 pub returns : goal.returns
 returns g c =

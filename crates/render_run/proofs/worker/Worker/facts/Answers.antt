@@ -2,12 +2,14 @@ use Rattle.std.proofs.Common.{refl, rules}
 use Rattle.render_run.specs.Around.{tally_of}
 use Rattle.render_run.specs.Refusal.{refusal_of}
 use Rattle.render_run.proofs.NeedLemmas.{keeps_tally, refusal_keeps}
+use Rattle.render_run.proofs.PinLemmas.{refusal_tells}
 use Rattle.render_run.proofs.worker.Worker.facts.Goals as goal
 
 pub returns-in-Ok : goal.returns-in-Ok
 returns-in-Ok g c = record {
   answer = record {
     meets = search rules;
+    pins = λ shards is. absurd cc;
     after = search rules;
     tallies = keeps_tally _ _ _ (tally_of c.args.self.now.pass) (tally_of c.info.new.pass) _ refl
         c.info.ensures.same.tiles.recent c.info.ensures.same.counts.needs
@@ -21,6 +23,7 @@ pub returns-in-Err : goal.returns-in-Err
 returns-in-Err g c = record {
   answer = record {
     meets = search rules;
+    pins = rw c.refusal.ensures (refusal_tells _ _ c.in-Err.e);
     after = search rules;
     tallies = rw c.refusal.ensures
         (keeps_tally _ _ _ (tally_of c.args.self.now.pass) (tally_of c.info.new.pass)

@@ -7,6 +7,7 @@ use Rattle.render_run.specs.Refusal.{refusal_of}
 use Rattle.render_run.specs.Around.{tally_of}
 use Rattle.render_run.proofs.TileLemmas.{holds_more, tile_rests, tile_reply}
 use Rattle.render_run.proofs.NeedLemmas.{keeps_tally, refusal_keeps}
+use Rattle.render_run.proofs.PinLemmas.{refusal_tells}
 use Rattle.render_run.proofs.worker.Worker.hold.Goals as goal
 
 -- fewer tiles are held
@@ -28,9 +29,11 @@ returns-in-Ok g c = record {
           g.T.W.World.lawful (rw c.held_count-place.ensures at c.held_rect.ensures)
           c.in-Ok.ensures.ok;
     };
+    pins = λ shards is. absurd cc;
     after = record {
       later = search rules;
       fresh = search rules;
+      permits = search rules;
       holds = holds_more g.T.W.World.files c.args.file c.args.desk.now.cache.now.gate.cut c.args.at
           c.args.self.now.pass c.get_tile.new.pass c.in-Ok.generation c.in-Ok.ensures.ok;
       cause = search rules;
@@ -63,6 +66,7 @@ returns-in-Err g c = record {
           (g.T.Tap.state c.get_tile.new.tap)) c.args.at (not_four c.args.self.now.pass one)
           c.in-Err.e c.in-Err.ensures.cause);
     };
+    pins = rw c.refusal.ensures (refusal_tells _ _ c.in-Err.e);
     after = search rules;
     tallies =
         rw c.refusal.ensures

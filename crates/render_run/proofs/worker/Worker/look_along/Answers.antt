@@ -2,6 +2,7 @@ use Rattle.std.proofs.Common.{◌≡◌, ◌∙◌, length, refl, sym, rules}
 use Rattle.texture_sys.specs.declared.lookup_request.LookupRequest.TheVariants.{Footprint}
 use Rattle.request_lang.specs.declared.answer.Answer.TheVariants as line
 use Rattle.render_run.proofs.NeedLemmas.{look_tally, look_fails, first_of}
+use Rattle.render_run.proofs.PinLemmas.{refusal_tells}
 use Rattle.render_run.proofs.worker.Worker.look_along.Goals as goal
 
 pub returns-in-Ok : goal.returns-in-Ok
@@ -20,6 +21,7 @@ returns-in-Ok g c =
             reply = c.in-Ok.ensures.value.value;
           });
         };
+        pins = λ shards is. absurd cc;
         after = search rules;
         tallies = look_tally g.T.W.World.files c.args.desk.now.cache.now.gate.cut c.args.file
             c.in-Ok.generation c.args.self.now.pass c.texture_d.new.pass
@@ -36,6 +38,7 @@ pub returns-in-Err : goal.returns-in-Err
 returns-in-Err g c = record {
   answer = record {
     meets = search rules;
+    pins = rw c.refusal.ensures (refusal_tells _ _ c.in-Err.e);
     after = search rules;
     tallies = rw c.refusal.ensures
         (look_fails g.T.W.World.files c.args.desk.now.cache.now.gate.cut c.args.file

@@ -8,6 +8,7 @@ pub returns-in-Ok : goal.returns-in-Ok
 returns-in-Ok g c = record {
   answer = record {
     meets = search rules;
+    pins = λ shards is. absurd cc;
     after = search rules;
     tallies = keeps_tally _ _ _ (tally_of c.args.self.now.pass)
         (tally_of c.release_tile.new.pass) _ refl c.release_tile.ensures.same.tiles
@@ -22,6 +23,7 @@ pub returns-in-Err-NothingHeld : goal.returns-in-Err-NothingHeld
 returns-in-Err-NothingHeld g c = record {
   answer = record {
     meets = search rules;
+    pins = λ shards is. absurd cc;
     after = search rules;
     tallies = keeps_tally _ _ _ (tally_of c.args.self.now.pass)
         (tally_of c.release_tile.new.pass) _ refl c.release_tile.ensures.same.tiles

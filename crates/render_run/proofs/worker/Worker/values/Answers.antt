@@ -6,6 +6,7 @@ use Rattle.image_cache.specs.Cause.{around}
 use Rattle.render_run.specs.Refusal.{refusal_of}
 use Rattle.render_run.proofs.RegionLemmas.{region_rests, region_reply}
 use Rattle.render_run.proofs.NeedLemmas.{region_tally, region_fails}
+use Rattle.render_run.proofs.PinLemmas.{refusal_tells}
 use Rattle.render_run.proofs.worker.Worker.values.Goals as goal
 
 -- what is not more than so many
@@ -31,6 +32,7 @@ returns-in-Ok g c = record {
           (c.in-Ok.ensures.count ∙ rw c.new-values.ensures.items (omega arith))
           (rw c.new-values.ensures.items at c.in-Ok.ensures.value) c.in-Ok.ensures.ok);
     };
+    pins = λ shards is. absurd cc;
     after = search rules;
     tallies =
         let fits : c.args.region.now.w * c.args.region.now.h ≤ max_texels =
@@ -62,6 +64,7 @@ returns-in-Err g c = record {
           (g.T.Tap.state c.get_pixels.new.tap)) c.args.region.now fits c.in-Err.e
           c.in-Err.ensures.cause);
     };
+    pins = rw c.refusal.ensures (refusal_tells _ _ c.in-Err.e);
     after = search rules;
     tallies =
         rw c.refusal.ensures
