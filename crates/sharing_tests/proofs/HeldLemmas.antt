@@ -1,16 +1,20 @@
 -- The one pin of a seat.
-use Rattle.std.proofs.Common.{◌≡◌, ℕ, zero, suc, ◌+◌, ◌*◌, ◌<◌, ◌≤◌, List, [], ◌∷◌, length}
+use Rattle.std.proofs.Common.{◌≡◌, ℕ, zero, suc, ◌+◌, ◌-◌, ◌*◌, ◌<◌, ◌≤◌, List, [], ◌∷◌, length}
+use Rattle.std.proofs.Common.{true, false, cond, nat_eq}
+use Rattle.std.proofs.Math.Nat.{eqb-true}
+use Rattle.std.specs.List.{sum_by}
 use Rattle.std.proofs.Common.{subst, ap, sym, ◌∙◌, refl, arith}
 use Rattle.std.proofs.Common.{Option, Some, None, IfSome, OnSome}
 use Rattle.std.specs.Prelude.{Contains, IsPermutation}
 use Rattle.std.proofs.lemmas.List.Sorted.{Contains-permutation, length_permutation}
+use Rattle.std.proofs.lemmas.List.Sorted.{sum_by-IsPermutation}
 use Rattle.std.proofs.lemmas.List.Elements.{Contains-get_or}
 use Rattle.shard_gate.specs.Seated.{ShardId}
 use Rattle.tex_world.specs.World.{Files}
 use Rattle.tiff_format.specs.declared.cut.Cut.{Cut}
 use Rattle.shard_gate.specs.Gate.{PinSeatState, PinState, IsTileOf, max_pins}
 use Rattle.shard_gate.specs.Gate.{OnePinMore, OnePinLess}
-use Rattle.sharing_tests.specs.Held.{HoldsAt}
+use Rattle.sharing_tests.specs.Held.{HoldsAt, SameKeys}
 
 -- A list of one element that has a key is that key alone.
 one_key : (key : ℕ) (keys : List ℕ) → length keys ≡ 1 → Contains keys key → keys ≡ key ∷ []
@@ -67,3 +71,57 @@ pub any_holds : (files : Files) (cut : Cut) (id : List ShardId) (key : ℕ) (old
 any_holds files cut id key old new None here none is more = tt
 any_holds files cut id key old new (Some pin) here none is more =
     holds id key pin.tile.key old new here none is.keyed more
+
+-- ---- several pins
+
+-- how often a key is among keys
+times : ℕ → List ℕ → ℕ
+times key = sum_by (λ (k : ℕ). cond (nat_eq k key) 1 0)
+
+behind : (key k : ℕ) (keys : List ℕ) → Contains keys key → Contains (k ∷ keys) key
+behind key k keys (i, low, is) = (suc i, omega (arith, low), is)
+
+-- A key that is counted among keys is one of them.
+counted_key : (key : ℕ) (keys : List ℕ) → 1 ≤ times key keys → Contains keys key
+counted_key key [] some = absurd (omega (arith, some))
+counted_key key (k ∷ keys) some =
+    (elim (nat_eq k key) as (λ b. nat_eq k key ≡ b → 1 ≤ cond b 1 0 + times key keys
+    → Contains (k ∷ keys) key) [
+      | true ↦ λ same _. (zero, omega arith, eqb-true k key same)
+      | false ↦ λ _ more. behind key k keys (counted_key key keys (omega (arith, more)))
+    ]) refl some
+
+-- With one pin more there is room for one less.
+pub room_inside : (key left : ℕ) (old new : PinSeatState) → OnePinMore key old new
+    → length old.pins + left ≤ max_pins * old.permits → 1 ≤ left
+    → length new.pins + (left - 1) ≤ max_pins * new.permits
+room_inside key left old new more room some =
+    subst (λ (n : ℕ). length new.pins + (left - 1) ≤ max_pins * n) (sym more.permits)
+    (omega (arith, length_permutation (key ∷ old.pins) new.pins more.pins, room, some))
+
+-- A pin is there as long as the keys stay.
+pub still_there : (key : ℕ) (old pinned new : PinSeatState) → OnePinMore key old pinned
+    → SameKeys pinned new → Contains new.pins key
+still_there key old pinned new more same = counted_key key new.pins (omega (
+  arith,
+  same.keys (λ (k : ℕ). cond (nat_eq k key) 1 0),
+  sum_by-IsPermutation (λ (k : ℕ). cond (nat_eq k key) 1 0) (key ∷ old.pins) pinned.pins more.pins,
+  one_time key,
+)) where
+  one_time : (key : ℕ) → cond (nat_eq key key) 1 0 ≡ 1
+  one_time zero = refl
+  one_time (suc key) = one_time key
+
+-- A pin that was given back leaves the keys of before.
+pub same_keys : (key : ℕ) (old pinned inside new : PinSeatState) → OnePinMore key old pinned
+    → SameKeys pinned inside → OnePinLess key inside new → SameKeys old new
+same_keys key old pinned inside new more same less = record {
+  gate = less.gate ∙ same.gate ∙ more.gate;
+  permits = less.permits ∙ same.permits ∙ more.permits;
+  keys = λ f. omega (
+    arith,
+    same.keys f,
+    sum_by-IsPermutation f (key ∷ old.pins) pinned.pins more.pins,
+    sum_by-IsPermutation f inside.pins (key ∷ new.pins) less.pins,
+  );
+}

@@ -1,5 +1,6 @@
 -- What does a test know of a seat that holds no pin, or one?
 use Rattle.std.specs.Prelude.{◌≡◌, ℕ, List, [], ◌∷◌}
+use Rattle.std.specs.List.{sum_by}
 use Rattle.shard_gate.specs.Seated.{ShardId}
 use Rattle.shard_gate.specs.Gate.{PinSeatState}
 
@@ -10,3 +11,10 @@ IsIdleAt id seat = (seat.gate ≡ id) × (seat.pins ≡ [])
 -- the seat belongs to this gate and holds one pin, of this key
 abbrev pub HoldsAt : List ShardId → ℕ → PinSeatState → Type 0
 HoldsAt id key seat = (seat.gate ≡ id) × (seat.pins ≡ key ∷ [])
+
+-- The seat belongs to the same gate and has the same permits, and its pins are of the same keys, in
+-- whatever order: what is summed over them stays.
+pub record SameKeys (old new : PinSeatState) : Type 0 where
+  pub gate : new.gate ≡ old.gate
+  pub permits : new.permits ≡ old.permits
+  pub keys : (f : ℕ → ℕ) → sum_by f new.pins ≡ sum_by f old.pins

@@ -11,6 +11,8 @@ mod boards;
 #[cfg(test)]
 mod gate_calls;
 #[cfg(test)]
+mod gate_pins;
+#[cfg(test)]
 mod gate_steps;
 #[cfg(test)]
 mod gate_threads;
