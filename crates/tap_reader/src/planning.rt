@@ -3,7 +3,7 @@ ghost use Rattle.std.specs.Prelude.{◌≡◌, ◌<◌, length, IfSome};
 
 use crate::cell_rows::{CellRows, twice};
 use crate::course::Course;
-use crate::read_ahead::ReadAhead;
+use crate::read_ahead::{MAX_AHEAD_BYTES, MAX_STRETCH_BYTES, ReadAhead};
 use crate::rows::Rows;
 use crate::stretch::Stretch;
 use tex_world::World;
@@ -68,14 +68,20 @@ fn oldest(stretches: &[Stretch]) -> Option<usize> {
     Some(slot)
 }
 
+/// How many stretches may be kept where each has the rows of at least such a cell.
+fn stretches_for(rows: &Rows) -> usize {
+    let size = rows.size().max(MAX_STRETCH_BYTES);
+    (MAX_AHEAD_BYTES / size).max(1).min(MAX_STRETCHES)
+}
+
 impl<W: World> ReadAhead<W> {
     /// A stretch for a reading that begins: a new one as long as there are few and memory is found,
     /// else the one that was used longest ago.
-    fn spare(&mut self) -> Option<usize>
+    fn spare(&mut self, most: usize) -> Option<usize>
         ensures { self.new ≡ self.old }
     {
         let count = self.stretches.len();
-        if count < MAX_STRETCHES && self.stretches.push(Stretch::blank()).is_ok() {
+        if count < most && self.stretches.push(Stretch::blank()).is_ok() {
             return Some(count);
         }
         oldest(&self.stretches)
@@ -83,14 +89,15 @@ impl<W: World> ReadAhead<W> {
 
     /// Where the rows of a cell are read to that are not there, and how many cells with them: twice as
     /// many as by the reading that the cell goes on from, to the right or below, and else it alone.
-    fn begin(&mut self, at: u64) -> Option<(usize, u64)>
+    fn begin(&mut self, cell: &CellRows) -> Option<(usize, u64)>
         ensures { self.new ≡ self.old }
     {
+        let at = cell.rows.at;
         if let Some(slot) = slot_left_of(&self.stretches, at) {
             return Some((slot, twice(self.stretches[slot].course.cells)));
         }
         let cells = twice(cells_above(&self.stretches, at)).max(1);
-        let slot = self.spare()?;
+        let slot = self.spare(stretches_for(&cell.rows))?;
         Some((slot, cells))
     }
 
@@ -114,7 +121,7 @@ impl<W: World> ReadAhead<W> {
     pub fn window(&mut self) -> Option<Band>
         ensures { self.new ≡ self.old }
     {
-        let slot = self.spare()?;
+        let slot = self.spare(MAX_STRETCHES)?;
         Some(Band {
             slot,
             rows: None,
@@ -136,7 +143,7 @@ impl<W: World> ReadAhead<W> {
                 is_window: false,
             });
         }
-        let (slot, cells) = self.begin(cell.rows.at)?;
+        let (slot, cells) = self.begin(cell)?;
         self.pass(slot, cell, cells);
         Some(Band {
             slot,
