@@ -1,15 +1,15 @@
 //! What is answered where no memory is found, one growth refused in each run (`rt try --test
-//! --fail-alloc N`): a texel is answered apart, or a lookup is refused once it has opened the file.
+//! --fail-alloc N`): a texel is answered apart. A lookup that need not open the file is not refused,
+//! and neither is one that opens it since its record could not be shared.
 ghost use Rattle.std.specs.Prelude.{ℕ, ◌≡◌, ◌<◌};
 ghost use Rattle.tex_world.specs.World.{IsFile};
 
-use crate::asks::Answer::{Nothing, Of, Other, Shard, There};
+use crate::asks::Answer::{Nothing, Of, Shard, There};
 use crate::asks::Ask::{Count, Fetch, HasLocal, Invalidate, Open, Texture};
 use crate::asks::{Ask, Look};
 use crate::planned::{NO_BYTES, ONE_SHARD, PLAIN};
 use crate::small_files::{A, SmallFiles};
-use crate::steps::Shows;
-use crate::worker::{BEFORE, Worker};
+use crate::worker::Worker;
 use image_cache::{Cache, Options};
 use std::alloc::Global;
 use tex_world::{Folder, MemFolder, Plan, Tap};
@@ -24,8 +24,6 @@ enum Met {
     Calm,
     /// A texel was answered apart.
     Apart,
-    /// Memory was wanting, and the tap had a call.
-    Refused,
     /// It was not made, since an earlier growth was refused.
     Unmade,
     /// None of these.
@@ -72,7 +70,7 @@ const VALUE: u16 = 4369;
 
 const SHARE: u64 = 268435456;
 
-impl<T: Tap + Shows> Worker<'_, T> {
+impl<T: Tap> Worker<'_, T> {
     // The one value that the latest call left, if it left one.
     fn value(&self) -> Option<u16> {
         match self.out.as_slice() {
@@ -102,12 +100,8 @@ impl<T: Tap + Shows> Worker<'_, T> {
         if self.ask(lookup) != Of(1) || self.ask(Invalidate(A, false)) != Of(1) {
             return Met::Unmade;
         }
-        let before = self.calls(PLAIN);
         let answer = self.ask(lookup);
         let value = self.value();
-        if answer == Other && value == Some(BEFORE) && before < self.calls(PLAIN) {
-            return Met::Refused;
-        }
         match self.counts() {
             [8, 6, 0] if answer == Of(1) && value == Some(MEAN) => Met::Calm,
             [8, 5, 1] if answer == Of(1) && value == Some(MEAN) => Met::Apart,
@@ -142,7 +136,7 @@ impl<T: Tap + Shows> Worker<'_, T> {
     }
 }
 
-fn met_by<T: Tap + Drop + Shows>(alloc: Global, options: Options, taps: Vec<T>, asked: Asked) -> Met
+fn met_by<T: Tap + Drop>(alloc: Global, options: Options, taps: Vec<T>, asked: Asked) -> Met
     requires told { (file : ℕ) → file < 5 → IsFile T.W.files file }
 {
     let Ok((cache, pass)) = Cache::new(alloc, options, 5) else {

@@ -50,8 +50,8 @@ fn are_same(values: &[u16], wanted: &[u16]) -> bool {
 }
 
 impl<T: Tap + Shows> Worker<'_, T> {
-    /// The calls that a tap has had, 0 where there is no such tap.
-    pub(crate) fn calls(&self, tap: usize) -> u64 {
+    // The calls that a tap has had, 0 where there is no such tap.
+    fn calls(&self, tap: usize) -> u64 {
         match self.taps.get(tap) {
             Some(tap) => tap.shown(),
             None => 0,

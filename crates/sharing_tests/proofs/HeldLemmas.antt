@@ -1,7 +1,8 @@
 -- The one pin of a seat.
 use Rattle.std.proofs.Common.{◌≡◌, ℕ, zero, suc, ◌+◌, ◌-◌, ◌*◌, ◌<◌, ◌≤◌, List, [], ◌∷◌, length}
-use Rattle.std.proofs.Common.{true, false, cond, nat_eq}
-use Rattle.std.proofs.Math.Nat.{eqb-true}
+use Rattle.std.proofs.Common.{Bool, true, false, cond, nat_eq, eqb-true}
+use Rattle.std.proofs.lemmas.Bool.{eq-eqb}
+use Rattle.std.proofs.lemmas.List.Sums.{sum_by-cons}
 use Rattle.std.specs.List.{sum_by}
 use Rattle.std.proofs.Common.{subst, ap, sym, ◌∙◌, refl, arith}
 use Rattle.std.proofs.Common.{Option, Some, None, IfSome, OnSome}
@@ -75,21 +76,25 @@ any_holds files cut id key old new (Some pin) here none is more =
 -- ---- several pins
 
 -- how often a key is among keys
-times : ℕ → List ℕ → ℕ
-times key = sum_by (λ (k : ℕ). cond (nat_eq k key) 1 0)
+abbrev times : ℕ → List ℕ → ℕ
+times key keys = sum_by (λ (k : ℕ). cond (nat_eq k key) 1 0) keys
 
 behind : (key k : ℕ) (keys : List ℕ) → Contains keys key → Contains (k ∷ keys) key
 behind key k keys (i, low, is) = (suc i, omega (arith, low), is)
 
 -- A key that is counted among keys is one of them.
 counted_key : (key : ℕ) (keys : List ℕ) → 1 ≤ times key keys → Contains keys key
-counted_key key [] some = absurd (omega (arith, some))
+counted_key key [] some =
+    let none : 1 ≤ zero = some in
+    absurd (omega (arith, none))
 counted_key key (k ∷ keys) some =
     (elim (nat_eq k key) as (λ b. nat_eq k key ≡ b → 1 ≤ cond b 1 0 + times key keys
     → Contains (k ∷ keys) key) [
       | true ↦ λ same _. (zero, omega arith, eqb-true k key same)
-      | false ↦ λ _ more. behind key k keys (counted_key key keys (omega (arith, more)))
-    ]) refl some
+      | false ↦ λ _ more.
+          let rest : 1 ≤ zero + times key keys = more in
+          behind key k keys (counted_key key keys (omega (arith, rest)))
+    ]) refl (subst (λ (n : ℕ). 1 ≤ n) (sum_by-cons (λ (j : ℕ). cond (nat_eq j key) 1 0) k keys) some)
 
 -- With one pin more there is room for one less.
 pub room_inside : (key left : ℕ) (old new : PinSeatState) → OnePinMore key old new
@@ -99,18 +104,29 @@ room_inside key left old new more room some =
     subst (λ (n : ℕ). length new.pins + (left - 1) ≤ max_pins * n) (sym more.permits)
     (omega (arith, length_permutation (key ∷ old.pins) new.pins more.pins, room, some))
 
+-- what is summed over the keys of a seat with one pin more, or less
+sum_more : (f : ℕ → ℕ) (key : ℕ) (old new : PinSeatState) → OnePinMore key old new
+    → sum_by f new.pins ≡ f key + sum_by f old.pins
+sum_more f key old new more =
+    sum_by-IsPermutation f (key ∷ old.pins) new.pins more.pins ∙ sum_by-cons f key old.pins
+
+sum_less : (f : ℕ → ℕ) (key : ℕ) (old new : PinSeatState) → OnePinLess key old new
+    → f key + sum_by f new.pins ≡ sum_by f old.pins
+sum_less f key old new less =
+    sym (sum_by-cons f key new.pins) ∙ sum_by-IsPermutation f old.pins (key ∷ new.pins) less.pins
+
+-- a key is equal to itself
+one_time : (key : ℕ) → 1 ≤ cond (nat_eq key key) 1 0
+one_time key = subst (λ (b : Bool). 1 ≤ cond b 1 0) (sym (eq-eqb key key refl)) (omega arith)
+
 -- A pin is there as long as the keys stay.
 pub still_there : (key : ℕ) (old pinned new : PinSeatState) → OnePinMore key old pinned
     → SameKeys pinned new → Contains new.pins key
-still_there key old pinned new more same = counted_key key new.pins (omega (
-  arith,
-  same.keys (λ (k : ℕ). cond (nat_eq k key) 1 0),
-  sum_by-IsPermutation (λ (k : ℕ). cond (nat_eq k key) 1 0) (key ∷ old.pins) pinned.pins more.pins,
-  one_time key,
-)) where
-  one_time : (key : ℕ) → cond (nat_eq key key) 1 0 ≡ 1
-  one_time zero = refl
-  one_time (suc key) = one_time key
+still_there key old pinned new more same =
+    let f : ℕ → ℕ = λ (k : ℕ). cond (nat_eq k key) 1 0 in
+    counted_key key new.pins
+    (subst (λ (n : ℕ). 1 ≤ n) (sym (same.keys f ∙ sum_more f key old pinned more))
+    (omega (arith, one_time key)))
 
 -- A pin that was given back leaves the keys of before.
 pub same_keys : (key : ℕ) (old pinned inside new : PinSeatState) → OnePinMore key old pinned
@@ -121,7 +137,7 @@ same_keys key old pinned inside new more same less = record {
   keys = λ f. omega (
     arith,
     same.keys f,
-    sum_by-IsPermutation f (key ∷ old.pins) pinned.pins more.pins,
-    sum_by-IsPermutation f inside.pins (key ∷ new.pins) less.pins,
+    sum_more f key old pinned more,
+    sum_less f key inside new less,
   );
 }

@@ -24,7 +24,7 @@ fn kept(gate: &OneGate, alloc: Global, seat: &mut OneSeat, index: u32) -> Result
     }
 }
 
-#[tactic(auto, using(crate::proofs::HeldLemmas::room_inside, crate::proofs::HeldLemmas::still_there, crate::proofs::HeldLemmas::same_keys))]
+#[tactic(auto, using(crate::proofs::HeldLemmas::same_keys))]
 // The counts while so many cells are pinned, one inside another.
 fn counts_inside(
     gate: &OneGate,
