@@ -1,6 +1,6 @@
 -- What are the counts of a tap of a real folder, and what does a refused read name?
-use Rattle.std.specs.Prelude.{◌≡◌, ◌<◌, ⊤}
-use Rattle.tex_world.specs.Counts.{Rises}
+use Rattle.std.specs.Prelude.{◌≡◌, ◌+◌, ◌<◌, min, Result, Ok, Err, ⊤}
+use Rattle.tex_world.specs.Counts.{last_count, Rises}
 use Rattle.tex_world.specs.World.{IsReal}
 use Rattle.tex_world.specs.Tap.{TapState, Named}
 use Rattle.tex_world.specs.declared.fault.ReadError.{ReadError}
@@ -40,3 +40,13 @@ pub record AddsLoss (old new : TapState) : Type 0 where
 abbrev pub NamesNewer : Named → ReadError → Type 0
 NamesNewer handle Failed = ⊤
 NamesNewer handle (Gone to) = IsReal untold_files handle.file to × (handle.generation < to)
+
+-- what a read counts by its answer: nothing, a fault, or that its generation was lost
+abbrev pub MeetsRead : TapState → TapState → Result (Unit {0}) ReadError → Type 0
+MeetsRead old new (Ok x) = new ≡ old
+MeetsRead old new (Err Failed) = AddsFault old new
+MeetsRead old new (Err (Gone to)) = AddsLoss old new
+
+-- the tap has looked at a file twice; a count of looks that stood at the end still stands there
+abbrev pub LooksTwice : {R : Type 0} → RealTap R → RealTap R → Type 0
+LooksTwice old new = new.looks ≡ min (old.looks + 2) last_count

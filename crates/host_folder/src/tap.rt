@@ -1,10 +1,11 @@
 //! A source of the bytes of a real folder's files.
-ghost use Rattle.std.specs.Prelude.{◌≡◌, ◌<◌, ◌≤◌, IfErr, IfSome};
+ghost use Rattle.std.specs.Prelude.{◌≡◌, ◌+◌, ◌<◌, ◌≤◌, min, OnOk, IfErr, IfSome};
+ghost use Rattle.tex_world.specs.Counts.{last_count};
 ghost use Rattle.tex_world.specs.World.{last_generation};
 ghost use Rattle.tex_world.specs.Tap.{IsNew};
 ghost use Rattle.host_folder.specs.RealHandle.{handle_named};
 ghost use Rattle.host_folder.specs.RealTap.{tap_state, AddsFault, AddsMove, AddsLoss};
-ghost use Rattle.host_folder.specs.RealTap.{NamesNewer};
+ghost use Rattle.host_folder.specs.RealTap.{NamesNewer, MeetsRead, LooksTwice};
 ghost use Rattle.host_folder.specs.Stamp.{stamps};
 
 use crate::handle::RealHandle;
@@ -33,6 +34,8 @@ pub struct RealTap<R> {
     moves: u64,
     lost: u64,
     newest: (u32, u32),
+    /// How often reads looked at their files.
+    looks: u64,
 }
 
 /// A generation of a file, with what was seen of the file at it.
@@ -40,6 +43,15 @@ pub struct RealTap<R> {
 struct Settled {
     generation: u32,
     look: Look,
+}
+
+/// Rows of so many bytes, the first from a place on, each `stride` bytes behind the one before.
+#[derive(Clone, Copy)]
+struct Rows {
+    at: u64,
+    stride: u64,
+    row: usize,
+    ghost some: { 1 ≤ row },
 }
 
 impl<R> RealTap<R> {
@@ -57,6 +69,7 @@ impl<R> RealTap<R> {
             moves: 0,
             lost: 0,
             newest: (0, 0),
+            looks: 0,
         }
     }
 
@@ -94,6 +107,19 @@ impl<R> RealTap<R> {
     {
         self.moves = self.moves.saturating_add(1);
         self.lost = self.lost.saturating_add(1);
+    }
+
+    /// Counts what a read met.
+    fn told(&mut self, read: Result<(), ReadError>) -> Result<(), ReadError>
+        ensures same { result ≡ read }
+        ensures met { MeetsRead (tap_state self.old) (tap_state self.new) read }
+    {
+        match read {
+            Ok(()) => {}
+            Err(ReadError::Failed) => self.count_fault(),
+            Err(ReadError::Gone(_to)) => self.count_loss(),
+        }
+        read
     }
 
     /// The path that opens a file.
@@ -158,8 +184,10 @@ impl<R: Files<File = File>> RealTap<R> {
 
     /// Fills the buffer from the open file, where the stamp is that of the handle before the read
     /// and after it.
-    fn fill(&self, h: &RealHandle, at: u64, buf: &mut [u8]) -> Result<(), ReadError>
-        ensures { IfErr result (NamesNewer (handle_named h.now)) }
+    fn fill(&mut self, h: &RealHandle, at: u64, buf: &mut [u8]) -> Result<(), ReadError>
+        ensures same { tap_state self.new ≡ tap_state self.old }
+        ensures looks { OnOk result (LooksTwice self.old self.new) }
+        ensures newer { IfErr result (NamesNewer (handle_named h.now)) }
     {
         self.stay(h)?;
         let read = h.source().read_exact_at(buf, at);
@@ -170,11 +198,27 @@ impl<R: Files<File = File>> RealTap<R> {
         }
     }
 
+    /// Fills the buffer with rows from the open file, where the stamp is that of the handle before
+    /// all of them are read and after.
+    fn fill_rows(&mut self, h: &RealHandle, rows: Rows, buf: &mut [u8]) -> Result<(), ReadError>
+        ensures same { tap_state self.new ≡ tap_state self.old }
+        ensures looks { OnOk result (LooksTwice self.old self.new) }
+        ensures newer { IfErr result (NamesNewer (handle_named h.now)) }
+    {
+        self.stay(h)?;
+        let read = are_read(h.source(), rows, buf);
+        self.stay(h)?;
+        if read { Ok(()) } else { Err(ReadError::Failed) }
+    }
+
     /// Nothing where the file at the handle's path still has the stamp of its generation. Else the
     /// generation that the file has now, if that is a newer one.
-    fn stay(&self, h: &RealHandle) -> Result<(), ReadError>
-        ensures { IfErr result (NamesNewer (handle_named h.now)) }
+    fn stay(&mut self, h: &RealHandle) -> Result<(), ReadError>
+        ensures same { tap_state self.new ≡ tap_state self.old }
+        ensures looks { self.new.looks ≡ min (self.old.looks + 1) last_count }
+        ensures newer { IfErr result (NamesNewer (handle_named h.now)) }
     {
+        self.looks = self.looks.saturating_add(1);
         match self.look(h.file()) {
             Some(look) if look.stamp == h.stamp() => return Ok(()),
             _ => {}
@@ -214,6 +258,22 @@ fn is_seen(source: &File, look: Look) -> bool {
         },
         Err(_) => false,
     }
+}
+
+/// Fills the buffer with rows from an open file: at once where they stand side by side. Whether all
+/// were read.
+fn are_read(source: &File, rows: Rows, buf: &mut [u8]) -> bool {
+    if rows.row as u64 == rows.stride {
+        return source.read_exact_at(buf, rows.at).is_ok();
+    }
+    let mut at = rows.at;
+    for part in buf.chunks_mut(rows.row) {
+        if source.read_exact_at(part, at).is_err() {
+            return false;
+        }
+        at = at.saturating_add(rows.stride);
+    }
+    true
 }
 
 impl<R: Files<File = File>> Tap for RealTap<R> {
@@ -262,16 +322,21 @@ impl<R: Files<File = File>> Tap for RealTap<R> {
     /// of the open file.
     fn read_at(&mut self, h: &mut RealHandle, at: u64, buf: &mut [u8]) -> Result<(), ReadError> {
         self.calls = self.calls.saturating_add(1);
-        match self.fill(h, at, buf) {
-            Ok(()) => Ok(()),
-            Err(ReadError::Failed) => {
-                self.count_fault();
-                Err(ReadError::Failed)
-            }
-            Err(ReadError::Gone(to)) => {
-                self.count_loss();
-                Err(ReadError::Gone(to))
-            }
-        }
+        let read = self.fill(h, at, buf);
+        self.told(read)
+    }
+
+    /// It looks at the stamp before the first row and after the last one.
+    fn read_rows(
+        &mut self,
+        h: &mut RealHandle,
+        at: u64,
+        stride: u64,
+        row: usize,
+        buf: &mut [u8],
+    ) -> Result<(), ReadError> {
+        self.calls = self.calls.saturating_add(1);
+        let read = self.fill_rows(h, Rows { at, stride, row }, buf);
+        self.told(read)
     }
 }

@@ -1,22 +1,17 @@
-ghost use Rattle.std.specs.Prelude.{◌≡◌, ◌+◌, ◌≤◌, refl, length, IfSome};
+ghost use Rattle.std.specs.Prelude.{◌≡◌, ◌*◌, ◌≤◌, ℕ, List, refl, length, IfSome};
+ghost use Rattle.tiff_format.specs.Bytes.{IsPartAt};
+ghost use Rattle.tex_world.specs.Tap.{AreRows};
 ghost use Rattle.std.proofs.Common.{◌∙◌, sym};
-ghost use Rattle.tap_reader.specs.ReadAhead.{max_ahead_bytes};
+ghost use Rattle.tap_reader.specs.ReadAhead.{max_ahead_bytes, AreRowsOf};
 ghost use Rattle.tap_reader.specs.TapReader.{lent_of, KeepsTap, RefusesTap};
 ghost use Rattle.tap_reader.specs.TapReaderLaws.{KeepsTap-itself, KeepsTap-chains};
 ghost use Rattle.tap_reader.specs.TapReaderLaws.{same_len, same_held};
 
+use crate::planning::Band;
 use crate::read_ahead::{MAX_AHEAD_BYTES, ReadAhead};
+use crate::rows::Rows;
 use tex_world::{ReadError, Tap, TapHandle};
 use tiff_dirs::ByteReader;
-
-/// Bytes of a plane of a file that are to be read at once where a reading begins with the first of
-/// them.
-#[derive(Clone, Copy, Debug)]
-pub struct Band {
-    pub plane: usize,
-    pub at: u64,
-    pub size: u64,
-}
 
 /// A tap, a handle of its, and what was read ahead, lent for the reading of one file. What was read
 /// ahead is read without a call of the tap. What a read refuses is the tap's refusal.
@@ -28,21 +23,35 @@ pub struct AheadReader<'t, 'h, 'a, 'b, T: Tap> {
     pub bands: &'b [Band],
 }
 
-/// The band that begins with so many bytes from a place on, where it lies below a length of the
-/// file.
-fn band_at(bands: &[Band], at: u64, size: usize, len: u64) -> Option<Band>
-    ensures begins { IfSome result (λ band. (band.at ≡ at) × (size ≤ band.size)) }
-    ensures below { IfSome result (λ band. band.at + band.size ≤ len) }
-    ensures few { IfSome result (λ band. band.size ≤ max_ahead_bytes) }
+/// The rows of a band that are to be read where a reading begins with so many bytes from a place on,
+/// with the number of the stretch, where they lie below a length of the file.
+fn rows_at(bands: &[Band], at: u64, size: usize, len: u64) -> Option<(usize, Rows)>
+    ensures begins { IfSome result (λ found. (found.1.at ≡ at) × (size ≤ found.1.row)) }
+    ensures below { IfSome result (λ found. AreRows found.1.at found.1.stride found.1.row
+        (found.1.row * found.1.count) len) }
+    ensures long { IfSome result (λ found. size ≤ found.1.row * found.1.count) }
+    ensures few { IfSome result (λ found. found.1.row * found.1.count ≤ max_ahead_bytes) }
 {
     for band in bands {
-        let begins = band.at == at && size as u64 <= band.size;
-        let fits = band.size <= MAX_AHEAD_BYTES as u64 && at <= len && band.size <= len - at;
-        if begins && fits {
-            return Some(*band);
+        let Some(rows) = band.rows else {
+            continue;
+        };
+        let begins = rows.at == at && size <= rows.row && size <= rows.size();
+        if begins && rows.size() <= MAX_AHEAD_BYTES && rows.lie_below(len) {
+            return Some((band.slot, rows));
         }
     }
     None
+}
+
+/// The first bytes of rows.
+fn first_of(bytes: &[u8], rows: Rows, size: usize) -> &[u8]
+    requires row { size ≤ rows.row }
+    requires there { size ≤ length bytes.now }
+    ensures long { length result.now ≡ size }
+    ensures told { (all : List ℕ) → AreRowsOf all rows bytes.now → IsPartAt all rows.at result.now }
+{
+    &bytes[..size]
 }
 
 impl<'t, 'h, 'a, 'b, T: Tap> ByteReader for AheadReader<'t, 'h, 'a, 'b, T> {
@@ -89,19 +98,20 @@ impl<'t, 'h, 'a, 'b, T: Tap> ByteReader for AheadReader<'t, 'h, 'a, 'b, T> {
         if !is_own {
             return self.tap.read_at(self.handle, at, buf);
         }
-        if let Some(part) = self.ahead.part(at, buf.len()) {
+        if let Some(part) = self.ahead.part(self.bands, at, buf.len()) {
             buf.copy_from_slice(part);
             return Ok(());
         }
-        let Some(band) = band_at(self.bands, at, buf.len(), self.handle.len()) else {
+        let Some((slot, rows)) = rows_at(self.bands, at, buf.len(), self.handle.len()) else {
             return self.tap.read_at(self.handle, at, buf);
         };
-        let Some(mut room) = self.ahead.room(band.size as usize) else {
+        let Some(mut room) = self.ahead.room(rows.size()) else {
             return self.tap.read_at(self.handle, at, buf);
         };
-        self.tap.read_at(self.handle, at, &mut room)?;
-        buf.copy_from_slice(&room[..buf.len()]);
-        self.ahead.put(band.plane, at, room);
+        self.tap
+            .read_rows(self.handle, rows.at, rows.stride, rows.row, &mut room)?;
+        buf.copy_from_slice(first_of(&room, rows, buf.len()));
+        self.ahead.put(slot, rows, room);
         Ok(())
     }
 }

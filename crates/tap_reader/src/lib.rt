@@ -2,12 +2,19 @@
 #![tactic(auto)]
 
 mod ahead_reader;
+mod cell_rows;
+mod course;
 mod open_file;
+mod planning;
 mod read_ahead;
 mod reader;
+mod rows;
 mod stretch;
 
-pub use ahead_reader::{AheadReader, Band};
+pub use ahead_reader::AheadReader;
+pub use cell_rows::CellRows;
 pub use open_file::OpenFile;
+pub use planning::Band;
 pub use read_ahead::{MAX_AHEAD_BYTES, ReadAhead};
 pub use reader::TapReader;
+pub use rows::Rows;

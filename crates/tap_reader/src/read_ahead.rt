@@ -1,26 +1,32 @@
-ghost use Rattle.std.specs.Prelude.{◌≡◌, ◌≤◌, ◌↔◌, length, IsTrue, IfSome};
-ghost use Rattle.tap_reader.specs.ReadAhead.{max_ahead_bytes, bytes_of, IsOf, StandAt};
+ghost use Rattle.std.specs.Prelude.{◌≡◌, ◌≤◌, ◌↔◌, ℕ, length, IsTrue, IfSome};
+ghost use Rattle.tex_world.specs.World.{Files};
+ghost use Rattle.tap_reader.specs.ReadAhead.{max_ahead_bytes, bytes_of, IsOf, StandAt, StandAsRows};
+ghost use Rattle.tap_reader.specs.ReadAhead.{AreStretchesOf};
 
+use crate::planning::Band;
+use crate::rows::Rows;
 use crate::stretch::Stretch;
 use std::alloc::Global;
 use std::marker::{Model, PhantomData};
+use std::mem;
 use std::sync::Arc;
 use tex_world::World;
 
 /// The most bytes that are kept of those that were read ahead of one file: 4 MiB.
 pub const MAX_AHEAD_BYTES: usize = 4194304;
 
-/// Bytes of one generation of a file that were read ahead: a stretch of them for each plane of a
-/// level. Where the world tells they are those of the file. In a clause it is the generation of the
+/// The most bytes that are read into one stretch where cells are read ahead.
+pub(crate) const MAX_STRETCH_BYTES: usize = 524288;
+
+/// Bytes of one generation of a file that were read ahead, in stretches: each of the cells that follow
+/// each other in a row of cells of a plane. Where the world tells they are those of the file. In a clause it is the generation of the
 /// file, and how many bytes there are.
 #[derive(Drop)]
 pub struct ReadAhead<W: World> {
     alloc: Global,
     file: u32,
     generation: u32,
-    stretches: Vec<Stretch>,
-    /// Bytes were put since it was shared.
-    is_fresh: bool,
+    pub(crate) stretches: Vec<Stretch>,
     world: PhantomData<W>,
 }
 
@@ -53,6 +59,34 @@ fn are_few(stretches: &[Stretch]) -> bool
     true
 }
 
+/// Exchanges two lists where the other one is longer.
+fn put_longer_first(own: &mut Vec<Stretch>, other: &mut Vec<Stretch>)
+    ensures { (files : Files) → (file generation : ℕ)
+        → AreStretchesOf files file generation own.old.items
+        → AreStretchesOf files file generation other.old.items
+        → AreStretchesOf files file generation own.new.items
+        × AreStretchesOf files file generation other.new.items }
+{
+    if own.len() < other.len() {
+        mem::swap(own, other);
+    }
+}
+
+/// Exchanges each stretch for the one of the same number that was used later.
+fn take_later(own: &mut Vec<Stretch>, other: &mut Vec<Stretch>)
+    ensures { (files : Files) → (file generation : ℕ)
+        → AreStretchesOf files file generation own.old.items
+        → AreStretchesOf files file generation other.old.items
+        → AreStretchesOf files file generation own.new.items
+        × AreStretchesOf files file generation other.new.items }
+{
+    for k in 0..own.len().min(other.len()) {
+        if own[k].course.used < other[k].course.used {
+            mem::swap(&mut own[k], &mut other[k]);
+        }
+    }
+}
+
 impl<W: World> ReadAhead<W> {
     /// Of this generation of a file nothing was read ahead. It takes no memory.
     pub fn none(alloc: Global, file: u32, generation: u32) -> ReadAhead<W>
@@ -64,7 +98,6 @@ impl<W: World> ReadAhead<W> {
             file,
             generation,
             stretches: Vec::new(alloc),
-            is_fresh: false,
             world: PhantomData,
         }
     }
@@ -85,7 +118,6 @@ impl<W: World> ReadAhead<W> {
             file: self.file,
             generation: self.generation,
             stretches: shared,
-            is_fresh: false,
             world: PhantomData,
         })
     }
@@ -121,67 +153,42 @@ impl<W: World> ReadAhead<W> {
     }
 
     /// Which of two of a file stays, and the other one: the one of the newer generation; of one
-    /// generation this one, unless no bytes were put to it and the other one has some. That then
-    /// remembers where readings stopped.
-    pub fn over(self, mut kept: ReadAhead<W>) -> (ReadAhead<W>, ReadAhead<W>) {
+    /// generation this one, with each stretch of the other one that was used later.
+    pub fn over(mut self, mut kept: ReadAhead<W>) -> (ReadAhead<W>, ReadAhead<W>) {
         if self.generation < kept.generation {
             return (kept, self);
         }
-        if self.generation == kept.generation && !self.is_fresh && kept.len() > 0 {
-            kept.stop_as(&self);
-            return (kept, self);
+        if self.generation == kept.generation && self.file == kept.file {
+            self.gather(&mut kept);
         }
         (self, kept)
     }
 
-    /// Remembers that readings stopped where they did for another one.
-    fn stop_as(&mut self, other: &ReadAhead<W>)
-        ensures { self.new ≡ self.old }
+    /// Takes each stretch of another one that was used later, for its own.
+    fn gather(&mut self, other: &mut ReadAhead<W>)
+        requires { IsOf self.old.file self.old.generation other.old }
+        ensures own { IsOf self.old.file self.old.generation self.new }
+        ensures other { IsOf self.old.file self.old.generation other.new }
     {
-        for k in 0..other.stretches.len() {
-            self.stop_at(k, other.stretches[k].next);
+        put_longer_first(&mut self.stretches, &mut other.stretches);
+        take_later(&mut self.stretches, &mut other.stretches);
+        if !are_few(&self.stretches) || !are_few(&other.stretches) {
+            self.stretches.clear();
+            other.stretches.clear();
         }
     }
 
-    /// A reading of plane k from this place on goes on where the latest one stopped, or behind what
-    /// was read ahead of it.
-    pub fn goes_on_at(&self, k: usize, at: u64) -> bool {
-        match self.stretches.get(k) {
-            Some(stretch) => stretch.goes_on_at(at),
-            None => false,
-        }
-    }
-
-    /// Has a stretch for plane k be there, behind those of the planes before it, unless no memory
-    /// is found.
-    fn ready(&mut self, k: usize)
-        ensures { self.new ≡ self.old }
-    {
-        if k == self.stretches.len() {
-            let _full = self.stretches.push(Stretch::blank());
-        }
-    }
-
-    /// Remembers that the latest reading of plane k stopped at this place. Planes are named in
-    /// their order; where no memory is found nothing is remembered.
-    pub fn stop_at(&mut self, k: usize, next: u64)
-        ensures { self.new ≡ self.old }
-    {
-        self.ready(k);
-        if k < self.stretches.len() {
-            self.stretches[k].next = next;
-        }
-    }
-
-    /// So many bytes from a place on, where they are all there.
-    pub fn part(&self, at: u64, size: usize) -> Option<&[u8]>
+    /// So many bytes from a place on, where they are all there in one of the stretches of these bands.
+    pub fn part(&self, bands: &[Band], at: u64, size: usize) -> Option<&[u8]>
         ensures long { IfSome result (λ part. length part.now ≡ size) }
         ensures told { IfSome result (λ part.
             StandAt W.files self.now.file self.now.generation at part.now) }
     {
-        for stretch in &self.stretches {
-            if let Some(part) = stretch.part(at, size) {
-                return Some(part);
+        for band in bands {
+            if let Some(stretch) = self.stretches.get(band.slot) {
+                if let Some(part) = stretch.part(at, size) {
+                    return Some(part);
+                }
             }
         }
         None
@@ -194,22 +201,21 @@ impl<W: World> ReadAhead<W> {
         vec![in self.alloc; 0u8; size].ok()
     }
 
-    /// These bytes of plane k were read from this place on. They take the place of those that there
-    /// were; where all together are more than may be kept, none is. Where no memory is found it stays
-    /// as it was.
-    pub fn put(&mut self, k: usize, at: u64, bytes: Vec<u8>)
-        requires { StandAt W.files self.old.file self.old.generation at bytes.items }
+    /// These bytes of rows were read into a stretch. They take the place of those that there were;
+    /// where all together are more than may be kept, none is. Where no memory is found it stays as it
+    /// was.
+    pub fn put(&mut self, slot: usize, rows: Rows, bytes: Vec<u8>)
+        requires { StandAsRows W.files self.old.file self.old.generation rows bytes.items }
         ensures file { self.new.file ≡ self.old.file }
         ensures generation { self.new.generation ≡ self.old.generation }
     {
         let Ok(bytes) = Arc::new(self.alloc, bytes) else {
             return;
         };
-        if k < self.stretches.len() {
-            let stretch = &mut self.stretches[k];
-            stretch.at = at;
+        if slot < self.stretches.len() {
+            let stretch = &mut self.stretches[slot];
+            stretch.rows = rows;
             stretch.bytes = Some(bytes);
-            self.is_fresh = true;
         }
         if !are_few(&self.stretches) {
             self.stretches.clear();

@@ -1,20 +1,19 @@
 ghost use Rattle.std.specs.Prelude.{◌≡◌, ℕ, List, [], length, IfOk, IfSome};
 ghost use Rattle.tiff_format.specs.Bytes.{IsPartAt};
-ghost use Rattle.tap_reader.specs.ReadAhead.{held_in};
+ghost use Rattle.tap_reader.specs.ReadAhead.{held_in, AreRowsOf};
 
+use crate::course::Course;
+use crate::rows::Rows;
 use std::alloc::AllocError;
 use std::sync::Arc;
 
-/// The place of no byte: no reading goes on there.
-const NO_PLACE: u64 = u64::MAX;
-
-/// Bytes of a file that stand side by side, from a place on, which others may share, and where the
-/// latest reading of their plane stopped in its first row. No proof rests on the latter.
+/// Rows of a file, the bytes of which others may share, and how the readings go on that they were read
+/// for. No proof rests on the latter.
 #[derive(Drop)]
 pub(crate) struct Stretch {
-    pub(crate) at: u64,
+    pub(crate) rows: Rows,
     pub(crate) bytes: Option<Arc<Vec<u8>>>,
-    pub(crate) next: u64,
+    pub(crate) course: Course,
 }
 
 impl Stretch {
@@ -23,9 +22,9 @@ impl Stretch {
         ensures { held_in result ≡ [] }
     {
         Stretch {
-            at: 0,
+            rows: Rows::none(),
             bytes: None,
-            next: NO_PLACE,
+            course: Course::none(),
         }
     }
 
@@ -41,7 +40,7 @@ impl Stretch {
 
     /// The same bytes once more.
     pub(crate) fn share(&self) -> Result<Stretch, AllocError>
-        ensures at { IfOk result (λ s. s.at ≡ self.now.at) }
+        ensures rows { IfOk result (λ s. s.rows ≡ self.now.rows) }
         ensures bytes { IfOk result (λ s. held_in s ≡ held_in self.now) }
     {
         let bytes = match &self.bytes {
@@ -49,29 +48,28 @@ impl Stretch {
             None => None,
         };
         Ok(Stretch {
-            at: self.at,
+            rows: self.rows,
             bytes,
-            next: self.next,
+            course: self.course,
         })
     }
 
-    /// A reading from this place on goes on where the latest one stopped, or behind the bytes.
-    pub(crate) fn goes_on_at(&self, at: u64) -> bool {
-        let len = self.bytes().len() as u64;
-        at == self.next || (len > 0 && at >= self.at && at - self.at == len)
+    /// The bytes of rows are all there.
+    pub(crate) fn has(&self, rows: &Rows) -> bool {
+        self.bytes.is_some() && self.rows.have(rows)
     }
 
-    /// So many bytes from a place on, where they are all there.
+    /// So many bytes from a place on, where they are all there, in one row.
     pub(crate) fn part(&self, at: u64, size: usize) -> Option<&[u8]>
         ensures long { IfSome result (λ part. length part.now ≡ size) }
         ensures told { IfSome result (λ part. (bytes : List ℕ)
-            → IsPartAt bytes self.now.at (held_in self.now) → IsPartAt bytes at part.now) }
+            → AreRowsOf bytes self.now.rows (held_in self.now) → IsPartAt bytes at part.now) }
     {
+        let start = self.rows.index(at, size)?;
         let bytes = self.bytes();
-        if at < self.at || size > bytes.len() || at - self.at > (bytes.len() - size) as u64 {
+        if size > bytes.len() || start > bytes.len() - size {
             return None;
         }
-        let start = (at - self.at) as usize;
         Some(&bytes[start..start + size])
     }
 }

@@ -5,6 +5,7 @@ use Rattle.std.proofs.Common.{Option, Some, None}
 use Rattle.std.proofs.Common.{EachIndex, sym, ap, ◌∙◌, arith}
 use Rattle.std.proofs.lemmas.Option.{same_Some}
 use Rattle.tex_world.specs.World.{last_generation}
+use Rattle.tex_world.specs.Tap.{AreRows, HoldsRows, place_in_rows}
 use Rattle.tex_world.specs.Table.{bytes_below, table_held, table_names}
 use Rattle.tex_world.specs.TableLaws.{get_or-bytes_below, held_where}
 use Rattle.tex_world.specs.TableLaws.{length-table_names, get_or-table_names}
@@ -25,6 +26,21 @@ module _ (count : ℕ) (name : ℕ → List ℕ) (len : ℕ → ℕ → Option �
       filled k h
       ∙ sym (get_or-bytes_below size (byte n g) (at + k) (omega (arith, h, within)))
       ∙ ap (λ (l : List ℕ). get_or l (at + k) 0) same
+
+  -- And one that was filled with rows of them has those rows.
+  pub rows_where : (n g size : ℕ) → n < count → 1 ≤ g → g ≤ last_generation → len n g ≡ Some size
+      → (at stride row : ℕ) (rows : List ℕ) → AreRows at stride row (length rows) size
+      → ((k : ℕ) → k < length rows → get_or rows k 0 ≡ byte n g (place_in_rows at stride row k))
+      → (bytes : List ℕ) → table_held count len byte n g ≡ Some bytes
+      → HoldsRows bytes at stride row rows
+  rows_where n g size file low high there at stride row rows are filled bytes held =
+      let there_held = held_where count name len byte n g size file low high there in
+      let same : bytes_below size (byte n g) ≡ bytes = same_Some _ _ (sym there_held ∙ held) in
+      λ k h.
+      let place = place_in_rows at stride row k in
+      filled k h
+      ∙ sym (get_or-bytes_below size (byte n g) place (omega (arith, are.below k h, are.some)))
+      ∙ ap (λ (l : List ℕ). get_or l place 0) same
 
 module _ (count : ℕ) (name : ℕ → List ℕ) (wanted : List ℕ) where
   -- The first file of a name has its number.

@@ -1,5 +1,5 @@
 -- What are the counts of a tap in memory, and which of its calls fail?
-use Rattle.std.specs.Prelude.{◌≡◌, ℕ, ◌+◌, IsTrue, length, List, Result, Err, IsOk, IsErr}
+use Rattle.std.specs.Prelude.{◌≡◌, ℕ, ◌+◌, ◌/◌, IsTrue, length, List, Result, Err, IsOk, IsErr}
 use Rattle.tex_world.specs.Counts.{RisesByOne}
 use Rattle.tex_world.specs.Tap.{TapState, Named, IsMove}
 use Rattle.tex_world.specs.TapPlan.{TapPlan, is_failing_call}
@@ -50,14 +50,32 @@ abbrev pub CountsMove : ℕ → TapState → TapState → Named → Type 0
 CountsMove least old new handle =
     IsMove least handle.generation → RisesByOne old.moves new.moves
 
--- the read of a buffer's length from a place on under a handle
+-- the read of rows under a handle, of so many bytes in all
+abbrev pub rows_reading : Named → ℕ → ℕ → ℕ → ℕ → Reading
+rows_reading handle at stride row size = record {
+  file = handle.file;
+  generation = handle.generation;
+  at = at;
+  stride = stride;
+  row = row;
+  count = size / row;
+}
+
+-- the read of a buffer's length from a place on: rows of a byte, side by side
 abbrev pub reading : Named → ℕ → List ℕ → Reading
 reading handle at buf = record {
   file = handle.file;
   generation = handle.generation;
   at = at;
-  end = at + length buf;
+  stride = 1;
+  row = 1;
+  count = length buf;
 }
+
+-- the read is of this generation of this file
+pub record IsReadOf (handle : Named) (read : Reading) : Type 0 where
+  pub file : read.file ≡ handle.file
+  pub generation : read.generation ≡ handle.generation
 
 -- A failed read raises the faults by one, and one that meets a newer generation the moves. Else
 -- the faults stay.

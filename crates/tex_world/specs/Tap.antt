@@ -1,5 +1,6 @@
 -- What do the calls of a tap give, when may each be refused, and which counts do they raise?
-use Rattle.std.specs.Prelude.{◌≡◌, ◌⊎◌, ℕ, ◌<◌, ◌≤◌, length, Result, Ok, Err, ⊤}
+use Rattle.std.specs.Prelude.{◌≡◌, ◌⊎◌, ℕ, ◌+◌, ◌*◌, ◌/◌, ◌%◌, ◌<◌, ◌≤◌, List, length, slice_index}
+use Rattle.std.specs.Prelude.{Result, Ok, Err, ⊤}
 use Rattle.std.specs.Option.{ForSome}
 use Rattle.tex_world.specs.Counts.{Rises, RisesByOne}
 use Rattle.tex_world.specs.World.{Files, IsReal}
@@ -35,7 +36,7 @@ pub record TapState : Type 0 where
   pub asks : ℕ
   -- meetings with a newer generation
   pub moves : ℕ
-  -- of those, the calls of `read_at` that answered `Gone`
+  -- of those, the reads that answered `Gone`
   pub lost : ℕ
   -- the file and the generation that the latest answered `newest` gave
   pub newest : ℕ × ℕ
@@ -98,9 +99,9 @@ pub record AfterNewest {E : Type 0} (file : ℕ) (old new : TapState) (result : 
   pub not_asked : (e : E) → result ≡ Err e → new.asks ≡ old.asks
   pub not_newest : (e : E) → result ≡ Err e → new.newest ≡ old.newest
 
--- ---- read_at
+-- ---- read_at and read_rows
 
--- why a `read_at` is refused
+-- why a read is refused
 abbrev pub ReadCause : Files → Named → TapState → TapState → ReadError → Type 0
 ReadCause files handle old new reading.Failed = Rises old.faults new.faults
 ReadCause files handle old new (reading.Gone to) =
@@ -112,7 +113,7 @@ abbrev pub IsFault : ReadError → Type 0
 IsFault reading.Failed = ⊤
 IsFault (reading.Gone to) = ⊥
 
--- A `read_at` is a call, and neither an opening nor an ask. The moves rise exactly where it answers
+-- A read is a call, of however many rows, and neither an opening nor an ask. The moves rise exactly where it answers
 -- `Gone`, and so does the count of the reads that answered it.
 pub record AfterRead (old new : TapState) (result : Result (Unit {0}) ReadError) : Type 0 where
   pub faults : old.faults ≤ new.faults
@@ -126,3 +127,19 @@ pub record AfterRead (old new : TapState) (result : Result (Unit {0}) ReadError)
   pub lost_later : old.lost ≤ new.lost
   pub lost_answered : result ≡ Ok tt → new.lost ≡ old.lost
   pub lost_failed : (e : ReadError) → result ≡ Err e → IsFault e → new.lost ≡ old.lost
+
+-- where byte k of rows of `row` bytes stands, of which each begins `stride` bytes behind the one before
+abbrev pub place_in_rows : ℕ → ℕ → ℕ → ℕ → ℕ
+place_in_rows at stride row k = at + k / row * stride + k % row
+
+-- So many bytes are whole rows that do not overlap, and each of them lies below a length.
+pub record AreRows (at stride row count len : ℕ) : Type 0 where
+  pub some : 1 ≤ row
+  pub apart : row ≤ stride
+  pub whole : count % row ≡ 0
+  pub below : (k : ℕ) → k < count → at + k / row * stride + row ≤ len
+
+-- these are the bytes of such rows
+abbrev pub HoldsRows : List ℕ → ℕ → ℕ → ℕ → List ℕ → Type 0
+HoldsRows bytes at stride row rows = (k : ℕ) → k < length rows
+    → slice_index rows k ≡ slice_index bytes (place_in_rows at stride row k)

@@ -1,5 +1,5 @@
 -- What is left of a tap's share of a plan, and what does it say of a call?
-use Rattle.std.specs.Prelude.{ℕ, ◌+◌, max, Bool, ◌&&◌, ◌||◌, not, nat_lt, nat_le, ◌==◌}
+use Rattle.std.specs.Prelude.{ℕ, ◌+◌, ◌-◌, ◌/◌, ◌%◌, max, Bool, ◌&&◌, ◌||◌, not, nat_lt, nat_le, ◌==◌}
 use Rattle.std.specs.Prelude.{List, [], ◌∷◌, ◌++◌, if◌then◌else◌, Result, Ok, Err}
 use Rattle.std.specs.List.{filter, fold, list_any}
 use Rattle.tex_world.specs.World.{Files, is_held, first_generation}
@@ -30,9 +30,15 @@ pub record TapPlan : Type 0 where
 abbrev pub is_failing_call : TapPlan → ℕ → Bool
 is_failing_call plan call = list_any (λ e. e.call == call) plan.fail_calls
 
+-- one of the rows has the byte so far behind the first one
+abbrev pub is_in_rows : Reading → ℕ → Bool
+is_in_rows read behind =
+    let stride = max read.stride 1 in
+    nat_lt (behind / stride) read.count && nat_lt (behind % stride) read.row
+
 -- the bytes that are read include that at a place of a file
 abbrev pub covers : Reading → ℕ → ℕ → Bool
-covers read file at = (file == read.file) && (nat_le read.at at && nat_lt at read.end)
+covers read file at = (file == read.file) && (nat_le read.at at && is_in_rows read (at - read.at))
 
 -- the read is to fail at this entry's byte
 abbrev pub is_failing_byte : Reading → FailByte → Bool

@@ -6,10 +6,12 @@ ghost use Rattle.std.specs.Option.{ForSome};
 ghost use Rattle.tex_world.specs.Counts.{Rises, RisesByOne};
 ghost use Rattle.tex_world.specs.World.{IsFile, IsReal};
 ghost use Rattle.tex_world.specs.Tap.{IsNew, IsLeast, Opens, OpenCause, AfterOpen};
-ghost use Rattle.tex_world.specs.Tap.{AfterNewest, ReadCause, AfterRead};
+ghost use Rattle.tex_world.specs.Tap.{AfterNewest, ReadCause, AfterRead, AreRows, HoldsRows};
+ghost use Rattle.tex_world.specs.Tap.{place_in_rows};
 ghost use Rattle.tex_world.specs.MemHandle.{handle_named};
 ghost use Rattle.tex_world.specs.MemTap.{tap_state, tap_plan, IsPlannedCall};
 ghost use Rattle.tex_world.specs.MemTap.{AfterTapCall, CountsCall, CountsMove, CountsRead, reading};
+ghost use Rattle.tex_world.specs.MemTap.{rows_reading, IsReadOf};
 ghost use Rattle.tex_world.specs.Share.{share_plan};
 ghost use Rattle.tex_world.specs.TapPlan.{newest_of, planned_read, after_read};
 
@@ -70,6 +72,33 @@ impl<T: FileTable> MemTap<T> {
             return Err(Failed);
         }
         Ok(())
+    }
+
+    // Answers a read as is planned, and counts it.
+    fn answer(&mut self, h: &MemHandle<T>, read: Reading) -> Result<(), ReadError>
+        requires { IsReadOf (handle_named h.now) read }
+        ensures cause { IfErr result
+            (ReadCause ⟦<TableWorld<T> as World>⟧.files (handle_named h.now)
+            (tap_state self.old) (tap_state self.new)) }
+        ensures counts { AfterRead (tap_state self.old) (tap_state self.new) result }
+        ensures planned { result
+            ≡ planned_read ⟦<TableWorld<T> as World>⟧.files (tap_plan self.old)
+            (tap_state self.old).calls read }
+        ensures plan { tap_plan self.new
+            ≡ after_read ⟦<TableWorld<T> as World>⟧.files read (tap_plan self.old) }
+        ensures exact { CountsRead (tap_state self.old) (tap_state self.new) result }
+    {
+        let met = self.share.meet::<T>(self.calls, read);
+        self.calls = self.calls.saturating_add(1);
+        match met {
+            Ok(()) => {}
+            Err(ReadError::Failed) => self.faults = self.faults.saturating_add(1),
+            Err(ReadError::Gone(_to)) => {
+                self.moves = self.moves.saturating_add(1);
+                self.lost = self.lost.saturating_add(1);
+            }
+        }
+        met
     }
 
     /// How many of its calls failed.
@@ -196,19 +225,56 @@ impl<T: FileTable> Tap for MemTap<T> {
             file: h.file(),
             generation: h.generation(),
             at,
-            end: at + buf.len() as u64,
+            stride: 1,
+            row: 1,
+            count: buf.len() as u64,
         };
-        let met = self.share.meet::<T>(self.calls, read);
-        self.calls = self.calls.saturating_add(1);
-        match met {
-            Ok(()) => fill(h, at, buf),
-            Err(ReadError::Failed) => self.faults = self.faults.saturating_add(1),
-            Err(ReadError::Gone(_to)) => {
-                self.moves = self.moves.saturating_add(1);
-                self.lost = self.lost.saturating_add(1);
-            }
-        }
-        met
+        self.answer(h, read)?;
+        fill(h, at, buf);
+        Ok(())
+    }
+
+    fn read_rows(
+        &mut self,
+        h: &mut MemHandle<T>,
+        at: u64,
+        stride: u64,
+        row: usize,
+        buf: &mut [u8],
+    ) -> Result<(), ReadError>
+        requires { AreRows at stride row (length buf.old) (handle_named h.old).len }
+        ensures bytes { OnOk result (ForSome
+            (⟦<TableWorld<T> as World>⟧.files.held
+            (handle_named h.old).file (handle_named h.old).generation)
+            (λ bytes. HoldsRows bytes at stride row buf.new)) }
+        ensures handle { handle_named h.new ≡ handle_named h.old }
+        ensures cause { IfErr result
+            (ReadCause ⟦<TableWorld<T> as World>⟧.files (handle_named h.old)
+            (tap_state self.old) (tap_state self.new)) }
+        ensures counts { AfterRead (tap_state self.old) (tap_state self.new) result }
+
+        // It answers just what is planned, and what names this read is then spent.
+        ensures planned { result
+            ≡ planned_read ⟦<TableWorld<T> as World>⟧.files (tap_plan self.old)
+            (tap_state self.old).calls
+            (rows_reading (handle_named h.old) at stride row (length buf.old)) }
+        ensures plan { tap_plan self.new
+            ≡ after_read ⟦<TableWorld<T> as World>⟧.files
+            (rows_reading (handle_named h.old) at stride row (length buf.old))
+            (tap_plan self.old) }
+        ensures exact { CountsRead (tap_state self.old) (tap_state self.new) result }
+    {
+        let read = Reading {
+            file: h.file(),
+            generation: h.generation(),
+            at,
+            stride,
+            row: row as u64,
+            count: (buf.len() / row) as u64,
+        };
+        self.answer(h, read)?;
+        fill_rows(h, at, stride, row, buf);
+        Ok(())
     }
 }
 
@@ -222,5 +288,26 @@ pub(crate) fn fill<T: FileTable>(h: &MemHandle<T>, at: u64, buf: &mut [u8])
     let generation = h.generation();
     for i in 0..buf.len() {
         buf[i] = T::byte(file, generation, at + i as u64);
+    }
+}
+
+// Fills the buffer with rows of the bytes of the handle: the first from a place on, each `stride` bytes
+// behind the one before.
+pub(crate) fn fill_rows<T: FileTable>(
+    h: &MemHandle<T>,
+    at: u64,
+    stride: u64,
+    row: usize,
+    buf: &mut [u8],
+)
+    requires { AreRows at stride row (length buf.old) h.now.len }
+    ensures { (k : ℕ) → k < length buf.new → slice_index buf.new k
+        ≡ T.byte_of h.now.file h.now.generation (place_in_rows at stride row k) }
+{
+    let file = h.file();
+    let generation = h.generation();
+    for k in 0..buf.len() {
+        let place = at + (k / row) as u64 * stride + (k % row) as u64;
+        buf[k] = T::byte(file, generation, place);
     }
 }

@@ -5,13 +5,13 @@ ghost use Rattle.std.specs.Option.{ForSome};
 ghost use Rattle.tex_world.specs.Counts.{Rises};
 ghost use Rattle.tex_world.specs.World.{IsFile, IsReal};
 ghost use Rattle.tex_world.specs.Tap.{IsNew, IsLeast, Opens, OpenCause, AfterOpen};
-ghost use Rattle.tex_world.specs.Tap.{AfterNewest, ReadCause, AfterRead};
+ghost use Rattle.tex_world.specs.Tap.{AfterNewest, ReadCause, AfterRead, AreRows, HoldsRows};
 ghost use Rattle.tex_world.specs.MemHandle.{handle_named};
 ghost use Rattle.tex_world.specs.SampleFolder.{sample_tap};
 
 use crate::fault::{Failed, OpenError, ReadError};
 use crate::mem_handle::MemHandle;
-use crate::mem_tap::fill;
+use crate::mem_tap::{fill, fill_rows};
 use crate::sample_files::SampleFiles;
 use crate::table::{FIRST_GENERATION, FileTable, TableWorld};
 use crate::tap::Tap;
@@ -108,6 +108,31 @@ impl Tap for SampleTap {
     {
         self.calls = self.calls.saturating_add(1);
         fill(h, at, buf);
+        Ok(())
+    }
+
+    fn read_rows(
+        &mut self,
+        h: &mut MemHandle<SampleFiles>,
+        at: u64,
+        stride: u64,
+        row: usize,
+        buf: &mut [u8],
+    ) -> Result<(), ReadError>
+        requires { AreRows at stride row (length buf.old) (handle_named h.old).len }
+        ensures bytes { OnOk result (ForSome
+            (⟦<TableWorld<SampleFiles> as World>⟧.files.held
+            (handle_named h.old).file (handle_named h.old).generation)
+            (λ bytes. HoldsRows bytes at stride row buf.new)) }
+        ensures handle { handle_named h.new ≡ handle_named h.old }
+        ensures cause { IfErr result
+            (ReadCause ⟦<TableWorld<SampleFiles> as World>⟧.files (handle_named h.old)
+            (sample_tap self.old) (sample_tap self.new)) }
+        ensures counts { AfterRead (sample_tap self.old) (sample_tap self.new) result }
+        ensures answers { IsOk result }
+    {
+        self.calls = self.calls.saturating_add(1);
+        fill_rows(h, at, stride, row, buf);
         Ok(())
     }
 }

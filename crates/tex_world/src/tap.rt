@@ -5,6 +5,7 @@ ghost use Rattle.tex_world.specs.Counts.{Rises};
 ghost use Rattle.tex_world.specs.World.{IsFile, IsReal};
 ghost use Rattle.tex_world.specs.Tap.{Named, IsHandle, IsLeast, TapState, Opens, OpenCause};
 ghost use Rattle.tex_world.specs.Tap.{AfterOpen, AfterNewest, ReadCause, AfterRead};
+ghost use Rattle.tex_world.specs.Tap.{AreRows, HoldsRows};
 
 use crate::fault::{Failed, OpenError, ReadError};
 use crate::world::World;
@@ -70,6 +71,26 @@ pub trait Tap {
             (Self.W.files.held (Self.Handle.named h.old).file (Self.Handle.named h.old).generation)
             (λ bytes. EachIndex buf.new (λ k.
             slice_index buf.new k ≡ slice_index bytes (at + k)))) }
+        ensures handle { Self.Handle.named h.new ≡ Self.Handle.named h.old }
+        ensures cause { IfErr result
+            (ReadCause Self.W.files (Self.Handle.named h.old) (state self.old) (state self.new)) }
+        ensures counts { AfterRead (state self.old) (state self.new) result };
+
+    /// Fills all of the buffer with rows of so many bytes of the handle's generation: the first from
+    /// a place on, each `stride` bytes behind the one before. It is one call, and `read_at` is its
+    /// case of one row. After a refusal what the buffer holds is open.
+    fn read_rows(
+        &mut self,
+        h: &mut Self::Handle,
+        at: u64,
+        stride: u64,
+        row: usize,
+        buf: &mut [u8],
+    ) -> Result<(), ReadError>
+        requires { AreRows at stride row (length buf.old) (Self.Handle.named h.old).len }
+        ensures bytes { OnOk result (ForSome
+            (Self.W.files.held (Self.Handle.named h.old).file (Self.Handle.named h.old).generation)
+            (λ bytes. HoldsRows bytes at stride row buf.new)) }
         ensures handle { Self.Handle.named h.new ≡ Self.Handle.named h.old }
         ensures cause { IfErr result
             (ReadCause Self.W.files (Self.Handle.named h.old) (state self.old) (state self.new)) }

@@ -4,7 +4,7 @@ ghost use Rattle.std.specs.Prelude.{◌≡◌, ◌<◌};
 
 use rect_read::{MAX_GAP, Place};
 use std::alloc::Global;
-use tap_reader::{Band, MAX_AHEAD_BYTES, ReadAhead};
+use tap_reader::{Band, CellRows, ReadAhead, Rows};
 use tex_world::World;
 use tiff_format::Rect;
 
@@ -25,45 +25,47 @@ fn row_start(place: &Place<'_>, row: u32) -> Option<u64>
     Some(first.at)
 }
 
-/// The bytes from the first texel of a place of a stripped level to the end of the last of its
-/// rows, where these go on to the right and more lies between two of them than is read with them.
-fn band_of(place: &Place<'_>, texel_bytes: u64) -> Option<Band> {
+/// Where the last row of a place begins, so many bytes behind the first one: none where the rows do not
+/// stand so far apart.
+fn last_start(place: &Place<'_>, first: u64, stride: u64) -> Option<u64> {
+    let rows = place.rect.h.checked_sub(1)?;
+    let last = row_start(place, rows)?;
+    let apart = u64::from(rows).checked_mul(stride)?;
+    if last.checked_sub(first)? == apart {
+        Some(last)
+    } else {
+        None
+    }
+}
+
+/// The rows of a place of a stripped level, where more lies between two of them than is read with
+/// them.
+fn cell_rows(place: &Place<'_>, texel_bytes: u64) -> Option<CellRows> {
     let rect = place.rect;
-    if rect.h == 0 {
+    let count = usize::try_from(rect.h).ok()?;
+    if count == 0 {
         return None;
     }
-    let width = place.layout.block_width(place.level);
-    let rest = width.checked_sub(rect.x)?;
-    let left_out = u64::from(width.checked_sub(rect.w)?).saturating_mul(texel_bytes);
-    if rest <= rect.w || left_out <= MAX_GAP {
+    let width = u64::from(place.layout.block_width(place.level));
+    let rest = width.checked_sub(u64::from(rect.x))?;
+    let row = u64::from(rect.w).checked_mul(texel_bytes)?;
+    let stride = width.checked_mul(texel_bytes)?;
+    if rest < u64::from(rect.w) || stride.checked_sub(row)? <= MAX_GAP {
         return None;
     }
     let at = row_start(place, 0)?;
-    let last = row_start(place, rect.h - 1)?;
-    let row = u64::from(rest).saturating_mul(texel_bytes);
-    Some(Band {
-        plane: place.plane as usize,
-        at,
-        size: last.checked_sub(at)?.checked_add(row)?,
+    let last = last_start(place, at, stride)?;
+    let left = u64::from(rect.x).checked_mul(texel_bytes)?;
+    Some(CellRows {
+        rows: Rows::new(at, stride, row as usize, count)?,
+        rest: rest.checked_mul(texel_bytes)?,
+        below: last.checked_add(stride)?.checked_sub(left)?,
     })
 }
 
-/// What is to be read at once where the reading of a place begins: the rest of its rows, where the
-/// latest reading of its plane stopped at the place, or what was read ahead of it ends there.
-fn next_band<W: World>(ahead: &mut ReadAhead<W>, place: &Place<'_>) -> Option<Band>
-    ensures { ahead.new ≡ ahead.old }
-{
-    let format = place.layout.format(place.level, place.plane);
-    let texel_bytes = format.texel_bytes as u64;
-    let band = band_of(place, texel_bytes)?;
-    let goes_on = ahead.goes_on_at(band.plane, band.at);
-    let row = u64::from(place.rect.w).saturating_mul(texel_bytes);
-    ahead.stop_at(band.plane, band.at.saturating_add(row));
-    if goes_on { Some(band) } else { None }
-}
-
-/// The same for each plane of a place, as far as each has no more than its part of the bytes that
-/// may be kept.
+/// From which stretches the rows of the planes of a place are to be cut, and what is to be read into
+/// them first. None for a plane whose rows stand close together, or do not stand as far apart as those
+/// of a strip.
 pub(crate) fn next_bands<W: World>(
     alloc: Global,
     ahead: &mut ReadAhead<W>,
@@ -72,7 +74,6 @@ pub(crate) fn next_bands<W: World>(
     ensures { ahead.new ≡ ahead.old }
 {
     let planes = place.layout.planes(place.level);
-    let most = MAX_AHEAD_BYTES as u64 / u64::from(planes);
     let mut bands = Vec::new(alloc);
     for plane in 0..planes {
         let alone = Place {
@@ -82,10 +83,17 @@ pub(crate) fn next_bands<W: World>(
             rect: place.rect,
         };
         if let Some(band) = next_band(ahead, &alone) {
-            if band.size <= most {
-                let _full = bands.push(band);
-            }
+            let _full = bands.push(band);
         }
     }
     bands
+}
+
+/// The same for the plane of a place.
+fn next_band<W: World>(ahead: &mut ReadAhead<W>, place: &Place<'_>) -> Option<Band>
+    ensures { ahead.new ≡ ahead.old }
+{
+    let format = place.layout.format(place.level, place.plane);
+    let cell = cell_rows(place, format.texel_bytes as u64)?;
+    ahead.plan(&cell)
 }

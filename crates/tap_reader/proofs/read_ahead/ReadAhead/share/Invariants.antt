@@ -1,8 +1,8 @@
 -- What is shared so far stands in the file.
 use Rattle.std.specs.List.{All}
-use Rattle.tap_reader.specs.ReadAhead.{held_in, StandAt}
+use Rattle.tap_reader.specs.ReadAhead.{held_in, StandAsRows}
 use Rattle.tap_reader.proofs.read_ahead.ReadAhead.share.Given as goal
 
 abbrev pub invariant-loop-stretch : goal.invariant-loop-stretch
-invariant-loop-stretch g l = All (λ s. StandAt g.W.World.files
-    l.self-inside.file l.self-inside.generation s.at (held_in s)) l.shared.items
+invariant-loop-stretch g l = All (λ s. StandAsRows g.W.World.files
+    l.self-inside.file l.self-inside.generation s.rows (held_in s)) l.shared.items
