@@ -1,25 +1,88 @@
 #!/usr/bin/env python3
-"""What a warm lookup through texcache.h costs: nanoseconds with 1, 4 and 8 threads, and instructions by callgrind.
+"""What a warm lookup through texcache.h costs, beside OpenImageIO, and the renderer with textures of 1 GB.
 
     python3 bench/embedded.py [--library FILE] [--folder FOLDER] [--name FILE] [--passes N]
+    python3 bench/embedded.py --renderer [FOLDER]    # 64 textures of 1.07 GB, made in FOLDER or a folder that goes again
 
-A bilinear texcache_texture of three channels, within one cell of a file, over the library that ./build tex_c makes.
-The time is that of the whole, all threads side by side, for each lookup of one thread; the least of the passes.
-Instructions are those of 10,000 lookups more, for each.
+A bilinear texcache_texture of three channels, within one cell of a file, over the library that ./build tex_c makes,
+with 1, 4 and 8 threads; and TextureSystem::texture at the same coordinates, where OpenImageIO's headers are there.
+The time is that of the whole, all threads side by side, for each lookup of one thread; the least of the passes, which
+are taken in turn. Instructions are those of 10,000 lookups more, for each. The first line has the load of the machine.
 """
 import argparse
+import os
 import re
 import shutil
 import subprocess
 import sys
 import tempfile
+import time
 from pathlib import Path
 
 TOP = Path(__file__).resolve().parent.parent
+RENDERER = TOP / "examples" / "renderer"
 
 
 def told(words):
     return subprocess.run([str(it) for it in words], stdout=subprocess.PIPE, stderr=subprocess.STDOUT, check=True).stdout.decode()
+
+
+def over(library):
+    return ["-lm", "-lpthread"], [library, Path(told(["rt", "doc"]).strip()).parent / "c" / "liblibc_c.a"]
+
+
+def programs(words, made):
+    """The lookups of texcache, and those of OpenImageIO where it is there."""
+    last, linked = over(words.library)
+    own, other = Path(made) / "embedded", Path(made) / "oiio_lookups"
+    told(["cc", "-std=gnu11", "-O2", f"-I{TOP / 'include'}", "-o", own, TOP / "bench" / "embedded.c", *linked, *last])
+    yield "texcache", own
+    try:
+        told(["c++", "-std=c++17", "-O2", "-o", other, TOP / "bench" / "oiio_lookups.cpp", "-lOpenImageIO", "-lOpenImageIO_Util"])
+        yield "OpenImageIO", other
+    except (subprocess.CalledProcessError, FileNotFoundError):
+        print("no OpenImageIO: it is not measured")
+
+
+def lookups(words):
+    with tempfile.TemporaryDirectory() as made:
+        found = list(programs(words, made))
+
+        def run(program, threads, count, *before):
+            return told([*before, program, words.folder, words.name, threads, count])
+
+        for threads in (1, 4, 8):
+            least = {}
+            for _ in range(words.passes):
+                for name, program in found:
+                    nanos = float(re.search(r"ns ([\d.]+)", run(program, threads, 2000000)).group(1))
+                    least[name] = min(nanos, least.get(name, nanos))
+            print(f"{threads} threads, ns a lookup:", ", ".join(f"{name} {it:.1f}" for name, it in least.items()), flush=True)
+        if shutil.which("valgrind"):
+            for name, program in found:
+                counts = []
+                for count in (1000, 11000):
+                    said = run(program, 1, count, "valgrind", "--tool=callgrind", f"--callgrind-out-file={made}/out")
+                    counts.append(int(re.search(r"Collected : (\d+)", said).group(1)))
+                print(f"instructions a lookup: {name} {(counts[1] - counts[0]) / 10000:.0f}", flush=True)
+
+
+def renderer(words, folder):
+    with tempfile.TemporaryDirectory() as made:
+        folder = folder or Path(made) / "textures"
+        if not (folder / "t63.tif").is_file():
+            told([sys.executable, RENDERER / "textures.py", folder])
+        size = sum(it.stat().st_size for it in folder.iterdir())
+        last, linked = over(words.library)
+        program = Path(made) / "renderer"
+        told(["cc", "-std=gnu11", "-O2", f"-I{TOP / 'include'}", "-o", program, RENDERER / "renderer.c", *linked, *last])
+        print(f"{len(list(folder.iterdir()))} textures of {size} bytes")
+        for more in ([], ["--closest"]):
+            began = time.monotonic()
+            said = told([program, folder, Path(made) / "out.ppm", "--many", "--budget", 1 << 24, "--width", 1920, "--height",
+                         1200, *more])
+            print(f"1920 by 1200, 8 threads, budget 16 MB {' '.join(more)}: {time.monotonic() - began:.2f} s,", said.strip(),
+                  flush=True)
 
 
 def main():
@@ -28,25 +91,13 @@ def main():
     asked.add_argument("--folder", type=Path, default=TOP / "demo")
     asked.add_argument("--name", default="hills.tif")
     asked.add_argument("--passes", type=int, default=5)
+    asked.add_argument("--renderer", nargs="?", const="", metavar="FOLDER")
     words = asked.parse_args()
-    heap = Path(told(["rt", "doc"]).strip()).parent / "c" / "liblibc_c.a"
-    with tempfile.TemporaryDirectory() as made:
-        program = Path(made) / "embedded"
-        told(["cc", "-std=gnu11", "-O2", f"-I{TOP / 'include'}", "-o", program, TOP / "bench" / "embedded.c", words.library, heap,
-              "-lm", "-lpthread"])
-
-        def run(threads, lookups, *before):
-            return told([*before, program, words.folder, words.name, threads, lookups])
-
-        for threads in (1, 4, 8):
-            least = min(float(re.search(r"ns ([\d.]+)", run(threads, 2000000)).group(1)) for _ in range(words.passes))
-            print(f"{threads} threads: {least:.1f} ns a lookup")
-        if shutil.which("valgrind"):
-            counts = []
-            for lookups in (1000, 11000):
-                said = run(1, lookups, "valgrind", "--tool=callgrind", f"--callgrind-out-file={made}/out")
-                counts.append(int(re.search(r"Collected : (\d+)", said).group(1)))
-            print(f"{(counts[1] - counts[0]) / 10000:.0f} instructions a lookup")
+    print("load", *(f"{it:.1f}" for it in os.getloadavg()), "on", os.cpu_count(), "processors", flush=True)
+    if words.renderer is None:
+        lookups(words)
+    else:
+        renderer(words, Path(words.renderer) if words.renderer else None)
     return 0
 
 

@@ -63,6 +63,21 @@ def differences(got, wanted):
     return "\n".join([f"{len(wrong)} differ", *wrong[:3]]) if wrong else ""
 
 
+def pythons():
+    """This Python without numpy's arrays or with them, and one that has numpy, where this has not."""
+    has_numpy = [it for it in (sys.executable, "/usr/bin/python3")
+                 if shutil.which(it) and ran([it, "-c", "import numpy"])[0] == 0]
+    yield "Python", sys.executable
+    if sys.executable not in has_numpy:
+        yield from (("Python with numpy", it) for it in has_numpy[:1])
+
+
+def half(picture, number):
+    """The upper half of a PPM picture, or the lower one."""
+    samples = picture[picture.index(b"255\n") + 4:] if picture else b""
+    return samples[:len(samples) // 2] if number == 0 else samples[len(samples) // 2:]
+
+
 def needs(text):
     return [it.split(" hits ")[0] for it in text.splitlines() if it.startswith("worker ")]
 
@@ -124,11 +139,12 @@ def main():
         say(status == 0, "the shared object", said)
         if status == 0:
             more = {"env": {**os.environ, "TEXCACHE_LIBRARY": str(shared)}}
-            for name, folder, given, wanted in lists():
-                for threads in ("1", "8"):
-                    status, got = ran([sys.executable, HERE / "lines.py", folder, threads], given, **more)
-                    wrong = differences(got, wanted) if status == 0 else got
-                    say(not wrong, f"Python, {name}, {threads} threads", wrong)
+            for what, python in pythons():
+                for name, folder, given, wanted in lists():
+                    for threads in ("1", "8"):
+                        status, got = ran([python, HERE / "lines.py", folder, threads], given, **more)
+                        wrong = differences(got, wanted) if status == 0 else got
+                        say(not wrong, f"{what}, {name}, {threads} threads", wrong)
 
         page = (TOP / "docs" / "EMBEDDING.md").read_text(encoding="utf-8")
         (made / "page.c").write_text(page.split("```c\n")[1].split("```")[0])
@@ -183,6 +199,25 @@ def main():
                 pictures.append(out.read_bytes() if out.is_file() else b"")
             say(pictures[0] == pictures[1] != b"", "the picture is the same for 1 and 8 threads")
             say(pictures[2] not in (pictures[1], b""), "the picture of the nearest texels is another one")
+            replaced = []
+            for threads in ("1", "8"):
+                scene, out = made / f"scene{threads}", made / f"replaced{threads}.ppm"
+                shutil.copytree(TOP / "demo", scene)
+                status, said = ran([made / "renderer", scene, out, "--threads", threads, "--replace", "bricks.tif",
+                                    scene / "rings.tif"])
+                say(status == 0 and out.is_file(), f"a texture that is replaced under the renderer, {threads} threads", said)
+                replaced.append(out.read_bytes() if out.is_file() else b"")
+            say(replaced[0] == replaced[1] != b"", "that picture is the same for 1 and 8 threads")
+            say(half(replaced[0], 0) == half(pictures[0], 0) and half(replaced[0], 1) != half(pictures[0], 1),
+                "its upper half shows the texture of before, and its lower half the other one")
+            ran([sys.executable, TOP / "examples" / "renderer" / "textures.py", made / "many", "--side", "256"])
+            many = []
+            for threads in ("1", "8"):
+                out = made / f"many{threads}.ppm"
+                status, said = ran([made / "renderer", made / "many", out, "--many", "--threads", threads, "--budget", "1000000"])
+                say(status == 0 and out.is_file(), f"64 textures, {threads} threads", said)
+                many.append(out.read_bytes() if out.is_file() else b"")
+            say(many[0] == many[1] != b"", "their picture is the same for 1 and 8 threads")
     print(f"{counts[0]} passed, {counts[1]} failed")
     return 1 if counts[1] else 0
 

@@ -69,8 +69,8 @@ of_refusal e = blank
 
 -- ---- what is lacking
 
--- It names what is lacking: a look at a file of a generation that is at least this one, so many bytes
--- of a generation of a file from a place on, or rows of them.
+-- It names what is lacking: a look at a file of a generation that is at least this one, so many
+-- bytes of a generation of a file from a place on, or rows of them.
 abbrev pub SaysNeed : TexAnswer → Need → Type 0
 SaysNeed a (Look file least) = (a.need ≡ 1) × (a.need_file ≡ file) × (a.need_generation ≡ least)
 SaysNeed a (Bytes file generation at least most) = (a.need ≡ 2) × (a.need_file ≡ file)

@@ -1,6 +1,7 @@
 -- What does each call of C say, and what does it leave?
 use Rattle.std.specs.Prelude.{◌≡◌, ◌⊎◌, ℕ, ◌+◌, ◌*◌, ◌^◌, ◌<◌, ◌≤◌, Bool, List, length}
-use Rattle.std.specs.Prelude.{take, drop, slice_index, slice_get, Option, IsOkAnd, IsSomeAnd, IfSome}
+use Rattle.std.specs.Prelude.{take, drop, slice_index, slice_get}
+use Rattle.std.specs.Prelude.{Option, IsOkAnd, IsSomeAnd, IfSome}
 use Rattle.std.specs.Option.{ForSome}
 use Rattle.std.specs.List.{remove}
 use Rattle.tile_store.specs.Tile.{CachedTile, AreSamples}
@@ -42,8 +43,8 @@ files_of c = c.cache.files.board.files
 -- What a lookup says, and what it leaves. `Good` says that the numbers of the request are in their
 -- ranges. The values are those of the lookup on the bytes of the generation that is answered; those
 -- behind them, and all where it is refused, are as they were. Where the pass keeps a record of the
--- file and its microcache has each cell that the lookup needs, it is answered, or a newer generation
--- was seen.
+-- file and its microcache has each cell that the lookup needs, it is answered, or a newer
+-- generation was seen.
 pub record SaysLookup (file : ℕ) (Good : Type 0) (r : LookupRequest) (channels code : ℕ)
     (answer : TexAnswer) (out_old out_new : List ℕ) (old new : ClientState) : Type 0 where
   pub cache : new.cache ≡ old.cache
@@ -61,8 +62,8 @@ pub record SaysLookup (file : ℕ) (Good : Type 0) (r : LookupRequest) (channels
       → ((code ≡ 0) × (answer.generation ≡ known.generation))
       ⊎ (known.generation < slice_index new.pass.view.seen file))
 
--- why a lookup in the microcache alone is not answered: it is refused, or the microcache has not all
--- that it needs
+-- why a lookup in the microcache alone is not answered: it is refused, or the microcache has not
+-- all that it needs
 abbrev pub IsNotLocal : ℕ → Type 0 → LookupRequest → ℕ → ℕ → ℕ → ClientState → ClientState → Type 0
 IsNotLocal file Good r channels room code old new =
     RefusesLookup (files_of old) file Good channels room code
@@ -144,7 +145,8 @@ RefusesRow tile row room code =
     ((code ≡ 9) × ((tile.rect.h ≤ row) ⊎ (2 ^ 32 ≤ tile.rect.y + row)))
     ⊎ ((code ≡ 5) × (room < tile.rect.w * tile.channels))
 
--- The samples of a row of a tile: those of its texels, which are told by the bytes of its generation.
+-- The samples of a row of a tile: those of its texels, which are told by the bytes of its
+-- generation.
 pub record SaysTileRow (tile : CachedTile) (row code : ℕ) (out_old out_new : List ℕ)
     : Type 0 where
   pub ok : code ≡ 0 → AreSamples tile tile.rect.x (tile.rect.y + row) tile.rect.w

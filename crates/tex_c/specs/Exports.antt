@@ -1,4 +1,4 @@
--- What do the exported calls leave that are no calls of the cache: making one, splitting it, supplies?
+-- What do the exports leave that are no calls of the cache: making one, splitting it, supplies?
 use Rattle.std.specs.Prelude.{◌≡◌, ◌⊎◌, ℕ, ◌<◌, List, Option, Some, IsSomeAnd}
 use Rattle.tex_world.specs.World.{max_files}
 use Rattle.image_cache.specs.Pass.{IsNewCache, IsFirstPass, IsSecondPass}
@@ -10,7 +10,7 @@ use Rattle.tex_c.specs.declared.supply.RowsAt.{RowsAt}
 use Rattle.tex_c.specs.declared.supply.Seen.{Seen}
 use Rattle.tex_c.specs.declared.options.TexOptions.{TexOptions}
 use Rattle.tex_c.specs.Client.{ClientState}
-use Rattle.tex_c.specs.Supply.{FitsBytes, FitsRows, LookCause, LooksCause}
+use Rattle.tex_c.specs.Supply.{FitsLook, FitsBytes, FitsRows, LookCause, LooksCause}
 use Rattle.tex_c.specs.Supply.{BytesCause, RowsCause}
 use Rattle.tex_c.specs.SuppliedTap.{tap_state, KeepsBytes, KeepsSupplies}
 use Rattle.tex_c.specs.Unanswered.{IsRefusedSupply}
@@ -32,7 +32,8 @@ pub record IsMade (o : TexOptions) (files : ℕ) (made : ClientState) : Type 0 w
   pub cache : IsNewCache (options_of o) files made.cache
   pub pass : IsFirstPass made.cache made.pass
 
--- why none was made: there are too many files, an option is out of its range, or no memory was found
+-- why none was made: there are too many files, an option is out of its range, or no memory was
+-- found
 abbrev pub IsNotMade : TexOptions → ℕ → ℕ → TexAnswer → Type 0
 IsNotMade o files code answer = ((code ≡ 4) × (max_files < files))
     ⊎ (((code ≡ 2) × (first_bad (options_of o) ≡ Some answer.detail)) ⊎ (code ≡ 18))
@@ -57,6 +58,7 @@ HasBytes room P = IsSomeAnd room (λ b. P b.items.items)
 pub record SaysLook (file generation code : ℕ) (old new : ClientState) : Type 0 where
   pub rest : KeepsRest old new
   pub same : KeepsSupplies old.tap new.tap
+  pub ok : code ≡ 0 → FitsLook old.tap.need file generation
   pub cause : ¬ (code ≡ 0) → IsRefusedSupply (LookCause old.tap.need file generation) code
 
 -- The same of several.
@@ -65,8 +67,8 @@ pub record SaysLooks (looks : List Seen) (code : ℕ) (old new : ClientState) : 
   pub same : KeepsSupplies old.tap new.tap
   pub cause : ¬ (code ≡ 0) → IsRefusedSupply (LooksCause old.tap.need looks) code
 
--- What bytes leave that are supplied: they are taken only where they are what is lacking, and refused
--- for their cause.
+-- What bytes leave that are supplied: they are taken only where they are what is lacking, and
+-- refused for their cause.
 pub record SaysBytes (file generation at size code : ℕ) (old new : ClientState) : Type 0 where
   pub rest : KeepsRest old new
   pub state : tap_state new.tap ≡ tap_state old.tap

@@ -5,8 +5,8 @@ use Rattle.std.proofs.lemmas.Option.{same_Some}
 use Rattle.tex_world.specs.World.{Files, IsWorld, IsReal, last_generation, max_files}
 use Rattle.tex_world.specs.Tap.{Named, IsHandle}
 
--- The bytes of a generation of a file of the caller. They are what the caller has: nothing opens this
--- definition in this file, and it can be opened in no other, so that what is proved of these bytes is
+-- The bytes of a generation of a file of the caller. They are what the caller has: nothing in this
+-- file opens this definition, and no other file can, so that what is proved of these bytes is
 -- proved of any.
 pub held_by_caller : ℕ → ℕ → List ℕ
 held_by_caller file generation = []

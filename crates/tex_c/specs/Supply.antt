@@ -8,20 +8,27 @@ use Rattle.tex_c.specs.declared.supply.Seen.{Seen}
 use Rattle.tex_c.specs.declared.supply.SupplyError.{SupplyError}
 use Rattle.tex_c.specs.declared.supply.SupplyError.TheVariants as refused
 
--- What is lacking is a look, or a newer one than the file of the bytes that are: P is so of the file
--- and of the least generation.
+-- What is lacking is a look, or bytes in whose place a newer look may come: P is so of the file and
+-- of the least generation.
 abbrev pub LacksLook : Option Need → (ℕ → ℕ → Type 0) → Type 0
 LacksLook None P = ⊥
 LacksLook (Some (Look file least)) P = P file least
 LacksLook (Some (Bytes file generation at least most)) P = P file (generation + 1)
 LacksLook (Some (Rows rows size)) P = P rows.file (rows.generation + 1)
 
+-- a look at a generation of a file, which it may have, is what is lacking
+abbrev pub FitsLook : Option Need → ℕ → ℕ → Type 0
+FitsLook need file generation =
+    LacksLook need (λ f least. (f ≡ file) × (least ≤ generation))
+    × (1 ≤ generation) × (generation ≤ last_generation)
+
 -- why a look is refused
 abbrev pub LookCause : Option Need → ℕ → ℕ → SupplyError → Type 0
 LookCause need file generation refused.NotNeeded = need ≡ None
 LookCause need file generation refused.OtherPlace = LacksLook need (λ f _. ¬ (f ≡ file))
 LookCause need file generation refused.Older = LacksLook need (λ _ least. generation < least)
-LookCause need file generation refused.OtherGeneration = (generation ≡ 0) ⊎ (last_generation < generation)
+LookCause need file generation refused.OtherGeneration =
+    (generation ≡ 0) ⊎ (last_generation < generation)
 LookCause need file generation refused.NoMemory = ⊤
 LookCause need file generation e = ⊥
 

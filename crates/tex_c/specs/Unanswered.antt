@@ -21,7 +21,8 @@ pub record SaysRefusal (e : CacheError GaveUp) (code : ℕ) (answer : TexAnswer)
   pub code_is : code ≡ code_of e
   pub says : answer ≡ of_refusal e
 
--- What is said where the cache refuses: what is lacking, if its source failed for that, or the refusal.
+-- What is said where the cache refuses: what is lacking, if its source failed for that, or the
+-- refusal.
 abbrev pub Says : CacheError GaveUp → SuppliedTap → ℕ → TexAnswer → Type 0
 Says e tap code answer =
     ((e ≡ refused.ReadFault) × IsLacking tap code answer) ⊎ SaysRefusal e code answer
@@ -41,8 +42,8 @@ pub record IsRefusedFor (Cause : CacheError GaveUp → Type 0) (code : ℕ) (ans
   pub says : SaysRefusal refusal code answer
   pub cause : Cause refusal
 
--- Why a call is not answered. `Own` says which numbers are its own refusals, and what is then so, and
--- `Cause` why the cache refuses it.
+-- Why a call is not answered. `Own` says which numbers are its own refusals, and what is then so,
+-- and `Cause` why the cache refuses it.
 abbrev pub IsUnanswered : (ℕ → Type 0) → (CacheError GaveUp → Type 0) → SuppliedTap → ℕ → TexAnswer
     → Type 0
 IsUnanswered Own Cause tap code answer =

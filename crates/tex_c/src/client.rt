@@ -28,7 +28,7 @@ pub struct Client {
     files: u32,
     /// The counts of the pass when the round began.
     begun: PassCounts,
-    /// What was counted in rounds that lacked something, and is counted again when the call goes on.
+    /// What was counted in rounds that lacked something, and is counted again as the call goes on.
     twice: PassCounts,
 }
 
@@ -79,7 +79,8 @@ impl Client {
 
     /// A second pass of the cache, with one permit of this one, for another thread.
     pub(crate) fn split(&mut self) -> Result<Client, SplitError>
-        ensures ok { IfOk result (λ c. (c.cache ≡ self.old.cache) × IsSecondPass self.old.pass c.pass) }
+        ensures ok { IfOk result (λ c.
+            (c.cache ≡ self.old.cache) × IsSecondPass self.old.pass c.pass) }
         ensures cause { IfErr result (λ e. e ≡ SplitError.NoPermit
             → self.old.pass.pinned.seat.permits ≡ 1) }
         ensures cache { self.new.cache ≡ self.old.cache }
@@ -162,7 +163,7 @@ impl Client {
         self.pass.hits().saturating_sub(self.twice.hits)
     }
 
-    /// What a refused round says: what is lacking, where it was refused for that, and else its cause.
+    /// What a refused round says: what is lacking, where it was refused for that, else its cause.
     pub(crate) fn refuse(&mut self, e: &CacheError<GaveUp>, answer: &mut TexAnswer) -> u32
         ensures says { Says e.now self.new.tap result answer.new }
         ensures other { ¬ (result ≡ 0) }

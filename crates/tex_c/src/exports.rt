@@ -1,6 +1,6 @@
 //! What C calls. Each call takes a handle by value and hands it back.
 ghost use Rattle.std.specs.Prelude.{◌≡◌, IsNone, IsSome, IsSomeAnd};
-ghost use Rattle.texture_sys.specs.declared.lookup_request.LookupRequest.TheVariants as LookupRequest;
+ghost use Rattle.texture_sys.specs.declared.lookup_request.LookupRequest.TheVariants as asked;
 ghost use Rattle.tex_c.specs.Calls.{Hands, SaysLookup, SaysLocally, SaysInfo, SaysRegion};
 ghost use Rattle.tex_c.specs.Calls.{SaysInvalid, SaysAllInvalid};
 ghost use Rattle.tex_c.specs.Exports.{IsMade, IsNotMade, IsSplitOff};
@@ -121,7 +121,7 @@ pub extern "C" fn tex_c_texture(
 ) -> u32
     requires from { IsSome from.value }
     ensures { Hands from.value to.new.value (λ old new.
-        SaysLookup file (IsPoint lookup.now) (LookupRequest.Point (point_of lookup.now))
+        SaysLookup file (IsPoint lookup.now) (asked.Point (point_of lookup.now))
         lookup.now.channels result answer.new out.old out.new old new) }
 {
     let mut client = from.into_box();
@@ -142,7 +142,7 @@ pub extern "C" fn tex_c_texture_d(
 ) -> u32
     requires from { IsSome from.value }
     ensures { Hands from.value to.new.value (λ old new.
-        SaysLookup file (IsFootprint lookup.now) (LookupRequest.Footprint (footprint_of lookup.now))
+        SaysLookup file (IsFootprint lookup.now) (asked.Footprint (footprint_of lookup.now))
         lookup.now.channels result answer.new out.old out.new old new) }
 {
     let mut client = from.into_box();
@@ -163,7 +163,7 @@ pub extern "C" fn tex_c_texture_local(
 ) -> u32
     requires from { IsSome from.value }
     ensures { Hands from.value to.new.value (λ old new.
-        SaysLocally file (IsPoint lookup.now) (LookupRequest.Point (point_of lookup.now))
+        SaysLocally file (IsPoint lookup.now) (asked.Point (point_of lookup.now))
         lookup.now.channels result answer.new out.old out.new old new) }
 {
     let mut client = from.into_box();

@@ -1,7 +1,9 @@
 //! What C calls: supplies, and the room that they come in.
 ghost use Rattle.std.specs.Prelude.{◌≡◌, length, IfSome, IsNone, IsSome, IsSomeAnd};
 ghost use Rattle.tex_c.specs.Calls.{Hands};
-ghost use Rattle.tex_c.specs.Exports.{KeepsRest, SaysLook, SaysLooks, SaysBytes, SaysRows, HasBytes};
+ghost use Rattle.tex_c.specs.Exports.{KeepsRest, HasBytes};
+ghost use Rattle.tex_c.specs.Exports.{SaysLook, SaysLooks, SaysBytes, SaysRows};
+ghost use Rattle.tex_c.specs.Supply.{FitsLook, FitsBytes, FitsRows};
 ghost use Rattle.tex_c.specs.SuppliedTap.{KeepsSupplies};
 ghost use Rattle.tex_c.specs.Truth.{IsTrueLook, AreTrueLooks, AreTrueBytes, AreTrueRows};
 
@@ -21,7 +23,8 @@ pub extern "C" fn tex_c_supply_look(
     len: u64,
 ) -> u32
     requires from { IsSome from.value }
-    requires told { IsTrueLook file generation len }
+    requires told { IfSome from.value (λ old. FitsLook old.tap.need file generation
+        → IsTrueLook file generation len) }
     ensures { Hands from.value to.new.value (λ old new.
         SaysLook file generation result old new) }
 {
@@ -106,7 +109,9 @@ pub extern "C" fn tex_c_supply_bytes(
 ) -> u32
     requires from { IsSome from.value }
     requires room { IsSome room.value }
-    requires told { IfSome room.value (λ b. AreTrueBytes file generation at b.items.items) }
+    requires told { IfSome from.value (λ old. IfSome room.value (λ b.
+        FitsBytes old.tap.need file generation at (length b.items.items)
+        → AreTrueBytes file generation at b.items.items)) }
     ensures { Hands from.value to.new.value (λ old new. HasBytes room.value (λ bytes.
         SaysBytes file generation at (length bytes) result old new)) }
 {
@@ -121,7 +126,9 @@ pub extern "C" fn tex_c_supply_bytes(
 pub extern "C" fn tex_c_supply_rows(from: Held, to: &mut Held, place: &RowsAt, room: Room) -> u32
     requires from { IsSome from.value }
     requires room { IsSome room.value }
-    requires told { IfSome room.value (λ b. AreTrueRows place.now b.items.items) }
+    requires told { IfSome from.value (λ old. IfSome room.value (λ b.
+        FitsRows old.tap.need place.now (length b.items.items)
+        → AreTrueRows place.now b.items.items)) }
     ensures { Hands from.value to.new.value (λ old new. HasBytes room.value (λ bytes.
         SaysRows place.now (length bytes) result old new)) }
 {

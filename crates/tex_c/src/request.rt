@@ -2,7 +2,8 @@
 ghost use Rattle.std.specs.Prelude.{◌≡◌, ◌↔◌, ◌<◌, IsSome, IfSome, IsTrue};
 ghost use Rattle.texel_filter.specs.Deriv.{IsDerivNumber, IsDerivRequest};
 ghost use Rattle.texel_filter.specs.Image.{IsChannelCount};
-ghost use Rattle.tex_c.specs.Request.{IsPoint, IsFootprint, AreDerivNumbers, point_of, footprint_of};
+ghost use Rattle.tex_c.specs.Request.{IsPoint, IsFootprint, AreDerivNumbers};
+ghost use Rattle.tex_c.specs.Request.{point_of, footprint_of};
 ghost use Rattle.tex_c.specs.Request as spec;
 
 use texel_filter::{DerivRequest, Filter, TexRequest, Wrap};

@@ -8,8 +8,8 @@ use crate::parts::Parts;
 use std::alloc::Global;
 use std::marker::Model;
 
-/// Room for bytes: nothing, or bytes that are the caller's until it hands them back. What is dropped
-/// here is not freed: bytes leave by `into_box`.
+/// Room for bytes: nothing, or bytes that are the caller's until it hands them back. What is
+/// dropped here is not freed: bytes leave by `into_box`.
 #[repr(C)]
 #[derive(Drop)]
 pub struct Room {

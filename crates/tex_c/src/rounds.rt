@@ -17,7 +17,7 @@ ghost use Rattle.image_cache.specs.InvalidAll.{MakesAllInvalid};
 ghost use Rattle.image_cache.specs.Reading.{pass_tap};
 ghost use Rattle.image_cache.specs.Region.{ReadsRegion};
 ghost use Rattle.texture_sys.specs.Call.{Answers, TextureCause, IsWarm, AnswersWarm, ServesLocally};
-ghost use Rattle.texture_sys.specs.declared.lookup_request.LookupRequest.TheVariants as LookupRequest;
+ghost use Rattle.texture_sys.specs.declared.lookup_request.LookupRequest.TheVariants as asked;
 ghost use Rattle.tex_c.specs.SuppliedWorld.{supplied_files};
 ghost use Rattle.tex_c.specs.SuppliedTap.{tap_state};
 
@@ -61,12 +61,12 @@ impl Client {
         requires count { length out.old ≡ r.now.nch }
         requires channels { IsChannelCount r.now.nch }
         ensures value { IfOk result (Answers supplied_files file self.old.cache.gate.cut
-            (LookupRequest.Point r.now) self.old.pass.view self.new.pass.view out.new) }
+            (asked.Point r.now) self.old.pass.view self.new.pass.view out.new) }
         ensures cause { IfErr result (TextureCause supplied_files file self.old.cache.gate.cut
             (sighted self.old.pass.view (tap_state self.old.tap))
             (sighted self.new.pass.view (tap_state self.new.tap))) }
         ensures err { OnErr result (out.new ≡ out.old) }
-        ensures warm { IfSome self.old.pass.latest (λ known. IsWarm file (LookupRequest.Point r.now)
+        ensures warm { IfSome self.old.pass.latest (λ known. IsWarm file (asked.Point r.now)
             self.old.pass known → AnswersWarm file known.generation
             (sighted self.old.pass.view (tap_state self.old.tap))
             (sighted self.new.pass.view (tap_state self.new.tap)) result) }
@@ -96,12 +96,12 @@ impl Client {
         requires count { length out.old ≡ r.now.nch }
         requires request { IsDerivRequest r.now }
         ensures value { IfOk result (Answers supplied_files file self.old.cache.gate.cut
-            (LookupRequest.Footprint r.now) self.old.pass.view self.new.pass.view out.new) }
+            (asked.Footprint r.now) self.old.pass.view self.new.pass.view out.new) }
         ensures cause { IfErr result (TextureCause supplied_files file self.old.cache.gate.cut
             (sighted self.old.pass.view (tap_state self.old.tap))
             (sighted self.new.pass.view (tap_state self.new.tap))) }
         ensures err { OnErr result (out.new ≡ out.old) }
-        ensures warm { IfSome self.old.pass.latest (λ known. IsWarm file (LookupRequest.Footprint r.now)
+        ensures warm { IfSome self.old.pass.latest (λ known. IsWarm file (asked.Footprint r.now)
             self.old.pass known → AnswersWarm file known.generation
             (sighted self.old.pass.view (tap_state self.old.tap))
             (sighted self.new.pass.view (tap_state self.new.tap)) result) }
@@ -131,9 +131,9 @@ impl Client {
         requires count { length out.old ≡ r.now.nch }
         requires channels { IsChannelCount r.now.nch }
         ensures some { IsSome result ↔ IsSomeAnd self.old.pass.latest
-            (ServesLocally file (LookupRequest.Point r.now) self.old.pass self.new.pass) }
+            (ServesLocally file (asked.Point r.now) self.old.pass self.new.pass) }
         ensures value { IfSome result (Answers supplied_files file self.old.cache.gate.cut
-            (LookupRequest.Point r.now) self.old.pass.view self.new.pass.view out.new) }
+            (asked.Point r.now) self.old.pass.view self.new.pass.view out.new) }
         ensures none { IsNone result → out.new ≡ out.old }
         ensures cache { self.new.cache ≡ self.old.cache }
         ensures tap { self.new.tap ≡ self.old.tap }

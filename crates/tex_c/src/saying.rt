@@ -1,6 +1,6 @@
 //! The calls as C makes them: numbers are tested, and what is answered is said in numbers.
 ghost use Rattle.std.specs.Prelude.{◌≡◌, ◌<◌, length, take, drop, IsTrue, IsFalse};
-ghost use Rattle.texture_sys.specs.declared.lookup_request.LookupRequest.TheVariants as LookupRequest;
+ghost use Rattle.texture_sys.specs.declared.lookup_request.LookupRequest.TheVariants as asked;
 ghost use Rattle.tex_c.specs.Request.{IsPoint, IsFootprint, point_of, footprint_of};
 ghost use Rattle.tex_c.specs.Request.{region_of, told_info};
 ghost use Rattle.tex_c.specs.Calls.{SaysLookup, SaysLocally, SaysInfo, SaysRegion, SaysTile};
@@ -66,7 +66,7 @@ impl Client {
         out: &mut [u16],
         answer: &mut TexAnswer,
     ) -> u32
-        ensures { SaysLookup file (IsPoint lookup.now) (LookupRequest.Point (point_of lookup.now))
+        ensures { SaysLookup file (IsPoint lookup.now) (asked.Point (point_of lookup.now))
             lookup.now.channels result answer.new out.old out.new self.old self.new }
     {
         *answer = TexAnswer::blank();
@@ -98,7 +98,7 @@ impl Client {
         answer: &mut TexAnswer,
     ) -> u32
         ensures { SaysLookup file (IsFootprint lookup.now)
-            (LookupRequest.Footprint (footprint_of lookup.now))
+            (asked.Footprint (footprint_of lookup.now))
             lookup.now.channels result answer.new out.old out.new self.old self.new }
     {
         *answer = TexAnswer::blank();
@@ -129,7 +129,7 @@ impl Client {
         out: &mut [u16],
         answer: &mut TexAnswer,
     ) -> u32
-        ensures { SaysLocally file (IsPoint lookup.now) (LookupRequest.Point (point_of lookup.now))
+        ensures { SaysLocally file (IsPoint lookup.now) (asked.Point (point_of lookup.now))
             lookup.now.channels result answer.new out.old out.new self.old self.new }
     {
         *answer = TexAnswer::blank();

@@ -6,8 +6,8 @@ ghost use Rattle.tex_c.specs.Truth.{IsTrueLook, AreTrueBytes, AreTrueRows};
 use crate::handle::SuppliedHandle;
 use tex_world::TapHandle;
 
-/// Rows of a generation of a file: the first from a place on, of so many bytes each, and each so many
-/// bytes behind the one before.
+/// Rows of a generation of a file: the first from a place on, of so many bytes each, and each so
+/// many bytes behind the one before.
 #[repr(C)]
 #[derive(Clone, Copy, Debug, PartialEq, Eq)]
 pub struct RowsAt {

@@ -1,6 +1,7 @@
 //! What the caller supplies, as C says it.
 ghost use Rattle.std.specs.Prelude.{◌≡◌, length, IfSome};
 ghost use Rattle.tex_c.specs.Truth.{IsTrueLook, AreTrueLooks, AreTrueBytes, AreTrueRows};
+ghost use Rattle.tex_c.specs.Supply.{FitsLook, FitsBytes, FitsRows};
 ghost use Rattle.tex_c.specs.Exports.{KeepsRest, SaysLook, SaysLooks, SaysBytes, SaysRows};
 ghost use Rattle.tex_c.specs.SuppliedTap.{KeepsSupplies};
 
@@ -12,7 +13,8 @@ use crate::supply::{RowsAt, Seen};
 impl Client {
     /// What was seen of a file.
     pub(crate) fn supply_look(&mut self, file: u32, generation: u32, len: u64) -> u32
-        requires told { IsTrueLook file generation len }
+        requires told { FitsLook self.old.tap.need file generation
+            → IsTrueLook file generation len }
         ensures { SaysLook file generation result self.old self.new }
     {
         match self.tap.supply_look(file, generation, len) {
@@ -54,7 +56,8 @@ impl Client {
 
     /// Bytes of a generation of a file, from a place on.
     pub(crate) fn supply_bytes(&mut self, file: u32, generation: u32, at: u64, bytes: Bytes) -> u32
-        requires told { AreTrueBytes file generation at bytes.items.items }
+        requires told { FitsBytes self.old.tap.need file generation at (length bytes.items.items)
+            → AreTrueBytes file generation at bytes.items.items }
         ensures { SaysBytes file generation at (length bytes.items.items) result self.old self.new }
     {
         if let Err(e) = self.tap.supply_bytes(file, generation, at, bytes.items) {
@@ -65,7 +68,8 @@ impl Client {
 
     /// The bytes of rows.
     pub(crate) fn supply_rows(&mut self, place: RowsAt, bytes: Bytes) -> u32
-        requires told { AreTrueRows place bytes.items.items }
+        requires told { FitsRows self.old.tap.need place (length bytes.items.items)
+            → AreTrueRows place bytes.items.items }
         ensures { SaysRows place (length bytes.items.items) result self.old self.new }
     {
         if let Err(e) = self.tap.supply_rows(place, bytes.items) {

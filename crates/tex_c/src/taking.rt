@@ -1,8 +1,9 @@
 //! What the caller supplies for the call at hand.
-ghost use Rattle.std.specs.Prelude.{◌≡◌, ◌⊎◌, ◌+◌, ◌<◌, None, length, IfErr, IfSome, IsNone, OnErr, OnOk, IsTrue, IsFalse};
+ghost use Rattle.std.specs.Prelude.{◌≡◌, ◌⊎◌, ◌+◌, ◌<◌, ◌≤◌, None, length, IsTrue, IsFalse};
+ghost use Rattle.std.specs.Prelude.{IfErr, IfSome, IsNone, OnErr, OnOk};
 ghost use Rattle.tex_world.specs.World.{last_generation};
 ghost use Rattle.tex_c.specs.Truth.{IsTrueLook, AreTrueLooks, AreTrueBytes, AreTrueRows};
-ghost use Rattle.tex_c.specs.Supply.{FitsBytes, FitsRows, LacksLook, AreElsewhere};
+ghost use Rattle.tex_c.specs.Supply.{FitsLook, FitsBytes, FitsRows, LacksLook, AreElsewhere};
 ghost use Rattle.tex_c.specs.Supply.{LookCause, LooksCause, BytesCause, RowsCause};
 ghost use Rattle.tex_c.specs.SuppliedTap.{tap_state, KeepsBytes, KeepsSupplies};
 
@@ -32,8 +33,9 @@ impl SuppliedTap {
 
     /// What was seen of a file. Where bytes of it are lacking it is of a newer generation.
     pub fn supply_look(&mut self, file: u32, generation: u32, len: u64) -> Result<(), SupplyError>
-        requires told { IsTrueLook file generation len }
+        requires told { FitsLook self.old.need file generation → IsTrueLook file generation len }
         ensures same { KeepsSupplies self.old self.new }
+        ensures fits { OnOk result (FitsLook self.old.need file generation) }
         ensures cause { IfErr result (LookCause self.old.need file generation) }
     {
         let Some(wanted) = wanted_look(self.need) else {
@@ -45,7 +47,14 @@ impl SuppliedTap {
         if u64::from(generation) < wanted.least {
             return Err(SupplyError::Older);
         }
-        let look = look_of(file, generation, len)?;
+        if !is_generation(generation) {
+            return Err(SupplyError::OtherGeneration);
+        }
+        let look = Look {
+            file,
+            generation,
+            len,
+        };
         match self.looks.push(look) {
             Ok(()) => {
                 self.need = None;
@@ -55,8 +64,9 @@ impl SuppliedTap {
         }
     }
 
-    /// What was seen of several files. The first is what is lacking, as it would be alone; the others are
-    /// kept for what the call asks next, and passed over where they are no generation of a file.
+    /// What was seen of several files. The first is what is lacking, as it would be alone; the
+    /// others are kept for what the call asks next, and passed over where they are no generation of
+    /// a file.
     pub fn supply_looks(&mut self, looks: &[Seen]) -> Result<(), SupplyError>
         requires told { AreTrueLooks looks.now }
         ensures same { KeepsSupplies self.old self.new }
@@ -92,7 +102,8 @@ impl SuppliedTap {
         keep_spare(&mut self.spare, bytes);
     }
 
-    /// Bytes of a generation of a file, from a place on. Their room is the tap's, whatever is answered.
+    /// Bytes of a generation of a file, from a place on. Their room is the tap's, whatever is
+    /// answered.
     pub fn supply_bytes(
         &mut self,
         file: u32,
@@ -100,7 +111,8 @@ impl SuppliedTap {
         at: u64,
         bytes: Vec<u8>,
     ) -> Result<(), SupplyError>
-        requires told { AreTrueBytes file generation at bytes.items }
+        requires told { FitsBytes self.old.need file generation at (length bytes.items)
+            → AreTrueBytes file generation at bytes.items }
         ensures state { tap_state self.new ≡ tap_state self.old }
         ensures err { OnErr result (KeepsBytes self.old self.new) }
         ensures fits { OnOk result
@@ -129,7 +141,8 @@ impl SuppliedTap {
 
     /// The bytes of rows. Their room is the tap's, whatever is answered.
     pub fn supply_rows(&mut self, place: RowsAt, bytes: Vec<u8>) -> Result<(), SupplyError>
-        requires told { AreTrueRows place bytes.items }
+        requires told { FitsRows self.old.need place (length bytes.items)
+            → AreTrueRows place bytes.items }
         ensures state { tap_state self.new ≡ tap_state self.old }
         ensures err { OnErr result (KeepsBytes self.old self.new) }
         ensures fits { OnOk result (FitsRows self.old.need place (length bytes.items)) }
@@ -149,20 +162,12 @@ impl SuppliedTap {
     }
 }
 
-/// A look, where its generation is one that a file may have.
-fn look_of(file: u32, generation: u32, len: u64) -> Result<Look, SupplyError>
-    requires told { IsTrueLook file generation len }
-    ensures cause { IfErr result (λ e. (e ≡ SupplyError.OtherGeneration)
-        × ((generation ≡ 0) ⊎ (last_generation < generation))) }
+/// Whether a file may have a generation of this number.
+fn is_generation(generation: u32) -> bool
+    ensures is { IsTrue result → (1 ≤ generation) × (generation ≤ last_generation) }
+    ensures not { IsFalse result → (generation ≡ 0) ⊎ (last_generation < generation) }
 {
-    if generation == 0 || LAST_GENERATION < generation {
-        return Err(SupplyError::OtherGeneration);
-    }
-    Ok(Look {
-        file,
-        generation,
-        len,
-    })
+    generation != 0 && generation <= LAST_GENERATION
 }
 
 /// Keeps looks, where their generations are ones that a file may have and memory is there.
@@ -170,7 +175,12 @@ fn keep_looks(kept: &mut Vec<Look>, looks: &[Seen])
     requires told { AreTrueLooks looks.now }
 {
     for seen in looks {
-        if let Ok(look) = look_of(seen.file, seen.generation, seen.len) {
+        if is_generation(seen.generation) {
+            let look = Look {
+                file: seen.file,
+                generation: seen.generation,
+                len: seen.len,
+            };
             if let Err(_refused) = kept.push(look) {}
         }
     }

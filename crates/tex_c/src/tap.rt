@@ -17,8 +17,8 @@ const MAX_SPARE: usize = 8;
 
 const MAX_SPARE_BYTES: usize = 262144;
 
-/// A source of what the caller supplied for the call at hand. A call of the tap that lacks something
-/// says what, and is counted as a fault.
+/// A source of what the caller supplied for the call at hand. A call of the tap that lacks
+/// something says what, and is counted as a fault.
 #[derive(Drop)]
 pub struct SuppliedTap {
     pub(crate) alloc: Global,
@@ -310,8 +310,8 @@ impl Tap for SuppliedTap {
 }
 
 impl SuppliedTap {
-    /// So many bytes of a handle's file are lacking, from a place on. The file is remembered as it was
-    /// seen, so that the call may open it again when it goes on.
+    /// So many bytes of a handle's file are lacking, from a place on. The file is remembered as it
+    /// was seen, so that the call may open it again when it goes on.
     fn lack_bytes(&mut self, h: &SuppliedHandle, at: u64, size: usize)
         requires inside { at + size ≤ h.now.len }
         ensures adds { AddsFault (tap_state self.old) (tap_state self.new) }
