@@ -245,6 +245,8 @@ uint32_t tex_c_supply_fault(texcache_held from, texcache_held *to);
 #define TEXC_NO_STAMP UINT64_MAX
 /* So many bytes are read at least where a few are lacking, if the file has them. */
 #define TEXC_BLOCK 16384
+/* What one thread writes to shares no so many bytes with what another does. */
+#define TEXC_LINE 128
 /* How often a call is tried anew after the file was replaced under it, or where it is busy. */
 #define TEXC_AGAIN 64
 #define TEXC_TRIES 100000
@@ -390,10 +392,11 @@ static inline texc_wanted texc_want(const texcache_answer *need)
 /* Reads what is wanted of an open file into the room, and says whether all of it was read. */
 static inline int texc_read(texcache *cache, int fd, const texc_wanted *w, uint8_t *to)
 {
+    size_t row = w->rows.stride == w->rows.row ? w->size : (size_t)w->rows.row;
     uint64_t at = w->rows.at;
-    for (size_t done = 0; done < w->size; done += (size_t)w->rows.row, at += w->rows.stride) {
+    for (size_t done = 0; done < w->size; done += row, at += w->rows.stride) {
         texc_add(&cache->reads, 1);
-        if (texc_pread(fd, to + done, (size_t)w->rows.row, at) != w->rows.row) return 0;
+        if (texc_pread(fd, to + done, row, at) != row) return 0;
     }
     texc_add(&cache->bytes, w->size);
     return 1;
@@ -427,7 +430,8 @@ static inline uint32_t texc_supply_bytes(texcache_pass *pass, const texcache_ans
     uint64_t len = file->len;
     pthread_mutex_unlock(&file->lock);
     if (is_there && is_read && generation == need->need_generation) {
-        if (need->need == 2) return tex_c_supply_bytes(pass->held, &pass->held, w.rows.file, generation, w.rows.at, room);
+        if (need->need == 2)
+            return tex_c_supply_bytes(pass->held, &pass->held, w.rows.file, generation, w.rows.at, room);
         return tex_c_supply_rows(pass->held, &pass->held, &w.rows, room);
     }
     tex_c_give_back(pass->held, &pass->held, room);
@@ -676,6 +680,15 @@ TEXCACHE_API int texcache_close(texcache **cache)
     return TEXCACHE_OK;
 }
 
+/* A pass in lines of memory of its own, since its thread writes to it at each call. */
+static inline texcache_pass *texc_new_pass(void)
+{
+    void *at = NULL;
+    size_t size = (sizeof(texcache_pass) + TEXC_LINE - 1) / TEXC_LINE * TEXC_LINE;
+    if (posix_memalign(&at, TEXC_LINE, size)) return NULL;
+    return (texcache_pass *)memset(at, 0, size);
+}
+
 /* A pass, for one thread at a time. Each thread that looks up textures has its own. */
 TEXCACHE_API int texcache_perthread(texcache *cache, texcache_pass **out)
 {
@@ -686,7 +699,7 @@ TEXCACHE_API int texcache_perthread(texcache *cache, texcache_pass **out)
     texcache_pass *pass = cache->ended;
     if (pass) {
         cache->ended = pass->next;
-    } else if (!(pass = (texcache_pass *)calloc(1, sizeof *pass))) {
+    } else if (!(pass = texc_new_pass())) {
         refused = TEXCACHE_NO_MEMORY;
     } else if ((refused = (int)tex_c_split(cache->first, &cache->first, &pass->held))) {
         free(pass);
