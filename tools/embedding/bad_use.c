@@ -169,35 +169,37 @@ static void by_hand(void)
     IS(!held.at);
 }
 
-/* A grey picture of 200 by 70 samples in one strip, whose cells are 64 wide: their rows are lacking at once. */
-static size_t wide_picture(uint8_t *to)
+enum { WIDE = 8000, HIGH = 70, WIDE_SIZE = 110 + WIDE * HIGH };
+
+/* A grey picture of 8000 by 70 samples in one strip: the rows of its cells stand far apart, and are lacking at once. */
+static void wide_picture(uint8_t *to)
 {
-    static const uint16_t entries[8][3] = {{256, 3, 200}, {257, 3, 70},  {258, 3, 8},  {259, 3, 1},
-                                           {262, 3, 1},   {273, 4, 110}, {278, 3, 70}, {279, 4, 14000}};
+    static const uint32_t entries[8][3] = {{256, 3, WIDE}, {257, 3, HIGH}, {258, 3, 8},   {259, 3, 1},
+                                           {262, 3, 1},    {273, 4, 110},  {278, 3, HIGH}, {279, 4, WIDE * HIGH}};
     memset(to, 0, 110);
     memcpy(to, "II*\0\10\0\0\0\10", 9);
     for (int i = 0; i < 8; i++) {
         uint8_t *at = to + 10 + 12 * i;
-        at[0] = entries[i][0] & 255, at[1] = entries[i][0] >> 8, at[2] = (uint8_t)entries[i][1], at[4] = 1;
-        at[8] = entries[i][2] & 255, at[9] = entries[i][2] >> 8;
+        at[0] = entries[i][0] & 255, at[1] = (uint8_t)(entries[i][0] >> 8), at[2] = (uint8_t)entries[i][1], at[4] = 1;
+        for (int k = 0; k < 4; k++) at[8 + k] = (uint8_t)(entries[i][2] >> 8 * k);
     }
-    for (int i = 0; i < 14000; i++) to[110 + i] = (uint8_t)(i % 200 + i / 200);
-    return 14110;
+    for (int i = 0; i < WIDE * HIGH; i++) to[110 + i] = (uint8_t)(i % WIDE + i / WIDE);
 }
 
 /* Rows by hand: each wrong supply of them is refused and changes nothing, and the right one goes on. */
 static void rows_by_hand(void)
 {
-    static uint8_t bytes[14200], given[14200];
-    size_t size = wide_picture(bytes);
+    static uint8_t bytes[WIDE_SIZE], given[WIDE_SIZE];
+    size_t size = WIDE_SIZE;
     texcache_options o = texcache_default_options();
     texcache_held held = {NULL}, none = {NULL};
     texcache_answer a;
-    texcache_lookup r = texcache_lookup_at(65536 / 200 * 100, 65536 / 70 * 30, 0, 1);
+    texcache_lookup r = texcache_lookup_at(32768, 32768, 0, 1);
     uint16_t out[8];
     uint32_t code;
     int rows_needed = 0;
     r.filter = TEXCACHE_CLOSEST;
+    wide_picture(bytes);
     SAYS(tex_c_new(&held, &o, 1, &a), TEXCACHE_OK);
     while ((code = tex_c_texture(held, &held, 0, &r, out, 8, &a)) == TEXCACHE_NEEDED) {
         if (a.need == 1) {
@@ -231,7 +233,7 @@ static void rows_by_hand(void)
     }
     SAYS(code, TEXCACHE_OK);
     IS(rows_needed > 0);
-    IS(a.generation == 3 && out[0] == 257 * bytes[110 + 200 * (r.t * 70 / 65536) + r.s * 200 / 65536]);
+    IS(a.generation == 3 && out[0] == 257 * bytes[110 + WIDE * (HIGH / 2) + WIDE / 2]);
     tex_c_free(held, none, &held);
 }
 
