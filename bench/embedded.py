@@ -7,7 +7,7 @@
 A bilinear texcache_texture of three channels, within one cell of a file, over the library that ./build tex_c makes,
 with 1, 4 and 8 threads; and TextureSystem::texture at the same coordinates, where OpenImageIO's headers are there.
 The time is that of the whole, all threads side by side, for each lookup of one thread; the least of the passes, which
-are taken in turn. Instructions are those of 10,000 lookups more, for each. The first line has the load of the machine.
+are taken in turn. Instructions are those of 200,000 lookups more, for each. The first line has the load of the machine.
 """
 import argparse
 import os
@@ -61,10 +61,10 @@ def lookups(words):
         if shutil.which("valgrind"):
             for name, program in found:
                 counts = []
-                for count in (1000, 11000):
+                for count in (1000, 201000):
                     said = run(program, 1, count, "valgrind", "--tool=callgrind", f"--callgrind-out-file={made}/out")
                     counts.append(int(re.search(r"Collected : (\d+)", said).group(1)))
-                print(f"instructions a lookup: {name} {(counts[1] - counts[0]) / 10000:.0f}", flush=True)
+                print(f"instructions a lookup: {name} {(counts[1] - counts[0]) / 200000:.0f}", flush=True)
 
 
 def renderer(words, folder):

@@ -169,6 +169,74 @@ static void by_hand(void)
     IS(!held.at);
 }
 
+enum { WIDE = 8000, HIGH = 70, WIDE_SIZE = 110 + WIDE * HIGH };
+
+/* A grey picture of 8000 by 70 samples in one strip: the rows of its cells stand far apart, and are lacking at once. */
+static void wide_picture(uint8_t *to)
+{
+    static const uint32_t entries[8][3] = {{256, 3, WIDE}, {257, 3, HIGH}, {258, 3, 8},   {259, 3, 1},
+                                           {262, 3, 1},    {273, 4, 110},  {278, 3, HIGH}, {279, 4, WIDE * HIGH}};
+    memset(to, 0, 110);
+    memcpy(to, "II*\0\10\0\0\0\10", 9);
+    for (int i = 0; i < 8; i++) {
+        uint8_t *at = to + 10 + 12 * i;
+        at[0] = entries[i][0] & 255, at[1] = (uint8_t)(entries[i][0] >> 8), at[2] = (uint8_t)entries[i][1], at[4] = 1;
+        for (int k = 0; k < 4; k++) at[8 + k] = (uint8_t)(entries[i][2] >> 8 * k);
+    }
+    for (int i = 0; i < WIDE * HIGH; i++) to[110 + i] = (uint8_t)(i % WIDE + i / WIDE);
+}
+
+/* Rows by hand: each wrong supply of them is refused and changes nothing, and the right one goes on. */
+static void rows_by_hand(void)
+{
+    static uint8_t bytes[WIDE_SIZE], given[WIDE_SIZE];
+    size_t size = WIDE_SIZE;
+    texcache_options o = texcache_default_options();
+    texcache_held held = {NULL}, none = {NULL};
+    texcache_answer a;
+    texcache_lookup r = texcache_lookup_at(32768, 32768, 0, 1);
+    uint16_t out[8];
+    uint32_t code;
+    int rows_needed = 0;
+    r.filter = TEXCACHE_CLOSEST;
+    wide_picture(bytes);
+    SAYS(tex_c_new(&held, &o, 1, &a), TEXCACHE_OK);
+    while ((code = tex_c_texture(held, &held, 0, &r, out, 8, &a)) == TEXCACHE_NEEDED) {
+        if (a.need == 1) {
+            SAYS(tex_c_supply_look(held, &held, 0, 3, size), TEXCACHE_OK);
+            continue;
+        }
+        if (a.need == 2) {
+            SAYS(supply(&held, 0, 3, a.need_at, bytes + a.need_at, (size_t)a.need_least), TEXCACHE_OK);
+            continue;
+        }
+        texcache_rows rows = {0, 3, a.need_at, a.need_stride, a.need_row}, wrong = rows;
+        size_t count = (size_t)a.need_least, row = (size_t)a.need_row;
+        rows_needed++;
+        IS(a.need == 3 && a.need_generation == 3 && a.need_most == count && row && count % row == 0 && a.need_stride >= row);
+        for (size_t k = 0; k < count; k++) given[k] = bytes[a.need_at + k / row * a.need_stride + k % row];
+        SAYS(supply(&held, 0, 3, a.need_at, given, count), TEXCACHE_NOT_NEEDED);
+        wrong.stride++;
+        SAYS(supply_rows(&held, wrong, given, count), TEXCACHE_OTHER_PLACE);
+        wrong = rows, wrong.at++;
+        SAYS(supply_rows(&held, wrong, given, count), TEXCACHE_OTHER_PLACE);
+        wrong = rows, wrong.row--;
+        SAYS(supply_rows(&held, wrong, given, count), TEXCACHE_OTHER_PLACE);
+        wrong = rows, wrong.generation = 2;
+        SAYS(supply_rows(&held, wrong, given, count), TEXCACHE_OLDER);
+        wrong = rows, wrong.generation = 4;
+        SAYS(supply_rows(&held, wrong, given, count), TEXCACHE_OTHER_GENERATION);
+        SAYS(supply_rows(&held, rows, given, count - row), TEXCACHE_SHORT);
+        SAYS(supply_rows(&held, rows, given, count + row), TEXCACHE_LONG);
+        SAYS(tex_c_supply_look(held, &held, 0, 3, size), TEXCACHE_OLDER);
+        SAYS(supply_rows(&held, rows, given, count), TEXCACHE_OK);
+    }
+    SAYS(code, TEXCACHE_OK);
+    IS(rows_needed > 0);
+    IS(a.generation == 3 && out[0] == 257 * bytes[110 + WIDE * (HIGH / 2) + WIDE / 2]);
+    tex_c_free(held, none, &held);
+}
+
 static void options_out_of_range(const char *folder)
 {
     texcache *cache = NULL;
@@ -366,6 +434,7 @@ int main(int count, char **words)
 {
     if (count != 2) return 2;
     by_hand();
+    rows_by_hand();
     options_out_of_range(words[1]);
     over_a_folder(words[1]);
     printf("%d failed\n", failures);

@@ -1,6 +1,5 @@
 pub mod SuppliedWorld
 pub mod SuppliedHandle
-pub mod Rows
 pub mod Truth
 pub mod Supply
 pub mod SuppliedTap

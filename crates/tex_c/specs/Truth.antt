@@ -3,7 +3,7 @@ use Rattle.std.specs.Prelude.{◌≡◌, ℕ, ◌+◌, ◌<◌, List, length, sl
 use Rattle.std.specs.List.{All}
 use Rattle.tex_c.specs.declared.supply.RowsAt.{RowsAt}
 use Rattle.tex_c.specs.declared.supply.Seen.{Seen}
-use Rattle.tex_c.specs.Rows.{place_in_rows}
+use Rattle.tex_world.specs.Tap.{place_in_rows}
 use Rattle.tex_c.specs.SuppliedWorld.{held_by_caller}
 
 -- The bytes are those of a file from a place on, as far as the file reaches.

@@ -1,11 +1,7 @@
 //! A source of bytes that the caller supplies.
-ghost use Rattle.std.specs.Prelude.{◌≡◌, ◌+◌, ◌≤◌, [], length, IsTrue, IfErr, IfSome, OnOk};
-ghost use Rattle.std.specs.Option.{ForSome};
-ghost use Rattle.tex_world.specs.Tap.{IsNew, ReadCause, AfterRead};
-ghost use Rattle.tex_c.specs.Rows.{AreRows, HoldsRows};
+ghost use Rattle.std.specs.Prelude.{◌≡◌, ◌+◌, ◌≤◌, [], IsTrue, IfSome};
+ghost use Rattle.tex_world.specs.Tap.{IsNew};
 ghost use Rattle.tex_c.specs.Truth.{AreTrueBytes, AreTrueRows};
-ghost use Rattle.tex_c.specs.SuppliedHandle.{handle_named};
-ghost use Rattle.tex_c.specs.SuppliedWorld.{supplied_files};
 ghost use Rattle.tex_c.specs.SuppliedTap.{tap_state, parts_of, rows_of};
 ghost use Rattle.tex_c.specs.SuppliedTap.{AddsFault, AddsMove, AddsLoss};
 ghost use Rattle.tex_c.specs.SuppliedTap.{KeepsBytes, KeepsSupplies};
@@ -174,48 +170,6 @@ impl SuppliedTap {
             None => false,
         }
     }
-
-    /// As `read_at`, of rows: the first from a place on, each `stride` bytes behind the one before.
-    /// What is lacking is all of them.
-    pub fn rows(
-        &mut self,
-        h: &mut SuppliedHandle,
-        at: u64,
-        stride: u64,
-        row: usize,
-        buf: &mut [u8],
-    ) -> Result<(), ReadError>
-        requires { AreRows at stride row (length buf.old) (handle_named h.old).len }
-        ensures bytes { OnOk result (ForSome
-            (supplied_files.held (handle_named h.old).file (handle_named h.old).generation)
-            (λ bytes. HoldsRows bytes at stride row buf.new)) }
-        ensures handle { handle_named h.new ≡ handle_named h.old }
-        ensures cause { IfErr result (ReadCause supplied_files (handle_named h.old)
-            (tap_state self.old) (tap_state self.new)) }
-        ensures counts { AfterRead (tap_state self.old) (tap_state self.new) result }
-    {
-        self.calls = self.calls.saturating_add(1);
-        if let Some(look) = self.look(h.file(), h.generation() + 1) {
-            self.count_loss();
-            return Err(ReadError::Gone(look.generation));
-        }
-        let rows = RowsAt {
-            file: h.file(),
-            generation: h.generation(),
-            at,
-            stride,
-            row: row as u64,
-        };
-        if self.fill_rows(&rows, buf) {
-            return Ok(());
-        }
-        self.remember(h);
-        self.lack(Need::Rows {
-            rows,
-            size: buf.len() as u64,
-        });
-        Err(ReadError::Failed)
-    }
 }
 
 /// The latest of the looks at a file that are of this generation at least.
@@ -322,7 +276,7 @@ impl Tap for SuppliedTap {
         Err(ReadError::Failed)
     }
 
-    /// As `read_at`, row by row: what is lacking is the first row that was not supplied.
+    /// As `read_at`, of rows that were supplied at once. What is lacking is all of them.
     fn read_rows(
         &mut self,
         h: &mut SuppliedHandle,
@@ -336,15 +290,22 @@ impl Tap for SuppliedTap {
             self.count_loss();
             return Err(ReadError::Gone(look.generation));
         }
-        let mut from = at;
-        for part in buf.chunks_mut(row) {
-            if !self.fill(h, from, part) {
-                self.lack_row(h, from, part.len());
-                return Err(ReadError::Failed);
-            }
-            from = from.saturating_add(stride);
+        let rows = RowsAt {
+            file: h.file(),
+            generation: h.generation(),
+            at,
+            stride,
+            row: row as u64,
+        };
+        if self.fill_rows(&rows, buf) {
+            return Ok(());
         }
-        Ok(())
+        self.remember(h);
+        self.lack(Need::Rows {
+            rows,
+            size: buf.len() as u64,
+        });
+        Err(ReadError::Failed)
     }
 }
 
@@ -364,19 +325,6 @@ impl SuppliedTap {
             least: size as u64,
             most: h.len() - at,
         });
-    }
-
-    /// The same, also where so many bytes do not lie in the file: then none of them can be had.
-    fn lack_row(&mut self, h: &SuppliedHandle, at: u64, size: usize)
-        ensures adds { AddsFault (tap_state self.old) (tap_state self.new) }
-        ensures parts { parts_of self.new ≡ parts_of self.old }
-    {
-        let len = h.len();
-        if at <= len && size as u64 <= len - at {
-            self.lack_bytes(h, at, size);
-        } else {
-            self.count_fault();
-        }
     }
 
     /// Keeps the look that a handle stands for, if none is kept and memory is there.
