@@ -108,7 +108,7 @@ impl<T: Tap> Files<T> {
         Ok(count)
     }
 
-    /// Of how many files what was read ahead is kept: never of more than four.
+    /// Of how many files what was read ahead is kept: never of more than 256.
     pub fn aheads<V: Waiter>(&self, waiter: &V) -> Result<usize, V::Busy>
         ensures { IfOk result (λ n. n ≤ max_aheads) }
     {
