@@ -4,6 +4,7 @@ pub mod PinLemmas
 pub mod EvictLemmas
 pub mod WithinLemmas
 pub mod PurgeLemmas
+pub mod MarkLemmas
 pub mod ShardLemmas
 pub mod StayLemmas
 pub mod LawfulLemmas

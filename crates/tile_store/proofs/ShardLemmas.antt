@@ -1,6 +1,6 @@
 -- What each call leaves of the numbers of a shard.
 use Rattle.std.proofs.Common.{◌≡◌, ℕ, ◌+◌, ◌-◌, ◌*◌, ◌<◌, ◌≤◌, ◌^◌, ◌&&◌, ◌==◌, Bool, true, false, cond, not, nat_eq, nat_lt, nat_le}
-use Rattle.std.proofs.Common.{[], ◌∷◌, length, Option, Some, None, refl, sym, ap, ◌∙◌, subst, arith}
+use Rattle.std.proofs.Common.{List, [], ◌∷◌, length, Option, Some, None, refl, sym, ap, ◌∙◌, subst, arith}
 use Rattle.std.specs.List.{All, list_any, filter}
 use Rattle.std.specs.Option.{option_map_or}
 use Rattle.std.specs.Map.{values_of}
@@ -16,7 +16,9 @@ use Rattle.tile_store.specs.Entry.{entry_at, unpinned_at, IsEntry, is_unpinned, 
 use Rattle.tile_store.specs.Changes.{pinned_first, unpinned_once, with_first, with_room, kept_within}
 use Rattle.tile_store.specs.Changes.{without_last_unpinned, without_stale, is_stale, one_less, inserted}
 use Rattle.tile_store.specs.Changes.{new_entry}
+use Rattle.tile_store.specs.Marks.{HasMark, IsOfOther, marked, unmarked}
 use Rattle.tile_store.specs.Inside.{IsShard}
+use Rattle.tile_store.proofs.MarkLemmas.{marked_own, noted_more, noted_kept}
 use Rattle.tile_store.proofs.PinLemmas.{pin_sum-pinned_first, loose-pinned_first, length-pinned_first}
 use Rattle.tile_store.proofs.PinLemmas.{All-pinned_first, pin_sum-unpinned_once, loose-unpinned_once}
 use Rattle.tile_store.proofs.PinLemmas.{unpinned_at-unpinned_once, length-unpinned_once}
@@ -166,7 +168,7 @@ pin_sum-without_stale file below = filter_pins (λ e. not (is_stale file below e
 
 -- ---- the numbers of a shard
 
-module _ (es : Entries) (pins loose : ℕ) (is : IsShard es pins loose) where
+module _ (es : Entries) (marks : List Bool) (pins loose : ℕ) (is : IsShard es marks pins loose) where
   pins_are : pins ≡ pin_sum es
   pins_are = is.pins_is
 
@@ -179,13 +181,16 @@ module _ (es : Entries) (pins loose : ℕ) (is : IsShard es pins loose) where
   few : length es < 2 ^ 32
   few = is.few
 
+  all_noted : All (HasMark marks) es
+  all_noted = is.noted
+
   pub loose_fits : loose < 2 ^ 57
   loose_fits = omega (arith, loose_are, few, loose-bound es all_keyed)
 
   module _ (new : Entries) where
     pub shard_pinned : (key : ℕ) (e : EntryState) → entry_at key es ≡ Some e
         → new ≡ pinned_first key es
-        → IsShard new (pins + 1) (loose - unpinned_at key es)
+        → IsShard new marks (pins + 1) (loose - unpinned_at key es)
     shard_pinned key e found entries =
         let bytes : unpinned_at key es ≡ unpinned_bytes e = rw found refl in
         record {
@@ -205,11 +210,13 @@ module _ (es : Entries) (pins loose : ℕ) (is : IsShard es pins loose) where
           keyed = subst (All IsEntry) (sym entries) (All-pinned_first key es e found IsEntry
               (λ p. record { key = p.key; bytes = p.bytes }) all_keyed);
           few = omega (arith, few, ap length entries, length-pinned_first key es e found);
+          noted = subst (All (HasMark marks)) (sym entries)
+              (All-pinned_first key es e found (HasMark marks) (λ p. p) all_noted);
         }
 
     pub shard_unpinned : (key : ℕ) (e : EntryState) → entry_at key es ≡ Some e → 1 ≤ e.pins
         → new ≡ unpinned_once key es
-        → IsShard new (pins - 1) (loose + unpinned_at key new)
+        → IsShard new marks (pins - 1) (loose + unpinned_at key new)
     shard_unpinned key e found some entries =
         let bytes : unpinned_at key new ≡ unpinned_bytes (one_less e) =
         ap (unpinned_at key) entries ∙ unpinned_at-unpinned_once key es e found in
@@ -230,24 +237,29 @@ module _ (es : Entries) (pins loose : ℕ) (is : IsShard es pins loose) where
           keyed = subst (All IsEntry) (sym entries) (All-unpinned_once key es e found IsEntry
               (λ k p. record { key = p.key; bytes = p.bytes }) all_keyed);
           few = omega (arith, few, ap length entries, length-unpinned_once key es e found);
+          noted = subst (All (HasMark marks)) (sym entries)
+              (All-unpinned_once key es e found (HasMark marks) (λ k p. p) all_noted);
         }
 
     pub shard_within : (share left : ℕ) → new ≡ kept_within share es
-        → left ≡ loose_bytes new → IsShard new pins left
+        → left ≡ loose_bytes new → IsShard new marks pins left
     shard_within share left entries sum = record {
       pins_is = omega (arith, pins_are, ap pin_sum entries, pin_sum-kept_within share es);
       loose_is = sum;
       keyed = subst (All IsEntry) (sym entries) (All-kept_within IsEntry share es all_keyed);
       few = omega (arith, few, ap length entries, length-kept_within share es);
+      noted = subst (All (HasMark marks)) (sym entries) (All-kept_within (HasMark marks) share es all_noted);
     }
 
     pub shard_inserted : (tile : CachedTile) (slots bytes : ℕ) → tile_bytes tile ≤ max_cell_bytes
+        → file_of tile.key < length marks
         → pinned_count es < slots → slots < 2 ^ 32
         → new ≡ with_first tile (with_room slots es)
         → loose_bytes (with_room slots es) + bytes ≡ loose_bytes es
-        → IsShard new (pins + 1) (loose - bytes)
-    shard_inserted tile slots bytes small room fits entries sum =
+        → IsShard new (marked (file_of tile.key) marks) (pins + 1) (loose - bytes)
+    shard_inserted tile slots bytes small known room fits entries sum =
         let roomy = with_room-has slots es (omega arith) room fits in
+        let file : ℕ = file_of tile.key in
         record {
           pins_is = omega (
             arith,
@@ -267,12 +279,16 @@ module _ (es : Entries) (pins loose : ℕ) (is : IsShard es pins loose) where
               (with_room slots es) (record { key = refl; bytes = small })
               (All-with_room IsEntry slots es all_keyed));
           few = omega (arith, ap length entries, roomy.few);
+          noted = subst (All (HasMark (marked file marks))) (sym entries)
+              (All-cons (HasMark (marked file marks)) (tile.key, new_entry tile) (with_room slots es)
+              (marked_own file marks known)
+              (All-with_room (HasMark (marked file marks)) slots es (noted_more file marks es known all_noted)));
         }
 
-    pub shard_purged : (file below bytes : ℕ) → new ≡ without_stale file below es
-        → loose_bytes new + bytes ≡ loose_bytes es
-        → IsShard new pins (loose - bytes)
-    shard_purged file below bytes entries sum = record {
+    pub shard_purged : (file below bytes : ℕ) (stays : Bool) → new ≡ without_stale file below es
+        → loose_bytes new + bytes ≡ loose_bytes es → (stays ≡ false → All (IsOfOther file) new)
+        → IsShard new (cond stays marks (unmarked file marks)) pins (loose - bytes)
+    shard_purged file below bytes stays entries sum others = record {
       pins_is = omega (arith, pins_are, ap pin_sum entries, pin_sum-without_stale file below es);
       loose_is = omega (arith, loose_are, sum);
       keyed = subst (All IsEntry) (sym entries)
@@ -284,4 +300,6 @@ module _ (es : Entries) (pins loose : ℕ) (is : IsShard es pins loose) where
         length-filter (λ e. not (is_stale file below e)) es,
         count_by-le-length (λ e. not (is_stale file below e)) es,
       );
+      noted = noted_kept file marks new stays others (subst (All (HasMark marks)) (sym entries)
+          (All-filter (λ e. not (is_stale file below e)) (HasMark marks) es all_noted));
     }

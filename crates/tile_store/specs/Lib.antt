@@ -2,6 +2,7 @@ pub mod Tile
 pub mod Told
 pub mod Kept
 pub mod Entry
+pub mod Marks
 pub mod Inside
 pub mod Links
 pub mod Keys

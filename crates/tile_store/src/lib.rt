@@ -6,6 +6,7 @@ mod entry;
 mod evict;
 mod keys;
 mod links;
+mod marks;
 mod order;
 mod purge;
 mod shard;
@@ -19,6 +20,8 @@ pub use entry::Entry;
 pub use keys::Keys;
 #[doc(hidden)]
 pub use links::Links;
+#[doc(hidden)]
+pub use marks::Marks;
 #[doc(hidden)]
 pub use order::Order;
 pub use shard::Shard;

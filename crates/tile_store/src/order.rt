@@ -1,9 +1,11 @@
 //! The entries of a shard in fixed slots, by their keys, in the order of their last use.
-ghost use Rattle.std.specs.Prelude.{◌≡◌, ℕ, ◌+◌, ◌<◌, ◌≤◌, ◌^◌, ◌++◌, [], length, nat_eq};
-ghost use Rattle.std.specs.Prelude.{◌∷◌, IfOk, IfSome, None, IsNone, IsFalse, option_map};
+ghost use Rattle.std.specs.Prelude.{◌≡◌, ℕ, ◌+◌, ◌<◌, ◌≤◌, ◌^◌, ◌++◌, ◌==◌, [], length, nat_eq};
+ghost use Rattle.std.specs.Prelude.{◌∷◌, IfOk, IfSome, None, IsNone, IsFalse, false, option_map};
 ghost use Rattle.std.specs.Option.{option_copied};
 ghost use Rattle.std.specs.Map.{keys_of, remove_entry};
-ghost use Rattle.std.specs.List.{IsDistinct, list_any};
+ghost use Rattle.std.specs.List.{All, IsDistinct, list_any};
+ghost use Rattle.tile_layout.specs.Key.{file_of};
+ghost use Rattle.tile_store.specs.Marks.{IsOfOther};
 ghost use Rattle.std.specs.Vec.{vec_capacity};
 ghost use Rattle.tile_store.specs.Tile.{tile_bytes};
 ghost use Rattle.tile_store.specs.Entry.{entry_at, unpinned_at, is_unpinned, HasPin};
@@ -113,6 +115,18 @@ impl<W: World> Order<W> {
             Some(slot) => self.slots[slot as usize].as_ref(),
             None => None,
         }
+    }
+
+    /// Whether an entry is of this file.
+    pub(crate) fn has_file(&self, file: u32) -> bool
+        ensures { IsFalse result → All (IsOfOther file) self.now.entries }
+    {
+        'slots: for slot in 0..self.slots.len() {
+            if is_of(&self.slots[slot], file) {
+                return true;
+            }
+        }
+        false
     }
 
     /// Pins the entry of a key, which then stands first. The answer is its bytes where it had no
@@ -250,6 +264,16 @@ impl Last {
             key: entry.key(),
             bytes: entry.unpinned_bytes(),
         }
+    }
+}
+
+/// An entry of this file.
+fn is_of<W: World>(slot: &Option<Entry<W>>, file: u32) -> bool
+    ensures { IsFalse result → IfSome slot.now (λ e. (file_of e.tile.key == file) ≡ false) }
+{
+    match slot {
+        Some(entry) => entry.key().file() == file,
+        None => false,
     }
 }
 

@@ -13,6 +13,7 @@ ghost use Rattle.tile_store.specs.Lawful.{FitsTag, Lawful, KeepsLawful, KeepsLaw
 
 use crate::entry::{Entry, another, owned};
 use crate::evict::{evict_past, make_room};
+use crate::marks::Marks;
 use crate::order::Order;
 use crate::purge::purge;
 use crate::tile::Tile;
@@ -31,6 +32,7 @@ use tile_layout::TileKey;
 pub struct Shard<W: World> {
     alloc: Global,
     order: Order<W>,
+    marks: Marks,
     pins: u32,
     loose: u64,
 }
@@ -43,7 +45,7 @@ impl<W: World> Model for Shard<W> {
 
     ghost view = { λ s. s.order };
 
-    ghost invariant = { λ s. IsShard s.order.entries s.pins s.loose };
+    ghost invariant = { λ s. IsShard s.order.entries s.marks s.pins s.loose };
 }
 
 impl<W: World> Shard<W> {
@@ -55,6 +57,7 @@ impl<W: World> Shard<W> {
         Ok(Shard {
             alloc,
             order: Order::with_slots(alloc, slots)?,
+            marks: Marks::new(alloc)?,
             pins: 0,
             loose: 0,
         })
@@ -126,11 +129,12 @@ impl<W: World> Shard<W> {
             self.old.entries self.new.entries }
     {
         // Its bytes are few.
-        let _key = tile.key();
+        let key = tile.key();
         let kept = owned(self.alloc, tile)?;
         let entry = Entry::pinned(another(&kept)?);
         self.loose -= make_room(&mut self.order);
         let _slot = self.order.put(entry);
+        self.marks.mark(key);
         self.pins += 1;
         // The order's keys are distinct.
         let _count = self.order.len();
@@ -163,7 +167,22 @@ impl<W: World> Shard<W> {
         ensures slots { EmptiesSlots self.old self.new }
         ensures lawful { KeepsLawful W.files self.old.entries self.new.entries }
     {
+        // A file without a mark has no tile.
+        if self.marks.has(file) {
+            self.purge_marked(file, below);
+        }
+    }
+
+    /// The same of a file that may have tiles. It keeps its mark where one of them stays.
+    fn purge_marked(&mut self, file: u32, below: u32)
+        ensures entries { self.new.entries ≡ without_stale file below self.old.entries }
+        ensures pinned { KeepsPinned self.old.entries self.new.entries }
+        ensures slots { EmptiesSlots self.old self.new }
+        ensures lawful { KeepsLawful W.files self.old.entries self.new.entries }
+    {
         self.loose -= purge(&mut self.order, file, below);
+        let stays = self.order.has_file(file);
+        self.marks.keep(file, stays);
         // The order's keys are distinct.
         let _count = self.order.len();
     }

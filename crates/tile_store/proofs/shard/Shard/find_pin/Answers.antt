@@ -20,7 +20,7 @@ overflow_sub-self g c =
 
 pub invariant_of-self : goal.invariant_of-self
 invariant_of-self g c =
-    rw c.pin.ensures.bytes (shard_pinned c.self.inside.order.entries c.self.inside.pins c.self.inside.loose
+    rw c.pin.ensures.bytes (shard_pinned c.self.inside.order.entries c.self.inside.marks c.self.inside.pins c.self.inside.loose
     c.self.invariant c.pin.new.self.entries c.args.key c.in-Some.entry.now (sym c.in-Some.ensures)
     c.pin.ensures.entries)
 

@@ -1,4 +1,4 @@
-use Rattle.std.proofs.Common.{Some, length, ◌^◌, arith, ◌≡◌, ◌+◌, ◌<◌, ◌∷◌, ◌∙◌, nat_eq, ap, sym, subst}
+use Rattle.std.proofs.Common.{Some, length, ◌^◌, arith, ◌≡◌, ◌+◌, ◌-◌, ◌<◌, ◌∷◌, ◌∙◌, nat_eq, ap, sym, subst}
 use Rattle.std.specs.List.{IsDistinct}
 use Rattle.std.specs.Map.{keys_of}
 use Rattle.tile_store.specs.Entry.{entry_at, loose_bytes, pinned_count, pinned_entries}
@@ -8,6 +8,9 @@ use Rattle.tile_store.proofs.ShardLemmas.{shard_inserted, inserted-new, absent_w
 use Rattle.tile_store.proofs.StayLemmas.{stay-inserted}
 use Rattle.tile_store.proofs.LawfulLemmas.{lawful_inserted}
 use Rattle.std.proofs.lemmas.List.{length-set}
+use Rattle.tile_layout.specs.Key.{file_of}
+use Rattle.tile_store.specs.Marks.{marked}
+use Rattle.tile_store.specs.Inside.{IsShard}
 use Rattle.tile_store.specs.Slots.{FillsSlot}
 use Rattle.tile_store.proofs.LeftLemmas.{fills}
 use Rattle.tile_store.proofs.shard.Shard.insert_new.Goals as goal
@@ -42,10 +45,15 @@ invariant_of-self g c =
     let size = ap length made.slots ∙ length-set c.self.inside.order.slots made.slot (Some c.pinned-entry.result.tile.key) in
     let last = c.len-count.ensures.few in
     let few : n < 2 ^ 32 = omega arith in
-    shard_inserted es c.self.inside.pins c.self.inside.loose c.self.invariant c.put-slot.new.self.entries tile
-    n c.make_room.result c.key-key.ensures.tile.bytes room few to
+    let marks = c.self.inside.marks in
+    let known : file_of tile.key < length marks = subst (λ k. file_of k < length marks) c.key-key.ensures.value c.mark.ensures.in_range in
+    let now : c.mark.new.self ≡ marked (file_of tile.key) marks =
+    c.mark.ensures.marks ∙ ap (λ k. marked (file_of k) marks) c.key-key.ensures.value in
+    let is = shard_inserted es marks c.self.inside.pins c.self.inside.loose c.self.invariant c.put-slot.new.self.entries tile
+    n c.make_room.result c.key-key.ensures.tile.bytes known room few to
     (ap (λ l. loose_bytes l + c.make_room.result) (sym c.make_room.ensures.entries)
-    ∙ c.make_room.ensures.bytes)
+    ∙ c.make_room.ensures.bytes) in
+    subst (λ m. IsShard c.put-slot.new.self.entries m (c.self.inside.pins + 1) (c.self.inside.loose - c.make_room.result)) (sym now) is
 
 pub returns-clause-entries : goal.returns-clause-entries
 returns-clause-entries g c =

@@ -1,30 +1,11 @@
-use Rattle.std.proofs.Common.{◌∙◌, nat_eq, ap, sym, subst}
-use Rattle.std.specs.List.{IsDistinct}
-use Rattle.std.specs.Map.{keys_of}
-use Rattle.tile_store.specs.Entry.{pinned_entries}
-use Rattle.tile_store.specs.Lawful.{Lawful}
-use Rattle.tile_store.proofs.ShardLemmas.{shard_purged}
-use Rattle.tile_store.proofs.StayLemmas.{stay-without_stale}
-use Rattle.tile_store.proofs.LawfulLemmas.{lawful_purged}
+use Rattle.std.proofs.Common.{◌≡◌, ◌∙◌, ap, sym, subst}
+use Rattle.tile_store.specs.Changes.{without_stale}
+use Rattle.tile_store.proofs.MarkLemmas.{without_none}
 use Rattle.tile_store.proofs.shard.Shard.purge.Goals as goal
 
-pub invariant_of-self : goal.invariant_of-self
-invariant_of-self g c =
-    let is = c.self.invariant in
-    shard_purged c.self.inside.order.entries c.self.inside.pins c.self.inside.loose is c.purge.new.order.entries
-    c.args.file c.args.below c.purge.result c.purge.ensures.entries c.purge.ensures.bytes
-
-pub returns-clause-pinned : goal.returns-clause-pinned
-returns-clause-pinned g c = ap pinned_entries c.purge.ensures.entries
-    ∙ stay-without_stale c.args.file c.args.below c.self.inside.order.entries
-    ∙ ap pinned_entries (ap (λ o. o.entries) c.self.view_is)
-
-pub returns-clause-lawful : goal.returns-clause-lawful
-returns-clause-lawful g c = λ tag old.
-    let files = g.W.World.files in
-    let es = c.self.inside.order.entries in
-    let same = (ap (λ o. o.entries) c.self.view_is) in
-    let was : Lawful files tag es = subst (Lawful files tag) (sym same) old in
-    let distinct = subst (λ l. IsDistinct nat_eq (keys_of l)) c.purge.ensures.entries c.len-count.ensures.valid in
-    subst (Lawful files tag) (sym c.purge.ensures.entries)
-    (lawful_purged files tag es was c.args.file c.args.below distinct)
+pub returns-else-has-clause-entries : goal.returns-else-has-clause-entries
+returns-else-has-clause-entries g c =
+    let same = ap (λ o. o.entries) c.self.view_is in
+    let none = sym c.has.ensures ∙ c.if-has.false in
+    sym (subst (λ es. without_stale c.args.file c.args.below es ≡ es) same
+    (without_none c.args.file c.args.below c.self.inside.marks c.self.inside.order.entries c.self.invariant.noted none))

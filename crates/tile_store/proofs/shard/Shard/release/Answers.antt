@@ -17,11 +17,11 @@ overflow_add-loose g c =
     let is = c.self.invariant in
     let pinned = subst (HasPin c.args.key) (sym same) c.requires in
     let at = some_entry (entry_at c.args.key c.self.inside.order.entries) (λ e. 1 ≤ e.pins) pinned in
-    let mid = shard_unpinned c.self.inside.order.entries c.self.inside.pins c.self.inside.loose is c.unpin.new.self.entries
+    let mid = shard_unpinned c.self.inside.order.entries c.self.inside.marks c.self.inside.pins c.self.inside.loose is c.unpin.new.self.entries
     c.args.key at.0 at.1 at.2 c.unpin.ensures.entries in
     let bytes : c.unpin.result ≡ unpinned_at c.args.key c.unpin.new.self.entries = c.unpin.ensures.bytes in
     let small : c.self.inside.loose + unpinned_at c.args.key c.unpin.new.self.entries < 2 ^ 57 =
-    loose_fits c.unpin.new.self.entries _ _ mid in
+    loose_fits c.unpin.new.self.entries _ _ _ mid in
     omega arith
 
 pub overflow_sub-self : goal.overflow_sub-self
@@ -41,7 +41,7 @@ evict_past-self-inside-requires g c =
     let is = c.self.invariant in
     let pinned = subst (HasPin c.args.key) (sym same) c.requires in
     let at = some_entry (entry_at c.args.key c.self.inside.order.entries) (λ e. 1 ≤ e.pins) pinned in
-    let mid = shard_unpinned c.self.inside.order.entries c.self.inside.pins c.self.inside.loose is c.unpin.new.self.entries
+    let mid = shard_unpinned c.self.inside.order.entries c.self.inside.marks c.self.inside.pins c.self.inside.loose is c.unpin.new.self.entries
     c.args.key at.0 at.1 at.2 c.unpin.ensures.entries in
     ap (λ n. c.self.inside.loose + n) c.unpin.ensures.bytes ∙ mid.loose_is
 
@@ -51,9 +51,9 @@ invariant_of-self g c =
     let is = c.self.invariant in
     let pinned = subst (HasPin c.args.key) (sym same) c.requires in
     let at = some_entry (entry_at c.args.key c.self.inside.order.entries) (λ e. 1 ≤ e.pins) pinned in
-    let mid = shard_unpinned c.self.inside.order.entries c.self.inside.pins c.self.inside.loose is c.unpin.new.self.entries
+    let mid = shard_unpinned c.self.inside.order.entries c.self.inside.marks c.self.inside.pins c.self.inside.loose is c.unpin.new.self.entries
     c.args.key at.0 at.1 at.2 c.unpin.ensures.entries in
-    shard_within c.unpin.new.self.entries (c.self.inside.pins - 1)
+    shard_within c.unpin.new.self.entries c.self.inside.marks (c.self.inside.pins - 1)
     (c.self.inside.loose + unpinned_at c.args.key c.unpin.new.self.entries) mid
     c.evict_past-self-inside.new.order.entries c.args.share
     c.evict_past-self-inside.result c.evict_past-self-inside.ensures.entries
