@@ -1,10 +1,10 @@
 -- Which word stands before the first space of a text?
-use Rattle.std.proofs.Common.{◌≡◌, ℕ, ◌<◌, ◌≤◌, ◌==◌, Bool, true, false}
-use Rattle.std.proofs.Common.{List, [], length, take, drop, get_or, refl, sym, ap, ◌∙◌}
+use Rattle.std.proofs.Common.{◌≡◌, ℕ, ◌+◌, ◌<◌, ◌≤◌, ◌==◌, Bool, true, false}
+use Rattle.std.proofs.Common.{List, [], ◌∷◌, ◌++◌, length, take, drop, get_or, refl, sym, ap, ◌∙◌}
 use Rattle.std.proofs.Common.{arith, true≢false}
 use Rattle.std.specs.Prelude.{not}
 use Rattle.std.specs.Str.{bytes_eq}
-use Rattle.std.proofs.lemmas.List.{get_or-take, length-take, take-take, take_all}
+use Rattle.std.proofs.lemmas.List.{get_or-take, length-take, take-take, take_all, take_more}
 use Rattle.std.proofs.lemmas.Slice.Eq.{bytes_eq-Decides}
 use Rattle.std.proofs.Math.ListN.{drop_of_length-le}
 use Rattle.request_lang.specs.LineField.{before_space, from_space, space_at, has_no_space}
@@ -18,6 +18,41 @@ differ xs ys other = by_test (bytes_eq xs ys) refl
     by_test : (b : Bool) → bytes_eq xs ys ≡ b → bytes_eq xs ys ≡ false
     by_test true e = absurd (other ((bytes_eq-Decides xs ys).0 e))
     by_test false e = e
+
+module _ (text word : List ℕ) where
+  -- texts that begin alike do so up to the next place, where they are alike there
+  pub alike_more : (k : ℕ) → k < length word → length word ≤ length text
+      → take k text ≡ take k word → get_or text k 0 ≡ get_or word k 0
+      → take (k + 1) text ≡ take (k + 1) word
+  alike_more k lt few same at =
+      take_more text k 0 (omega arith)
+      ∙ ap (λ (front : List ℕ). front ++ get_or text k 0 ∷ []) same
+      ∙ ap (λ (b : ℕ). take k word ++ b ∷ []) at
+      ∙ sym (take_more word k 0 lt)
+
+  -- a text begins with a word where they are alike up to its end
+  pub alike_all : (k : ℕ) → k ≤ length word → length word ≤ k → take k text ≡ take k word
+      → bytes_eq word (take (length word) text) ≡ true
+  alike_all k within ends same =
+      let whole : length word ≡ k = omega arith in
+      (bytes_eq-Decides word (take (length word) text)).1
+      (sym (take_all (length word) word (omega arith))
+      ∙ ap (λ (n : ℕ). take n word) whole ∙ sym same ∙ ap (λ (n : ℕ). take n text) (sym whole))
+
+  -- and does not where they are not alike at one of its places
+  pub alike_not : (k : ℕ) → k < length word → (get_or text k 0 ≡ get_or word k 0 → ⊥)
+      → bytes_eq word (take (length word) text) ≡ false
+  alike_not k lt other =
+      differ word (take (length word) text)
+      (λ e. other (sym (ap (λ (w : List ℕ). get_or w k 0) e ∙ get_or-take (length word) text k 0 lt)))
+
+  -- nor where it is shorter
+  pub alike_short : length text < length word → bytes_eq word (take (length word) text) ≡ false
+  alike_short short =
+      differ word (take (length word) text)
+      (λ e. absurd (omega (arith, ap length e, length-take (length word) text)))
+
+pub ruleset beginnings = (alike_more, alike_all, alike_not, alike_short)
 
 module _ (text word : List ℕ) (whole : has_no_space word ≡ true) where
   -- a text that begins with a word has no space there

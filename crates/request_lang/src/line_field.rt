@@ -1,7 +1,7 @@
 //! The fields of a line, each behind one space.
 
 ghost use Rattle.std.specs.Prelude.{◌≡◌, ◌≤◌, ◌==◌, true, false, IfOk};
-ghost use Rattle.std.specs.Prelude.{pos, neg_ℤ, ℤ, ℕ, List, slice_index};
+ghost use Rattle.std.specs.Prelude.{pos, neg_ℤ, ℤ, ℕ, List, slice_index, IsTrue, length, take};
 ghost use Rattle.std.specs.Option.{IfSome, IfNone, option_map};
 ghost use Rattle.std.specs.Str.{bytes_eq};
 ghost use Rattle.request_lang.specs.LineField as spec;
@@ -32,6 +32,26 @@ const MAX_FOOTPRINT_BELOW: u32 = 1 << 30;
 /// The fewest channels that a lookup asks for.
 const MIN_CHANNELS: u32 = 1;
 
+/// The bytes begin with a word. Its bytes are known where it is called, so each is compared by itself.
+#[inline(always)]
+#[tactic(auto, using(crate::proofs::WordLemmas::beginnings))]
+fn begins_with(bytes: &[u8], word: &[u8]) -> bool
+    ensures few { IsTrue result → length word.now ≤ length bytes.now }
+    ensures value { result ≡ bytes_eq word.now (take (length word.now) bytes.now) }
+{
+    if bytes.len() < word.len() {
+        return false;
+    }
+    let mut at = 0;
+    'word: while at < word.len() {
+        if bytes[at] != word[at] {
+            return false;
+        }
+        at += 1;
+    }
+    true
+}
+
 /// What stands behind a word, where the text is that word up to its first space.
 #[inline(always)]
 #[tactic(auto, using(crate::proofs::WordLemmas::words))]
@@ -43,7 +63,7 @@ pub(crate) fn behind_word<'a>(text: &'a str, word: &str) -> Option<&'a str>
 {
     let bytes = text.as_bytes();
     let end = word.len();
-    if !bytes.starts_with(word.as_bytes()) {
+    if !begins_with(bytes, word.as_bytes()) {
         return None;
     }
     if end == bytes.len() {
@@ -88,6 +108,7 @@ fn number_field(text: &str) -> Option<(u64, &str)>
 }
 
 /// The number of a range that a text spells before its first space, and what stands from there on.
+#[inline(always)]
 #[tactic(auto, unfolding(crate::specs::LineField::number_within))]
 fn number_within(least: u32, most: u32, text: &str) -> Result<(u32, &str), Cause>
     ensures value { spec.mapped (λ f. (f.0, f.1.now)) result
@@ -101,6 +122,7 @@ fn number_within(least: u32, most: u32, text: &str) -> Result<(u32, &str), Cause
 }
 
 /// The next field as a number of a range, and what stands behind it.
+#[inline(always)]
 #[tactic(auto, unfolding(crate::specs::LineField::next_field))]
 fn number_between(least: u32, most: u32, rest: &str) -> Result<(u32, &str), Cause>
     ensures { spec.mapped (λ f. (f.0, f.1.now)) result
@@ -214,6 +236,7 @@ pub(crate) fn footprint_number(rest: &str) -> Result<(i32, &str), Cause>
 }
 
 /// The wrap that a text spells before its first space, and what stands from there on.
+#[inline(always)]
 #[tactic(auto, unfolding(crate::specs::LineField::wrap_mode))]
 fn wrap_of(text: &str) -> Result<(Wrap, &str), Cause>
     ensures { spec.mapped (λ f. (f.0, f.1.now)) result
@@ -235,6 +258,7 @@ fn wrap_of(text: &str) -> Result<(Wrap, &str), Cause>
 }
 
 /// The filter that a text spells before its first space, and what stands from there on.
+#[inline(always)]
 #[tactic(auto, unfolding(crate::specs::LineField::filter_mode))]
 fn filter_of(text: &str) -> Result<(Filter, &str), Cause>
     ensures { spec.mapped (λ f. (f.0, f.1.now)) result

@@ -43,15 +43,23 @@ impl Name {
     }
 
     /// The name of this text, which is copied.
+    #[inline(always)]
     pub(crate) fn copied(alloc: Global, text: &str) -> Result<Name, AllocError>
         ensures { IfOk result (λ name. name ≡ text.now) }
     {
-        let text = if text.len() <= MAX_SHORT {
-            NameText::Short(ShortText::of(text))
-        } else {
-            NameText::Long(String::from_str(alloc, text)?)
-        };
-        Ok(Name { text })
+        if text.len() <= MAX_SHORT {
+            return Ok(Name {
+                text: NameText::Short(ShortText::of(text)),
+            });
+        }
+        Name::long(alloc, text)
+    }
+
+    /// The same of a text that is long.
+    fn long(alloc: Global, text: &str) -> Result<Name, AllocError>
+        ensures { IfOk result (λ name. name ≡ text.now) }
+    {
+        Ok(Name::new(String::from_str(alloc, text)?))
     }
 
     /// Its text.
