@@ -16,14 +16,22 @@ Pushes text old new (Err _) = Begins old new
 abbrev pub room_values : ℕ
 room_values = 256
 
+-- how many 16-bit values are few: those of a lookup
+abbrev pub few_values : ℕ
+few_values = 8
+
 -- No more than so many bytes were appended, and where there was room for them memory was not wanting.
 abbrev pub Fits : {T E : Type 0} → ℕ → Vec ℕ → Vec ℕ → Result T E → Type 0
 Fits n old new result = (vec_capacity old ≤ vec_capacity new)
     × (vec_len old + n ≤ vec_capacity old → IsOk result × (vec_len new ≤ vec_len old + n))
 
--- the most bytes of a part of a line: of one without its values, or of so many values
+-- the most bytes of a part of a line: of one with few values, or of so many values
 abbrev pub max_part_bytes : ℕ
 max_part_bytes = 8192
+
+-- the most bytes of a line without its values
+abbrev pub max_head_bytes : ℕ
+max_head_bytes = 8000
 
 -- the most bytes of a number and the byte in front of it
 abbrev pub max_number_bytes : ℕ

@@ -6,16 +6,20 @@ ghost use Rattle.std.specs.List.{flat_map};
 ghost use Rattle.request_lang.specs.Grammar.{line_feed};
 ghost use Rattle.request_lang.specs.Line as spec;
 ghost use Rattle.request_lang.specs.Appending.{Pushes, Fits, max_number_bytes, max_shard_bytes};
-ghost use Rattle.request_lang.specs.Appending.{max_part_bytes};
+ghost use Rattle.request_lang.specs.Appending.{max_head_bytes, max_part_bytes, few_values};
+ghost use Rattle.request_lang.specs.Line.{values_in};
 
 use crate::answer::Answer;
 use crate::cause::BadList;
 use crate::number::{push_numbers, push_text};
 use crate::value_texts::ValueTexts;
-use crate::values::push_values;
+use crate::values::{push_last, push_lookup, push_values};
 use std::alloc::AllocError;
 use tex_world::NoMemory;
 use tiff_format::{Info, ShardCount, TiffFault};
+
+/// The largest generation that is written as a value is.
+const MAX_SHORT_GENERATION: u32 = u16::MAX as u32;
 
 /// Appends a word and numbers, each behind a space.
 #[tactic(auto, using(crate::proofs::AppendLemmas::kept))]
@@ -71,7 +75,7 @@ fn push_shards_line(out: &mut Vec<u8>, word: &str, shards: &[ShardCount]) -> Res
 fn push_info(out: &mut Vec<u8>, info: &Info) -> Result<(), AllocError>
     ensures text { Pushes (codes "info" ++ spec.fields (spec.info_numbers info.now))
         out.old.items out.new.items result }
-    ensures fits { Fits max_part_bytes out.old out.new result }
+    ensures fits { Fits max_head_bytes out.old out.new result }
 {
     let numbers = [
         u64::from(info.generation),
@@ -91,7 +95,7 @@ fn push_fault(out: &mut Vec<u8>, generation: u32, fault: &TiffFault) -> Result<(
     ensures text { Pushes
         (codes "bad file" ++ spec.fields (generation ∷ spec.fault_numbers fault.now))
         out.old.items out.new.items result }
-    ensures fits { Fits max_part_bytes out.old out.new result }
+    ensures fits { Fits max_head_bytes out.old out.new result }
 {
     let generation = u64::from(generation);
     let code = u64::from(fault.code());
@@ -117,7 +121,7 @@ fn push_fault(out: &mut Vec<u8>, generation: u32, fault: &TiffFault) -> Result<(
 #[tactic(auto, unfolding(crate::specs::Line::head_of), using(crate::proofs::AppendLemmas::kept))]
 fn push_head(out: &mut Vec<u8>, answer: &Answer) -> Result<(), AllocError>
     ensures text { Pushes (spec.head_of answer.now) out.old.items out.new.items result }
-    ensures fits { Fits max_part_bytes out.old out.new result }
+    ensures fits { Fits max_head_bytes out.old out.new result }
 {
     match answer {
         Answer::Tex { generation, .. } => push_line(out, "tex", &[u64::from(*generation)]),
@@ -217,6 +221,59 @@ pub fn head_text(answer: &Answer, out: &mut Vec<u8>) -> Result<(), NoMemory>
             Err(NoMemory)
         }
     }
+}
+
+/// Appends the line of an answer that ends with a few values at most, with its line feed. Where there
+/// is room for `MAX_PART_BYTES` bytes it takes no memory.
+pub fn short_line_text(
+    texts: &ValueTexts,
+    answer: &Answer,
+    out: &mut Vec<u8>,
+) -> Result<(), NoMemory>
+    requires { length (values_in answer.now) ≤ few_values }
+    ensures ok { OnOk result (out.new.items ≡ out.old.items ++ spec.line_of answer.now) }
+    ensures err { OnErr result (out.new.items ≡ out.old.items) }
+    ensures fits { Fits max_part_bytes out.old out.new result }
+{
+    let before = out.as_slice().len();
+    match push_short_line(texts, answer, out) {
+        Ok(()) => Ok(()),
+        Err(_) => {
+            out.truncate(before);
+            Err(NoMemory)
+        }
+    }
+}
+
+/// Appends it, or a first part of it. That of a lookup, whose generation most often has 16 bits, is made
+/// in few steps.
+#[inline(always)]
+#[tactic(auto, unfolding(crate::specs::Line::head_of), using(crate::proofs::AppendLemmas::kept))]
+fn push_short_line(texts: &ValueTexts, answer: &Answer, out: &mut Vec<u8>) -> Result<(), AllocError>
+    requires { length (values_in answer.now) ≤ few_values }
+    ensures text { Pushes (spec.line_of answer.now) out.old.items out.new.items result }
+    ensures fits { Fits max_part_bytes out.old out.new result }
+{
+    match answer {
+        Answer::Tex { generation, values } if *generation <= MAX_SHORT_GENERATION => {
+            push_lookup(texts, out, "tex", *generation as u16, values.as_slice())
+        }
+        Answer::Texd { generation, values } if *generation <= MAX_SHORT_GENERATION => {
+            push_lookup(texts, out, "texd", *generation as u16, values.as_slice())
+        }
+        _ => push_other_line(texts, answer, out),
+    }
+}
+
+/// Appends the line of any answer that ends with a few values at most, or a first part of it.
+#[tactic(auto, using(crate::proofs::AppendLemmas::kept))]
+fn push_other_line(texts: &ValueTexts, answer: &Answer, out: &mut Vec<u8>) -> Result<(), AllocError>
+    requires { length (values_in answer.now) ≤ few_values }
+    ensures text { Pushes (spec.line_of answer.now) out.old.items out.new.items result }
+    ensures fits { Fits max_part_bytes out.old out.new result }
+{
+    push_head(out, answer)?;
+    push_last(texts, out, answer.values())
 }
 
 /// Appends the line of an answer, with its line feed.

@@ -88,6 +88,7 @@ fn behind_space(rest: &str) -> Option<&str>
 }
 
 /// The number that a text spells before its first space, and what stands from there on.
+#[inline(always)]
 fn number_field(text: &str) -> Option<(u64, &str)>
     ensures number { option_map (λ f. f.0) result
         ≡ spec.digits_number (spec.before_space text.now) }

@@ -10,6 +10,7 @@ use std::alloc::AllocError;
 const ROOM_BYTES: usize = 21;
 
 /// Appends a text.
+#[inline(always)]
 pub(crate) fn push_text(out: &mut Vec<u8>, text: &[u8]) -> Result<(), AllocError>
     ensures text { Pushes text.now out.old.items out.new.items result }
     ensures fits { Fits (length text.now) out.old out.new result }

@@ -12,7 +12,8 @@ pub(crate) const MAX_SHORT: usize = 22;
 #[derive(Drop)]
 pub(crate) struct ShortText {
     bytes: [u8; MAX_SHORT],
-    count: u8,
+    // Of two bytes, so that the text begins at an even place and moves in few pieces.
+    count: u16,
 }
 
 impl Model for ShortText {
@@ -39,7 +40,7 @@ impl ShortText {
         bytes[..count].copy_from_slice(text.as_bytes());
         ShortText {
             bytes,
-            count: count as u8,
+            count: count as u16,
         }
     }
 

@@ -1,9 +1,10 @@
 //! 16-bit values as they are printed, many at a time.
 
-ghost use Rattle.std.specs.Prelude.{◌≡◌, ◌+◌, ◌*◌, ◌≤◌, ◌++◌, length, take, drop, OnOk};
+ghost use Rattle.std.specs.Prelude.{◌≡◌, ◌+◌, ◌*◌, ◌≤◌, ◌++◌, ◌∷◌, [], length, take, drop, OnOk};
+ghost use Rattle.request_lang.specs.Grammar.{line_feed};
 ghost use Rattle.request_lang.specs.Line.{fields};
 ghost use Rattle.request_lang.specs.PaddedText.{padded_bytes, max_value_bytes};
-ghost use Rattle.request_lang.specs.Appending.{Pushes, Fits, room_values, max_part_bytes};
+ghost use Rattle.request_lang.specs.Appending.{Pushes, Fits, room_values, few_values, max_part_bytes};
 
 use crate::number::push_text;
 use crate::value_texts::{COUNT_AT, PADDED_BYTES, ValueTexts};
@@ -23,10 +24,13 @@ pub const MAX_PART_BYTES: usize = 8192;
 const ROOM_BYTES: usize = MAX_VALUE_BYTES * PART_VALUES + PADDED_BYTES;
 
 /// How many values are few: those of a lookup.
-const FEW_VALUES: usize = 8;
+pub const FEW_VALUES: usize = 8;
 
 /// The bytes that they take at most.
 const FEW_BYTES: usize = MAX_VALUE_BYTES * FEW_VALUES + PADDED_BYTES;
+
+/// The same with a generation before them.
+const LOOKUP_BYTES: usize = MAX_VALUE_BYTES + FEW_BYTES;
 
 /// Writes a padded text.
 #[inline(always)]
@@ -37,20 +41,65 @@ fn put_padded(room: &mut [u8], at: usize, padded: [u8; PADDED_BYTES])
     room[at..at + PADDED_BYTES].copy_from_slice(&padded);
 }
 
-/// Writes values, each behind a space, at the start of the room, and says where they end.
-fn put_values(texts: &ValueTexts, room: &mut [u8], values: &[u16]) -> usize
-    requires { max_value_bytes * length values.now + padded_bytes ≤ length room.old }
-    ensures written { take result room.new ≡ fields values.now }
+/// Writes values, each behind a space, from a place of the room on, and says where they end.
+#[inline(always)]
+fn put_values(texts: &ValueTexts, room: &mut [u8], from: usize, values: &[u16]) -> usize
+    requires { from + max_value_bytes * length values.now + padded_bytes ≤ length room.old }
+    ensures written { take result room.new ≡ take from room.old ++ fields values.now }
     ensures within { result ≤ length room.new }
-    ensures few { result ≤ max_value_bytes * length values.now }
+    ensures few { result ≤ from + max_value_bytes * length values.now }
 {
-    let mut at = 0;
+    let mut at = from;
     for value in values {
         let padded = texts.padded(*value);
         put_padded(room, at, padded);
         at += usize::from(padded[COUNT_AT]);
     }
     at
+}
+
+/// Appends a few values, each behind a space, and ends the line.
+#[inline(always)]
+#[tactic(auto, using(crate::proofs::AppendLemmas::kept))]
+pub(crate) fn push_last(
+    texts: &ValueTexts,
+    out: &mut Vec<u8>,
+    values: &[u16],
+) -> Result<(), AllocError>
+    requires { length values.now ≤ few_values }
+    ensures text { Pushes (fields values.now ++ line_feed ∷ []) out.old.items out.new.items result }
+    ensures fits { Fits (max_value_bytes * length values.now + 1) out.old out.new result }
+{
+    let mut room = [0u8; FEW_BYTES];
+    let end = put_values(texts, &mut room, 0, values);
+    room[end] = b'\n';
+    push_text(out, &room[..end + 1])
+}
+
+/// Appends a word, a generation of 16 bits, which is written as a value is, and a few values, each
+/// behind a space, and ends the line.
+#[inline(always)]
+#[tactic(auto, using(crate::proofs::AppendLemmas::kept))]
+pub(crate) fn push_lookup(
+    texts: &ValueTexts,
+    out: &mut Vec<u8>,
+    word: &str,
+    generation: u16,
+    values: &[u16],
+) -> Result<(), AllocError>
+    requires { length values.now ≤ few_values }
+    ensures text { Pushes
+        (((word.now ++ fields (generation ∷ [])) ++ fields values.now) ++ line_feed ∷ [])
+        out.old.items out.new.items result }
+    ensures fits { Fits (length word.now + max_value_bytes + max_value_bytes * length values.now + 1)
+        out.old out.new result }
+{
+    push_text(out, word.as_bytes())?;
+    let mut room = [0u8; LOOKUP_BYTES];
+    let first = put_values(texts, &mut room, 0, &[generation]);
+    let end = put_values(texts, &mut room, first, values);
+    room[end] = b'\n';
+    push_text(out, &room[..end + 1])
 }
 
 /// Appends values that the room has place for, each behind a space.
@@ -65,7 +114,7 @@ fn push_part(
     ensures text { Pushes (fields values.now) out.old.items out.new.items result }
     ensures fits { Fits (max_value_bytes * length values.now) out.old out.new result }
 {
-    let end = put_values(texts, room, values);
+    let end = put_values(texts, room, 0, values);
     push_text(out, &room[..end])
 }
 
