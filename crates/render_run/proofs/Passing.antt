@@ -132,3 +132,9 @@ pub then_adds : {A E : Type 0} (a b : List ℕ) (old mid new : Outgoing) (r : Re
 then_adds a b old mid new (Ok done) first second = passes_more a b old mid new first second
 then_adds a b old mid new (Err e) first second =
     rest_longer a b (a ++ b) old mid new.sink refl first second
+
+-- what adds a text passes it on
+pub adds_passes : {A E : Type 0} (a : List ℕ) (old new : Outgoing) (r : Result A E)
+    → AddsOn a old new r → PassesOn a old new r
+adds_passes a old new (Ok done) adds = adds
+adds_passes a old new (Err e) adds = puts_longer old.waits a old.sink new.sink adds

@@ -3,13 +3,14 @@
 ghost use Rattle.std.specs.Prelude.{◌≡◌, ◌≤◌, [], ◌∷◌, length};
 ghost use Rattle.std.specs.Prelude.{IfOk, OnOk};
 ghost use Rattle.request_lang.specs.Grammar.{line_feed};
-ghost use Rattle.request_lang.specs.Line.{fields, head_of, line_of};
+ghost use Rattle.request_lang.specs.Appending.{few_values};
+ghost use Rattle.request_lang.specs.Line.{fields, head_of, line_of, values_in};
 ghost use Rattle.request_lang.specs.Closing.{worker_line, total_line};
 ghost use Rattle.render_run.specs.Page.{outgoing, AddsOn, PassesOn, page_bytes, part_values};
 
 use request_lang::{
-    Answer, Counts, MAX_PART_BYTES, PART_VALUES, ValueTexts, head_text, total_text, values_text,
-    worker_text,
+    Answer, Counts, FEW_VALUES, MAX_PART_BYTES, PART_VALUES, ValueTexts, head_text,
+    short_line_text, total_text, values_text, worker_text,
 };
 use std::alloc::{AllocError, Global};
 use std::marker::Model;
@@ -80,7 +81,35 @@ impl Page {
     }
 
     /// Passes the line of an answer on. It takes no memory.
+    #[tactic(auto, using(crate::proofs::Passing::adds_passes))]
     pub(crate) fn pass<O: Sink>(&mut self, out: &mut O, answer: &Answer) -> Result<(), Failed>
+        ensures { PassesOn (line_of answer.now) (outgoing O.Sink self.old out.old)
+            (outgoing O.Sink self.new out.new) result }
+    {
+        if answer.values().len() <= FEW_VALUES {
+            return self.pass_short(out, answer);
+        }
+        self.pass_parts(out, answer)
+    }
+
+    /// Passes the line of an answer on that ends with a few values at most.
+    #[inline(always)]
+    fn pass_short<O: Sink>(&mut self, out: &mut O, answer: &Answer) -> Result<(), Failed>
+        requires few { length (values_in answer.now) ≤ few_values }
+        ensures { AddsOn (line_of answer.now) (outgoing O.Sink self.old out.old)
+            (outgoing O.Sink self.new out.new) result }
+    {
+        if let Err(failed) = self.make_room(out) {
+            return Err(failed);
+        }
+        if let Err(_refused) = short_line_text(&self.texts, answer, &mut self.text) {
+            unreachable!()
+        }
+        Ok(())
+    }
+
+    /// Passes the line of an answer on in parts.
+    fn pass_parts<O: Sink>(&mut self, out: &mut O, answer: &Answer) -> Result<(), Failed>
         ensures { PassesOn (line_of answer.now) (outgoing O.Sink self.old out.old)
             (outgoing O.Sink self.new out.new) result }
     {

@@ -4,7 +4,7 @@ use Rattle.request_lang.specs.Line.{fields, head_of, values_in, line_of}
 use Rattle.render_run.specs.Around.{sink_of}
 use Rattle.render_run.specs.Page.{outgoing}
 use Rattle.render_run.proofs.Passing.{passes_more, passes_part, passes_longer, puts_longer, then_adds}
-use Rattle.render_run.proofs.page.Page.pass.Goals as goal
+use Rattle.render_run.proofs.page.Page.pass_parts.Goals as goal
 
 pub returns-in-Err : goal.returns-in-Err
 returns-in-Err g c =
