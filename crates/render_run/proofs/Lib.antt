@@ -15,6 +15,7 @@ mod NeedLemmas
 mod PinLemmas
 mod WorkerLemmas
 mod Naming
+mod KnownLemmas
 mod OneMore
 mod Rounds
 mod Folders

@@ -1,13 +1,14 @@
 -- What does a worker leave of what it sees, and how far has answering a list come?
 use Rattle.std.specs.Prelude.{◌≡◌, ◌⊎◌, ℕ, zero, suc, ◌+◌, ◌-◌, ◌/◌, ◌%◌, ◌<◌, ◌≤◌, List, [], ◌∷◌, ◌++◌}
 use Rattle.std.specs.Prelude.{IsTrue, length, slice_index, slice_index_or, slice_set}
-use Rattle.std.specs.Prelude.{map, take, drop, Option, Some, IsSome, ⊤}
+use Rattle.std.specs.Prelude.{map, take, drop, Option, Some, None, IsSome, ⊤}
 use Rattle.std.specs.Option.{ForSome}
 use Rattle.std.specs.List.{All, AllPairs, flat_map}
 use Rattle.tex_world.specs.Counts.{Rises, RisesByAtLeast}
 use Rattle.tex_world.specs.World.{Files, IsFile}
 use Rattle.tex_world.specs.Folder.{FolderState}
 use Rattle.texel_values.specs.Region.{max_texels}
+use Rattle.udim.specs.Udim.{mark_at}
 use Rattle.request_lang.specs.declared.request.Request.{Request}
 use Rattle.request_lang.specs.declared.answer.Answer.{Answer}
 use Rattle.request_lang.specs.declared.answer.Answer.TheVariants.{Synced}
@@ -75,6 +76,13 @@ pub record MayBeGiven (files : Files) (count : ℕ) (task : Task) : Type 0 where
   pub number : ForSome (file_in task) (λ n. n < count)
   pub file : ForSome (file_in task) (IsFile files)
   pub asked : AsksWell task
+
+-- A name holds no mark, and it is that of a file of the folder, which has this number.
+pub record IsKnown (files : Files) (folder : FolderState) (name : List ℕ) (number : ℕ) : Type 0 where
+  pub unmarked : mark_at name ≡ None
+  pub numbered : folder.number_of name ≡ Some number
+  pub low : number < folder.size
+  pub file : IsFile files number
 
 -- These tasks are given of requests to a folder, and each may be.
 pub record AreDealt (files : Files) (folder : FolderState) (requests : List Request)

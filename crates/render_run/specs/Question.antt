@@ -81,6 +81,16 @@ file_in task.RenewAll = None
 file_in task.Count = None
 file_in task.Sync = None
 
+-- the file that is asked, if it is that of the name itself
+abbrev pub own_file_in : Task → Option ℕ
+own_file_in (task.Ask file q) = file
+own_file_in (task.Tile file q) = None
+own_file_in task.Unnamed = None
+own_file_in task.Release = None
+own_file_in task.RenewAll = None
+own_file_in task.Count = None
+own_file_in task.Sync = None
+
 -- a lookup asks for what it may ask for
 abbrev pub MayBeAsked : Question → Type 0
 MayBeAsked (Look r) = MayBeLookedUp r

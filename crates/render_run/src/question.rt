@@ -1,10 +1,10 @@
 //! What a request asks of its worker.
 
-ghost use Rattle.std.specs.Prelude.{◌≡◌, IsSome};
+ghost use Rattle.std.specs.Prelude.{◌≡◌, IsSome, IfSome, IsTrue};
 ghost use Rattle.udim.specs.Udim.{udim_of};
 ghost use Rattle.texture_sys.specs.Asked.{MayBeLookedUp, s_asked, t_asked};
 ghost use Rattle.render_run.specs.Question as spec;
-ghost use Rattle.render_run.specs.Answering.{MayBeGiven};
+ghost use Rattle.render_run.specs.Answering.{MayBeGiven, IsKnown};
 
 use request_lang::{Name, Request};
 use std::alloc::Global;
@@ -86,6 +86,116 @@ impl Task {
             Request::Sync => Task::Sync,
         }
     }
+}
+
+/// A name that holds no mark, and the number of its file.
+#[derive(Clone, Copy)]
+pub(crate) struct Known<'a> {
+    pub(crate) name: &'a str,
+    pub(crate) file: u32,
+}
+
+impl<'a> Known<'a> {
+    /// The name of a lookup of which this is given, if a file of the name is asked.
+    fn of<F: Folder>(_folder: &F, request: &'a Request, task: &Task) -> Option<Known<'a>>
+        requires value { spec.IsGivenOf (F.state _folder.now).number_of request.now task.now }
+        requires given { MayBeGiven F.W.files (F.state _folder.now).size task.now }
+        ensures { IfSome result (λ k. IsKnown F.W.files (F.state _folder.now) k.name.now k.file) }
+    {
+        let Some(file) = own_file(task) else {
+            return None;
+        };
+        match request {
+            Request::Tex { name, .. } => Some(Known::named(name, file)),
+            Request::Texd { name, .. } => Some(Known::named(name, file)),
+            _ => None,
+        }
+    }
+
+    /// A name and the number of its file.
+    fn named(name: &'a Name, file: u32) -> Known<'a>
+        ensures name { result.name.now ≡ name.now }
+        ensures file { result.file ≡ file }
+    {
+        let name = name.as_str();
+        Known { name, file }
+    }
+
+    /// What a worker is given of a request, if it is a lookup in the file of this name.
+    #[inline(always)]
+    fn task<F: Folder>(self, _folder: &F, request: &Request) -> Option<Task>
+        requires known { IsKnown F.W.files (F.state _folder.now) self.name.now self.file }
+        requires asked { spec.MayAsk request.now }
+        ensures value { IfSome result
+            (spec.IsGivenOf (F.state _folder.now).number_of request.now) }
+        ensures given { IfSome result (MayBeGiven F.W.files (F.state _folder.now).size) }
+    {
+        match request {
+            Request::Tex { request, name } if self.is_of(name) => {
+                Some(self.look(LookupRequest::Point(*request)))
+            }
+            Request::Texd { request, name } if self.is_of(name) => {
+                Some(self.look(LookupRequest::Footprint(*request)))
+            }
+            _ => None,
+        }
+    }
+
+    /// It is known of this name.
+    #[inline(always)]
+    fn is_of(self, name: &Name) -> bool
+        ensures { IsTrue result → name.now ≡ self.entry.name.now }
+    {
+        name.as_str() == self.name
+    }
+
+    /// A lookup in its file.
+    #[inline(always)]
+    fn look(self, request: LookupRequest) -> Task
+        ensures { result ≡ Task.Ask (Some self.entry.file) (Question.Look request) }
+    {
+        Task::Ask(Some(self.file), Question::Look(request))
+    }
+}
+
+/// The file that is asked, if it is that of the name itself.
+fn own_file(task: &Task) -> Option<u32>
+    ensures { result ≡ spec.own_file_in task.now }
+{
+    match task {
+        Task::Ask(file, _) => *file,
+        _ => None,
+    }
+}
+
+/// What a worker is given of a request, and the name that is known then. That of the lookup before is
+/// not looked for again.
+#[inline(always)]
+pub(crate) fn next_task<'a, F: Folder>(
+    alloc: Global,
+    folder: &F,
+    request: &'a Request,
+    known: &mut Option<Known<'a>>,
+) -> Task
+    requires entered { IsSome (F.state folder.now).entered }
+    requires asked { spec.MayAsk request.now }
+    requires known { IfSome known.old
+        (λ k. IsKnown F.W.files (F.state folder.now) k.name.now k.file) }
+    ensures value { spec.IsGivenOf (F.state folder.now).number_of request.now result }
+    ensures given { MayBeGiven F.W.files (F.state folder.now).size result }
+    ensures known { IfSome known.new
+        (λ k. IsKnown F.W.files (F.state folder.now) k.name.now k.file) }
+{
+    if let Some(before) = *known {
+        if let Some(task) = before.task(folder, request) {
+            return task;
+        }
+    }
+    let task = Task::of(alloc, folder, request);
+    if let Some(found) = Known::of(folder, request, &task) {
+        *known = Some(found);
+    }
+    task
 }
 
 /// A lookup in the file that a name means, which may be that of a tile.

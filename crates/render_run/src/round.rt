@@ -18,7 +18,7 @@ ghost use Rattle.render_run.specs.Posts.{sight, sights_of};
 
 use crate::hook::Hook;
 use crate::page::Page;
-use crate::question::Task;
+use crate::question::{Task, next_task};
 use crate::worker::{Desk, Worker};
 use image_cache::Cache;
 use request_lang::{Answer, Request};
@@ -68,8 +68,9 @@ pub(crate) fn deal<F: Folder>(
     let alloc = *tasks.allocator();
     tasks.clear();
     tasks.reserve(requests.len())?;
+    let mut known = None;
     for request in requests {
-        tasks.push(Task::of(alloc, folder, request))?;
+        tasks.push(next_task(alloc, folder, request, &mut known))?;
     }
     Ok(())
 }

@@ -20,17 +20,18 @@ loop-request-preserved g c =
     let next : take (i + 1) rs ≡ front ++ r ∷ [] =
     take_more rs i r c.loop-request-test.true
     ∙ ap (λ (x : Request). front ++ x ∷ []) (sym c.request-item.is) in
-    let items : c.push.new.self.items ≡ c.loop-request.tasks.items ++ c.of.result ∷ [] =
+    let items : c.push.new.self.items ≡ c.loop-request.tasks.items ++ c.next_task.result ∷ [] =
     c.in_ok-push.ensures.items in
     record {
       tasks =
           subst (λ (ts : List Task). AreGivenOf number_of (take (i + 1) rs) ts) (sym items)
           (subst (λ (asked : List Request).
-          AreGivenOf number_of asked (c.loop-request.tasks.items ++ c.of.result ∷ [])) (sym next)
-          (given_push number_of front c.loop-request.tasks.items r c.of.result
-          c.loop-request.invariant.tasks c.of.ensures.value));
+          AreGivenOf number_of asked (c.loop-request.tasks.items ++ c.next_task.result ∷ [])) (sym next)
+          (given_push number_of front c.loop-request.tasks.items r c.next_task.result
+          c.loop-request.invariant.tasks c.next_task.ensures.value));
       given =
           subst (λ (ts : List Task). All given ts) (sym items)
-          (All-push given c.loop-request.tasks.items c.of.result
-          c.loop-request.invariant.given c.of.ensures.given);
+          (All-push given c.loop-request.tasks.items c.next_task.result
+          c.loop-request.invariant.given c.next_task.ensures.given);
+      known = c.next_task.ensures.known;
     }
