@@ -7,6 +7,10 @@
 // It takes `tex`, `pixels`, `info` and `sync` of docs/REQUESTS.md. A generation is always 1, since
 // OpenImageIO has none; a file that cannot be read is `bad file 1`; of the closing lines only
 // `total` is printed.
+//
+// On standard error it says by its own clock what answering took, from the first thread that starts on a
+// round to the last one that has its answers: the processor time and the wall time, in microseconds. The list
+// is parsed before that and its lines are written behind it.
 
 #include <OpenImageIO/imagecache.h>
 #include <OpenImageIO/texture.h>
@@ -21,6 +25,7 @@
 #include <string>
 #include <string_view>
 #include <thread>
+#include <time.h>
 #include <unordered_map>
 #include <unistd.h>
 #include <vector>
@@ -376,6 +381,20 @@ void write_line(Page& page, const Answer& answer, const std::vector<uint16_t>& s
   page.end_line();
 }
 
+// Microseconds of a clock.
+double now(clockid_t clock) {
+  timespec time;
+  clock_gettime(clock, &time);
+  return double(time.tv_sec) * 1e6 + double(time.tv_nsec) / 1e3;
+}
+
+// What the calls of OpenImageIO take, round by round.
+struct Calls {
+  double cpu = 0, wall = 0;
+  void begin() { cpu -= now(CLOCK_PROCESS_CPUTIME_ID), wall -= now(CLOCK_MONOTONIC); }
+  void end() { cpu += now(CLOCK_PROCESS_CPUTIME_ID), wall += now(CLOCK_MONOTONIC); }
+};
+
 // Where the round ends that begins at `first`.
 size_t round_end(const std::vector<Request>& requests, size_t first) {
   uint64_t texels = 0;
@@ -407,14 +426,17 @@ int main(int count, char** words) {
 
   std::vector<Worker> workers(size_t(options.workers), Worker(caches));
   Page page;
+  Calls calls;
   size_t refused = 0;
   for (size_t first = 0; first < requests.size();) {
     size_t end = round_end(requests, first);
     std::vector<std::thread> threads;
+    calls.begin();
     for (size_t i = 1; i < workers.size(); ++i)
       threads.emplace_back([&, i] { workers[i].answer_share(requests, first + i, end, workers.size()); });
     workers[0].answer_share(requests, first, end, workers.size());
     for (std::thread& thread : threads) thread.join();
+    calls.end();
     for (size_t i = first; i < end; ++i) {
       const Worker& worker = workers[(i - first) % workers.size()];
       const Answer& answer = worker.answers[(i - first) / workers.size()];
@@ -426,6 +448,7 @@ int main(int count, char** words) {
   page.text("total"), page.number(int64_t(requests.size()));
   page.text(" refused"), page.number(int64_t(refused)), page.end_line();
   page.put();
+  std::fprintf(stderr, "calls %.0f %.0f\n", calls.cpu, calls.wall);
   TextureSystem::destroy(textures, false);
   ImageCache::destroy(images);
   return refused ? 1 : 0;

@@ -1,11 +1,13 @@
 #!/usr/bin/env python3
 """Runs the benchmark: texcache beside OpenImageIO on the same lists.
 
-    python3 run.py [--program FILE] [--folder FOLDER] [--passes N] [--rows NAME,..] [--only WHAT] [--add]
+    python3 run.py [--program FILE] [--folder FOLDER] [--passes N] [--rows NAME,..] [--only WHAT]
+                   [--leave-out ONE] [--add]
 
 It makes the pictures and the lists (make_files.py), builds what answers the lists through OpenImageIO
 (oiio_lists.cpp), runs both in turn, keeps the least of the passes, and writes figures.json, from which
-draw.py makes table.md and docs/pictures/benchmark.svg. Where OpenImageIO is not installed (Debian's
+draw.py makes table.md and docs/pictures/benchmark.svg. OpenImageIO's calls are timed by its program's own
+clock too, so that its parsing of a list is no part of a ratio. Where OpenImageIO is not installed (Debian's
 libopenimageio-dev) its column is left out. Instructions are counted where valgrind is installed, which
 takes minutes. Without --folder all files are made in a temporary folder and deleted at the end.
 """
@@ -84,8 +86,9 @@ class Bench:
         return self.folder / "lists" / f"{row.name}.{kind}"
 
     def took(self, name, row, kind, workers, lines="/dev/null"):
-        """Processor time and wall time in microseconds, and the peak memory in KiB, of one run; none where
-        it did not come to its end in a minute."""
+        """Processor time and wall time in microseconds, and the peak memory in KiB, of one run, and the two
+        times of the calls alone by the program's own clock, where it says them; none where it did not come to
+        its end in a minute."""
         done = subprocess.run([str(self.folder / "measure"), str(self.list(row, kind)), str(lines),
                                *self.words(name, row, workers)], capture_output=True, text=True, check=False)
         numbers = done.stdout.split()
@@ -94,7 +97,8 @@ class Bench:
             return None
         if len(numbers) != 4 or numbers[3] != "0":
             sys.exit(f"run.py: {name} failed at {row.name}.{kind}: {done.stdout} {done.stderr}")
-        return tuple(map(int, numbers[:3]))
+        calls = re.search(r"^calls (\d+) (\d+)$", done.stderr, re.M)
+        return tuple(map(int, [*numbers[:3], *(calls.groups() if calls else ())]))
 
     def times(self, row, workers, passes):
         """For each program and list the least of the passes, the programs in turn."""
@@ -110,10 +114,10 @@ class Bench:
             if not all(all_of[name, kind] for kind in kinds):
                 continue
             least = {kind: [min(one) for one in zip(*all_of[name, kind])] for kind in kinds}
-            cpu, wall, memory = least["long"]
-            less = least.get("short", [0, 0, 0])
-            found[name] = {"cpu": (cpu - less[0]) / row.units, "wall": (wall - less[1]) / row.units,
-                           "memory": memory}
+            long, short = least["long"], least.get("short", [0] * 5)
+            words = ("cpu", "wall", "memory", "calls_cpu", "calls_wall")
+            found[name] = {word: (a - b) / row.units for word, a, b in zip(words, long, short)}
+            found[name]["memory"] = long[2]
         return found
 
     def counted(self, name, row, kind, only=""):

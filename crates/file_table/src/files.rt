@@ -10,7 +10,7 @@ use crate::error::FileError;
 use crate::home::put_back;
 use crate::idle_files::{IdleFiles, SoMany};
 use crate::known::{KnownRecord, OfFile};
-use crate::open::open_record;
+use crate::open::{Opened, open_record};
 use crate::record::Record;
 use gen_board::{Board, View};
 use std::alloc::{AllocError, Global};
@@ -103,8 +103,8 @@ impl<T: Tap> Files<T> {
     ///
     /// The board is looked at once. A record that is kept and at least as new as what the view has
     /// then seen is answered without a call of the tap. Else the file is opened and read, and its
-    /// record is kept, unless the waiter then gives up. The lock of the file's record is held for
-    /// no read and for no growth of memory.
+    /// record is kept, unless the waiter then gives up, and so is the handle where the directories
+    /// took a window. The lock of the file's record is held for no read and for no growth of memory.
     pub fn record<V: Waiter>(
         &self,
         waiter: &V,
@@ -207,8 +207,9 @@ impl<T: Tap> Files<T> {
         ensures once { OpensOnce (T.state tap.old) (T.state tap.new) }
     {
         match open_record(self.alloc, tap, file, view.seen(file), self.cut) {
-            Ok(read) => {
+            Ok(Opened { record: read, idle }) => {
                 self.see(view, file, read.generation());
+                self.settle_read(waiter, idle);
                 let Ok(read) = Arc::new(self.alloc, read) else {
                     return Err(FileError::NoMemory);
                 };

@@ -84,6 +84,15 @@ impl<T: Tap> Files<T> {
         Ok(())
     }
 
+    /// The same for the handle that a record was read by, of which nothing is kept that was read ahead.
+    /// Where the waiter gives up it is closed.
+    pub(crate) fn settle_read<V: Waiter>(&self, waiter: &V, handle: Option<T::Handle>) {
+        if let Some(handle) = handle {
+            let ahead = ReadAhead::none(self.alloc, handle.file(), handle.generation());
+            let _closed = self.settle(waiter, OpenFile { handle, ahead });
+        }
+    }
+
     /// Forgets the record of a file and what was read ahead of it, and closes its idle handle.
     ///
     /// Where the waiter gives up at one of the two, that one stays, and the other is gone.

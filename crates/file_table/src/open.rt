@@ -8,11 +8,19 @@ ghost use Rattle.file_table.specs.Calls.{OpensOnce, OpenedCause, ReadsOnly};
 use crate::error::FileError;
 use crate::record::Record;
 use std::alloc::Global;
-use tap_reader::TapReader;
+use tap_reader::{AheadReader, ReadAhead};
 use tex_world::{ReadError, Tap, TapHandle};
 use tiff_dirs::{DirsError, read_dirs};
 use tiff_format::Cut;
 use tile_layout::Layout;
+
+/// A file that was opened and read: its record, and its handle, which is to lie idle where the file shows
+/// no fault and its directories took a window.
+#[derive(Drop)]
+pub(crate) struct Opened<T: Tap> {
+    pub(crate) record: Record<T::W>,
+    pub(crate) idle: Option<T::Handle>,
+}
 
 /// Opens a file at a generation that is at least `least`, and reads its record.
 pub(crate) fn open_record<T: Tap, B>(
@@ -21,11 +29,12 @@ pub(crate) fn open_record<T: Tap, B>(
     file: u32,
     least: u32,
     cut: Cut,
-) -> Result<Record<T::W>, FileError<B>>
+) -> Result<Opened<T>, FileError<B>>
     requires file { IsFile T.W.files file }
     requires least { IsLeast T.W.files file least }
     requires cut { IsCut cut }
-    ensures ok { IfOk result (λ r. (r.file ≡ file) × (least ≤ r.generation) × (r.cut ≡ cut)) }
+    ensures ok { IfOk result (λ o.
+        (o.record.file ≡ file) × (least ≤ o.record.generation) × (o.record.cut ≡ cut)) }
     ensures once { OpensOnce (T.state tap.old) (T.state tap.new) }
     ensures cause { IfErr result
         (OpenedCause T.W.files file least (T.state tap.old) (T.state tap.new)) }
@@ -40,19 +49,23 @@ fn read_record<T: Tap, B>(
     tap: &mut T,
     mut handle: T::Handle,
     cut: Cut,
-) -> Result<Record<T::W>, FileError<B>>
+) -> Result<Opened<T>, FileError<B>>
     requires { IsCut cut }
-    ensures ok { let named = T.Handle.named handle in IfOk result (λ r.
-        (r.file ≡ named.file) × (r.generation ≡ named.generation) × (r.cut ≡ cut)) }
+    ensures ok { let named = T.Handle.named handle in IfOk result (λ o. (o.record.file ≡ named.file)
+        × (o.record.generation ≡ named.generation) × (o.record.cut ≡ cut)) }
     ensures reads { ReadsOnly (T.state tap.old) (T.state tap.new) }
     ensures cause { let named = T.Handle.named handle in IfErr result (OpenedCause T.W.files
         named.file named.generation (T.state tap.old) (T.state tap.new)) }
 {
     let file = handle.file();
     let generation = handle.generation();
-    let mut reader = TapReader {
+    let mut ahead = ReadAhead::none(alloc, file, generation);
+    let windows = [ahead.window()];
+    let mut reader = AheadReader {
         tap,
         handle: &mut handle,
+        ahead: &mut ahead,
+        bands: &windows,
     };
     let layout = match read_dirs(alloc, &mut reader) {
         Ok(dirs) => Ok(Layout::of(dirs)),
@@ -66,5 +79,9 @@ fn read_record<T: Tap, B>(
         }
         Err(DirsError::NoMemory) => return Err(FileError::NoMemory),
     };
-    Ok(Record::of(alloc, file, generation, cut, layout)?)
+    let idle = layout.is_ok() && ahead.len() > 0;
+    Ok(Opened {
+        record: Record::of(alloc, file, generation, cut, layout)?,
+        idle: idle.then_some(handle),
+    })
 }

@@ -1,9 +1,9 @@
 //! Cells of files in memory whose rows stand far apart, and what is read ahead of them.
-ghost use Rattle.std.specs.Prelude.{ℕ, ◌<◌};
+ghost use Rattle.std.specs.Prelude.{ℕ, ◌^◌, ◌<◌, ◌≤◌};
 ghost use Rattle.tex_world.specs.World.{IsFile};
 
 use crate::read_ahead::Answer::{Again, Cell, Done, Fault, Gone, Kept, Wrong};
-use crate::read_ahead::Call::{Aheads, Forget, Hold, Load, Settle};
+use crate::read_ahead::Call::{Aheads, Forget, Hold, Load, Scan, Settle};
 use crate::script::Shows;
 use crate::seat::Seat;
 use crate::strips::Strips;
@@ -27,6 +27,8 @@ enum Call {
     /// Loads the cell of a texel of a file, by its column and row, through a tap, under a handle
     /// that the table lends, and settles it unless the load failed.
     Load(usize, u32, (u32, u32)),
+    /// Loads so many cells of a file in turn, of eight in a row, each of 16 by 16.
+    Scan(usize, u32, u32),
     /// Lends a file through a tap, under the record of its newest known generation.
     Hold(usize, u32),
     /// Settles the file that was lent so.
@@ -57,10 +59,45 @@ enum Answer {
 /// A call, its answer, and by how much the calls of its tap rise.
 type Step = (Call, Answer, u64);
 
+/// The place of sample c of a texel of the file of nine levels.
+fn place_in_levels(x: u64, y: u64, c: u64) -> u64
+    requires { (x ≤ 2 ^ 32) × (y ≤ 2 ^ 32) × (c ≤ 2 ^ 32) }
+{
+    let tile = y / 64 * 4 + x / 64;
+    1186 + tile * 12288 + (y % 64 * 64 + x % 64) * 3 + c
+}
+
+/// The place of a texel of the file of tiles.
+fn place_in_tiles(x: u64, y: u64) -> u64
+    requires { (x ≤ 2 ^ 32) × (y ≤ 2 ^ 32) }
+{
+    let tile = y / 16 * 8 + x / 16;
+    314 + tile * 256 + y % 16 * 16 + x % 16
+}
+
+/// The place of a texel of the file of four strips.
+fn place_in_strips(x: u64, y: u64) -> u64
+    requires { (x ≤ 2 ^ 32) × (y ≤ 2 ^ 32) }
+{
+    let strip = match y / 8 {
+        0 => 138,
+        1 => 67338,
+        2 => 33738,
+        _ => 100938,
+    };
+    strip + y % 8 * 4200 + x
+}
+
 /// Sample c of a texel of a file: the byte at its place.
 fn sample_of(key: TileKey, x: u32, y: u32, c: u32) -> u16 {
-    let first = if key.file() == 5 { 164 } else { 122 };
-    let at = first + u64::from(c) * 134400 + u64::from(y) * 4200 + u64::from(x);
+    let (x, y, c) = (u64::from(x), u64::from(y), u64::from(c));
+    let at = match key.file() {
+        5 => 164 + c * 134400 + y * 4200 + x,
+        6 => place_in_levels(x, y, c),
+        7 => place_in_strips(x, y),
+        8 => place_in_tiles(x, y),
+        _ => 122 + c * 134400 + y * 4200 + x,
+    };
     let modulus = if key.generation() == 2 { 241 } else { 251 };
     (at % modulus) as u16
 }
@@ -68,7 +105,7 @@ fn sample_of(key: TileKey, x: u32, y: u32, c: u32) -> u16 {
 /// The texels of the cell are those of its file.
 fn is_told<W: World>(tile: &Tile<W>) -> bool {
     let (key, rect, channels) = (tile.key(), tile.rect(), tile.channels());
-    if rect.x > 4200 || rect.y > 32 || rect.w > 16 || rect.h > 16 {
+    if rect.x > 4200 || rect.y > 256 || rect.w > 64 || rect.h > 64 {
         return false;
     }
     for k in 0..rect.h {
@@ -81,7 +118,12 @@ fn is_told<W: World>(tile: &Tile<W>) -> bool {
             }
         }
     }
-    channels == if key.file() == 5 { 3 } else { 1 }
+    channels
+        == if key.file() == 5 || key.file() == 6 {
+            3
+        } else {
+            1
+        }
 }
 
 /// A table with a view, some taps, and a file that is lent.
@@ -126,7 +168,7 @@ impl<T: Tap + Drop + Shows> Visitor<'_, T> {
     /// The place of the first call that answers something else, or whose tap has other calls, and
     /// what it answers.
     fn first_wrong(&mut self, steps: &[Step]) -> Option<(usize, Answer, u64)>
-        requires { (file : ℕ) → file < 6 → IsFile T.W.files file }
+        requires { (file : ℕ) → file < 9 → IsFile T.W.files file }
     {
         for (place, (call, wanted, calls)) in steps.iter().enumerate() {
             let before = self.calls(*call);
@@ -143,6 +185,7 @@ impl<T: Tap + Drop + Shows> Visitor<'_, T> {
     fn calls(&self, call: Call) -> u64 {
         let tap = match call {
             Load(tap, _, _) => tap,
+            Scan(tap, _, _) => tap,
             Hold(tap, _) => tap,
             _ => 0,
         };
@@ -153,11 +196,12 @@ impl<T: Tap + Drop + Shows> Visitor<'_, T> {
     }
 
     fn answer(&mut self, call: Call) -> Answer
-        requires { (file : ℕ) → file < 6 → IsFile T.W.files file }
+        requires { (file : ℕ) → file < 9 → IsFile T.W.files file }
     {
         match call {
-            Load(tap, file, texel) if file < 6 => self.load(tap, file, texel),
-            Hold(tap, file) if file < 6 => self.hold(tap, file),
+            Load(tap, file, texel) if file < 9 => self.load(tap, file, texel),
+            Scan(tap, file, cells) if file < 9 => self.scan(tap, file, cells),
+            Hold(tap, file) if file < 9 => self.hold(tap, file),
             Settle => self.settle(),
             Forget(file) => match self.seat.forget(&Tries::new(9), file) {
                 Ok(()) => Done,
@@ -186,6 +230,20 @@ impl<T: Tap + Drop + Shows> Visitor<'_, T> {
             Err(FileError::Again { from: _, to }) => Err(Again(to)),
             Err(_) => Err(Wrong),
         }
+    }
+
+    /// The answer of the last of so many cells, or of the first that has another one.
+    fn scan(&mut self, tap: usize, file: u32, cells: u32) -> Answer
+        requires { IsFile T.W.files file }
+    {
+        let mut answer = Wrong;
+        for cell in 0..cells.min(48) {
+            answer = self.load(tap, file, (cell % 8 * 16, cell / 8 * 16));
+            if answer != Cell(1) {
+                return answer;
+            }
+        }
+        answer
     }
 
     fn hold(&mut self, tap: usize, file: u32) -> Answer
@@ -236,14 +294,25 @@ impl<T: Tap + Drop + Shows> Visitor<'_, T> {
     }
 }
 
-/// Four taps. For tap 1 a read of the byte 222 fails, column 100 of the first row. At 67400, column 78 of
-/// row 16, tap 2 meets generation 2, and tap 3 knows it.
+/// Four taps. For tap 1 a read of the byte 222 fails, column 100 of the first row; of the file of nine levels
+/// one of a byte between two directories, which nobody asks for, and of the file of tiles one of tile 33. At
+/// 67400, column 78 of row 16, tap 2 meets generation 2, and tap 3 knows it.
 fn taps_of(alloc: Global) -> Result<Vec<MemTap<Strips>>, Fail> {
     let mut plan = Plan::new(alloc);
     plan.fail_bytes.push(FailByte {
         tap: 1,
         file: 0,
         at: 222,
+    })?;
+    plan.fail_bytes.push(FailByte {
+        tap: 1,
+        file: 6,
+        at: 453,
+    })?;
+    plan.fail_bytes.push(FailByte {
+        tap: 1,
+        file: 8,
+        at: 8767,
     })?;
     plan.rises.push(Rise {
         tap: 2,
@@ -456,6 +525,54 @@ static ROWS: &[(&str, &[Step])] = &[
             (Load(0, 5, (0, 16)), Cell(1), 3),
             (Load(0, 5, (16, 16)), Cell(1), 0),
             (Load(0, 5, (320, 0)), Cell(1), 3),
+        ],
+    ),
+    (
+        "strips that do not follow one another are a read each, and of twice as many cells each time",
+        &[
+            (Load(0, 7, (0, 0)), Cell(1), 8),
+            (Load(0, 7, (16, 0)), Cell(1), 2),
+            (Load(0, 7, (32, 0)), Cell(1), 0),
+            (Load(0, 7, (48, 0)), Cell(1), 2),
+            (Load(0, 7, (0, 16)), Cell(1), 2),
+            (Load(0, 7, (112, 16)), Cell(1), 0),
+            (Load(0, 7, (128, 16)), Cell(1), 2),
+            (Load(0, 7, (320, 0)), Cell(1), 2),
+            (Load(0, 7, (336, 0)), Cell(1), 2),
+        ],
+    ),
+    (
+        "nine directories are eight reads, and the handle is lent for the first tile",
+        &[
+            (Load(0, 6, (0, 0)), Cell(1), 10),
+            (Load(0, 6, (200, 100)), Cell(1), 1),
+            (Load(0, 6, (100, 200)), Cell(1), 1),
+        ],
+    ),
+    (
+        "tiles side by side in scan order: from the 33rd on twice as many each time, to the right edge",
+        &[
+            (Scan(0, 8, 32), Cell(1), 38),
+            (Load(0, 8, (0, 64)), Cell(1), 1),
+            (Load(0, 8, (16, 64)), Cell(1), 0),
+            (Load(0, 8, (32, 64)), Cell(1), 1),
+            (Load(0, 8, (48, 64)), Cell(1), 0),
+            (Load(0, 8, (80, 64)), Cell(1), 0),
+            (Load(0, 8, (96, 64)), Cell(1), 1),
+            (Load(0, 8, (112, 64)), Cell(1), 0),
+            (Load(0, 8, (0, 80)), Cell(1), 1),
+            (Load(0, 8, (112, 80)), Cell(1), 0),
+            (Load(0, 8, (48, 0)), Cell(1), 1),
+        ],
+    ),
+    (
+        "a byte that nobody asked for and that is not read changes no answer",
+        &[
+            (Load(1, 6, (0, 0)), Cell(1), 12),
+            (Scan(1, 8, 32), Cell(1), 38),
+            (Load(1, 8, (0, 64)), Cell(1), 2),
+            (Load(1, 8, (16, 64)), Cell(1), 1),
+            (Load(1, 8, (64, 64)), Cell(1), 0),
         ],
     ),
     (

@@ -21,7 +21,7 @@ KeepsTap-itself lent = record {
 }
 
 -- reads after reads are reads
-OnlyReads-chains : (a b c : Lent) → OnlyReads a b → OnlyReads b c → OnlyReads a c
+pub OnlyReads-chains : (a b c : Lent) → OnlyReads a b → OnlyReads b c → OnlyReads a c
 OnlyReads-chains a b c p q = record {
   handle = q.handle ∙ p.handle;
   faults = omega (arith, p.faults, q.faults);

@@ -10,6 +10,8 @@ pub(crate) struct Course {
     pub(crate) below: u64,
     /// How many cells were read at once.
     pub(crate) cells: u64,
+    /// How many readings there were; of a window those that did not find their bytes in it.
+    pub(crate) reads: u64,
     /// The greatest number among those of the same file was used last.
     pub(crate) used: u64,
 }
@@ -21,6 +23,7 @@ impl Course {
             next: NO_PLACE,
             below: NO_PLACE,
             cells: 0,
+            reads: 0,
             used: 0,
         }
     }

@@ -1,7 +1,7 @@
 //! Which rows are read with those of a cell. No proof rests on it.
 ghost use Rattle.std.specs.Prelude.{◌≡◌, ◌<◌, length, IfSome};
 
-use crate::cell_rows::{CellRows, twice};
+use crate::cell_rows::CellRows;
 use crate::course::Course;
 use crate::read_ahead::{MAX_AHEAD_BYTES, MAX_STRETCH_BYTES, ReadAhead};
 use crate::rows::Rows;
@@ -17,7 +17,7 @@ const MAX_STRETCHES: usize = 8;
 pub struct Band {
     pub slot: usize,
     pub rows: Option<Rows>,
-    /// Where bytes are not there, up to 8 KiB round them are read.
+    /// Where a short read does not find its bytes, a window is read from its place on.
     pub is_window: bool,
 }
 
@@ -37,12 +37,11 @@ fn slot_left_of(stretches: &[Stretch], at: u64) -> Option<usize>
         .position(|stretch| stretch.course.next == at)
 }
 
-/// How many cells the reading read at once that one from this place on goes on from below, and 0 where
-/// there is none.
-fn cells_above(stretches: &[Stretch], at: u64) -> u64 {
+/// The course that a reading from this place on goes on from below.
+fn course_above(stretches: &[Stretch], at: u64) -> Course {
     match stretches.iter().find(|stretch| stretch.course.below == at) {
-        Some(stretch) => stretch.course.cells,
-        None => 0,
+        Some(stretch) => stretch.course,
+        None => Course::none(),
     }
 }
 
@@ -87,22 +86,25 @@ impl<W: World> ReadAhead<W> {
         oldest(&self.stretches)
     }
 
-    /// Where the rows of a cell are read to that are not there, and how many cells with them: twice as
-    /// many as by the reading that the cell goes on from, to the right or below, and else it alone.
-    fn begin(&mut self, cell: &CellRows) -> Option<(usize, u64)>
+    /// Where the rows of a cell are read to that are not there, with how many cells, and how many
+    /// readings there were: twice as many cells as by the reading that the cell goes on from, to the
+    /// right or below, and else it alone.
+    fn begin(&mut self, cell: &CellRows) -> Option<(usize, u64, u64)>
         ensures { self.new ≡ self.old }
     {
         let at = cell.rows.at;
         if let Some(slot) = slot_left_of(&self.stretches, at) {
-            return Some((slot, twice(self.stretches[slot].course.cells)));
+            let course = self.stretches[slot].course;
+            return Some((slot, cell.cells_after(&course), course.reads));
         }
-        let cells = twice(cells_above(&self.stretches, at)).max(1);
+        let course = course_above(&self.stretches, at);
         let slot = self.spare(stretches_for(&cell.rows))?;
-        Some((slot, cells))
+        Some((slot, cell.cells_after(&course), course.reads))
     }
 
-    /// Remembers that a cell was the latest of a stretch, which so many cells were read into at once.
-    fn pass(&mut self, slot: usize, cell: &CellRows, cells: u64)
+    /// Remembers that a cell was the latest of a stretch, which so many cells were read into at once,
+    /// behind so many readings.
+    fn pass(&mut self, slot: usize, cell: &CellRows, cells: u64, reads: u64)
         ensures { self.new ≡ self.old }
     {
         let used = latest_use(&self.stretches).saturating_add(1);
@@ -111,22 +113,23 @@ impl<W: World> ReadAhead<W> {
                 next: cell.next(),
                 below: cell.below,
                 cells,
+                reads: reads.saturating_add(1),
                 used,
             };
         }
     }
 
-    /// A stretch that short reads of bytes that stand close together are cut from, as those of directories
-    /// are. None where no memory is found.
-    pub fn window(&mut self) -> Option<Band>
+    /// A stretch for windows, from which short reads of bytes that stand close together are cut, as
+    /// those of directories are. Where no memory is found there are no windows.
+    pub fn window(&mut self) -> Band
         ensures { self.new ≡ self.old }
     {
-        let slot = self.spare(MAX_STRETCHES)?;
-        Some(Band {
+        let slot = self.spare(MAX_STRETCHES).unwrap_or(MAX_STRETCHES);
+        Band {
             slot,
             rows: None,
             is_window: true,
-        })
+        }
     }
 
     /// From which stretch the rows of a cell are to be cut, and what is to be read into it first. None
@@ -135,16 +138,16 @@ impl<W: World> ReadAhead<W> {
         ensures { self.new ≡ self.old }
     {
         if let Some(slot) = slot_with(&self.stretches, &cell.rows) {
-            let cells = self.stretches[slot].course.cells;
-            self.pass(slot, cell, cells);
+            let course = self.stretches[slot].course;
+            self.pass(slot, cell, course.cells, course.reads);
             return Some(Band {
                 slot,
                 rows: None,
                 is_window: false,
             });
         }
-        let (slot, cells) = self.begin(cell)?;
-        self.pass(slot, cell, cells);
+        let (slot, cells, reads) = self.begin(cell)?;
+        self.pass(slot, cell, cells, reads);
         Some(Band {
             slot,
             rows: cell.with(cells),

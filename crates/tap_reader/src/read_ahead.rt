@@ -16,7 +16,7 @@ use tex_world::World;
 pub const MAX_AHEAD_BYTES: usize = 4194304;
 
 /// The most bytes that are read into one stretch where cells are read ahead.
-pub(crate) const MAX_STRETCH_BYTES: usize = 524288;
+pub const MAX_STRETCH_BYTES: usize = 524288;
 
 /// Bytes of one generation of a file that were read ahead, in stretches: each of the cells that follow
 /// each other in a row of cells of a plane. Where the world tells they are those of the file. In a clause it is the generation of the

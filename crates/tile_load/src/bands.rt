@@ -1,12 +1,16 @@
 //! What is read ahead of the cells of a file whose rows stand far apart.
 
-ghost use Rattle.std.specs.Prelude.{◌≡◌, ◌<◌};
+ghost use Rattle.std.specs.Prelude.{◌≡◌, ◌-◌, ◌<◌, ◌≤◌};
 
+use crate::tiles::tile_row;
 use rect_read::{MAX_GAP, Place};
 use std::alloc::Global;
-use tap_reader::{Band, CellRows, ReadAhead, Rows};
+use tap_reader::{Band, CellRows, MAX_AHEAD_BYTES, MAX_STRETCH_BYTES, ReadAhead, Rows};
 use tex_world::World;
 use tiff_format::Rect;
+
+/// The most parts in which the plane of a cell is read.
+const MAX_PARTS: u32 = 64;
 
 /// Where a row of a place begins in the file.
 fn row_start(place: &Place<'_>, row: u32) -> Option<u64>
@@ -56,16 +60,19 @@ fn cell_rows(place: &Place<'_>, texel_bytes: u64) -> Option<CellRows> {
     let at = row_start(place, 0)?;
     let last = last_start(place, at, stride)?;
     let left = u64::from(rect.x).checked_mul(texel_bytes)?;
+    let rows = Rows::new(at, stride, row as usize, count)?;
+    if rows.size() > MAX_AHEAD_BYTES {
+        return None;
+    }
     Some(CellRows {
-        rows: Rows::new(at, stride, row as usize, count)?,
+        rows,
         rest: rest.checked_mul(texel_bytes)?,
         below: last.checked_add(stride)?.checked_sub(left)?,
     })
 }
 
 /// From which stretches the rows of the planes of a place are to be cut, and what is to be read into
-/// them first. None for a plane whose rows stand close together, or do not stand as far apart as those
-/// of a strip.
+/// them first. None for rows that stand close together, and for those that are read one by one.
 pub(crate) fn next_bands<W: World>(
     alloc: Global,
     ahead: &mut ReadAhead<W>,
@@ -82,18 +89,78 @@ pub(crate) fn next_bands<W: World>(
             plane,
             rect: place.rect,
         };
-        if let Some(band) = next_band(ahead, &alone) {
-            let _full = bands.push(band);
+        match next_band(ahead, &alone) {
+            Some(band) => {
+                let _full = bands.push(band);
+            }
+            None => add_parts(ahead, &alone, &mut bands),
         }
     }
     bands
 }
 
-/// The same for the plane of a place.
+/// The same for the plane of a place, where all of it is read at once.
 fn next_band<W: World>(ahead: &mut ReadAhead<W>, place: &Place<'_>) -> Option<Band>
     ensures { ahead.new ≡ ahead.old }
 {
     let format = place.layout.format(place.level, place.plane);
-    let cell = cell_rows(place, format.texel_bytes as u64)?;
+    let texel_bytes = format.texel_bytes as u64;
+    let cell = match cell_rows(place, texel_bytes) {
+        Some(cell) => cell,
+        None => tile_row(place, texel_bytes)?,
+    };
     ahead.plan(&cell)
+}
+
+/// How many rows of a place are read at once from the one on that stands so many behind its first: as many
+/// as its strip has and as a stretch of several may keep. None where these are fewer than two.
+fn rows_at_once(place: &Place<'_>, done: u32) -> u32
+    ensures { result ≤ place.now.rect.h - done }
+{
+    let format = place.layout.format(place.level, place.plane);
+    let row = (place.rect.w as usize).saturating_mul(format.texel_bytes);
+    let most = (MAX_STRETCH_BYTES / row.max(1)).min(place.rect.h as usize) as u32;
+    let in_block = place.layout.block_rows(place.level);
+    let left = in_block - place.rect.y.saturating_add(done) % in_block;
+    if most < 2 || in_block < 2 {
+        return 0;
+    }
+    most.min(left).min(place.rect.h.saturating_sub(done))
+}
+
+/// The part of a place that is read at once from such a row on.
+fn part_behind<'a>(place: &Place<'a>, done: u32) -> Option<Place<'a>> {
+    let rows = rows_at_once(place, done);
+    if rows == 0 {
+        return None;
+    }
+    let rect = Rect {
+        x: place.rect.x,
+        y: place.rect.y.checked_add(done)?,
+        w: place.rect.w,
+        h: rows,
+    };
+    Some(Place {
+        layout: place.layout,
+        level: place.level,
+        plane: place.plane,
+        rect,
+    })
+}
+
+/// The same for the plane of a place that is read in parts: its rows in each strip, as many at once as
+/// a stretch may keep.
+fn add_parts<W: World>(ahead: &mut ReadAhead<W>, place: &Place<'_>, bands: &mut Vec<Band>)
+    ensures { ahead.new ≡ ahead.old }
+{
+    let mut done = 0u32;
+    for _part in 0..MAX_PARTS {
+        let Some(part) = part_behind(place, done) else {
+            return;
+        };
+        done = done.saturating_add(part.rect.h);
+        if let Some(band) = next_band(ahead, &part) {
+            let _full = bands.push(band);
+        }
+    }
 }

@@ -10,6 +10,7 @@ mod loading;
 mod part_place;
 mod part_span;
 mod quarters;
+mod tiles;
 
 pub use halving::Halving;
 pub use load_error::LoadError;

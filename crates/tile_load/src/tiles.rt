@@ -1,0 +1,91 @@
+//! What is read ahead of the tiles of a row of tiles that stand side by side in the file.
+
+use rect_read::Place;
+use tap_reader::{CellRows, MAX_STRETCH_BYTES, Rows};
+use tiff_format::Rect;
+
+/// How many tiles at most are seen to stand side by side.
+const MAX_TILES: u64 = 32;
+
+/// The place at which nothing begins.
+const NO_PLACE: u64 = u64::MAX;
+
+/// Where the piece of a texel begins in the file, of the level and the plane of a place.
+fn texel_start(place: &Place<'_>, x: u64, y: u64) -> Option<u64> {
+    let (width, height) = place.layout.size(place.level);
+    if x >= u64::from(width) || y >= u64::from(height) {
+        return None;
+    }
+    let texel = Rect {
+        x: x as u32,
+        y: y as u32,
+        w: 1,
+        h: 1,
+    };
+    let first = place
+        .layout
+        .plane_pieces(place.level, texel, place.plane)
+        .next()?;
+    Some(first.at)
+}
+
+/// The bytes of the tile that a place is, where it is one, there is a tile to its right, and two are no
+/// more than are read at once.
+fn tile_bytes(place: &Place<'_>, texel_bytes: u64) -> Option<u64> {
+    let rect = place.rect;
+    let (width, height) = place.layout.size(place.level);
+    let wide = place.layout.block_width(place.level);
+    let high = place.layout.block_rows(place.level);
+    let is_tile = rect.x % wide == 0 && rect.y % high == 0 && rect.w <= wide && rect.h <= high;
+    let is_whole = rect.h == high.min(height.saturating_sub(rect.y))
+        && rect.w == wide.min(width.saturating_sub(rect.x));
+    if !is_tile || !is_whole || width <= wide {
+        return None;
+    }
+    let texels = u64::from(wide).checked_mul(u64::from(high))?;
+    let bytes = texels.checked_mul(texel_bytes)?;
+    if bytes > MAX_STRETCH_BYTES as u64 / 2 {
+        None
+    } else {
+        Some(bytes)
+    }
+}
+
+/// How many bytes stand side by side from a tile on, in whole tiles of its row of tiles. Those between
+/// the first and the last are not looked at: no proof rests on it.
+fn side_by_side(place: &Place<'_>, at: u64, bytes: u64) -> u64 {
+    let (width, _) = place.layout.size(place.level);
+    let wide = u64::from(place.layout.block_width(place.level));
+    let right = u64::from(width).saturating_sub(u64::from(place.rect.x));
+    let behind = (right.saturating_sub(1) / wide).min(MAX_TILES - 1);
+    if stands_behind(place, at, behind, bytes) {
+        bytes.saturating_mul(behind.saturating_add(1))
+    } else if stands_behind(place, at, 1, bytes) {
+        bytes.saturating_mul(2)
+    } else {
+        bytes
+    }
+}
+
+/// The tile that is so many tiles to the right of a place stands so many tiles behind it in the file.
+fn stands_behind(place: &Place<'_>, at: u64, tiles: u64, bytes: u64) -> bool {
+    let wide = u64::from(place.layout.block_width(place.level));
+    let x = u64::from(place.rect.x).saturating_add(tiles.saturating_mul(wide));
+    let start = texel_start(place, x, u64::from(place.rect.y));
+    start == at.checked_add(tiles.saturating_mul(bytes))
+}
+
+/// A tile of a level, as a row of bytes that goes on with the tiles to its right, as far as they stand
+/// side by side in the file.
+pub(crate) fn tile_row(place: &Place<'_>, texel_bytes: u64) -> Option<CellRows> {
+    let bytes = tile_bytes(place, texel_bytes)?;
+    let (x, y) = (u64::from(place.rect.x), u64::from(place.rect.y));
+    let at = texel_start(place, x, y)?;
+    let rest = side_by_side(place, at, bytes);
+    let high = u64::from(place.layout.block_rows(place.level));
+    Some(CellRows {
+        rows: Rows::new(at, rest, bytes as usize, 1)?,
+        rest,
+        below: texel_start(place, 0, y.saturating_add(high)).unwrap_or(NO_PLACE),
+    })
+}
