@@ -65,7 +65,7 @@ impl<T: Tap> Worker<'_, T> {
                 self.pixels(waiter, tap, file, place, sides)
             }
             Ask::Texture(file, look) if file < FILES => self.look(waiter, tap, file, look),
-            Ask::TextureLocal(file, look) if file < FILES => self.look_local(file, look),
+            Ask::TextureLocal(file, look) if file < FILES => self.lookup_local(file, look),
             Ask::Invalidate(file, force) if file < FILES => {
                 self.invalidate(waiter, tap, file, force)
             }
@@ -196,7 +196,7 @@ impl<T: Tap> Worker<'_, T> {
         self.left(answer, &out[..r.nch as usize])
     }
 
-    fn look_local(&mut self, file: u32, look: Look) -> Answer
+    fn lookup_local(&mut self, file: u32, look: Look) -> Answer
         requires file { file < 5 }
         requires told { (file : ℕ) → file < 5 → IsFile T.W.files file }
         ensures { self.new.cache.now ≡ self.old.cache.now }

@@ -222,15 +222,15 @@ InfoRefuses r (refused.BadFile generation fault) = ShowsFault r generation fault
 InfoRefuses r _ = ⊥
 
 -- A lookup refuses a file with a fault, and one that does not fit the cut.
-abbrev pub LookRefuses : {B : Type 0} → RecordState → CacheError B → Type 0
-LookRefuses r (refused.BadFile generation fault) = ShowsFault r generation fault
-LookRefuses r (refused.TileTooLarge generation) = CellTooLarge r generation
-LookRefuses r _ = ⊥
+abbrev pub LookupRefuses : {B : Type 0} → RecordState → CacheError B → Type 0
+LookupRefuses r (refused.BadFile generation fault) = ShowsFault r generation fault
+LookupRefuses r (refused.TileTooLarge generation) = CellTooLarge r generation
+LookupRefuses r _ = ⊥
 
 -- A region is refused for its level too.
 abbrev pub PixelsRefuses : {B : Type 0} → ℕ → RecordState → CacheError B → Type 0
 PixelsRefuses level r (refused.NoLevel generation levels) = LacksLevel level r generation levels
-PixelsRefuses level r e = LookRefuses r e
+PixelsRefuses level r e = LookupRefuses r e
 
 -- A cell is refused for its texel too.
 abbrev pub TileRefuses : {B : Type 0} → TexelAt → RecordState → CacheError B → Type 0

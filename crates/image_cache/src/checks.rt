@@ -4,7 +4,7 @@ ghost use Rattle.tile_layout.specs.Level.{level_count_in};
 ghost use Rattle.tile_layout.specs.Cell.{CellsFit};
 ghost use Rattle.file_table.specs.Record.{CutsLevel};
 ghost use Rattle.image_cache.specs.Texel.{IsTexelOf};
-ghost use Rattle.image_cache.specs.Cause.{LookRefuses, PixelsRefuses, TileRefuses};
+ghost use Rattle.image_cache.specs.Cause.{LookupRefuses, PixelsRefuses, TileRefuses};
 
 use crate::error::CacheError;
 use file_table::Record;
@@ -15,7 +15,7 @@ use tile_layout::Grid;
 /// The record shows no fault, and all its cells fit the cut.
 pub fn fits_cut<W: World, B>(known: &Record<W>) -> Result<(), CacheError<B>>
     ensures ok { OnOk result (IsOkAnd known.now.layout (λ kept. CellsFit kept known.now.cut)) }
-    ensures err { IfErr result (LookRefuses known.now) }
+    ensures err { IfErr result (LookupRefuses known.now) }
 {
     let generation = known.generation();
     if let Err(fault) = known.layout() {

@@ -13,11 +13,11 @@ use Rattle.udim.specs.Udim.{mark_at, marked, tile_of, tile_number, udim_of}
 use Rattle.udim.specs.declared.file.Udim.{Udim}
 use Rattle.udim.specs.declared.file.Udim.TheVariants as meant
 use Rattle.render_run.specs.declared.question.Question.{Question}
-use Rattle.render_run.specs.declared.question.Question.TheVariants.{Look}
+use Rattle.render_run.specs.declared.question.Question.TheVariants.{Lookup}
 use Rattle.render_run.specs.declared.question.Task.{Task}
 use Rattle.render_run.specs.declared.question.Task.TheVariants as task
 use Rattle.render_run.specs.declared.question.Task.TheVariants.{Ask}
-use Rattle.render_run.specs.Question.{IsLookOf, IsGivenOf, own_file_in}
+use Rattle.render_run.specs.Question.{IsLookupOf, IsGivenOf, own_file_in}
 use Rattle.render_run.specs.Answering.{MayBeGiven, IsKnown}
 
 -- a name without a mark means its own file, wherever the lookup lies
@@ -42,7 +42,7 @@ plain_unmarked name s t is = by_mark (mark_at name) is
 module _ (number_of : List ℕ → Option ℕ) (r : LookupRequest) (name : List ℕ) where
   -- a lookup in the file of a number
   asks : (means : Udim) (number : ℕ) (q : Question)
-      → IsLookOf number_of r name means (Ask (Some number) q)
+      → IsLookupOf number_of r name means (Ask (Some number) q)
       → (means ≡ meant.Plain) × (number_of name ≡ Some number)
   asks meant.Plain number q (inl is) = (refl, cc)
   asks meant.Outside number q (inl is) = absurd cc
@@ -52,7 +52,7 @@ module _ (number_of : List ℕ → Option ℕ) (r : LookupRequest) (name : List 
 module _ (files : Files) (folder : FolderState) (number : ℕ) where
   -- the name of a lookup in the file of a number is known
   known_by : (r : LookupRequest) (name : List ℕ) (s t : ℤ) (q : Question)
-      → IsLookOf folder.number_of r name (udim_of name s t) (Ask (Some number) q)
+      → IsLookupOf folder.number_of r name (udim_of name s t) (Ask (Some number) q)
       → MayBeGiven files folder.size (Ask (Some number) q) → IsKnown files folder name number
   known_by r name s t q look may =
       let asked = asks folder.number_of r name (udim_of name s t) number q look in
@@ -66,12 +66,12 @@ module _ (files : Files) (folder : FolderState) (number : ℕ) where
   -- whatever is given, where it asks the file of the name itself
   known_given : (r : LookupRequest) (name : List ℕ) (s t : ℤ) (given : Task)
       → own_file_in given ≡ Some number
-      → IsLookOf folder.number_of r name (udim_of name s t) given
+      → IsLookupOf folder.number_of r name (udim_of name s t) given
       → MayBeGiven files folder.size given → IsKnown files folder name number
   known_given r name s t (task.Ask file q) is look may =
       known_by r name s t q
       (subst (λ (f : Option ℕ).
-      IsLookOf folder.number_of r name (udim_of name s t) (task.Ask f q)) is look)
+      IsLookupOf folder.number_of r name (udim_of name s t) (task.Ask f q)) is look)
       (subst (λ (f : Option ℕ). MayBeGiven files folder.size (task.Ask f q)) is may)
   known_given r name s t (task.Tile file q) is look may = absurd cc
   known_given r name s t task.Unnamed is look may = absurd cc
@@ -98,25 +98,25 @@ module _ (files : Files) (folder : FolderState) (number : ℕ) where
   -- a lookup whose name is known is given its file
   module _ (name : List ℕ) (known : IsKnown files folder name number) where
     look_known : (r : LookupRequest) (s t : ℤ)
-        → IsLookOf folder.number_of r name (udim_of name s t) (Ask (Some number) (Look r))
+        → IsLookupOf folder.number_of r name (udim_of name s t) (Ask (Some number) (Lookup r))
     look_known r s t =
         rw (means_plain name s t known.unmarked)
-        (inl (ap (λ (file : Option ℕ). Ask file (Look r)) (sym known.numbered)))
+        (inl (ap (λ (file : Option ℕ). Ask file (Lookup r)) (sym known.numbered)))
 
     pub given_tex : (asked : Request) (r : TexRequest) (own : List ℕ) → asked ≡ request.Tex r own
-        → own ≡ name → IsGivenOf folder.number_of asked (Ask (Some number) (Look (Point r)))
+        → own ≡ name → IsGivenOf folder.number_of asked (Ask (Some number) (Lookup (Point r)))
     given_tex asked r own tex same =
         let here : asked ≡ request.Tex r name =
         tex ∙ ap (λ (n : List ℕ). request.Tex r n) same in
-        subst (λ (a : Request). IsGivenOf folder.number_of a (Ask (Some number) (Look (Point r))))
+        subst (λ (a : Request). IsGivenOf folder.number_of a (Ask (Some number) (Lookup (Point r))))
         (sym here) (look_known (Point r) r.s r.t)
 
     pub given_texd : (asked : Request) (r : DerivRequest) (own : List ℕ)
         → asked ≡ request.Texd r own → own ≡ name
-        → IsGivenOf folder.number_of asked (Ask (Some number) (Look (Footprint r)))
+        → IsGivenOf folder.number_of asked (Ask (Some number) (Lookup (Footprint r)))
     given_texd asked r own texd same =
         let here : asked ≡ request.Texd r name =
         texd ∙ ap (λ (n : List ℕ). request.Texd r n) same in
         subst (λ (a : Request).
-        IsGivenOf folder.number_of a (Ask (Some number) (Look (Footprint r))))
+        IsGivenOf folder.number_of a (Ask (Some number) (Lookup (Footprint r))))
         (sym here) (look_known (Footprint r) r.s r.t)

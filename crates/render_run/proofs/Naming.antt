@@ -16,11 +16,11 @@ use Rattle.request_lang.specs.declared.request.Request.{Request}
 use Rattle.request_lang.specs.declared.request.Request.TheVariants as request
 use Rattle.request_lang.specs.declared.answer.Answer.{Answer}
 use Rattle.request_lang.specs.declared.answer.Answer.TheVariants.{NoMemory}
-use Rattle.render_run.specs.declared.question.Question.TheVariants.{Look}
+use Rattle.render_run.specs.declared.question.Question.TheVariants.{Lookup}
 use Rattle.render_run.specs.declared.question.Task.{Task}
 use Rattle.render_run.specs.declared.question.Task.TheVariants.{Tile, Unnamed}
 use Rattle.render_run.specs.Around.{Sight, Terms, sight_at}
-use Rattle.render_run.specs.Question.{task_of, look_task, IsLookOf, IsGivenOf, AreGivenOf}
+use Rattle.render_run.specs.Question.{task_of, lookup_task, IsLookupOf, IsGivenOf, AreGivenOf}
 use Rattle.render_run.specs.Reply.{MeetsTask}
 use Rattle.render_run.specs.Needed.{AreNeeded}
 use Rattle.render_run.specs.Answering.{AnswersTask, AnswersInTurn}
@@ -87,7 +87,7 @@ tile_may r means own s t is lies may =
 module _ (files : Files) (terms : Terms) (old new : Sight) where
   -- that no memory was found meets a lookup in the file of a tile
   meets_none : (file : Option ℕ) (r : LookupRequest)
-      → MeetsTask files terms old.holds (Tile file (Look r)) NoMemory
+      → MeetsTask files terms old.holds (Tile file (Lookup r)) NoMemory
   meets_none None r = inr refl
   meets_none (Some n) r = record {
     too_large = λ large. absurd (cc (large));
@@ -97,12 +97,12 @@ module _ (files : Files) (terms : Terms) (old new : Sight) where
 
   -- and needs nothing
   needs_none : (file : Option ℕ) (r : LookupRequest) (keys : List ℕ) → keys ≡ []
-      → AreNeeded files terms.cut (Tile file (Look r)) NoMemory keys
+      → AreNeeded files terms.cut (Tile file (Lookup r)) NoMemory keys
   needs_none None r keys none = none
   needs_none (Some n) r keys none = none
 
   unnamed : (file : Option ℕ) (r : LookupRequest) → AnswersTask files terms Unnamed old new NoMemory
-      → AnswersTask files terms (Tile file (Look r)) old new NoMemory
+      → AnswersTask files terms (Tile file (Lookup r)) old new NoMemory
   unnamed file r one = record {
     meets = meets_none file r;
     pins = one.pins;
@@ -132,20 +132,20 @@ module _ (files : Files) (terms : Terms) (old new : Sight) where
       (one : AnswersTask files terms Unnamed old new line) where
     -- what the name means is the file of a tile
     in_tile : (means : Udim) → IsTrue (is_tile means)
-        → AnswersTask files terms (look_task number_of r name means) old new line
+        → AnswersTask files terms (lookup_task number_of r name means) old new line
     in_tile meant.Plain tile = absurd (cc (tile))
     in_tile meant.Outside tile = absurd (cc (tile))
     in_tile (meant.Tile own s t) tile =
-        let given = Tile (number_of own) (Look (moved_to r s t)) in
+        let given = Tile (number_of own) (Lookup (moved_to r s t)) in
         subst (λ (l : Answer). AnswersTask files terms Unnamed old new l
         → AnswersTask files terms given old new l) (sym one.meets)
         (unnamed (number_of own) (moved_to r s t)) one
 
   -- the lookup was answered
   look_answered : (number_of : List ℕ → Option ℕ) (r : LookupRequest) (name : List ℕ)
-      (means : Udim) (t : Task) (line : Answer) → IsLookOf number_of r name means t
+      (means : Udim) (t : Task) (line : Answer) → IsLookupOf number_of r name means t
       → AnswersTask files terms t old new line
-      → AnswersTask files terms (look_task number_of r name means) old new line
+      → AnswersTask files terms (lookup_task number_of r name means) old new line
   look_answered number_of r name means t line (inl is) one =
       subst (λ (u : Task). AnswersTask files terms u old new line) is one
   look_answered number_of r name means t line (inr none) one =

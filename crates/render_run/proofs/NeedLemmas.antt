@@ -34,18 +34,18 @@ use Rattle.image_cache.specs.Call.{Needs, KeepsRecent, CountsOn, KeepsGiven, Non
 use Rattle.image_cache.specs.Cause.{KeepsRecentAt}
 use Rattle.image_cache.specs.Region.{ReadsRegion, area_keys}
 use Rattle.image_cache.specs.Sizes.{sizes_by, sizes_in}
-use Rattle.texture_sys.specs.Needs.{look_keys_on, visits_on, NeedsCells}
+use Rattle.texture_sys.specs.Needs.{lookup_keys_on, visits_on, NeedsCells}
 use Rattle.texture_sys.proofs.LookLemmas.{bad_layout}
 use Rattle.texture_sys.specs.Call.{IsLookedUp}
 use Rattle.request_lang.specs.declared.answer.Answer.{Answer}
 use Rattle.request_lang.specs.declared.answer.Answer.TheVariants as line
 use Rattle.request_lang.specs.Basis.{basis_of}
 use Rattle.render_run.specs.declared.question.Question.{Question}
-use Rattle.render_run.specs.declared.question.Question.TheVariants.{Look, Values}
+use Rattle.render_run.specs.declared.question.Question.TheVariants.{Lookup, Values}
 use Rattle.render_run.specs.declared.question.Task.{Task}
 use Rattle.render_run.specs.declared.question.Task.TheVariants.{Ask, Tile}
 use Rattle.render_run.specs.Around.{Tally, tally_of}
-use Rattle.render_run.specs.Needed.{AreNeeded, look_keys, met_keys, empties, is_calm}
+use Rattle.render_run.specs.Needed.{AreNeeded, lookup_keys, met_keys, empties, is_calm}
 use Rattle.render_run.specs.Refusal.{refusal_of}
 use Rattle.render_run.specs.Tallied.{TalliesAs, TalliesAnswer}
 use Rattle.render_run.proofs.GivenLemmas.{kept_told}
@@ -113,18 +113,18 @@ refusal_keeps (refused.Busy b) = refl
 
 module _ (files : Files) (cut : Cut) (file : ℕ) (old new : PassState) where
   -- a refused lookup needs nothing that is counted in its line
-  look_refused : {B : Type 0} → (r : LookupRequest) (e : CacheError B)
-      → AreNeeded files cut (Ask (Some file) (Look r)) (refusal_of e) []
-  look_refused r (refused.BadFile generation fault) = refl
-  look_refused r (refused.TileTooLarge generation) = refl
-  look_refused r (refused.NoLevel generation levels) = refl
-  look_refused r (refused.Outside generation) = refl
-  look_refused r refused.RegionTooLarge = refl
-  look_refused r refused.HoldsFull = refl
-  look_refused r (refused.Again from to) = refl
-  look_refused r refused.ReadFault = refl
-  look_refused r refused.NoMemory = refl
-  look_refused r (refused.Busy b) = refl
+  lookup_refused : {B : Type 0} → (r : LookupRequest) (e : CacheError B)
+      → AreNeeded files cut (Ask (Some file) (Lookup r)) (refusal_of e) []
+  lookup_refused r (refused.BadFile generation fault) = refl
+  lookup_refused r (refused.TileTooLarge generation) = refl
+  lookup_refused r (refused.NoLevel generation levels) = refl
+  lookup_refused r (refused.Outside generation) = refl
+  lookup_refused r refused.RegionTooLarge = refl
+  lookup_refused r refused.HoldsFull = refl
+  lookup_refused r (refused.Again from to) = refl
+  lookup_refused r refused.ReadFault = refl
+  lookup_refused r refused.NoMemory = refl
+  lookup_refused r (refused.Busy b) = refl
 
   region_refused : {B : Type 0} → (r : Region) (e : CacheError B)
       → AreNeeded files cut (Ask (Some file) (Values r)) (refusal_of e) []
@@ -171,12 +171,12 @@ module _ (files : Files) (cut : Cut) (file : ℕ) (old new : PassState) where
   refused_by {B = B} task refused.HoldsFull none kept on =
       refused_kept {B = B} task refused.HoldsFull none kept
 
-  pub look_fails : {B : Type 0} → (r : LookupRequest) (e : CacheError B) → KeepsRecentAt old new e
+  pub lookup_fails : {B : Type 0} → (r : LookupRequest) (e : CacheError B) → KeepsRecentAt old new e
       → CountsOn old new
-      → TalliesAnswer files cut (Ask (Some file) (Look r)) (tally_of old) (tally_of new)
+      → TalliesAnswer files cut (Ask (Some file) (Lookup r)) (tally_of old) (tally_of new)
       (refusal_of e)
-  look_fails r e kept on =
-      refused_by (Ask (Some file) (Look r)) e (look_refused r e) kept on
+  lookup_fails r e kept on =
+      refused_by (Ask (Some file) (Lookup r)) e (lookup_refused r e) kept on
 
   pub region_fails : {B : Type 0} → (r : Region) (e : CacheError B) → KeepsRecentAt old new e
       → CountsOn old new
@@ -318,8 +318,8 @@ module _ (files : Files) (cut : Cut) (file generation : ℕ) (old new : PassStat
       (real : IsReal files file generation)
       (good : ForSome (files.held file generation) (λ bytes. first_fault bytes ≡ None))
       (told : (keys : List ℕ) → ForSome (files.held file generation)
-      (λ bytes. keys ≡ look_keys cut bytes generation file r)
-      → AreNeeded files cut (Ask (Some file) (Look r)) answer keys)
+      (λ bytes. keys ≡ lookup_keys cut bytes generation file r)
+      → AreNeeded files cut (Ask (Some file) (Lookup r)) answer keys)
       (full : empties answer ≡ false) where
     -- a record of bytes that show no fault has a layout
     no_fault : (state : RecordState) → GivesRecord files file cut old.view new.view state
@@ -337,23 +337,23 @@ module _ (files : Files) (cut : Cut) (file generation : ℕ) (old new : PassStat
     none_held (Some bytes) some none = none bytes refl
 
     abbrev keys_by : ℕ → ℕ → Cut → Kept → List ℕ
-    keys_by g f u k = look_keys_on g f u k (asked_visits (sizes_in k u) r)
+    keys_by g f u k = lookup_keys_on g f u k (asked_visits (sizes_in k u) r)
 
     look_at : (state : RecordState) → GivesRecord files file cut old.view new.view state
         → state.generation ≡ generation
         → new.needs ≡ counted_together old.needs (length (visits_on state r))
         → (NoneApart old new → NeedsCells files state (visits_on state r) old new)
         → (layout : Result Kept TiffFault) → state.layout ≡ layout
-        → TalliesAnswer files cut (Ask (Some file) (Look r)) (tally_of old) (tally_of new)
+        → TalliesAnswer files cut (Ask (Some file) (Lookup r)) (tally_of old) (tally_of new)
         answer
     look_at state gives of count needs (Ok kept) is =
         let visits = visits_on state r in
-        needs_tally files cut (Ask (Some file) (Look r)) answer
-        (look_keys_on state.generation state.file state.cut kept visits) old new
-        (told (look_keys_on state.generation state.file state.cut kept visits) (λ bytes held.
+        needs_tally files cut (Ask (Some file) (Lookup r)) answer
+        (lookup_keys_on state.generation state.file state.cut kept visits) old new
+        (told (lookup_keys_on state.generation state.file state.cut kept visits) (λ bytes held.
         let layout = kept_told files file cut old.view new.view state generation (sym of) gives
         (λ (k : Kept). k ≡ kept) (rw is refl) bytes held in
-        ap (λ (l : Result Kept TiffFault). look_keys_on state.generation state.file state.cut kept
+        ap (λ (l : Result Kept TiffFault). lookup_keys_on state.generation state.file state.cut kept
         (asked_visits (sizes_by state.cut l) r)) is
         ∙ ap (λ (g : ℕ). keys_by g state.file state.cut kept) of
         ∙ ap (λ (f : ℕ). keys_by generation f state.cut kept) gives.of_file
@@ -363,7 +363,7 @@ module _ (files : Files) (cut : Cut) (file generation : ℕ) (old new : PassStat
         omega (arith, few)))
         (rw length-map count) on.apart
         (λ none. subst (λ (l : Result Kept TiffFault). IfOk l (λ (k : Kept). Needs files
-        (look_keys_on state.generation state.file state.cut k visits) old new)) is
+        (lookup_keys_on state.generation state.file state.cut k visits) old new)) is
         (needs (none_apart old new on.apart none))) full
     look_at state gives of count needs (Err fault) is = record {
       needed = [];
@@ -378,16 +378,16 @@ module _ (files : Files) (cut : Cut) (file generation : ℕ) (old new : PassStat
 
     look_by : (kept : Option RecordState)
         → IsSomeAnd kept (IsLookedUp files file cut r old new generation)
-        → TalliesAnswer files cut (Ask (Some file) (Look r)) (tally_of old) (tally_of new)
+        → TalliesAnswer files cut (Ask (Some file) (Lookup r)) (tally_of old) (tally_of new)
         answer
     look_by None looked = absurd looked
     look_by (Some state) looked =
         look_at state looked.given looked.of looked.asks.needs looked.needs state.layout refl
 
-    pub look_tally : IsSomeAnd new.latest (IsLookedUp files file cut r old new generation)
-        → TalliesAnswer files cut (Ask (Some file) (Look r)) (tally_of old) (tally_of new)
+    pub lookup_tally : IsSomeAnd new.latest (IsLookedUp files file cut r old new generation)
+        → TalliesAnswer files cut (Ask (Some file) (Lookup r)) (tally_of old) (tally_of new)
         answer
-    look_tally looked = look_by new.latest looked
+    lookup_tally looked = look_by new.latest looked
 
 -- ---- the values of a lookup
 

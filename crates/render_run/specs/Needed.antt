@@ -24,15 +24,15 @@ use Rattle.request_lang.specs.declared.answer.Answer.TheVariants.{Invalidated, R
 use Rattle.request_lang.specs.declared.answer.Answer.TheVariants.{InvalidatedAll}
 use Rattle.request_lang.specs.Basis.{Basis, OnNewer, OnFault, OnMemory}
 use Rattle.render_run.specs.declared.question.Question.{Question}
-use Rattle.render_run.specs.declared.question.Question.TheVariants.{Values, Look}
+use Rattle.render_run.specs.declared.question.Question.TheVariants.{Values, Lookup}
 use Rattle.render_run.specs.declared.question.Task.{Task}
 use Rattle.render_run.specs.declared.question.Task.TheVariants.{Ask, Tile}
 
 -- ---- on the bytes of a generation of a file
 
 -- of a lookup: the cell of each texel that it visits
-abbrev pub look_keys : Cut → List ℕ → ℕ → ℕ → LookupRequest → List ℕ
-look_keys cut bytes generation file r =
+abbrev pub lookup_keys : Cut → List ℕ → ℕ → ℕ → LookupRequest → List ℕ
+lookup_keys cut bytes generation file r =
     map (λ texel. (cell_of generation file cut (kept_of bytes) (at_of texel)).key)
     (asked_visits (sizes_in (kept_of bytes) cut) r)
 
@@ -55,16 +55,16 @@ pub record AreRegionKeys (cut : Cut) (bytes : List ℕ) (generation file : ℕ) 
 
 -- what an answer to a lookup needed: its cells, where the world tells the bytes of the generation that
 -- is answered
-abbrev pub AreLookKeys : Files → Cut → ℕ → Answer → LookupRequest → List ℕ → Type 0
-AreLookKeys files cut n (Tex generation values) (Point r) keys = ForSome
-    (files.held n generation) (λ bytes. keys ≡ look_keys cut bytes generation n (Point r))
-AreLookKeys files cut n (Texd generation values) (Footprint r) keys = ForSome
-    (files.held n generation) (λ bytes. keys ≡ look_keys cut bytes generation n (Footprint r))
-AreLookKeys files cut n line r keys = keys ≡ []
+abbrev pub AreLookupKeys : Files → Cut → ℕ → Answer → LookupRequest → List ℕ → Type 0
+AreLookupKeys files cut n (Tex generation values) (Point r) keys = ForSome
+    (files.held n generation) (λ bytes. keys ≡ lookup_keys cut bytes generation n (Point r))
+AreLookupKeys files cut n (Texd generation values) (Footprint r) keys = ForSome
+    (files.held n generation) (λ bytes. keys ≡ lookup_keys cut bytes generation n (Footprint r))
+AreLookupKeys files cut n line r keys = keys ≡ []
 
 -- What an answer to a question to a file needed: a lookup and a region their cells, and all else none.
 abbrev pub AreNeededOn : Files → Cut → ℕ → Question → Answer → List ℕ → Type 0
-AreNeededOn files cut n (Look r) line keys = AreLookKeys files cut n line r keys
+AreNeededOn files cut n (Lookup r) line keys = AreLookupKeys files cut n line r keys
 AreNeededOn files cut n (Values r) (Pixels generation channels values) keys =
     ForSome (files.held n generation) (λ bytes. AreRegionKeys cut bytes generation n r keys)
 AreNeededOn files cut n q line keys = keys ≡ []

@@ -13,7 +13,7 @@ use Rattle.udim.specs.Udim.{udim_of, is_tile}
 use Rattle.udim.specs.declared.file.Udim.{Udim}
 use Rattle.udim.specs.declared.file.Udim.TheVariants.{Plain, Outside, Tile}
 use Rattle.render_run.specs.declared.question.Question.{Question}
-use Rattle.render_run.specs.declared.question.Question.TheVariants.{Facts, Values, Look, Hold}
+use Rattle.render_run.specs.declared.question.Question.TheVariants.{Facts, Values, Lookup, Hold}
 use Rattle.render_run.specs.declared.question.Question.TheVariants.{Renewal}
 use Rattle.render_run.specs.declared.question.Task.{Task}
 use Rattle.render_run.specs.declared.question.Task.TheVariants as task
@@ -25,18 +25,18 @@ pub record MayAsk (r : Request) : Type 0 where
 
 -- What a worker is given of a lookup: in the file of its name; in no file, where the coordinates lie
 -- in no tile; or in the file of the tile in which they lie, at their place there.
-abbrev pub look_task : (List ℕ → Option ℕ) → LookupRequest → List ℕ → Udim → Task
-look_task number_of r name Plain = task.Ask (number_of name) (Look r)
-look_task number_of r name Outside = task.Ask None (Look r)
-look_task number_of r name (Tile own s t) = task.Tile (number_of own) (Look (moved_to r s t))
+abbrev pub lookup_task : (List ℕ → Option ℕ) → LookupRequest → List ℕ → Udim → Task
+lookup_task number_of r name Plain = task.Ask (number_of name) (Lookup r)
+lookup_task number_of r name Outside = task.Ask None (Lookup r)
+lookup_task number_of r name (Tile own s t) = task.Tile (number_of own) (Lookup (moved_to r s t))
 
 -- what a worker is given of a request: what is asked of the file of its name, which has this number
 -- in the folder, if any, or what is asked of no file
 abbrev pub task_of : (List ℕ → Option ℕ) → Request → Task
 task_of number_of (request.Tex r name) =
-    look_task number_of (Point r) name (udim_of name r.s r.t)
+    lookup_task number_of (Point r) name (udim_of name r.s r.t)
 task_of number_of (request.Texd r name) =
-    look_task number_of (Footprint r) name (udim_of name r.s r.t)
+    lookup_task number_of (Footprint r) name (udim_of name r.s r.t)
 task_of number_of (request.Pixels level x y w h name) =
     task.Ask (number_of name) (Values (record { level = level; x = x; y = y; w = w; h = h }))
 task_of number_of (request.Info name) = task.Ask (number_of name) Facts
@@ -51,16 +51,16 @@ task_of number_of request.Sync = task.Sync
 
 -- What a worker was given of a lookup: what it is to be given, or that no memory was found for the
 -- name of a tile.
-abbrev pub IsLookOf : (List ℕ → Option ℕ) → LookupRequest → List ℕ → Udim → Task → Type 0
-IsLookOf number_of r name means given = (given ≡ look_task number_of r name means)
+abbrev pub IsLookupOf : (List ℕ → Option ℕ) → LookupRequest → List ℕ → Udim → Task → Type 0
+IsLookupOf number_of r name means given = (given ≡ lookup_task number_of r name means)
     ⊎ ((given ≡ task.Unnamed) × IsTrue (is_tile means))
 
 -- what a worker was given of a request
 abbrev pub IsGivenOf : (List ℕ → Option ℕ) → Request → Task → Type 0
 IsGivenOf number_of (request.Tex r name) given =
-    IsLookOf number_of (Point r) name (udim_of name r.s r.t) given
+    IsLookupOf number_of (Point r) name (udim_of name r.s r.t) given
 IsGivenOf number_of (request.Texd r name) given =
-    IsLookOf number_of (Footprint r) name (udim_of name r.s r.t) given
+    IsLookupOf number_of (Footprint r) name (udim_of name r.s r.t) given
 IsGivenOf number_of r given = given ≡ task_of number_of r
 
 -- so it is of each request, in order
@@ -93,7 +93,7 @@ own_file_in task.Sync = None
 
 -- a lookup asks for what it may ask for
 abbrev pub MayBeAsked : Question → Type 0
-MayBeAsked (Look r) = MayBeLookedUp r
+MayBeAsked (Lookup r) = MayBeLookedUp r
 MayBeAsked Facts = ⊤
 MayBeAsked (Values region) = ⊤
 MayBeAsked (Hold at) = ⊤
@@ -113,7 +113,7 @@ AsksWell task.Sync = ⊤
 abbrev pub is_too_large : Question → Bool
 is_too_large (Values region) = nat_lt max_texels (region.w * region.h)
 is_too_large Facts = false
-is_too_large (Look r) = false
+is_too_large (Lookup r) = false
 is_too_large (Hold at) = false
 is_too_large (Renewal force) = false
 
@@ -122,5 +122,5 @@ abbrev pub is_full : ℕ → Question → Bool
 is_full held (Hold at) = held == max_holds
 is_full held Facts = false
 is_full held (Values region) = false
-is_full held (Look r) = false
+is_full held (Lookup r) = false
 is_full held (Renewal force) = false

@@ -18,7 +18,7 @@ use Rattle.texel_values.specs.Region.{AreRegionValues}
 use Rattle.image_cache.specs.Facts.{info_of}
 use Rattle.image_cache.specs.Texel.{IsTexelOf}
 use Rattle.texture_sys.specs.declared.lookup_request.LookupRequest.TheVariants.{Point, Footprint}
-use Rattle.texture_sys.specs.Call.{IsLookOn}
+use Rattle.texture_sys.specs.Call.{IsLookupOn}
 use Rattle.request_lang.specs.declared.request.Request.{Request}
 use Rattle.request_lang.specs.declared.answer.Answer.{Answer}
 use Rattle.request_lang.specs.declared.answer.Answer.TheVariants.{Tex, Texd, Pixels, Info, Synced}
@@ -31,7 +31,7 @@ use Rattle.request_lang.specs.declared.answer.Answer.TheVariants.{Stat, NoMemory
 use Rattle.request_lang.specs.Basis.{Basis, OnBytes, OnNewest, OnNewer, OnNames, OnWords, OnHolds}
 use Rattle.request_lang.specs.Basis.{OnShards, OnFault, OnMemory, basis_of}
 use Rattle.render_run.specs.declared.question.Question.{Question}
-use Rattle.render_run.specs.declared.question.Question.TheVariants.{Facts, Values, Look, Hold}
+use Rattle.render_run.specs.declared.question.Question.TheVariants.{Facts, Values, Lookup, Hold}
 use Rattle.render_run.specs.declared.question.Question.TheVariants.{Renewal}
 use Rattle.render_run.specs.declared.question.Task.{Task}
 use Rattle.render_run.specs.declared.question.Task.TheVariants.{Ask, Tile, Unnamed}
@@ -92,10 +92,10 @@ abbrev pub IsReplyOn : Cut → List ℕ → Question → Answer → Type 0
 IsReplyOn cut bytes q (BadFile generation fault) = first_fault bytes ≡ Some fault
 IsReplyOn cut bytes Facts (Info info) =
     (first_fault bytes ≡ None) × (info ≡ info_of info.generation (kept_of bytes) cut)
-IsReplyOn cut bytes (Look r) (TileTooLarge generation) = HasLargeCell cut bytes
-IsReplyOn cut bytes (Look (Point r)) (Tex generation values) = IsLookOn cut bytes (Point r) values
-IsReplyOn cut bytes (Look (Footprint r)) (Texd generation values) =
-    IsLookOn cut bytes (Footprint r) values
+IsReplyOn cut bytes (Lookup r) (TileTooLarge generation) = HasLargeCell cut bytes
+IsReplyOn cut bytes (Lookup (Point r)) (Tex generation values) = IsLookupOn cut bytes (Point r) values
+IsReplyOn cut bytes (Lookup (Footprint r)) (Texd generation values) =
+    IsLookupOn cut bytes (Footprint r) values
 IsReplyOn cut bytes (Values r) (TileTooLarge generation) = HasLargeCell cut bytes
 IsReplyOn cut bytes (Values r) (NoLevel generation levels) =
     LacksLevelOn cut bytes r.level levels
@@ -116,9 +116,9 @@ IsReplyOn cut bytes q _ = ⊥
 abbrev pub HasForm : Question → Answer → Type 0
 HasForm q (BadFile generation fault) = ⊤
 HasForm Facts (Info info) = ⊤
-HasForm (Look r) (TileTooLarge generation) = ⊤
-HasForm (Look (Point r)) (Tex generation values) = length values ≡ r.nch
-HasForm (Look (Footprint r)) (Texd generation values) = length values ≡ r.nch
+HasForm (Lookup r) (TileTooLarge generation) = ⊤
+HasForm (Lookup (Point r)) (Tex generation values) = length values ≡ r.nch
+HasForm (Lookup (Footprint r)) (Texd generation values) = length values ≡ r.nch
 HasForm (Values r) (TileTooLarge generation) = ⊤
 HasForm (Values r) (NoLevel generation levels) = levels ≤ r.level
 HasForm (Values r) (Pixels generation channels values) = length values ≡ r.h * (r.w * channels)

@@ -21,7 +21,7 @@ pub(crate) enum Question {
     /// The values of a region.
     Values(Region),
     /// The values of a lookup.
-    Look(LookupRequest),
+    Lookup(LookupRequest),
     /// The cell of a texel, to be held.
     Hold(TexelAt),
     /// Its newest generation, with force or without.
@@ -152,9 +152,9 @@ impl<'a> Known<'a> {
     /// A lookup in its file.
     #[inline(always)]
     fn look(self, request: LookupRequest) -> Task
-        ensures { result ≡ Task.Ask (Some self.entry.file) (Question.Look request) }
+        ensures { result ≡ Task.Ask (Some self.entry.file) (Question.Lookup request) }
     {
-        Task::Ask(Some(self.file), Question::Look(request))
+        Task::Ask(Some(self.file), Question::Lookup(request))
     }
 }
 
@@ -202,14 +202,14 @@ pub(crate) fn next_task<'a, F: Folder>(
 fn look<F: Folder>(alloc: Global, folder: &F, name: &Name, request: &LookupRequest) -> Task
     requires entered { IsSome (F.state folder.now).entered }
     requires asked { MayBeLookedUp request.now }
-    ensures value { spec.IsLookOf (F.state folder.now).number_of request.now name.now
+    ensures value { spec.IsLookupOf (F.state folder.now).number_of request.now name.now
         (udim_of name.now (s_asked request.now) (t_asked request.now)) result }
     ensures given { MayBeGiven F.W.files (F.state folder.now).size result }
 {
     let (s, t) = request.place();
     match udim(alloc, name.as_str(), s, t) {
-        Ok(Udim::Plain) => ask(folder, name, Question::Look(*request)),
-        Ok(Udim::Outside) => Task::Ask(None, Question::Look(*request)),
+        Ok(Udim::Plain) => ask(folder, name, Question::Lookup(*request)),
+        Ok(Udim::Outside) => Task::Ask(None, Question::Lookup(*request)),
         Ok(Udim::Tile { name, s, t }) => in_tile(folder, &name, &request.moved_to(s, t)),
         Err(NoMemory) => Task::Unnamed,
     }
@@ -220,10 +220,10 @@ fn in_tile<F: Folder>(folder: &F, name: &Name, request: &LookupRequest) -> Task
     requires entered { IsSome (F.state folder.now).entered }
     requires asked { MayBeLookedUp request.now }
     ensures value { result
-        ≡ Task.Tile ((F.state folder.now).number_of name.now) (Question.Look request.now) }
+        ≡ Task.Tile ((F.state folder.now).number_of name.now) (Question.Lookup request.now) }
     ensures given { MayBeGiven F.W.files (F.state folder.now).size result }
 {
-    Task::Tile(folder.find(name.as_str()), Question::Look(*request))
+    Task::Tile(folder.find(name.as_str()), Question::Lookup(*request))
 }
 
 /// A question to the file of a name.

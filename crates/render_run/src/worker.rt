@@ -81,9 +81,9 @@ impl<T: Tap> Worker<T> {
         match question {
             Question::Facts => self.facts(desk, file),
             Question::Values(region) => self.values(desk, file, region),
-            Question::Look(LookupRequest::Point(request)) => self.look(desk, file, request),
-            Question::Look(LookupRequest::Footprint(request)) => {
-                self.look_along(desk, file, request)
+            Question::Lookup(LookupRequest::Point(request)) => self.look(desk, file, request),
+            Question::Lookup(LookupRequest::Footprint(request)) => {
+                self.lookup_along(desk, file, request)
             }
             Question::Hold(at) => self.hold(desk, file, *at),
             Question::Renewal(force) => self.renewal(desk, file, *force),
@@ -134,7 +134,7 @@ impl<T: Tap> Worker<T> {
         requires by { MayAnswer T.W.files desk.now.cache.now self.old.pass file }
         requires channels { IsChannelCount request.now.nch }
         ensures { WorkerAnswers T.state T.W.files desk.now.cache.now
-            (Task.Ask (Some file) (Question.Look (LookupRequest.Point request.now)))
+            (Task.Ask (Some file) (Question.Lookup (LookupRequest.Point request.now)))
             self.old self.new result }
     {
         let count = request.nch as usize;
@@ -157,7 +157,7 @@ impl<T: Tap> Worker<T> {
     }
 
     /// The values of a lookup along a footprint.
-    fn look_along<R: Wait>(
+    fn lookup_along<R: Wait>(
         &mut self,
         desk: &Desk<'_, R, T>,
         file: u32,
@@ -166,7 +166,7 @@ impl<T: Tap> Worker<T> {
         requires by { MayAnswer T.W.files desk.now.cache.now self.old.pass file }
         requires asked { IsDerivRequest request.now }
         ensures { WorkerAnswers T.state T.W.files desk.now.cache.now
-            (Task.Ask (Some file) (Question.Look (LookupRequest.Footprint request.now)))
+            (Task.Ask (Some file) (Question.Lookup (LookupRequest.Footprint request.now)))
             self.old self.new result }
     {
         let count = request.nch as usize;

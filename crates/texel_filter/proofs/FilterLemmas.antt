@@ -7,7 +7,7 @@ use Rattle.std.proofs.lemmas.Bool.{ne_eqb}
 use Rattle.texel_filter.specs.declared.request.TexRequest.{TexRequest}
 use Rattle.texel_filter.specs.declared.coordinate.LevelPair.{LevelPair}
 use Rattle.texel_filter.specs.Image.{Sizes, Values, Image, AreValues, image_of, texel_of}
-use Rattle.texel_filter.specs.Coordinate.{unit, index_at, level_before, share_of_next_level}
+use Rattle.texel_filter.specs.Coordinate.{unit, index_at, level_before, fraction_of_next_level}
 use Rattle.texel_filter.specs.WrapMode.{wrapped_index}
 use Rattle.texel_filter.specs.Filter.{value_in, closest_in_level, bilinear_sum, bilinear_in_level}
 use Rattle.texel_filter.specs.Filter.{blended_sum, rounded_sum, trilinear_sum, trilinear_value}
@@ -40,7 +40,7 @@ module _ (sizes : Sizes) (r : TexRequest) (l x y : ℕ)
   pub visits_inside : texel_of l x y ∷ [] ≡ texel_visits sizes r l
   visits_inside = rw (column, row)
 
--- where the next level has no share
+-- where the next level has no fraction
 pub sum_alone : (first next : ℕ) → unit * first ≡ blended_sum 0 first next
 sum_alone first next = omega arith
 
@@ -51,49 +51,49 @@ rounded_alone sum =
 
 pub trisum_alone : (image : Image) (r : TexRequest) (l q c : ℕ)
     → l ≡ level_before r.lod image.sizes.levels
-    → q ≡ share_of_next_level r.lod image.sizes.levels → q ≡ 0
+    → q ≡ fraction_of_next_level r.lod image.sizes.levels → q ≡ 0
     → alone_sum image r l c ≡ trilinear_sum image r c
 unfolding trilinear_sum
-trisum_alone image r l q c first share none =
-    rw (← share, none, ← first) (sum_alone _ _)
+trisum_alone image r l q c first fraction none =
+    rw (← fraction, none, ← first) (sum_alone _ _)
 
 pub trilinear_alone : (image : Image) (r : TexRequest) (l q c : ℕ)
     → l ≡ level_before r.lod image.sizes.levels
-    → q ≡ share_of_next_level r.lod image.sizes.levels → q ≡ 0
+    → q ≡ fraction_of_next_level r.lod image.sizes.levels → q ≡ 0
     → bilinear_in_level image r l c ≡ trilinear_value image r c
 unfolding trilinear_value
-trilinear_alone image r l q c first share none =
+trilinear_alone image r l q c first fraction none =
     rounded_alone (bilinear_sum image r l c)
-    ∙ ap rounded_sum (trisum_alone image r l q c first share none)
+    ∙ ap rounded_sum (trisum_alone image r l q c first fraction none)
 
 pub trisum_between : (image : Image) (r : TexRequest) (levels : LevelPair) (c : ℕ)
     → levels.first ≡ level_before r.lod image.sizes.levels
-    → levels.share ≡ share_of_next_level r.lod image.sizes.levels
+    → levels.fraction ≡ fraction_of_next_level r.lod image.sizes.levels
     → between_sum image r levels c ≡ trilinear_sum image r c
 unfolding trilinear_sum
-trisum_between image r levels c first share = rw (← share, ← first)
+trisum_between image r levels c first fraction = rw (← fraction, ← first)
 
 pub trilinear_between : (image : Image) (r : TexRequest) (levels : LevelPair) (c : ℕ)
     → levels.first ≡ level_before r.lod image.sizes.levels
-    → levels.share ≡ share_of_next_level r.lod image.sizes.levels
+    → levels.fraction ≡ fraction_of_next_level r.lod image.sizes.levels
     → between_value image r levels c ≡ trilinear_value image r c
 unfolding trilinear_value
-trilinear_between image r levels c first share =
-    ap rounded_sum (trisum_between image r levels c first share)
+trilinear_between image r levels c first fraction =
+    ap rounded_sum (trisum_between image r levels c first fraction)
 
 pub visits_alone : (sizes : Sizes) (r : TexRequest) (l q : ℕ) → l ≡ level_before r.lod sizes.levels
-    → q ≡ share_of_next_level r.lod sizes.levels → q ≡ 0
+    → q ≡ fraction_of_next_level r.lod sizes.levels → q ≡ 0
     → square_visits sizes r l ≡ trilinear_visits sizes r
 unfolding trilinear_visits
-visits_alone sizes r l q first share none = rw (← share, none, ← first)
+visits_alone sizes r l q first fraction none = rw (← fraction, none, ← first)
 
 pub visits_between : (sizes : Sizes) (r : TexRequest) (levels : LevelPair)
     → levels.first ≡ level_before r.lod sizes.levels
-    → levels.share ≡ share_of_next_level r.lod sizes.levels → levels.share ≢ 0
+    → levels.fraction ≡ fraction_of_next_level r.lod sizes.levels → levels.fraction ≢ 0
     → between_visits sizes r levels ≡ trilinear_visits sizes r
 unfolding trilinear_visits
-visits_between sizes r levels first share some =
-    rw (← share, ne_eqb levels.share 0 some, ← first)
+visits_between sizes r levels first fraction some =
+    rw (← fraction, ne_eqb levels.fraction 0 some, ← first)
 
 -- values that are equal to others
 pub values_like : (v w : ℕ → ℕ) (listed : List ℕ) → ((c : ℕ) → v c ≡ w c) → AreValues v listed

@@ -7,7 +7,7 @@ use Rattle.texel_filter.specs.declared.request.TexRequest.{TexRequest}
 use Rattle.texel_filter.specs.declared.weights.Weights.{Weights}
 use Rattle.texel_filter.specs.Image.{Sizes, Values, image_of}
 use Rattle.texel_filter.specs.WrapMode.{wrapped_index}
-use Rattle.texel_filter.specs.Coordinate.{unit, index_before, share_of_next}
+use Rattle.texel_filter.specs.Coordinate.{unit, index_before, fraction_of_next}
 use Rattle.texel_filter.specs.Filter.{bilinear_sum}
 use Rattle.texel_filter.specs.Visits.{square_visits}
 use Rattle.texel_filter.specs.Square.{AreCorners, texels_of}
@@ -95,7 +95,7 @@ wrapped_of_round sizes values r l round n corners is are = record {
 
 pub sum_at : (sizes : Sizes) (values : Values) (r : TexRequest) (l f g n : ℕ) (corners : Corners)
     (weights : Weights) → AreWrapped (image_of sizes values) r l n corners
-    → f ≡ share_of_next r.s (sizes.width l) → g ≡ share_of_next r.t (sizes.height l)
+    → f ≡ fraction_of_next r.s (sizes.width l) → g ≡ fraction_of_next r.t (sizes.height l)
     → weights.left_top ≡ (unit - f) * (unit - g) → weights.right_top ≡ f * (unit - g)
     → weights.left_bottom ≡ (unit - f) * g → weights.right_bottom ≡ f * g
     → HasSums (image_of sizes values) r l n (record { corners = corners; weights = weights })

@@ -39,8 +39,8 @@ abbrev pub index_before : ℤ → ℕ → ℤ
 index_before s n = rounded_down (from_first_middle s n) unit
 
 -- how far it lies from that middle to the next one, in 1/65536
-abbrev pub share_of_next : ℤ → ℕ → ℕ
-share_of_next s n = left_over (from_first_middle s n) unit
+abbrev pub fraction_of_next : ℤ → ℕ → ℕ
+fraction_of_next s n = left_over (from_first_middle s n) unit
 
 -- ---- levels
 
@@ -57,5 +57,5 @@ abbrev pub level_before : ℕ → ℕ → ℕ
 level_before lod levels = lod_within lod levels / unit
 
 -- how far the LOD lies from that level to the next one, in 1/65536
-abbrev pub share_of_next_level : ℕ → ℕ → ℕ
-share_of_next_level lod levels = lod_within lod levels % unit
+abbrev pub fraction_of_next_level : ℕ → ℕ → ℕ
+fraction_of_next_level lod levels = lod_within lod levels % unit

@@ -6,8 +6,8 @@ use Rattle.texel_filter.specs.declared.request.Filter.{Filter}
 use Rattle.texel_filter.specs.declared.request.Filter.TheVariants.{Closest, Bilinear, Trilinear}
 use Rattle.texel_filter.specs.Image.{Image}
 use Rattle.texel_filter.specs.WrapMode.{wrapped_index}
-use Rattle.texel_filter.specs.Coordinate.{unit, index_at, index_before, share_of_next}
-use Rattle.texel_filter.specs.Coordinate.{nearest_level, level_before, share_of_next_level}
+use Rattle.texel_filter.specs.Coordinate.{unit, index_at, index_before, fraction_of_next}
+use Rattle.texel_filter.specs.Coordinate.{nearest_level, level_before, fraction_of_next_level}
 
 -- a value of the texel in a column and a row; 0 where there is no such column or row
 abbrev pub value_in : (ℕ → ℕ → ℕ → ℕ) → Option ℕ → Option ℕ → ℕ → ℕ
@@ -35,7 +35,7 @@ closest_value image r c = closest_in_level image r (nearest_level r.lod image.si
 
 -- ---- bilinear
 
--- The sum of four values, first those of the upper row, by their weights, where f is the share of
+-- The sum of four values, first those of the upper row, by their weights, where f is the fraction of
 -- the right column and g that of the lower row. The weights are 2 ^ 32 together.
 abbrev pub weighted_sum : ℕ → ℕ → ℕ → ℕ → ℕ → ℕ → ℕ
 weighted_sum f g a b c d =
@@ -46,8 +46,8 @@ unfoldable pub bilinear_sum : Image → TexRequest → ℕ → ℕ → ℕ
 bilinear_sum image r l c =
     let i = index_before r.s (image.sizes.width l) in
     let j = index_before r.t (image.sizes.height l) in
-    let f = share_of_next r.s (image.sizes.width l) in
-    let g = share_of_next r.t (image.sizes.height l) in
+    let f = fraction_of_next r.s (image.sizes.width l) in
+    let g = fraction_of_next r.t (image.sizes.height l) in
     weighted_sum f g
     (wrapped_value image r l i j c) (wrapped_value image r l (i +ℤ pos 1) j c)
     (wrapped_value image r l i (j +ℤ pos 1) c)
@@ -63,7 +63,7 @@ bilinear_value image r c = bilinear_in_level image r (nearest_level r.lod image.
 
 -- ---- trilinear
 
--- two sums by their weights, where q is the share of the second
+-- two sums by their weights, where q is the fraction of the second
 abbrev pub blended_sum : ℕ → ℕ → ℕ → ℕ
 blended_sum q first second = (unit - q) * first + q * second
 
@@ -75,7 +75,7 @@ rounded_sum sum = (sum + 2 ^ 47) / 2 ^ 48
 unfoldable pub trilinear_sum : Image → TexRequest → ℕ → ℕ
 trilinear_sum image r c =
     let l = level_before r.lod image.sizes.levels in
-    let q = share_of_next_level r.lod image.sizes.levels in
+    let q = fraction_of_next_level r.lod image.sizes.levels in
     blended_sum q (bilinear_sum image r l c) (bilinear_sum image r (l + 1) c)
 
 -- the greatest such sum, where each of the values is 65535

@@ -7,7 +7,7 @@ use Rattle.texel_filter.specs.declared.request.Filter.TheVariants.{Closest, Bili
 use Rattle.texel_filter.specs.Image.{Sizes, Texel, texel_of}
 use Rattle.texel_filter.specs.WrapMode.{wrapped_index}
 use Rattle.texel_filter.specs.Coordinate.{index_at, index_before}
-use Rattle.texel_filter.specs.Coordinate.{nearest_level, level_before, share_of_next_level}
+use Rattle.texel_filter.specs.Coordinate.{nearest_level, level_before, fraction_of_next_level}
 
 -- the texel in a column and a row of a level, alone; none where there is no such column or row
 abbrev pub visit_in : ℕ → Option ℕ → Option ℕ → List Texel
@@ -41,11 +41,11 @@ square_visits sizes r l =
 abbrev pub bilinear_visits : Sizes → TexRequest → List Texel
 bilinear_visits sizes r = square_visits sizes r (nearest_level r.lod sizes.levels)
 
--- of trilinear: first the level before the LOD, then the next one where it has a share
+-- of trilinear: first the level before the LOD, then the next one where it has a fraction
 unfoldable pub trilinear_visits : Sizes → TexRequest → List Texel
 trilinear_visits sizes r =
     let l = level_before r.lod sizes.levels in
-    if share_of_next_level r.lod sizes.levels == 0 then square_visits sizes r l
+    if fraction_of_next_level r.lod sizes.levels == 0 then square_visits sizes r l
     else square_visits sizes r l ++ square_visits sizes r (l + 1)
 
 -- by the filter

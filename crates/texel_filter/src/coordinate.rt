@@ -2,7 +2,7 @@ ghost use Rattle.std.specs.Prelude.{◌≡◌, ℕ, ◌+◌, ◌^◌, ◌<◌, �
 ghost use Rattle.texel_filter.specs.Image.{IsSide};
 ghost use Rattle.texel_filter.specs.Coordinate.{unit, rounded_down, left_over};
 ghost use Rattle.texel_filter.specs.Coordinate.{from_first_edge, index_at, index_before};
-ghost use Rattle.texel_filter.specs.Coordinate.{share_of_next, nearest_level};
+ghost use Rattle.texel_filter.specs.Coordinate.{fraction_of_next, nearest_level};
 ghost use Rattle.texel_filter.specs.WrapMode.{wrapped_index};
 ghost use Rattle.texel_filter.specs.Round.{IsPairAt};
 ghost use Rattle.texel_filter.specs.LevelPair.{AreLevelsAt};
@@ -10,7 +10,7 @@ ghost use Rattle.texel_filter.specs.LevelPair.{AreLevelsAt};
 use crate::index::wrap;
 use crate::mode::Wrap;
 
-/// 1 in a coordinate, an LOD and a share.
+/// 1 in a coordinate, an LOD and a fraction.
 pub const UNIT: u64 = 65536;
 
 const HALF_UNIT: u64 = 32768;
@@ -86,7 +86,7 @@ pub struct Between {
     /// The index of the texel before it.
     pub before: i64,
     /// How far it lies from there to the next, in 1/65536.
-    pub share: u32,
+    pub fraction: u32,
 }
 
 impl Between {
@@ -94,13 +94,13 @@ impl Between {
     pub fn at(coordinate: i32, side: u32) -> Between
         requires { IsSide side }
         ensures before { result.before ≡ index_before coordinate side }
-        ensures share { result.share ≡ share_of_next coordinate side }
+        ensures fraction { result.fraction ≡ fraction_of_next coordinate side }
         ensures high { result.before ≤ℤ pos (2 ^ 62) }
     {
         let parts = parts_of(from_edge(coordinate, side) - SIGNED_HALF_UNIT);
         Between {
             before: parts.whole,
-            share: parts.rest,
+            fraction: parts.rest,
         }
     }
 
@@ -155,7 +155,7 @@ pub fn level_near(lod: u32, levels: u32) -> u32
 pub struct LevelPair {
     pub first: u32,
     /// How far the LOD lies from the first to the second, in 1/65536.
-    pub share: u32,
+    pub fraction: u32,
 }
 
 impl LevelPair {
@@ -167,7 +167,7 @@ impl LevelPair {
         let within = u64::from(lod).min(UNIT * u64::from(levels - 1));
         LevelPair {
             first: (within / UNIT) as u32,
-            share: (within % UNIT) as u32,
+            fraction: (within % UNIT) as u32,
         }
     }
 }

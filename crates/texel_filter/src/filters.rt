@@ -14,8 +14,8 @@ use crate::request::{Filter, TexRequest};
 use crate::summing::{sum_between, sum_level};
 use crate::writing::{write_between, write_level, write_one, write_texel};
 
-// The share of a level that has no part in a lookup.
-const NO_SHARE: u32 = 0;
+// The fraction of a level that has no part in a lookup.
+const NO_FRACTION: u32 = 0;
 
 /// Writes the values of the texel in which the coordinates lie.
 #[inline]
@@ -88,7 +88,7 @@ pub fn trilinear<F: Fetch>(f: &mut F, r: &TexRequest, out: &mut [u16]) -> Result
     ensures same { OnErr result (out.new ≡ out.old) }
 {
     let levels = LevelPair::at(r.lod, f.levels());
-    if levels.share == NO_SHARE {
+    if levels.fraction == NO_FRACTION {
         write_level(f, r, levels.first, out)
     } else {
         write_between(f, r, levels, out)
@@ -109,7 +109,7 @@ pub fn trisum<F: Fetch>(f: &mut F, r: &TexRequest, out: &mut [u64]) -> Result<()
     ensures same { OnErr result (out.new ≡ out.old) }
 {
     let levels = LevelPair::at(r.lod, f.levels());
-    if levels.share == NO_SHARE {
+    if levels.fraction == NO_FRACTION {
         sum_level(f, r, levels.first, out)
     } else {
         sum_between(f, r, levels, out)

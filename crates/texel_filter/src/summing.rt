@@ -74,7 +74,7 @@ pub fn sum_between<F: Fetch>(
 ) -> Result<(), F::Error>
     requires room { levels.first + 1 < 2 ^ 32 }
     requires levels { levels.first + 1 < (F.sizes f.old).levels }
-    requires share { levels.share < unit }
+    requires fraction { levels.fraction < unit }
     requires channels { IsChannelCount (length out.old) }
     ensures told { ForSome (F.values f.old) (λ v. OnOk result
         (AreValues (between_sum (image_of (F.sizes f.old) v) r.now levels) out.new)) }
@@ -102,7 +102,7 @@ fn between_upto<F: Fetch>(
 ) -> Result<(), F::Error>
     requires room { levels.first + 1 < 2 ^ 32 }
     requires levels { levels.first + 1 < (F.sizes f.old).levels }
-    requires share { levels.share < unit }
+    requires fraction { levels.fraction < unit }
     requires channels { IsChannelCount n }
     requires count { length out.old ≡ n }
     ensures told { ForSome (F.values f.old) (λ v. OnOk result
@@ -115,6 +115,6 @@ fn between_upto<F: Fetch>(
     let (mut first, mut second) = (Weighted::black(), Weighted::black());
     first.fetch(f, r, levels.first, n)?;
     second.fetch(f, r, levels.first + 1, n)?;
-    first.sums(&second, levels.share, n, out);
+    first.sums(&second, levels.fraction, n, out);
     Ok(())
 }

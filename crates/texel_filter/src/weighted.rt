@@ -61,7 +61,7 @@ impl Weighted {
         let (width, height) = f.size(level);
         let across = Between::at(r.s, width);
         let down = Between::at(r.t, height);
-        self.weights = Weights::of(across.share, down.share);
+        self.weights = Weights::of(across.fraction, down.fraction);
         // Mostly all four are there, and no wrap is asked.
         match (across.first_inside(width), down.first_inside(height)) {
             (Some(left), Some(top)) => {
@@ -104,45 +104,45 @@ impl Weighted {
         }
     }
 
-    /// The same over two levels, by the share of the next one.
+    /// The same over two levels, by the fraction of the next one.
     #[inline(always)]
-    pub fn blend(&self, next: &Weighted, share: u32, n: usize, out: &mut [u16])
-        requires share { share < unit }
+    pub fn blend(&self, next: &Weighted, fraction: u32, n: usize, out: &mut [u16])
+        requires fraction { fraction < unit }
         requires channels { IsChannelCount n }
         requires count { length out.old ≡ n }
         ensures { AreValues (λ c.
-            rounded_sum (blended_sum share (sum_of self.now c) (sum_of next.now c))) out.new }
+            rounded_sum (blended_sum fraction (sum_of self.now c) (sum_of next.now c))) out.new }
     {
         for c in 0..n {
-            let sum = self.sum_with(next, share, c);
+            let sum = self.sum_with(next, fraction, c);
             out[c] = ((sum + HALF_BLEND) >> BLEND_BITS) as u16;
         }
     }
 
     /// Writes those sums as they are.
     #[inline(always)]
-    pub fn sums(&self, next: &Weighted, share: u32, n: usize, out: &mut [u64])
-        requires share { share < unit }
+    pub fn sums(&self, next: &Weighted, fraction: u32, n: usize, out: &mut [u64])
+        requires fraction { fraction < unit }
         requires channels { IsChannelCount n }
         requires count { length out.old ≡ n }
         ensures value { AreValues (λ c.
-            blended_sum share (sum_of self.now c) (sum_of next.now c)) out.new }
+            blended_sum fraction (sum_of self.now c) (sum_of next.now c)) out.new }
         ensures high { AreSums out.new }
     {
         for c in 0..n {
-            out[c] = self.sum_with(next, share, c);
+            out[c] = self.sum_with(next, fraction, c);
         }
     }
 
-    // The sum over two levels of a channel, by the share of the next one.
+    // The sum over two levels of a channel, by the fraction of the next one.
     #[inline(always)]
-    fn sum_with(&self, next: &Weighted, share: u32, c: usize) -> u64
-        requires share { share < unit }
+    fn sum_with(&self, next: &Weighted, fraction: u32, c: usize) -> u64
+        requires fraction { fraction < unit }
         requires channel { c < max_channels }
-        ensures value { result ≡ blended_sum share (sum_of self.now c) (sum_of next.now c) }
+        ensures value { result ≡ blended_sum fraction (sum_of self.now c) (sum_of next.now c) }
         ensures high { result ≤ max_trilinear_sum }
     {
-        let (of_next, of_first) = (u64::from(share), UNIT - u64::from(share));
+        let (of_next, of_first) = (u64::from(fraction), UNIT - u64::from(fraction));
         of_first * self.sum(c) + of_next * next.sum(c)
     }
 }

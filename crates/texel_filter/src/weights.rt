@@ -14,7 +14,7 @@ pub struct Weights {
 }
 
 impl Weights {
-    /// By the share of the right column and that of the lower row.
+    /// By the fraction of the right column and that of the lower row.
     #[inline(always)]
     pub fn of(across: u32, down: u32) -> Weights
         requires across { across < unit }

@@ -13,7 +13,7 @@ use Rattle.image_cache.specs.Texel.{has_cell_at}
 use Rattle.image_cache.specs.Call.{AsksForCellAt, Needs, NoneApart}
 use Rattle.image_cache.proofs.FillLemmas.{if_ok, needs_between}
 use Rattle.image_cache.specs.Fetches.{at_of}
-use Rattle.texture_sys.specs.Needs.{look_keys_on, AsksForEach, AsksForCells}
+use Rattle.texture_sys.specs.Needs.{lookup_keys_on, AsksForEach, AsksForCells}
 
 -- nothing is answered apart between moments at which the counts are the same
 none_to : (a b c : PassState) → SameCounts b c → NoneApart a c → NoneApart a b
@@ -45,7 +45,7 @@ module _ (files : Files) (state : RecordState) where
 
   -- the keys of the cells that hold these texels
   abbrev keys_of : List Texel → Kept → List ℕ
-  keys_of texels kept = look_keys_on state.generation state.file state.cut kept texels
+  keys_of texels kept = lookup_keys_on state.generation state.file state.cut kept texels
 
   each_to : (texels : List Texel) (old mid new : PassState) → KeepsAllBut view_and_record mid new
       → AsksForEach files state texels old mid → AsksForEach files state texels old new

@@ -17,7 +17,7 @@ use Rattle.image_cache.specs.Texel.{has_cell_at, IsStoredAt}
 use Rattle.std.specs.List.{All}
 use Rattle.image_cache.specs.Call.{MovesCellAt, CountsOn}
 use Rattle.image_cache.specs.declared.error.CacheError.TheVariants as refused
-use Rattle.image_cache.specs.Cause.{FetchCause, StepCause, LookRefuses, KeepsRecentAt}
+use Rattle.image_cache.specs.Cause.{FetchCause, StepCause, LookupRefuses, KeepsRecentAt}
 use Rattle.image_cache.specs.Cause.{WantsByOpening}
 use Rattle.image_cache.proofs.TexelLemmas.{cause_since, wants_since}
 use Rattle.image_cache.proofs.UnreadLemmas.{at_fetch}
@@ -132,18 +132,18 @@ module _ (files : Files) (gate : GateState) (state : RecordState) where
 -- ---- a whole lookup
 
 -- why a texel is not fetched is why the lookup is not answered
-look_cause : {B : Type 0} (files : Files) (k : RecordState) (view : ViewState) (a b : TapState)
-    (e : CacheError B) → FetchCause files k view a b e → StepCause files k view a b LookRefuses e
-look_cause files k view a b (refused.Again from to) met = met
-look_cause files k view a b refused.ReadFault rises = rises
-look_cause files k view a b refused.NoMemory free = tt
-look_cause files k view a b (refused.Busy x) free = tt
-look_cause files k view a b (refused.BadFile g fault) none = absurd none
-look_cause files k view a b (refused.TileTooLarge g) none = absurd none
-look_cause files k view a b (refused.NoLevel g levels) none = none
-look_cause files k view a b (refused.Outside g) none = none
-look_cause files k view a b refused.RegionTooLarge none = none
-look_cause files k view a b refused.HoldsFull none = none
+lookup_cause : {B : Type 0} (files : Files) (k : RecordState) (view : ViewState) (a b : TapState)
+    (e : CacheError B) → FetchCause files k view a b e → StepCause files k view a b LookupRefuses e
+lookup_cause files k view a b (refused.Again from to) met = met
+lookup_cause files k view a b refused.ReadFault rises = rises
+lookup_cause files k view a b refused.NoMemory free = tt
+lookup_cause files k view a b (refused.Busy x) free = tt
+lookup_cause files k view a b (refused.BadFile g fault) none = absurd none
+lookup_cause files k view a b (refused.TileTooLarge g) none = absurd none
+lookup_cause files k view a b (refused.NoLevel g levels) none = none
+lookup_cause files k view a b (refused.Outside g) none = none
+lookup_cause files k view a b refused.RegionTooLarge none = none
+lookup_cause files k view a b refused.HoldsFull none = none
 
 module _ {B : Type 0} (files : Files) (gate : GateState) (state : RecordState)
     (texels : List Texel) (p q : PassTap) where
@@ -155,10 +155,10 @@ module _ {B : Type 0} (files : Files) (gate : GateState) (state : RecordState)
 
   pub left_cause : (result : Result (Unit {0}) (CacheError B))
       → LeftBy (Fetches files gate state) (Refuses files gate state) p texels q result
-      → IfErr result (StepCause files state q.pass.view p.tap q.tap LookRefuses)
+      → IfErr result (StepCause files state q.pass.view p.tap q.tap LookupRefuses)
   left_cause (Ok done) left = tt
   left_cause (Err e) left =
-      look_cause files state q.pass.view p.tap q.tap e (one_cause files gate state texels p q e left)
+      lookup_cause files state q.pass.view p.tap q.tap e (one_cause files gate state texels p q e left)
 
   pub left_memory : (result : Result (Unit {0}) (CacheError B))
       → LeftBy (Fetches files gate state) (Refuses files gate state) p texels q result

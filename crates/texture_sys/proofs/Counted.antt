@@ -12,7 +12,7 @@ use Rattle.image_cache.specs.Texel.{has_cell_at, cell_of}
 use Rattle.image_cache.specs.Call.{CountsNeed, CountsOn, Needs, NoneApart}
 use Rattle.image_cache.proofs.FillLemmas.{needs_between, needs_chain, no_needs}
 use Rattle.image_cache.specs.Fetches.{at_of}
-use Rattle.texture_sys.specs.Needs.{look_keys_on, NeedsCells, AsksForEach, AsksForCells}
+use Rattle.texture_sys.specs.Needs.{lookup_keys_on, NeedsCells, AsksForEach, AsksForCells}
 
 -- the counts are of 64 bits
 pub record AreCounts (pass : PassState) : Type 0 where
@@ -94,7 +94,7 @@ module _ (files : Files) (state : RecordState) where
   -- and the microcache was asked for their keys in turn
   keys_in : (kept : Kept) → state.layout ≡ Ok kept → (texels : List Texel) (old new : PassState)
       → AreCounts old → NoneApart old new → AsksForEach files state texels old new
-      → Needs files (look_keys_on state.generation state.file state.cut kept texels) old new
+      → Needs files (lookup_keys_on state.generation state.file state.cut kept texels) old new
   keys_in kept is [] old new are none (same, recent) =
       needs_between files [] old old old new refl (record { needs = refl; hits = refl; apart = refl })
       recent same (no_needs files old are.needs are.hits)
@@ -104,7 +104,7 @@ module _ (files : Files) (state : RecordState) where
       first.need first.apart.later in
       let later = (each_counts texels mid new further.are rest).apart in
       needs_chain files (key ∷ [])
-      (look_keys_on state.generation state.file state.cut kept texels) old mid new
+      (lookup_keys_on state.generation state.file state.cut kept texels) old mid new
       (subst (λ (layout : Result Kept TiffFault). IfOk layout (λ k. Needs files
       ((cell_of state.generation state.file state.cut k (at_of t)).key ∷ []) old mid)) is
       (first.needs (none_first old mid new first.apart.later later none)))
@@ -117,7 +117,7 @@ module _ (files : Files) (state : RecordState) where
     where
       by : (layout : Result Kept TiffFault) → state.layout ≡ layout
           → IfOk layout (λ kept. Needs files
-          (look_keys_on state.generation state.file state.cut kept texels) old new)
+          (lookup_keys_on state.generation state.file state.cut kept texels) old new)
       by (Ok kept) is = keys_in kept is texels old new are none each
       by (Err fault) is = tt
 

@@ -13,7 +13,7 @@ use Rattle.image_cache.specs.declared.error.CacheError.TheVariants as refused
 use Rattle.image_cache.specs.Pass.{PassState}
 use Rattle.image_cache.specs.Pass.{KeepsAllBut, view_and_record}
 use Rattle.image_cache.specs.Call.{IsUnopened, KeepsOne, NoneFalls}
-use Rattle.image_cache.specs.Cause.{OpeningCause, StepCause, LookRefuses, MetNewer}
+use Rattle.image_cache.specs.Cause.{OpeningCause, StepCause, LookupRefuses, MetNewer}
 use Rattle.image_cache.proofs.TexelLemmas.{cause_since}
 use Rattle.texture_sys.specs.Needs.{visits_on, AsksForCells}
 use Rattle.texture_sys.specs.Call.{TextureCause}
@@ -33,7 +33,7 @@ module _ (files : Files) (file : ℕ) (cut : Cut) (old mid new : PassState)
   later : GivesRecord files file cut old.view new.view k
   later = given_later files file cut old.view mid.view new.view k given view
 
-  refusal : (e : CacheError (Unit {0})) → LookRefuses k e
+  refusal : (e : CacheError (Unit {0})) → LookupRefuses k e
       → IsSomeAnd new.latest (IsRefused files file cut old new e)
   refusal e unfit =
       is_kept (IsRefused files file cut old new e) (record { given = later; unfit = unfit })
@@ -54,7 +54,7 @@ module _ (files : Files) (file : ℕ) (cut : Cut) (old mid new : PassState)
   }
 
   after : {B : Type 0} (tap_mid tap_new : TapState) (e : CacheError B) → NoneFalls tap_old tap_mid
-      → StepCause files k new.view tap_mid tap_new LookRefuses e
+      → StepCause files k new.view tap_mid tap_new LookupRefuses e
       → KeepsAfter files file cut old new tap_old tap_new e
   after tap_mid tap_new (refused.BadFile g fault) falls unfit =
       refusal (refused.BadFile g fault) unfit
@@ -76,7 +76,7 @@ module _ (files : Files) (file : ℕ) (cut : Cut) (old mid new : PassState)
       → IfOk result (λ g. g ≡ k.generation)
       → OnOk result (AsksForCells files k (visits_on k r) mid new)
       → NoneFalls tap_old tap_mid
-      → IfErr result (StepCause files k new.view tap_mid tap_new LookRefuses)
+      → IfErr result (StepCause files k new.view tap_mid tap_new LookupRefuses)
       → KeepsRecord files file cut r old new tap_old tap_new result
   texture_kept r tap_mid tap_new (Ok g) same is asks falls cause =
       let asked = asks_from files k (visits_on k r) old mid new same asks in

@@ -19,7 +19,7 @@ use Rattle.texel_filter.specs.Image.{AreValues, image_of}
 use Rattle.texture_sys.specs.Asked.{channels_asked, asked_value}
 use Rattle.image_cache.specs.Sizes.{sizes_known, sizes_by}
 use Rattle.texture_sys.specs.Look.{picture_of}
-use Rattle.texture_sys.specs.Call.{IsLookOn}
+use Rattle.texture_sys.specs.Call.{IsLookupOn}
 
 -- a result is one or the other
 pub by_result : {T E G : Type 0} (r : Result T E) → ((x : T) → r ≡ Ok x → G)
@@ -62,12 +62,12 @@ module _ (bytes : List ℕ) where
   bad_layout layout shown is bad = bad_by (first_fault bytes) layout shown is bad
 
 -- the values of a lookup on a record are those of the lookup on its bytes
-pub look_told : (files : Files) (state : RecordState) (r : LookupRequest) (out bytes : List ℕ)
+pub lookup_told : (files : Files) (state : RecordState) (r : LookupRequest) (out bytes : List ℕ)
     → IsRecord files state → IsOkAnd state.layout (λ kept. CellsFit kept state.cut)
     → length out ≡ (channels_asked r) → files.held state.file state.generation ≡ Some bytes
     → AreValues (asked_value (image_of (sizes_known state) (channel_value_of bytes)) r) out
-    → IsLookOn state.cut bytes r out
-look_told files state r out bytes honest fits long held are =
+    → IsLookupOn state.cut bytes r out
+lookup_told files state r out bytes honest fits long held are =
     let good = good_layout bytes state.layout (λ kept. CellsFit kept state.cut)
     (honest.layout bytes held) fits in
     record {

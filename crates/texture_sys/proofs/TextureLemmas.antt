@@ -15,9 +15,9 @@ use Rattle.texture_sys.specs.declared.lookup_request.LookupRequest.{LookupReques
 use Rattle.image_cache.specs.declared.error.CacheError.{CacheError}
 use Rattle.image_cache.specs.declared.error.CacheError.TheVariants as refused
 use Rattle.image_cache.specs.Call.{NoneFalls}
-use Rattle.image_cache.specs.Cause.{StepCause, LookRefuses}
+use Rattle.image_cache.specs.Cause.{StepCause, LookupRefuses}
 use Rattle.image_cache.proofs.TexelLemmas.{cause_since}
-use Rattle.texture_sys.specs.Call.{IsOfGeneration, IsLookOn, Answers, TextureCause}
+use Rattle.texture_sys.specs.Call.{IsOfGeneration, IsLookupOn, Answers, TextureCause}
 use Rattle.texture_sys.proofs.LookLemmas.{good_layout, bad_layout}
 
 module _ (files : Files) (file : ℕ) (cut : Cut) (old mid new : ViewState) (k : RecordState)
@@ -45,17 +45,17 @@ module _ (files : Files) (file : ℕ) (cut : Cut) (old mid new : ViewState) (k :
 
   pub texture_value : {E : Type 0} (r : LookupRequest) (out : List ℕ) (result : Result ℕ E)
       → IfOk result (λ g. g ≡ k.generation)
-      → ForSome (files.held k.file k.generation) (λ bytes. OnOk result (IsLookOn k.cut bytes r out))
+      → ForSome (files.held k.file k.generation) (λ bytes. OnOk result (IsLookupOn k.cut bytes r out))
       → IfOk result (Answers files file cut r old new out)
   texture_value r out (Ok g) is value = record {
     of = of_generation g is;
-    value = λ bytes held. subst (λ (c : Cut). IsLookOn c bytes r out) given.under
+    value = λ bytes held. subst (λ (c : Cut). IsLookupOn c bytes r out) given.under
         (value bytes (held_as g bytes is held));
   }
   texture_value r out (Err e) is value = tt
 
   pub texture_cause : {B : Type 0} (tap_old tap_mid tap_new : TapState) (e : CacheError B)
-      → NoneFalls tap_old tap_mid → StepCause files k new tap_mid tap_new LookRefuses e
+      → NoneFalls tap_old tap_mid → StepCause files k new tap_mid tap_new LookupRefuses e
       → TextureCause files file cut (sighted old tap_old) (sighted new tap_new) e
   texture_cause tap_old tap_mid tap_new (refused.BadFile g fault) falls bad = (
     of_generation g bad.of_generation,

@@ -16,7 +16,7 @@ use Rattle.image_cache.specs.declared.error.CacheError.{CacheError}
 use Rattle.image_cache.specs.declared.error.CacheError.TheVariants as refused
 use Rattle.image_cache.specs.Pass.{PassState, SamePlace}
 use Rattle.image_cache.specs.Call.{Serves, CountsOn, IsUnopened, KeepsOne, NoneApart}
-use Rattle.image_cache.specs.Cause.{RefusedFor, LookRefuses, MetNewer, MetAtOpening}
+use Rattle.image_cache.specs.Cause.{RefusedFor, LookupRefuses, MetNewer, MetAtOpening}
 use Rattle.image_cache.specs.Cause.{WantsByOpening}
 use Rattle.texture_sys.specs.Look.{look_on}
 use Rattle.texture_sys.specs.Needs.{visits_on, HasCells, AsksForCells, NeedsCells, VisitsStored}
@@ -33,7 +33,7 @@ pub record IsOfGeneration (files : Files) (file : ℕ) (old new : ViewState) (ge
 
 -- The bytes show no fault, each cell takes no more memory than a cell may, and the values are those
 -- of the lookup on them.
-pub record IsLookOn (cut : Cut) (bytes : List ℕ) (r : LookupRequest) (out : List ℕ) : Type 0 where
+pub record IsLookupOn (cut : Cut) (bytes : List ℕ) (r : LookupRequest) (out : List ℕ) : Type 0 where
   pub good : first_fault bytes ≡ None
   pub fits : CellsFit (kept_of bytes) cut
   pub values : out ≡ look_on cut bytes r
@@ -42,7 +42,7 @@ pub record IsLookOn (cut : Cut) (bytes : List ℕ) (r : LookupRequest) (out : Li
 pub record Answers (files : Files) (file : ℕ) (cut : Cut) (r : LookupRequest) (old new : ViewState)
     (out : List ℕ) (generation : ℕ) : Type 0 where
   pub of : IsOfGeneration files file old new generation
-  pub value : ForSome (files.held file generation) (λ bytes. IsLookOn cut bytes r out)
+  pub value : ForSome (files.held file generation) (λ bytes. IsLookupOn cut bytes r out)
 
 -- ---- causes
 
@@ -99,7 +99,7 @@ pub record IsLookedUp (files : Files) (file : ℕ) (cut : Cut) (r : LookupReques
 pub record IsRefused {B : Type 0} (files : Files) (file : ℕ) (cut : Cut) (old new : PassState)
     (e : CacheError B) (state : RecordState) : Type 0 where
   pub given : GivesRecord files file cut old.view new.view state
-  pub unfit : LookRefuses state e
+  pub unfit : LookupRefuses state e
 
 -- A step by the record, whose generation is `from`, met the newer `to`.
 pub record IsOutdated (files : Files) (file : ℕ) (cut : Cut) (old new : PassState)

@@ -38,14 +38,14 @@ VisitsStored r state = All (λ texel. IsStoredAt state (at_of texel)) (visits_on
 -- ---- asking for them
 
 -- the keys of the cells that hold these texels, of a generation of a file
-abbrev pub look_keys_on : ℕ → ℕ → Cut → Kept → List Texel → List ℕ
-look_keys_on generation file cut kept texels =
+abbrev pub lookup_keys_on : ℕ → ℕ → Cut → Kept → List Texel → List ℕ
+lookup_keys_on generation file cut kept texels =
     map (λ texel. (cell_of generation file cut kept (at_of texel)).key) texels
 
 -- The cells of a record that hold these texels were needed in turn.
 abbrev pub NeedsCells : Files → RecordState → List Texel → PassState → PassState → Type 0
 NeedsCells files state texels old new = IfOk state.layout (λ kept. Needs files
-    (look_keys_on state.generation state.file state.cut kept texels) old new)
+    (lookup_keys_on state.generation state.file state.cut kept texels) old new)
 
 -- The pass asked for the cells that hold these texels, one after another.
 abbrev pub AsksForEach : Files → RecordState → List Texel → PassState → PassState → Type 0

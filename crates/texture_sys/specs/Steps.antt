@@ -15,7 +15,7 @@ pub record AfterOpening (file : ℕ) (old new : PassState) : Type 0 where
   pub few : length new.pinned.recent ≤ 2
 
 -- What a lookup on a record leaves.
-pub record AfterLook (state : RecordState) (old new : PassState) : Type 0 where
+pub record AfterLookupOn (state : RecordState) (old new : PassState) : Type 0 where
   pub place : SamePlace old new
   pub view : KeepsView state.file old.view new.view
   pub steps : slice_index old.view.steps state.file ≤ slice_index new.view.steps state.file

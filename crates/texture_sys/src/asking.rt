@@ -11,7 +11,7 @@ use texel_filter::{Fetch, lookup};
 
 /// Writes the values of a lookup.
 #[inline]
-pub(crate) fn look_for<F: Fetch>(
+pub(crate) fn lookup_for<F: Fetch>(
     f: &mut F,
     r: &LookupRequest,
     out: &mut [u16],

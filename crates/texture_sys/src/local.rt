@@ -14,10 +14,10 @@ ghost use Rattle.image_cache.specs.Texel.{IsUnder};
 ghost use Rattle.image_cache.specs.Sizes.{sizes_known, values_known};
 ghost use Rattle.texture_sys.specs.Needs.{visits_on, HasCells, AsksForCells};
 ghost use Rattle.texture_sys.specs.Fetches.{FetchesKept, Lacks};
-ghost use Rattle.texture_sys.specs.Call.{Answers, IsLookOn, IsLookedUp, AfterLookup};
+ghost use Rattle.texture_sys.specs.Call.{Answers, IsLookupOn, IsLookedUp, AfterLookup};
 ghost use Rattle.texture_sys.specs.Call.{ServesLocally};
 
-use crate::asking::look_for;
+use crate::asking::lookup_for;
 use crate::kept::{KeptCells, KeptTexels, Lacking};
 use crate::lookup_request::LookupRequest;
 use image_cache::{Cache, Fitting, Pass};
@@ -59,13 +59,13 @@ pub fn texture_local<T: Tap>(
     let generation = known.generation();
     let r = LookupRequest::Point(*r);
     let fitting = Fitting::of(&known);
-    let looked = look_local(cache, pass, &fitting, &r, out);
+    let looked = lookup_local(cache, pass, &fitting, &r, out);
     cache.keep(pass, known);
     if looked { Some(generation) } else { None }
 }
 
 /// Writes the values of a lookup on a record, where the microcache has all cells that it needs.
-fn look_local<T: Tap>(
+fn lookup_local<T: Tap>(
     cache: &Cache<T>,
     pass: &mut Pass<T::W>,
     known: &Fitting<'_, T::W>,
@@ -81,7 +81,7 @@ fn look_local<T: Tap>(
         ↔ HasCells known.now pass.old.pinned.recent (visits_on known.now r.now) }
     ensures value { IsTrue result →
         ForSome (T.W.files.held known.now.file known.now.generation) (λ bytes.
-        IsLookOn known.now.cut bytes r.now out.new) }
+        IsLookupOn known.now.cut bytes r.now out.new) }
     ensures same { IsFalse result → (out.new ≡ out.old) × (pass.new ≡ pass.old) }
     // What the call leaves.
     ensures asks { IsTrue result → AsksForCells T.W.files known.now (visits_on known.now r.now)
@@ -111,7 +111,7 @@ fn has_cells<T: Tap>(
 {
     let mut cells = KeptCells { cache, pass, known };
     let mut no_values = [0; MAX_CHANNELS];
-    look_for(&mut cells, r, &mut no_values[..r.channels() as usize]).is_ok()
+    lookup_for(&mut cells, r, &mut no_values[..r.channels() as usize]).is_ok()
 }
 
 /// Writes the values of a lookup on a record. The microcache has all cells that it needs.
@@ -129,7 +129,7 @@ fn write_kept<T: Tap>(
     requires count { length out.old ≡ channels_asked r.now }
     requires asked { MayBeLookedUp r.now }
     ensures value { ForSome (T.W.files.held known.now.file known.now.generation) (λ bytes.
-        IsLookOn known.now.cut bytes r.now out.new) }
+        IsLookupOn known.now.cut bytes r.now out.new) }
     ensures asks { AsksForCells T.W.files known.now (visits_on known.now r.now)
         pass.old pass.new }
     ensures counts { CountsOn pass.old pass.new }
@@ -164,5 +164,5 @@ fn fetch_kept<T: Tap>(
     ensures err { OnErr result (out.new ≡ out.old) }
 {
     let mut texels = KeptTexels { cache, pass, known };
-    look_for(&mut texels, r, out)
+    lookup_for(&mut texels, r, out)
 }

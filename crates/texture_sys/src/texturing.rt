@@ -8,17 +8,17 @@ ghost use Rattle.file_table.specs.Calls.{sighted, GivesRecord, OpensIfAtAll};
 ghost use Rattle.shard_gate.specs.Since.{PurgesNone};
 ghost use Rattle.image_cache.specs.Pass.{IsPassOf};
 ghost use Rattle.image_cache.specs.Call.{AfterNeed, CountsOn, NoneFalls};
-ghost use Rattle.image_cache.specs.Cause.{OpeningCause, StepCause, LookRefuses, KeepsRecentAt};
+ghost use Rattle.image_cache.specs.Cause.{OpeningCause, StepCause, LookupRefuses, KeepsRecentAt};
 ghost use Rattle.image_cache.specs.Cause.{WantsByOpening};
 ghost use Rattle.image_cache.specs.Texel.{IsUnder};
 ghost use Rattle.texture_sys.specs.Asked.{channels_asked, MayBeLookedUp};
 ghost use Rattle.texture_sys.specs.Needs.{visits_on, HasCells, AsksForCells, VisitsStored};
-ghost use Rattle.texture_sys.specs.Call.{Answers, IsLookOn, TextureCause, MemoryCause};
+ghost use Rattle.texture_sys.specs.Call.{Answers, IsLookupOn, TextureCause, MemoryCause};
 ghost use Rattle.texture_sys.specs.Call.{AfterLookup, KeepsRecord};
 ghost use Rattle.texture_sys.specs.Call.{IsReady, IsWarm, AnswersWarm};
-ghost use Rattle.texture_sys.specs.Steps.{AfterOpening, AfterLook};
+ghost use Rattle.texture_sys.specs.Steps.{AfterOpening, AfterLookupOn};
 
-use crate::asking::look_for;
+use crate::asking::lookup_for;
 use crate::lookup_request::LookupRequest;
 use file_table::Record;
 use image_cache::{Cache, CacheError, FileRecord, Pass, Reading, fits_cut};
@@ -63,7 +63,7 @@ pub(crate) fn texture_of<V: Waiter, T: Tap>(
         (sighted pass.new.view (T.state tap.new)) result) }
 {
     let known = record_of(cache, waiter, pass, tap, file)?;
-    look_at(cache, waiter, pass, tap, known, r, out)
+    lookup_at(cache, waiter, pass, tap, known, r, out)
 }
 
 /// The record of the newest known generation of a file: the one that the pass keeps, or else one
@@ -103,7 +103,7 @@ fn record_of<V: Waiter, T: Tap>(
 }
 
 /// Writes the values of a lookup on a record, which the pass then keeps, whatever is answered.
-fn look_at<V: Waiter, T: Tap>(
+fn lookup_at<V: Waiter, T: Tap>(
     cache: &Cache<T>,
     waiter: &V,
     pass: &mut Pass<T::W>,
@@ -121,13 +121,13 @@ fn look_at<V: Waiter, T: Tap>(
     requires asked { MayBeLookedUp r.now }
     ensures ok { IfOk result (λ generation. generation ≡ known.value.generation) }
     ensures value { ForSome (T.W.files.held known.value.file known.value.generation) (λ bytes.
-        OnOk result (IsLookOn known.value.cut bytes r.now out.new)) }
+        OnOk result (IsLookupOn known.value.cut bytes r.now out.new)) }
     ensures cause { IfErr result (StepCause T.W.files known.value pass.new.view
-        (T.state tap.old) (T.state tap.new) LookRefuses) }
+        (T.state tap.old) (T.state tap.new) LookupRefuses) }
     ensures err { OnErr result (out.new ≡ out.old) }
     ensures unread { IfErr result (KeepsRecentAt pass.old pass.new) }
     // What the call leaves.
-    ensures same { AfterLook known.value pass.old pass.new }
+    ensures same { AfterLookupOn known.value pass.old pass.new }
     ensures asks { OnOk result (AsksForCells T.W.files known.value (visits_on known.value r.now)
         pass.old pass.new) }
     ensures tap { NoneFalls (T.state tap.old) (T.state tap.new) }
@@ -164,9 +164,9 @@ fn look_up<V: Waiter, T: Tap>(
     requires count { length out.old ≡ channels_asked r.now }
     requires asked { MayBeLookedUp r.now }
     ensures value { ForSome (T.W.files.held known.now.file known.now.generation) (λ bytes.
-        OnOk result (IsLookOn known.now.cut bytes r.now out.new)) }
+        OnOk result (IsLookupOn known.now.cut bytes r.now out.new)) }
     ensures cause { IfErr result (StepCause T.W.files known.now pass.new.view
-        (T.state tap.old) (T.state tap.new) LookRefuses) }
+        (T.state tap.old) (T.state tap.new) LookupRefuses) }
     ensures err { OnErr result (out.new ≡ out.old) }
     ensures unread { IfErr result (KeepsRecentAt pass.old pass.new) }
     // What the call leaves.
@@ -195,5 +195,5 @@ fn look_up<V: Waiter, T: Tap>(
         tap,
         known: &lent,
     };
-    look_for(&mut reading, r, out)
+    lookup_for(&mut reading, r, out)
 }

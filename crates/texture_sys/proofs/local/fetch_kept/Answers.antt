@@ -6,9 +6,9 @@ use Rattle.texture_sys.proofs.local.fetch_kept.Goals as goal
 
 pub returns-clause-left : goal.returns-clause-left
 returns-clause-left g c =
-    let pass = left_same c.look_for.new.f _ _ c.look_for.result _ _ c.look_for.ensures.left
+    let pass = left_same c.lookup_for.new.f _ _ c.lookup_for.result _ _ c.lookup_for.ensures.left
     (λ f. f.pass.ghost_name) (λ a b t p. p.0) (λ a b t e p. p.0) in
-    let back : c.look_for.new.f.pass.now ≡ c.pass-1.given.0 = search (rules, pass) in
+    let back : c.lookup_for.new.f.pass.now ≡ c.pass-1.given.0 = search (rules, pass) in
     rw (← back)
-    (left_as c.look_for.new.f _ _ c.look_for.result _ _ c.look_for.ensures.left (λ f. f.known.now)
+    (left_as c.lookup_for.new.f _ _ c.lookup_for.result _ _ c.lookup_for.ensures.left (λ f. f.known.now)
     (λ f. f.pass.now) (FetchesKept g.T.W.World.files) Lacks (λ a b t p. (p.1, p.2)) (λ a b t e p. (p.1, p.2)))

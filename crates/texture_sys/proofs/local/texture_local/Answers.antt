@@ -3,7 +3,7 @@ use Rattle.std.proofs.Common.{◌≡◌, List, ℕ, Ok, Result, Some, refl, sym,
 use Rattle.file_table.specs.Record.{RecordState}
 use Rattle.file_table.specs.Calls.{GivesRecord}
 use Rattle.texture_sys.specs.declared.lookup_request.LookupRequest.TheVariants.{Point}
-use Rattle.texture_sys.specs.Call.{IsLookOn}
+use Rattle.texture_sys.specs.Call.{IsLookupOn}
 use Rattle.texture_sys.specs.Needs.{visits_on, AsksForCells}
 use Rattle.texture_sys.proofs.TextureLemmas.{texture_value}
 use Rattle.texture_sys.proofs.KeptRecord.{local_kept}
@@ -21,14 +21,14 @@ returns-then-looked-clause-kept g c =
     let given : GivesRecord g.T.W.World.files c.args.file c.args.cache.now.gate.cut
     c.args.pass.now.view c.keep.new.pass.view c.in-Some.known.value = search rules in
     local_kept g.T.W.World.files c.args.file c.args.cache.now.gate.cut (Point c.args.r.now)
-    c.args.pass.now c.local.new.pass c.look_local-looked.new.pass c.keep.new.pass k
+    c.args.pass.now c.local.new.pass c.lookup_local-looked.new.pass c.keep.new.pass k
     c.generation-generation.result given
     c.keep.ensures.kept
     (sym (c.generation-generation.ensures.value ∙ ap (λ (k : RecordState). k.generation)
     of_generation))
     c.in-Some.ensures.same
     (subst (λ (k : RecordState). AsksForCells g.T.W.World.files k (visits_on k (Point c.args.r.now)) c.local.new.pass
-    c.look_local-looked.new.pass) (c.of-fitting.ensures ∙ of_fitting) (c.if-looked.ensures.asks refl))
+    c.lookup_local-looked.new.pass) (c.of-fitting.ensures ∙ of_fitting) (c.if-looked.ensures.asks refl))
     c.keep.ensures.same
 
 pub returns-then-looked-clause-value : goal.returns-then-looked-clause-value
@@ -40,10 +40,10 @@ returns-then-looked-clause-value g c =
     c.args.pass.now.view c.local.new.pass.view c.in-Some.known.value = search rules in
     texture_value g.T.W.World.files c.args.file c.args.cache.now.gate.cut c.args.pass.now.view
     c.local.new.pass.view c.keep.new.pass.view k given (search rules) (Point c.args.r.now)
-    c.look_local-looked.new.out (ok_of c.generation-generation.result)
+    c.lookup_local-looked.new.out (ok_of c.generation-generation.result)
     (c.generation-generation.ensures.value ∙ ap (λ (k : RecordState). k.generation)
     of_generation)
     (λ bytes held. subst (λ (k : RecordState).
     g.T.W.World.files.held k.file k.generation ≡ Some bytes
-    → IsLookOn k.cut bytes (Point c.args.r.now) c.look_local-looked.new.out) (c.of-fitting.ensures ∙ of_fitting)
+    → IsLookupOn k.cut bytes (Point c.args.r.now) c.lookup_local-looked.new.out) (c.of-fitting.ensures ∙ of_fitting)
     (c.if-looked.ensures.value refl bytes) held)

@@ -5,12 +5,12 @@ use Rattle.tile_layout.specs.Value.{channel_value_of}
 use Rattle.file_table.specs.Record.{RecordState, IsRecord}
 use Rattle.texture_sys.specs.Needs.{visits_on}
 use Rattle.texture_sys.proofs.KeptChains.{kept_leaves, kept_asks, kept_counts, kept_none}
-use Rattle.texture_sys.proofs.LookLemmas.{look_told}
+use Rattle.texture_sys.proofs.LookLemmas.{lookup_told}
 use Rattle.texture_sys.proofs.local.write_kept.Goals as goal
 
 pub returns-clause-value : goal.returns-clause-value
 returns-clause-value g c bytes held =
-    look_told g.T.W.World.files c.args.known.now c.args.r.now c.fetch_kept.new.out bytes
+    lookup_told g.T.W.World.files c.args.known.now c.args.r.now c.fetch_kept.new.out bytes
     (subst (λ (k : RecordState). IsRecord g.T.W.World.files k) c.record.ensures.value
     c.generation-generation.ensures.told) c.record.ensures.serves (omega arith) held
     (c.in-Ok.ensures.told (channel_value_of bytes) (ap (option_map channel_value_of) held))

@@ -13,36 +13,36 @@ use Rattle.texture_sys.proofs.texturing.texture_of.Goals as goal
 pub returns-clause-value : goal.returns-clause-value
 returns-clause-value g c =
     texture_value g.T.W.World.files c.args.file c.args.cache.now.gate.cut c.args.pass.now.view
-    c.record_of.new.pass.view c.look_at.new.pass.view c.in_ok-known.known.value c.in_ok-known.ensures.ok
-    c.look_at.ensures.same.view c.args.r.now c.look_at.new.out c.look_at.result
-    c.look_at.ensures.ok c.look_at.ensures.value
+    c.record_of.new.pass.view c.lookup_at.new.pass.view c.in_ok-known.known.value c.in_ok-known.ensures.ok
+    c.lookup_at.ensures.same.view c.args.r.now c.lookup_at.new.out c.lookup_at.result
+    c.lookup_at.ensures.ok c.lookup_at.ensures.value
 
 pub returns-clause-cause : goal.returns-clause-cause
 returns-clause-cause g c =
-    by_error c.look_at.result c.look_at.ensures.cause (λ e cause.
+    by_error c.lookup_at.result c.lookup_at.ensures.cause (λ e cause.
     texture_cause g.T.W.World.files c.args.file c.args.cache.now.gate.cut c.args.pass.now.view
-    c.record_of.new.pass.view c.look_at.new.pass.view c.in_ok-known.known.value c.in_ok-known.ensures.ok
-    c.look_at.ensures.same.view (g.T.Tap.state c.args.tap.now)
-    (g.T.Tap.state c.record_of.new.tap) (g.T.Tap.state c.look_at.new.tap) e c.in_ok-known.ensures.tap
+    c.record_of.new.pass.view c.lookup_at.new.pass.view c.in_ok-known.known.value c.in_ok-known.ensures.ok
+    c.lookup_at.ensures.same.view (g.T.Tap.state c.args.tap.now)
+    (g.T.Tap.state c.record_of.new.tap) (g.T.Tap.state c.lookup_at.new.tap) e c.in_ok-known.ensures.tap
     cause)
 
 pub returns-clause-kept : goal.returns-clause-kept
 returns-clause-kept g c =
     texture_kept g.T.W.World.files c.args.file c.args.cache.now.gate.cut c.args.pass.now
-    c.record_of.new.pass c.look_at.new.pass (g.T.Tap.state c.args.tap.now)
+    c.record_of.new.pass c.lookup_at.new.pass (g.T.Tap.state c.args.tap.now)
     c.in_ok-known.known.value c.in_ok-known.ensures.ok
-    c.look_at.ensures.same.view c.look_at.ensures.same.latest c.args.r.now
-    (g.T.Tap.state c.record_of.new.tap) (g.T.Tap.state c.look_at.new.tap) c.look_at.result
-    c.in_ok-known.ensures.same.keeps c.look_at.ensures.ok c.look_at.ensures.asks
-    c.in_ok-known.ensures.tap c.look_at.ensures.cause
+    c.lookup_at.ensures.same.view c.lookup_at.ensures.same.latest c.args.r.now
+    (g.T.Tap.state c.record_of.new.tap) (g.T.Tap.state c.lookup_at.new.tap) c.lookup_at.result
+    c.in_ok-known.ensures.same.keeps c.lookup_at.ensures.ok c.lookup_at.ensures.asks
+    c.in_ok-known.ensures.tap c.lookup_at.ensures.cause
 
 pub returns-clause-warm : goal.returns-clause-warm
 returns-clause-warm g c =
     texture_warm c.args.file c.args.r.now c.args.pass.now c.record_of.new.pass
-    c.look_at.new.pass (g.T.Tap.state c.args.tap.now) (g.T.Tap.state c.record_of.new.tap)
-    (g.T.Tap.state c.look_at.new.tap) c.in_ok-known.known.value c.look_at.result
-    (c.look_at.ensures.same.view.later c.args.file) c.in_ok-known.ensures.same.keeps.tiles.recent
-    c.look_at.ensures.warm c.args.pass.now.latest c.in_ok-known.ensures.ready
+    c.lookup_at.new.pass (g.T.Tap.state c.args.tap.now) (g.T.Tap.state c.record_of.new.tap)
+    (g.T.Tap.state c.lookup_at.new.tap) c.in_ok-known.known.value c.lookup_at.result
+    (c.lookup_at.ensures.same.view.later c.args.file) c.in_ok-known.ensures.same.keeps.tiles.recent
+    c.lookup_at.ensures.warm c.args.pass.now.latest c.in_ok-known.ensures.ready
 
 pub returns-in_err-known-clause-kept : goal.returns-in_err-known-clause-kept
 returns-in_err-known-clause-kept g c =
@@ -66,7 +66,7 @@ returns-in_err-known-clause-cause g c =
 pub returns-clause-visits : goal.returns-clause-visits
 returns-clause-visits g c =
     visits_after c.args.cache.now.gate c.args.pass.now.pinned.seat c.record_of.new.pass.pinned.seat
-    c.look_at.new.pass.pinned.seat c.in_ok-known.ensures.seat c.look_at.ensures.visits
+    c.lookup_at.new.pass.pinned.seat c.in_ok-known.ensures.seat c.lookup_at.ensures.visits
 
 pub returns-in_err-known-clause-visits : goal.returns-in_err-known-clause-visits
 returns-in_err-known-clause-visits g c =
@@ -77,9 +77,9 @@ pub returns-clause-unread : goal.returns-clause-unread
 returns-clause-unread g c =
     let old : PassState = c.args.pass.now in
     let mid : PassState = c.record_of.new.pass in
-    let new : PassState = c.look_at.new.pass in
-    unread_between c.look_at.result old mid new new
-    (recent_of old mid c.in_ok-known.ensures.same.keeps) (recent_same new) c.look_at.ensures.unread
+    let new : PassState = c.lookup_at.new.pass in
+    unread_between c.lookup_at.result old mid new new
+    (recent_of old mid c.in_ok-known.ensures.same.keeps) (recent_same new) c.lookup_at.ensures.unread
 
 pub returns-in_err-known-clause-unread : goal.returns-in_err-known-clause-unread
 returns-in_err-known-clause-unread g c =

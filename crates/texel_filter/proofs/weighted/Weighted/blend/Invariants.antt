@@ -6,4 +6,4 @@ use Rattle.texel_filter.proofs.weighted.Weighted.blend.Given as goal
 abbrev pub invariant-loop-c : goal.invariant-loop-c
 invariant-loop-c l =
     (k : ℕ) → k < l.c
-    → get_or l.out k 0 ≡ rounded_sum (blended_sum l.share (sum_of l.self k) (sum_of l.next k))
+    → get_or l.out k 0 ≡ rounded_sum (blended_sum l.fraction (sum_of l.self k) (sum_of l.next k))

@@ -1,6 +1,6 @@
 use Rattle.std.proofs.Common.{◌≡◌, pos, arith}
 use Rattle.std.proofs.lemmas.Int.{to_z-of_z}
-use Rattle.texel_filter.specs.Coordinate.{index_before, share_of_next}
+use Rattle.texel_filter.specs.Coordinate.{index_before, fraction_of_next}
 use Rattle.texel_filter.proofs.CallLemmas.{on_ok}
 use Rattle.texel_filter.proofs.RoundLemmas.{wrapped_of_square, visits_of_square, sum_at}
 use Rattle.texel_filter.proofs.weighted.Weighted.fetch.Goals as goal
@@ -17,9 +17,9 @@ returns-in-Some-Some-clause-told g c = λ values is.
     let gits = rw c.size-width.ensures.value at c.in-Some-Some.ensures'.inside in
     let across : index_before r.s (sizes.width l) ≡ pos x = grind (arith, to_z-of_z) in
     let down : index_before r.t (sizes.height l) ≡ pos y = grind (arith, to_z-of_z) in
-    let f : c.at-across.result.share ≡ share_of_next r.s (sizes.width l) =
+    let f : c.at-across.result.fraction ≡ fraction_of_next r.s (sizes.width l) =
     grind (arith, to_z-of_z) in
-    let h : c.at-down.result.share ≡ share_of_next r.t (sizes.height l) =
+    let h : c.at-down.result.fraction ≡ fraction_of_next r.t (sizes.height l) =
     grind (arith, to_z-of_z) in
     on_ok c.square.result (c.square.ensures.told values is)
     (λ corners. sum_at sizes values r l _ _ _ _ c.of-self.result
@@ -46,9 +46,9 @@ returns-in_default-clause-told g c = λ values is.
     let l = c.args.level in
     let sizes = g.F.Fetch.sizes c.args.f.now in
     let w = c.of-self.ensures in
-    let f : c.at-across.result.share ≡ share_of_next r.s (sizes.width l) =
+    let f : c.at-across.result.fraction ≡ fraction_of_next r.s (sizes.width l) =
     grind (arith, to_z-of_z) in
-    let h : c.at-down.result.share ≡ share_of_next r.t (sizes.height l) =
+    let h : c.at-down.result.fraction ≡ fraction_of_next r.t (sizes.height l) =
     grind (arith, to_z-of_z) in
     on_ok c.fetch_wrapped.result (c.fetch_wrapped.ensures.told values is)
     (λ corners. sum_at sizes values r l _ _ _ _ c.of-self.result corners

@@ -5,11 +5,11 @@ use Rattle.tile_layout.specs.Cell.{CellsFit}
 use Rattle.file_table.specs.Record.{RecordState}
 use Rattle.image_cache.specs.Pass.{PassState}
 use Rattle.image_cache.proofs.UnreadLemmas.{recent_of, recent_same, at_between}
-use Rattle.texture_sys.specs.Call.{IsLookOn}
+use Rattle.texture_sys.specs.Call.{IsLookupOn}
 use Rattle.texture_sys.specs.Needs.{visits_on, HasCells, AsksForCells}
 use Rattle.texture_sys.proofs.Asked.{asks_to}
 use Rattle.texture_sys.proofs.Visits.{visits_before}
-use Rattle.texture_sys.proofs.texturing.look_at.Goals as goal
+use Rattle.texture_sys.proofs.texturing.lookup_at.Goals as goal
 
 pub returns-in-Ok-clause-asks : goal.returns-in-Ok-clause-asks
 returns-in-Ok-clause-asks g c =
@@ -59,7 +59,7 @@ returns-in-Ok-clause-value g c = λ bytes held.
     let k : RecordState = c.args.known.value in
     let of_lookup : c.deref-2.result.now ≡ k = search rules in
     subst (λ (x : RecordState). g.T.W.World.files.held x.file x.generation ≡ Some bytes
-    → IsLookOn x.cut bytes c.args.r.now c.look_up-looked.new.out) of_lookup
+    → IsLookupOn x.cut bytes c.args.r.now c.look_up-looked.new.out) of_lookup
     (c.in-Ok.ensures.value bytes) held
 
 pub returns-in-Err-clause-warm : goal.returns-in-Err-clause-warm

@@ -1,9 +1,9 @@
 use Rattle.std.proofs.Common.{◌≡◌, ◌∙◌, length, refl, sym, rules}
 use Rattle.texture_sys.specs.declared.lookup_request.LookupRequest.TheVariants.{Footprint}
 use Rattle.request_lang.specs.declared.answer.Answer.TheVariants as line
-use Rattle.render_run.proofs.NeedLemmas.{look_tally, look_fails, first_of}
+use Rattle.render_run.proofs.NeedLemmas.{lookup_tally, lookup_fails, first_of}
 use Rattle.render_run.proofs.PinLemmas.{refusal_tells}
-use Rattle.render_run.proofs.worker.Worker.look_along.Goals as goal
+use Rattle.render_run.proofs.worker.Worker.lookup_along.Goals as goal
 
 pub returns-in-Ok : goal.returns-in-Ok
 returns-in-Ok g c =
@@ -23,7 +23,7 @@ returns-in-Ok g c =
         };
         pins = λ shards is. absurd cc;
         after = search rules;
-        tallies = look_tally g.T.W.World.files c.args.desk.now.cache.now.gate.cut c.args.file
+        tallies = lookup_tally g.T.W.World.files c.args.desk.now.cache.now.gate.cut c.args.file
             c.in-Ok.generation c.args.self.now.pass c.texture_d.new.pass
             (Footprint c.args.request.now) (line.Texd c.in-Ok.generation c.few.result)
             c.texture_d.ensures.same.counts c.in-Ok.ensures.value.of.real
@@ -41,7 +41,7 @@ returns-in-Err g c = record {
     pins = rw c.refusal.ensures (refusal_tells _ _ c.in-Err.e);
     after = search rules;
     tallies = rw c.refusal.ensures
-        (look_fails g.T.W.World.files c.args.desk.now.cache.now.gate.cut c.args.file
+        (lookup_fails g.T.W.World.files c.args.desk.now.cache.now.gate.cut c.args.file
         c.args.self.now.pass c.texture_d.new.pass (Footprint c.args.request.now) c.in-Err.e
         c.in-Err.ensures.unread c.texture_d.ensures.same.counts);
   };

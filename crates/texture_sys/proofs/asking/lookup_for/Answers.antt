@@ -1,5 +1,5 @@
 -- Each kind of lookup has its own values.
-use Rattle.texture_sys.proofs.asking.look_for.Goals as goal
+use Rattle.texture_sys.proofs.asking.lookup_for.Goals as goal
 
 pub returns-in-Point-clause-told : goal.returns-in-Point-clause-told
 returns-in-Point-clause-told g c = λ v is. rw c.in-Point.is (c.lookup.ensures.told v is)
