@@ -1,10 +1,9 @@
 -- The lines of a list one after the other, as a loop reads them.
-use Rattle.std.proofs.Common.{◌≡◌, ℕ, zero, suc, ◌+◌, ◌-◌, ◌<◌, ◌≤◌, ◌==◌, Bool, true, false}
+use Rattle.std.proofs.Common.{◌≡◌, ℕ, zero, suc, ◌+◌, ◌-◌, ◌<◌, ◌≤◌, ◌==◌, true, false}
 use Rattle.std.proofs.Common.{List, [], ◌∷◌, ◌++◌, length, get_or, take, drop}
 use Rattle.std.proofs.Common.{Ok, Err, refl, sym, ap, ◌∙◌, append_assoc, add-one, arith}
 use Rattle.std.proofs.lemmas.Bool.{le-leb, lt-leb}
 use Rattle.std.proofs.lemmas.List.{append-nil, take_rest}
-use Rattle.memchr.specs.Find.{NoneBefore, Nowhere, Passes, is_byte}
 use Rattle.request_lang.specs.declared.request.Request.{Request}
 use Rattle.request_lang.specs.declared.cause.Cause.{Cause}
 use Rattle.request_lang.specs.declared.cause.Cause.TheVariants.{TooLong}
@@ -15,31 +14,6 @@ use Rattle.request_lang.specs.Grammar.{before_rest, behind, bad_at}
 use Rattle.request_lang.specs.Grammar.{requests_of, list_of, Parsed, max_list_bytes, whole_list}
 
 -- ---- the first line
-
--- a test that does not hold is false
-not_true : (b : Bool) → (b ≡ true → ⊥) → b ≡ false
-not_true true none = absurd (none refl)
-not_true false none = refl
-
--- a line ends at the first line feed, or with the bytes where there is none
-pub ends_at_feed : (bytes : List ℕ) (k : ℕ)
-    → NoneBefore (Passes (is_byte 10) bytes) 0 (length bytes) k × Passes (is_byte 10) bytes k
-    → IsLineEnd bytes k
-ends_at_feed bytes k found = record {
-  within = omega (arith, found.0.high);
-  before = λ i lt. not_true (get_or bytes i 0 == 10) (found.0.before i (omega arith) lt);
-  here = λ _. found.1;
-}
-
-pub ends_with_bytes : (bytes : List ℕ) → Nowhere (Passes (is_byte 10) bytes) 0 (length bytes)
-    → IsLineEnd bytes (length bytes)
-ends_with_bytes bytes nowhere = record {
-  within = omega arith;
-  before = λ i lt. not_true (get_or bytes i 0 == 10) (nowhere i (omega arith) lt);
-  here = λ lt. absurd (omega arith);
-}
-
-pub ruleset line_end = (ends_at_feed, ends_with_bytes)
 
 -- a line feed at i, and none before it, end the first line
 lines_of_cut : (bytes : List ℕ) (i : ℕ) → i < length bytes → (get_or bytes i 0 == 10) ≡ true

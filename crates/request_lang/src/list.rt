@@ -5,13 +5,12 @@ ghost use Rattle.std.specs.Str.{IsAscii};
 ghost use Rattle.std.specs.Option.{IfNone, IfSome};
 ghost use Rattle.request_lang.specs.RequestForm as form;
 ghost use Rattle.request_lang.specs.Grammar as spec;
-ghost use Rattle.request_lang.specs.LineEnd.{IsLineEnd};
+ghost use Rattle.request_lang.specs.LineEnd.{IsLineEnd, AreEightOthers};
 ghost use Rattle.request_lang.specs.Parsing.{Parses, Gives, refused_at};
 
 use crate::cause::{Cause, ParseError, Refusal};
 use crate::request::Request;
 use crate::request_form::request_of;
-use memchr::memchr;
 use std::alloc::Global;
 
 /// The most bytes that a list has.
@@ -23,16 +22,34 @@ const MAX_REQUESTS: usize = 1048576;
 /// What stands for all of the list in place of a line.
 const WHOLE_LIST: u32 = 0;
 
-/// How many bytes stand before the first line feed: all where there is none.
+/// None of eight bytes is a line feed.
 #[inline(always)]
-#[tactic(auto, using(crate::proofs::LineLemmas::line_end))]
+fn has_no_feed(bytes: &[u8], at: usize) -> bool
+    requires { at + 8 ≤ length bytes.now }
+    ensures { IsTrue result → AreEightOthers bytes.now at }
+{
+    (bytes[at] != b'\n')
+        & (bytes[at + 1] != b'\n')
+        & (bytes[at + 2] != b'\n')
+        & (bytes[at + 3] != b'\n')
+        & (bytes[at + 4] != b'\n')
+        & (bytes[at + 5] != b'\n')
+        & (bytes[at + 6] != b'\n')
+        & (bytes[at + 7] != b'\n')
+}
+
+/// How many bytes stand before the first line feed: all where there is none.
 fn line_bytes(bytes: &[u8]) -> usize
     ensures { IsLineEnd bytes.now result }
 {
-    match memchr(b'\n', bytes) {
-        Some(end) => end,
-        None => bytes.len(),
+    let mut end = 0;
+    'eights: while bytes.len() - end >= 8 && has_no_feed(bytes, end) {
+        end += 8;
     }
+    'bytes: while end < bytes.len() && bytes[end] != b'\n' {
+        end += 1;
+    }
+    end
 }
 
 /// The first line of what is left of a list, and what stands behind it.
