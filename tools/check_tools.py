@@ -161,8 +161,9 @@ def check_folder(program, folder):
     found = printed(TOOLS / "folder_info.py", folder, program)
     wrong = compare("folder_info.py", found, "\n".join(FILES[it] for it in sorted(FILES)) + "\n")
     (folder / "list").write_text("pixels 0 0 0 80 48 B.tif\n" * 20, encoding="ascii")
-    rows = printed(TOOLS / "hit_curve.py", folder, folder / "list", "--program", program, "--most", "4", "--svg",
-                   folder / "curve.svg").splitlines()
+    # with one worker, since several may each read what the others read at that moment
+    rows = printed(TOOLS / "hit_curve.py", folder, folder / "list", "--program", program, "--workers", "1",
+                   "--most", "4", "--svg", folder / "curve.svg").splitlines()
     budgets = [it.split()[0] for it in rows[1:-2]]
     # its four cells are needed each time, and two cells are no more than kept between
     needs = "80 cells were needed, and 0 of them were among the two that their worker had needed last"
