@@ -7,7 +7,7 @@ use Rattle.texel_filter.specs.declared.request.DerivRequest.{DerivRequest}
 use Rattle.texel_filter.specs.declared.request.Filter.{Filter}
 use Rattle.texel_filter.specs.declared.request.Filter.TheVariants.{Closest, Bilinear, Trilinear}
 use Rattle.texel_filter.specs.Image.{Sizes, Texel}
-use Rattle.texel_filter.specs.Coordinate.{share_of_next_level, level_before, nearest_level, index_at}
+use Rattle.texel_filter.specs.Coordinate.{fraction_of_next_level, level_before, nearest_level, index_at}
 use Rattle.texel_filter.specs.Coordinate.{index_before}
 use Rattle.texel_filter.specs.WrapMode.{wrapped_index}
 use Rattle.texel_filter.specs.Visits.{visit_in, square_visits, trilinear_visits, lookup_visits}
@@ -67,7 +67,7 @@ module _ (sizes : Sizes) (r : TexRequest) where
   trilinear_few : length (trilinear_visits sizes r) ≤ 8
   unfolding trilinear_visits
   trilinear_few =
-      pair_few (share_of_next_level r.lod sizes.levels == 0) (level_before r.lod sizes.levels)
+      pair_few (fraction_of_next_level r.lod sizes.levels == 0) (level_before r.lod sizes.levels)
       (level_before r.lod sizes.levels + 1)
 
   by_filter : (f : Filter) → length (visits_by f sizes r) ≤ 8
