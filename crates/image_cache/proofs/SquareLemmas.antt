@@ -35,7 +35,7 @@ use Rattle.image_cache.specs.Texel.{has_cell_at, IsTexelOf, IsTexelIn}
 use Rattle.image_cache.specs.Call.{CountsNeed, Needs}
 use Rattle.image_cache.specs.Pass.{KeepsAllBut, recent_and_counts}
 use Rattle.image_cache.specs.Square.{left_top, right_top, left_bottom, right_bottom}
-use Rattle.image_cache.specs.Square.{LieInOne, LieInOneOf, MeetsAt, MeetsSquare}
+use Rattle.image_cache.specs.Square.{LieInOne, LieInOneOf, HasEach, MeetsAt, MeetsSquare, MeetsRest}
 use Rattle.image_cache.proofs.NeedLemmas.{needs_hit}
 use Rattle.image_cache.proofs.TexelLemmas.{at_cell, asks_at, told_by_record}
 
@@ -209,6 +209,70 @@ meets_square files state square cell old new is one has asked asks first stays k
       to_last = meets_again files state cell (right_bottom square) three_more new each.last first
           stays refl (record { needs = last_need; hits = last_hit }) refl
           (same_but_counts new n3 h3 new.needs new.hits kept.tiles.few);
+    }
+
+-- the same of the three behind the first
+pub meets_rest : (files : Files) (state : RecordState) (square : Square) (cell : CellAt)
+    (old new : PassState)
+    → IsCellIn state (left_top square) cell → LieInOneOf state square
+    → has_cell cell old.pinned.recent ≡ true
+    → IsAsked key_in old.pinned.recent cell.key true new.pinned.recent
+    → AsksFor cell.key old.pinned.recent new.pinned.recent
+    → StandsFirst cell new.pinned.recent → StaysAskedFor cell.key new.pinned.recent
+    → KeepsAllBut recent_and_counts old new → new.needs ≡ counted_together old.needs 3
+    → new.hits ≡ counted_together old.hits 3 → new.apart ≡ old.apart
+    → MeetsRest files state square old new
+meets_rest files state square cell old new is one has asked asks first stays kept needs hits apart =
+    let each = cell_of_each state square cell is one in
+    let n1 = counted old.needs in
+    let h1 = counted old.hits in
+    let n2 = counted n1 in
+    let h2 = counted h1 in
+    let one_more = with_counts new n1 h1 in
+    let two_more = with_counts new n2 h2 in
+    let last_need : new.needs ≡ counted n2 = omega (arith, needs) in
+    let last_hit : new.hits ≡ counted h2 = omega (arith, hits) in
+    record {
+      second = one_more;
+      third = two_more;
+      to_second = meets_first files state cell (right_top square) old one_more each.second has asked asks
+          (record { needs = refl; hits = refl }) apart
+          (record {
+            place = record {
+              board = kept.place.board;
+              gate = kept.place.gate;
+              cut = kept.place.cut;
+              permits = kept.place.permits;
+            };
+            seat = kept.seat;
+            view = kept.view;
+            tiles = record {
+              few = kept.tiles.few;
+              holds = kept.tiles.holds;
+              hand = kept.tiles.hand;
+            };
+            counts = tt;
+            latest = kept.latest;
+          });
+      to_third = meets_again files state cell (left_bottom square) one_more two_more each.third first
+          stays refl (record { needs = refl; hits = refl }) refl
+          (same_but_counts new n1 h1 n2 h2 kept.tiles.few);
+      to_last = meets_again files state cell (right_bottom square) two_more new each.last first
+          stays refl (record { needs = last_need; hits = last_hit }) refl
+          (same_but_counts new n2 h2 new.needs new.hits kept.tiles.few);
+    }
+
+-- where the microcache has the one cell of all four it has that of each
+pub each_had : (state : RecordState) (square : Square) (cell : CellAt) (tiles : List CachedTile)
+    → IsCellIn state (left_top square) cell → LieInOneOf state square
+    → has_cell cell tiles ≡ true → HasEach state square tiles
+each_had state square cell tiles is one has =
+    let each = cell_of_each state square cell is one in
+    record {
+      left_top_had = has_at state (left_top square) cell tiles each.first ∙ has;
+      right_top_had = has_at state (right_top square) cell tiles each.second ∙ has;
+      left_bottom_had = has_at state (left_bottom square) cell tiles each.third ∙ has;
+      right_bottom_had = has_at state (right_bottom square) cell tiles each.last ∙ has;
     }
 
 -- ---- which cell holds them

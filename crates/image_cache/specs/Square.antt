@@ -1,7 +1,9 @@
 -- When has a microcache all four texels of a square, and what do they leave, one after another?
-use Rattle.std.specs.Prelude.{◌≡◌, true, IsTrue, IsOkAnd, List}
+use Rattle.std.specs.Prelude.{◌≡◌, ℕ, true, IsTrue, IsOkAnd, List, [], ◌∷◌}
 use Rattle.tex_world.specs.World.{Files}
 use Rattle.texel_filter.specs.declared.square.Square.{Square}
+use Rattle.texel_filter.specs.declared.square.Corners.{Corners}
+use Rattle.texel_filter.specs.Image.{Values, Texel, texel_of, AreFirst}
 use Rattle.tiff_format.specs.declared.cut.Cut.{Cut}
 use Rattle.tile_layout.specs.Kept.{Kept}
 use Rattle.tile_store.specs.Tile.{CachedTile}
@@ -27,6 +29,17 @@ left_bottom square = record { level = square.level; x = square.left; y = square.
 abbrev pub right_bottom : Square → TexelAt
 right_bottom square = record { level = square.level; x = square.right; y = square.bottom }
 
+-- those behind the first
+abbrev pub rest_of : Square → List Texel
+rest_of square =
+    texel_of square.level square.right square.top ∷ texel_of square.level square.left square.bottom
+    ∷ texel_of square.level square.right square.bottom ∷ []
+
+-- the first of the corners has its values, in the first so many channels
+abbrev pub HasLeftTop : Values → Square → ℕ → Corners → Type 0
+HasLeftTop values square channels corners =
+    AreFirst channels (values square.level square.left square.top) corners.left_top
+
 -- they lie in a level of the record
 pub record IsSquareIn (state : RecordState) (square : Square) : Type 0 where
   pub first : IsTexelIn state (left_top square)
@@ -47,6 +60,13 @@ LieInOneOf state square = IsOkAnd state.layout (λ kept. LieInOne kept state.cut
 abbrev pub HasSquareAt : RecordState → Square → List CachedTile → Type 0
 HasSquareAt state square tiles =
     LieInOneOf state square × IsTrue (has_cell_at state (left_top square) tiles)
+
+-- the microcache has the cell of each
+pub record HasEach (state : RecordState) (square : Square) (tiles : List CachedTile) : Type 0 where
+  pub left_top_had : has_cell_at state (left_top square) tiles ≡ true
+  pub right_top_had : has_cell_at state (right_top square) tiles ≡ true
+  pub left_bottom_had : has_cell_at state (left_bottom square) tiles ≡ true
+  pub right_bottom_had : has_cell_at state (right_bottom square) tiles ≡ true
 
 -- ---- what they leave
 
@@ -70,5 +90,14 @@ pub record MeetsSquare (files : Files) (state : RecordState) (square : Square)
   pub third : PassState
   pub to_first : MeetsAt files state (left_top square) old first
   pub to_second : MeetsAt files state (right_top square) first second
+  pub to_third : MeetsAt files state (left_bottom square) second third
+  pub to_last : MeetsAt files state (right_bottom square) third new
+
+-- The three behind the first were read so, one after another.
+pub record MeetsRest (files : Files) (state : RecordState) (square : Square)
+    (old new : PassState) : Type 0 where
+  pub second : PassState
+  pub third : PassState
+  pub to_second : MeetsAt files state (right_top square) old second
   pub to_third : MeetsAt files state (left_bottom square) second third
   pub to_last : MeetsAt files state (right_bottom square) third new

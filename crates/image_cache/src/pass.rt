@@ -139,6 +139,17 @@ impl<W: World> Pass<W> {
         self.hits = self.hits.saturating_add(4);
     }
 
+    /// Counts three.
+    pub(crate) fn count_three(&mut self)
+        ensures needs { self.new.needs ≡ counted_together self.old.needs 3 }
+        ensures hits { self.new.hits ≡ counted_together self.old.hits 3 }
+        ensures apart { self.new.apart ≡ self.old.apart }
+        ensures kept { CountsAlone self.old self.new }
+    {
+        self.needs = self.needs.saturating_add(3);
+        self.hits = self.hits.saturating_add(3);
+    }
+
     /// Counts a need that is answered apart.
     pub(crate) fn count_apart(&mut self)
         ensures apart { self.new.apart ≡ counted self.old.apart }

@@ -8,7 +8,8 @@ ghost use Rattle.texel_values.specs.Square.{HoldsSquare};
 ghost use Rattle.pinned_tiles.specs.Cell.{StandsFirst};
 ghost use Rattle.image_cache.specs.Pass.{IsPassOf};
 ghost use Rattle.image_cache.specs.Texel.{IsKnownTo, IsCellAt};
-ghost use Rattle.image_cache.specs.Square.{left_top, IsSquareIn, HasSquareAt, MeetsSquare};
+ghost use Rattle.image_cache.specs.Square.{left_top, IsSquareIn, HasSquareAt, HasEach};
+ghost use Rattle.image_cache.specs.Square.{MeetsSquare, MeetsRest};
 
 use crate::cache::Cache;
 use crate::pass::Pass;
@@ -58,6 +59,60 @@ impl<T: Tap> Cache<T> {
         pass.count_four();
         self.write_corners(pass, known, &cell, square, channels, out);
         true
+    }
+
+    /// The same once the first of the four was read: what three calls of `fetch_local` do with the
+    /// others.
+    pub(crate) fn fetch_rest_local(
+        &self,
+        pass: &mut Pass<T::W>,
+        known: &Record<T::W>,
+        square: &Square,
+        channels: usize,
+        out: &mut Corners,
+    ) -> bool
+        requires pass { IsPassOf self.now pass.old }
+        requires known { IsKnownTo self.now known.now }
+        requires inside { IsSquareIn known.now square.now }
+        requires channels { IsChannelCount channels }
+        ensures value { IsTrue result →
+            ForSome (T.W.files.held known.now.file known.now.generation) (λ bytes.
+            AreCorners (channel_value_of bytes) square.now channels out.new) }
+        // What the call leaves of the pass, where it has the cell.
+        ensures met { IsTrue result →
+            MeetsRest T.W.files known.now square.now pass.old pass.new }
+        // And where not.
+        ensures same { IsFalse result → (pass.new ≡ pass.old) × (out.new ≡ out.old) }
+    {
+        // it has no more files than a folder can have
+        let _files = self.files.board();
+        let Some(cell) = cell_of_square(known, square) else {
+            return false;
+        };
+        if !pass.pinned.turn_to(&cell) {
+            return false;
+        }
+        pass.count_three();
+        self.write_corners(pass, known, &cell, square, channels, out);
+        true
+    }
+
+    /// Whether the microcache has one cell that holds all four texels of a square. It changes
+    /// nothing.
+    #[inline(always)]
+    pub fn has_square_local(&self, pass: &Pass<T::W>, known: &Record<T::W>, square: &Square) -> bool
+        requires pass { IsPassOf self.now pass.now }
+        requires known { IsKnownTo self.now known.now }
+        requires inside { IsSquareIn known.now square.now }
+        ensures has { IsTrue result ↔ HasSquareAt known.now square.now pass.now.pinned.recent }
+        ensures each { IsTrue result → HasEach known.now square.now pass.now.pinned.recent }
+    {
+        // it has no more files than a folder can have
+        let _files = self.files.board();
+        match cell_of_square(known, square) {
+            Some(cell) => pass.pinned.has(&cell),
+            None => false,
+        }
     }
 
     /// Writes the values of the texels of a square by the tile of their cell, which stands first in

@@ -5,6 +5,7 @@ ghost use Rattle.texel_filter.specs.Image.{IsInside, IsChannelCount, AreValues, 
 ghost use Rattle.texel_filter.specs.Square.{texels_of, HasSquare, AreCorners};
 ghost use Rattle.texel_filter.specs.Calls.{LeftBy};
 ghost use Rattle.image_cache.specs.Sizes.{sizes_known, values_known};
+ghost use Rattle.image_cache.specs.Square.{rest_of, HasLeftTop};
 ghost use Rattle.image_cache.specs.Fetches.{FetchesBy, RefusesBy};
 
 use crate::error::CacheError;
@@ -93,7 +94,8 @@ impl<'a, V: Waiter, T: Tap> Reading<'a, V, T> {
         cache.fetch(self.waiter, self.pass, self.tap, known, at, out)
     }
 
-    /// The same of the four texels of a square, one after another, the upper row first.
+    /// The same of the four texels of a square, one after another, the upper row first. Where the first
+    /// one brings a cell that holds all of them, the others are read from it at once.
     fn fetch_four(
         &mut self,
         square: &Square,
@@ -110,11 +112,59 @@ impl<'a, V: Waiter, T: Tap> Reading<'a, V, T> {
         let Square {
             level,
             left,
+            top,
+            ..
+        } = *square;
+        self.fetch_at(level, left, top, &mut out.left_top[..channels])?;
+        self.fetch_rest(square, channels, out)
+    }
+
+    /// The same of the three behind the first, whose values stand there.
+    fn fetch_rest(
+        &mut self,
+        square: &Square,
+        channels: usize,
+        out: &mut Corners,
+    ) -> Result<(), CacheError<V::Busy>>
+        requires inside { HasSquare (sizes_known self.old.known.now) square.now }
+        requires channels { IsChannelCount channels }
+        ensures told { ForSome (values_known T.W.files self.old.known.now) (λ v.
+            HasLeftTop v square.now channels out.old
+            → OnOk result (AreCorners v square.now channels out.new)) }
+        ensures left { LeftBy (FetchesBy T.W.files) (RefusesBy T.W.files)
+            self.old (rest_of square.now) self.new result }
+    {
+        if self
+            .cache
+            .fetch_rest_local(self.pass, self.known.record(), square, channels, out)
+        {
+            return Ok(());
+        }
+        self.fetch_three(square, channels, out)
+    }
+
+    /// The same of them, one after another.
+    fn fetch_three(
+        &mut self,
+        square: &Square,
+        channels: usize,
+        out: &mut Corners,
+    ) -> Result<(), CacheError<V::Busy>>
+        requires inside { HasSquare (sizes_known self.old.known.now) square.now }
+        requires channels { IsChannelCount channels }
+        ensures told { ForSome (values_known T.W.files self.old.known.now) (λ v.
+            HasLeftTop v square.now channels out.old
+            → OnOk result (AreCorners v square.now channels out.new)) }
+        ensures left { LeftBy (FetchesBy T.W.files) (RefusesBy T.W.files)
+            self.old (rest_of square.now) self.new result }
+    {
+        let Square {
+            level,
+            left,
             right,
             top,
             bottom,
         } = *square;
-        self.fetch_at(level, left, top, &mut out.left_top[..channels])?;
         self.fetch_at(level, right, top, &mut out.right_top[..channels])?;
         self.fetch_at(level, left, bottom, &mut out.left_bottom[..channels])?;
         self.fetch_at(level, right, bottom, &mut out.right_bottom[..channels])

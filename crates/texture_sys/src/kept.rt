@@ -152,6 +152,13 @@ impl<'a, T: Tap> Fetch for KeptCells<'a, T> {
         channels: usize,
         out: &mut Corners,
     ) -> Result<(), Lacking> {
+        // one cell for all four, or each its own; no values are looked at
+        if self
+            .cache
+            .has_square_local(self.pass, self.known.record(), square)
+        {
+            return Ok(());
+        }
         let Square {
             level,
             left,

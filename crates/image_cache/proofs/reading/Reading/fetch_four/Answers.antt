@@ -1,53 +1,23 @@
--- Four texels, one after another.
-use Rattle.std.proofs.Common.{arith, ap, ◌∙◌, inl, inr}
-use Rattle.std.proofs.lemmas.Result.{err_from_is_err_and}
+-- The first of four texels, and those behind it.
+use Rattle.std.proofs.Common.{arith, ap, ◌∙◌}
 use Rattle.texel_filter.specs.Image.{texel_of}
-use Rattle.texel_filter.proofs.CallLemmas.{left_by_four, first_of_part, on_ok}
+use Rattle.texel_filter.proofs.CallLemmas.{left_after, first_of_part}
 use Rattle.image_cache.specs.Sizes.{values_known}
+use Rattle.image_cache.specs.Square.{rest_of}
 use Rattle.image_cache.specs.Fetches.{FetchesBy, RefusesBy}
 use Rattle.image_cache.proofs.reading.Reading.fetch_four.Goals as goal
 
 pub returns-clause-left : goal.returns-clause-left
 returns-clause-left g c =
     let q = c.args.square.now in
-    left_by_four (FetchesBy g.T.W.World.files) (RefusesBy g.T.W.World.files) c.args.self.now
-    c.fetch_at.new.self c.fetch_at-2.new.self c.fetch_at-3.new.self c.fetch_at-4.new.self
-    (texel_of q.level q.left q.top) (texel_of q.level q.right q.top)
-    (texel_of q.level q.left q.bottom) (texel_of q.level q.right q.bottom) c.fetch_at-4.result
-    c.in_ok-fetch_at.ensures.ok c.in_ok-fetch_at-2.ensures.ok c.in_ok-fetch_at-3.ensures.ok
-    c.fetch_at-4.ensures.ok c.fetch_at-4.ensures.err
-
-pub returns-in_err-fetch_at-2-clause-left : goal.returns-in_err-fetch_at-2-clause-left
-returns-in_err-fetch_at-2-clause-left g c =
-    let p = err_from_is_err_and c.from_residual-in_err-fetch_at-2.result
-    c.from_residual-in_err-fetch_at-2.ensures.1 in
-    rw (p.1, p.2)
-    (inr (c.fetch_at.new.self, c.in_ok-fetch_at.ensures.ok, inl c.in_err-fetch_at-2.ensures.err))
-
-pub returns-in_err-fetch_at-3-clause-left : goal.returns-in_err-fetch_at-3-clause-left
-returns-in_err-fetch_at-3-clause-left g c =
-    let p = err_from_is_err_and c.from_residual-in_err-fetch_at-3.result
-    c.from_residual-in_err-fetch_at-3.ensures.1 in
-    rw (p.1, p.2)
-    (inr (
-      c.fetch_at.new.self,
-      c.in_ok-fetch_at.ensures.ok,
-      inr (c.fetch_at-2.new.self, c.in_ok-fetch_at-2.ensures.ok, inl c.in_err-fetch_at-3.ensures.err),
-    ))
+    left_after (FetchesBy g.T.W.World.files) (RefusesBy g.T.W.World.files) c.args.self.now
+    c.fetch_at.new.self c.fetch_rest.new.self (texel_of q.level q.left q.top) (rest_of q)
+    c.fetch_rest.result c.in_ok-fetch_at.ensures.ok c.fetch_rest.ensures.left
 
 pub returns-clause-told : goal.returns-clause-told
 returns-clause-told g c = λ values is.
     let files = g.T.W.World.files in
     let k1 = ap (values_known files) (ap (λ k. k.now) c.in_ok-fetch_at.ensures.ok.call.known) ∙ is in
-    let k2 = ap (values_known files) (ap (λ k. k.now) c.in_ok-fetch_at-2.ensures.ok.call.known) ∙ k1 in
-    let k3 = ap (values_known files) (ap (λ k. k.now) c.in_ok-fetch_at-3.ensures.ok.call.known) ∙ k2 in
     let h1 = c.in_ok-fetch_at.ensures.told values is in
-    let h2 = c.in_ok-fetch_at-2.ensures.told values k1 in
-    let h3 = c.in_ok-fetch_at-3.ensures.told values k2 in
-    let h4 = c.fetch_at-4.ensures.told values k3 in
-    on_ok c.fetch_at-4.result h4 (λ last. record {
-      left_top = first_of_part _ c.fetch_at.new.out _ c.args.channels (omega arith) h1;
-      right_top = first_of_part _ c.fetch_at-2.new.out _ c.args.channels (omega arith) h2;
-      left_bottom = first_of_part _ c.fetch_at-3.new.out _ c.args.channels (omega arith) h3;
-      right_bottom = first_of_part _ c.fetch_at-4.new.out _ c.args.channels (omega arith) last;
-    })
+    c.fetch_rest.ensures.told values k1
+    (first_of_part _ c.fetch_at.new.out _ c.args.channels (omega arith) h1)

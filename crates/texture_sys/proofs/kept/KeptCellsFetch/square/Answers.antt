@@ -1,8 +1,30 @@
--- Four calls of `texel`, one after another.
-use Rattle.std.proofs.Common.{inl, inr, refl}
+-- One cell for all four, or four calls of `texel`, one after another.
+use Rattle.std.proofs.Common.{inl, inr, refl, subst}
 use Rattle.std.proofs.lemmas.Result.{err_from_is_err_and}
+use Rattle.file_table.specs.Record.{RecordState}
+use Rattle.image_cache.specs.Square.{HasEach}
 use Rattle.texture_sys.proofs.LookLemmas.{by_result}
 use Rattle.texture_sys.proofs.kept.KeptCellsFetch.square.Goals as goal
+
+pub returns-then-has_square_local-clause-left : goal.returns-then-has_square_local-clause-left
+returns-then-has_square_local-clause-left g c =
+    let s = c.args.self.now in
+    let q = c.args.square.now in
+    let each : HasEach s.known.now q s.pass.now.pinned.recent =
+    subst (λ (r : RecordState). HasEach r q s.pass.now.pinned.recent) c.record.ensures.value
+    (c.has_square_local.ensures.each c.if-has_square_local.true) in (
+      s,
+      (refl, record { has = each.left_top_had; same = refl }),
+      (
+        s,
+        (refl, record { has = each.right_top_had; same = refl }),
+        (
+          s,
+          (refl, record { has = each.left_bottom_had; same = refl }),
+          (s, (refl, record { has = each.right_bottom_had; same = refl }), refl),
+        ),
+      ),
+    )
 
 pub returns-in_err-texel-2-clause-left : goal.returns-in_err-texel-2-clause-left
 returns-in_err-texel-2-clause-left g c =

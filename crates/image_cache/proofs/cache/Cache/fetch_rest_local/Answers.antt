@@ -1,0 +1,34 @@
+-- The microcache is turned to the cell of all four, of which the first was read.
+use Rattle.std.proofs.Common.{◌≡◌, true, refl, sym, subst, ◌∙◌, rules}
+use Rattle.micro.specs.Runs.{IsAsked}
+use Rattle.pinned_tiles.specs.Pinned.{key_in, PinnedState, AsksFor, StaysAskedFor}
+use Rattle.pinned_tiles.specs.Cell.{has_cell, StandsFirst}
+use Rattle.image_cache.specs.Pass.{PassState}
+use Rattle.image_cache.specs.Pass.{KeepsAllBut, recent_and_counts}
+use Rattle.image_cache.proofs.SquareLemmas.{meets_rest}
+use Rattle.image_cache.proofs.cache.Cache.fetch_rest_local.Goals as goal
+
+pub returns-clause-met : goal.returns-clause-met
+returns-clause-met g c = λ _.
+    let cell = c.in-Some.cell in
+    let old : PassState = c.args.pass.now in
+    let new : PassState = c.count_three.new.self in
+    let is = c.if-not-turn_to.false in
+    let was = c.pass.view_is in
+    let pinned = c.count_three.ensures.kept.pinned in
+    let kept : KeepsAllBut recent_and_counts old new = search rules in
+    meets_rest g.T.W.World.files c.args.known.now c.args.square.now cell old new c.in-Some.ensures.cell.is
+    (c.in-Some.ensures.one.0 refl)
+    (subst (λ (s : PassState). has_cell cell s.pinned.recent ≡ true) was
+    (sym c.turn_to.ensures.has ∙ is))
+    (subst (λ (s : PassState). IsAsked key_in s.pinned.recent cell.key true new.pinned.recent) was
+    (subst (λ (q : PinnedState). IsAsked key_in c.pass.inside.pinned.recent cell.key true q.recent)
+    (sym pinned) (c.turn_to.ensures.asked is)))
+    (subst (λ (s : PassState). AsksFor cell.key s.pinned.recent new.pinned.recent) was
+    (subst (λ (q : PinnedState). AsksFor cell.key c.pass.inside.pinned.recent q.recent)
+    (sym pinned) (c.turn_to.ensures.latest is)))
+    (subst (λ (q : PinnedState). StandsFirst cell q.recent) (sym pinned)
+    (c.turn_to.ensures.first is))
+    (subst (λ (q : PinnedState). StaysAskedFor cell.key q.recent) (sym pinned)
+    (c.turn_to.ensures.again is))
+    kept (search rules) (search rules) (search rules)
