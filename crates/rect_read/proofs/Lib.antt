@@ -12,3 +12,4 @@ pub mod PieceEnds
 pub mod RectZeros
 pub mod TakenSamples
 pub mod PlanarSamples
+pub mod ByteSamples

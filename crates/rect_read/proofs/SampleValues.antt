@@ -1,5 +1,5 @@
 -- Samples that were unpacked.
-use Rattle.std.proofs.Common.{ℕ, ◌<◌, ◌≤◌, Bool, refl, List, ◌++◌, map}
+use Rattle.std.proofs.Common.{◌≡◌, ℕ, ◌*◌, ◌<◌, ◌≤◌, Bool, refl, List, ◌++◌, map}
 use Rattle.std.proofs.Common.{zero-add, arith}
 use Rattle.std.specs.List.{range_with_len}
 use Rattle.std.proofs.lemmas.List.Elements.{All-append, All-from_get_or}
@@ -31,3 +31,8 @@ fit_appended depth old value count fit each =
     (All-from_get_or (λ sample. sample ≤ greatest_sample depth) more 0 (λ k lt.
     let below : k < count = omega (arith, length-map-range_with_len value 0 count) in
     rw (get_or-map-range_with_len value 0 count k k 0 below (zero-add k)) (each k below)))
+
+-- n texels of that many samples of that size
+pub span_samples : (n unit channels size : ℕ) → unit ≡ channels * size
+    → n * unit ≡ size * (n * channels)
+span_samples n unit channels size is = rw is (omega arith)

@@ -1,7 +1,7 @@
 -- The samples that were taken, and those of other planes.
 use Rattle.std.proofs.Common.{◌≡◌, ◌≢◌, ℕ, ◌+◌, ◌-◌, ◌*◌, ◌<◌, ◌≤◌, List, ◌++◌, length, map, slice_index}
 use Rattle.std.proofs.Common.{zero, suc, [], ◌∷◌, get_or, replicate, ap, sym, ◌∙◌, refl, arith}
-use Rattle.std.proofs.Common.{zero-add, inl, inr}
+use Rattle.std.proofs.Common.{zero-add, inl, inr, Bool, true, false}
 use Rattle.std.specs.List.{range_with_len}
 use Rattle.std.proofs.lemmas.Bool.{cases_lt, ne_eqb}
 use Rattle.std.proofs.lemmas.List.{get_or_append_left, get_or-append_right, get_or_past}
@@ -9,7 +9,9 @@ use Rattle.std.proofs.Math.Nat.{mul-le-mul_right}
 use Rattle.std.proofs.lemmas.List.FromFn.{length-map-range_with_len, get_or-map-range_with_len}
 use Rattle.piece_samples.specs.declared.places.Places.{Places}
 use Rattle.rect_read.specs.declared.samples.Samples.{Samples}
-use Rattle.rect_read.specs.Taken.{taken_by, samples_among, KeepsOthers}
+use Rattle.rect_read.specs.Taken.{taken_by, samples_among, KeepsOthers, FitsSamples}
+use Rattle.rect_read.specs.Texels.{samples_of, are_wide}
+use Rattle.tile_layout.specs.declared.texel_format.TexelFormat.{TexelFormat}
 use Rattle.rect_read.proofs.Appended.{is_appended}
 
 -- ---- what was taken
@@ -134,37 +136,40 @@ keeps_itself samples = record {
   step = refl;
   first = refl;
   done = omega arith;
+  wide = refl;
   room = λ several room. refl;
   others = λ k c below other. refl;
 }
 
-pub keeps_same : (a b : Samples) → b.places ≡ a.places → b.values.items ≡ a.values.items
-    → KeepsOthers a b
-keeps_same a b places values = record {
+pub keeps_same : (a b : Samples) → b.places ≡ a.places → are_wide b.values ≡ are_wide a.values
+    → samples_of b.values ≡ samples_of a.values → KeepsOthers a b
+keeps_same a b places wide values = record {
   step = ap (λ (p : Places). p.step) places;
   first = ap (λ (p : Places). p.first) places;
   done = rw places (omega arith);
+  wide = wide;
   room = λ several room. ap length values;
   others = λ k c below other. ap (λ (v : List ℕ). slice_index v (k * a.places.step + c)) values;
 }
 
-pub taken_same : (a b : Samples) → b.places ≡ a.places → b.values.items ≡ a.values.items
-    → taken_by b.places b.values.items ≡ taken_by a.places a.values.items
+pub taken_same : (a b : Samples) → b.places ≡ a.places → samples_of b.values ≡ samples_of a.values
+    → taken_by b.places (samples_of b.values) ≡ taken_by a.places (samples_of a.values)
 taken_same a b places values = rw (places, values) refl
 
 -- behind a write of the plane's own
-pub keeps_more : (a b : Samples) (n : ℕ) → b.places.step ≡ a.places.step
-    → b.places.first ≡ a.places.first → b.places.done ≡ a.places.done + n
-    → (b.places.done * b.places.step ≤ length a.values.items
-    → length b.values.items ≡ length a.values.items)
+pub keeps_more : (a b : Samples) (n : ℕ) → are_wide b.values ≡ are_wide a.values
+    → b.places.step ≡ a.places.step → b.places.first ≡ a.places.first → b.places.done ≡ a.places.done + n
+    → (b.places.done * b.places.step ≤ length (samples_of a.values)
+    → length (samples_of b.values) ≡ length (samples_of a.values))
     → ((k c : ℕ) → c < a.places.step → c ≢ a.places.first
-    → slice_index b.values.items (k * a.places.step + c)
-    ≡ slice_index a.values.items (k * a.places.step + c))
+    → slice_index (samples_of b.values) (k * a.places.step + c)
+    ≡ slice_index (samples_of a.values) (k * a.places.step + c))
     → KeepsOthers a b
-keeps_more a b n step first done room others = record {
+keeps_more a b n wide step first done room others = record {
   step = step;
   first = first;
   done = omega (arith, done);
+  wide = wide;
   room = λ several there. room (rw step there);
   others = others;
 }
@@ -174,10 +179,11 @@ keeps_after a b c one two = record {
   step = two.step ∙ one.step;
   first = two.first ∙ one.first;
   done = omega (arith, one.done, two.done);
+  wide = two.wide ∙ one.wide;
   room = λ several room.
       let less : b.places.done * a.places.step ≤ c.places.done * a.places.step =
       mul-le-mul_right a.places.step two.done in
-      let before : length b.values.items ≡ length a.values.items =
+      let before : length (samples_of b.values) ≡ length (samples_of a.values) =
       one.room several (omega (arith, less, room)) in
       two.room (rw one.step several)
       (rw one.step (omega (arith, before, room))) ∙ before;
@@ -185,3 +191,35 @@ keeps_after a b c one two = record {
       let more = two.others k d (rw one.step below) (rw one.first other) in
       (rw one.step at more) ∙ one.others k d below other;
 }
+
+-- those of texels, which stand side by side, have no others
+pub keeps_alone : (a b : Samples) → a.places.step ≡ 1 → b.places ≡ a.places
+    → are_wide b.values ≡ are_wide a.values → KeepsOthers a b
+keeps_alone a b one places wide = record {
+  step = ap (λ (p : Places). p.step) places;
+  first = ap (λ (p : Places). p.first) places;
+  done = rw places (omega arith);
+  wide = wide;
+  room = λ several room. absurd (several one);
+  others = λ k c below other. absurd (other (omega (arith, below, one, a.places.own)));
+}
+
+-- what fits them fits them then
+pub fits_after : (a b : Samples) (format : TexelFormat) → KeepsOthers a b → FitsSamples a format
+    → FitsSamples b format
+fits_after a b format keeps fits = record {
+  texels = λ narrow. fits.texels (sym keeps.wide ∙ narrow);
+  places = λ several. fits.places (rw keeps.step at several);
+  wide = λ several. keeps.wide ∙ fits.wide (rw keeps.step at several);
+}
+
+one_by : (step : ℕ) (wide : Bool) → (step ≢ 1 → wide ≡ true) → wide ≡ false → step ≡ 1
+one_by step true by narrow = cc
+one_by zero false by narrow = let wide = by (λ e. omega (arith, e)) in cc
+one_by (suc zero) false by narrow = refl
+one_by (suc (suc n)) false by narrow = let wide = by (λ e. omega (arith, e)) in cc
+
+-- those that take a byte each are of one plane
+pub one_of_bytes : (samples : Samples) (format : TexelFormat) → FitsSamples samples format
+    → are_wide samples.values ≡ false → samples.places.step ≡ 1
+one_of_bytes samples format fits = one_by samples.places.step (are_wide samples.values) fits.wide

@@ -7,3 +7,4 @@ pub mod RectRead
 pub mod Zeros
 pub mod Planes
 pub mod Taken
+pub mod Texels

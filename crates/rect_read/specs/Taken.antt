@@ -1,9 +1,12 @@
 -- Which samples were taken so far, and what stays of those of other planes?
 use Rattle.std.specs.Prelude.{◌≡◌, ◌≢◌, ℕ, ◌+◌, ◌*◌, ◌<◌, ◌≤◌, ◌==◌, List, length, map, slice_index}
-use Rattle.std.specs.Prelude.{if◌then◌else◌}
+use Rattle.std.specs.Prelude.{if◌then◌else◌, true}
 use Rattle.std.specs.List.{range_with_len}
 use Rattle.piece_samples.specs.declared.places.Places.{Places}
+use Rattle.piece_samples.specs.Places.{FitsPlaces}
+use Rattle.tile_layout.specs.declared.texel_format.TexelFormat.{TexelFormat}
 use Rattle.rect_read.specs.declared.samples.Samples.{Samples}
+use Rattle.rect_read.specs.Texels.{are_wide, samples_of, FitsTexels}
 
 -- the first n samples of a plane, by their places among those of so many planes
 abbrev pub samples_among : ℕ → ℕ → ℕ → List ℕ → List ℕ
@@ -17,17 +20,24 @@ taken_by places values = if places.step == 1 then values
 
 -- the samples so far
 abbrev pub taken : Samples → List ℕ
-taken samples = taken_by samples.places samples.values.items
+taken samples = taken_by samples.places (samples_of samples.values)
 
--- The places are those of the same plane, and the samples of the other planes are as they were. Where
--- there was room for all that was taken, there is as much as before.
+-- samples of the format may be taken behind these: those of several planes take two bytes each
+pub record FitsSamples (samples : Samples) (format : TexelFormat) : Type 0 where
+  pub texels : FitsTexels samples.values format
+  pub places : FitsPlaces samples.places format
+  pub wide : samples.places.step ≢ 1 → are_wide samples.values ≡ true
+
+-- The places are those of the same plane, and the samples of the other planes are as they were. Each
+-- takes as many bytes as before. Where there was room for all that was taken, there is as much as before.
 pub record KeepsOthers (old new : Samples) : Type 0 where
   pub step : new.places.step ≡ old.places.step
   pub first : new.places.first ≡ old.places.first
   pub done : old.places.done ≤ new.places.done
+  pub wide : are_wide new.values ≡ are_wide old.values
   pub room : old.places.step ≢ 1
-      → new.places.done * old.places.step ≤ length old.values.items
-      → length new.values.items ≡ length old.values.items
+      → new.places.done * old.places.step ≤ length (samples_of old.values)
+      → length (samples_of new.values) ≡ length (samples_of old.values)
   pub others : (k c : ℕ) → c < old.places.step → c ≢ old.places.first
-      → slice_index new.values.items (k * old.places.step + c)
-      ≡ slice_index old.values.items (k * old.places.step + c)
+      → slice_index (samples_of new.values) (k * old.places.step + c)
+      ≡ slice_index (samples_of old.values) (k * old.places.step + c)

@@ -9,9 +9,11 @@ mod rect_error;
 mod rows;
 mod run;
 mod samples;
+mod texels;
 mod window;
 
 pub use place::Place;
-pub use rect::read_rect;
+pub use rect::{read_rect, read_texels};
 pub use rect_error::RectError;
+pub use texels::Texels;
 pub use window::MAX_GAP;

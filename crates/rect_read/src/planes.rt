@@ -5,12 +5,15 @@ ghost use Rattle.std.specs.Option.{ForSome};
 ghost use Rattle.tiff_format.specs.Texel.{sample_in};
 ghost use Rattle.tile_layout.specs.Blocks.{HoldsBlocks};
 ghost use Rattle.tile_layout.specs.Cell.{bit_depth_in};
+ghost use Rattle.tile_layout.specs.FormatOf.{IsFormatOf};
 ghost use Rattle.tile_layout.specs.Kept.{level_in};
 ghost use Rattle.tile_layout.specs.Plane.{plane_in};
 ghost use Rattle.tile_layout.specs.Texel.{AreTexelsOn, FitDepth};
 ghost use Rattle.rect_read.specs.RectRead.{LeavesReader};
 ghost use Rattle.piece_samples.specs.Beyond.{CountAsZero, IsFilled, IsAllBeyond, IsPlaneBeyond};
-ghost use Rattle.rect_read.specs.Taken.{taken, KeepsOthers};
+ghost use Rattle.rect_read.specs.Taken.{taken, FitsSamples, KeepsOthers};
+ghost use Rattle.rect_read.specs.Texels.{are_wide, samples_of, FitsTexels};
+ghost use Rattle.piece_samples.specs.Unpacked.{KeepsDepth};
 ghost use Rattle.rect_read.specs.Zeros.{AreZerosBeyond};
 
 use crate::place::Place;
@@ -18,9 +21,11 @@ use crate::reading::Reading;
 use crate::rect_error::RectError;
 use crate::rows::Rows;
 use crate::samples::Samples;
+use crate::texels::Texels;
 use std::alloc::{AllocError, Global};
 use tiff_dirs::ByteReader;
 use tiff_format::Rect;
+use tile_layout::TexelFormat;
 
 /// The samples of a rectangle of one plane, taken behind none: row by row, those of a texel that stand
 /// side by side.
@@ -28,16 +33,18 @@ pub(crate) fn read_plane<B: ByteReader>(
     alloc: Global,
     reader: &mut B,
     place: &Place<'_>,
+    format: &TexelFormat,
     samples: Samples,
 ) -> Result<Samples, RectError<B::Error>>
     requires none { taken samples ≡ [] }
-    requires places { samples.places.step ≢ 1
-        → (plane_in place.now.layout.now place.now.level place.now.plane).shape.channels ≡ 1 }
+    requires format { IsFormatOf place.now.layout.now.big
+        (plane_in place.now.layout.now place.now.level place.now.plane).shape format.now }
+    requires fits { FitsSamples samples format.now }
     ensures count { IfOk result (λ all. length (taken all)
         ≡ place.now.rect.w * place.now.rect.h
         * (plane_in place.now.layout.now place.now.level place.now.plane).shape.channels) }
-    ensures low { FitDepth (bit_depth_in place.now.layout.now) samples.values.items
-        → IfOk result (λ all. FitDepth (bit_depth_in place.now.layout.now) all.values.items) }
+    ensures low { IfOk result (λ all.
+        KeepsDepth format.now (samples_of samples.values) (samples_of all.values)) }
     ensures zeros { IfOk result (λ all. AreZerosBeyond
         (plane_in place.now.layout.now place.now.level place.now.plane)
         (B.size reader.old) place.now.rect (taken all)) }
@@ -54,41 +61,48 @@ pub(crate) fn read_plane<B: ByteReader>(
     ensures reader { LeavesReader B.keeps B.refuses reader.old reader.new result }
 {
     let rect = place.rect;
-    let format = place.layout.format(place.level, place.plane);
     let bottom = rect.y.saturating_add(rect.h);
-    let rows = Rows::of(place.layout, place.level, &format, bottom);
+    let rows = Rows::of(place.layout, place.level, format, bottom);
     let mut reading = Reading::new(alloc, samples, rows);
     reading.reserve(rect, format.channels)?;
-    reading.read_place(reader, &format, place)?;
+    reading.read_place(reader, format, place)?;
     Ok(reading.samples)
 }
 
-/// The samples of a rectangle of a level of one plane, those of a texel side by side.
+/// The samples of a rectangle of a level of one plane, those of a texel side by side, in a room where
+/// there are none yet.
 pub(crate) fn read_chunky<B: ByteReader>(
     alloc: Global,
     reader: &mut B,
     place: &Place<'_>,
-) -> Result<Vec<u16>, RectError<B::Error>>
-    ensures count { IfOk result (λ samples. length samples.items
+    format: &TexelFormat,
+    room: Texels,
+) -> Result<Texels, RectError<B::Error>>
+    requires none { samples_of room ≡ [] }
+    requires format { IsFormatOf place.now.layout.now.big
+        (plane_in place.now.layout.now place.now.level place.now.plane).shape format.now }
+    requires fits { FitsTexels room format.now }
+    ensures wide { IfOk result (λ texels. are_wide texels ≡ are_wide room) }
+    ensures count { IfOk result (λ texels. length (samples_of texels)
         ≡ place.now.rect.w * place.now.rect.h
         * (plane_in place.now.layout.now place.now.level place.now.plane).shape.channels) }
-    ensures low { IfOk result (λ samples.
-        FitDepth (bit_depth_in place.now.layout.now) samples.items) }
-    ensures zeros { IfOk result (λ samples. AreZerosBeyond
+    ensures low { IfOk result (λ texels. FitDepth format.now.depth (samples_of texels)) }
+    ensures zeros { IfOk result (λ texels. AreZerosBeyond
         (plane_in place.now.layout.now place.now.level place.now.plane)
-        (B.size reader.old) place.now.rect samples.items) }
+        (B.size reader.old) place.now.rect (samples_of texels)) }
     ensures unread { IsFilled place.now.rect
         → IsPlaneBeyond (plane_in place.now.layout.now place.now.level place.now.plane)
         (B.size reader.old) place.now.rect → reader.new ≡ reader.old }
     ensures told { ForSome (B.bytes reader.old) (λ bytes.
         HoldsBlocks bytes (plane_in place.now.layout.now place.now.level place.now.plane)
-        → IfOk result (λ samples. AreTexelsOn (sample_in place.now.layout.now.big bytes
+        → IfOk result (λ texels. AreTexelsOn (sample_in place.now.layout.now.big bytes
         (plane_in place.now.layout.now place.now.level place.now.plane))
         (plane_in place.now.layout.now place.now.level place.now.plane).shape.channels
-        place.now.rect samples.items)) }
+        place.now.rect (samples_of texels))) }
     ensures reader { LeavesReader B.keeps B.refuses reader.old reader.new result }
 {
-    let all = read_plane(alloc, reader, place, Samples::none(alloc))?;
+    let samples = Samples::of_texels(room);
+    let all = read_plane(alloc, reader, place, format, samples)?;
     Ok(all.values)
 }
 
@@ -137,9 +151,10 @@ pub(crate) fn read_planes<B: ByteReader>(
             plane,
             rect: place.rect,
         };
+        let format = place.layout.format(place.level, plane);
         let samples = Samples::of_plane(values, planes, plane);
-        let own = read_plane(alloc, reader, &alone, samples)?;
-        values = own.values;
+        let own = read_plane(alloc, reader, &alone, &format, samples)?;
+        values = own.values.into_shorts();
     }
     Ok(values)
 }

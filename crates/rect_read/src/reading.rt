@@ -10,8 +10,8 @@ ghost use Rattle.tile_layout.specs.Pieces.{LiesSideBySide, row_texels, rect_texe
 ghost use Rattle.tile_layout.specs.FormatOf.{IsFormatOf};
 ghost use Rattle.tile_layout.specs.Blocks.{HoldsBlocks};
 ghost use Rattle.rect_read.specs.Samples.{samples_at};
-ghost use Rattle.piece_samples.specs.Places.{FitsPlaces};
-ghost use Rattle.rect_read.specs.Taken.{taken, KeepsOthers};
+ghost use Rattle.rect_read.specs.Taken.{taken, FitsSamples, KeepsOthers};
+ghost use Rattle.rect_read.specs.Texels.{samples_of};
 ghost use Rattle.piece_samples.specs.Unpacked.{KeepsDepth};
 ghost use Rattle.rect_read.specs.Window.{AreWindows};
 ghost use Rattle.rect_read.specs.RectRead.{LeavesReader};
@@ -70,7 +70,7 @@ impl Reading {
     /// Finds memory for the samples of a rectangle, so many of a texel.
     pub(crate) fn reserve(&mut self, rect: Rect, channels: usize) -> Result<(), AllocError>
         ensures taken { taken self.new.samples ≡ taken self.old.samples }
-        ensures values { self.new.samples.values.items ≡ self.old.samples.values.items }
+        ensures values { samples_of self.new.samples.values ≡ samples_of self.old.samples.values }
         ensures places { self.new.samples.places ≡ self.old.samples.places }
         ensures others { KeepsOthers self.old.samples self.new.samples }
         ensures windows { self.new.windows.items ≡ self.old.windows.items }
@@ -89,7 +89,7 @@ impl Reading {
         piece: &Piece,
         k: usize,
     ) -> Result<(), RectError<B::Error>>
-        requires places { FitsPlaces self.old.samples.places format.now }
+        requires samples { FitsSamples self.old.samples format.now }
         requires there { k < length self.old.windows.items }
         requires below { piece.now.at + piece.now.n * format.now.texel_bytes
             ≤ B.size reader.old }
@@ -99,7 +99,7 @@ impl Reading {
             (piece.now.n * format.now.channels)
             (taken self.old.samples) (taken self.new.samples)) }
         ensures low { OnOk result (KeepsDepth format.now
-            self.old.samples.values.items self.new.samples.values.items) }
+            (samples_of self.old.samples.values) (samples_of self.new.samples.values)) }
         ensures told { ForSome (B.bytes reader.old) (λ bytes. (level : Level) → (right : ℕ)
             → AreWindows bytes self.old.windows.items
             → IsFormatOf format.now.big level.shape format.now
@@ -130,7 +130,7 @@ impl Reading {
         piece: &Piece,
         k: usize,
     ) -> Result<(), RectError<B::Error>>
-        requires places { FitsPlaces self.old.samples.places format.now }
+        requires samples { FitsSamples self.old.samples format.now }
         requires window { k ≤ length self.old.windows.items }
         ensures next { OnOk result (k < length self.new.windows.items) }
         ensures count { OnOk result (AddsTexel
@@ -141,7 +141,7 @@ impl Reading {
             < piece.now.at + piece.now.n * format.now.texel_bytes
             → reader.new ≡ reader.old }
         ensures low { OnOk result (KeepsDepth format.now
-            self.old.samples.values.items self.new.samples.values.items) }
+            (samples_of self.old.samples.values) (samples_of self.new.samples.values)) }
         ensures told { ForSome (B.bytes reader.old) (λ bytes. (level : Level) → (right : ℕ)
             → AreWindows bytes self.old.windows.items
             → IsFormatOf format.now.big level.shape format.now
@@ -171,7 +171,7 @@ impl Reading {
         format: &TexelFormat,
         pieces: &mut Pieces<'_>,
     ) -> Result<(), RectError<B::Error>>
-        requires places { FitsPlaces self.old.samples.places format.now }
+        requires samples { FitsSamples self.old.samples format.now }
         ensures count { OnOk result (length (taken self.new.samples) ≡ length (taken self.old.samples)
             + length pieces.old.texels * format.now.channels) }
         ensures zeros { IsFormatOf format.now.big pieces.old.level.shape
@@ -184,7 +184,7 @@ impl Reading {
             → All (LiesBeyond pieces.old.level pieces.old.right (B.size reader.old))
             pieces.old.texels → reader.new ≡ reader.old }
         ensures low { OnOk result (KeepsDepth format.now
-            self.old.samples.values.items self.new.samples.values.items) }
+            (samples_of self.old.samples.values) (samples_of self.new.samples.values)) }
         ensures told { ForSome (B.bytes reader.old) (λ bytes.
             AreWindows bytes self.old.windows.items
             → IsFormatOf format.now.big pieces.old.level.shape format.now
@@ -213,7 +213,7 @@ impl Reading {
         format: &TexelFormat,
         place: &Place<'_>,
     ) -> Result<(), RectError<B::Error>>
-        requires places { FitsPlaces self.old.samples.places format.now }
+        requires samples { FitsSamples self.old.samples format.now }
         requires format { IsFormatOf place.now.layout.now.big
             (plane_in place.now.layout.now place.now.level place.now.plane).shape format.now }
         ensures count { OnOk result (length (taken self.new.samples)
@@ -226,7 +226,7 @@ impl Reading {
             (plane_in place.now.layout.now place.now.level place.now.plane) (B.size reader.old) place.now.rect
             → reader.new ≡ reader.old }
         ensures low { OnOk result (KeepsDepth format.now
-            self.old.samples.values.items self.new.samples.values.items) }
+            (samples_of self.old.samples.values) (samples_of self.new.samples.values)) }
         ensures told { ForSome (B.bytes reader.old) (λ bytes.
             AreWindows bytes self.old.windows.items
             → HoldsBlocks bytes (plane_in place.now.layout.now place.now.level place.now.plane)

@@ -1,6 +1,6 @@
 //! The samples of a rectangle of a level.
 
-ghost use Rattle.std.specs.Prelude.{◌≡◌, ◌*◌, ◌<◌, length, IfOk};
+ghost use Rattle.std.specs.Prelude.{◌≡◌, ◌*◌, ◌<◌, length, IfOk, IsTrue};
 ghost use Rattle.std.specs.Option.{ForSome};
 ghost use Rattle.tiff_format.specs.Texel.{sample_in};
 ghost use Rattle.tile_layout.specs.Blocks.{HoldsBlocks};
@@ -9,15 +9,18 @@ ghost use Rattle.tile_layout.specs.Kept.{stored_count, level_in};
 ghost use Rattle.tile_layout.specs.Pieces.{LiesOnLevel};
 ghost use Rattle.tile_layout.specs.Texel.{AreTexelsOn, FitDepth};
 ghost use Rattle.rect_read.specs.RectRead.{LeavesReader};
+ghost use Rattle.rect_read.specs.Texels.{are_wide, samples_of, AreBytes};
 ghost use Rattle.piece_samples.specs.Beyond.{CountAsZero, IsFilled, IsAllBeyond};
+ghost use Rattle.piece_samples.specs.Unpacked.{is_wide};
 
 use crate::place::Place;
 use crate::planes::{read_chunky, read_planes};
 use crate::rect_error::RectError;
+use crate::texels::{Texels, narrowed};
 use std::alloc::Global;
 use tiff_dirs::ByteReader;
 use tiff_format::Rect;
-use tile_layout::Layout;
+use tile_layout::{Layout, TexelFormat};
 
 /// The samples of a rectangle of a stored level, in the depth of the file: row by row, those of a
 /// texel side by side. A piece of a row of a plane that does not lie below the reader's length is
@@ -56,8 +59,73 @@ pub fn read_rect<B: ByteReader>(
         rect,
     };
     if planes == 1 {
-        read_chunky(alloc, reader, &place)
+        let format = layout.format(level, 0);
+        let room = Texels::Shorts(Vec::new(alloc));
+        let texels = read_chunky(alloc, reader, &place, &format, room)?;
+        Ok(texels.into_shorts())
     } else {
         read_planes(alloc, reader, &place)
+    }
+}
+
+/// The bits of a sample that takes a byte.
+const BYTE_DEPTH: u32 = 8;
+
+/// Samples of the format are the bytes that are stored.
+fn are_bytes(format: &TexelFormat) -> bool
+    ensures { IsTrue result → AreBytes format.now }
+{
+    format.depth == BYTE_DEPTH && format.invert == 0
+}
+
+/// The samples of a rectangle of a stored level, as `read_rect` reads them, and in the room that they
+/// take: a byte each in a file of 8 bits, else two (TIFF 6.0, section 8, BitsPerSample).
+///
+/// Those of 8 bits of a level of one plane are read straight into their room, except those of a
+/// WhiteIsZero level: these, and those of several planes, take two bytes each until all are read.
+pub fn read_texels<B: ByteReader>(
+    alloc: Global,
+    reader: &mut B,
+    layout: &Layout,
+    level: u32,
+    rect: Rect,
+) -> Result<Texels, RectError<B::Error>>
+    requires stored { level < stored_count layout.now }
+    requires inside { LiesOnLevel layout.now level rect }
+    ensures wide { IfOk result (λ texels. are_wide texels ≡ is_wide (bit_depth_in layout.now)) }
+    ensures count { IfOk result (λ texels. length (samples_of texels)
+        ≡ rect.w * rect.h * (level_in layout.now level).shape.channels) }
+    ensures low { IfOk result (λ texels.
+        FitDepth (bit_depth_in layout.now) (samples_of texels)) }
+    ensures zeros { IfOk result (λ texels. CountAsZero
+        (level_in layout.now level) (B.size reader.old) rect (samples_of texels)) }
+    ensures unread { IsFilled rect
+        → IsAllBeyond (level_in layout.now level) (B.size reader.old) rect
+        → reader.new ≡ reader.old }
+    ensures told { ForSome (B.bytes reader.old) (λ bytes.
+        HoldsBlocks bytes (level_in layout.now level)
+        → IfOk result (λ texels. AreTexelsOn
+        (sample_in layout.now.big bytes (level_in layout.now level))
+        (level_in layout.now level).shape.channels rect (samples_of texels))) }
+    ensures reader { LeavesReader B.keeps B.refuses reader.old reader.new result }
+{
+    let planes = layout.planes(level);
+    let place = Place {
+        layout,
+        level,
+        plane: 0,
+        rect,
+    };
+    let format = layout.format(level, 0);
+    if planes == 1 && are_bytes(&format) {
+        let room = Texels::Bytes(Vec::new(alloc));
+        return read_chunky(alloc, reader, &place, &format, room);
+    }
+    let samples = read_rect(alloc, reader, layout, level, rect)?;
+    if format.depth == BYTE_DEPTH {
+        let bytes = narrowed(alloc, &samples)?;
+        Ok(Texels::Bytes(bytes))
+    } else {
+        Ok(Texels::Shorts(samples))
     }
 }

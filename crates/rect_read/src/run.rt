@@ -1,16 +1,18 @@
 //! Texels that stand side by side in the file: read window by window, straight to their samples.
 
 ghost use Rattle.std.specs.Prelude.{◌≡◌, ◌+◌, ◌*◌, ◌^◌, ◌<◌, ◌≤◌, ℕ, List, length, IfOk, IfSome};
-ghost use Rattle.std.specs.Prelude.{OnOk};
+ghost use Rattle.std.specs.Prelude.{take, drop, OnOk};
 ghost use Rattle.std.specs.Option.{ForSome};
 ghost use Rattle.tiff_format.specs.Block.{Level};
+ghost use Rattle.tiff_format.specs.Bytes.{IsPartAt};
 ghost use Rattle.tile_layout.specs.FormatOf.{IsFormatOf};
+ghost use Rattle.tile_layout.specs.Texel.{FitDepth};
 ghost use Rattle.tile_layout.specs.Plane.{plane_in};
 ghost use Rattle.tile_layout.specs.WholeRows.{StandsWhole};
 ghost use Rattle.rect_read.specs.RectRead.{LeavesReader};
 ghost use Rattle.rect_read.specs.Run.{AppendsRun, AppendsValues, StandSideBySide};
-ghost use Rattle.piece_samples.specs.Places.{FitsPlaces};
-ghost use Rattle.rect_read.specs.Taken.{taken, KeepsOthers};
+ghost use Rattle.rect_read.specs.Taken.{taken, FitsSamples, KeepsOthers};
+ghost use Rattle.rect_read.specs.Texels.{samples_of};
 ghost use Rattle.piece_samples.specs.Unpacked.{KeepsDepth};
 ghost use Rattle.rect_read.specs.Window.{IsWindow};
 
@@ -19,6 +21,7 @@ use crate::reading::MAX_AHEAD;
 use crate::rect_error::RectError;
 use crate::rows::RowsBehind;
 use crate::samples::Samples;
+use crate::texels::Texels;
 use crate::window::Window;
 use piece_samples::Span;
 use std::alloc::AllocError;
@@ -77,7 +80,34 @@ fn texels_at_once(format: &TexelFormat) -> usize
     (MAX_AHEAD as usize / format.texel_bytes.max(1)).max(1)
 }
 
-/// Appends the numbers of the texels of a part of a run, read through a window.
+/// Reads the bytes of a span behind those that are there.
+fn read_behind<B: ByteReader>(
+    reader: &mut B,
+    span: &Span,
+    bytes: &mut Vec<u8>,
+) -> Result<(), RectError<B::Error>>
+    requires { span.now.at + span.now.size ≤ B.size reader.old }
+    ensures long { OnOk result (length bytes.new.items
+        ≡ length bytes.old.items + span.now.size) }
+    ensures before { OnOk result (take (length bytes.old.items) bytes.new.items
+        ≡ bytes.old.items) }
+    ensures low { OnOk result (FitDepth 8 bytes.new.items) }
+    ensures told { ForSome (B.bytes reader.old) (λ file.
+        OnOk result (IsPartAt file span.now.at
+        (drop (length bytes.old.items) bytes.new.items))) }
+    ensures reader { LeavesReader B.keeps B.refuses reader.old reader.new result }
+{
+    let old = bytes.len();
+    bytes.reserve(span.size)?;
+    bytes.resize(old + span.size, 0)?;
+    match reader.read(span.at, &mut bytes[old..]) {
+        Ok(()) => Ok(()),
+        Err(e) => Err(RectError::Reader(e)),
+    }
+}
+
+/// Appends the numbers of the texels of a part of a run: those that take a byte each are read where
+/// they stay, the others through a window.
 fn read_part<B: ByteReader>(
     reader: &mut B,
     format: &TexelFormat,
@@ -85,14 +115,14 @@ fn read_part<B: ByteReader>(
     window: &mut Window,
     samples: &mut Samples,
 ) -> Result<(), RectError<B::Error>>
-    requires places { FitsPlaces samples.old.places format.now }
+    requires samples { FitsSamples samples.old format.now }
     requires fits { part.now.at + part.now.texels * format.now.texel_bytes < 2 ^ 64 }
     requires below { part.now.at + part.now.texels * format.now.texel_bytes
         ≤ B.size reader.old }
     ensures count { OnOk result (length (taken samples.new)
         ≡ length (taken samples.old) + part.now.texels * format.now.channels) }
     ensures low { OnOk result (KeepsDepth format.now
-        samples.old.values.items samples.new.values.items) }
+        (samples_of samples.old.values) (samples_of samples.new.values)) }
     ensures told { ForSome (B.bytes reader.old) (λ bytes.
         IsWindow bytes window.old → OnOk result (IsWindow bytes window.new
         × AppendsRun bytes format.now part.now (taken samples.old) (taken samples.new))) }
@@ -103,6 +133,9 @@ fn read_part<B: ByteReader>(
         at: part.at,
         size: part.texels * format.texel_bytes,
     };
+    if let Texels::Bytes(bytes) = &mut samples.values {
+        return read_behind(reader, &span, bytes);
+    }
     window.fill(reader, &span, &NO_ROWS, 0)?;
     let count = part.texels * format.channels;
     samples.push(format, window.piece(&span), count)?;
@@ -112,7 +145,7 @@ fn read_part<B: ByteReader>(
 /// Finds memory for the values of the texels of a run.
 fn reserve(samples: &mut Samples, format: &TexelFormat, run: &Run) -> Result<(), AllocError>
     ensures taken { taken samples.new ≡ taken samples.old }
-    ensures values { samples.new.values.items ≡ samples.old.values.items }
+    ensures values { samples_of samples.new.values ≡ samples_of samples.old.values }
     ensures places { samples.new.places ≡ samples.old.places }
     ensures others { KeepsOthers samples.old samples.new }
 {
@@ -130,14 +163,14 @@ pub(crate) fn read_run<B: ByteReader>(
     run: &Run,
     samples: &mut Samples,
 ) -> Result<(), RectError<B::Error>>
-    requires places { FitsPlaces samples.old.places format.now }
+    requires samples { FitsSamples samples.old format.now }
     requires fits { run.now.at + run.now.texels * format.now.texel_bytes < 2 ^ 64 }
     requires below { run.now.at + run.now.texels * format.now.texel_bytes
         ≤ B.size reader.old }
     ensures count { OnOk result (length (taken samples.new)
         ≡ length (taken samples.old) + run.now.texels * format.now.channels) }
     ensures low { OnOk result (KeepsDepth format.now
-        samples.old.values.items samples.new.values.items) }
+        (samples_of samples.old.values) (samples_of samples.new.values)) }
     ensures told { ForSome (B.bytes reader.old) (λ bytes.
         (level : Level) → (x_of y_of : ℕ → ℕ)
         → IsFormatOf format.now.big level.shape format.now
@@ -150,7 +183,7 @@ pub(crate) fn read_run<B: ByteReader>(
     let size = format.texel_bytes;
     let most = texels_at_once(format);
     reserve(samples, format, run)?;
-    let mut window = Window::new(*samples.values.allocator());
+    let mut window = Window::new(samples.values.allocator());
     let mut done = 0usize;
     'parts: while done < run.texels {
         let part = Run {

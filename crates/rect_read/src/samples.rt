@@ -1,25 +1,27 @@
 //! The samples of a level, from their bytes.
 
 ghost use Rattle.std.specs.Prelude.{◌≡◌, ◌≢◌, ◌+◌, ◌-◌, ◌*◌, ◌≤◌, ◌<◌, ◌++◌, ℕ, length, map, []};
-ghost use Rattle.std.specs.Prelude.{◌∷◌, slice_index, replicate, OnOk};
+ghost use Rattle.std.specs.Prelude.{◌∷◌, slice_index, replicate, true, OnOk};
 ghost use Rattle.std.specs.List.{range_with_len};
 ghost use Rattle.tiff_format.specs.Block.{sample_bytes};
 ghost use Rattle.tiff_format.specs.Limits.{max_channels};
 ghost use Rattle.tiff_format.specs.Texel.{greatest_sample};
 ghost use Rattle.tile_layout.specs.Texel.{FitDepth};
-ghost use Rattle.piece_samples.specs.Places.{FitsPlaces};
-ghost use Rattle.rect_read.specs.Taken.{taken, KeepsOthers};
+ghost use Rattle.rect_read.specs.Taken.{taken, FitsSamples, KeepsOthers};
+ghost use Rattle.rect_read.specs.Texels.{are_wide, samples_of};
+ghost use Rattle.rect_read.specs.declared.texels.Texels.TheVariants.{Shorts};
 ghost use Rattle.piece_samples.specs.Unpacked.{unpacked, KeepsDepth};
 
+use crate::texels::Texels;
 use piece_samples::{Places, unpack_among, unpack_samples};
-use std::alloc::{AllocError, Global};
+use std::alloc::AllocError;
 use tile_layout::TexelFormat;
 
 /// The samples that are read: those of a texel side by side, or those of one plane, each at its place
 /// among those of the other planes.
 #[derive(Drop)]
 pub(crate) struct Samples {
-    pub(crate) values: Vec<u16>,
+    pub(crate) values: Texels,
     pub(crate) places: Places,
 }
 
@@ -39,7 +41,7 @@ fn unpack_behind(format: &TexelFormat, bytes: &[u8], from: usize, samples: &mut 
 }
 
 /// Appends so many samples.
-fn push_samples(
+pub(crate) fn push_samples(
     samples: &mut Vec<u16>,
     format: &TexelFormat,
     bytes: &[u8],
@@ -74,14 +76,14 @@ fn ready(values: &mut Vec<u16>, count: usize) -> Result<(), AllocError>
 }
 
 impl Samples {
-    /// None yet: those of a texel are to stand side by side.
-    pub(crate) fn none(alloc: Global) -> Samples
-        ensures none { result.values.items ≡ [] }
-        ensures taken { taken result ≡ [] }
+    /// Those of texels, each texel's side by side.
+    pub(crate) fn of_texels(values: Texels) -> Samples
+        ensures same { result.values ≡ values }
+        ensures taken { taken result ≡ samples_of values }
         ensures one { result.places.step ≡ 1 }
     {
         Samples {
-            values: Vec::new(alloc),
+            values,
             places: Places {
                 step: 1,
                 first: 0,
@@ -95,13 +97,13 @@ impl Samples {
         requires several { planes ≢ 1 }
         requires few { planes ≤ max_channels }
         requires one { plane < planes }
-        ensures same { result.values ≡ values }
+        ensures same { result.values ≡ Shorts values }
         ensures taken { taken result ≡ [] }
         ensures step { result.places.step ≡ planes }
         ensures first { result.places.first ≡ plane }
     {
         Samples {
-            values,
+            values: Texels::Shorts(values),
             places: Places {
                 step: planes as usize,
                 first: plane as usize,
@@ -113,7 +115,7 @@ impl Samples {
     /// Finds memory for so many more samples, where they are appended.
     pub(crate) fn reserve(&mut self, count: usize) -> Result<(), AllocError>
         ensures taken { taken self.new ≡ taken self.old }
-        ensures values { self.new.values.items ≡ self.old.values.items }
+        ensures values { samples_of self.new.values ≡ samples_of self.old.values }
         ensures places { self.new.places ≡ self.old.places }
         ensures others { KeepsOthers self.old self.new }
     {
@@ -127,16 +129,22 @@ impl Samples {
     fn place(&mut self, format: &TexelFormat, bytes: &[u8], count: usize) -> Result<(), AllocError>
         requires size { length bytes.now ≡ sample_bytes format.now.depth * count }
         requires planar { self.old.places.step ≢ 1 }
+        requires wide { are_wide self.old.values ≡ true }
         requires one { format.now.invert ≤ 1 }
         ensures values { OnOk result (taken self.new ≡ taken self.old
             ++ map (unpacked format.now bytes.now) (range_with_len 0 count)) }
         ensures low { OnOk result (KeepsDepth format.now
-            self.old.values.items self.new.values.items) }
+            (samples_of self.old.values) (samples_of self.new.values)) }
         ensures others { OnOk result (KeepsOthers self.old self.new) }
     {
         let places = self.places.more(count)?;
-        ready(&mut self.values, places.done * places.step)?;
-        unpack_among(format, bytes, count, &self.places, &mut self.values);
+        match &mut self.values {
+            Texels::Shorts(values) => {
+                ready(values, places.done * places.step)?;
+                unpack_among(format, bytes, count, &self.places, values);
+            }
+            Texels::Bytes(_) => unreachable!(),
+        }
         self.places = places;
         Ok(())
     }
@@ -149,47 +157,54 @@ impl Samples {
         count: usize,
     ) -> Result<(), AllocError>
         requires size { length bytes.now ≡ sample_bytes format.now.depth * count }
-        requires places { FitsPlaces self.old.places format.now }
+        requires fits { FitsSamples self.old format.now }
         ensures values { OnOk result (taken self.new ≡ taken self.old
             ++ map (unpacked format.now bytes.now) (range_with_len 0 count)) }
         ensures low { OnOk result (KeepsDepth format.now
-            self.old.values.items self.new.values.items) }
+            (samples_of self.old.values) (samples_of self.new.values)) }
         ensures others { OnOk result (KeepsOthers self.old self.new) }
     {
         if self.places.step == 1 {
-            push_samples(&mut self.values, format, bytes, count)
+            self.values.push(format, bytes, count)
         } else {
             self.place(format, bytes, count)
         }
     }
 
-    /// Takes a 0.
-    fn push_zero(&mut self) -> Result<(), AllocError>
+    /// Writes a 0 to its place.
+    fn place_zero(&mut self) -> Result<(), AllocError>
+        requires planar { self.old.places.step ≢ 1 }
+        requires wide { are_wide self.old.values ≡ true }
         ensures values { OnOk result (taken self.new ≡ taken self.old ++ 0 ∷ []) }
-        ensures low { OnOk result ((depth : ℕ) → FitDepth depth self.old.values.items
-            → FitDepth depth self.new.values.items) }
+        ensures low { OnOk result ((depth : ℕ) → FitDepth depth (samples_of self.old.values)
+            → FitDepth depth (samples_of self.new.values)) }
         ensures others { OnOk result (KeepsOthers self.old self.new) }
     {
-        if self.places.step == 1 {
-            self.values.push(0)?;
-            return Ok(());
-        }
         let places = self.places.more(1)?;
-        ready(&mut self.values, places.done * places.step)?;
-        self.values[self.places.done * self.places.step + self.places.first] = 0;
+        match &mut self.values {
+            Texels::Shorts(values) => {
+                ready(values, places.done * places.step)?;
+                values[self.places.done * self.places.step + self.places.first] = 0;
+            }
+            Texels::Bytes(_) => unreachable!(),
+        }
         self.places = places;
         Ok(())
     }
 
     /// Takes n samples of 0.
     pub(crate) fn push_zeros(&mut self, n: u64) -> Result<(), AllocError>
+        requires wide { self.old.places.step ≢ 1 → are_wide self.old.values ≡ true }
         ensures values { OnOk result (taken self.new ≡ taken self.old ++ replicate n 0) }
-        ensures low { OnOk result ((depth : ℕ) → FitDepth depth self.old.values.items
-            → FitDepth depth self.new.values.items) }
+        ensures low { OnOk result ((depth : ℕ) → FitDepth depth (samples_of self.old.values)
+            → FitDepth depth (samples_of self.new.values)) }
         ensures others { OnOk result (KeepsOthers self.old self.new) }
     {
+        if self.places.step == 1 {
+            return self.values.push_zeros(n as usize);
+        }
         for _ in 0..n {
-            self.push_zero()?;
+            self.place_zero()?;
         }
         Ok(())
     }

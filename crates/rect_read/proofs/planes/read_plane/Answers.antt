@@ -1,35 +1,37 @@
-use Rattle.std.proofs.Common.{◌≡◌, ◌*◌, [], length, ap, ◌∙◌, arith}
+use Rattle.std.proofs.Common.{◌≡◌, ◌*◌, [], length, ap, ◌∙◌, arith, zero-add}
 use Rattle.tiff_format.specs.Texel.{sample_in}
 use Rattle.tile_layout.specs.Plane.{plane_in}
-use Rattle.tile_layout.specs.Texel.{FitDepth}
 use Rattle.rect_read.specs.declared.samples.Samples.{Samples}
 use Rattle.rect_read.specs.Taken.{taken}
-use Rattle.rect_read.proofs.PlanarSamples.{white_low}
+use Rattle.rect_read.specs.Texels.{samples_of}
 use Rattle.rect_read.proofs.RectValues.{are_texels}
-use Rattle.rect_read.proofs.TakenSamples.{keeps_after}
+use Rattle.rect_read.proofs.TakenSamples.{keeps_after, fits_after}
 use Rattle.rect_read.proofs.planes.read_plane.Goals as goal
 
-pub read_place-requires-clause-places : goal.read_place-requires-clause-places
-read_place-requires-clause-places g c = λ several.
-    let place = c.args.place.now in
-    let level = plane_in place.layout.now place.level place.plane in
-    let places : c.reserve.new.self.samples.places ≡ c.args.samples.places =
-    c.reserve.ensures.places ∙ ap (λ (s : Samples). s.places) c.new-reading.ensures.samples in
-    let one = c.requires.places (rw places at several) in
-    rw c.format-format.ensures.value.invert (white_low level.shape.white level.shape.channels one)
+pub read_place-requires-clause-samples : goal.read_place-requires-clause-samples
+read_place-requires-clause-samples g c =
+    fits_after c.new-reading.result.samples c.reserve.new.self.samples c.args.format.now
+    c.reserve.ensures.others (rw c.new-reading.ensures.samples c.requires.fits)
 
 pub returns-clause-count : goal.returns-clause-count
 returns-clause-count g c =
     let none : length (taken c.reserve.new.self.samples) ≡ 0 =
     ap length (c.reserve.ensures.taken ∙ ap (λ (s : Samples). taken s) c.new-reading.ensures.samples
     ∙ c.requires.none) in
-    let channels = c.format-format.ensures.value.channels in
+    let channels = c.requires.format.channels in
     omega (
       arith,
       c.in_ok-read_place.ensures.count,
       none,
       ap (λ n. c.args.place.now.rect.w * c.args.place.now.rect.h * n) channels,
     )
+
+pub returns-clause-zeros : goal.returns-clause-zeros
+returns-clause-zeros g c = λ i j channel across down some beyond.
+    let none : length (taken c.reserve.new.self.samples) ≡ 0 =
+    ap length (c.reserve.ensures.taken ∙ ap (λ (s : Samples). taken s) c.new-reading.ensures.samples
+    ∙ c.requires.none) in
+    rw (none, zero-add) at (c.in_ok-read_place.ensures.zeros i j channel across down some beyond)
 
 pub returns-clause-told : goal.returns-clause-told
 returns-clause-told g c = λ bytes told holds.
@@ -49,11 +51,10 @@ returns-clause-told g c = λ bytes told holds.
 
 pub returns-clause-low : goal.returns-clause-low
 returns-clause-low g c = λ fit.
-    let items : c.reserve.new.self.samples.values.items ≡ c.args.samples.values.items =
-    c.reserve.ensures.values ∙ ap (λ (s : Samples). s.values.items) c.new-reading.ensures.samples in
-    let before : FitDepth c.format-format.result.depth c.reserve.new.self.samples.values.items =
-    rw (items, c.format-format.ensures.depth) fit in
-    rw c.format-format.ensures.depth at (c.in_ok-read_place.ensures.low before)
+    let items : samples_of c.reserve.new.self.samples.values ≡ samples_of c.args.samples.values =
+    c.reserve.ensures.values
+    ∙ ap (λ (s : Samples). samples_of s.values) c.new-reading.ensures.samples in
+    c.in_ok-read_place.ensures.low (rw items fit)
 
 pub returns-clause-others : goal.returns-clause-others
 returns-clause-others g c =

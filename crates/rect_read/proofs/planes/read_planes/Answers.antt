@@ -1,5 +1,5 @@
 use Rattle.std.proofs.Common.{◌≡◌, ◌≢◌, ℕ, ◌+◌, ◌*◌, ◌<◌, ◌≤◌, List, length, get_or, replicate, ap, ◌∙◌}
-use Rattle.std.proofs.Common.{arith, sym, refl, subst, Vec, Global}
+use Rattle.std.proofs.Common.{arith, sym, refl, true, Vec, Global}
 use Rattle.std.proofs.lemmas.List.{length-replicate}
 use Rattle.std.proofs.lemmas.Result.{err_from_is_err_and}
 use Rattle.tiff_format.specs.Block.{samples_aside}
@@ -11,11 +11,12 @@ use Rattle.tile_layout.proofs.PlaneBlocks.{plane_held}
 use Rattle.rect_read.specs.declared.samples.Samples.{Samples}
 use Rattle.piece_samples.specs.Beyond.{IsBeyond}
 use Rattle.rect_read.specs.Taken.{taken}
+use Rattle.rect_read.specs.Texels.{samples_of, are_wide}
+use Rattle.rect_read.specs.declared.texels.Texels.{Texels}
 use Rattle.rect_read.proofs.Leaves.{leaves_after}
 use Rattle.piece_samples.proofs.LowSamples.{all_low}
-use Rattle.rect_read.proofs.PlanarSamples.{one_aside, one_each, planar_texels}
+use Rattle.rect_read.proofs.PlanarSamples.{one_aside, one_each, planar_texels, white_low}
 use Rattle.rect_read.proofs.PlanarSamples.{planes_more}
-use Rattle.tile_layout.specs.Texel.{FitDepth}
 use Rattle.rect_read.proofs.TakenSamples.{placed_at, length_taken, zero_of}
 use Rattle.rect_read.proofs.planes.read_planes.Goals as goal
 
@@ -33,6 +34,26 @@ each-init g c = record {
   told = λ bytes told holds q i j lt. absurd (omega arith);
 }
 
+pub read_plane-requires-clause-fits : goal.read_plane-requires-clause-fits
+read_plane-requires-clause-fits g c =
+    let place = c.args.place.now in
+    let level = plane_level (level_in place.layout.now place.level) c.each.plane in
+    let samples : Samples = c.of_plane-samples.result in
+    let wide : are_wide samples.values ≡ true =
+    ap (λ (t : Texels). are_wide t) c.of_plane-samples.ensures.same in
+    record {
+      texels = λ narrow. let wide = wide in cc;
+      places = λ several. rw c.format-format.ensures.value.invert
+          (white_low level.shape.white level.shape.channels
+          (one_aside (level_in place.layout.now place.level) c.requires.planar));
+      wide = λ several. wide;
+    }
+
+pub into_shorts-values-requires : goal.into_shorts-values-requires
+into_shorts-values-requires g c =
+    c.in_ok-own.ensures.others.wide
+    ∙ ap (λ (t : Texels). are_wide t) c.of_plane-samples.ensures.same
+
 pub each-preserved : goal.each-preserved
 each-preserved g c =
     let before = c.each.invariant in
@@ -49,8 +70,10 @@ each-preserved g c =
     let there : p < level.shape.planes = omega (arith, planes, c.each-test.true) in
     let step : samples.places.step ≡ c.planes-planes.result = c.of_plane-samples.ensures.step in
     let first : samples.places.first ≡ p = c.of_plane-samples.ensures.first in
-    let items : samples.values.items ≡ c.each.values.items =
-    ap (λ (v : Vec ℕ Global). v.items) c.of_plane-samples.ensures.same in
+    let items : samples_of samples.values ≡ c.each.values.items =
+    ap (λ (t : Texels). samples_of t) c.of_plane-samples.ensures.same in
+    let new = c.into_shorts-values.result.items in
+    let held : new ≡ samples_of after.values = c.into_shorts-values.ensures in
     let keeps = read.others in
     let steps : after.places.step ≡ level.shape.planes = keeps.step ∙ step ∙ planes in
     let firsts : after.places.first ≡ p = keeps.first ∙ first in
@@ -59,24 +82,28 @@ each-preserved g c =
     let long : length own ≡ place.rect.w * place.rect.h =
     read.count ∙ ap (λ (n : ℕ). place.rect.w * place.rect.h * n) aside ∙ omega arith in
     let done : after.places.done ≡ place.rect.w * place.rect.h =
-    sym (length_taken after.places after.values.items several) ∙ long in
+    sym (length_taken after.places (samples_of after.values) several) ∙ long in
     let at : (k : ℕ) → k * samples_aside level.shape + 0 ≡ k = λ k. rw aside (omega arith) in
     let zero : 0 < samples_aside level.shape = omega (arith, aside) in
+    let depth = c.format-format.ensures.depth in
     let still = g.met.B.ByteReader.lawful.same_size _ _ before.keeps in
     let placed : (k : ℕ) → k < length own
-    → get_or after.values.items (k * level.shape.planes + p) 0 ≡ get_or own k 0 =
-    λ k lt. placed_at after.places after.values.items level.shape.planes p k steps firsts several lt in
+    → get_or new (k * level.shape.planes + p) 0 ≡ get_or own k 0 =
+    λ k lt.
+    ap (λ (l : List ℕ). get_or l (k * level.shape.planes + p) 0) held
+    ∙ placed_at after.places (samples_of after.values) level.shape.planes p k steps firsts several lt in
     let others : (k d : ℕ) → d < level.shape.planes → d ≢ p
-    → get_or after.values.items (k * level.shape.planes + d) 0
+    → get_or new (k * level.shape.planes + d) 0
     ≡ get_or c.each.values.items (k * level.shape.planes + d) 0 =
     λ k d below other.
     let same : k * level.shape.planes + d ≡ k * samples.places.step + d =
     ap (λ (n : ℕ). k * n + d) (sym (step ∙ planes)) in
-    ap (λ (n : ℕ). get_or after.values.items n 0) same
+    ap (λ (l : List ℕ). get_or l (k * level.shape.planes + d) 0) held
+    ∙ ap (λ (n : ℕ). get_or (samples_of after.values) n 0) same
     ∙ keeps.others k d (omega (arith, below, step, planes)) (λ e. other (e ∙ first))
-    ∙ ap (λ (n : ℕ). get_or samples.values.items n 0) (sym same)
+    ∙ ap (λ (n : ℕ). get_or (samples_of samples.values) n 0) (sym same)
     ∙ ap (λ (l : List ℕ). get_or l (k * level.shape.planes + d) 0) items in
-    let room : after.places.done * samples.places.step ≤ length samples.values.items =
+    let room : after.places.done * samples.places.step ≤ length (samples_of samples.values) =
     omega (
       arith,
       ap (λ (n : ℕ). n * samples.places.step) done,
@@ -86,11 +113,10 @@ each-preserved g c =
     ) in
     record {
       keeps = g.met.B.ByteReader.lawful.chains _ _ _ before.keeps read.reader;
-      long = keeps.room several_before room ∙ ap length items ∙ before.long;
-      low = read.low (subst (λ (l : List ℕ). FitDepth (bit_depth_in place.layout.now) l) (sym items)
-          before.low);
+      long = ap length held ∙ keeps.room several_before room ∙ ap length items ∙ before.long;
+      low = rw held (rw depth at (read.low (rw (items, depth) before.low)));
       zeros = planes_more p level.shape.planes place.rect own c.each.values.items
-          after.values.items
+          new
           (λ q i j v. IsBeyond (plane_level level q) (place.rect.x + place.rect.w)
           (g.B.ByteReader.size c.args.reader.now) (place.rect.x + i) (place.rect.y + j) → v ≡ 0)
           there long placed others
@@ -103,7 +129,7 @@ each-preserved g c =
           let there_told = g.met.B.ByteReader.lawful.same_bytes _ _ before.keeps ∙ told in
           let are = read.told bytes there_told (plane_held level p bytes there holds) in
           planes_more p level.shape.planes place.rect own c.each.values.items
-          after.values.items
+          new
           (λ q i j v. v ≡ sample_in place.layout.now.big bytes (plane_level level q)
           (place.rect.x + i) (place.rect.y + j) 0)
           there long placed others

@@ -5,8 +5,14 @@ use Rattle.rect_read.specs.declared.run.Run.{Run}
 use Rattle.rect_read.proofs.Leaves.{leaves_after}
 use Rattle.rect_read.proofs.RunValues.{bytes_within, part_stands, appends_none, appends_more}
 use Rattle.rect_read.specs.Taken.{taken}
-use Rattle.rect_read.proofs.TakenSamples.{keeps_itself, keeps_after}
+use Rattle.rect_read.proofs.TakenSamples.{keeps_itself, keeps_after, fits_after}
 use Rattle.rect_read.proofs.run.read_run.Goals as goal
+
+pub read_part-requires-clause-samples : goal.read_part-requires-clause-samples
+read_part-requires-clause-samples g c =
+    fits_after c.reserve.new.samples c.parts.samples c.args.format.now c.parts.invariant.others
+    (fits_after c.args.samples.now c.reserve.new.samples c.args.format.now c.reserve.ensures.others
+    c.requires.samples)
 
 pub read_part-requires-clause-fits : goal.read_part-requires-clause-fits
 read_part-requires-clause-fits g c =

@@ -4,6 +4,7 @@ use Rattle.tiff_format.specs.Block.{Level}
 use Rattle.tile_layout.specs.FormatOf.{IsFormatOf}
 use Rattle.rect_read.specs.Run.{AppendsValues, StandSideBySide}
 use Rattle.rect_read.specs.Taken.{taken, KeepsOthers}
+use Rattle.rect_read.specs.Texels.{samples_of}
 use Rattle.piece_samples.specs.Unpacked.{KeepsDepth}
 use Rattle.rect_read.specs.Window.{IsWindow}
 use Rattle.rect_read.proofs.run.read_run.Given as goal
@@ -15,7 +16,7 @@ invariant-parts g l = record {
   within : l.done ≤ l.run.texels;
   count : length (taken l.samples)
       ≡ length (taken l.initial.samples) + l.done * l.format.channels;
-  low : KeepsDepth l.format l.initial.samples.values.items l.samples.values.items;
+  low : KeepsDepth l.format (samples_of l.initial.samples.values) (samples_of l.samples.values);
   others : KeepsOthers l.initial.samples l.samples;
   told : ForSome (g.B.ByteReader.bytes l.initial.reader) (λ bytes.
       IsWindow bytes l.window × ((level : Level) → (x_of y_of : ℕ → ℕ)

@@ -8,7 +8,7 @@ use Rattle.tile_layout.specs.FormatOf.{IsFormatOf}
 use Rattle.tile_layout.specs.Pieces.{row_texels}
 use Rattle.tile_layout.specs.declared.texel_format.TexelFormat.{TexelFormat}
 use Rattle.rect_read.specs.Taken.{taken}
-use Rattle.rect_read.proofs.TakenSamples.{keeps_itself, keeps_after}
+use Rattle.rect_read.proofs.TakenSamples.{keeps_itself, keeps_after, fits_after}
 use Rattle.rect_read.specs.Zeros.{AddsTexels, LiesBeyond}
 use Rattle.rect_read.proofs.ZeroTexels.{adds_then, adds_long}
 use Rattle.rect_read.proofs.PieceEnds.{piece_adds, taken_far}
@@ -34,6 +34,11 @@ unit_of : (format : TexelFormat) (level : Level)
     → IsFormatOf format.big level.shape format
     → format.texel_bytes ≡ texel_bytes level.shape
 unit_of format level is = rw (is.one, ← is.channels, ← is.depth) format.in_range.bytes
+
+pub read_piece-requires-clause-samples : goal.read_piece-requires-clause-samples
+read_piece-requires-clause-samples g c =
+    fits_after c.args.self.now.samples c.pieces.self.samples c.args.format.now
+    c.pieces.invariant.others c.requires.samples
 
 pub pieces-init : goal.pieces-init
 pieces-init g c = record {

@@ -6,6 +6,7 @@ use Rattle.tile_layout.specs.Blocks.{HoldsBlocks}
 use Rattle.rect_read.specs.Samples.{samples_at}
 use Rattle.rect_read.specs.Zeros.{AddsTexels, LiesBeyond}
 use Rattle.rect_read.specs.Taken.{taken, KeepsOthers}
+use Rattle.rect_read.specs.Texels.{samples_of}
 use Rattle.piece_samples.specs.Unpacked.{KeepsDepth}
 use Rattle.rect_read.specs.Window.{AreWindows}
 use Rattle.rect_read.proofs.reading.Reading.read_pieces.Given as goal
@@ -34,7 +35,8 @@ invariant-pieces g l = record {
   count : length (taken l.self.samples) + length l.pieces.texels * l.format.channels
       ≡ length (taken l.initial.self.samples)
       + length l.initial.pieces.texels * l.format.channels;
-  low : KeepsDepth l.format l.initial.self.samples.values.items l.self.samples.values.items;
+  low : KeepsDepth l.format (samples_of l.initial.self.samples.values)
+      (samples_of l.self.samples.values);
   others : KeepsOthers l.initial.self.samples l.self.samples;
   told : ForSome (g.B.ByteReader.bytes l.initial.reader) (λ bytes.
       AreWindows bytes l.initial.self.windows.items

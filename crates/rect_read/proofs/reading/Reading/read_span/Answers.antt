@@ -1,4 +1,4 @@
-use Rattle.std.proofs.Common.{◌≡◌, ℕ, ◌*◌, List, ◌++◌, length, map, ap, ◌∙◌, arith}
+use Rattle.std.proofs.Common.{◌≡◌, ℕ, ◌*◌, List, ◌++◌, length, map, ap, ◌∙◌}
 use Rattle.std.specs.List.{range_with_len}
 use Rattle.std.proofs.lemmas.List.FromFn.{length-map-range_with_len}
 use Rattle.tiff_format.specs.Block.{sample_bytes, texel_bytes}
@@ -6,13 +6,9 @@ use Rattle.rect_read.specs.Taken.{taken}
 use Rattle.piece_samples.specs.Unpacked.{unpacked}
 use Rattle.tile_layout.proofs.PlaceLemmas.{bytes_by}
 use Rattle.rect_read.proofs.PieceValues.{piece_values}
+use Rattle.rect_read.proofs.SampleValues.{span_samples}
 use Rattle.rect_read.proofs.Windows.{window_at, window_set}
 use Rattle.rect_read.proofs.reading.Reading.read_span.Goals as goal
-
--- n texels of that many samples of that size
-samples_of : (n unit channels size : ℕ) → unit ≡ channels * size
-    → n * unit ≡ size * (n * channels)
-samples_of n unit channels size is = rw is (omega arith)
 
 pub returns-clause-told : goal.returns-clause-told
 returns-clause-told g c = λ bytes told level right windows is lies.
@@ -27,7 +23,7 @@ returns-clause-told g c = λ bytes told level right windows is lies.
     let new = c.in_ok-fill.ensures.told bytes told window in
     let long : length span ≡ sample_bytes level.shape.depth * (piece.n * level.shape.channels) =
     c.piece.ensures.long ∙ c.of-span.ensures.size
-    ∙ samples_of piece.n format.texel_bytes level.shape.channels (sample_bytes level.shape.depth)
+    ∙ span_samples piece.n format.texel_bytes level.shape.channels (sample_bytes level.shape.depth)
     (unit ∙ bytes_by level.shape is.one) in
     let values : ℕ → ℕ = unpacked c.args.format.now span in (
       window_set bytes list c.args.k c.fill.new.self windows new,

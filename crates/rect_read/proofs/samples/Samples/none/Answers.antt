@@ -1,6 +1,0 @@
-use Rattle.std.proofs.Common.{refl, ◌∙◌}
-use Rattle.rect_read.proofs.TakenSamples.{taken_alone}
-use Rattle.rect_read.proofs.samples.Samples.none.Goals as goal
-
-pub returns-clause-taken : goal.returns-clause-taken
-returns-clause-taken c = taken_alone _ _ refl ∙ c.new.ensures.items

@@ -1,0 +1,106 @@
+//! The samples of texels, in the room that their depth takes.
+
+ghost use Rattle.std.specs.Prelude.{◌≡◌, ◌*◌, ◌++◌, ℕ, true, length, map, replicate, IfOk, OnOk};
+ghost use Rattle.std.specs.List.{range_with_len};
+ghost use Rattle.tiff_format.specs.Block.{sample_bytes};
+ghost use Rattle.tile_layout.specs.Texel.{FitDepth};
+ghost use Rattle.piece_samples.specs.Unpacked.{unpacked, KeepsDepth};
+ghost use Rattle.rect_read.specs.Texels.{are_wide, samples_of, FitsTexels};
+
+use crate::samples::push_samples;
+use std::alloc::{AllocError, Global};
+use tile_layout::TexelFormat;
+
+/// The samples of texels, in the room that their depth takes.
+#[derive(Debug, Drop)]
+pub enum Texels {
+    /// A byte each, from 0 to 255: those of a file of 8 bits.
+    Bytes(Vec<u8>),
+    /// Two bytes each, from 0 to 65535: those of a file of 16 bits.
+    Shorts(Vec<u16>),
+}
+
+impl Texels {
+    /// Where the memory for them is found.
+    pub(crate) fn allocator(&self) -> Global {
+        match self {
+            Texels::Bytes(values) => *values.allocator(),
+            Texels::Shorts(values) => *values.allocator(),
+        }
+    }
+
+    /// Finds memory for so many more.
+    pub(crate) fn reserve(&mut self, count: usize) -> Result<(), AllocError>
+        ensures same { samples_of self.new ≡ samples_of self.old }
+        ensures wide { are_wide self.new ≡ are_wide self.old }
+    {
+        match self {
+            Texels::Bytes(values) => values.reserve(count),
+            Texels::Shorts(values) => values.reserve(count),
+        }
+    }
+
+    /// Appends so many samples. Those that take a byte each are the bytes.
+    pub(crate) fn push(
+        &mut self,
+        format: &TexelFormat,
+        bytes: &[u8],
+        count: usize,
+    ) -> Result<(), AllocError>
+        requires size { length bytes.now ≡ sample_bytes format.now.depth * count }
+        requires fits { FitsTexels self.old format.now }
+        ensures values { OnOk result (samples_of self.new ≡ samples_of self.old
+            ++ map (unpacked format.now bytes.now) (range_with_len 0 count)) }
+        ensures low { OnOk result (KeepsDepth format.now
+            (samples_of self.old) (samples_of self.new)) }
+        ensures wide { are_wide self.new ≡ are_wide self.old }
+    {
+        match self {
+            Texels::Bytes(values) => values.extend_from_slice(bytes),
+            Texels::Shorts(values) => push_samples(values, format, bytes, count),
+        }
+    }
+
+    /// Appends n samples of 0.
+    pub(crate) fn push_zeros(&mut self, n: usize) -> Result<(), AllocError>
+        ensures values { OnOk result (samples_of self.new ≡ samples_of self.old ++ replicate n 0) }
+        ensures low { OnOk result ((depth : ℕ) → FitDepth depth (samples_of self.old)
+            → FitDepth depth (samples_of self.new)) }
+        ensures wide { are_wide self.new ≡ are_wide self.old }
+    {
+        match self {
+            Texels::Bytes(values) => {
+                values.reserve(n)?;
+                values.resize(values.len() + n, 0)?;
+            }
+            Texels::Shorts(values) => {
+                values.reserve(n)?;
+                values.resize(values.len() + n, 0)?;
+            }
+        }
+        Ok(())
+    }
+
+    /// Those that take two bytes each.
+    pub(crate) fn into_shorts(self) -> Vec<u16>
+        requires { are_wide self ≡ true }
+        ensures { result.items ≡ samples_of self }
+    {
+        match self {
+            Texels::Shorts(values) => values,
+            Texels::Bytes(_) => unreachable!(),
+        }
+    }
+}
+
+/// Samples of 8 bits, a byte each.
+pub(crate) fn narrowed(alloc: Global, samples: &[u16]) -> Result<Vec<u8>, AllocError>
+    requires { FitDepth 8 samples.now }
+    ensures { IfOk result (λ bytes. bytes.items ≡ samples.now) }
+{
+    let mut bytes = vec![in alloc; 0u8; samples.len()]?;
+    for (k, byte) in bytes.iter_mut().enumerate() {
+        *byte = samples[k] as u8;
+    }
+    Ok(bytes)
+}
