@@ -6,6 +6,7 @@ ghost use Rattle.tile_load.specs.Load.{IsLayoutOf};
 use crate::layouts::{Place, cut_of};
 use crate::shard_calls::{counts, find, insert, release};
 use crate::tiled::Tiled;
+use crate::tiles::is_row;
 use std::alloc::Global;
 use std::test::Fail;
 use tap_reader::{OpenFile, ReadAhead, TapReader};
@@ -75,7 +76,7 @@ fn has_ends<W: World>(tile: &Tile<W>, first: &[u16], last: &[u16]) -> bool {
         return false;
     }
     let (right, bottom) = (rect.x + rect.w - 1, rect.y + rect.h - 1);
-    tile.row(rect.x, rect.y, 1) == first && tile.row(right, bottom, 1) == last
+    is_row(&tile.row(rect.x, rect.y, 1), first) && is_row(&tile.row(right, bottom, 1), last)
 }
 
 fn is_wanted<W: World>(answer: Result<Tile<W>, LoadError>, wanted: Wanted) -> bool {

@@ -4,7 +4,7 @@ use std::alloc::{AllocError, Global};
 use std::test::Fail;
 use tiff_format::Rect;
 use tile_layout::TileKey;
-use tile_store::Tile;
+use tile_store::{Row, Tile};
 
 // The texel is in the tile, and a sample of it is this.
 fn has_sample(tile: &Tile<Untold>, (x, y, c): (u32, u32, u32), sample: u16) -> bool {
@@ -15,26 +15,74 @@ fn has_sample(tile: &Tile<Untold>, (x, y, c): (u32, u32, u32), sample: u16) -> b
     x - rect.x < rect.w && y - rect.y < rect.h && tile.texel(x, y, c) == sample
 }
 
+/// The samples of the row are these.
+pub(crate) fn is_row(row: &Row<'_>, samples: &[u16]) -> bool {
+    if row.count() != samples.len() {
+        return false;
+    }
+    for k in 0..samples.len() {
+        if row.sample(k) != samples[k] {
+            return false;
+        }
+    }
+    true
+}
+
 // The texels from one on are in its row of the tile, and these are their samples.
 fn has_row(tile: &Tile<Untold>, (x, y, n): (u32, u32, u32), samples: &[u16]) -> bool {
     let rect = tile.rect();
     if x < rect.x || y < rect.y || y - rect.y >= rect.h || n > rect.w {
         return false;
     }
-    x - rect.x <= rect.w - n && tile.row(x, y, n) == samples
+    x - rect.x <= rect.w - n && is_row(&tile.row(x, y, n), samples)
 }
 
 static SAMPLES: [u16; 12] = [10, 11, 20, 21, 30, 31, 40, 41, 50, 51, 60, 61];
 
-// Two rows of three texels with two samples each, whose left upper texel is (8, 4).
+static BYTES: [u8; 12] = [10, 11, 20, 21, 30, 31, 40, 41, 50, 51, 60, 61];
+
+// Two rows of three texels, whose left upper texel is (8, 4).
+const RECT: Rect = Rect {
+    x: 8,
+    y: 4,
+    w: 3,
+    h: 2,
+};
+
+// They have two samples each.
 fn tile_of(alloc: Global, key: TileKey) -> Result<Tile<Untold>, AllocError> {
-    let rect = Rect {
-        x: 8,
-        y: 4,
-        w: 3,
-        h: 2,
-    };
-    Ok(Tile::new(key, rect, 2, SAMPLES.to_vec(alloc)?))
+    Ok(Tile::new(key, RECT, 2, SAMPLES.to_vec(alloc)?))
+}
+
+// The same, of a byte each.
+fn tile_of_bytes(alloc: Global, key: TileKey) -> Result<Tile<Untold>, AllocError> {
+    Ok(Tile::of_bytes(key, RECT, 2, BYTES.to_vec(alloc)?))
+}
+
+// The tile has those samples, and counts two bytes for each.
+fn has_samples(tile: &Tile<Untold>) -> bool {
+    tile.channels() == 2
+        && tile.bytes() == 24
+        && has_sample(tile, (8, 4, 0), 10)
+        && has_sample(tile, (9, 4, 1), 21)
+        && has_sample(tile, (10, 5, 1), 61)
+        && has_row(tile, (9, 5, 2), &[50, 51, 60, 61])
+        && has_row(tile, (8, 4, 0), &[])
+}
+
+// The samples of a row of the tile, copied, are these.
+fn copies(tile: &Tile<Untold>, y: u32, samples: &[u16; 6]) -> bool {
+    let rect = tile.rect();
+    if rect.w != 3 || tile.channels() != 2 || y < rect.y || y - rect.y >= rect.h {
+        return false;
+    }
+    let mut out = [0; 6];
+    let row = tile.row(rect.x, y, rect.w);
+    if row.count() != out.len() {
+        return false;
+    }
+    row.copy_to(&mut out);
+    out == *samples
 }
 
 #[test]
@@ -42,12 +90,19 @@ fn shows_its_texels(rt: HostRuntime) -> Result<(), Fail> {
     let key = TileKey::new(1, 2, 3, 4);
     let tile = tile_of(rt.alloc(), key)?;
     assert!(rt; tile.key() == key);
-    assert_eq!(rt; tile.channels(), 2);
-    assert_eq!(rt; tile.bytes(), 24);
-    assert!(rt; has_sample(&tile, (8, 4, 0), 10));
-    assert!(rt; has_sample(&tile, (9, 4, 1), 21));
-    assert!(rt; has_sample(&tile, (10, 5, 1), 61));
-    assert!(rt; has_row(&tile, (9, 5, 2), &[50, 51, 60, 61]));
-    assert!(rt; has_row(&tile, (8, 4, 0), &[]));
+    assert!(rt; !tile.has_bytes());
+    assert!(rt; has_samples(&tile));
+    assert!(rt; copies(&tile, 4, &[10, 11, 20, 21, 30, 31]));
+    Ok(())
+}
+
+#[test]
+fn keeps_a_byte_a_sample(rt: HostRuntime) -> Result<(), Fail> {
+    let key = TileKey::new(1, 2, 3, 4);
+    let tile = tile_of_bytes(rt.alloc(), key)?;
+    assert!(rt; tile.key() == key);
+    assert!(rt; tile.has_bytes());
+    assert!(rt; has_samples(&tile));
+    assert!(rt; copies(&tile, 5, &[40, 41, 50, 51, 60, 61]));
     Ok(())
 }

@@ -15,5 +15,5 @@ mod window;
 pub use place::Place;
 pub use rect::{read_rect, read_texels};
 pub use rect_error::RectError;
-pub use texels::Texels;
+pub use texels::{Texels, narrowed};
 pub use window::MAX_GAP;

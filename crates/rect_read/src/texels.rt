@@ -94,7 +94,7 @@ impl Texels {
 }
 
 /// Samples of 8 bits, a byte each.
-pub(crate) fn narrowed(alloc: Global, samples: &[u16]) -> Result<Vec<u8>, AllocError>
+pub fn narrowed(alloc: Global, samples: &[u16]) -> Result<Vec<u8>, AllocError>
     requires { FitDepth 8 samples.now }
     ensures { IfOk result (λ bytes. bytes.items ≡ samples.now) }
 {

@@ -9,6 +9,8 @@ mod bench;
 #[cfg(test)]
 mod boards;
 #[cfg(test)]
+mod cell_reader;
+#[cfg(test)]
 mod gate_calls;
 #[cfg(test)]
 mod gate_pins;

@@ -13,7 +13,7 @@ use tex_world::{
 use tiff_format::Cut;
 use tile_layout::TileKey;
 use tile_load::{LoadError, load};
-use tile_store::Tile;
+use tile_store::{Row, Tile};
 use waiter::Tries;
 
 type Source = MemTap<Pictures>;
@@ -90,6 +90,19 @@ enum Wanted {
     Gone(u32),
 }
 
+/// The samples of the row are these.
+fn is_row(row: &Row<'_>, samples: &[u16]) -> bool {
+    if row.count() != samples.len() {
+        return false;
+    }
+    for k in 0..samples.len() {
+        if row.sample(k) != samples[k] {
+            return false;
+        }
+    }
+    true
+}
+
 /// The rows of a tile of one channel, one behind the other, are these samples.
 fn has_samples<W: World>(tile: &Tile<W>, samples: &[u16]) -> bool {
     let rect = tile.rect();
@@ -99,10 +112,13 @@ fn has_samples<W: World>(tile: &Tile<W>, samples: &[u16]) -> bool {
     let mut rest = samples;
     for k in 0..rect.h {
         let row = tile.row(rect.x, rect.y + k, rect.w);
-        if rest.get(..row.len()) != Some(row) {
+        let Some(samples) = rest.get(..row.count()) else {
+            return false;
+        };
+        if !is_row(&row, samples) {
             return false;
         }
-        rest = &rest[row.len()..];
+        rest = &rest[row.count()..];
     }
     rest.is_empty()
 }

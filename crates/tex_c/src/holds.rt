@@ -1,15 +1,16 @@
 //! What a pass holds and has counted, and how it ends.
-ghost use Rattle.std.specs.Prelude.{◌≡◌, ◌⊎◌, ◌<◌, ◌≤◌, length, slice_get, IsSomeAnd};
+ghost use Rattle.std.specs.Prelude.{◌≡◌, ◌⊎◌, ◌<◌, ◌≤◌, length, take, slice_get};
+ghost use Rattle.std.specs.Prelude.{IsTrue, IsFalse, IsSomeAnd};
 ghost use Rattle.std.specs.List.{remove};
+ghost use Rattle.tile_store.specs.Row.{samples_of};
 ghost use Rattle.tex_c.specs.Calls.{SaysRow, SaysTileRow, SaysHeld, SaysRelease};
 ghost use Rattle.tex_c.specs.Request.{texel_of};
 
 use crate::answer::{ANSWERED, BUSY, NO_PART, NOTHING_HELD, SMALL_BUFFER};
 use crate::client::Client;
-use crate::saying::copy_out;
 use crate::world::SuppliedWorld;
 use image_cache::{NotReleased, TexelAt};
-use tile_store::Tile;
+use tile_store::{Row, Tile};
 use waiter::Tries;
 
 /// How often a call tries before it says that it is busy.
@@ -156,6 +157,21 @@ impl Client {
     }
 }
 
+/// Copies the samples of a row to a buffer of the caller, unless it is too small.
+fn copy_row(row: &Row<'_>, out: &mut [u16]) -> bool
+    ensures ok { IsTrue result
+        → take (length (samples_of row.now)) out.new ≡ samples_of row.now }
+    ensures err { IsFalse result
+        → (length out.old < length (samples_of row.now)) × (out.new ≡ out.old) }
+{
+    let count = row.count();
+    if out.len() < count {
+        return false;
+    }
+    row.copy_to(&mut out[..count]);
+    true
+}
+
 /// Writes the samples of a row of a tile.
 fn say_tile_row(tile: &Tile<SuppliedWorld>, row: u32, out: &mut [u16]) -> u32
     ensures { SaysTileRow tile.now row result out.old out.new }
@@ -169,7 +185,7 @@ fn say_tile_row(tile: &Tile<SuppliedWorld>, row: u32, out: &mut [u16]) -> u32
     let Some(y) = rect.y.checked_add(row) else {
         return NO_PART;
     };
-    if copy_out(tile.row(rect.x, y, rect.w), out) {
+    if copy_row(&tile.row(rect.x, y, rect.w), out) {
         ANSWERED
     } else {
         SMALL_BUFFER

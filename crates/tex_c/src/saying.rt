@@ -265,7 +265,7 @@ impl TexRegion {
 }
 
 /// Copies values to a buffer of the caller, unless it is too small.
-pub(crate) fn copy_out(values: &[u16], out: &mut [u16]) -> bool
+fn copy_out(values: &[u16], out: &mut [u16]) -> bool
     ensures ok { IsTrue result → (take (length values.now) out.new ≡ values.now)
         × (drop (length values.now) out.new ≡ drop (length values.now) out.old) }
     ensures err { IsFalse result → (length out.old < length values.now) × (out.new ≡ out.old) }

@@ -1,14 +1,14 @@
 //! The texels of a tile, written to the values of a region.
 ghost use Rattle.std.specs.Prelude.{◌≡◌, ◌⊎◌, ℕ, ◌+◌, ◌*◌, ◌<◌, ◌≤◌, ◌^◌, length, slice_index};
-ghost use Rattle.tile_store.specs.Tile.{AreSamples};
+ghost use Rattle.tile_store.specs.Row.{samples_of};
 ghost use Rattle.tile_layout.specs.Pieces.{LiesOn};
 ghost use Rattle.texel_values.specs.Values.{kept_value};
 ghost use Rattle.texel_values.specs.Window.{HasValues, Paints, PaintsTold};
 
-use crate::values::value_of;
+use crate::values::{NARROW_DEPTH, value_of};
 use crate::window::Window;
 use tex_world::World;
-use tile_store::Tile;
+use tile_store::{Row, Tile};
 
 /// Writes those texels of a tile that a region has to their places among its values, row by row,
 /// channels side by side.
@@ -60,30 +60,41 @@ fn paint_tile<W: World>(
     let from = (columns.before + (left - columns.first)) as usize * window.channels as usize;
     for y in top..bottom {
         let start = (rows.before + (y - rows.first)) as usize * row;
-        paint_row(tile.row(left, y, right - left), depth, start + from, values);
+        let samples = tile.row(left, y, right - left);
+        paint_row(&samples, depth, start + from, values);
     }
 }
 
 /// Writes the values of samples to places side by side, from one on.
-fn paint_row(samples: &[u16], depth: u32, from: usize, values: &mut [u16])
-    requires { from + length samples.now ≤ length values.old }
+fn paint_row(samples: &Row<'_>, depth: u32, from: usize, values: &mut [u16])
+    requires { from + length (samples_of samples.now) ≤ length values.old }
     ensures long { length values.new ≡ length values.old }
-    ensures written { (k : ℕ) → k < length samples.now
-        → slice_index values.new (from + k) ≡ kept_value depth (slice_index samples.now k) }
-    ensures others { (k : ℕ) → (k < from) ⊎ (from + length samples.now ≤ k)
+    ensures written { (k : ℕ) → k < length (samples_of samples.now)
+        → slice_index values.new (from + k)
+        ≡ kept_value depth (slice_index (samples_of samples.now) k) }
+    ensures others { (k : ℕ) → (k < from) ⊎ (from + length (samples_of samples.now) ≤ k)
         → slice_index values.new k ≡ slice_index values.old k }
 {
-    write_samples(samples, depth, &mut values[from..from + samples.len()]);
+    let out = &mut values[from..from + samples.count()];
+    // a body for each of the four, so that none asks at each value
+    match (samples.has_bytes(), depth == NARROW_DEPTH) {
+        (true, true) => write_samples(samples, NARROW_DEPTH, out),
+        (false, true) => write_samples(samples, NARROW_DEPTH, out),
+        (true, false) => write_samples(samples, depth, out),
+        (false, false) => write_samples(samples, depth, out),
+    }
 }
 
 /// Writes the values of as many samples.
-fn write_samples(samples: &[u16], depth: u32, out: &mut [u16])
-    requires { length samples.now ≡ length out.old }
+#[inline(always)]
+fn write_samples(samples: &Row<'_>, depth: u32, out: &mut [u16])
+    requires { length (samples_of samples.now) ≡ length out.old }
     ensures long { length out.new ≡ length out.old }
     ensures values { (k : ℕ) → k < length out.new
-        → slice_index out.new k ≡ kept_value depth (slice_index samples.now k) }
+        → slice_index out.new k ≡ kept_value depth (slice_index (samples_of samples.now) k) }
 {
+    let samples = *samples;
     for k in 0..out.len() {
-        out[k] = value_of(depth, samples[k]);
+        out[k] = value_of(depth, samples.sample(k));
     }
 }

@@ -1,6 +1,4 @@
 //! The values of the four texels of a square.
-ghost use Rattle.std.specs.Prelude.{◌≡◌, ◌+◌, ◌<◌, ◌≤◌, length, take, drop};
-ghost use Rattle.tile_layout.specs.Cell.{HoldsTexel};
 ghost use Rattle.texel_filter.specs.Image.{IsChannelCount};
 ghost use Rattle.texel_values.specs.Square.{HoldsSquare, AreToldCorners};
 
@@ -12,7 +10,8 @@ use tile_store::Tile;
 /// Writes the values of the first channels of the four texels of a square, all of one tile, and 0
 /// for those that it lacks.
 ///
-/// It has a body for samples of 8 bits and one for others, so that none asks for it at each value.
+/// It has a body for a tile of bytes of 8 bits and one for a tile of more, so that none asks for
+/// them at each value.
 #[inline(always)]
 pub fn write_square<W: World>(
     tile: &Tile<W>,
@@ -25,14 +24,30 @@ pub fn write_square<W: World>(
     requires channels { IsChannelCount channels }
     ensures { AreToldCorners W.files tile.now depth square.now channels out.new }
 {
-    if depth == NARROW_DEPTH {
-        write_corners(tile, NARROW_DEPTH, square, channels, out);
-    } else {
-        write_corners(tile, depth, square, channels, out);
+    match (tile.has_bytes(), depth == NARROW_DEPTH) {
+        (true, true) => write_corners(tile, NARROW_DEPTH, square, channels, out),
+        (false, false) => write_corners(tile, depth, square, channels, out),
+        _ => write_unlike(tile, depth, square, channels, out),
     }
 }
 
-/// The same, compiled where the compiler knows what it is to know of the depth.
+/// The same where a sample takes other bits than the depth has.
+#[inline(never)]
+fn write_unlike<W: World>(
+    tile: &Tile<W>,
+    depth: u32,
+    square: &Square,
+    channels: usize,
+    out: &mut Corners,
+)
+    requires inside { HoldsSquare tile.now.rect square.now }
+    requires channels { IsChannelCount channels }
+    ensures { AreToldCorners W.files tile.now depth square.now channels out.new }
+{
+    write_corners(tile, depth, square, channels, out);
+}
+
+/// The same, compiled where the compiler knows what it is to know of the tile and the depth.
 #[inline(always)]
 fn write_corners<W: World>(
     tile: &Tile<W>,
@@ -53,23 +68,15 @@ fn write_corners<W: World>(
     let wide = tile.channels() as usize;
     let left = (square.left - from) as usize * wide;
     let right = (square.right - from) as usize * wide;
-    let left_top = texel_in(rows.top, left, wide);
-    let right_top = texel_in(rows.top, right, wide);
-    let left_bottom = texel_in(rows.bottom, left, wide);
-    let right_bottom = texel_in(rows.bottom, right, wide);
+    let (top, bottom) = (rows.top(), rows.bottom());
+    let left_top = top.part(left, wide);
+    let right_top = top.part(right, wide);
+    let left_bottom = bottom.part(left, wide);
+    let right_bottom = bottom.part(right, wide);
     'channels: for c in 0..channels {
-        out.left_top[c] = channel_value(left_top, depth, c);
-        out.right_top[c] = channel_value(right_top, depth, c);
-        out.left_bottom[c] = channel_value(left_bottom, depth, c);
-        out.right_bottom[c] = channel_value(right_bottom, depth, c);
+        out.left_top[c] = channel_value(&left_top, depth, c);
+        out.right_top[c] = channel_value(&right_top, depth, c);
+        out.left_bottom[c] = channel_value(&left_bottom, depth, c);
+        out.right_bottom[c] = channel_value(&right_bottom, depth, c);
     }
-}
-
-/// The samples of a texel, from a place of a row on.
-#[inline(always)]
-fn texel_in(row: &[u16], at: usize, wide: usize) -> &[u16]
-    requires { at + wide ≤ length row.now }
-    ensures { result.now ≡ take wide (drop at row.now) }
-{
-    &row[at..at + wide]
 }

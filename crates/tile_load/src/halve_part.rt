@@ -5,6 +5,7 @@ ghost use Rattle.tiff_format.specs.Level.{halved};
 ghost use Rattle.tile_load.specs.PartPlace.{HalvesRows};
 ghost use Rattle.tile_load.specs.Quarters.{row_average};
 ghost use Rattle.tile_layout.specs.Texel.{clamped};
+ghost use Rattle.tile_store.specs.Row.{top_of, bottom_of};
 
 use crate::part_place::PartPlace;
 use crate::quarters::halve_row;
@@ -13,14 +14,14 @@ use tile_store::{Tile, TwoRows};
 
 /// Writes a row that is half of two rows of a part, from a place of the cell's samples on.
 fn write_row(rows: &TwoRows<'_>, place: &PartPlace, start: usize, samples: &mut [u16])
-    requires top { length rows.now.top.now ≡ place.now.part.w * place.now.channels }
-    requires bottom { length rows.now.bottom.now ≡ place.now.part.w * place.now.channels }
+    requires top { length (top_of rows.now) ≡ place.now.part.w * place.now.channels }
+    requires bottom { length (bottom_of rows.now) ≡ place.now.part.w * place.now.channels }
     requires inside { start + halved place.now.part.w * place.now.channels ≤ length samples.old }
     ensures long { length samples.new ≡ length samples.old }
     ensures before { (k : ℕ) → k < start → slice_index samples.new k ≡ slice_index samples.old k }
     ensures each { (i c : ℕ) → i < halved place.now.part.w → c < place.now.channels
         → slice_index samples.new (start + (i * place.now.channels + c))
-        ≡ row_average place.now.channels rows.now.top.now rows.now.bottom.now
+        ≡ row_average place.now.channels (top_of rows.now) (bottom_of rows.now)
         (clamped place.now.part.w (2 * i)) (clamped place.now.part.w (2 * i + 1)) c }
     ensures behind { (k : ℕ) → start + halved place.now.part.w * place.now.channels ≤ k
         → slice_index samples.new k ≡ slice_index samples.old k }

@@ -11,6 +11,8 @@ ghost use Rattle.rect_read.specs.Zeros.{AreZeros};
 ghost use Rattle.tile_store.specs.Told.{IsTold};
 
 use crate::halve_part::halve_part;
+use crate::loading::tile_of;
+use crate::narrow::kept_samples;
 use crate::part_place::PartPlace;
 use crate::part_span::PartSpan;
 use file_table::Record;
@@ -142,13 +144,15 @@ impl<'a, W: World> Halving<'a, W> {
         self.done += 1;
     }
 
-    /// The tile, once all parts were added.
+    /// The tile, once all parts were added. Of a file of 8 bits it keeps a byte a sample, where there is
+    /// memory for them.
     pub fn finish(self) -> Tile<W>
         requires done { self.done ≡ part_count self.layout self.cut self.key }
         ensures tile { IsCellTile self.entry.layout self.entry.cut self.entry.key result }
         ensures told { IsTold W.files result }
     {
-        Tile::new(self.key, self.rect, self.channels, self.samples)
+        let texels = kept_samples(self.layout.depth(), self.samples);
+        tile_of(self.key, self.rect, self.channels, texels)
     }
 }
 

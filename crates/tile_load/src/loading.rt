@@ -11,16 +11,18 @@ ghost use Rattle.tile_load.specs.Load.{IsLayoutOf, IsReadBy, NamesCell};
 ghost use Rattle.piece_samples.specs.Beyond.{CountAsZero, IsFilled, IsAllBeyond};
 ghost use Rattle.tile_load.specs.CellTile.{IsCellTile, HasZeros, IsCellBeyond};
 ghost use Rattle.tile_load.specs.LoadError.{LeavesTap};
+ghost use Rattle.rect_read.specs.Texels.{samples_of};
+ghost use Rattle.tile_store.specs.Tile.{cached_tile, IsTile};
 ghost use Rattle.tile_store.specs.Told.{IsTold};
 
 use crate::bands::next_bands;
 use crate::load_error::{LoadError, load_error};
 use file_table::Record;
-use rect_read::{Place, read_rect};
+use rect_read::{Place, Texels, read_texels};
 use std::alloc::Global;
 use tap_reader::{AheadReader, OpenFile};
-use tex_world::Tap;
-use tiff_format::Cut;
+use tex_world::{Tap, World};
+use tiff_format::{Cut, Rect};
 use tile_layout::{Layout, TileKey};
 use tile_store::Tile;
 
@@ -66,7 +68,8 @@ pub fn load<T: Tap>(
 ///
 /// A cell that is whole rows of a strip or tile, as a stored tile is, or of several that follow
 /// each other directly in the file, takes a read for each 256 KiB. So do rows that stand close
-/// together. Besides the tile it takes the bytes of a row and at most 256 KiB that are read ahead.
+/// together. Besides the tile it takes the bytes of a row and at most 256 KiB that are read ahead. A
+/// tile of a file of 8 bits keeps a byte a sample.
 /// A piece that does not lie below the handle's length is not read, and its samples count as 0.
 pub fn load_at<T: Tap>(
     alloc: Global,
@@ -103,8 +106,20 @@ pub fn load_at<T: Tap>(
         rect,
     };
     match read_place(alloc, tap, file, &place) {
-        Ok(texels) => Ok(Tile::new(key, rect, layout.channels(), texels)),
+        Ok(texels) => Ok(tile_of(key, rect, layout.channels(), texels)),
         Err(error) => Err(error),
+    }
+}
+
+/// The tile of these texels.
+pub(crate) fn tile_of<W: World>(key: TileKey, rect: Rect, channels: u32, texels: Texels) -> Tile<W>
+    requires tile { IsTile (cached_tile key rect channels (samples_of texels)) }
+    requires told { IsTold W.files (cached_tile key rect channels (samples_of texels)) }
+    ensures { result ≡ cached_tile key rect channels (samples_of texels) }
+{
+    match texels {
+        Texels::Bytes(texels) => Tile::of_bytes(key, rect, channels, texels),
+        Texels::Shorts(texels) => Tile::new(key, rect, channels, texels),
     }
 }
 
@@ -114,22 +129,22 @@ fn read_place<T: Tap>(
     tap: &mut T,
     file: &mut OpenFile<T>,
     place: &Place<'_>,
-) -> Result<Vec<u16>, LoadError>
+) -> Result<Texels, LoadError>
     requires layout { ForSome (T.W.files.held (T.Handle.named file.old.handle).file
         (T.Handle.named file.old.handle).generation)
         (λ bytes. IsLayoutOf bytes place.now.layout.now) }
-    ensures count { IfOk result (λ texels. length texels.items ≡ place.now.rect.w
+    ensures count { IfOk result (λ texels. length (samples_of texels) ≡ place.now.rect.w
         * place.now.rect.h * (level_in place.now.layout.now place.now.level).shape.channels) }
     ensures low { IfOk result (λ texels.
-        FitDepth (bit_depth_in place.now.layout.now) texels.items) }
+        FitDepth (bit_depth_in place.now.layout.now) (samples_of texels)) }
     ensures told { ForSome (T.W.files.held (T.Handle.named file.old.handle).file
         (T.Handle.named file.old.handle).generation) (λ bytes. IfOk result (λ texels.
         AreTexelsOn (texel_at bytes place.now.level)
         (level_in place.now.layout.now place.now.level).shape.channels
-        place.now.rect texels.items)) }
+        place.now.rect (samples_of texels))) }
     ensures zeros { IfOk result (λ texels. CountAsZero
         (level_in place.now.layout.now place.now.level) (T.Handle.named file.old.handle).len
-        place.now.rect texels.items) }
+        place.now.rect (samples_of texels)) }
     ensures unread { IsFilled place.now.rect → IsAllBeyond
         (level_in place.now.layout.now place.now.level) (T.Handle.named file.old.handle).len
         place.now.rect → T.state tap.new ≡ T.state tap.old }
@@ -144,7 +159,7 @@ fn read_place<T: Tap>(
         ahead: &mut file.ahead,
         bands: &bands,
     };
-    match read_rect(alloc, &mut reader, place.layout, place.level, place.rect) {
+    match read_texels(alloc, &mut reader, place.layout, place.level, place.rect) {
         Ok(texels) => Ok(texels),
         Err(error) => Err(load_error(error)),
     }

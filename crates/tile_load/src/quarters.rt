@@ -3,6 +3,7 @@
 ghost use Rattle.std.specs.Prelude.{◌≡◌, ◌+◌, ◌*◌, ◌<◌, ◌≤◌, ℕ, length, slice_index};
 ghost use Rattle.tiff_format.specs.Level.{halved};
 ghost use Rattle.tile_layout.specs.Texel.{average};
+ghost use Rattle.tile_store.specs.Row.{top_of, bottom_of};
 ghost use Rattle.tile_load.specs.Quarters.{row_sample, row_average, IsHalfAt};
 
 use tile_store::TwoRows;
@@ -19,22 +20,23 @@ fn average(a: u16, b: u16, c: u16, d: u16) -> u16
 #[inline(always)]
 fn halve_texel(rows: &TwoRows<'_>, channels: usize, i: usize, out: &mut [u16])
     requires out { (i + 1) * channels ≤ length out.old }
-    requires top { (2 * i + 2) * channels ≤ length rows.now.top.now }
-    requires bottom { (2 * i + 2) * channels ≤ length rows.now.bottom.now }
+    requires top { (2 * i + 2) * channels ≤ length (top_of rows.now) }
+    requires bottom { (2 * i + 2) * channels ≤ length (bottom_of rows.now) }
     ensures long { length out.new ≡ length out.old }
     ensures each { (c : ℕ) → c < channels → row_sample channels out.new i c
-        ≡ row_average channels rows.now.top.now rows.now.bottom.now (2 * i) (2 * i + 1) c }
+        ≡ row_average channels (top_of rows.now) (bottom_of rows.now) (2 * i) (2 * i + 1) c }
     ensures before { (k : ℕ) → k < i * channels → slice_index out.new k ≡ slice_index out.old k }
 {
+    let (top, bottom) = (rows.top(), rows.bottom());
     let at = i * channels;
     let left = 2 * at;
     let right = left + channels;
     for c in 0..channels {
         out[at + c] = average(
-            rows.top[left + c],
-            rows.top[right + c],
-            rows.bottom[left + c],
-            rows.bottom[right + c],
+            top.sample(left + c),
+            top.sample(right + c),
+            bottom.sample(left + c),
+            bottom.sample(right + c),
         );
     }
 }
@@ -43,11 +45,11 @@ fn halve_texel(rows: &TwoRows<'_>, channels: usize, i: usize, out: &mut [u16])
 #[inline(always)]
 fn halve_texels(rows: &TwoRows<'_>, count: usize, channels: usize, out: &mut [u16])
     requires out { length out.old ≡ count * channels }
-    requires top { 2 * count * channels ≤ length rows.now.top.now }
-    requires bottom { 2 * count * channels ≤ length rows.now.bottom.now }
+    requires top { 2 * count * channels ≤ length (top_of rows.now) }
+    requires bottom { 2 * count * channels ≤ length (bottom_of rows.now) }
     ensures long { length out.new ≡ length out.old }
     ensures each { (i c : ℕ) → i < count → c < channels → row_sample channels out.new i c
-        ≡ row_average channels rows.now.top.now rows.now.bottom.now (2 * i) (2 * i + 1) c }
+        ≡ row_average channels (top_of rows.now) (bottom_of rows.now) (2 * i) (2 * i + 1) c }
 {
     for i in 0..count {
         halve_texel(rows, channels, i, out);
@@ -57,28 +59,49 @@ fn halve_texels(rows: &TwoRows<'_>, count: usize, channels: usize, out: &mut [u1
 /// Writes the one texel that is made of rows of one texel.
 fn halve_single(rows: &TwoRows<'_>, channels: usize, out: &mut [u16])
     requires out { length out.old ≡ channels }
-    requires top { channels ≤ length rows.now.top.now }
-    requires bottom { channels ≤ length rows.now.bottom.now }
+    requires top { channels ≤ length (top_of rows.now) }
+    requires bottom { channels ≤ length (bottom_of rows.now) }
     ensures long { length out.new ≡ length out.old }
     ensures each { (c : ℕ) → c < channels → slice_index out.new c
-        ≡ row_average channels rows.now.top.now rows.now.bottom.now 0 0 c }
+        ≡ row_average channels (top_of rows.now) (bottom_of rows.now) 0 0 c }
 {
+    let (upper, lower) = (rows.top(), rows.bottom());
     for c in 0..channels {
-        let (top, bottom) = (rows.top[c], rows.bottom[c]);
+        let (top, bottom) = (upper.sample(c), lower.sample(c));
         out[c] = average(top, top, bottom, bottom);
     }
 }
 
-/// Writes a row that is half of two rows of so many texels. Numbers of channels that pictures often
-/// have are cases of their own, since their loops are unrolled.
+/// Writes a row that is half of two rows of so many texels. Rows of bytes are a case of their own,
+/// since the loops of each are compiled to vector code.
 pub(crate) fn halve_row(rows: &TwoRows<'_>, width: usize, channels: usize, out: &mut [u16])
     requires some { 1 ≤ width }
     requires out { length out.old ≡ halved width * channels }
-    requires top { length rows.now.top.now ≡ width * channels }
-    requires bottom { length rows.now.bottom.now ≡ width * channels }
+    requires top { length (top_of rows.now) ≡ width * channels }
+    requires bottom { length (bottom_of rows.now) ≡ width * channels }
     ensures long { length out.new ≡ length out.old }
     ensures each { (i c : ℕ) → i < halved width → c < channels
-        → IsHalfAt channels width rows.now.top.now rows.now.bottom.now out.new i c }
+        → IsHalfAt channels width (top_of rows.now) (bottom_of rows.now) out.new i c }
+{
+    let rows = *rows;
+    if rows.has_bytes() {
+        halve_kept(&rows, width, channels, out);
+    } else {
+        halve_kept(&rows, width, channels, out);
+    }
+}
+
+/// The same. Numbers of channels that pictures often have are cases of their own, since their loops
+/// are unrolled.
+#[inline(always)]
+fn halve_kept(rows: &TwoRows<'_>, width: usize, channels: usize, out: &mut [u16])
+    requires some { 1 ≤ width }
+    requires out { length out.old ≡ halved width * channels }
+    requires top { length (top_of rows.now) ≡ width * channels }
+    requires bottom { length (bottom_of rows.now) ≡ width * channels }
+    ensures long { length out.new ≡ length out.old }
+    ensures each { (i c : ℕ) → i < halved width → c < channels
+        → IsHalfAt channels width (top_of rows.now) (bottom_of rows.now) out.new i c }
 {
     if width == 1 {
         return halve_single(rows, channels, out);

@@ -1,7 +1,7 @@
 -- The samples of a tile: where they stand, and whose they are.
 use Rattle.std.proofs.Common.{◌≡◌, ℕ, ◌+◌, ◌-◌, ◌*◌, ◌<◌, ◌≤◌, List, length, get_or, take, drop, Option, Some, None}
 use Rattle.std.proofs.Common.{ap, ◌∙◌, arith, IsSomeAnd, length-take, length-drop}
-use Rattle.std.proofs.lemmas.List.{get_or-take, get_or-drop, get_or_default}
+use Rattle.std.proofs.lemmas.List.{get_or-take, get_or-drop}
 use Rattle.std.proofs.lemmas.List.Elements.{All-get_or}
 use Rattle.std.proofs.lemmas.Nat.{mul-add-lt, mul-le}
 use Rattle.std.proofs.Math.Nat.{add-mul, mul_comm}
@@ -65,8 +65,26 @@ row_samples tile x y n is row =
           ∙ ap (λ k. get_or tile.texels k 0) (omega arith);
     }
 
+-- ---- the same of the samples that a tile keeps, by its parts
+
+module _ (parts tile : CachedTile) (view : parts ≡ tile) (is : IsTile tile) (x y n place : ℕ)
+    (from : place ≡ place_in tile x y) (row : HoldsRow tile x y n) where
+  pub part_ends : place + n * parts.channels ≤ length parts.texels
+  part_ends =
+      let same : parts.texels ≡ tile.texels = ap (λ t. t.texels) view in
+      let wide : parts.channels ≡ tile.channels = ap (λ t. t.channels) view in
+      rw (from, same, wide) (row_ends tile x y n is row)
+
+  pub part_samples : (samples : List ℕ)
+      → samples ≡ take (n * parts.channels) (drop place parts.texels)
+      → AreSamples tile x y n samples
+  part_samples samples part =
+      let same : parts.texels ≡ tile.texels = ap (λ t. t.texels) view in
+      let wide : parts.channels ≡ tile.channels = ap (λ t. t.channels) view in
+      rw (part, same, wide, from) (row_samples tile x y n is row)
+
 -- a sample of a texel of the tile stands before the end
-sample_within : (tile : CachedTile) (x y c : ℕ) → IsTile tile → HoldsTexel tile.rect x y
+pub sample_within : (tile : CachedTile) (x y c : ℕ) → IsTile tile → HoldsTexel tile.rect x y
     → c < tile.channels → place_in tile x y + c < length tile.texels
 sample_within tile x y c is inside channel =
     let right = inside.right in
@@ -130,12 +148,3 @@ module _ (files : Files) (tile : CachedTile) (is : IsTile tile) (told : IsTold f
   told_samples x y n samples row are = λ tells.
       samples_held x y n samples row are (files.held (file_of tile.key) (generation_of tile.key))
       (told tells)
-
--- what the code reads is a sample of the tile
-pub sample_read : (tile : CachedTile) (x y c : ℕ) (items : List ℕ) (place r : ℕ) → IsTile tile
-    → HoldsTexel tile.rect x y → c < tile.channels → items ≡ tile.texels → place ≡ place_in tile x y
-    → r ≡ get_or items (place + c) r → r ≡ kept_sample tile x y c
-sample_read tile x y c items place r is inside channel same from h =
-    let within = sample_within tile x y c is inside channel in
-    let read : r ≡ get_or tile.texels (place_in tile x y + c) r = rw (same, from) at h in
-    read ∙ get_or_default tile.texels (place_in tile x y + c) r 0 within

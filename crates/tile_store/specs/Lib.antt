@@ -1,3 +1,5 @@
+pub mod Row
+pub mod Texels
 pub mod Tile
 pub mod Told
 pub mod Kept

@@ -9,7 +9,9 @@ mod links;
 mod marks;
 mod order;
 mod purge;
+mod row;
 mod shard;
+mod texels;
 mod tile;
 mod two_rows;
 
@@ -24,6 +26,9 @@ pub use links::Links;
 pub use marks::Marks;
 #[doc(hidden)]
 pub use order::Order;
+pub use row::Row;
 pub use shard::Shard;
+#[doc(hidden)]
+pub use texels::Texels;
 pub use tile::Tile;
 pub use two_rows::TwoRows;

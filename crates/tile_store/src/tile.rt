@@ -2,8 +2,11 @@ ghost use Rattle.std.specs.Prelude.{◌≡◌, ◌≤◌, ◌<◌};
 ghost use Rattle.tile_layout.specs.Cell.{HoldsTexel, max_cell_bytes};
 ghost use Rattle.tile_store.specs.Tile.{cached_tile, tile_bytes, IsTile, place_in, kept_sample};
 ghost use Rattle.tile_store.specs.Tile.{HoldsRow, AreSamples};
+ghost use Rattle.tile_store.specs.Row.{samples_of, top_of, bottom_of};
 ghost use Rattle.tile_store.specs.Told.{IsTold, IsToldSample, AreToldSamples};
 
+use crate::row::Row;
+use crate::texels::Texels;
 use crate::two_rows::TwoRows;
 use std::marker::{Model, PhantomData};
 use tex_world::World;
@@ -17,7 +20,7 @@ pub struct Tile<W: World> {
     key: TileKey,
     rect: Rect,
     channels: u32,
-    texels: Vec<u16>,
+    texels: Texels,
     world: PhantomData<W>,
 }
 
@@ -25,12 +28,14 @@ impl<W: World> Model for Tile<W> {
     ghost use Rattle.tile_store.specs.Tile.{CachedTile, cached_tile, IsTile};
     ghost use Rattle.tile_store.specs.Told.{IsTold};
     ghost use Rattle.tile_store.specs.Kept.{IsKept};
+    ghost use Rattle.tile_store.specs.Texels.{kept_in};
 
     ghost Value = { CachedTile };
 
-    ghost view = { λ a. cached_tile a.key a.rect a.channels a.texels.items };
+    ghost view = { λ a. cached_tile a.key a.rect a.channels (kept_in a.texels) };
 
-    ghost invariant = { λ a. IsKept W.files (cached_tile a.key a.rect a.channels a.texels.items) };
+    ghost invariant = { λ a. IsKept W.files
+        (cached_tile a.key a.rect a.channels (kept_in a.texels)) };
 }
 
 impl<W: World> Tile<W> {
@@ -44,7 +49,22 @@ impl<W: World> Tile<W> {
             key,
             rect,
             channels,
-            texels,
+            texels: Texels::Shorts(texels),
+            world: PhantomData,
+        }
+    }
+
+    /// The same of samples that are a byte each. It takes half the memory that it counts.
+    pub fn of_bytes(key: TileKey, rect: Rect, channels: u32, texels: Vec<u8>) -> Tile<W>
+        requires tile { IsTile (cached_tile key rect channels texels.items) }
+        requires told { IsTold W.files (cached_tile key rect channels texels.items) }
+        ensures value { result ≡ cached_tile key rect channels texels.items }
+    {
+        Tile {
+            key,
+            rect,
+            channels,
+            texels: Texels::Bytes(texels),
             world: PhantomData,
         }
     }
@@ -72,12 +92,18 @@ impl<W: World> Tile<W> {
         self.channels
     }
 
-    /// The bytes of its texels.
+    /// Whether it keeps a byte a sample.
+    #[inline(always)]
+    pub fn has_bytes(&self) -> bool {
+        self.texels.all().has_bytes()
+    }
+
+    /// The bytes of its texels, two a sample.
     pub fn bytes(&self) -> u64
         ensures value { result ≡ tile_bytes self.now }
         ensures in_range { result ≤ max_cell_bytes }
     {
-        2 * self.texels.len() as u64
+        2 * self.texels.all().count() as u64
     }
 
     /// Sample c of texel (x, y) of the level.
@@ -87,18 +113,19 @@ impl<W: World> Tile<W> {
         ensures value { result ≡ kept_sample self.now x y c }
         ensures told { IsToldSample W.files self.now x y c result }
     {
-        self.texels[self.place(x, y) + c as usize]
+        self.texels.all().sample(self.place(x, y) + c as usize)
     }
 
     /// The samples of n texels of a row of the level, side by side from (x, y) on.
     #[inline(always)]
-    pub fn row(&self, x: u32, y: u32, n: u32) -> &[u16]
+    pub fn row(&self, x: u32, y: u32, n: u32) -> Row<'_>
         requires { HoldsRow self.now x y n }
-        ensures value { AreSamples self.now x y n result.now }
-        ensures told { AreToldSamples W.files self.now x y n result.now }
+        ensures value { AreSamples self.now x y n (samples_of result) }
+        ensures told { AreToldSamples W.files self.now x y n (samples_of result) }
     {
         let from = self.place(x, y);
-        &self.texels[from..from + n as usize * self.channels as usize]
+        let samples = self.texels.all();
+        samples.part(from, n as usize * self.channels as usize)
     }
 
     /// The samples of n texels of two rows of the level, side by side from one column on.
@@ -106,15 +133,14 @@ impl<W: World> Tile<W> {
     pub fn two_rows(&self, x: u32, top: u32, bottom: u32, n: u32) -> TwoRows<'_>
         requires top { HoldsRow self.now x top n }
         requires bottom { HoldsRow self.now x bottom n }
-        ensures top { AreSamples self.now x top n result.top.now }
-        ensures bottom { AreSamples self.now x bottom n result.bottom.now }
-        ensures told { AreToldSamples W.files self.now x top n result.top.now
-            × AreToldSamples W.files self.now x bottom n result.bottom.now }
+        ensures top { AreSamples self.now x top n (top_of result) }
+        ensures bottom { AreSamples self.now x bottom n (bottom_of result) }
+        ensures told { AreToldSamples W.files self.now x top n (top_of result)
+            × AreToldSamples W.files self.now x bottom n (bottom_of result) }
     {
-        TwoRows {
-            top: self.row(x, top, n),
-            bottom: self.row(x, bottom, n),
-        }
+        let (top, bottom) = (self.place(x, top), self.place(x, bottom));
+        self.texels
+            .two_parts(top, bottom, n as usize * self.channels as usize)
     }
 
     /// Where the samples of texel (x, y) begin.

@@ -1,6 +1,47 @@
-/// The samples of texels of two rows of a tile, in the same columns.
+//! Samples of two rows of a tile.
+
+ghost use Rattle.std.specs.Prelude.{◌≡◌};
+ghost use Rattle.tile_store.specs.Row.{samples_of, top_of, bottom_of};
+
+use crate::row::Row;
+
+/// The samples of texels of two rows of a tile, in the same columns: a byte each in both rows, or two.
 #[derive(Clone, Copy, Debug)]
-pub struct TwoRows<'a> {
-    pub top: &'a [u16],
-    pub bottom: &'a [u16],
+pub enum TwoRows<'a> {
+    /// Of the upper row, and of the lower one.
+    Bytes(&'a [u8], &'a [u8]),
+    Shorts(&'a [u16], &'a [u16]),
+}
+
+impl<'a> TwoRows<'a> {
+    /// Whether a sample is a byte.
+    #[inline(always)]
+    pub fn has_bytes(&self) -> bool {
+        match self {
+            TwoRows::Bytes(..) => true,
+            TwoRows::Shorts(..) => false,
+        }
+    }
+
+    /// Those of the upper row.
+    #[inline(always)]
+    pub fn top(&self) -> Row<'a>
+        ensures { samples_of result ≡ top_of self.now }
+    {
+        match self {
+            TwoRows::Bytes(top, _) => Row::Bytes(top),
+            TwoRows::Shorts(top, _) => Row::Shorts(top),
+        }
+    }
+
+    /// Those of the lower row.
+    #[inline(always)]
+    pub fn bottom(&self) -> Row<'a>
+        ensures { samples_of result ≡ bottom_of self.now }
+    {
+        match self {
+            TwoRows::Bytes(_, bottom) => Row::Bytes(bottom),
+            TwoRows::Shorts(_, bottom) => Row::Shorts(bottom),
+        }
+    }
 }

@@ -4,6 +4,7 @@ use Rattle.std.proofs.Common.{slice_index, length}
 use Rattle.std.proofs.lemmas.Nat.{mul-add-lt}
 use Rattle.texel_values.specs.Window.{column_of, row_of}
 use Rattle.texel_values.specs.Values.{kept_value}
+use Rattle.tile_store.specs.Row.{samples_of}
 use Rattle.tile_store.specs.Tile.{kept_sample}
 use Rattle.texel_values.proofs.PlaceLemmas.{IsRow, elsewhere, place_is, ends_within}
 use Rattle.texel_values.proofs.PlaceLemmas.{place_at, from_place, first_i, less_or_not}
@@ -36,8 +37,7 @@ overflow_add-start-in-loop-y g c =
     } in
     let within = ends_within window rect left right top bottom y is c.args.height
     (length c.args.values.now) c.requires.values.down c.requires.values.count in
-    let known = c.slice_known-1 in
-    omega (arith, within, known)
+    omega (arith, within)
 
 pub paint_row-requires : goal.paint_row-requires
 paint_row-requires g c =
@@ -65,8 +65,8 @@ paint_row-requires g c =
     let within = ends_within window rect left right top bottom y is c.args.height
     (length c.loop-y.values) c.requires.values.down
     (c.loop-y.invariant.long ∙ c.requires.values.count) in
-    let count : length c.row.result.now ≡ (right - left) * window.channels =
-    c.row.ensures.value.count ∙ ap (λ (k : ℕ). (right - left) * k) c.requires.channels in
+    let count : length (samples_of c.row-samples.result) ≡ (right - left) * window.channels =
+    c.row-samples.ensures.value.count ∙ ap (λ (k : ℕ). (right - left) * k) c.requires.channels in
     omega (arith, within, count)
 
 pub loop-y-preserved : goal.loop-y-preserved
@@ -94,9 +94,9 @@ loop-y-preserved g c =
     } in
     let w = window.width in
     let n = window.channels in
-    let samples = c.row.result.now in
+    let samples = samples_of c.row-samples.result in
     let count : length samples ≡ (right - left) * n =
-    c.row.ensures.value.count ∙ ap (λ (k : ℕ). (right - left) * k) c.requires.channels in
+    c.row-samples.ensures.value.count ∙ ap (λ (k : ℕ). (right - left) * k) c.requires.channels in
     let from = from_place window rect left right top bottom y is in
     let old = c.loop-y.values in
     let new = c.paint_row.new.values in
@@ -125,7 +125,7 @@ loop-y-preserved g c =
                 ∙ (c.paint_row.ensures.written (a * n + k) inside
                 ∙ ap (kept_value c.args.depth)
                 (ap (λ (m : ℕ). slice_index samples (a * m + k)) (sym c.requires.channels)
-                ∙ (c.row.ensures.value.each a k low
+                ∙ (c.row-samples.ensures.value.each a k low
                 (subst (λ (m : ℕ). k < m) (sym c.requires.channels) k_low)
                 ∙ (ap (λ (x : ℕ). kept_sample c.args.tile.now x y k) column
                 ∙ ap (λ (z : ℕ). kept_sample c.args.tile.now (column_of window i) z k) (sym here)))))

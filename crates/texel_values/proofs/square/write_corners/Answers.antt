@@ -3,6 +3,7 @@ use Rattle.std.proofs.Common.{ℕ, ◌+◌, ◌-◌, ◌<◌, ◌≤◌, arith}
 use Rattle.tiff_format.specs.declared.rect.Rect.{Rect}
 use Rattle.tile_layout.specs.Key.{generation_of, file_of}
 use Rattle.tile_layout.specs.Cell.{HoldsTexel}
+use Rattle.tile_store.specs.Row.{samples_of, top_of, bottom_of}
 use Rattle.texel_values.proofs.SquareLemmas.{some_four, told_first, texel_samples, one_more_first}
 use Rattle.texel_values.proofs.square.write_corners.Goals as goal
 
@@ -52,26 +53,26 @@ returns g c tells =
       right_bottom = four level same;
     })
     (told_first files tile depth (record { level = q.level; x = q.left; y = q.top })
-    c.texel_in-left_top.result.now n c.channels.out.left_top own told h.left_top
-    (rw (c.texel_in-left_top.ensures, wide)
-    (texel_samples tile from q.top texels q.left c.two_rows-rows.result.top.now left_from left_to
+    (samples_of c.part-left_top.result) n c.channels.out.left_top own told h.left_top
+    (rw (c.part-left_top.ensures, c.top-top.ensures, wide)
+    (texel_samples tile from q.top texels q.left (top_of c.two_rows-rows.result) left_from left_to
     c.two_rows-rows.ensures.top))
     (λ k low. inv.left_top k (omega (arith, low, c.channels-test.false))) tells)
     (told_first files tile depth (record { level = q.level; x = q.right; y = q.top })
-    c.texel_in-right_top.result.now n c.channels.out.right_top own told (holds_of tile.rect q.right q.bottom q.left q.top h.right_bottom h.left_top)
-    (rw (c.texel_in-right_top.ensures, wide)
-    (texel_samples tile from q.top texels q.right c.two_rows-rows.result.top.now right_from right_to
+    (samples_of c.part-right_top.result) n c.channels.out.right_top own told (holds_of tile.rect q.right q.bottom q.left q.top h.right_bottom h.left_top)
+    (rw (c.part-right_top.ensures, c.top-top.ensures, wide)
+    (texel_samples tile from q.top texels q.right (top_of c.two_rows-rows.result) right_from right_to
     c.two_rows-rows.ensures.top))
     (λ k low. inv.right_top k (omega (arith, low, c.channels-test.false))) tells)
     (told_first files tile depth (record { level = q.level; x = q.left; y = q.bottom })
-    c.texel_in-left_bottom.result.now n c.channels.out.left_bottom own told (holds_of tile.rect q.left q.top q.right q.bottom h.left_top h.right_bottom)
-    (rw (c.texel_in-left_bottom.ensures, wide)
-    (texel_samples tile from q.bottom texels q.left c.two_rows-rows.result.bottom.now left_from left_to
+    (samples_of c.part-left_bottom.result) n c.channels.out.left_bottom own told (holds_of tile.rect q.left q.top q.right q.bottom h.left_top h.right_bottom)
+    (rw (c.part-left_bottom.ensures, c.bottom-bottom.ensures, wide)
+    (texel_samples tile from q.bottom texels q.left (bottom_of c.two_rows-rows.result) left_from left_to
     c.two_rows-rows.ensures.bottom))
     (λ k low. inv.left_bottom k (omega (arith, low, c.channels-test.false))) tells)
     (told_first files tile depth (record { level = q.level; x = q.right; y = q.bottom })
-    c.texel_in-right_bottom.result.now n c.channels.out.right_bottom own told h.right_bottom
-    (rw (c.texel_in-right_bottom.ensures, wide)
-    (texel_samples tile from q.bottom texels q.right c.two_rows-rows.result.bottom.now right_from right_to
+    (samples_of c.part-right_bottom.result) n c.channels.out.right_bottom own told h.right_bottom
+    (rw (c.part-right_bottom.ensures, c.bottom-bottom.ensures, wide)
+    (texel_samples tile from q.bottom texels q.right (bottom_of c.two_rows-rows.result) right_from right_to
     c.two_rows-rows.ensures.bottom))
     (λ k low. inv.right_bottom k (omega (arith, low, c.channels-test.false))) tells)

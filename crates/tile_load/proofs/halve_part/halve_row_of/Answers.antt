@@ -1,5 +1,6 @@
 use Rattle.std.proofs.Common.{ℕ, ◌+◌, ◌*◌, ◌∙◌, subst, arith}
 use Rattle.tile_layout.specs.Texel.{clamped}
+use Rattle.tile_store.specs.Row.{top_of, bottom_of}
 use Rattle.tile_store.specs.Tile.{AreSamples}
 use Rattle.tile_load.proofs.PartRows.{row_kept, row_quarter, row_written}
 use Rattle.tile_load.proofs.halve_part.halve_row_of.Goals as goal
@@ -24,11 +25,11 @@ returns g c =
     let n = place.channels in
     let j = c.args.j in
     let rows = c.two_rows-rows.result in
-    let top : AreSamples tile part.x (part.y + clamped part.h (2 * j)) part.w rows.top.now =
-    subst (λ (r : ℕ). AreSamples tile part.x (part.y + r) part.w rows.top.now) c.min.ensures
+    let top : AreSamples tile part.x (part.y + clamped part.h (2 * j)) part.w (top_of rows) =
+    subst (λ (r : ℕ). AreSamples tile part.x (part.y + r) part.w (top_of rows)) c.min.ensures
     c.two_rows-rows.ensures.top in
-    let bottom : AreSamples tile part.x (part.y + clamped part.h (2 * j + 1)) part.w rows.bottom.now =
-    subst (λ (r : ℕ). AreSamples tile part.x (part.y + r) part.w rows.bottom.now) c.min-2.ensures
+    let bottom : AreSamples tile part.x (part.y + clamped part.h (2 * j + 1)) part.w (bottom_of rows) =
+    subst (λ (r : ℕ). AreSamples tile part.x (part.y + r) part.w (bottom_of rows)) c.min-2.ensures
     c.two_rows-rows.ensures.bottom in
     let start = c.start.ensures.value in
     row_written part place.cell n place.known tile.texels j c.args.samples.now
@@ -36,8 +37,8 @@ returns g c =
     (rw start at c.write_row.ensures.before)
     (λ i k across channel.
     rw start at (c.write_row.ensures.each i k across channel)
-    ∙ row_quarter part n tile.texels rows.top.now rows.bottom.now j place.known.wide
-    (row_kept tile part n (clamped part.h (2 * j)) rows.top.now c.requires.part c.requires.channels top)
-    (row_kept tile part n (clamped part.h (2 * j + 1)) rows.bottom.now c.requires.part
+    ∙ row_quarter part n tile.texels (top_of rows) (bottom_of rows) j place.known.wide
+    (row_kept tile part n (clamped part.h (2 * j)) (top_of rows) c.requires.part c.requires.channels top)
+    (row_kept tile part n (clamped part.h (2 * j + 1)) (bottom_of rows) c.requires.part
     c.requires.channels bottom) i k channel)
     (rw start at c.write_row.ensures.behind)

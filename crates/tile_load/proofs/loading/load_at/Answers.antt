@@ -4,11 +4,12 @@ use Rattle.tile_layout.specs.Key.{level_of, index_of}
 use Rattle.tile_layout.specs.Cell.{rect_bytes, cell_rect, cut_level_in, channels_in}
 use Rattle.tile_layout.specs.Cell.{max_cell_bytes}
 use Rattle.tile_layout.specs.Kept.{stored_count}
+use Rattle.rect_read.specs.Texels.{samples_of}
 use Rattle.tile_load.proofs.ToldTiles.{tile_told}
 use Rattle.tile_load.proofs.loading.load_at.Goals as goal
 
-pub new-requires-clause-tile : goal.new-requires-clause-tile
-new-requires-clause-tile g c =
+pub tile_of-requires-clause-tile : goal.tile_of-requires-clause-tile
+tile_of-requires-clause-tile g c =
     let layout = c.args.layout.now in
     let level = c.level-level.result in
     let rect = c.cell_rect-rect.result in
@@ -16,7 +17,7 @@ new-requires-clause-tile g c =
     let stored : level < stored_count layout =
     omega (arith, c.level-level.ensures.value, c.requires.cell.stored) in
     let same : channels ≡ channels_in layout = c.channels.ensures.first in
-    let count : length c.in-Ok.texels.items ≡ rect.w * rect.h * channels =
+    let count : length (samples_of c.in-Ok.texels) ≡ rect.w * rect.h * channels =
     c.in-Ok.ensures.count
     ∙ ap (λ (n : ℕ). rect.w * rect.h * n) (c.channels.ensures.value level stored) in
     let there = c.requires.fits (level_of c.args.key)
@@ -43,11 +44,11 @@ new-requires-clause-tile g c =
       bytes = omega (arith, count, few, bytes);
     }
 
-pub new-requires-clause-told : goal.new-requires-clause-told
-new-requires-clause-told g c =
+pub tile_of-requires-clause-told : goal.tile_of-requires-clause-told
+tile_of-requires-clause-told g c =
     let handle = g.T.Handle.TapHandle.named c.args.file.now.handle in
     tile_told g.T.W.World.files handle c.args.layout.now c.args.cut c.args.key c.requires.cell
-    c.cell_rect-rect.result c.channels.result c.in-Ok.texels.items c.channels.ensures.first
+    c.cell_rect-rect.result c.channels.result (samples_of c.in-Ok.texels) c.channels.ensures.first
     c.channels.ensures.value c.in-Ok.ensures.low
     (g.met.T.Handle.TapHandle.honest c.args.file.now.handle).real c.requires.layout
     (rw c.level-level.ensures.value at c.in-Ok.ensures.told)

@@ -4,6 +4,7 @@ use Rattle.tile_layout.specs.Blocks.{HoldsBlocks}
 use Rattle.tile_layout.specs.Kept.{Kept, kept_of, stored_count, level_in}
 use Rattle.tile_layout.specs.Texel.{texel_at}
 use Rattle.tile_layout.proofs.StoredTexels.{texel_stored, holds_level}
+use Rattle.rect_read.specs.Texels.{samples_of}
 use Rattle.rect_read.proofs.RectValues.{same_texels}
 use Rattle.tile_load.proofs.loading.read_place.Goals as goal
 
@@ -19,7 +20,7 @@ returns-in-Ok-clause-told g c = λ bytes told.
     subst (λ (k : Kept). HoldsBlocks bytes (level_in k l)) (sym is.kept)
     (holds_level bytes l is.good stored) in
     same_texels (sample_in file.big bytes (level_in file l)) (texel_at bytes l)
-    (level_in file l).shape.channels place.rect c.in-Ok.texels.items
+    (level_in file l).shape.channels place.rect (samples_of c.in-Ok.texels)
     (λ x y channel.
     ap (λ (k : Kept). sample_in k.big bytes (level_in k l) x y channel) is.kept
     ∙ sym (texel_stored (kept_of bytes) bytes l x y channel stored))

@@ -1,4 +1,5 @@
 use Rattle.std.proofs.Common.{◌≡◌, ℕ, ◌<◌, length, slice_index}
+use Rattle.tile_store.specs.Row.{top_of, bottom_of}
 use Rattle.tile_load.specs.Quarters.{row_average}
 use Rattle.tile_load.proofs.quarters.halve_single.Given as goal
 
@@ -7,5 +8,5 @@ invariant-loop-c l =
     record {
       long : length l.out ≡ length l.fn.out;
       each : (c : ℕ) → c < l.c → slice_index l.out c
-          ≡ row_average l.channels l.rows.top.now l.rows.bottom.now 0 0 c;
+          ≡ row_average l.channels (top_of l.rows) (bottom_of l.rows) 0 0 c;
     }

@@ -1,4 +1,5 @@
 use Rattle.std.proofs.Common.{◌≡◌, ℕ, ◌+◌, ◌*◌, ◌<◌, length, slice_index}
+use Rattle.tile_store.specs.Row.{top_of, bottom_of}
 use Rattle.tile_load.specs.Quarters.{row_sample, row_average}
 use Rattle.tile_load.proofs.quarters.halve_texel.Given as goal
 
@@ -7,6 +8,6 @@ invariant-loop-c l =
     record {
       long : length l.out ≡ length l.fn.out;
       each : (c : ℕ) → c < l.c → row_sample l.channels l.out l.i c
-          ≡ row_average l.channels l.rows.top.now l.rows.bottom.now (2 * l.i) (2 * l.i + 1) c;
+          ≡ row_average l.channels (top_of l.rows) (bottom_of l.rows) (2 * l.i) (2 * l.i + 1) c;
       before : (k : ℕ) → k < l.i * l.channels → slice_index l.out k ≡ slice_index l.fn.out k;
     }

@@ -1,14 +1,15 @@
 use Rattle.std.proofs.Common.{◌≡◌, ℕ, ◌+◌, ◌*◌, ◌<◌, ◌∙◌, subst, arith, inl, inr}
 use Rattle.std.proofs.lemmas.Bool.{cases_lt}
 use Rattle.std.proofs.lemmas.Nat.{mul-add-lt}
+use Rattle.tile_store.specs.Row.{top_of, bottom_of}
 use Rattle.tile_load.specs.Quarters.{row_sample, row_average}
 use Rattle.tile_load.proofs.quarters.halve_texels.Goals as goal
 
 pub loop-i-preserved : goal.loop-i-preserved
 loop-i-preserved c =
     let n = c.args.channels in
-    let top = c.args.rows.now.top.now in
-    let bottom = c.args.rows.now.bottom.now in
+    let top = top_of c.args.rows.now in
+    let bottom = bottom_of c.args.rows.now in
     let done = c.loop-i.i in
     let out = c.halve_texel.new.out in
     record {

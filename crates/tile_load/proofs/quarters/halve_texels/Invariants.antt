@@ -1,4 +1,5 @@
 use Rattle.std.proofs.Common.{◌≡◌, ℕ, ◌+◌, ◌*◌, ◌<◌, length}
+use Rattle.tile_store.specs.Row.{top_of, bottom_of}
 use Rattle.tile_load.specs.Quarters.{row_sample, row_average}
 use Rattle.tile_load.proofs.quarters.halve_texels.Given as goal
 
@@ -7,5 +8,5 @@ invariant-loop-i l =
     record {
       long : length l.out ≡ length l.fn.out;
       each : (i c : ℕ) → i < l.i → c < l.channels → row_sample l.channels l.out i c
-          ≡ row_average l.channels l.rows.top.now l.rows.bottom.now (2 * i) (2 * i + 1) c;
+          ≡ row_average l.channels (top_of l.rows) (bottom_of l.rows) (2 * i) (2 * i + 1) c;
     }

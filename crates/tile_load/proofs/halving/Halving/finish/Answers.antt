@@ -1,6 +1,7 @@
 use Rattle.std.proofs.Common.{◌≡◌, ℕ, ◌*◌, length, refl, sym, ap, ◌∙◌, subst}
 use Rattle.tiff_format.specs.declared.rect.Rect.{Rect}
 use Rattle.tile_layout.specs.Cell.{channels_in}
+use Rattle.rect_read.specs.Texels.{samples_of}
 use Rattle.tile_store.specs.Tile.{cached_tile}
 use Rattle.tile_store.specs.Told.{ToldBy, IsTold}
 use Rattle.tile_load.specs.CellTile.{IsCellTile}
@@ -9,8 +10,8 @@ use Rattle.tile_load.specs.Halved.{IsHalfMade}
 use Rattle.tile_load.proofs.HalfMade.{told_whole}
 use Rattle.tile_load.proofs.halving.Halving.finish.Goals as goal
 
-pub new-requires-clause-told : goal.new-requires-clause-told
-new-requires-clause-told g c =
+pub tile_of-requires-clause-told : goal.tile_of-requires-clause-told
+tile_of-requires-clause-told g c =
     let a = c.self.inside in
     let is = c.self.invariant in
     let layout = a.layout.now in
@@ -28,19 +29,24 @@ new-requires-clause-told g c =
     let told = told_whole layout a.cut a.key is.cell samples long files
     (subst (λ (k : ℕ). ToldBy files a.key (λ bytes. IsHalfMade bytes layout a.cut a.key k samples))
     all is.told) in
-    subst (λ (r : Rect). IsTold files (cached_tile a.key r a.channels samples)) (sym is.rect_is)
+    rw c.kept_samples-texels.ensures
+    (subst (λ (r : Rect). IsTold files (cached_tile a.key r a.channels samples)) (sym is.rect_is)
     (subst (λ (n : ℕ). IsTold files (cached_tile a.key (rect_of layout a.cut a.key) n samples))
-    (sym is.channels_is) told)
+    (sym is.channels_is) told))
+
+pub tile_of-requires-clause-tile : goal.tile_of-requires-clause-tile
+tile_of-requires-clause-tile g c =
+    let is = c.self.invariant in rw c.kept_samples-texels.ensures is.tile
 
 pub returns-clause-tile : goal.returns-clause-tile
 returns-clause-tile g c =
     let a = c.self.inside in
     let is = c.self.invariant in
-    let tile = cached_tile a.key a.rect a.channels a.samples.items in
+    let tile = cached_tile a.key a.rect a.channels (samples_of c.kept_samples-texels.result) in
     let own : IsCellTile a.layout.now a.cut a.key tile = record {
       key_is = refl;
       rect_is = is.rect_is;
       channels_is = is.channels_is;
     } in
-    rw c.new.ensures.value
+    rw c.tile_of.ensures
     (subst (λ (s : HalvingState). IsCellTile s.layout s.cut s.key tile) c.self.view_is own)

@@ -1,31 +1,20 @@
-use Rattle.std.proofs.Common.{◌≡◌, ◌+◌, ◌-◌, ◌*◌, ◌≤◌, length, ap, subst, ◌∙◌, arith, rules}
-use Rattle.tile_store.specs.Tile.{IsTile, place_in}
+use Rattle.std.proofs.Common.{subst}
+use Rattle.tile_store.specs.Tile.{IsTile}
 use Rattle.tile_store.specs.Told.{IsTold}
-use Rattle.tile_store.proofs.TileLemmas.{told_samples, row_samples, row_ends}
+use Rattle.tile_store.proofs.TileLemmas.{told_samples, part_ends, part_samples}
 use Rattle.tile_store.proofs.tile.Tile.row.Goals as goal
 
-pub slice_bounds-result-end : goal.slice_bounds-result-end
-slice_bounds-result-end g c =
-    let tile = c.args.self.now in
-    let is : IsTile tile = subst IsTile c.self.view_is c.self.invariant.shape in
-    let ends = row_ends tile c.args.x c.args.y c.args.n is c.requires in
-    let from = c.place-from.ensures.value in
-    let same : c.deref.result.now ≡ tile.texels = c.deref.ensures.value ∙ ap (λ t. t.texels) c.self.view_is in
-    let wide : c.self.inside.channels ≡ tile.channels = ap (λ t. t.channels) c.self.view_is in
-    let fits : c.place-from.result + c.args.n * c.self.inside.channels ≤ length c.deref.result.now =
-    rw (from, same, wide) ends in
-    search rules
+pub part-requires : goal.part-requires
+part-requires g c =
+    rw c.all-samples.ensures
+    (part_ends _ c.args.self.now c.self.view_is (subst IsTile c.self.view_is c.self.invariant.shape)
+    c.args.x c.args.y c.args.n _ c.place-from.ensures.value c.requires)
 
 pub returns-clause-value : goal.returns-clause-value
 returns-clause-value g c =
-    let tile = c.args.self.now in
-    let is : IsTile tile = subst IsTile c.self.view_is c.self.invariant.shape in
-    let from = c.place-from.ensures.value in
-    let same : c.deref.result.now ≡ tile.texels = c.deref.ensures.value ∙ ap (λ t. t.texels) c.self.view_is in
-    let wide : c.self.inside.channels ≡ tile.channels = ap (λ t. t.channels) c.self.view_is in
-    let long : place_in tile c.args.x c.args.y + c.args.n * tile.channels - place_in tile c.args.x c.args.y
-    ≡ c.args.n * tile.channels = omega arith in
-    rw (from, same, wide, long) (row_samples tile c.args.x c.args.y c.args.n is c.requires)
+    part_samples _ c.args.self.now c.self.view_is (subst IsTile c.self.view_is c.self.invariant.shape)
+    c.args.x c.args.y c.args.n _ c.place-from.ensures.value c.requires _
+    (rw c.all-samples.ensures at c.part.ensures)
 
 pub returns-clause-told : goal.returns-clause-told
 returns-clause-told g c =

@@ -1,14 +1,24 @@
-use Rattle.std.proofs.Common.{ap, subst}
+use Rattle.std.proofs.Common.{◌≡◌, ◌+◌, ℕ, List, slice_index, ap, subst, ◌∙◌}
+use Rattle.tile_store.specs.Row.{samples_of}
 use Rattle.tile_store.specs.Tile.{IsTile}
 use Rattle.tile_store.specs.Told.{IsTold}
-use Rattle.tile_store.proofs.TileLemmas.{told_sample, sample_read}
+use Rattle.tile_store.proofs.TileLemmas.{told_sample, sample_within}
 use Rattle.tile_store.proofs.tile.Tile.texel.Goals as goal
+
+pub sample-requires : goal.sample-requires
+sample-requires g c =
+    let tile = c.args.self.now in
+    let same : samples_of c.all.result ≡ tile.texels = c.all.ensures ∙ ap (λ t. t.texels) c.self.view_is in
+    rw (c.place.ensures.value, same)
+    (sample_within tile c.args.x c.args.y c.args.c (subst IsTile c.self.view_is c.self.invariant.shape)
+    c.requires.inside c.requires.channel)
 
 value : goal.returns-clause-value
 value g c =
-    sample_read c.args.self.now c.args.x c.args.y c.args.c c.self.inside.texels.items c.place.result
-    c.index.result.now (subst IsTile c.self.view_is c.self.invariant.shape) c.requires.inside
-    c.requires.channel (ap (λ t. t.texels) c.self.view_is) c.place.ensures.value c.index.ensures
+    let tile = c.args.self.now in
+    let same : samples_of c.all.result ≡ tile.texels = c.all.ensures ∙ ap (λ t. t.texels) c.self.view_is in
+    c.sample.ensures ∙ ap (λ (all : List ℕ). slice_index all (c.place.result + c.args.c)) same
+    ∙ ap (λ (k : ℕ). slice_index tile.texels (k + c.args.c)) c.place.ensures.value
 
 pub returns-clause-value : goal.returns-clause-value
 returns-clause-value g c = value g c

@@ -1,0 +1,291 @@
+//! Cells of files in memory, loaded call by call, with what each call answers and how many calls of a tap it
+//! makes.
+ghost use Rattle.std.specs.Prelude.{ℕ, ◌^◌, ◌<◌, ◌≤◌};
+ghost use Rattle.tex_world.specs.World.{IsFile};
+
+use crate::cell_reader::Answer::{Again, Cell, Done, Fault, Gone, Kept, Wrong};
+use crate::cell_reader::Call::{Aheads, Forget, Hold, Load, Scan, Settle};
+use crate::script::Shows;
+use crate::seat::Seat;
+use file_table::{FileError, Record};
+use std::alloc::Global;
+use std::sync::Arc;
+use tap_reader::OpenFile;
+use tex_world::{Tap, TapHandle, World};
+use tile_layout::TileKey;
+use tile_load::{LoadError, load};
+use tile_store::Tile;
+use waiter::Tries;
+
+/// A call, of a tap or of the table. Files are numbered from 0.
+#[derive(Clone, Copy)]
+pub(crate) enum Call {
+    /// Loads the cell of a texel of a file, by its column and row, through a tap, under a handle
+    /// that the table lends, and settles it unless the load failed.
+    Load(usize, u32, (u32, u32)),
+    /// Loads so many cells of a file in turn, of eight in a row, each of 16 by 16.
+    Scan(usize, u32, u32),
+    /// Lends a file through a tap, under the record of its newest known generation.
+    Hold(usize, u32),
+    /// Settles the file that was lent so.
+    Settle,
+    /// Drops what is idle of a file.
+    Forget(u32),
+    /// Of how many files what was read ahead is kept.
+    Aheads,
+}
+
+/// What a call answers.
+#[derive(Clone, Copy, Debug, PartialEq, Eq)]
+pub(crate) enum Answer {
+    /// The cell of this generation, with the texels of the file.
+    Cell(u32),
+    Fault,
+    /// A read met this generation.
+    Gone(u32),
+    /// The file was opened in this generation, a newer one than its record's.
+    Again(u32),
+    /// Of so many files.
+    Kept(usize),
+    Done,
+    /// Something else.
+    Wrong,
+}
+
+/// A call, its answer, and by how much the calls of its tap rise.
+pub(crate) type Step = (Call, Answer, u64);
+
+/// The place of sample c of a texel of the file of nine levels.
+fn place_in_levels(x: u64, y: u64, c: u64) -> u64
+    requires { (x ≤ 2 ^ 32) × (y ≤ 2 ^ 32) × (c ≤ 2 ^ 32) }
+{
+    let tile = y / 64 * 4 + x / 64;
+    1186 + tile * 12288 + (y % 64 * 64 + x % 64) * 3 + c
+}
+
+/// The place of a texel of the file of tiles.
+fn place_in_tiles(x: u64, y: u64) -> u64
+    requires { (x ≤ 2 ^ 32) × (y ≤ 2 ^ 32) }
+{
+    let tile = y / 16 * 8 + x / 16;
+    314 + tile * 256 + y % 16 * 16 + x % 16
+}
+
+/// The place of a texel of the file of four strips.
+fn place_in_strips(x: u64, y: u64) -> u64
+    requires { (x ≤ 2 ^ 32) × (y ≤ 2 ^ 32) }
+{
+    let strip = match y / 8 {
+        0 => 138,
+        1 => 67338,
+        2 => 33738,
+        _ => 100938,
+    };
+    strip + y % 8 * 4200 + x
+}
+
+/// Sample c of a texel of a file: the byte at its place.
+fn sample_of(key: TileKey, x: u32, y: u32, c: u32) -> u16 {
+    let (x, y, c) = (u64::from(x), u64::from(y), u64::from(c));
+    let at = match key.file() {
+        5 => 164 + c * 134400 + y * 4200 + x,
+        6 => place_in_levels(x, y, c),
+        7 => place_in_strips(x, y),
+        8 => place_in_tiles(x, y),
+        _ => 122 + c * 134400 + y * 4200 + x,
+    };
+    let modulus = if key.generation() == 2 { 241 } else { 251 };
+    (at % modulus) as u16
+}
+
+/// The texels of the cell are those of its file, a byte each.
+fn is_told<W: World>(tile: &Tile<W>) -> bool {
+    let (key, rect, channels) = (tile.key(), tile.rect(), tile.channels());
+    if !tile.has_bytes() || rect.x > 4200 || rect.y > 256 || rect.w > 64 || rect.h > 64 {
+        return false;
+    }
+    for k in 0..rect.h {
+        for i in 0..rect.w {
+            for c in 0..channels {
+                let (x, y) = (rect.x + i, rect.y + k);
+                if tile.texel(x, y, c) != sample_of(key, x, y, c) {
+                    return false;
+                }
+            }
+        }
+    }
+    channels
+        == if key.file() == 5 || key.file() == 6 {
+            3
+        } else {
+            1
+        }
+}
+
+/// A table with a view, some taps, and a file that is lent.
+#[derive(Drop)]
+pub(crate) struct Visitor<'a, T: Tap + Drop> {
+    pub(crate) alloc: Global,
+    pub(crate) seat: Seat<'a, T>,
+    pub(crate) taps: Vec<T>,
+    pub(crate) held: Option<OpenFile<T>>,
+}
+
+/// Loads the cell of a texel of level 0 of a file that is open.
+fn load_cell<T: Tap>(
+    alloc: Global,
+    tap: &mut T,
+    open: &mut OpenFile<T>,
+    known: &Record<T::W>,
+    (x, y): (u32, u32),
+) -> Option<Result<Tile<T::W>, LoadError>> {
+    let (file, generation) = (known.file(), known.generation());
+    let cut = known.cut();
+    let layout = match known.layout() {
+        Ok(layout) => layout,
+        Err(_) => return None,
+    };
+    let is_other = open.handle.file() != file || open.handle.generation() != generation;
+    if is_other || file > 4095 || cut.autotile != 16 || !known.fits() {
+        return None;
+    }
+    // level 0 is stored, and one of the levels
+    let _stored = layout.stored();
+    let _levels = layout.levels(cut);
+    let (width, height) = layout.size(0);
+    if x >= width || y >= height {
+        return None;
+    }
+    let key = TileKey::new(generation, file, 0, layout.cell_at(0, cut, x, y));
+    Some(load(alloc, tap, open, known, key, cut))
+}
+
+impl<T: Tap + Drop + Shows> Visitor<'_, T> {
+    /// The place of the first call that answers something else, or whose tap has other calls, and
+    /// what it answers.
+    pub(crate) fn first_wrong(&mut self, steps: &[Step]) -> Option<(usize, Answer, u64)>
+        requires { (file : ℕ) → file < 9 → IsFile T.W.files file }
+    {
+        for (place, (call, wanted, calls)) in steps.iter().enumerate() {
+            let before = self.calls(*call);
+            let answer = self.answer(*call);
+            let rise = self.calls(*call).saturating_sub(before);
+            if answer != *wanted || rise != *calls {
+                return Some((place, answer, rise));
+            }
+        }
+        None
+    }
+
+    /// The calls of the tap of a call.
+    fn calls(&self, call: Call) -> u64 {
+        let tap = match call {
+            Load(tap, _, _) => tap,
+            Scan(tap, _, _) => tap,
+            Hold(tap, _) => tap,
+            _ => 0,
+        };
+        match self.taps.get(tap) {
+            Some(tap) => tap.shown()[0],
+            None => 0,
+        }
+    }
+
+    fn answer(&mut self, call: Call) -> Answer
+        requires { (file : ℕ) → file < 9 → IsFile T.W.files file }
+    {
+        match call {
+            Load(tap, file, texel) if file < 9 => self.load(tap, file, texel),
+            Scan(tap, file, cells) if file < 9 => self.scan(tap, file, cells),
+            Hold(tap, file) if file < 9 => self.hold(tap, file),
+            Settle => self.settle(),
+            Forget(file) => match self.seat.forget(&Tries::new(9), file) {
+                Ok(()) => Done,
+                Err(_) => Wrong,
+            },
+            Aheads => match self.seat.files.aheads(&Tries::new(9)) {
+                Ok(count) => Kept(count),
+                Err(_) => Wrong,
+            },
+            _ => Wrong,
+        }
+    }
+
+    /// Lends a file under its record.
+    fn lend(&mut self, tap: usize, file: u32) -> Result<(Arc<Record<T::W>>, OpenFile<T>), Answer>
+        requires { IsFile T.W.files file }
+    {
+        let Some(tap) = self.taps.get_mut(tap) else {
+            return Err(Wrong);
+        };
+        let Ok(known) = self.seat.record(&Tries::new(9), tap, file) else {
+            return Err(Wrong);
+        };
+        match self.seat.lend(&Tries::new(9), tap, file, &known) {
+            Ok(open) => Ok((known, open)),
+            Err(FileError::Again { from: _, to }) => Err(Again(to)),
+            Err(_) => Err(Wrong),
+        }
+    }
+
+    /// The answer of the last of so many cells, or of the first that has another one.
+    fn scan(&mut self, tap: usize, file: u32, cells: u32) -> Answer
+        requires { IsFile T.W.files file }
+    {
+        let mut answer = Wrong;
+        for cell in 0..cells.min(48) {
+            answer = self.load(tap, file, (cell % 8 * 16, cell / 8 * 16));
+            if answer != Cell(1) {
+                return answer;
+            }
+        }
+        answer
+    }
+
+    fn hold(&mut self, tap: usize, file: u32) -> Answer
+        requires { IsFile T.W.files file }
+    {
+        match self.lend(tap, file) {
+            Ok((_known, open)) => {
+                self.held = Some(open);
+                Done
+            }
+            Err(answer) => answer,
+        }
+    }
+
+    fn settle(&mut self) -> Answer {
+        match self.held.take() {
+            Some(open) => self.settle_file(open),
+            None => Wrong,
+        }
+    }
+
+    fn settle_file(&self, open: OpenFile<T>) -> Answer {
+        match self.seat.files.settle(&Tries::new(9), open) {
+            Ok(()) => Done,
+            Err(_busy) => Wrong,
+        }
+    }
+
+    fn load(&mut self, tap: usize, file: u32, texel: (u32, u32)) -> Answer
+        requires { IsFile T.W.files file }
+    {
+        let (known, mut open) = match self.lend(tap, file) {
+            Ok(lent) => lent,
+            Err(answer) => return answer,
+        };
+        let Some(source) = self.taps.get_mut(tap) else {
+            return Wrong;
+        };
+        match load_cell(self.alloc, source, &mut open, &known, texel) {
+            Some(Ok(tile)) if is_told(&tile) => match self.settle_file(open) {
+                Done => Cell(tile.key().generation()),
+                _ => Wrong,
+            },
+            Some(Err(LoadError::ReadFault)) => Fault,
+            Some(Err(LoadError::Gone(to))) => Gone(to),
+            _ => Wrong,
+        }
+    }
+}

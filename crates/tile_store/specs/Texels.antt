@@ -1,0 +1,9 @@
+-- Which samples has a tile?
+use Rattle.std.specs.Prelude.{ℕ, List}
+use Rattle.tile_store.specs.declared.texels.Texels.{Texels}
+use Rattle.tile_store.specs.declared.texels.Texels.TheVariants.{Bytes, Shorts}
+
+-- these, whether a byte each or two
+abbrev pub kept_in : Texels → List ℕ
+kept_in (Bytes samples) = samples.items
+kept_in (Shorts samples) = samples.items

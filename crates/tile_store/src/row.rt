@@ -1,0 +1,90 @@
+//! Samples of a tile that stand side by side.
+
+ghost use Rattle.std.specs.Prelude.{◌≡◌, ℕ, ◌+◌, ◌<◌, ◌≤◌, length, take, drop, slice_index};
+ghost use Rattle.tile_store.specs.Row.{samples_of};
+
+/// Samples side by side: a byte each, or two.
+#[derive(Clone, Copy, Debug)]
+pub enum Row<'a> {
+    Bytes(&'a [u8]),
+    Shorts(&'a [u16]),
+}
+
+/// A sample of two bytes.
+#[inline(always)]
+fn short_at(samples: &[u16], at: usize) -> u16
+    requires { at < length samples.now }
+    ensures { result ≡ slice_index samples.now at }
+{
+    samples[at]
+}
+
+/// Writes each byte as a sample of two.
+fn widen(bytes: &[u8], out: &mut [u16])
+    requires { length out.old ≡ length bytes.now }
+    ensures long { length out.new ≡ length out.old }
+    ensures each { (k : ℕ) → k < length out.new
+        → slice_index out.new k ≡ slice_index bytes.now k }
+{
+    for (k, sample) in out.iter_mut().enumerate() {
+        *sample = u16::from(bytes[k]);
+    }
+}
+
+impl<'a> Row<'a> {
+    /// How many samples there are.
+    #[inline(always)]
+    pub fn count(&self) -> usize
+        ensures { result ≡ length (samples_of self.now) }
+    {
+        match self {
+            Row::Bytes(samples) => samples.len(),
+            Row::Shorts(samples) => samples.len(),
+        }
+    }
+
+    /// Whether a sample is a byte. Code that asks once, and then has a body for each answer, is
+    /// compiled to loops that do not ask again.
+    #[inline(always)]
+    pub fn has_bytes(&self) -> bool {
+        match self {
+            Row::Bytes(_) => true,
+            Row::Shorts(_) => false,
+        }
+    }
+
+    /// The sample at a place.
+    #[inline(always)]
+    pub fn sample(&self, at: usize) -> u16
+        requires { at < length (samples_of self.now) }
+        ensures { result ≡ slice_index (samples_of self.now) at }
+    {
+        match self {
+            Row::Bytes(samples) => u16::from(samples[at]),
+            Row::Shorts(samples) => short_at(samples, at),
+        }
+    }
+
+    /// So many of the samples, from a place on.
+    #[inline(always)]
+    pub fn part(&self, from: usize, count: usize) -> Row<'a>
+        requires { from + count ≤ length (samples_of self.now) }
+        ensures { samples_of result ≡ take count (drop from (samples_of self.now)) }
+    {
+        match self {
+            Row::Bytes(samples) => Row::Bytes(&samples[from..from + count]),
+            Row::Shorts(samples) => Row::Shorts(&samples[from..from + count]),
+        }
+    }
+
+    /// Writes the samples to as many places.
+    pub fn copy_to(&self, out: &mut [u16])
+        requires { length out.old ≡ length (samples_of self.now) }
+        ensures { out.new ≡ samples_of self.now }
+    {
+        match self {
+            Row::Bytes(samples) => widen(samples, out),
+            Row::Shorts(samples) => out.copy_from_slice(samples),
+        }
+    }
+}

@@ -1,0 +1,49 @@
+//! The samples of a tile.
+
+ghost use Rattle.std.specs.Prelude.{◌≡◌, ◌+◌, ◌≤◌, length, take, drop};
+ghost use Rattle.tile_store.specs.Row.{samples_of, top_of, bottom_of};
+ghost use Rattle.tile_store.specs.Texels.{kept_in};
+
+use crate::row::Row;
+use crate::two_rows::TwoRows;
+
+/// The samples of texels, row by row with those of a texel side by side: a byte each, as a file of 8
+/// bits has them, or two.
+#[derive(Drop)]
+pub enum Texels {
+    Bytes(Vec<u8>),
+    Shorts(Vec<u16>),
+}
+
+impl Texels {
+    /// All of them.
+    #[inline(always)]
+    pub(crate) fn all(&self) -> Row<'_>
+        ensures { samples_of result ≡ kept_in self.now }
+    {
+        match self {
+            Texels::Bytes(samples) => Row::Bytes(samples),
+            Texels::Shorts(samples) => Row::Shorts(samples),
+        }
+    }
+
+    /// So many of them from one place on, and as many from another.
+    #[inline(always)]
+    pub(crate) fn two_parts(&self, top: usize, bottom: usize, count: usize) -> TwoRows<'_>
+        requires top { top + count ≤ length (kept_in self.now) }
+        requires bottom { bottom + count ≤ length (kept_in self.now) }
+        ensures top { top_of result ≡ take count (drop top (kept_in self.now)) }
+        ensures bottom { bottom_of result ≡ take count (drop bottom (kept_in self.now)) }
+    {
+        match self {
+            Texels::Bytes(bytes) => TwoRows::Bytes(
+                &bytes[top..top + count],
+                &bytes[bottom..bottom + count],
+            ),
+            Texels::Shorts(samples) => TwoRows::Shorts(
+                &samples[top..top + count],
+                &samples[bottom..bottom + count],
+            ),
+        }
+    }
+}
