@@ -1,6 +1,6 @@
 mod CellLemmas
 pub mod TexelLemmas
-mod NeedLemmas
+pub mod NeedLemmas
 pub mod FillLemmas
 mod MakingLemmas
 pub mod SquareLemmas

@@ -35,7 +35,8 @@ use Rattle.image_cache.specs.Texel.{has_cell_at, IsTexelOf, IsTexelIn}
 use Rattle.image_cache.specs.Call.{CountsNeed, Needs}
 use Rattle.image_cache.specs.Pass.{KeepsAllBut, recent_and_counts}
 use Rattle.image_cache.specs.Square.{left_top, right_top, left_bottom, right_bottom}
-use Rattle.image_cache.specs.Square.{LieInOne, LieInOneOf, HasEach, MeetsAt, MeetsSquare, MeetsRest}
+use Rattle.image_cache.specs.Square.{LieInOne, LieInOneOf, IsShownAt, AreShown}
+use Rattle.image_cache.specs.Square.{MeetsAt, MeetsSquare, MeetsRest}
 use Rattle.image_cache.proofs.NeedLemmas.{needs_hit}
 use Rattle.image_cache.proofs.TexelLemmas.{at_cell, asks_at, told_by_record}
 
@@ -262,17 +263,25 @@ meets_rest files state square cell old new is one has asked asks first stays kep
           (same_but_counts new n2 h2 new.needs new.hits kept.tiles.few);
     }
 
--- where the microcache has the one cell of all four it has that of each
-pub each_had : (state : RecordState) (square : Square) (cell : CellAt) (tiles : List CachedTile)
+-- the microcache that has the cell of a texel shows it
+pub shown_at : (state : RecordState) (at : TexelAt) (cell : CellAt) (tiles : List CachedTile)
+    → IsCellIn state at cell → has_cell cell tiles ≡ true → IsShownAt state at tiles cell.key
+shown_at state at cell tiles is has = record {
+  had = has_at state at cell tiles is ∙ has;
+  keyed = at_cell (λ key. cell.key ≡ key) state at cell is refl;
+}
+
+-- where it has the one cell of all four it shows each
+pub each_shown : (state : RecordState) (square : Square) (cell : CellAt) (tiles : List CachedTile)
     → IsCellIn state (left_top square) cell → LieInOneOf state square
-    → has_cell cell tiles ≡ true → HasEach state square tiles
-each_had state square cell tiles is one has =
+    → has_cell cell tiles ≡ true → AreShown state square tiles cell.key
+each_shown state square cell tiles is one has =
     let each = cell_of_each state square cell is one in
     record {
-      left_top_had = has_at state (left_top square) cell tiles each.first ∙ has;
-      right_top_had = has_at state (right_top square) cell tiles each.second ∙ has;
-      left_bottom_had = has_at state (left_bottom square) cell tiles each.third ∙ has;
-      right_bottom_had = has_at state (right_bottom square) cell tiles each.last ∙ has;
+      left_top_shown = shown_at state (left_top square) cell tiles each.first has;
+      right_top_shown = shown_at state (right_top square) cell tiles each.second has;
+      left_bottom_shown = shown_at state (left_bottom square) cell tiles each.third has;
+      right_bottom_shown = shown_at state (right_bottom square) cell tiles each.last has;
     }
 
 -- ---- which cell holds them

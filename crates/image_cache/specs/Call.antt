@@ -1,7 +1,7 @@
 -- What do the calls of a cache give, when may each be refused, and what do they leave of the pass?
 use Rattle.std.specs.Prelude.{◌≡◌, ◌⊎◌, ℕ, ◌<◌, ◌≤◌, ◌++◌, Bool, IsTrue, List, ◌∷◌, []}
 use Rattle.std.specs.Prelude.{length, count_by, slice_index}
-use Rattle.std.specs.Prelude.{if◌then◌else◌, None, Result, Ok, IfOk, IsOkAnd, IsSomeAnd}
+use Rattle.std.specs.Prelude.{if◌then◌else◌, Option, Some, None, Result, Ok, IfOk, IsOkAnd, IsSomeAnd}
 use Rattle.tex_world.specs.World.{Files}
 use Rattle.tex_world.specs.Tap.{TapState}
 use Rattle.gen_board.specs.View.{ViewState}
@@ -105,6 +105,17 @@ HoldsCellAt state at pass = IsOkAnd state.layout (λ kept.
     HasKey key_in (cell_of state.generation state.file state.cut kept at).key pass.pinned.holds)
 
 -- ---- several needs
+
+-- The pass has counted so many needs, and as many hits.
+pub record CountsHits (needs : ℕ) (old new : PassState) : Type 0 where
+  pub needs_counted : new.needs ≡ counted_together old.needs needs
+  pub hits_counted : new.hits ≡ counted_together old.hits needs
+  pub apart : new.apart ≡ old.apart
+
+-- the tile of a key, if there is one to turn to, moved to the first place
+abbrev pub turned_to : Option ℕ → List CachedTile → List CachedTile
+turned_to None tiles = tiles
+turned_to (Some key) tiles = key_first key_in key tiles
 
 -- These cells were needed in turn: so many needs are counted, the microcache was asked for their
 -- keys, and where the world tells each that it had is a hit.

@@ -1,5 +1,5 @@
 -- When has a microcache all four texels of a square, and what do they leave, one after another?
-use Rattle.std.specs.Prelude.{◌≡◌, ℕ, true, IsTrue, IsOkAnd, List, [], ◌∷◌}
+use Rattle.std.specs.Prelude.{◌≡◌, ℕ, true, IsTrue, IfOk, IsOkAnd, List, [], ◌∷◌}
 use Rattle.tex_world.specs.World.{Files}
 use Rattle.texel_filter.specs.declared.square.Square.{Square}
 use Rattle.texel_filter.specs.declared.square.Corners.{Corners}
@@ -10,7 +10,7 @@ use Rattle.tile_store.specs.Tile.{CachedTile}
 use Rattle.file_table.specs.Record.{RecordState}
 use Rattle.texel_values.specs.declared.texel_at.TexelAt.{TexelAt}
 use Rattle.image_cache.specs.Pass.{PassState}
-use Rattle.image_cache.specs.Texel.{cell_number_at, has_cell_at, IsTexelIn}
+use Rattle.image_cache.specs.Texel.{cell_number_at, cell_of, has_cell_at, IsTexelIn}
 use Rattle.image_cache.specs.Call.{CountsNeed, AsksForCellAt, TurnsToCellAt, MovesCellAt}
 use Rattle.image_cache.specs.Call.{NeedsCellAt}
 use Rattle.image_cache.specs.Pass.{KeepsAllBut, recent_and_counts}
@@ -61,12 +61,20 @@ abbrev pub HasSquareAt : RecordState → Square → List CachedTile → Type 0
 HasSquareAt state square tiles =
     LieInOneOf state square × IsTrue (has_cell_at state (left_top square) tiles)
 
--- the microcache has the cell of each
-pub record HasEach (state : RecordState) (square : Square) (tiles : List CachedTile) : Type 0 where
-  pub left_top_had : has_cell_at state (left_top square) tiles ≡ true
-  pub right_top_had : has_cell_at state (right_top square) tiles ≡ true
-  pub left_bottom_had : has_cell_at state (left_bottom square) tiles ≡ true
-  pub right_bottom_had : has_cell_at state (right_bottom square) tiles ≡ true
+-- the microcache has the cell that holds a texel, which has this key
+pub record IsShownAt (state : RecordState) (at : TexelAt) (tiles : List CachedTile) (key : ℕ)
+    : Type 0 where
+  pub had : has_cell_at state at tiles ≡ true
+  pub keyed : IfOk state.layout (λ kept.
+      key ≡ (cell_of state.generation state.file state.cut kept at).key)
+
+-- so it is of each
+pub record AreShown (state : RecordState) (square : Square) (tiles : List CachedTile) (key : ℕ)
+    : Type 0 where
+  pub left_top_shown : IsShownAt state (left_top square) tiles key
+  pub right_top_shown : IsShownAt state (right_top square) tiles key
+  pub left_bottom_shown : IsShownAt state (left_bottom square) tiles key
+  pub right_bottom_shown : IsShownAt state (right_bottom square) tiles key
 
 -- ---- what they leave
 

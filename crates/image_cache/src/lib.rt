@@ -20,6 +20,7 @@ mod options;
 mod pass;
 mod pixels;
 mod reading;
+mod shown;
 mod squares;
 mod texel;
 mod texels;

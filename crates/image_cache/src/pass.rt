@@ -1,15 +1,17 @@
-ghost use Rattle.std.specs.Prelude.{◌≡◌, ◌<◌, ◌≤◌, length, None, slice_index, slice_get};
+ghost use Rattle.std.specs.Prelude.{◌≡◌, ◌↔◌, ◌<◌, ◌≤◌, length, None, slice_index, slice_get};
+ghost use Rattle.std.specs.Prelude.{IsTrue, IsSome, IfSome};
 ghost use Rattle.std.specs.List.{All};
 ghost use Rattle.std.specs.Option.{option_copied};
 ghost use Rattle.tile_store.specs.Lawful.{FitsCut};
 ghost use Rattle.pinned_tiles.specs.Pinned.{ArePinned};
 ghost use Rattle.image_cache.specs.Pass.{pass_state, no_counts, max_count, CountsAlone};
 ghost use Rattle.image_cache.specs.Pass.{counted, counted_together};
-ghost use Rattle.image_cache.specs.Call.{CountsNeed};
+ghost use Rattle.pinned_tiles.specs.Cell.{has_cell, is_tile_of};
+ghost use Rattle.image_cache.specs.Call.{CountsNeed, CountsHits};
 
 use file_table::Record;
 use gen_board::View;
-use pinned_tiles::Pinned;
+use pinned_tiles::{CellAt, Pinned};
 use std::marker::Model;
 use std::sync::Arc;
 use tex_world::World;
@@ -101,6 +103,20 @@ impl<W: World> Pass<W> {
         self.pinned.held_count()
     }
 
+    /// The tile of its microcache that is that of a cell.
+    #[inline(always)]
+    pub(crate) fn tile_of(&self, cell: &CellAt) -> Option<&Tile<W>>
+        ensures some { IsSome result ↔ IsTrue (has_cell cell.now self.now.pinned.recent) }
+        ensures keyed { IfSome result (λ tile. tile.now.key ≡ cell.now.key) }
+        ensures of_cell { IfSome result (λ tile. IsTrue (is_tile_of cell.now tile.now)) }
+    {
+        // mostly it stands first
+        if self.pinned.is_latest(cell) {
+            return Some(self.pinned.latest(cell));
+        }
+        self.pinned.tile_of(cell)
+    }
+
     /// What holds of it. It does nothing.
     pub(crate) fn know(&self)
         ensures few { length self.now.pinned.recent ≤ 2 }
@@ -148,6 +164,15 @@ impl<W: World> Pass<W> {
     {
         self.needs = self.needs.saturating_add(3);
         self.hits = self.hits.saturating_add(3);
+    }
+
+    /// Counts so many needs, all of which the microcache had.
+    pub(crate) fn count_hits(&mut self, needs: u64)
+        ensures counts { CountsHits needs self.old self.new }
+        ensures kept { CountsAlone self.old self.new }
+    {
+        self.needs = self.needs.saturating_add(needs);
+        self.hits = self.hits.saturating_add(needs);
     }
 
     /// Counts a need that is answered apart.

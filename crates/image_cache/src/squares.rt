@@ -1,14 +1,14 @@
 //! Four texels at once, from one cell that the microcache has.
-ghost use Rattle.std.specs.Prelude.{◌≡◌, ◌↔◌, IsTrue, IsFalse};
+ghost use Rattle.std.specs.Prelude.{◌≡◌, ◌↔◌, IsTrue, IsFalse, IsSome, IfSome};
 ghost use Rattle.std.specs.Option.{ForSome};
 ghost use Rattle.texel_filter.specs.Image.{IsChannelCount};
 ghost use Rattle.texel_filter.specs.Square.{AreCorners};
 ghost use Rattle.tile_layout.specs.Value.{channel_value_of};
 ghost use Rattle.texel_values.specs.Square.{HoldsSquare};
-ghost use Rattle.pinned_tiles.specs.Cell.{StandsFirst};
+ghost use Rattle.pinned_tiles.specs.Cell.{is_tile_of};
 ghost use Rattle.image_cache.specs.Pass.{IsPassOf};
 ghost use Rattle.image_cache.specs.Texel.{IsKnownTo, IsCellAt};
-ghost use Rattle.image_cache.specs.Square.{left_top, IsSquareIn, HasSquareAt, HasEach};
+ghost use Rattle.image_cache.specs.Square.{left_top, IsSquareIn, HasSquareAt, AreShown};
 ghost use Rattle.image_cache.specs.Square.{MeetsSquare, MeetsRest};
 
 use crate::cache::Cache;
@@ -19,6 +19,8 @@ use pinned_tiles::CellAt;
 use tex_world::Tap;
 use texel_filter::{Corners, Square};
 use texel_values::write_square;
+use tile_layout::TileKey;
+use tile_store::Tile;
 
 impl<T: Tap> Cache<T> {
     /// What four calls of `fetch_local` do with the texels of a square, the upper row first, where
@@ -57,7 +59,14 @@ impl<T: Tap> Cache<T> {
             return false;
         }
         pass.count_four();
-        self.write_corners(pass, known, &cell, square, channels, out);
+        self.write_corners(
+            pass.pinned.latest(&cell),
+            known,
+            &cell,
+            square,
+            channels,
+            out,
+        );
         true
     }
 
@@ -93,53 +102,70 @@ impl<T: Tap> Cache<T> {
             return false;
         }
         pass.count_three();
-        self.write_corners(pass, known, &cell, square, channels, out);
+        self.write_corners(
+            pass.pinned.latest(&cell),
+            known,
+            &cell,
+            square,
+            channels,
+            out,
+        );
         true
     }
 
-    /// Whether the microcache has one cell that holds all four texels of a square. It changes
-    /// nothing.
+    /// Writes the values of the texels of a square by one cell of the microcache that holds all
+    /// four, and answers its key. Else none. Nothing is counted, and no tile moved.
     #[inline(always)]
-    pub fn has_square_local(&self, pass: &Pass<T::W>, known: &Record<T::W>, square: &Square) -> bool
+    pub fn show_square_local(
+        &self,
+        pass: &Pass<T::W>,
+        known: &Record<T::W>,
+        square: &Square,
+        channels: usize,
+        out: &mut Corners,
+    ) -> Option<TileKey>
         requires pass { IsPassOf self.now pass.now }
         requires known { IsKnownTo self.now known.now }
         requires inside { IsSquareIn known.now square.now }
-        ensures has { IsTrue result ↔ HasSquareAt known.now square.now pass.now.pinned.recent }
-        ensures each { IsTrue result → HasEach known.now square.now pass.now.pinned.recent }
+        requires channels { IsChannelCount channels }
+        ensures has { IsSome result ↔ HasSquareAt known.now square.now pass.now.pinned.recent }
+        ensures value { IsSome result →
+            ForSome (T.W.files.held known.now.file known.now.generation) (λ bytes.
+            AreCorners (channel_value_of bytes) square.now channels out.new) }
+        ensures each { IfSome result (AreShown known.now square.now pass.now.pinned.recent) }
     {
         // it has no more files than a folder can have
         let _files = self.files.board();
-        match cell_of_square(known, square) {
-            Some(cell) => pass.pinned.has(&cell),
-            None => false,
-        }
+        let Some(cell) = cell_of_square(known, square) else {
+            return None;
+        };
+        let Some(tile) = pass.tile_of(&cell) else {
+            return None;
+        };
+        self.write_corners(tile, known, &cell, square, channels, out);
+        Some(cell.key)
     }
 
-    /// Writes the values of the texels of a square by the tile of their cell, which stands first in
-    /// the microcache.
+    /// Writes the values of the texels of a square by a tile of their cell.
     #[inline(always)]
     fn write_corners(
         &self,
-        pass: &Pass<T::W>,
+        tile: &Tile<T::W>,
         known: &Record<T::W>,
         cell: &CellAt,
         square: &Square,
         channels: usize,
         out: &mut Corners,
     )
-        requires first { StandsFirst cell.now pass.now.pinned.recent }
+        requires keyed { tile.now.key ≡ cell.now.key }
+        requires of_cell { IsTrue (is_tile_of cell.now tile.now) }
         requires cell { IsCellAt known.now (left_top square.now) cell.now }
         requires inside { HoldsSquare cell.now.rect square.now }
         requires channels { IsChannelCount channels }
         ensures { ForSome (T.W.files.held known.now.file known.now.generation) (λ bytes.
             AreCorners (channel_value_of bytes) square.now channels out.new) }
     {
-        write_square(
-            pass.pinned.latest(cell),
-            depth_of(known, square.level),
-            square,
-            channels,
-            out,
-        );
+        let depth = depth_of(known, square.level);
+        write_square(tile, depth, square, channels, out);
     }
 }

@@ -3,11 +3,11 @@ mod Lent
 mod Stays
 mod Counted
 mod Chains
-mod KeptChains
+mod Turns
+mod Shown
 pub mod LookLemmas
 mod Asked
 mod TextureLemmas
 mod KeptRecord
 mod Warm
 mod Visits
-mod Squares

@@ -12,6 +12,7 @@ use Rattle.tile_store.specs.Tile.{CachedTile}
 use Rattle.file_table.specs.Record.{RecordState}
 use Rattle.micro.specs.Items.{has_key, key_first}
 use Rattle.texel_values.specs.declared.texel_at.TexelAt.{TexelAt}
+use Rattle.pinned_tiles.specs.declared.cell.CellAt.{CellAt}
 use Rattle.pinned_tiles.specs.Pinned.{key_in}
 use Rattle.image_cache.specs.Texel.{has_cell_at, has_cell_by, cell_of}
 use Rattle.pinned_tiles.specs.Cell.{has_cell, is_tile_of}
@@ -82,6 +83,11 @@ find_first moved key tiles =
         ∙ find_kept p (λ t. not (q t)) (λ t has. ap not (other t has)) tiles
 
 -- and so is a cell
+pub has_first : (cell : CellAt) (moved : ℕ) (tiles : List CachedTile)
+    → has_cell cell (key_first key_in moved tiles) ≡ has_cell cell tiles
+has_first cell moved tiles = ap (λ (o : Option CachedTile). option_map_or (is_tile_of cell) o false)
+    (find_first moved cell.key tiles)
+
 pub has_moved : (state : RecordState) (at other : TexelAt) (old new : List CachedTile)
     → MovesCellAt state at old new → has_cell_at state other new ≡ has_cell_at state other old
 has_moved state at other old new moves = by state.layout moves
@@ -96,6 +102,5 @@ has_moved state at other old new moves = by state.layout moves
     by (Ok kept) is =
         let cell = cell_of state.generation state.file state.cut kept other in
         ap (λ (tiles : List CachedTile). has_cell cell tiles) is
-        ∙ ap (λ (o : Option CachedTile). option_map_or (is_tile_of cell) o false)
-        (find_first (key_of kept at) (key_of kept other) old)
+        ∙ has_first cell (key_of kept at) old
     by (Err fault) is = refl

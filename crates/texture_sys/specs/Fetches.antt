@@ -1,30 +1,30 @@
--- What does the fetch of a texel leave that the microcache alone is asked for?
-use Rattle.std.specs.Prelude.{◌≡◌, true, false}
-use Rattle.tex_world.specs.World.{Files}
+-- What does a lookup leave that is read from the microcache alone, texel by texel?
+use Rattle.std.specs.Prelude.{◌≡◌, ℕ, true, false, Option, Some, IfOk}
 use Rattle.file_table.specs.Record.{RecordState}
 use Rattle.texel_filter.specs.Image.{Texel}
-use Rattle.image_cache.specs.Pass.{PassState}
-use Rattle.image_cache.specs.Texel.{has_cell_at}
-use Rattle.image_cache.specs.Call.{MovesCellAt}
-use Rattle.image_cache.specs.Pass.{KeepsAllBut, recent_and_counts}
-use Rattle.image_cache.specs.Fetches.{at_of, AsksForCell}
+use Rattle.image_cache.specs.Pass.{PassState, counted}
+use Rattle.image_cache.specs.Texel.{has_cell_at, cell_of}
+use Rattle.image_cache.specs.Fetches.{at_of}
 
--- A texel of a record was read from its cell in the microcache.
-pub record FetchesKept (files : Files) (state : RecordState) (old : PassState) (texel : Texel)
-    (new : PassState) : Type 0 where
-  pub had : has_cell_at state (at_of texel) old.pinned.recent ≡ true
-  pub asks : AsksForCell files state texel old new
-  pub pass : KeepsAllBut recent_and_counts old new
-  pub moved : MovesCellAt state (at_of texel) old.pinned.recent new.pinned.recent
+-- Such a lookup on its way: the pass, how many texels were read, and the key of the latest one's cell.
+pub record Walk : Type 0 where
+  pub pass : PassState
+  pub reads : ℕ
+  pub latest : Option ℕ
 
--- It was not, since the microcache lacks the cell. The pass is as it was.
-pub record Lacks {E : Type 0} (state : RecordState) (old : PassState) (texel : Texel) (e : E)
-    (new : PassState) : Type 0 where
-  pub lacks : has_cell_at state (at_of texel) old.pinned.recent ≡ false
-  pub same : new ≡ old
+abbrev pub walk_of : PassState → ℕ → Option ℕ → Walk
+walk_of pass reads latest = record { pass = pass; reads = reads; latest = latest }
 
--- The microcache has the cell that holds a texel of a record. The pass is as it was.
-pub record FindsCell (state : RecordState) (old : PassState) (texel : Texel) (new : PassState)
-    : Type 0 where
-  pub has : has_cell_at state (at_of texel) old.pinned.recent ≡ true
-  pub same : new ≡ old
+-- A texel of a record was read from its cell in the microcache. The pass is as it was.
+pub record ShowsTexel (state : RecordState) (old : Walk) (texel : Texel) (new : Walk) : Type 0 where
+  pub had : has_cell_at state (at_of texel) old.pass.pinned.recent ≡ true
+  pub same : new.pass ≡ old.pass
+  pub read : new.reads ≡ counted old.reads
+  pub turned : IfOk state.layout (λ kept. new.latest
+      ≡ Some (cell_of state.generation state.file state.cut kept (at_of texel)).key)
+
+-- It was not, since the microcache lacks the cell.
+pub record LacksTexel {E : Type 0} (state : RecordState) (old : Walk) (texel : Texel) (e : E)
+    (new : Walk) : Type 0 where
+  pub lacks : has_cell_at state (at_of texel) old.pass.pinned.recent ≡ false
+  pub same : new.pass ≡ old.pass

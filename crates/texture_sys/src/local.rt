@@ -1,29 +1,28 @@
 //! A lookup in what the microcache has alone. It waits for nothing, has no tap and takes no
 //! memory.
 ghost use Rattle.std.specs.Prelude.{◌≡◌, ◌↔◌, ◌<◌, ◌≤◌, length, slice_index, IsTrue, IsFalse};
-ghost use Rattle.std.specs.Prelude.{IsSome, IsNone, IfSome, IsSomeAnd, OnOk, OnErr};
+ghost use Rattle.std.specs.Prelude.{IsSome, IsNone, IfSome, IsSomeAnd, None};
 ghost use Rattle.std.specs.Option.{ForSome};
 ghost use Rattle.gen_board.specs.View.{AfterStep};
-ghost use Rattle.texel_filter.specs.Image.{IsChannelCount, AreValues, image_of};
-ghost use Rattle.texel_filter.specs.Calls.{LeftBy};
+ghost use Rattle.texel_filter.specs.Image.{IsChannelCount};
+ghost use Rattle.texel_filter.specs.Calls.{EachAnswered};
 ghost use Rattle.image_cache.specs.Pass.{IsPassOf};
 ghost use Rattle.image_cache.specs.Pass.{KeepsAllBut, the_view, recent_and_counts};
 ghost use Rattle.image_cache.specs.Call.{CountsOn};
-ghost use Rattle.texture_sys.specs.Asked.{channels_asked, MayBeLookedUp, asked_value};
+ghost use Rattle.texture_sys.specs.Asked.{channels_asked, MayBeLookedUp};
 ghost use Rattle.image_cache.specs.Texel.{IsUnder};
-ghost use Rattle.image_cache.specs.Sizes.{sizes_known, values_known};
 ghost use Rattle.texture_sys.specs.Needs.{visits_on, HasCells, AsksForCells};
-ghost use Rattle.texture_sys.specs.Fetches.{FetchesKept, Lacks};
+ghost use Rattle.texture_sys.specs.Fetches.{walk_of, ShowsTexel};
 ghost use Rattle.texture_sys.specs.Call.{Answers, IsLookupOn, IsLookedUp, AfterLookup};
 ghost use Rattle.texture_sys.specs.Call.{ServesLocally};
 
 use crate::asking::lookup_for;
-use crate::kept::{KeptCells, KeptTexels, Lacking};
+use crate::kept::{KeptTexels, Lacking};
 use crate::lookup_request::LookupRequest;
 use image_cache::{Cache, Fitting, Pass};
 use tex_world::Tap;
 use texel_filter::TexRequest;
-use tiff_format::MAX_CHANNELS;
+use tile_layout::TileKey;
 
 /// Writes the values of a lookup, where the record that the pass keeps is of the newest known
 /// generation of the file and the microcache has all cells that it needs, and answers that
@@ -89,80 +88,60 @@ fn lookup_local<T: Tap>(
     ensures counts { CountsOn pass.old pass.new }
     ensures kept { KeepsAllBut recent_and_counts pass.old pass.new }
 {
-    if !has_cells(cache, pass, known, r) {
+    // these tell that the counts are of 64 bits
+    let _needs = pass.needs();
+    let _hits = pass.hits();
+    let Some(shown) = show(cache, pass, known, r, out) else {
         return false;
-    }
-    write_kept(cache, pass, known, r, out);
+    };
+    cache.count_shown(pass, shown.reads, shown.latest);
     true
 }
 
-/// Whether the microcache has all cells that a lookup on a record needs.
-fn has_cells<T: Tap>(
+/// What a lookup has read in the microcache: how many texels, and the key of the latest one's cell.
+#[derive(Drop)]
+struct Shown {
+    reads: u64,
+    latest: Option<TileKey>,
+}
+
+/// Writes the values of a lookup on a record, where the microcache has all cells that it needs.
+/// Nothing is counted, and no tile moved.
+fn show<T: Tap>(
     cache: &Cache<T>,
     pass: &Pass<T::W>,
     known: &Fitting<'_, T::W>,
     r: &LookupRequest,
-) -> bool
+    out: &mut [u16],
+) -> Option<Shown>
     requires pass { IsPassOf cache.now pass.now }
     requires under { IsUnder cache.now known.now }
+    requires count { length out.old ≡ channels_asked r.now }
     requires asked { MayBeLookedUp r.now }
-    ensures { IsTrue result
+    ensures has { IsSome result
         ↔ HasCells known.now pass.now.pinned.recent (visits_on known.now r.now) }
-{
-    let mut cells = KeptCells { cache, pass, known };
-    let mut no_values = [0; MAX_CHANNELS];
-    lookup_for(&mut cells, r, &mut no_values[..r.channels() as usize]).is_ok()
-}
-
-/// Writes the values of a lookup on a record. The microcache has all cells that it needs.
-fn write_kept<T: Tap>(
-    cache: &Cache<T>,
-    pass: &mut Pass<T::W>,
-    known: &Fitting<'_, T::W>,
-    r: &LookupRequest,
-    out: &mut [u16],
-)
-    requires pass { IsPassOf cache.now pass.old }
-    requires few { length pass.old.pinned.recent ≤ 2 }
-    requires under { IsUnder cache.now known.now }
-    requires cells { HasCells known.now pass.old.pinned.recent (visits_on known.now r.now) }
-    requires count { length out.old ≡ channels_asked r.now }
-    requires asked { MayBeLookedUp r.now }
-    ensures value { ForSome (T.W.files.held known.now.file known.now.generation) (λ bytes.
+    ensures value { IsSome result →
+        ForSome (T.W.files.held known.now.file known.now.generation) (λ bytes.
         IsLookupOn known.now.cut bytes r.now out.new) }
-    ensures asks { AsksForCells T.W.files known.now (visits_on known.now r.now)
-        pass.old pass.new }
-    ensures counts { CountsOn pass.old pass.new }
-    ensures kept { KeepsAllBut recent_and_counts pass.old pass.new }
+    ensures each { IfSome result (λ shown. EachAnswered (ShowsTexel known.now)
+        (walk_of pass.now 0 None) (visits_on known.now r.now)
+        (walk_of pass.now shown.reads shown.latest)) }
+    ensures none { IsNone result → out.new ≡ out.old }
 {
-    // these tell that its layout is that of its bytes, and that the counts are of 64 bits
-    let _generation = known.record().generation();
-    let _needs = pass.needs();
-    let _hits = pass.hits();
-    match fetch_kept(cache, pass, known, r, out) {
-        Ok(()) => {}
-        Err(Lacking) => unreachable!(),
+    // its layout is that of its bytes
+    let _record = known.record();
+    let mut texels = KeptTexels {
+        cache,
+        pass,
+        known,
+        reads: 0,
+        latest: None,
+    };
+    match lookup_for(&mut texels, r, out) {
+        Ok(()) => Some(Shown {
+            reads: texels.reads,
+            latest: texels.latest,
+        }),
+        Err(Lacking) => None,
     }
-}
-
-/// Writes the values of a lookup, whose texels are read from the microcache.
-fn fetch_kept<T: Tap>(
-    cache: &Cache<T>,
-    pass: &mut Pass<T::W>,
-    known: &Fitting<'_, T::W>,
-    r: &LookupRequest,
-    out: &mut [u16],
-) -> Result<(), Lacking>
-    requires pass { IsPassOf cache.now pass.old }
-    requires under { IsUnder cache.now known.now }
-    requires count { length out.old ≡ channels_asked r.now }
-    requires asked { MayBeLookedUp r.now }
-    ensures told { ForSome (values_known T.W.files known.now) (λ v. OnOk result
-        (AreValues (asked_value (image_of (sizes_known known.now) v) r.now) out.new)) }
-    ensures left { LeftBy (FetchesKept T.W.files known.now) (Lacks known.now)
-        pass.old (visits_on known.now r.now) pass.new result }
-    ensures err { OnErr result (out.new ≡ out.old) }
-{
-    let mut texels = KeptTexels { cache, pass, known };
-    lookup_for(&mut texels, r, out)
 }

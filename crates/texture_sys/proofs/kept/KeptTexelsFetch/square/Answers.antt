@@ -1,104 +1,78 @@
--- Four texels at once, or four calls of `texel`, one after another.
-use Rattle.std.proofs.Common.{◌≡◌, ap, arith, ◌∙◌, inl, inr, refl, subst}
-use Rattle.std.specs.Option.{ForSome}
+-- One cell for all four, or four calls of `texel`, one after another.
+use Rattle.std.proofs.Common.{ℕ, Some, ap, arith, ◌∙◌, inl, inr, refl, subst}
 use Rattle.std.proofs.lemmas.Result.{err_from_is_err_and}
 use Rattle.file_table.specs.Record.{RecordState}
-use Rattle.tile_layout.specs.Value.{channel_value_of}
-use Rattle.texel_filter.specs.Image.{Values, texel_of}
-use Rattle.texel_filter.specs.Square.{AreCorners}
+use Rattle.texel_filter.specs.Image.{texel_of}
 use Rattle.texel_filter.proofs.CallLemmas.{first_of_part, on_ok}
-use Rattle.image_cache.specs.Pass.{PassState}
-use Rattle.image_cache.specs.Square.{MeetsSquare}
+use Rattle.image_cache.specs.Pass.{counted}
+use Rattle.image_cache.specs.Square.{AreShown}
 use Rattle.image_cache.specs.Sizes.{values_known}
-use Rattle.image_cache.proofs.FetchLemmas.{at_mapped, same_cache}
+use Rattle.texture_sys.specs.Fetches.{Walk, walk_of}
 use Rattle.texture_sys.proofs.LookLemmas.{by_result}
-use Rattle.texture_sys.proofs.Squares.{kept_met, kept_from, lacks_from}
+use Rattle.texture_sys.proofs.Shown.{shows_at, four_reads}
 use Rattle.texture_sys.proofs.kept.KeptTexelsFetch.square.Goals as goal
 
-pub returns-then-fetch_square_local-clause-left : goal.returns-then-fetch_square_local-clause-left
-returns-then-fetch_square_local-clause-left g c =
+pub returns-in-Some-clause-left : goal.returns-in-Some-clause-left
+returns-in-Some-clause-left g c =
     let s = c.args.self.now in
     let k = s.known.now in
     let q = c.args.square.now in
-    let old : PassState = s.pass.now in
-    let new : PassState = c.fetch_square_local.new.pass in
-    let met : MeetsSquare g.T.W.World.files k q old new = subst (λ (r : RecordState). MeetsSquare g.T.W.World.files r q old new)
-    c.record.ensures.value (c.fetch_square_local.ensures.met c.if-fetch_square_local.true) in
-    let of_first = same_cache s.cache.now old met.first met.to_first.kept s.of_cache in
-    let of_second = same_cache s.cache.now met.first met.second met.to_second.kept of_first in
-    let of_third = same_cache s.cache.now met.second met.third met.to_third.kept of_second in (
-      record s { pass = record s.pass { now = met.first }; of_cache = of_first },
-      (refl, refl, kept_met g.T.W.World.files k (texel_of q.level q.left q.top) old met.first met.to_first),
+    let key : ℕ = c.in-Some.key in
+    let shown : AreShown k q s.pass.now.pinned.recent key =
+    subst (λ (r : RecordState). AreShown r q s.pass.now.pinned.recent key) c.record.ensures.value
+    c.in-Some.ensures.each in
+    let one = record s { reads = counted s.reads; latest = Some key } in
+    let two = record one { reads = counted one.reads } in
+    let three = record two { reads = counted two.reads } in
+    let w0 : Walk = walk_of s.pass.now s.reads s.latest in
+    let w1 : Walk = walk_of s.pass.now one.reads (Some key) in
+    let w2 : Walk = walk_of s.pass.now two.reads (Some key) in
+    let w3 : Walk = walk_of s.pass.now three.reads (Some key) in
+    let w4 : Walk = walk_of s.pass.now c.saturating_add-self.result (Some key) in (
+      one,
+      (refl, shows_at k w0 w1 (texel_of q.level q.left q.top) key shown.left_top_shown refl refl refl),
       (
-        record s { pass = record s.pass { now = met.second }; of_cache = of_second },
-        (refl, refl, kept_met g.T.W.World.files k (texel_of q.level q.right q.top) met.first met.second met.to_second),
+        two,
+        (refl, shows_at k w1 w2 (texel_of q.level q.right q.top) key shown.right_top_shown refl refl refl),
         (
-          record s { pass = record s.pass { now = met.third }; of_cache = of_third },
-          (refl, refl, kept_met g.T.W.World.files k (texel_of q.level q.left q.bottom) met.second met.third met.to_third),
+          three,
+          (refl, shows_at k w2 w3 (texel_of q.level q.left q.bottom) key shown.left_bottom_shown refl refl refl),
           (
-            record s {
-              pass = record s.pass { now = new };
-              of_cache = c.self-1.given.0;
-              under = c.self-1.given.1.0;
-            },
-            (refl, refl, kept_met g.T.W.World.files k (texel_of q.level q.right q.bottom) met.third new met.to_last),
+            _,
+            (
+              refl,
+              shows_at k w3 w4 (texel_of q.level q.right q.bottom) key shown.right_bottom_shown refl
+                  (four_reads s.reads c.saturating_add-self.result c.saturating_add-self.ensures) refl,
+            ),
             refl,
           ),
         ),
       ),
     )
 
-pub returns-then-fetch_square_local-clause-told : goal.returns-then-fetch_square_local-clause-told
-returns-then-fetch_square_local-clause-told g c values is =
-    let known = c.args.self.now.known.now in
-    let q = c.args.square.now in
-    at_mapped channel_value_of (g.T.W.World.files.held known.file known.generation) values
-    (λ (v : Values). AreCorners v q c.args.channels c.fetch_square_local.new.out) is
-    (subst (λ (r : RecordState). ForSome (g.T.W.World.files.held r.file r.generation)
-    (λ bytes. AreCorners (channel_value_of bytes) q c.args.channels c.fetch_square_local.new.out))
-    c.record.ensures.value (c.fetch_square_local.ensures.value c.if-fetch_square_local.true))
-
-pub returns-in_err-texel-clause-left : goal.returns-in_err-texel-clause-left
-returns-in_err-texel-clause-left g c =
-    let old : PassState = c.args.self.now.pass.now in
-    let mid : PassState = c.fetch_square_local.new.pass in
-    let same : mid ≡ old = (c.fetch_square_local.ensures.same c.if-fetch_square_local.false).0 in
-    let p = err_from_is_err_and c.from_residual.result c.from_residual.ensures.1 in
-    rw (p.1, p.2) (inl (c.in_err-texel.ensures.err.0, c.in_err-texel.ensures.err.1, lacks_from old mid same c.args.self.now.known.now _ _ c.texel.new.self.pass.now c.in_err-texel.ensures.err.2))
-
 pub returns-in_err-texel-2-clause-left : goal.returns-in_err-texel-2-clause-left
 returns-in_err-texel-2-clause-left g c =
-    let old : PassState = c.args.self.now.pass.now in
-    let mid : PassState = c.fetch_square_local.new.pass in
-    let same : mid ≡ old = (c.fetch_square_local.ensures.same c.if-fetch_square_local.false).0 in
     let p = err_from_is_err_and c.from_residual-in_err-texel-2.result
     c.from_residual-in_err-texel-2.ensures.1 in
     rw (p.1, p.2)
-    (inr (c.texel.new.self, (c.in_ok-texel.ensures.ok.0, c.in_ok-texel.ensures.ok.1, kept_from old mid same g.T.W.World.files c.args.self.now.known.now _ c.texel.new.self.pass.now c.in_ok-texel.ensures.ok.2), inl c.in_err-texel-2.ensures.err))
+    (inr (c.texel.new.self, c.in_ok-texel.ensures.ok, inl c.in_err-texel-2.ensures.err))
 
 pub returns-in_err-texel-3-clause-left : goal.returns-in_err-texel-3-clause-left
 returns-in_err-texel-3-clause-left g c =
-    let old : PassState = c.args.self.now.pass.now in
-    let mid : PassState = c.fetch_square_local.new.pass in
-    let same : mid ≡ old = (c.fetch_square_local.ensures.same c.if-fetch_square_local.false).0 in
     let p = err_from_is_err_and c.from_residual-in_err-texel-3.result
     c.from_residual-in_err-texel-3.ensures.1 in
     rw (p.1, p.2)
     (inr (
       c.texel.new.self,
-      (c.in_ok-texel.ensures.ok.0, c.in_ok-texel.ensures.ok.1, kept_from old mid same g.T.W.World.files c.args.self.now.known.now _ c.texel.new.self.pass.now c.in_ok-texel.ensures.ok.2),
+      c.in_ok-texel.ensures.ok,
       inr (c.texel-2.new.self, c.in_ok-texel-2.ensures.ok, inl c.in_err-texel-3.ensures.err),
     ))
 
 pub returns-clause-left : goal.returns-clause-left
-returns-clause-left g c =
-    let old : PassState = c.args.self.now.pass.now in
-    let mid : PassState = c.fetch_square_local.new.pass in
-    let same : mid ≡ old = (c.fetch_square_local.ensures.same c.if-fetch_square_local.false).0 in
-    by_result c.texel-4.result
+returns-clause-left g c = by_result c.texel-4.result
     (λ done is. rw is (
       c.texel.new.self,
-      (c.in_ok-texel.ensures.ok.0, c.in_ok-texel.ensures.ok.1, kept_from old mid same g.T.W.World.files c.args.self.now.known.now _ c.texel.new.self.pass.now c.in_ok-texel.ensures.ok.2),
+      c.in_ok-texel.ensures.ok,
       (
         c.texel-2.new.self,
         c.in_ok-texel-2.ensures.ok,
@@ -111,7 +85,7 @@ returns-clause-left g c =
     ))
     (λ e is. rw is (inr (
       c.texel.new.self,
-      (c.in_ok-texel.ensures.ok.0, c.in_ok-texel.ensures.ok.1, kept_from old mid same g.T.W.World.files c.args.self.now.known.now _ c.texel.new.self.pass.now c.in_ok-texel.ensures.ok.2),
+      c.in_ok-texel.ensures.ok,
       inr (
         c.texel-2.new.self,
         c.in_ok-texel-2.ensures.ok,
@@ -126,9 +100,9 @@ returns-clause-left g c =
 pub returns-clause-told : goal.returns-clause-told
 returns-clause-told g c = λ values is.
     let files = g.T.W.World.files in
-    let k1 = ap (values_known files) c.in_ok-texel.ensures.ok.1 ∙ is in
-    let k2 = ap (values_known files) c.in_ok-texel-2.ensures.ok.1 ∙ k1 in
-    let k3 = ap (values_known files) c.in_ok-texel-3.ensures.ok.1 ∙ k2 in
+    let k1 = ap (values_known files) c.in_ok-texel.ensures.ok.0 ∙ is in
+    let k2 = ap (values_known files) c.in_ok-texel-2.ensures.ok.0 ∙ k1 in
+    let k3 = ap (values_known files) c.in_ok-texel-3.ensures.ok.0 ∙ k2 in
     let h1 = c.in_ok-texel.ensures.told values is in
     let h2 = c.in_ok-texel-2.ensures.told values k1 in
     let h3 = c.in_ok-texel-3.ensures.told values k2 in

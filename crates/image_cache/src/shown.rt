@@ -1,0 +1,87 @@
+//! Texels that are read where they lie in the microcache, and counted together later.
+ghost use Rattle.std.specs.Prelude.{◌≡◌, ◌↔◌, IsTrue, IsSome, IfSome};
+ghost use Rattle.std.specs.Option.{ForSome};
+ghost use Rattle.texel_values.specs.Values.{AreValuesAt};
+ghost use Rattle.micro.specs.Items.{HasKey};
+ghost use Rattle.pinned_tiles.specs.Cell.{is_tile_of};
+ghost use Rattle.pinned_tiles.specs.Pinned.{key_in};
+ghost use Rattle.image_cache.specs.Pass.{IsPassOf, KeepsAllBut, recent_and_counts};
+ghost use Rattle.image_cache.specs.Call.{CountsHits, turned_to};
+ghost use Rattle.image_cache.specs.Texel.{IsKnownTo, IsTexelIn, IsCellAt, has_cell_at};
+ghost use Rattle.image_cache.specs.Square.{IsShownAt};
+
+use crate::cache::Cache;
+use crate::pass::Pass;
+use crate::texel::depth_of;
+use file_table::Record;
+use pinned_tiles::CellAt;
+use tex_world::Tap;
+use texel_values::{TexelAt, write_values};
+use tile_layout::TileKey;
+use tile_store::Tile;
+
+impl<T: Tap> Cache<T> {
+    /// Writes the values of a texel, where the microcache has the cell that holds it, and answers its
+    /// key. Else none. Nothing is counted, and no tile moved.
+    pub fn show_local(
+        &self,
+        pass: &Pass<T::W>,
+        known: &Record<T::W>,
+        at: TexelAt,
+        out: &mut [u16],
+    ) -> Option<TileKey>
+        requires pass { IsPassOf self.now pass.now }
+        requires known { IsKnownTo self.now known.now }
+        requires inside { IsTexelIn known.now at }
+        ensures has { IsSome result ↔ IsTrue (has_cell_at known.now at pass.now.pinned.recent) }
+        ensures value { IsSome result →
+            ForSome (T.W.files.held known.now.file known.now.generation) (λ bytes.
+            AreValuesAt bytes at out.new) }
+        ensures each { IfSome result (IsShownAt known.now at pass.now.pinned.recent) }
+    {
+        let cell = self.cell(known, at);
+        let Some(tile) = pass.tile_of(&cell) else {
+            return None;
+        };
+        self.write_shown(tile, known, &cell, at, out);
+        Some(cell.key)
+    }
+
+    /// Writes the values of a texel by a tile of its cell.
+    #[inline(always)]
+    fn write_shown(
+        &self,
+        tile: &Tile<T::W>,
+        known: &Record<T::W>,
+        cell: &CellAt,
+        at: TexelAt,
+        out: &mut [u16],
+    )
+        requires keyed { tile.now.key ≡ cell.now.key }
+        requires of_cell { IsTrue (is_tile_of cell.now tile.now) }
+        requires cell { IsCellAt known.now at cell.now }
+        ensures { ForSome (T.W.files.held known.now.file known.now.generation) (λ bytes.
+            AreValuesAt bytes at out.new) }
+    {
+        let depth = depth_of(known, at.level);
+        write_values(tile, depth, at, out);
+    }
+
+    /// Counts so many needs of cells that the microcache had, and moves the tile of the latest one's
+    /// key to the first place, as it stands once each was asked for.
+    #[inline(always)]
+    pub fn count_shown(&self, pass: &mut Pass<T::W>, needs: u64, latest: Option<TileKey>)
+        requires pass { IsPassOf self.now pass.old }
+        requires there { IfSome latest (λ key. HasKey key_in key pass.old.pinned.recent) }
+        ensures counts { CountsHits needs pass.old pass.new }
+        ensures moved { pass.new.pinned.recent ≡ turned_to latest pass.old.pinned.recent }
+        ensures kept { KeepsAllBut recent_and_counts pass.old pass.new }
+    {
+        // it has two tiles at most
+        pass.know();
+        pass.count_hits(needs);
+        if let Some(key) = latest {
+            pass.pinned.find(key);
+        }
+    }
+}
