@@ -102,13 +102,13 @@ AFRESH = [(["--budget", "0", *slots], [AGAIN, "invalidate A.tif", AGAIN]) for sl
 LIMIT = 1 << 20
 MIDDLE = "tex 32768 32768 0 clamp clamp bilinear 1 big.tif"
 WANTING = [
-    (["tex 0 192 0 clamp clamp closest 2 big.tif"], ["tex 1 3855 0"], "needs 1 hits 0 apart 1"),
+    (["tex 0 96 0 clamp clamp closest 2 big.tif"], ["tex 1 3855 0"], "needs 1 hits 0 apart 1"),
     ([MIDDLE], ["tex 1 48316"], "needs 4 hits 0 apart 4"),
     ([MIDDLE, MIDDLE], ["tex 1 48316"] * 2, "needs 8 hits 0 apart 8"),
     (["texd 32768 32768 0 0 0 0 clamp clamp 1 big.tif"], ["texd 1 48316"], "needs 4 hits 0 apart 4"),
     # what wants for a tile, for a generated level and for a region
     (["hold 0 0 0 big.tif", "tex 0 0 65536 clamp clamp closest 1 big.tif", "pixels 0 0 0 1 1 big.tif",
-      "info big.tif"], ["no memory"] * 3 + ["info 1 1024 1024 1 8 1 11"], "needs 2 hits 0"),
+      "info big.tif"], ["no memory"] * 3 + ["info 1 1024 2048 1 8 1 12"], "needs 2 hits 0"),
 ]
 
 
@@ -179,8 +179,8 @@ def run_wanting(program, shim, folder, words, requests):
 
 def wanting_faults(program, shim, folder):
     """The faults that were found where no tile finds memory, with slots and without."""
-    (Path(folder) / "big.tif").write_bytes(tiff(LITTLE, [Level(1024, 1024, lambda x, y: [(3 * x + 5 * y) % 256],
-                                                               tile=(1024, 1024))]))
+    (Path(folder) / "big.tif").write_bytes(tiff(LITTLE, [Level(1024, 2048, lambda x, y: [(3 * x + 5 * y) % 256],
+                                                               tile=(1024, 2048))]))
     for slots in ("0", "1", "512"):
         for requests, lines, counts in WANTING:
             refused = lines.count("no memory")
