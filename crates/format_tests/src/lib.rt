@@ -30,6 +30,8 @@ mod reads;
 #[cfg(test)]
 mod rects;
 #[cfg(test)]
+mod rooms;
+#[cfg(test)]
 mod shard_calls;
 #[cfg(test)]
 mod shards;
