@@ -298,7 +298,6 @@ fn counts_the_reads_of_rectangles(rt: HostRuntime) -> Result<(), Fail> {
     Ok(())
 }
 
-// The samples are those that `read_rect` finds, by as many reads of as many bytes.
 /// The read of that number fails and is named, and it is the last one.
 fn fails_at(alloc: Global, bytes: &[u8], layout: &Layout, place: Place, failing: u64) -> bool {
     let mut reader = MemReader::new(bytes, failing);

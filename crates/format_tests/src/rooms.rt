@@ -219,6 +219,7 @@ fn counts_as_zero_in_a_room_of_bytes(rt: HostRuntime) -> Result<(), Fail> {
     Ok(())
 }
 
+// The samples are those that `read_rect` finds, by as many reads of as many bytes.
 #[test]
 fn counts_the_reads_of_samples_in_their_room(rt: HostRuntime) -> Result<(), Fail> {
     for (what, file, place, reads, filled) in READS {
