@@ -3,6 +3,7 @@
 use crate::files::file_of;
 use crate::layouts::{Place, layout_in, rect_on};
 use crate::mem_reader::{Failed, MemReader};
+use crate::rooms::fails_in_room;
 use rect_read::{RectError, read_rect};
 use std::alloc::Global;
 use std::test::Fail;
@@ -315,6 +316,8 @@ fn each_read_of_a_rectangle_fails_in_turn(rt: HostRuntime) -> Result<(), Fail> {
         for failing in 1..=*reads {
             let fails = fails_at(rt.alloc(), &bytes, &layout, *place, failing);
             assert!(rt; fails, "{what}, read {failing}");
+            let fails = fails_in_room(rt.alloc(), &bytes, &layout, *place, failing);
+            assert!(rt; fails, "{what}, read {failing} to a room");
         }
     }
     Ok(())

@@ -232,24 +232,18 @@ fn counts_the_reads_of_samples_in_their_room(rt: HostRuntime) -> Result<(), Fail
     Ok(())
 }
 
-/// The read of that number fails and is named, and it is the last one.
-fn fails_in_room(alloc: Global, bytes: &[u8], layout: &Layout, place: Place, failing: u64) -> bool {
+/// The read of that number fails and is named, and it is the last one, where the samples are read to
+/// their room.
+pub(crate) fn fails_in_room(
+    alloc: Global,
+    bytes: &[u8],
+    layout: &Layout,
+    place: Place,
+    failing: u64,
+) -> bool {
     let mut reader = MemReader::new(bytes, failing);
     match texels_of(alloc, &mut reader, layout, 0, place) {
         Some(Err(RectError::Reader(Failed(read)))) => { read == failing && reader.reads == failing }
         _ => false,
     }
-}
-
-#[test]
-fn each_read_to_a_room_fails_in_turn(rt: HostRuntime) -> Result<(), Fail> {
-    for (what, file, place, reads, _) in READS {
-        let bytes = file_of(rt.alloc(), file)?;
-        let layout = layout_in(rt.alloc(), &bytes)?;
-        for failing in 1..=*reads {
-            let fails = fails_in_room(rt.alloc(), &bytes, &layout, *place, failing);
-            assert!(rt; fails, "{what}, read {failing}");
-        }
-    }
-    Ok(())
 }
