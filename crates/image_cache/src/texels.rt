@@ -1,5 +1,5 @@
 //! The texels of a record, as a lookup fetches them.
-ghost use Rattle.std.specs.Prelude.{◌≡◌, length, OnOk, IfErr};
+ghost use Rattle.std.specs.Prelude.{◌≡◌, length, OnOk, IfOk, IfErr};
 ghost use Rattle.std.specs.Option.{ForSome};
 ghost use Rattle.texel_filter.specs.Image.{IsInside, IsChannelCount, AreValues, texel_of};
 ghost use Rattle.texel_filter.specs.Square.{texels_of, HasSquare, AreCorners};
@@ -94,9 +94,47 @@ impl<'a, V: Waiter, T: Tap> Reading<'a, V, T> {
         cache.fetch(self.waiter, self.pass, self.tap, known, at, out)
     }
 
-    /// The same of the four texels of a square, one after another, the upper row first. Where the first
-    /// one brings a cell that holds all of them, the others are read from it at once.
+    /// The same of the four texels of a square, one after another, the upper row first.
+    #[inline(always)]
     fn fetch_four(
+        &mut self,
+        square: &Square,
+        channels: usize,
+        out: &mut Corners,
+    ) -> Result<(), CacheError<V::Busy>>
+        requires inside { HasSquare (sizes_known self.old.known.now) square.now }
+        requires channels { IsChannelCount channels }
+        ensures told { ForSome (values_known T.W.files self.old.known.now) (λ v.
+            OnOk result (AreCorners v square.now channels out.new)) }
+        ensures left { LeftBy (FetchesBy T.W.files) (RefusesBy T.W.files)
+            self.old (texels_of square.now) self.new result }
+    {
+        *out = self.four_corners(*square, channels)?;
+        Ok(())
+    }
+
+    /// The same, by value: so the corners of a square that lies in one cell need no memory.
+    #[inline(never)]
+    fn four_corners(
+        &mut self,
+        square: Square,
+        channels: usize,
+    ) -> Result<Corners, CacheError<V::Busy>>
+        requires inside { HasSquare (sizes_known self.old.known.now) square }
+        requires channels { IsChannelCount channels }
+        ensures told { ForSome (values_known T.W.files self.old.known.now) (λ v.
+            IfOk result (AreCorners v square channels)) }
+        ensures left { LeftBy (FetchesBy T.W.files) (RefusesBy T.W.files)
+            self.old (texels_of square) self.new result }
+    {
+        let mut corners = Corners::BLACK;
+        self.fetch_in_turn(&square, channels, &mut corners)?;
+        Ok(corners)
+    }
+
+    /// The same. Where the first texel brings a cell that holds all four, the others are read from it
+    /// at once.
+    fn fetch_in_turn(
         &mut self,
         square: &Square,
         channels: usize,
@@ -165,6 +203,7 @@ impl<'a, V: Waiter, T: Tap> Reading<'a, V, T> {
             top,
             bottom,
         } = *square;
+        out.narrow = false;
         self.fetch_at(level, right, top, &mut out.right_top[..channels])?;
         self.fetch_at(level, left, bottom, &mut out.left_bottom[..channels])?;
         self.fetch_at(level, right, bottom, &mut out.right_bottom[..channels])

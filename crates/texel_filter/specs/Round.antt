@@ -5,11 +5,12 @@ use Rattle.texel_filter.specs.declared.request.TexRequest.{TexRequest}
 use Rattle.texel_filter.specs.declared.coordinate.Pair.{Pair}
 use Rattle.texel_filter.specs.declared.round.Round.{Round}
 use Rattle.texel_filter.specs.declared.square.Corners.{Corners}
-use Rattle.texel_filter.specs.Image.{Sizes, Values, Image, Texel, AreFirst}
+use Rattle.texel_filter.specs.Image.{Sizes, Values, Image, Texel}
 use Rattle.texel_filter.specs.WrapMode.{wrapped_index}
 use Rattle.texel_filter.specs.Coordinate.{index_before}
 use Rattle.texel_filter.specs.Filter.{value_in, wrapped_value}
 use Rattle.texel_filter.specs.Visits.{visit_in}
+use Rattle.texel_filter.specs.Square.{AreNumbers}
 
 -- the columns or rows round a coordinate
 pub record IsPairAt (mode : Wrap) (s : ℤ) (n : ℕ) (pair : Pair) : Type 0 where
@@ -43,32 +44,32 @@ visits_round round =
 -- the corners have the values of these columns and rows in the first so many channels
 pub record AreRound (values : Values) (round : Round) (channels : ℕ) (corners : Corners)
     : Type 0 where
-  pub left_top : AreFirst channels
+  pub left_top : AreNumbers corners.narrow channels
       (value_in (values round.level) round.columns.first round.rows.first) corners.left_top
-  pub right_top : AreFirst channels
+  pub right_top : AreNumbers corners.narrow channels
       (value_in (values round.level) round.columns.second round.rows.first) corners.right_top
-  pub left_bottom : AreFirst channels
+  pub left_bottom : AreNumbers corners.narrow channels
       (value_in (values round.level) round.columns.first round.rows.second) corners.left_bottom
-  pub right_bottom : AreFirst channels
+  pub right_bottom : AreNumbers corners.narrow channels
       (value_in (values round.level) round.columns.second round.rows.second) corners.right_bottom
 
 -- the corners have the values round the coordinates in a level, as the wraps have it, in the first
 -- so many channels
 pub record AreWrapped (image : Image) (r : TexRequest) (l channels : ℕ) (corners : Corners)
     : Type 0 where
-  pub left_top : AreFirst channels
+  pub left_top : AreNumbers corners.narrow channels
       (wrapped_value image r l (index_before r.s (image.sizes.width l))
       (index_before r.t (image.sizes.height l)))
       corners.left_top
-  pub right_top : AreFirst channels
+  pub right_top : AreNumbers corners.narrow channels
       (wrapped_value image r l (index_before r.s (image.sizes.width l) +ℤ pos 1)
       (index_before r.t (image.sizes.height l)))
       corners.right_top
-  pub left_bottom : AreFirst channels
+  pub left_bottom : AreNumbers corners.narrow channels
       (wrapped_value image r l (index_before r.s (image.sizes.width l))
       (index_before r.t (image.sizes.height l) +ℤ pos 1))
       corners.left_bottom
-  pub right_bottom : AreFirst channels
+  pub right_bottom : AreNumbers corners.narrow channels
       (wrapped_value image r l (index_before r.s (image.sizes.width l) +ℤ pos 1)
       (index_before r.t (image.sizes.height l) +ℤ pos 1))
       corners.right_bottom

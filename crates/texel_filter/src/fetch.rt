@@ -46,8 +46,9 @@ pub trait Fetch {
         ensures err { IfErr result (λ e. refuses self.old (texel_of level x y) e self.new) };
 
     /// Writes the first channels of four texels to the corners, as four calls of `texel` do it in
-    /// their order. An implementer that finds all four in one place may answer them at once. One
-    /// whose `texel` is to be inlined writes this body anew, with `#[inline(always)]` of its own.
+    /// their order. An implementer that finds all four in one place may answer them at once, as
+    /// values or as samples of 8 bits. One whose `texel` is to be inlined writes this body anew,
+    /// with `#[inline(always)]` of its own.
     fn square(
         &mut self,
         square: &Square,
@@ -67,6 +68,7 @@ pub trait Fetch {
             top,
             bottom,
         } = *square;
+        out.narrow = false;
         self.texel(level, left, top, &mut out.left_top[..channels])?;
         self.texel(level, right, top, &mut out.right_top[..channels])?;
         self.texel(level, left, bottom, &mut out.left_bottom[..channels])?;

@@ -1,4 +1,4 @@
-ghost use Rattle.std.specs.Prelude.{◌<◌, IfSome, length, OnOk};
+ghost use Rattle.std.specs.Prelude.{◌<◌, IfSome, IfOk, length, OnOk};
 ghost use Rattle.std.specs.Option.{ForSome};
 ghost use Rattle.texel_filter.specs.Image.{IsChannelCount, AreValues, image_of};
 ghost use Rattle.texel_filter.specs.Filter.{value_in};
@@ -33,7 +33,7 @@ impl Round {
         }
     }
 
-    /// The values of the texels in these columns and rows: at once, where no wrap leaves one out.
+    /// The texels in these columns and rows: at once, where no wrap leaves one out.
     pub fn fetch<F: Fetch>(
         &self,
         f: &mut F,
@@ -81,6 +81,7 @@ impl Round {
     {
         let (left, right) = (self.columns.first, self.columns.second);
         let (top, bottom) = (self.rows.first, self.rows.second);
+        out.narrow = false;
         fetch_one(f, self.level, (left, top), &mut out.left_top[..channels])?;
         fetch_one(f, self.level, (right, top), &mut out.right_top[..channels])?;
         fetch_one(
@@ -98,25 +99,27 @@ impl Round {
     }
 }
 
-/// The values of the four texels round the coordinates of a lookup, in a level, as its wraps have
-/// it. Not inlined, so that the common case stays short.
+/// The four texels round the coordinates of a lookup, in a level, as its wraps have it. Not
+/// inlined, so that the common case stays short, and answered by value, so that the corners of that
+/// case need no memory.
 #[inline(never)]
-pub fn fetch_wrapped<F: Fetch>(
+pub fn wrapped_corners<F: Fetch>(
     f: &mut F,
     r: &TexRequest,
     level: u32,
     channels: usize,
-    out: &mut Corners,
-) -> Result<(), F::Error>
+) -> Result<Corners, F::Error>
     requires level { level < (F.sizes f.old).levels }
     requires channels { IsChannelCount channels }
-    ensures told { ForSome (F.values f.old) (λ v. OnOk result
-        (AreWrapped (image_of (F.sizes f.old) v) r.now level channels out.new)) }
+    ensures told { ForSome (F.values f.old) (λ v. IfOk result
+        (AreWrapped (image_of (F.sizes f.old) v) r.now level channels)) }
     ensures left { LeftBy F.leaves F.refuses f.old (square_visits (F.sizes f.old) r.now level)
         f.new result }
 {
     let round = Round::at(f, r, level);
-    round.fetch(f, channels, out)
+    let mut corners = Corners::BLACK;
+    round.fetch(f, channels, &mut corners)?;
+    Ok(corners)
 }
 
 /// The values of the texel in a column and a row, or 0 where there is no such column or row.

@@ -1,5 +1,11 @@
 use tiff_format::MAX_CHANNELS;
 
+/// The numbers of 8 bits.
+pub const NARROW_NUMBERS: u16 = 256;
+
+/// A sample of 8 bits counts as so many times itself.
+pub const NARROW_SCALE: u16 = 257;
+
 /// Four texels of a level, in two columns and two rows, which need not lie side by side.
 #[derive(Clone, Copy, Debug)]
 pub struct Square {
@@ -15,9 +21,11 @@ pub struct Square {
     pub bottom: u32,
 }
 
-/// The values of the four texels of a square, each from channel 0 on.
+/// The numbers of the four texels of a square, each from channel 0 on.
 #[derive(Clone, Copy, Debug)]
 pub struct Corners {
+    /// Whether they are samples of 8 bits, each of which counts 257 times. Else they are values.
+    pub narrow: bool,
     /// In the first column and the first row.
     pub left_top: [u16; MAX_CHANNELS],
     /// In the second column and the first row.
@@ -31,6 +39,7 @@ pub struct Corners {
 impl Corners {
     /// The value 0 everywhere.
     pub const BLACK: Corners = Corners {
+        narrow: false,
         left_top: [0; MAX_CHANNELS],
         right_top: [0; MAX_CHANNELS],
         left_bottom: [0; MAX_CHANNELS],

@@ -1,50 +1,40 @@
-ghost use Rattle.std.specs.Prelude.{◌≡◌, ℕ, ◌+◌, ◌/◌, ◌^◌, ◌<◌, ◌≤◌, length, OnOk, IfOk};
+ghost use Rattle.std.specs.Prelude.{◌≡◌, ◌<◌, ◌≤◌, OnOk, IfOk, true, false};
 ghost use Rattle.std.specs.Option.{ForSome};
-ghost use Rattle.texel_filter.specs.Image.{IsChannelCount, AreValues, image_of};
+ghost use Rattle.texel_filter.specs.Image.{IsChannelCount, AreFirst, image_of};
+ghost use Rattle.texel_filter.specs.Filter.{bilinear_sum};
 ghost use Rattle.tiff_format.specs.Limits.{max_channels};
-ghost use Rattle.texel_filter.specs.Coordinate.{unit};
-ghost use Rattle.texel_filter.specs.Filter.{blended_sum, rounded_sum, max_trilinear_sum};
-ghost use Rattle.texel_filter.specs.Filter.{AreSums};
 ghost use Rattle.texel_filter.specs.Visits.{square_visits};
 ghost use Rattle.texel_filter.specs.Calls.{LeftBy};
-ghost use Rattle.texel_filter.specs.Weighted.{sum_of, max_sum, HasSums};
+ghost use Rattle.texel_filter.specs.Weighted.{sum_of, max_sum, HasSums, AreLevelSums};
 
-use crate::coordinate::{Between, UNIT};
+use crate::coordinate::Between;
 use crate::fetch::Fetch;
 use crate::request::TexRequest;
-use crate::round::fetch_wrapped;
-use crate::square::{Corners, Square};
+use crate::round::wrapped_corners;
+use crate::square::{Corners, NARROW_NUMBERS, NARROW_SCALE, Square};
 use crate::weights::Weights;
+use tiff_format::MAX_CHANNELS;
 
-// A weighted sum has 32 bits below the value, one over two levels 48; and a half of a value.
-const SUM_BITS: u32 = 32;
-
-const HALF_SUM: u64 = 1 << 31;
-
-const BLEND_BITS: u32 = 48;
-
-const HALF_BLEND: u64 = 1 << 47;
-
-/// The values of four texels, with their weights.
+// The numbers of four texels, with their weights.
 #[derive(Drop)]
-pub struct Weighted {
+struct Weighted {
     corners: Corners,
     weights: Weights,
 }
 
 impl Weighted {
-    /// The value 0 four times.
+    // The value 0 four times.
     #[inline(always)]
-    pub fn black() -> Weighted {
+    fn black() -> Weighted {
         Weighted {
             corners: Corners::BLACK,
             weights: Weights::of(0, 0),
         }
     }
 
-    /// Takes the four texels round the coordinates of a lookup, in a level.
+    // Takes the four texels round the coordinates of a lookup, in a level.
     #[inline(always)]
-    pub fn fetch<F: Fetch>(
+    fn fetch<F: Fetch>(
         &mut self,
         f: &mut F,
         r: &TexRequest,
@@ -74,14 +64,54 @@ impl Weighted {
                 };
                 f.square(&square, channels, &mut self.corners)
             }
-            _ => fetch_wrapped(f, r, level, channels, &mut self.corners),
+            _ => {
+                self.corners = wrapped_corners(f, r, level, channels)?;
+                Ok(())
+            }
         }
     }
 
-    // The weighted sum of a channel.
+    // The weighted sums of the first n channels. It has a body for samples of 8 bits and one for
+    // values, so that none asks at each channel.
     #[inline(always)]
-    fn sum(&self, c: usize) -> u64
-        requires { c < max_channels }
+    fn channel_sums(&self, n: usize) -> [u64; MAX_CHANNELS]
+        requires { n ≤ max_channels }
+        ensures value { AreFirst n (sum_of self.now) result }
+        ensures high { AreLevelSums n result }
+    {
+        let mut sums = [0; MAX_CHANNELS];
+        if self.corners.narrow {
+            'narrow: for c in 0..n {
+                sums[c] = self.narrow_sum(c);
+            }
+        } else {
+            'wide: for c in 0..n {
+                sums[c] = self.wide_sum(c);
+            }
+        }
+        sums
+    }
+
+    // Of a channel whose numbers are samples of 8 bits: their sum is multiplied, and not each.
+    #[inline(always)]
+    fn narrow_sum(&self, c: usize) -> u64
+        requires channel { c < max_channels }
+        requires narrow { self.now.corners.narrow ≡ true }
+        ensures value { result ≡ sum_of self.now c }
+        ensures high { result ≤ max_sum }
+    {
+        let sum = self.weights.left_top * u64::from(self.corners.left_top[c] % NARROW_NUMBERS)
+            + self.weights.right_top * u64::from(self.corners.right_top[c] % NARROW_NUMBERS)
+            + self.weights.left_bottom * u64::from(self.corners.left_bottom[c] % NARROW_NUMBERS)
+            + self.weights.right_bottom * u64::from(self.corners.right_bottom[c] % NARROW_NUMBERS);
+        u64::from(NARROW_SCALE) * sum
+    }
+
+    // Of a channel whose numbers are values.
+    #[inline(always)]
+    fn wide_sum(&self, c: usize) -> u64
+        requires channel { c < max_channels }
+        requires wide { self.now.corners.narrow ≡ false }
         ensures value { result ≡ sum_of self.now c }
         ensures high { result ≤ max_sum }
     {
@@ -90,59 +120,51 @@ impl Weighted {
             + self.weights.left_bottom * u64::from(self.corners.left_bottom[c])
             + self.weights.right_bottom * u64::from(self.corners.right_bottom[c])
     }
+}
 
-    /// Writes the weighted means of the first n channels, rounded to the nearest. Inlined where the
-    /// compiler knows how many.
-    #[inline(always)]
-    pub fn mean(&self, n: usize, out: &mut [u16])
-        requires channels { IsChannelCount n }
-        requires count { length out.old ≡ n }
-        ensures { AreValues (λ c. (sum_of self.now c + 2 ^ 31) / 2 ^ 32) out.new }
-    {
-        for c in 0..n {
-            out[c] = ((self.sum(c) + HALF_SUM) >> SUM_BITS) as u16;
-        }
+/// The weighted sums of the first n channels of the four texels round the coordinates of a lookup, in
+/// a level.
+#[inline(never)]
+pub fn level_sums<F: Fetch>(
+    f: &mut F,
+    r: &TexRequest,
+    level: u32,
+    n: usize,
+) -> Result<[u64; MAX_CHANNELS], F::Error>
+    requires level { level < (F.sizes f.old).levels }
+    requires channels { IsChannelCount n }
+    ensures told { ForSome (F.values f.old) (λ v. IfOk result
+        (AreFirst n (bilinear_sum (image_of (F.sizes f.old) v) r.now level))) }
+    ensures high { IfOk result (AreLevelSums n) }
+    ensures left { LeftBy F.leaves F.refuses f.old (square_visits (F.sizes f.old) r.now level)
+        f.new result }
+{
+    match n {
+        1 => sums_upto(f, r, level, 1),
+        2 => sums_upto(f, r, level, 2),
+        3 => sums_upto(f, r, level, 3),
+        4 => sums_upto(f, r, level, 4),
+        n => sums_upto(f, r, level, n),
     }
+}
 
-    /// The same over two levels, by the fraction of the next one.
-    #[inline(always)]
-    pub fn blend(&self, next: &Weighted, fraction: u32, n: usize, out: &mut [u16])
-        requires fraction { fraction < unit }
-        requires channels { IsChannelCount n }
-        requires count { length out.old ≡ n }
-        ensures { AreValues (λ c.
-            rounded_sum (blended_sum fraction (sum_of self.now c) (sum_of next.now c))) out.new }
-    {
-        for c in 0..n {
-            let sum = self.sum_with(next, fraction, c);
-            out[c] = ((sum + HALF_BLEND) >> BLEND_BITS) as u16;
-        }
-    }
-
-    /// Writes those sums as they are.
-    #[inline(always)]
-    pub fn sums(&self, next: &Weighted, fraction: u32, n: usize, out: &mut [u64])
-        requires fraction { fraction < unit }
-        requires channels { IsChannelCount n }
-        requires count { length out.old ≡ n }
-        ensures value { AreValues (λ c.
-            blended_sum fraction (sum_of self.now c) (sum_of next.now c)) out.new }
-        ensures high { AreSums out.new }
-    {
-        for c in 0..n {
-            out[c] = self.sum_with(next, fraction, c);
-        }
-    }
-
-    // The sum over two levels of a channel, by the fraction of the next one.
-    #[inline(always)]
-    fn sum_with(&self, next: &Weighted, fraction: u32, c: usize) -> u64
-        requires fraction { fraction < unit }
-        requires channel { c < max_channels }
-        ensures value { result ≡ blended_sum fraction (sum_of self.now c) (sum_of next.now c) }
-        ensures high { result ≤ max_trilinear_sum }
-    {
-        let (of_next, of_first) = (u64::from(fraction), UNIT - u64::from(fraction));
-        of_first * self.sum(c) + of_next * next.sum(c)
-    }
+/// The same. Inlined where the compiler knows how many.
+#[inline(always)]
+pub fn sums_upto<F: Fetch>(
+    f: &mut F,
+    r: &TexRequest,
+    level: u32,
+    n: usize,
+) -> Result<[u64; MAX_CHANNELS], F::Error>
+    requires level { level < (F.sizes f.old).levels }
+    requires channels { IsChannelCount n }
+    ensures told { ForSome (F.values f.old) (λ v. IfOk result
+        (AreFirst n (bilinear_sum (image_of (F.sizes f.old) v) r.now level))) }
+    ensures high { IfOk result (AreLevelSums n) }
+    ensures left { LeftBy F.leaves F.refuses f.old (square_visits (F.sizes f.old) r.now level)
+        f.new result }
+{
+    let mut four = Weighted::black();
+    four.fetch(f, r, level, n)?;
+    Ok(four.channel_sums(n))
 }

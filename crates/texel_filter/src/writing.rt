@@ -15,7 +15,8 @@ ghost use Rattle.texel_filter.specs.LevelPair.{between_value, between_visits};
 use crate::coordinate::LevelPair;
 use crate::fetch::Fetch;
 use crate::request::TexRequest;
-use crate::weighted::Weighted;
+use crate::sums::{write_blend, write_means};
+use crate::weighted::{level_sums, sums_upto};
 use tiff_format::MAX_CHANNELS;
 
 /// The texel in a column and a row.
@@ -89,8 +90,8 @@ pub fn write_one<F: Fetch>(
     }
 }
 
-/// Bilinear in a level.
-#[inline]
+/// Bilinear in a level. Not inlined, so that the code of the other filters stays short.
+#[inline(never)]
 pub fn write_level<F: Fetch>(
     f: &mut F,
     r: &TexRequest,
@@ -131,14 +132,13 @@ fn level_upto<F: Fetch>(
         f.new result }
     ensures same { OnErr result (out.new ≡ out.old) }
 {
-    let mut four = Weighted::black();
-    four.fetch(f, r, level, n)?;
-    four.mean(n, out);
+    let sums = sums_upto(f, r, level, n)?;
+    write_means(&sums, n, out);
     Ok(())
 }
 
-/// Bilinear in two levels, and between them.
-#[inline]
+/// Bilinear in two levels, and between them. Not inlined, for the same reason.
+#[inline(never)]
 pub fn write_between<F: Fetch>(
     f: &mut F,
     r: &TexRequest,
@@ -156,36 +156,59 @@ pub fn write_between<F: Fetch>(
     ensures same { OnErr result (out.new ≡ out.old) }
 {
     match out.len() {
-        1 => between_upto(f, r, levels, 1, out),
-        2 => between_upto(f, r, levels, 2, out),
-        3 => between_upto(f, r, levels, 3, out),
-        4 => between_upto(f, r, levels, 4, out),
-        n => between_upto(f, r, levels, n, out),
+        1 => between_of::<F, 1>(f, r, levels, out),
+        2 => between_of::<F, 2>(f, r, levels, out),
+        3 => between_of::<F, 3>(f, r, levels, out),
+        4 => between_of::<F, 4>(f, r, levels, out),
+        _ => between_any(f, r, levels, out),
     }
 }
 
-#[inline(always)]
-fn between_upto<F: Fetch>(
+/// The same of N channels. The texels of two levels make it too large for `#[inline(always)]`, which the
+/// compiler then drops; a number that is a parameter of its own is known without that.
+fn between_of<F: Fetch, const N: usize>(
     f: &mut F,
     r: &TexRequest,
     levels: LevelPair,
-    n: usize,
     out: &mut [u16],
 ) -> Result<(), F::Error>
     requires room { levels.first + 1 < 2 ^ 32 }
     requires levels { levels.first + 1 < (F.sizes f.old).levels }
     requires fraction { levels.fraction < unit }
-    requires channels { IsChannelCount n }
-    requires count { length out.old ≡ n }
+    requires channels { IsChannelCount N }
+    requires count { length out.old ≡ N }
     ensures told { ForSome (F.values f.old) (λ v. OnOk result
         (AreValues (between_value (image_of (F.sizes f.old) v) r.now levels) out.new)) }
     ensures left { LeftBy F.leaves F.refuses f.old (between_visits (F.sizes f.old) r.now levels)
         f.new result }
     ensures same { OnErr result (out.new ≡ out.old) }
 {
-    let (mut first, mut second) = (Weighted::black(), Weighted::black());
-    first.fetch(f, r, levels.first, n)?;
-    second.fetch(f, r, levels.first + 1, n)?;
-    first.blend(&second, levels.fraction, n, out);
+    let first = sums_upto(f, r, levels.first, N)?;
+    let second = sums_upto(f, r, levels.first + 1, N)?;
+    write_blend(&first, &second, levels.fraction, N, out);
+    Ok(())
+}
+
+/// The same of any number of channels.
+fn between_any<F: Fetch>(
+    f: &mut F,
+    r: &TexRequest,
+    levels: LevelPair,
+    out: &mut [u16],
+) -> Result<(), F::Error>
+    requires room { levels.first + 1 < 2 ^ 32 }
+    requires levels { levels.first + 1 < (F.sizes f.old).levels }
+    requires fraction { levels.fraction < unit }
+    requires channels { IsChannelCount (length out.old) }
+    ensures told { ForSome (F.values f.old) (λ v. OnOk result
+        (AreValues (between_value (image_of (F.sizes f.old) v) r.now levels) out.new)) }
+    ensures left { LeftBy F.leaves F.refuses f.old (between_visits (F.sizes f.old) r.now levels)
+        f.new result }
+    ensures same { OnErr result (out.new ≡ out.old) }
+{
+    let n = out.len();
+    let first = level_sums(f, r, levels.first, n)?;
+    let second = level_sums(f, r, levels.first + 1, n)?;
+    write_blend(&first, &second, levels.fraction, n, out);
     Ok(())
 }

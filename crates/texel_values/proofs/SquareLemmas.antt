@@ -1,9 +1,9 @@
 -- The values of the first channels of a texel, by the samples of its tile's row.
-use Rattle.std.proofs.Common.{◌≡◌, ℕ, ◌+◌, ◌-◌, ◌*◌, ◌<◌, ◌≤◌, List, length, map, slice_index, get_or}
-use Rattle.std.proofs.Common.{◌≢◌, set, get_or-set_other, get_or-set_same, below_more}
+use Rattle.std.proofs.Common.{◌≡◌, ℕ, ◌+◌, ◌-◌, ◌*◌, ◌<◌, ◌≤◌, ◌%◌, ◌==◌, Bool, true, false, nat_lt}
+use Rattle.std.proofs.Common.{List, length, map, slice_index, get_or, refl}
 use Rattle.std.proofs.Common.{take, drop, length-take, length-drop, Option, Some, None}
 use Rattle.std.proofs.Common.{sym, ap, ◌∙◌, zero-add, arith}
-use Rattle.std.specs.Prelude.{IsSomeAnd}
+use Rattle.std.specs.Prelude.{IsSomeAnd, if◌then◌else◌}
 use Rattle.std.specs.List.{range_with_len}
 use Rattle.std.proofs.Math.Nat.{mul-le-mul_right}
 use Rattle.std.proofs.lemmas.List.{length-map, get_or-take, get_or-drop}
@@ -13,11 +13,12 @@ use Rattle.tile_layout.specs.Key.{generation_of, file_of, level_of}
 use Rattle.tile_layout.specs.Cell.{HoldsTexel, bit_depth_of}
 use Rattle.tile_layout.specs.Value.{channel_value_of}
 use Rattle.texel_filter.specs.Image.{AreFirst}
+use Rattle.texel_filter.specs.Square.{number_value, AreNumbers}
 use Rattle.tile_store.specs.Tile.{CachedTile, IsTile, HoldsRow, AreSamples, kept_sample}
 use Rattle.tile_store.specs.Told.{ToldBy, IsTold}
 use Rattle.tile_store.proofs.TileLemmas.{told_samples}
 use Rattle.texel_values.specs.declared.texel_at.TexelAt.{TexelAt}
-use Rattle.texel_values.specs.Values.{sample_value, AreValuesAt}
+use Rattle.texel_values.specs.Values.{sample_or_zero, sample_value, AreValuesAt}
 use Rattle.texel_values.proofs.ValueLemmas.{told_values}
 
 some_map : {A : Type 0} (o : Option A) (P Q : A → Type 0) → ((x : A) → P x → Q x)
@@ -25,13 +26,22 @@ some_map : {A : Type 0} (o : Option A) (P Q : A → Type 0) → ((x : A) → P x
 some_map (Some x) P Q f p = f x p
 some_map None P Q f p = absurd p
 
--- one more value stands at its place
-pub one_more_first : (n : ℕ) (f : ℕ → ℕ) (corner : List ℕ) (v : ℕ) → n < length corner
-    → AreFirst n f corner → v ≡ f n → AreFirst (n + 1) f (set corner n v)
-one_more_first n f corner v low are is =
-    below_more (λ k. get_or (set corner n v) k 0 ≡ f k) n
-    (λ k h. let ne : k ≢ n = omega arith in rw get_or-set_other (are k h))
-    (rw get_or-set_same is)
+-- the value of a sample of 8 bits or of more
+abbrev kept_by : Bool → ℕ → ℕ
+kept_by narrow sample =
+    let kept = if narrow then sample % 256 else sample in if narrow then 257 * kept else kept
+
+-- a channel of these samples, as a number of a corner, is of its value
+number_of_sample : (samples : List ℕ) (depth c : ℕ)
+    → number_value (depth == 8) (sample_or_zero samples c) ≡ sample_value samples depth c
+number_of_sample samples depth c = by (nat_lt c (length samples)) (depth == 8)
+  where
+    by : (low narrow : Bool) → number_value narrow (if low then slice_index samples c else 0)
+        ≡ (if low then kept_by narrow (slice_index samples c) else 0)
+    by true true = refl
+    by true false = refl
+    by false true = refl
+    by false false = refl
 
 -- four facts of one value, together
 pub some_four : {A : Type 0} (o : Option A) (P Q R S T : A → Type 0)
@@ -75,26 +85,30 @@ module _ (tile : CachedTile) (from y n x : ℕ) (samples : List ℕ) (left : fro
   }
 
 -- where the world tells, the first n channels are those of the texel in the tile's file
-abbrev pub ToldFirst : Files → CachedTile → ℕ → TexelAt → ℕ → List ℕ → Type 0
-ToldFirst files tile depth at n corner = ToldBy files tile.key (λ bytes.
+abbrev pub ToldFirst : Files → CachedTile → ℕ → TexelAt → Bool → ℕ → List ℕ → Type 0
+ToldFirst files tile depth at narrow n corner = ToldBy files tile.key (λ bytes.
     level_of tile.key ≡ at.level → depth ≡ bit_depth_of bytes
-    → AreFirst n (channel_value_of bytes at.level at.x at.y) corner)
+    → AreNumbers narrow n (channel_value_of bytes at.level at.x at.y) corner)
 
 pub told_first : (files : Files) (tile : CachedTile) (depth : ℕ) (at : TexelAt)
-    (samples : List ℕ) (n : ℕ) (corner : List ℕ) → IsTile tile → IsTold files tile
+    (samples : List ℕ) (narrow : Bool) (n : ℕ) (corner : List ℕ) → IsTile tile → IsTold files tile
     → HoldsTexel tile.rect at.x at.y → AreSamples tile at.x at.y 1 samples
-    → AreFirst n (sample_value samples depth) corner → ToldFirst files tile depth at n corner
-told_first files tile depth at samples n corner own told holds are is tells =
+    → narrow ≡ (depth == 8) → AreFirst n (sample_or_zero samples) corner
+    → ToldFirst files tile depth at narrow n corner
+told_first files tile depth at samples narrow n corner own told holds are narrow_is first tells =
     some_map (files.held (file_of tile.key) (generation_of tile.key))
     (λ bytes. level_of tile.key ≡ at.level → depth ≡ bit_depth_of bytes → AreValuesAt bytes at out)
     (λ bytes. level_of tile.key ≡ at.level → depth ≡ bit_depth_of bytes
-    → AreFirst n (channel_value_of bytes at.level at.x at.y) corner)
+    → AreNumbers narrow n (channel_value_of bytes at.level at.x at.y) corner)
     (λ bytes values level same c low.
     is c low ∙ (sym (out_is c low) ∙ values level same c (omega (arith, low, long))))
     (told_values files tile depth at samples out told are
     (told_samples files tile own told at.x at.y 1 samples row are)
     (λ c low. out_is c (omega (arith, low, long))) tells)
   where
+    is : AreNumbers narrow n (sample_value samples depth) corner
+    is c low = rw (narrow_is, first c low) (number_of_sample samples depth c)
+
     row : HoldsRow tile at.x at.y 1
     row = record {
       left = holds.left;

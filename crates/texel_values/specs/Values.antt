@@ -14,6 +14,10 @@ use Rattle.texel_values.specs.declared.texel_at.TexelAt.{TexelAt}
 abbrev pub kept_value : ℕ → ℕ → ℕ
 kept_value depth sample = value_of depth (if depth == 8 then sample % 256 else sample)
 
+-- a channel of these samples of a texel, 0 for one that they lack
+abbrev pub sample_or_zero : List ℕ → ℕ → ℕ
+sample_or_zero samples c = if nat_lt c (length samples) then slice_index samples c else 0
+
 -- the value of a channel of these samples of a texel, 0 for one that they lack
 abbrev pub sample_value : List ℕ → ℕ → ℕ → ℕ
 sample_value samples depth c =

@@ -1,55 +1,19 @@
-//! The values of the four texels of a square.
+//! The numbers of the four texels of a square.
+ghost use Rattle.std.specs.Prelude.{◌≡◌, ◌+◌, ◌≤◌, length};
 ghost use Rattle.texel_filter.specs.Image.{IsChannelCount};
+ghost use Rattle.tile_store.specs.Row.{samples_of, top_of, bottom_of};
 ghost use Rattle.texel_values.specs.Square.{HoldsSquare, AreToldCorners};
+ghost use Rattle.texel_values.specs.Square.{HasEnds, AreCornersOf, texel_at};
 
-use crate::values::{NARROW_DEPTH, channel_value};
+use crate::values::NARROW_DEPTH;
 use tex_world::World;
 use texel_filter::{Corners, Square};
-use tile_store::Tile;
+use tile_store::{Row, Tile, TwoRows};
 
-/// Writes the values of the first channels of the four texels of a square, all of one tile, and 0
-/// for those that it lacks.
-///
-/// It has a body for a tile of bytes of 8 bits and one for a tile of more, so that none asks for
-/// them at each value.
+/// Writes the samples of the first channels of the four texels of a square, all of one tile, and 0
+/// for those that it lacks, and notes whether they have 8 bits.
 #[inline(always)]
 pub fn write_square<W: World>(
-    tile: &Tile<W>,
-    depth: u32,
-    square: &Square,
-    channels: usize,
-    out: &mut Corners,
-)
-    requires inside { HoldsSquare tile.now.rect square.now }
-    requires channels { IsChannelCount channels }
-    ensures { AreToldCorners W.files tile.now depth square.now channels out.new }
-{
-    match (tile.has_bytes(), depth == NARROW_DEPTH) {
-        (true, true) => write_corners(tile, NARROW_DEPTH, square, channels, out),
-        (false, false) => write_corners(tile, depth, square, channels, out),
-        _ => write_unlike(tile, depth, square, channels, out),
-    }
-}
-
-/// The same where a sample takes other bits than the depth has.
-#[inline(never)]
-fn write_unlike<W: World>(
-    tile: &Tile<W>,
-    depth: u32,
-    square: &Square,
-    channels: usize,
-    out: &mut Corners,
-)
-    requires inside { HoldsSquare tile.now.rect square.now }
-    requires channels { IsChannelCount channels }
-    ensures { AreToldCorners W.files tile.now depth square.now channels out.new }
-{
-    write_corners(tile, depth, square, channels, out);
-}
-
-/// The same, compiled where the compiler knows what it is to know of the tile and the depth.
-#[inline(always)]
-fn write_corners<W: World>(
     tile: &Tile<W>,
     depth: u32,
     square: &Square,
@@ -68,15 +32,67 @@ fn write_corners<W: World>(
     let wide = tile.channels() as usize;
     let left = (square.left - from) as usize * wide;
     let right = (square.right - from) as usize * wide;
+    write_samples(&rows, (left, right), wide, channels, out);
+    out.narrow = depth == NARROW_DEPTH;
+}
+
+/// Writes the samples of two texels of each of two rows, which begin at two places among its samples.
+/// It has a body for bytes and one for samples of two bytes, so that none asks for them at each sample.
+#[inline(always)]
+fn write_samples(
+    rows: &TwoRows<'_>,
+    places: (usize, usize),
+    wide: usize,
+    channels: usize,
+    out: &mut Corners,
+)
+    requires top { HasEnds (top_of rows.now) places wide }
+    requires bottom { HasEnds (bottom_of rows.now) places wide }
+    requires channels { IsChannelCount channels }
+    ensures { AreCornersOf rows.now places wide channels out.new }
+{
+    if rows.has_bytes() {
+        write_corners(rows, places, wide, channels, out);
+    } else {
+        write_corners(rows, places, wide, channels, out);
+    }
+}
+
+/// The same, compiled where the compiler knows how many bytes a sample has.
+#[inline(always)]
+fn write_corners(
+    rows: &TwoRows<'_>,
+    places: (usize, usize),
+    wide: usize,
+    channels: usize,
+    out: &mut Corners,
+)
+    requires top { HasEnds (top_of rows.now) places wide }
+    requires bottom { HasEnds (bottom_of rows.now) places wide }
+    requires channels { IsChannelCount channels }
+    ensures { AreCornersOf rows.now places wide channels out.new }
+{
+    let (left, right) = places;
     let (top, bottom) = (rows.top(), rows.bottom());
-    let left_top = top.part(left, wide);
-    let right_top = top.part(right, wide);
-    let left_bottom = bottom.part(left, wide);
-    let right_bottom = bottom.part(right, wide);
     'channels: for c in 0..channels {
-        out.left_top[c] = channel_value(&left_top, depth, c);
-        out.right_top[c] = channel_value(&right_top, depth, c);
-        out.left_bottom[c] = channel_value(&left_bottom, depth, c);
-        out.right_bottom[c] = channel_value(&right_bottom, depth, c);
+        out.left_top[c] = channel_sample(&top, left, wide, c);
+        out.right_top[c] = channel_sample(&top, right, wide, c);
+        out.left_bottom[c] = channel_sample(&bottom, left, wide, c);
+        out.right_bottom[c] = channel_sample(&bottom, right, wide, c);
+    }
+}
+
+/// A channel of the texel that begins at a place among samples, 0 for one that it lacks.
+#[inline(always)]
+fn channel_sample(samples: &Row<'_>, from: usize, wide: usize, c: usize) -> u16
+    requires { from + wide ≤ length (samples_of samples.now) }
+    ensures { result ≡ texel_at (samples_of samples.now) from wide c }
+{
+    // its result fits in a word, and so does the place below
+    let _count = samples.count();
+    if c < wide {
+        samples.sample(from + c)
+    } else {
+        0
     }
 }

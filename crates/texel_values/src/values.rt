@@ -6,16 +6,11 @@ ghost use Rattle.texel_values.specs.Values.{kept_value, sample_value, AreValuesI
 
 use crate::texel_at::TexelAt;
 use tex_world::World;
+use texel_filter::{NARROW_NUMBERS, NARROW_SCALE};
 use tile_store::{Row, Tile};
 
 /// The bits of a narrow sample.
 pub(crate) const NARROW_DEPTH: u32 = 8;
-
-/// The numbers of 8 bits.
-const NARROW_NUMBERS: u16 = 256;
-
-/// An 8-bit sample counts as so many times itself.
-const NARROW_SCALE: u16 = 257;
 
 /// The 16-bit value of a sample of a file of this depth.
 #[inline(always)]

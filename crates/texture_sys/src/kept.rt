@@ -91,6 +91,7 @@ impl<'a, T: Tap> Fetch for KeptTexels<'a, T> {
             top,
             bottom,
         } = *square;
+        out.narrow = false;
         self.texel(level, left, top, &mut out.left_top[..channels])?;
         self.texel(level, right, top, &mut out.right_top[..channels])?;
         self.texel(level, left, bottom, &mut out.left_bottom[..channels])?;

@@ -40,8 +40,8 @@ returns-in-Some-Some-clause-left g c =
     rw (← visits_of_square sizes r l x y across fits down gits)
     c.square.ensures.left
 
-pub returns-in_default-clause-told : goal.returns-in_default-clause-told
-returns-in_default-clause-told g c = λ values is.
+pub returns-in_ok-self-in_default-clause-told : goal.returns-in_ok-self-in_default-clause-told
+returns-in_ok-self-in_default-clause-told g c = λ values is.
     let r = c.args.r.now in
     let l = c.args.level in
     let sizes = g.F.Fetch.sizes c.args.f.now in
@@ -50,6 +50,6 @@ returns-in_default-clause-told g c = λ values is.
     grind (arith, to_z-of_z) in
     let h : c.at-down.result.fraction ≡ fraction_of_next r.t (sizes.height l) =
     grind (arith, to_z-of_z) in
-    on_ok c.fetch_wrapped.result (c.fetch_wrapped.ensures.told values is)
-    (λ corners. sum_at sizes values r l _ _ _ _ c.of-self.result corners
-    f h w.left_top w.right_top w.left_bottom w.right_bottom)
+    sum_at sizes values r l _ _ _ _ c.of-self.result
+    (c.in_ok-self-in_default.ensures.told values is)
+    f h w.left_top w.right_top w.left_bottom w.right_bottom

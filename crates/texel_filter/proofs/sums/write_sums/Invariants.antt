@@ -1,11 +1,10 @@
 use Rattle.std.proofs.Common.{◌≡◌, ℕ, ◌<◌, ◌≤◌, get_or}
 use Rattle.texel_filter.specs.Filter.{blended_sum, max_trilinear_sum}
-use Rattle.texel_filter.specs.Weighted.{sum_of}
-use Rattle.texel_filter.proofs.weighted.Weighted.sums.Given as goal
+use Rattle.texel_filter.proofs.sums.write_sums.Given as goal
 
 abbrev pub invariant-loop-c : goal.invariant-loop-c
 invariant-loop-c l = record {
   value : (k : ℕ) → k < l.c
-      → get_or l.out k 0 ≡ blended_sum l.fraction (sum_of l.self k) (sum_of l.next k);
+      → get_or l.out k 0 ≡ blended_sum l.fraction (get_or l.first k 0) (get_or l.second k 0);
   high : (k : ℕ) → k < l.c → get_or l.out k 0 ≤ max_trilinear_sum;
 }
