@@ -5,6 +5,7 @@
 # as it may be, a file of 2 GiB whose offsets take 5.3 GiB of memory. The sparse files have 5 GiB and take no
 # room on the disk. Another program may be named.
 set -u
+case "${1-}" in -*) echo 'usage: demo/try_hostile.sh [PROGRAM]'; [ "$1" = --help ]; exit ;; esac
 top=$(cd "$(dirname "${BASH_SOURCE[0]}")/.." && pwd) || exit 1
 folder=$(mktemp -d) || exit 1
 trap 'chmod -R u+rw "$folder"; rm -rf "$folder"' EXIT
@@ -109,7 +110,7 @@ status=$?
 result=0
 grep -v '^worker \|^total ' "$folder.got" | diff "$folder.want" - || result=1
 # the program says nothing there, and the script that runs it whether it is proved
-grep -v '^texcache: not proved yet\|^unproved.py: building' "$folder.error" && result=1
+grep -v '^texcache: this program is not proved\|^texcache: building' "$folder.error" && result=1
 [ "$status" = 1 ] || { echo "status $status, not 1"; result=1; }
 rm -f "$folder.list" "$folder.want" "$folder.got" "$folder.error"
 [ "$result" = 0 ] && echo 'each hostile file got its line'

@@ -2,22 +2,18 @@
 """Checks docs/DEFINITIONS.md: it has one row for each file of definitions that the contracts of the
 public calls reach, and no other row.
 
-A public call is a function that a library of the repository hands out, a method of a type or of a
-trait that it hands out, or a ghost member or field of one. The crates that crates.txt has under its
-heading `Tests` are left out. What the clauses of a public call name in a crate's specs/ is reached,
-and so is what that names in turn. Laws and lemmas in specs/ have a proof in place of a meaning, so
-they are not followed.
+A public call is a function that a library of the repository exports, a method of an exported type or
+trait, or a ghost member or field of one. The crates under the heading `Tests` of crates.txt are left
+out. A definition in specs/ is reached if a clause of a public call names it, or if another reached
+definition does. Laws and lemmas in specs/ have a proof instead of a meaning, so they are not followed.
 
 A row stands under the heading of its crate and has five cells: the file, its question, its source,
-the public calls that carry it with the labels of their clauses, and the tests. The script follows
-each call and label that a row names: the clause has to be there and to reach the file. Each test
-and each heading that a row names has to be there too. What is wrong is printed, with a row to begin
-from where one lacks, and the status is then 1.
-
-    --list     prints each definition that is reached: crate, file, name, the line to read aloud
-    --calls    prints for each file the public calls that reach it, with their labels
+the public calls that carry it with the labels of their clauses, and the tests. The script checks that
+each call and label exists and reaches the file, and that each test and heading exists. It prints what
+is wrong, suggests a row if one is missing, and then ends with status 1.
 """
 
+import argparse
 import re
 import sys
 from collections import namedtuple
@@ -27,6 +23,8 @@ TOP = Path(__file__).resolve().parent.parent
 CRATES = TOP / "crates"
 PAGE = TOP / "docs" / "DEFINITIONS.md"
 TESTS = "Tests"
+# the scripts whose tables and checks a row may name
+TABLES = ("check_examples", "examples", "check_lists", "lists", "file_rows", "list_rows", "many_lookups")
 
 WORD = re.compile(r"[\w\-◌>=+*/<≤≡∷']+(?:\.[\w\-]+)*", re.UNICODE)
 USE = re.compile(
@@ -38,9 +36,9 @@ HEAD = re.compile(
 )
 MEANINGS = ("abbrev pub", "unfoldable pub", "pub record", "pub data", "abbrev", "unfoldable")
 
-# A clause of what is handed out: its owner (a type, a trait, or none), its function (or none), its
-# label, its text, and what the names of its file stand for.
-Clause = namedtuple("Clause", "crate owner function label text names")
+# A clause of a public call: its owner (a type, a trait, or none), its function (or none), its label,
+# its text, what the names of its file stand for, its kind (requires, ensures, ghost) and its file.
+Clause = namedtuple("Clause", "crate owner function label text names kind file")
 
 
 def libraries():
@@ -153,7 +151,7 @@ def braced(text, start):
     return text[at + 1 :], len(text)
 
 
-CLAUSE = re.compile(r"\b(?:requires|ensures)\*?(?:\s+(\w+))?\s*(?=\{)")
+CLAUSE = re.compile(r"\b(requires|ensures)\*?(?:\s+(\w+))?\s*(?=\{)")
 GHOST = re.compile(r"\bghost\s+(?!use)(\w+)\s*[:=]\s*(?=\{)")
 FUNCTION = re.compile(r"^(?P<indent> *)(?P<pub>pub )?(?:const |unsafe )*fn (?P<name>\w+)", re.M)
 BLOCK = re.compile(
@@ -162,13 +160,13 @@ BLOCK = re.compile(
 
 
 def contract(text, place):
-    """The clauses of the function whose signature goes on at a place: label and text."""
+    """The clauses of the function whose signature goes on at a place: label, text and kind."""
     depth = 0
     while place < len(text):
         clause = CLAUSE.match(text, place)
         if clause and not depth:
             body, place = braced(text, clause.end())
-            yield clause[1] or "", body
+            yield clause[2] or "", body, clause[1]
             continue
         letter = text[place]
         if letter in "{;" and not depth:
@@ -178,16 +176,16 @@ def contract(text, place):
 
 
 def functions(text, owner, is_wanted):
-    """Owner, function, label and text of each clause of the functions of a text."""
+    """Owner, function, label, text and kind of each clause of the functions of a text."""
     for found in FUNCTION.finditer(text):
         if is_wanted(found):
-            for label, body in contract(text, found.end()):
-                yield owner, found["name"], label, body
+            for label, body, kind in contract(text, found.end()):
+                yield owner, found["name"], label, body, kind
 
 
 def ghosts(text, owner):
     for found in GHOST.finditer(text):
-        yield owner, "", found[1], braced(text, found.end())[0]
+        yield owner, "", found[1], braced(text, found.end())[0], "ghost"
 
 
 def handed_out_in(src, names):
@@ -228,8 +226,8 @@ def public_clauses():
         for file in sorted(src.rglob("*.rt")):
             text = file.read_text(encoding="utf-8")
             known = imports(text)
-            for owner, function, label, body in handed_out_in(text, names):
-                yield Clause(crate, owner, function, label, body, known)
+            for owner, function, label, body, kind in handed_out_in(text, names):
+                yield Clause(crate, owner, function, label, body, known, kind, file.name)
 
 
 def specs():
@@ -277,9 +275,9 @@ def tests():
     for file in CRATES.glob("*/src/**/*.rt"):
         text = file.read_text(encoding="utf-8")
         found.update(re.findall(r"#\[test\]\s*(?:#\[[^\]]*\]\s*)*(?:pub )?fn (\w+)", text))
-    for script in ("check_examples", "check_lists", "file_rows", "list_rows", "many_lookups"):
-        text = (TOP / "tools" / f"{script}.py").read_text(encoding="utf-8")
-        found.update(re.findall(r"^(?:def )?(\w+)(?:\(| = )", text, re.M))
+    for script in TABLES:
+        for file in (TOP / "tools").rglob(f"{script}.py"):
+            found.update(re.findall(r"^(?:def )?(\w+)(?:\(| = )", file.read_text(encoding="utf-8"), re.M))
     return found
 
 
@@ -374,7 +372,49 @@ def check(spec_of, wanted, clauses):
     return status
 
 
-def main(words):
+def print_list(spec_of, wanted):
+    """Each definition that is reached: crate, file, name, its sentence."""
+    for key, spec in spec_of.items():
+        for name in spec.bodies:
+            if (*key, name) in wanted:
+                print(*key, name, spec.says[name], sep="\t")
+
+
+def print_reaching(spec_of, clauses):
+    """For each file of definitions the public calls that reach it, with their labels."""
+    for key in spec_of:
+        for clause, files in clauses:
+            if key in files:
+                print(*key, f"{clause.crate}: {call_of(clause)}", clause.label, sep="\t")
+
+
+def print_calls(crate):
+    """Each public call of a crate with its clauses."""
+    known = libraries()
+    if crate not in known:
+        sys.exit(f"check_definitions: {crate} is no library of crates.txt; there are {', '.join(known)}")
+    last = None
+    for clause in public_clauses():
+        if clause.crate != crate:
+            continue
+        if (call_of(clause), clause.file) != last:
+            last = call_of(clause), clause.file
+            print(f"{last[0]}    src/{last[1]}")
+        print(f"    {clause.kind} {clause.label}: {' '.join(clause.text.split())}".replace(" :", ":"))
+
+
+def main():
+    parser = argparse.ArgumentParser(description=__doc__.split("\n\n")[0],
+                                     epilog="Without options it checks the page, and changes nothing.")
+    choice = parser.add_mutually_exclusive_group()
+    choice.add_argument("--list", action="store_true", help="print each definition that is reached, with its sentence")
+    choice.add_argument("--calls", nargs="?", const="", metavar="CRATE",
+                        help="print each public call of CRATE with its clauses; without CRATE, print for each file of "
+                             "definitions the calls that reach it")
+    asked = parser.parse_args()
+    if asked.calls:
+        print_calls(asked.calls)
+        return 0
     spec_of = specs()
     reach = Reach(spec_of)
     clauses, wanted = [], set()
@@ -382,22 +422,14 @@ def main(words):
         found = reach.of(clause)
         wanted |= found
         clauses.append((clause, {it[:2] for it in found}))
-    if words == ["--list"]:
-        for key, spec in spec_of.items():
-            for name in spec.bodies:
-                if (*key, name) in wanted:
-                    print(*key, name, spec.says[name], sep="\t")
-        return 0
-    if words == ["--calls"]:
-        for key in spec_of:
-            for clause, files in clauses:
-                if key in files:
-                    print(*key, f"{clause.crate}: {call_of(clause)}", clause.label, sep="\t")
-        return 0
-    if words:
-        sys.exit("check_definitions: it takes no words, --list or --calls")
-    return check(spec_of, wanted, clauses)
+    if asked.list:
+        print_list(spec_of, wanted)
+    elif asked.calls is not None:
+        print_reaching(spec_of, clauses)
+    else:
+        return check(spec_of, wanted, clauses)
+    return 0
 
 
 if __name__ == "__main__":
-    sys.exit(main(sys.argv[1:]))
+    sys.exit(main())

@@ -7,14 +7,13 @@ LIST is the list of requests, ANSWERS what the program wrote for it. For each re
 list, which worker answered it in which round, the request, its answer, what that means, and what helps where it is
 a refusal. It reads the program's own lines alone (docs/REQUESTS.md).
 """
+import argparse
 import shlex
 import sys
 from pathlib import Path
 
-sys.path[:0] = [str(Path(__file__).resolve().parent), str(Path(__file__).resolve().parent.parent / "demo")]
-from counts import MOST_OF_A_ROUND, texels  # noqa: E402
-from meanings import ending, refusal  # noqa: E402
-
+from texcheck.counts import MOST_OF_A_ROUND, texels
+from texcheck.meanings import counted, ending, refusal
 
 # how many values of a region are shown
 SHOWN = 8
@@ -60,18 +59,21 @@ def answered(line):
     if word == "pixels":
         generation, channels, *values = rest
         more = " .." if len(values) > SHOWN else ""
-        return (f"generation {generation}; {len(values) // int(channels)} texels of {channels} channels; of 1: "
-                f"{fractions(values[:SHOWN])}{more}")
+        return (f"generation {generation}; {counted(len(values) // int(channels), 'texel')} of "
+                f"{counted(channels, 'channel')}; of 1: {fractions(values[:SHOWN])}{more}")
     if word == "info":
         generation, width, height, channels, depth, stored, levels = rest
-        return (f"generation {generation}; {width} by {height} texels, {channels} channels of {depth} bits, "
-                f"{levels} levels, of which {stored} are stored")
+        return (f"generation {generation}; {width} by {height} texels, {counted(channels, 'channel')} of {depth} bits, "
+                f"{counted(levels, 'level')}, {stored} of them stored")
     if word == "held":
         generation, x, y, width, height = rest
         return f"generation {generation}; the cell is {width} by {height} texels from ({x}, {y}) on"
     if word == "stat":
-        filled = ["shard {}: {} tiles, {} pins, {} of {} bytes unpinned".format(k, *it.split(","))
-                  for k, it in enumerate(rest) if not it.startswith("0,")]
+        filled = []
+        for number, (tiles, pins, loose, share) in enumerate(it.split(",") for it in rest):
+            if tiles != "0":
+                filled.append(f"shard {number}: {counted(tiles, 'tile')}, {counted(pins, 'pin')}, {loose} of {share} "
+                              "bytes unpinned")
         return "; ".join([*filled, f"{len(rest) - len(filled)} of {len(rest)} shards are empty"])
     return {"dropped": "the oldest hold is given up", "invalidated": "what is older is answered no more",
             "renewed": "it is read again", "sync": "the round ended here"}.get(word, "")
@@ -95,16 +97,19 @@ def explained(requests, lines):
             yield f"    What helps: {helps.replace('{name}', shlex.quote(name_in(request)))}"
     for line in closing:
         _, worker, _, needs, _, hits, *apart = line.split(" ")
-        yield f"worker {worker} needed {needs} cells, and {hits} of them were among the two that it had needed last"
+        yield (f"worker {worker} needed {counted(needs, 'cell')}; {hits} of them were among the two that it had needed "
+               "last")
         if apart:
-            yield f"    For {apart[-1]} of them no memory was found, and their texels were answered apart."
+            yield f"    For {apart[-1]} of them no memory was found, and their texels were answered uncached."
 
 
 def main():
-    if len(sys.argv) != 3:
-        sys.exit("usage: explain.py LIST ANSWERS")
+    words = argparse.ArgumentParser(description=__doc__, formatter_class=argparse.RawDescriptionHelpFormatter)
+    words.add_argument("list", type=Path, metavar="LIST")
+    words.add_argument("answers", type=Path, metavar="ANSWERS")
+    args = words.parse_args()
     try:
-        asked, lines = (Path(it).read_text(encoding="utf-8") for it in sys.argv[1:])
+        asked, lines = (it.read_text(encoding="utf-8") for it in (args.list, args.answers))
     except (OSError, UnicodeDecodeError) as fault:
         sys.exit(f"explain.py: {fault}")
     if ending(lines.strip()):

@@ -1,21 +1,21 @@
 #!/usr/bin/env python3
-"""Says what each file of a folder is to texcache: a line a file, and what helps where it is refused.
+"""Says what each file of a folder is to texcache: a line a file, and what helps if it is not accepted.
 
     python3 tools/folder_info.py FOLDER
 
 A line has the sides, channels and bits, the stored levels and all levels, how level 0 is cut in the file, and how
-many bytes the texels of all levels take in the cache, which counts two for each sample. It asks the program itself
-(docs/REQUESTS.md), the proved one where there is one, and else the unproved one of tools/unproved.py.
+many bytes the texels of all levels take in the cache, which counts two for each sample. The program itself is asked
+(docs/REQUESTS.md).
 """
+import argparse
 import os
 import shlex
 import subprocess
 import sys
 from pathlib import Path
 
-sys.path.insert(0, str(Path(__file__).resolve().parent))
-from meanings import refusal  # noqa: E402
-from unproved import usual  # noqa: E402
+from texcheck.common import add_program, program_of, tool
+from texcheck.meanings import counted, refusal
 
 MOST_LINES = 1000
 
@@ -68,8 +68,8 @@ def described(name, info, small, large):
     whole = (int(width), int(height))
     room = size_text(kept(*whole, int(channels), int(levels)))
     cut = cut_text(whole, small, large)
-    return (f"{name}: {width} by {height}, {channels} channels of {depth} bits, {stored} of {levels} levels stored, "
-            f"{cut}, {room} in the cache")
+    return (f"{name}: {width} by {height}, {counted(channels, 'channel')} of {depth} bits, {stored} of {levels} levels "
+            f"stored, {cut}, {room} in the cache")
 
 
 def lines_of(program, folder):
@@ -85,11 +85,14 @@ def lines_of(program, folder):
 
 
 def main():
-    if len(sys.argv) not in (2, 3) or not Path(sys.argv[1]).is_dir():
-        sys.exit("usage: folder_info.py FOLDER [PROGRAM]")
-    program = sys.argv[2] if len(sys.argv) == 3 else usual("texcache")
-    print(*lines_of(program, os.path.abspath(sys.argv[1])), sep="\n")
+    words = argparse.ArgumentParser(description=__doc__, formatter_class=argparse.RawDescriptionHelpFormatter)
+    words.add_argument("folder", type=Path, metavar="FOLDER")
+    add_program(words, "texcache")
+    args = words.parse_args()
+    if not args.folder.is_dir():
+        words.error(f"there is no folder {args.folder}")
+    print(*lines_of(program_of(args, "texcache"), os.path.abspath(args.folder)), sep="\n")
 
 
 if __name__ == "__main__":
-    main()
+    tool(main)

@@ -1,21 +1,18 @@
 #!/usr/bin/env python3
-"""How much memory does a scene need? Runs a list under budgets from 256 MiB down to 1 MiB, each half the one before,
-tells how often the files are read, and how long it takes, and with --svg draws both over the budget.
+"""How much memory does a scene need? Runs a list of requests under smaller and smaller budgets, and shows from which
+budget on the files are read again and again.
 
-    python3 tools/hit_curve.py FOLDER LIST [--most SIZE] [--least SIZE] [--svg FILE] [--program FILE] [WORDS]
+    python3 tools/hit_curve.py FOLDER LIST
+    python3 tools/hit_curve.py FOLDER LIST --most 1G --least 16M --svg curve.svg --workers 1
 
-A SIZE is in MiB, or has K, M or G behind it. WORDS are further ones of texcache, as --workers 1. It prints a row for
-each budget: the reads, the MiB that were read, the seconds of a processor, and the greatest resident memory; down to
-where the rows begin to change, the scene fits, and the last line names that budget. The system counts the memory of
-the one who starts a program as the program's, so where it is not above that of this script, the row says `<`. A run
-that takes longer than --seconds (20) ends the rows. Reads are
-calls by which the program read, as the system counts them (/proc/PID/io), without those of a list as long that asks
-nothing of a file; so they are those of the files. What the program's own lines tell are the needs and the hits of the
-workers' two latest cells, which no budget changes: they stand below the rows.
+The first budget is --most, and each next one is half as large, down to --least. For each it prints a line: the calls
+that read a file, the MiB that they read, the seconds of processor time, and the most memory that the program took.
+As long as the budget holds what the scene uses, the reads stay the same; below that they rise. The last line names the
+smallest budget before they rise.
 
-With --reads-only the picture has the reads alone, which with one worker are the same at each run, and with --check it
-is compared with the file and not written. The program is the proved one where there is one, and else the unproved one
-of tools/unproved.py.
+A SIZE is in MiB, or has K, M or G after it. Further options go to texcache as they are, as --workers 1: with one
+worker the reads are the same at each run. A `<` before the memory means that the program took no more than this
+script, which the system then counts in its place. The reads of the list itself are left out.
 """
 import argparse
 import os
@@ -30,13 +27,13 @@ from itertools import takewhile
 from pathlib import Path
 from xml.sax.saxutils import escape
 
-sys.path.insert(0, str(Path(__file__).resolve().parent))
-from unproved import usual  # noqa: E402
+from texcheck.common import add_program, program_of, tool
+from texcheck.words import read_arguments
 
 KIB, MIB, GIB = 2 ** 10, 2 ** 20, 2 ** 30
 INK, BLUE, AMBER = "#1f2430", "#3b6ea8", "#c98a1b"
 TAIL = 4096
-# by so many reads two runs of the same work may differ, and by one in a hundred
+# two runs of the same work may differ by this number of reads, and by one in a hundred
 NOISE = 2
 
 # A run under a budget: the calls that read, the bytes that they read, the seconds of a processor, the bytes of memory,
@@ -180,26 +177,34 @@ def svg(runs, title, is_reads_only):
     return "\n".join([head, ground, *parts, "</svg>"]) + "\n"
 
 
-def main():
+def arguments():
+    """What is asked for, and the further options of texcache."""
     asked = argparse.ArgumentParser(description=__doc__, formatter_class=argparse.RawDescriptionHelpFormatter,
-                                    allow_abbrev=False)
-    asked.add_argument("folder")
-    asked.add_argument("list")
-    asked.add_argument("--program")
-    asked.add_argument("--svg", type=Path)
-    asked.add_argument("--least", type=size_of, default=MIB)
-    asked.add_argument("--most", type=size_of, default=256 * MIB)
-    asked.add_argument("--seconds", type=float, default=20)
-    asked.add_argument("--title")
-    asked.add_argument("--reads-only", action="store_true")
-    asked.add_argument("--check", action="store_true")
+                                    allow_abbrev=False, usage="%(prog)s FOLDER LIST [options] [options of texcache]")
+    asked.add_argument("folder", metavar="FOLDER", help="the folder with the images")
+    asked.add_argument("list", metavar="LIST", type=Path, help="the file with the requests (docs/REQUESTS.md)")
+    asked.add_argument("--most", type=size_of, default=256 * MIB, metavar="SIZE", help="the first budget; 256M")
+    asked.add_argument("--least", type=size_of, default=MIB, metavar="SIZE", help="the last budget; 1M")
+    asked.add_argument("--seconds", type=float, default=20, metavar="N", help="stop at a run that takes longer; 20")
+    asked.add_argument("--svg", type=Path, metavar="FILE", help="draw the reads and the seconds over the budget")
+    asked.add_argument("--title", help="the title of that picture")
+    asked.add_argument("--reads-only", action="store_true", help="draw the reads alone")
+    asked.add_argument("--check", action="store_true", help="compare the picture with FILE, and write nothing")
+    add_program(asked, "texcache")
     given, words = asked.parse_known_args()
     if given.least > given.most:
         asked.error(f"--least {size_text(given.least)} is more than --most {size_text(given.most)}")
-    program = Path(given.program).resolve() if given.program else usual("texcache")
-    for it in (program, Path(given.list)):
-        if not it.is_file():
-            sys.exit(f"hit_curve.py: there is no file {it}")
+    wrong = read_arguments([*words, "--", given.folder])[1]
+    if wrong:
+        asked.error(wrong)
+    if not given.list.is_file():
+        asked.error(f"there is no file {given.list}")
+    return given, words
+
+
+def main():
+    given, words = arguments()
+    program = program_of(given, "texcache")
     print(f"{'budget':>10} {'reads':>10} {'MiB read':>10} {'seconds':>9} {'memory MiB':>11}", flush=True)
     runs = []
     for it in runs_of(str(program), os.path.abspath(given.folder), given.list, words,
@@ -221,4 +226,4 @@ def main():
 
 
 if __name__ == "__main__":
-    main()
+    tool(main)

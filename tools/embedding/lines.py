@@ -1,10 +1,11 @@
-"""The same as lines.c through python/texcache.py: lines.py FOLDER THREADS < LIST. A request of another kind is `-`."""
+"""Answers a list of requests through python/texcache.py, as lines.c does in C. A request that the library does not
+have is answered `-`."""
+import argparse
 import sys
 from concurrent.futures import ThreadPoolExecutor
 from pathlib import Path
 
 sys.path.insert(0, str(Path(__file__).resolve().parents[2] / "python"))
-import texcache  # noqa: E402
 
 WRAPS = ["black", "clamp", "periodic", "mirror"]
 FILTERS = ["closest", "bilinear", "trilinear"]
@@ -62,8 +63,14 @@ def part(cache, lines, first, step):
     return said
 
 
-def main():
-    folder, threads = sys.argv[1], int(sys.argv[2])
+def arguments():
+    words = argparse.ArgumentParser(description=__doc__)
+    words.add_argument("folder")
+    words.add_argument("threads", type=int)
+    return words.parse_args()
+
+
+def main(folder, threads):
     lines = [it.rstrip("\r\n") for it in sys.stdin if it.rstrip("\r\n") and not it.startswith("#")]
     said = {}
     with texcache.Cache(folder) as cache, ThreadPoolExecutor(threads) as pool:
@@ -73,4 +80,6 @@ def main():
 
 
 if __name__ == "__main__":
-    main()
+    ARGUMENTS = arguments()
+    import texcache  # once they are right: it loads the library
+    main(ARGUMENTS.folder, ARGUMENTS.threads)

@@ -1,4 +1,4 @@
-"""What the answers of texcache mean, in words, and what helps: for tools/explain.py and tools/folder_info.py. The
+"""What the answers of texcache mean, in words, and what helps: for explain.py, folder_info.py and ./texmake. The
 numbers of fields and values are those of TIFF 6.0 and of the registered compressions."""
 
 FIELDS = {256: "ImageWidth", 257: "ImageLength", 258: "BitsPerSample", 259: "Compression",
@@ -16,7 +16,13 @@ FORMATS = {2: "signed numbers", 3: "floating point", 5: "complex signed numbers"
 
 PLAIN = "oiiotool {name} -d uint8 --compression none -o OUT.tif"
 SRGB = "convert {name} -colorspace sRGB -depth 8 -compress none OUT.tif"
-AGAIN = "write it once more: tiffcp -c none {name} OUT.tif"
+AGAIN = "write it again: tiffcp -c none {name} OUT.tif"
+ANEW = "copy the file again, or write it again with the program that made it"
+
+
+def counted(number, noun):
+    """A number with its noun."""
+    return f"{number} {noun}{'' if int(number) == 1 else 's'}"
 
 
 def unsupported(tag, value):
@@ -42,12 +48,12 @@ def fault(numbers):
     if code == 12:
         level, index = rest
         return (f"strip or tile {index} of level {level} is not all in the file: it was cut short, or its writer "
-                "left the block out (a sparse file)", AGAIN)
+                "left the block out (a sparse file)", ANEW)
     means = {
-        1: ("it is shorter than a header", "it is no TIFF, or was not written to its end"),
+        1: ("it is shorter than a header", "if it is a TIFF, " + ANEW),
         2: ("it begins neither with II nor with MM, so it is no TIFF", PLAIN),
         3: ("it has the mark of a TIFF, and another version than 42 or 43", PLAIN),
-        4: ("its directory is not all in the file", "it was not written to its end: write it once more"),
+        4: ("its directory is not all in the file: it was cut short", ANEW),
         5: (f"it has no {field}", AGAIN),
         6: (f"its {field} has a type that is not read, no value, or values outside the file", AGAIN),
         8: ("its width, its height, its channels or the rows of a strip are 0", AGAIN),

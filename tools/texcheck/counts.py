@@ -1,5 +1,5 @@
 """What closes a run, by the rules of docs/REQUESTS.md, "Rounds" and "The closing lines": which cells each
-worker needs, and which of them its microcache has. The levels are pages of make_pictures.py."""
+worker needs, and which of them its microcache has. The levels are Levels of tiff.py."""
 from collections import namedtuple
 
 MOST_TEXELS, MOST_OF_A_ROUND = 2 ** 20, 2 ** 22

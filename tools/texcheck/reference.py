@@ -1,16 +1,16 @@
-#!/usr/bin/env python3
-"""Writes what the demo's requests are to be answered, from the formulas of the pictures and not from
-the program: `python3 make_expected.py > expected.txt` in this folder."""
+"""What requests are to be answered, from the levels of a picture and not from the program: regions, facts and
+lookups in whole numbers (docs/FORMAT.md, docs/FILTERING.md, docs/REQUESTS.md). A level is a Level of tiff.py or a
+Page of plain_reader.py."""
 from functools import cache
-from pathlib import Path
 
-from counts import cell, closing, region_cells
-from lookups import Footprint, Lookup
-from make_pictures import BLACK_IS_ZERO, CUT, PICTURES, WHITE_IS_ZERO
+from texcheck.counts import cell, region_cells
+from texcheck.lookups import Footprint, Lookup
+from texcheck.tiff import BLACK_IS_ZERO, WHITE_IS_ZERO
 
 # each file is in the first generation that the program meets
 GENERATION = 1
-BAD_MARK, DATA_OUTSIDE = 2, 12
+# how many fields stand between the word of a request and its name
+FIELDS = {"tex": 7, "texd": 9, "pixels": 5, "info": 0}
 
 
 def samples(page, x, y):
@@ -55,11 +55,6 @@ def region(page, x, y, w, h):
         for i in range(x, x + w):
             line += values(page, i, j)
     return line
-
-
-def last_block(page):
-    """The index of the last strip."""
-    return (page.height + page.rows - 1) // page.rows - 1
 
 
 def value(page, x, y, channel):
@@ -114,46 +109,3 @@ def keys(request, line, pages_of):
     word, rest = request.split(" ", 1)
     *numbers, name = rest.split(" ", FIELDS[word])
     return keys_on(word, numbers, pages_of(name), name)
-
-
-# how many fields stand between the word of a request and its name
-FIELDS = {"tex": 7, "texd": 9, "pixels": 5, "info": 0}
-
-
-def answer(request):
-    if request == "sync":
-        return ["sync"]
-    word = request.split(" ", 1)[0]
-    _, *numbers, name = request.split(" ", FIELDS[word] + 1)
-    if name in CUT:
-        page = PICTURES[CUT[name]][1][0]
-        return ["bad file", GENERATION, DATA_OUTSIDE, 0, last_block(page)]
-    if name in PICTURES:
-        return on_pages(word, numbers, PICTURES[name][1])
-    if Path(name).is_file():
-        # the one other file that is asked for begins with no mark
-        assert Path(name).read_bytes()[:2] not in (b"II", b"MM"), name
-        return ["bad file", GENERATION, BAD_MARK]
-    return ["no such file"]
-
-
-def requests(name):
-    """The requests of a list: its lines without those that are passed over."""
-    lines = Path(name).read_text(encoding="utf-8").splitlines()
-    return [line for line in lines if line and not line.startswith("#")]
-
-
-# what the demo's program runs with
-WORKERS = 4
-
-
-def main():
-    asked = requests("requests.txt")
-    lines = [answer(it) for it in asked]
-    needed = lambda request, line: keys(request, line, lambda name: PICTURES[name][1])  # noqa: E731
-    for line in lines + closing(asked, lines, WORKERS, needed):
-        print(*line)
-
-
-if __name__ == "__main__":
-    main()

@@ -1,5 +1,5 @@
 """What a lookup answers, by the formulas of docs/FILTERING.md, in whole numbers. The levels are
-pages of make_pictures.py, and `value(page, x, y, channel)` is the 16-bit value of a texel."""
+Levels of tiff.py, and `value(page, x, y, channel)` is the 16-bit value of a texel."""
 
 ONE = 65536
 

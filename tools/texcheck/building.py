@@ -1,0 +1,161 @@
+"""Proves and builds a program or the library for C, with the crates below it: what ./build does."""
+import argparse
+import contextlib
+import fcntl
+import os
+import re
+import shutil
+import subprocess
+import sys
+import tempfile
+import time
+from pathlib import Path
+
+from texcheck.common import TOP, Missing, said
+from texcheck.sources import copied, crates_below, dependencies, files_of, is_current
+from texcheck.unproved import LIBRARY, PROGRAMS, build
+
+# how long it took to prove texcache from nothing, two processors at work
+USUAL = "from nothing this takes about 60 minutes on two processors, and has not been measured on four"
+ABOUT = f"""Proves and builds a program, or the library for programs in C ({LIBRARY}), with the crates below it.
+
+The crates that do not stand on each other are proved side by side, as far as the memory allows. What an earlier run
+proved is taken over if no source has changed. {USUAL[0].upper()}{USUAL[1:]}.
+The program is left in crates/NAME/out/NAME, the library in crates/{LIBRARY}/out/lib{LIBRARY}.a.
+"""
+# what a check may take, in bytes
+NEED = 4 << 30
+
+
+def say(text):
+    print(f"build: {text}", file=sys.stderr, flush=True)
+
+
+def minutes(seconds):
+    return f"{seconds:.0f} s" if seconds < 100 else f"{seconds / 60:.0f} min"
+
+
+def side_by_side():
+    """How many crates may be proved at once: one for each processor, as long as the memory lasts."""
+    available = re.search(r"MemAvailable: +(\d+) kB", Path("/proc/meminfo").read_text(encoding="ascii"))
+    return max(1, min(len(os.sched_getaffinity(0)), int(available[1]) * 1024 // NEED))
+
+
+class Progress:
+    """Which crates are done, and how long the others may take, by their lines."""
+
+    def __init__(self, crates):
+        self.crates, self.began = crates, time.monotonic()
+        self.lines = {it: sum(file.read_bytes().count(b"\n") for file in files_of(it, ("src", "proofs"), alone=True))
+                      for it in crates}
+        self.done = []
+
+    def at(self, jobs):
+        """The crates that may be proved now: all below them are."""
+        below = dependencies()
+        return [it for it in self.crates if it not in self.done
+                and all(other in self.done for other in below[it] if other in below)][:jobs]
+
+    def step(self, name, jobs):
+        self.done.append(name)
+        left = [it for it in self.crates if it not in self.done]
+        spent = time.monotonic() - self.began
+        rest = spent * sum(self.lines[it] for it in left) / max(1, sum(self.lines[it] for it in self.done))
+        say(f"{name} is done; {len(self.done)} of {len(self.crates)} crates in {minutes(spent)}"
+            + (f", {len(left)} left, some {minutes(rest)}; now {', '.join(self.at(jobs))}" if left else ""))
+
+
+def handed_back(crates, room):
+    """Moves what `rt` kept of each crate in the copy to the crate itself, so that a later build begins with it."""
+    for crate in crates:
+        with open_folder(TOP / "crates" / crate) as folder:
+            # `rt` locks a crate in the same way
+            fcntl.flock(folder, fcntl.LOCK_EX)
+            for part in ("incremental", "rlib"):
+                made, own = (it / "crates" / crate / "out" / part for it in (room, TOP))
+                if made.is_dir():
+                    shutil.rmtree(own, ignore_errors=True)
+                    own.parent.mkdir(exist_ok=True)
+                    shutil.move(made, own)
+
+
+@contextlib.contextmanager
+def open_folder(path):
+    folder = os.open(path, os.O_RDONLY)
+    try:
+        yield folder
+    finally:
+        os.close(folder)
+
+
+def prove(name, jobs, room):
+    """Proves the crates in a copy, by the command of `rt` that works on several at once."""
+    crates = crates_below(name)
+    copied(name, room, ("src", "specs", "proofs"))
+    progress = Progress(crates)
+    say(f"{len(crates)} crates, {jobs} at a time; begins with {', '.join(progress.at(jobs))}")
+    words, kept = ["rt", "all", "check", "--jobs", str(jobs)], []
+    with subprocess.Popen(words, cwd=room, stdin=subprocess.DEVNULL, stdout=subprocess.PIPE, stderr=subprocess.STDOUT,
+                          text=True, errors="replace") as child:
+        try:
+            for line in child.stdout:
+                kept.append(line)
+                if line.startswith("== ") and line[3:].strip() in crates:
+                    # (whether it is proved follows at the end)
+                    progress.step(line[3:].strip(), jobs)
+        except BaseException:
+            child.terminate()
+            raise
+        finally:
+            child.wait()
+            handed_back(crates, room)
+    if child.returncode:
+        print("".join(kept)[-6000:], file=sys.stderr)
+    return child.returncode == 0
+
+
+def is_built(name):
+    folder = TOP / "crates" / name / "out"
+    return any(is_current(it, name) for it in (folder / name, folder / f"lib{name}.a"))
+
+
+def finish(name):
+    """Builds the program, or the library, over the crates that are proved."""
+    folder = TOP / "crates" / name
+    is_program = (folder / "src" / "main.rt").is_file()
+    # a program is run then: it says that the arguments are bad, or does its stored run, whatever its status
+    status, text = said(["rt", "run" if is_program else "lib"], cwd=folder)
+    is_made = is_built(name) if is_program or name == LIBRARY else status == 0
+    if not is_made:
+        print(text[-6000:], file=sys.stderr)
+    return is_made
+
+
+def main():
+    parser = argparse.ArgumentParser(prog="./build", description=ABOUT, allow_abbrev=False,
+                                     formatter_class=argparse.RawDescriptionHelpFormatter)
+    parser.add_argument("name", nargs="?", default="texcache", metavar="NAME",
+                        help=f"{', '.join(PROGRAMS)}, {LIBRARY}, or another crate; texcache if none is given")
+    parser.add_argument("--unproved", action="store_true", help="build it without a proof, in about a minute")
+    parser.add_argument("--jobs", type=int, metavar="N", help="how many crates are proved at once")
+    args = parser.parse_args()
+    if args.name not in dependencies():
+        parser.error(f"there is no crate {args.name}")
+    try:
+        if args.unproved:
+            if args.name not in (*PROGRAMS, LIBRARY):
+                parser.error(f"{args.name} is not built unproved; those are {', '.join(PROGRAMS)}, {LIBRARY}")
+            print(os.path.relpath(build(args.name)))
+            return 0
+        if is_built(args.name):
+            say(f"{args.name} is proved and built, and no source has changed since")
+            return 0
+        began, jobs = time.monotonic(), args.jobs or side_by_side()
+        say(USUAL)
+        with tempfile.TemporaryDirectory(prefix="texcache-build-") as room:
+            done = prove(args.name, jobs, Path(room)) and finish(args.name)
+        say(f"{args.name} is {'proved and built' if done else 'not proved'}, after {minutes(time.monotonic() - began)}")
+        return 0 if done else 1
+    except (Missing, FileNotFoundError) as error:
+        say(error)
+        return 1

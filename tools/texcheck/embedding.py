@@ -1,0 +1,220 @@
+"""Tests the library tex_c and what is built over it in C, C++ and Python.
+
+Each line of the demo's list and of the stored run of texcache, by 1 and by 8 threads, is that of expected.txt and of
+the run's stdout, except for requests of textures in tiles, which the library does not have. One thread needs what the
+program's worker needs, and each of 8 threads at least that. Then come bad use, files that are replaced while they are
+read, and the renderer's picture, which is the same for 1 and for 8 threads. The first and the bad use run under
+valgrind too, and the C side is built with the compiler's thread sanitizer.
+"""
+import os
+import shutil
+import sys
+import tempfile
+from operator import ge
+from pathlib import Path
+
+from texcheck.common import TOP, Skips, add_program, debian_python, program_of, said
+from texcheck.sources import is_current
+from texcheck.unproved import LIBRARY, build, kit
+
+HELP = "the library for C, and what is over it in C, C++ and Python"
+HERE = TOP / "tools" / "embedding"
+RUN = TOP / "crates" / "texcache"
+FLAGS = ["-O2", "-Wall", "-Wextra", f"-I{TOP / 'include'}"]
+THREADS = ("1", "8")
+
+
+def lists():
+    """Each list with its name, its folder, and the lines that answer it."""
+    demo = TOP / "demo"
+    yield "the demo", demo, (demo / "requests.txt").read_bytes(), (demo / "expected.txt").read_text().splitlines()
+    yield "the stored run", RUN / "data", (RUN / "stdin").read_bytes(), (RUN / "stdout").read_text().splitlines()
+
+
+def differences(got, wanted):
+    """The first lines that differ, and how many do; `-` is printed for a request that the library does not have."""
+    wanted = [it for it in wanted if not it.startswith(("worker ", "total "))]
+    answers = [it for it in got.splitlines() if not it.startswith("worker ")]
+    if len(answers) != len(wanted):
+        return f"{len(answers)} lines, wanted {len(wanted)}: {got[-500:]}"
+    wrong = [f"line {n}: {a[:100]!r}, wanted {b[:100]!r}" for n, (a, b) in enumerate(zip(answers, wanted), 1)
+             if a not in (b, "-")]
+    if sum(it == "-" for it in answers) * 10 > len(answers):
+        wrong.append("more than a tenth of the lines were not compared")
+    return "\n".join([f"{len(wrong)} differ", *wrong[:3]]) if wrong else ""
+
+
+def half(picture, number):
+    """The upper half of a PPM picture, or the lower one."""
+    samples = picture[picture.index(b"255\n") + 4:] if picture else b""
+    return samples[:len(samples) // 2] if number == 0 else samples[len(samples) // 2:]
+
+
+def needs(text):
+    """The needs of each thread."""
+    return [int(it.split()[3]) for it in text.splitlines() if it.startswith("worker ")]
+
+
+class Tests:
+    """The tests over one library, in a folder of their own, and how many passed and failed."""
+
+    def __init__(self, library, program, made, skips):
+        self.library, self.program, self.made, self.skips = library.resolve(), program, made, skips
+        self.heap, self.passed, self.failed = kit() / "c" / "liblibc_c.a", 0, 0
+        self.cc = shutil.which(os.environ.get("CC", "cc")) or shutil.which("gcc")
+        self.cxx = shutil.which(os.environ.get("CXX", "c++")) or shutil.which("g++")
+        self.valgrind = shutil.which("valgrind")
+        self.shared = made / "libtexcache.so"
+
+    def say(self, is_so, what, more=""):
+        self.passed += bool(is_so)
+        self.failed += not is_so
+        print(f"{'passed' if is_so else 'failed'}: {what}{'' if is_so else ': ' + more[-3000:]}", flush=True)
+
+    def built(self, name, source, *flags, compiler=None, over=None):
+        """Whether a program was built without a word; that it was not is a failure."""
+        status, text = said([compiler or self.cc, *FLAGS, *flags, "-o", self.made / name, source,
+                             *(over or [self.library, self.heap]), "-lm", "-lpthread"])
+        if status or text:
+            self.say(False, f"building {name}", text or f"status {status}")
+        return status == 0
+
+    def compare(self, what, words, folder, given, wanted, threads=None, **more):
+        """Whether a program answers a list as it should; with threads also whether each needed what the program's
+        worker needs."""
+        status, got = said([*words, folder, *([threads] if threads else [])], given, 600, **more)
+        wrong = differences(got, wanted) if status == 0 else f"status {status}: {got[-2000:]}"
+        self.say(not wrong, what, wrong)
+        if threads and not wrong and needs(got) and b"<UDIM>" not in given:
+            _, other = said([self.program, folder, "--workers", threads], given)
+            least, seen = needs(other), needs(got)
+            # a call that is repeated because another thread had its shard counts its needs once more
+            is_so = seen == least if threads == "1" else len(seen) == len(least) and all(map(ge, seen, least))
+            self.say(is_so, f"{what}: the needs of each thread", f"{seen}, wanted {least}, or more by several threads")
+
+    def over_a_folder(self, what, name, *more, before=()):
+        with tempfile.TemporaryDirectory() as folder:
+            status, text = said([*before, self.made / name, folder, *more], seconds=600)
+            self.say(status == 0, what, text)
+
+    def in_c(self):
+        if self.built("lines", HERE / "lines.c", "-std=gnu11"):
+            for name, *one in lists():
+                for threads in THREADS:
+                    self.compare(f"C, {name}, {threads} threads", [self.made / "lines"], *one, threads)
+        page = (TOP / "docs" / "EMBEDDING.md").read_text(encoding="utf-8")
+        (self.made / "page.c").write_text(page.split("```c\n")[1].split("```")[0])
+        if self.built("page", self.made / "page.c"):
+            status, text = said([self.made / "page"], cwd=TOP)
+            self.say((status, text) == (0, "ok 42919 36494 34759\n"), "the lines of C of docs/EMBEDDING.md", text)
+        if self.built("bad_use", HERE / "bad_use.c", "-std=gnu11"):
+            self.over_a_folder("bad use and bad input", "bad_use")
+        if self.built("replaced", HERE / "replaced.c", "-std=gnu11"):
+            self.over_a_folder("files that are replaced while they are read", "replaced", "8", "4000")
+
+    def in_cxx(self):
+        if self.skips.lacks(None if self.cxx else "a C++ compiler", "C++"):
+            return
+        if self.built("lines_cpp", HERE / "lines.cpp", "-std=c++17", compiler=self.cxx):
+            for name, *one in lists():
+                self.compare(f"C++, {name}", [self.made / "lines_cpp"], *one)
+
+    def in_python(self):
+        if not self.built(self.shared.name, TOP / "python" / "texcache_shared.c", "-shared", "-fPIC"):
+            return
+        more = {"env": {**os.environ, "TEXCACHE_LIBRARY": str(self.shared)}}
+        has_numpy = said([debian_python(), "-c", "import numpy"])[0] == 0
+        pythons = {"Python": [sys.executable, "-S"], "Python with numpy": [debian_python()]}
+        if self.skips.lacks(None if has_numpy else "Python's numpy", "Python with numpy"):
+            del pythons["Python with numpy"]
+        for what, python in pythons.items():
+            for name, *one in lists():
+                for threads in THREADS:
+                    self.compare(f"{what}, {name}, {threads} threads", [*python, HERE / "lines.py"], *one, threads,
+                                 **more)
+        page = (TOP / "docs" / "EMBEDDING.md").read_text(encoding="utf-8")
+        status, text = said([sys.executable, "-c", page.split("```python\n")[1].split("```")[0]], cwd=TOP, **more)
+        self.say(status == 0 and "[42919, 36494, 34759]" in text and text.endswith("no level 6\n"),
+                 "the lines of Python of docs/EMBEDDING.md", text)
+
+    def under_valgrind(self):
+        if self.skips.lacks(None if self.valgrind else "valgrind", "the tests under valgrind"):
+            return
+        grind = [self.valgrind, "-q", "--error-exitcode=9", "--leak-check=full", "--show-leak-kinds=all"]
+        name, *one = next(lists())
+        for threads in THREADS:
+            self.compare(f"valgrind, {name}, {threads} threads", [*grind, self.made / "lines"], *one, threads)
+        self.over_a_folder("valgrind, bad use", "bad_use", before=grind)
+        self.over_a_folder("valgrind, files that are replaced", "replaced", "4", "1500", before=grind)
+
+    def with_races(self):
+        flags = ["-std=gnu11", "-g", "-fsanitize=thread"]
+        # the library hands its blocks from thread to thread by atomic steps of its own, which the sanitizer does not
+        # see; in a shared object it can be told to look at the C side alone
+        core = self.made / "libtex_c_core.so"
+        said([self.cc, "-shared", "-o", core, "-Wl,--whole-archive", self.library, "-Wl,--no-whole-archive", self.heap])
+        (self.made / "library").write_text(f"called_from_lib:{core.name}\n")
+        more = {"env": {**os.environ, "TSAN_OPTIONS": f"suppressions={self.made / 'library'} exitcode=66"}}
+        over = [core, f"-Wl,-rpath,{self.made}"]
+        if self.built("lines_races", HERE / "lines.c", *flags, over=over):
+            for name, *one in lists():
+                self.compare(f"races, {name}, 8 threads", [self.made / "lines_races"], *one, "8", **more)
+        if self.built("replaced_races", HERE / "replaced.c", *flags, over=over):
+            with tempfile.TemporaryDirectory() as folder:
+                status, text = said([self.made / "replaced_races", folder, "8", "3000"], seconds=600, **more)
+                self.say(status == 0, "races, files that are replaced", text)
+
+    def picture(self, what, name, folder, *more):
+        """The picture of a run of the renderer."""
+        out = self.made / f"{name}.ppm"
+        status, text = said([self.made / "renderer", folder, out, *more])
+        self.say(status == 0 and out.is_file(), what, text)
+        return out.read_bytes() if out.is_file() else b""
+
+    def render(self):
+        if not self.built("renderer", TOP / "examples" / "renderer" / "renderer.c", "-std=gnu11"):
+            return
+        demo = TOP / "demo"
+        one, eight, closest = (
+            self.picture(f"the renderer, {' '.join(it)} threads", "-".join(it), demo, "--threads", *it)
+            for it in (["1"], ["8"], ["8", "--closest"]))
+        self.say(one == eight != b"", "the picture is the same for 1 and 8 threads")
+        self.say(closest not in (one, b""), "the picture of the nearest texels is another one")
+        replaced, many = [], []
+        said([sys.executable, TOP / "examples" / "renderer" / "textures.py", self.made / "many", "--side", "256"])
+        for threads in THREADS:
+            scene = self.made / f"scene{threads}"
+            shutil.copytree(demo, scene)
+            replaced.append(self.picture(f"a texture that is replaced under the renderer, {threads} threads",
+                                         f"replaced{threads}", scene, "--threads", threads, "--replace", "bricks.tif",
+                                         scene / "rings.tif"))
+            many.append(self.picture(f"64 textures, {threads} threads", f"many{threads}", self.made / "many", "--many",
+                                     "--threads", threads, "--budget", "1000000"))
+        self.say(replaced[0] == replaced[1] != b"", "the picture with a replaced texture is the same for both")
+        self.say(half(replaced[0], 0) == half(one, 0) and half(replaced[0], 1) != half(one, 1),
+                 "its upper half shows the texture of before, and its lower half the other one")
+        self.say(many[0] == many[1] != b"", "the picture of 64 textures is the same for 1 and 8 threads")
+
+
+def add_arguments(parser):
+    parser.add_argument("--library", type=Path, metavar="FILE",
+                        help="the library; else the proved one if it is up to date, or an unproved build")
+    add_program(parser, "texcache")
+    Skips.add_argument(parser)
+
+
+def library_of(args):
+    proved = TOP / "crates" / LIBRARY / "out" / f"lib{LIBRARY}.a"
+    return args.library or (proved if is_current(proved, LIBRARY) else build(LIBRARY))
+
+
+def run(args):
+    skips = Skips(args)
+    with tempfile.TemporaryDirectory() as made:
+        tests = Tests(library_of(args), program_of(args, "texcache"), Path(made), skips)
+        if skips.lacks(None if tests.cc else "a C compiler", "embedding"):
+            return 1 if skips.failed else 0
+        for step in (tests.in_c, tests.in_cxx, tests.in_python, tests.under_valgrind, tests.with_races, tests.render):
+            step()
+    print(f"{tests.passed} passed, {tests.failed} failed")
+    return 1 if tests.failed or skips.failed else 0

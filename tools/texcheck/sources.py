@@ -1,0 +1,71 @@
+"""Which crates a program is made of, and whether what was built of it is still up to date."""
+import hashlib
+import shutil
+from pathlib import Path
+
+TOP = Path(__file__).resolve().parents[2]
+
+
+def dependencies():
+    """The crates of the repository, each with the names behind its colon in crates.txt."""
+    found = {}
+    for line in (TOP / "crates.txt").read_text(encoding="utf-8").splitlines():
+        name, colon, below = line.split("#")[0].partition(":")
+        if colon:
+            found[name.split()[0]] = below.split()
+    return found
+
+
+def crates_below(name):
+    """The crates that one stands on, and itself, each after those below it."""
+    below, found = dependencies(), []
+
+    def add(crate):
+        for it in below[crate]:
+            if it in below and it not in found:
+                add(it)
+        found.append(crate)
+
+    add(name)
+    return found
+
+
+def files_of(name, parts, alone=False):
+    """The source files of a crate, and of all crates below it."""
+    return [it for crate in ([name] if alone else crates_below(name)) for part in parts
+            for it in sorted((TOP / "crates" / crate / part).rglob("*.*"))]
+
+
+def copied(name, to, parts):
+    """Copies these parts of a crate, and of all below it, as a repository of their own."""
+    crates = set(crates_below(name))
+    for part in (TOP / "crates" / crate / it for crate in crates for it in parts):
+        if part.is_dir():
+            shutil.copytree(part, to / part.relative_to(TOP))
+    lines = (TOP / "crates.txt").read_text(encoding="utf-8").splitlines(keepends=True)
+    lines = [it for it in lines if set(it.split(":")[0].split()) & crates]
+    (to / "crates.txt").write_text("".join(lines), encoding="utf-8")
+    shutil.copy(TOP / "HANDLES", to / "HANDLES")
+    # where `rt` stops to look for crates.txt
+    (to / ".git").mkdir()
+
+
+def sum_of(name):
+    """A checksum of all that an unproved build reads, and of how it is built. (Proofs are not part of it.)"""
+    found = hashlib.sha256(Path(__file__).with_name("unproved.py").read_bytes())
+    for it in files_of(name, ("src", "specs")):
+        found.update(f"{it.relative_to(TOP)} {it.stat().st_size}\n".encode())
+        found.update(it.read_bytes())
+    return found.hexdigest()
+
+
+def is_current(built, name):
+    """Whether no source has changed since a proved program or library was built."""
+    files = [TOP / "crates.txt", *files_of(name, ("src", "specs", "proofs"))]
+    return built.is_file() and built.stat().st_mtime >= max(it.stat().st_mtime for it in files)
+
+
+def proved(name):
+    """The place of the proved program, or None if it was not built or a source has changed since."""
+    built = TOP / "crates" / name / "out" / name
+    return built if is_current(built, name) else None

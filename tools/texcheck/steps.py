@@ -1,0 +1,140 @@
+"""All tests that need no prover: what ./test does."""
+import argparse
+import os
+import re
+import subprocess
+import sys
+import time
+from concurrent.futures import ThreadPoolExecutor
+
+from texcheck.common import TOP, Missing, said
+from texcheck.sources import is_current
+from texcheck.unproved import LIBRARY, PROGRAMS, build, try_tests
+
+ABOUT = """Runs all tests that need no prover: the tests of the crates, the programs' stored runs, lists and files, the
+library for C, the tools, the documents and the drawings. It proves nothing: bash .ci/run is the full check.
+
+The programs, the library and the tests are unproved builds. With --checked programs and tests are built with the
+address sanitizer, which finds bad accesses too, and takes much longer. With --proved the programs are those that CI or
+./build left, and what CI runs itself is left out. CI does not link the library, so it may still be an unproved build. It takes about ten minutes on two processors. The last line counts what
+passed and what failed; above it is what was skipped, and why.
+"""
+# the longest first
+TESTS = ["request_tests", "format_tests", "cache_tests", "sharing_tests"]
+
+
+def command(*words):
+    """A step that runs a command."""
+    def step():
+        status, text = said(words, cwd=TOP)
+        return int(status == 0), int(status != 0), text
+    return step
+
+
+def tests_of(crate, is_checked):
+    """A step that runs the tests of a crate."""
+    def step():
+        status, text = try_tests(crate, is_checked)
+        found = re.search(r"(\d+) passed; (\d+) failed", text)
+        passed, failed = map(int, found.groups()) if found else (0, 1)
+        return passed, failed or int(status != 0), text
+    return step
+
+
+def stored_run(program, crate):
+    """A step that runs a program as its crate's files say: input, arguments, status and output."""
+    def step():
+        folder = TOP / "crates" / crate
+        read = lambda name, usual: (folder / name).read_bytes() if (folder / name).is_file() else usual
+        ran = subprocess.run([program, *read("args", b"").decode().splitlines()], input=read("stdin", b""),
+                             cwd=folder / "data" if (folder / "data").is_dir() else folder, stdout=subprocess.PIPE,
+                             check=False)
+        wanted = (read("stdout", b""), int(read("status", b"0")))
+        is_so = (ran.stdout, ran.returncode) == wanted
+        return int(is_so), int(not is_so), f"status {ran.returncode}, wanted {wanted[1]}, {len(ran.stdout)} bytes"
+    return step
+
+
+def steps(args, programs, library):
+    """The steps, each with its name, the longest first."""
+    texcache, texsample, texmake = (programs[it] for it in PROGRAMS)
+    skip = [] if args.proved and not args.skip_missing else ["--skip-missing"]
+    readers = ["--readers"] if args.proved and not args.skip_missing else []
+    if not args.proved:
+        yield from ((f"tests of {it}", tests_of(it, args.checked)) for it in TESTS)
+        yield from ((f"stored run of {it}", stored_run(program, it)) for it, program in programs.items())
+    for name, *words in [
+        ("textures", "--program", texmake, "--texcache", texcache, *readers),
+        ("embedding", "--program", texcache, "--library", library, *skip),
+        ("lists", "--program", texcache, "--texsample", texsample),
+        ("failed-allocations", "--program", texcache, *skip),
+        ("scripts",), ("stored-run",),
+        ("random-files", "--program", texcache),
+        ("replaced-files", "--program", texcache),
+        ("prepare", "--program", texmake, "--texcache", texcache, *(["--full"] if args.proved else []), *skip),
+        ("user-tools", "--program", texcache),
+        ("examples", "--program", texcache),
+        ("commands",),
+        ("demo", "--program", texcache),
+        ("pictures", "--program", texcache, *skip),
+        ("curve", "--program", texcache),
+    ]:
+        yield f"tools/check {name}", command(TOP / "tools" / "check", name, *words)
+    yield "demo/try_hostile.sh", command(TOP / "demo" / "try_hostile.sh", texcache)
+    for script in ("tools/check_definitions.py", "tools/check_documents.py", "docs/pictures/draw.py"):
+        yield script, command(sys.executable, TOP / script)
+
+
+def timed(named):
+    name, step = named
+    began = time.monotonic()
+    passed, failed, text = step()
+    print(f"{'failed' if failed else 'passed'}: {name}, {time.monotonic() - began:.0f} s", flush=True)
+    if failed:
+        print(text[-4000:], flush=True)
+    return passed, failed, [f"{it} ({name})" for it in text.splitlines() if it.startswith("skipped: ")]
+
+
+def processors():
+    return len(os.sched_getaffinity(0))
+
+
+def what_is_built(args):
+    """The programs and the library, and how many of them are missing."""
+    if not args.proved:
+        with ThreadPoolExecutor(processors()) as pool:
+            *programs, library = pool.map(lambda it: build(it, args.checked and it != LIBRARY), (*PROGRAMS, LIBRARY))
+        return dict(zip(PROGRAMS, programs)), library, 0
+    places = {it: TOP / "crates" / it / "out" / it for it in PROGRAMS}
+    library = TOP / "crates" / LIBRARY / "out" / f"lib{LIBRARY}.a"
+    if not is_current(library, LIBRARY):
+        # `rt ci` proves the library and does not link it
+        print(f"test: {LIBRARY} is an unproved build of the proved sources; ./build {LIBRARY} makes the proved one",
+              flush=True)
+        library = build(LIBRARY)
+    missing = [it for it, place in places.items() if not is_current(place, it)]
+    for it in missing:
+        print(f"failed: {it} is not proved and built, or a source has changed since: ./build {it}", flush=True)
+    return places, library, len(missing)
+
+
+def main():
+    parser = argparse.ArgumentParser(prog="./test", description=ABOUT, allow_abbrev=False,
+                                     formatter_class=argparse.RawDescriptionHelpFormatter)
+    which = parser.add_mutually_exclusive_group()
+    which.add_argument("--proved", action="store_true", help="the proved programs and library, behind CI")
+    which.add_argument("--checked", action="store_true", help="programs with the address sanitizer; slow")
+    parser.add_argument("--skip-missing", action="store_true",
+                        help="with --proved, skip what needs a package that tools/setup would install")
+    args = parser.parse_args()
+    try:
+        programs, library, missing = what_is_built(args)
+    except Missing as error:
+        print(f"test: {error}\n0 passed, 1 failed")
+        return 1
+    with ThreadPoolExecutor(processors()) as pool:
+        results = list(pool.map(timed, steps(args, programs, library)))
+    passed, failed, skipped = zip(*results)
+    print(*(line for lines in skipped for line in lines), sep="\n", end="\n" if any(skipped) else "")
+    print(f"{sum(passed)} passed, {sum(failed) + missing} failed")
+    return 1 if sum(failed) + missing else 0
