@@ -1,20 +1,21 @@
 #!/usr/bin/env python3
-"""Makes table.md and docs/pictures/benchmark.svg of figures.json, which run.py writes.
+"""Makes the tables of docs/BENCHMARK.md and the plot docs/pictures/benchmark.svg from figures.json, which run.py writes.
 
-A bar is the processor time of OpenImageIO's calls over that of texcache, of one worker, on a scale on which
-each step doubles: to the right of the middle line texcache is the faster of the two. Where figures.json has
-no time of the calls alone it is that of the whole program.
+Without --write it compares and changes nothing; the status is then 1 if something differs.
 """
-
+import argparse
 import json
 import math
+import sys
+import textwrap
 from pathlib import Path
 from xml.sax.saxutils import escape
 
-from rows import ROWS
-
 HERE = Path(__file__).resolve().parent
+FIGURES = HERE / "figures.json"
+PAGE = HERE.parent / "docs" / "BENCHMARK.md"
 PLOT = HERE.parent / "docs" / "pictures" / "benchmark.svg"
+BEGIN, END = "<!-- figures: made by bench/draw.py -->", "<!-- end of the figures -->"
 INK, PALE, GREEN, AMBER = "#1f2430", "#d5d8de", "#8fc793", "#eebf6d"
 
 
@@ -27,103 +28,109 @@ def time_text(microseconds):
     return f"{1000 * microseconds:.0f} ns"
 
 
-def calls(times, what):
-    """What OpenImageIO's calls take by its program's own clock, or where that was not asked, its program."""
-    return times["oiio"].get(f"calls_{what}", times["oiio"][what])
-
-
-def ratio(times, what):
-    """How many times as long OpenImageIO's calls take as all of texcache, or none."""
-    if len(times) < 2 or min(times["texcache"][what], calls(times, what)) <= 0:
-        return None
-    return calls(times, what) / times["texcache"][what]
-
-
-def calls_cell(times, what):
-    return time_text(calls(times, what)) if "oiio" in times else ""
+def ratio(times, ours, its):
+    """OpenImageIO's time over ours, or None if one is missing or below the noise."""
+    found = [times.get(ours), times.get(its)]
+    return found[1] / found[0] if all(it and it > 0 for it in found) else None
 
 
 def ratio_text(found):
-    return "" if found is None else f"{found:.1f}" if found < 10 else f"{found:.0f}"
+    if found is None:
+        return ""
+    text = f"{found:.2f}" if found < 2 else f"{found:.1f}" if found < 10 else f"{found:.0f}"
+    return f"**{text}**" if found < 0.995 else text
 
 
-def cell(times, name, what):
-    return time_text(times[name][what]) if name in times else ""
+def cells(times):
+    """The cells for one number of workers: the C library beside the calls, the program beside the whole."""
+    for ours, its in (("c", "oiio"), ("program", "oiio_text")):
+        yield from (time_text(times[it]) if it in times else "" for it in (ours, its))
+        yield ratio_text(ratio(times, ours, its))
 
 
-def counts_text(one, name, what):
-    found = one.get("instructions", {}).get(name, {})
-    return f"{found[what]:,.0f}" if what in found else ""
+def memory_text(row):
+    return " / ".join(str(row["memory"][it]) for it in ("program", "oiio")) if "memory" in row else ""
 
 
-def memory_text(times, name):
-    return f"{times[name]['memory'] / 1024:.0f}" if name in times else ""
-
-
-def table(head, rows):
-    lines = [head, ["---"] * len(head), *rows]
-    return "".join("| " + " | ".join(line) + " |\n" for line in lines)
+def table(head, lines):
+    return "".join("| " + " | ".join(it) + " |\n" for it in [head, ["---"] * len(head), *lines])
 
 
 def tables(figures):
-    """One worker, with instructions and memory; then four, with wall times."""
-    alone, four = [], []
-    for name, one in figures["rows"].items():
-        row, times = ROWS[name], one["times"].get("1", {})
-        alone.append([row.title, row.unit, cell(times, "texcache", "cpu"), cell(times, "oiio", "cpu"),
-                      calls_cell(times, "cpu"), ratio_text(ratio(times, "cpu")), counts_text(one, "texcache", "all"),
-                      counts_text(one, "oiio", "all"), memory_text(times, "texcache"), memory_text(times, "oiio")])
-        if "4" in one["times"]:
-            times = one["times"]["4"]
-            four.append([row.title, cell(times, "texcache", "cpu"), calls_cell(times, "cpu"),
-                         ratio_text(ratio(times, "cpu")), cell(times, "texcache", "wall"),
-                         calls_cell(times, "wall"), ratio_text(ratio(times, "wall"))])
-    machine = figures["machine"]
-    said = (f"{machine['processors']} processors, {machine['processor']}; load {machine['load'][0]:.1f} before, "
-            f"{machine['load_after'][0]:.1f} after; OpenImageIO {figures['oiio'] or 'not installed'}; "
-            f"the least of {figures['passes']} passes.\n")
-    one_head = ["One worker", "of a", "texcache", "OpenImageIO", "its calls", "ratio", "instructions", "its", "MB",
-                "its"]
-    four_head = ["Four workers", "texcache", "its calls", "ratio", "wall", "its calls", "ratio"]
-    return f"{said}\n{table(one_head, alone)}\n{table(four_head, four)}"
+    """The table for one worker, with the peak memory, and the one for four."""
+    alone = [[row["title"], row["unit"], *cells(row["times"]["1"]), memory_text(row)] for row in figures["rows"]]
+    four = [[row["title"], *cells(row["times"]["4"])] for row in figures["rows"] if "4" in row["times"]]
+    columns = ["C library", "its calls", "ratio", "program", "its program", "ratio"]
+    said = (f"Commit {figures['commit']}, OpenImageIO {figures['oiio']}, {figures['processors']} processors "
+            f"({figures['processor']}), {figures['load']}; the least of {figures['passes']} passes.")
+    said = "\n".join(textwrap.wrap(said, 120))
+    return (f"{said}\n\n{table(['One worker, processor time', 'per', *columns, 'MB: ours / its'], alone)}\n"
+            f"{table(['Four workers, wall time', *columns], four)}")
+
+
+def page(figures, text):
+    """The page with its figures replaced."""
+    before, _, rest = text.partition(BEGIN)
+    return f"{before}{BEGIN}\n{tables(figures)}{END}{rest.partition(END)[2]}"
 
 
 def plot(figures):
-    bars = [(name, one["times"].get("1", {})) for name, one in figures["rows"].items()]
-    bars = [(name, times, ratio(times, "cpu")) for name, times in bars if ratio(times, "cpu")]
-    left, step, high = 300, 46, 26
-    most = max([math.ceil(math.log2(it)) for _, _, it in bars] + [1])
-    least = min([math.floor(math.log2(it)) for _, _, it in bars] + [-1])
-    width, height = left + step * (most - least) + 190, 62 + high * len(bars)
+    bars = [(row["title"], found) for row in figures["rows"]
+            for found in [(ratio(row["times"]["1"], "c", "oiio"), ratio(row["times"]["1"], "program", "oiio_text"))]
+            if any(found)]
+    ratios = [it for _, found in bars for it in found if it]
+    left, step, high = 330, 62, 34
+    most, least = max(1, math.ceil(math.log2(max(ratios)))), min(-1, math.floor(math.log2(min(ratios))))
+    width, height = left + step * (most - least) + 120, 78 + high * len(bars)
     middle = left + step * -least
     parts = [f'<svg xmlns="http://www.w3.org/2000/svg" width="{width}" height="{height}" viewBox="0 0 {width} '
              f'{height}" font-family="sans-serif" font-size="12" fill="{INK}">',
              f'<rect width="{width}" height="{height}" fill="#ffffff"/>',
-             '<text x="8" y="18" font-size="14" font-weight="bold">OpenImageIO\'s processor time over that of '
-             'texcache, one worker</text>']
+             f'<text x="8" y="18" font-size="14" font-weight="bold">OpenImageIO\'s time over ours, one worker, commit '
+             f'{escape(figures["commit"])}</text>',
+             '<text x="8" y="36" font-size="11">upper bar: C library beside its calls; lower bar: program beside its '
+             'program; right of 1 texcache is faster</text>']
     for power in range(least, most + 1):
         x = middle + step * power
         says = str(2 ** power) if power >= 0 else f"1/{2 ** -power}"
-        parts.append(f'<line x1="{x}" y1="44" x2="{x}" y2="{height - 10}" stroke="{INK if power == 0 else PALE}"/>')
-        parts.append(f'<text x="{x}" y="38" text-anchor="middle" font-size="11">{says}</text>')
-    for place, (name, times, found) in enumerate(bars):
-        y, x = 50 + high * place, middle + step * math.log2(found)
-        begin, end = min(x, middle), max(x, middle)
-        both = f"{time_text(times['texcache']['cpu'])}, {time_text(calls(times, 'cpu'))}"
-        parts.append(f'<rect x="{begin:.1f}" y="{y}" width="{end - begin:.1f}" height="18" '
-                     f'fill="{GREEN if found >= 1 else AMBER}"/>')
-        parts.append(f'<text x="{left - 12}" y="{y + 13}" text-anchor="end">{escape(ROWS[name].title)}</text>')
-        parts.append(f'<text x="{end + 6:.1f}" y="{y + 13}" font-size="11">{ratio_text(found)} ({both})</text>')
+        parts.append(f'<line x1="{x}" y1="60" x2="{x}" y2="{height - 10}" stroke="{INK if power == 0 else PALE}"/>')
+        parts.append(f'<text x="{x}" y="54" text-anchor="middle" font-size="11">{says}</text>')
+    for place, (title, found) in enumerate(bars):
+        top = 64 + high * place
+        parts.append(f'<text x="{left - 12}" y="{top + 18}" text-anchor="end">{escape(title)}</text>')
+        for y, it in zip((top, top + 14), found):
+            if it:
+                x = middle + step * math.log2(it)
+                begin, end = min(x, middle), max(x, middle)
+                parts.append(f'<rect x="{begin:.1f}" y="{y}" width="{end - begin:.1f}" height="12" '
+                             f'fill="{GREEN if it >= 0.995 else AMBER}"/>')
+                parts.append(f'<text x="{end + 5:.1f}" y="{y + 10}" font-size="10">{ratio_text(it).strip("*")}</text>')
     return "\n".join([*parts, "</svg>"]) + "\n"
 
 
+def made(figures):
+    """What the files should have."""
+    return {PAGE: page(figures, PAGE.read_text(encoding="utf-8")), PLOT: plot(figures)}
+
+
 def write(figures):
-    """Nothing where only instructions were counted yet."""
-    if "machine" not in figures:
-        return
-    (HERE / "table.md").write_text(tables(figures), encoding="utf-8")
-    PLOT.write_text(plot(figures), encoding="utf-8")
+    for file, text in made(figures).items():
+        file.write_text(text, encoding="utf-8")
+
+
+def main():
+    parser = argparse.ArgumentParser(description=__doc__.split("\n\n")[0],
+                                     epilog="Without --write it compares, and changes nothing.")
+    parser.add_argument("--write", action="store_true", help="write docs/BENCHMARK.md and docs/pictures/benchmark.svg")
+    asked = parser.parse_args()
+    figures = json.loads(FIGURES.read_text(encoding="utf-8"))
+    if asked.write:
+        write(figures)
+    differing = [file for file, text in made(figures).items() if file.read_text(encoding="utf-8") != text]
+    print(*[f"{it} is not what bench/draw.py makes: run it with --write" for it in differing]
+          or ["docs/BENCHMARK.md and its plot show bench/figures.json"], sep="\n")
+    return 1 if differing else 0
 
 
 if __name__ == "__main__":
-    write(json.loads((HERE / "figures.json").read_text(encoding="utf-8")))
+    sys.exit(main())

@@ -1,15 +1,13 @@
 #!/usr/bin/env python3
-"""Writes the pictures and the request lists of the benchmark into a folder:
-`python3 make_files.py FOLDER`. It takes 1.7 GB, and lists of 150 MB.
+"""Writes the pictures and the request lists of the benchmark into a folder. It takes 1.7 GB, and lists of 150 MB.
 
-The pictures are uncompressed TIFF 6.0, as docs/FORMAT.md has it, of random samples that are the same
-at each run. `main` has a tiled picture with stored levels and two large stripped ones, `many` 64
-files of 16 MB, `small` 4,000 files of 12 KB, `levels` 400 files of nine levels, `turn` eight stripped
-files and a wide one, `none` nothing. The lists are those of rows.py, two for
-each row, as ROW.short and ROW.long in the folder `lists`, and for the count of instructions smaller
-ones.
+The pictures are uncompressed TIFF 6.0 (docs/FORMAT.md) with random samples that are the same at each run. `main` has a
+tiled picture with stored levels and two large stripped ones, `many` 64 files of 16 MB, `small` 4,000 files of 12 KB,
+`levels` 400 files of nine levels, `turn` eight stripped files and a wide one, `none` nothing. The lists are those of
+rows.py, ROW.short and ROW.long in the folder `lists`.
 """
 
+import argparse
 import random
 import shutil
 import struct
@@ -132,7 +130,7 @@ def write_lists(folder, rows):
 
 
 def make(folder, rows=tuple(ROWS.values())):
-    """All of it, where the folder has none yet."""
+    """All of it, unless the folder has it already."""
     folder.mkdir(parents=True, exist_ok=True)
     write_lists(folder, rows)
     if (folder / "done").exists():
@@ -144,6 +142,6 @@ def make(folder, rows=tuple(ROWS.values())):
 
 
 if __name__ == "__main__":
-    if len(sys.argv) != 2:
-        sys.exit(__doc__)
-    make(Path(sys.argv[1]))
+    parser = argparse.ArgumentParser(description=__doc__, formatter_class=argparse.RawDescriptionHelpFormatter)
+    parser.add_argument("folder", type=Path, help="where the files are made")
+    make(parser.parse_args().folder)

@@ -1,182 +1,19 @@
-// Answers a list of requests of texcache through OpenImageIO's ImageCache and TextureSystem, for
-// comparison: the same lists, the same options, the same deal of requests to workers, lines of the
-// same form. See docs/BENCHMARK.md.
-//
-//     oiio_lists FOLDER [--workers N] [--budget BYTES] [--handles N] [--autotile T] [--no-automip]
-//
-// It takes `tex`, `pixels`, `info` and `sync` of docs/REQUESTS.md. A generation is always 1, since
-// OpenImageIO has none; a file that cannot be read is `bad file 1`; of the closing lines only
-// `total` is printed.
-//
-// On standard error it says by its own clock what answering took, from the first thread that starts on a
-// round to the last one that has its answers: the processor time and the wall time, in microseconds. The list
-// is parsed before that and its lines are written behind it.
+// Answers a list of requests through OpenImageIO's ImageCache and TextureSystem (see lists.hpp and docs/BENCHMARK.md).
+// A generation is always 1, because OpenImageIO has none; a file that cannot be read is `bad file 1`.
+#include "lists.hpp"
 
 #include <OpenImageIO/imagecache.h>
 #include <OpenImageIO/texture.h>
 
-#include <algorithm>
-#include <charconv>
 #include <cmath>
-#include <cstdint>
-#include <cstdio>
-#include <cstdlib>
-#include <cstring>
-#include <string>
-#include <string_view>
-#include <thread>
-#include <time.h>
 #include <unordered_map>
-#include <unistd.h>
-#include <vector>
 
 using namespace OIIO;
+using namespace lists;
 
 namespace {
 
-constexpr int64_t ONE = 65536;                    // coordinates and LODs are in 1/65536
-constexpr uint64_t MAX_ROUND_TEXELS = 4194304;    // docs/REQUESTS.md, "Rounds"
-constexpr uint64_t MAX_REGION_TEXELS = 1048576;
-constexpr size_t PAGE = 65536;
-
-struct Options {
-  std::string folder;
-  int workers = 4;
-  double budget = 268435456;
-  int handles = 100;
-  int autotile = 64;
-  bool automip = true;
-};
-
-enum class Kind { Tex, Pixels, Info, Sync };
-enum class Filter { Closest, Bilinear, Trilinear };
-
-struct Request {
-  Kind kind = Kind::Sync;
-  Filter filter = Filter::Closest;
-  TextureOpt::Wrap swrap = TextureOpt::WrapBlack, twrap = TextureOpt::WrapBlack;
-  int channels = 0;
-  int64_t a = 0, b = 0, c = 0, d = 0, e = 0;  // S T LOD, or LEVEL X Y W H
-  std::string_view name;
-};
-
-// What a request is answered: a word, some numbers behind it, and values in the worker's store.
-struct Answer {
-  enum class Word { Tex, Pixels, Info, Sync, NoSuchFile, BadFile, NoLevel, TooLarge } word = Word::Sync;
-  int numbers[6] = {0, 0, 0, 0, 0, 0};
-  size_t first = 0, values = 0;
-};
-
-[[noreturn]] void stop(const std::string& why, int status) {
-  std::fprintf(stderr, "oiio_lists: %s\n", why.c_str());
-  std::exit(status);
-}
-
-Options options_of(int count, char** words) {
-  Options found;
-  for (int i = 1; i < count; ++i) {
-    std::string word = words[i];
-    if (word == "--no-automip") {
-      found.automip = false;
-    } else if (word.rfind("--", 0) == 0 && i + 1 < count) {
-      double value = std::atof(words[++i]);
-      if (word == "--workers") found.workers = int(value);
-      else if (word == "--budget") found.budget = value;
-      else if (word == "--handles") found.handles = int(value);
-      else if (word == "--autotile") found.autotile = int(value);
-      else stop("no such option: " + word, 2);
-    } else if (found.folder.empty()) {
-      found.folder = word;
-    } else {
-      stop("two folders", 2);
-    }
-  }
-  if (found.folder.empty()) stop("no folder", 2);
-  return found;
-}
-
-// ---- the list ----
-
-class Line {
- public:
-  explicit Line(std::string_view text) : rest(text) {}
-
-  std::string_view word() {
-    size_t end = rest.find(' ');
-    std::string_view found = rest.substr(0, end);
-    rest = end == std::string_view::npos ? std::string_view() : rest.substr(end + 1);
-    return found;
-  }
-  int64_t number() {
-    bool is_negative = !rest.empty() && rest[0] == '-';
-    size_t at = is_negative;
-    int64_t found = 0;
-    for (; at < rest.size() && rest[at] >= '0' && rest[at] <= '9'; ++at) found = 10 * found + (rest[at] - '0');
-    if (at == size_t(is_negative) || at > 11 || (at < rest.size() && rest[at] != ' ')) stop("bad list", 3);
-    rest.remove_prefix(std::min(at + 1, rest.size()));
-    return is_negative ? -found : found;
-  }
-  TextureOpt::Wrap wrap() {
-    std::string_view name = word();
-    if (name == "black") return TextureOpt::WrapBlack;
-    if (name == "clamp") return TextureOpt::WrapClamp;
-    if (name == "periodic") return TextureOpt::WrapPeriodic;
-    if (name == "mirror") return TextureOpt::WrapMirror;
-    stop("bad list", 3);
-  }
-  Filter filter() {
-    std::string_view name = word();
-    if (name == "closest") return Filter::Closest;
-    if (name == "bilinear") return Filter::Bilinear;
-    if (name == "trilinear") return Filter::Trilinear;
-    stop("bad list", 3);
-  }
-  std::string_view rest;
-};
-
-Request request_of(std::string_view text) {
-  Line line(text);
-  Request found;
-  std::string_view word = line.word();
-  if (word == "tex") {
-    found.kind = Kind::Tex;
-    found.a = line.number(), found.b = line.number(), found.c = line.number();
-    found.swrap = line.wrap(), found.twrap = line.wrap(), found.filter = line.filter();
-    found.channels = int(line.number());
-  } else if (word == "pixels") {
-    found.kind = Kind::Pixels;
-    found.a = line.number(), found.b = line.number(), found.c = line.number();
-    found.d = line.number(), found.e = line.number();
-  } else if (word == "info") {
-    found.kind = Kind::Info;
-  } else if (word != "sync") {
-    stop("bad list", 3);
-  }
-  found.name = line.rest;
-  return found;
-}
-
-std::string standard_input() {
-  std::string all;
-  char some[PAGE];
-  for (ssize_t got; (got = read(0, some, sizeof some)) > 0;) all.append(some, size_t(got));
-  return all;
-}
-
-std::vector<Request> requests_of(const std::string& list) {
-  std::vector<Request> found;
-  found.reserve(size_t(std::count(list.begin(), list.end(), '\n')) + 1);
-  std::string_view left = list;
-  while (!left.empty()) {
-    size_t end = left.find('\n');
-    std::string_view line = left.substr(0, end);
-    left = end == std::string_view::npos ? std::string_view() : left.substr(end + 1);
-    if (!line.empty() && line[0] != '#') found.push_back(request_of(line));
-  }
-  return found;
-}
-
-// ---- the answers ----
+constexpr int64_t ONE = 65536;  // coordinates and LODs are in 1/65536
 
 // A file that a worker has met: its handles, and the shorter side of its largest level.
 struct Met {
@@ -204,20 +41,15 @@ class Worker {
  public:
   explicit Worker(const Caches& caches) : caches(caches) {}
 
-  // Answers each `step`th request of a round from `first` on.
-  void answer_share(const std::vector<Request>& requests, size_t first, size_t end, size_t step) {
+  // Each round begins in a thread of its own.
+  void begin() {
     by_texture = caches.textures->get_perthread_info();
     by_image = caches.images->get_perthread_info();
-    answers.clear();
-    store.clear();
-    answers.reserve(first < end ? (end - first) / step + 1 : 0);
-    for (size_t i = first; i < end; i += step) answers.push_back(answer(requests[i]));
   }
 
   std::vector<Answer> answers;
   std::vector<uint16_t> store;
 
- private:
   Answer answer(const Request& request) {
     Answer found;
     if (request.kind == Kind::Sync) return found;
@@ -235,6 +67,7 @@ class Worker {
     return request.kind == Kind::Info ? facts(file) : region(request, file);
   }
 
+ private:
   const Met& met(std::string_view name) {
     auto place = files.find(name);
     if (place != files.end()) return place->second;
@@ -261,10 +94,19 @@ class Worker {
     return std::ldexp(0.999f, int(std::min<int64_t>((request.c + ONE / 2) / ONE, 30)));
   }
 
+  static TextureOpt::Wrap wrap_of(Wrap wrap) {
+    switch (wrap) {
+      case Wrap::Clamp: return TextureOpt::WrapClamp;
+      case Wrap::Periodic: return TextureOpt::WrapPeriodic;
+      case Wrap::Mirror: return TextureOpt::WrapMirror;
+      default: return TextureOpt::WrapBlack;
+    }
+  }
+
   Answer lookup(const Request& request, const Met& file) {
     bool is_trilinear = request.filter == Filter::Trilinear, is_closest = request.filter == Filter::Closest;
-    how.swrap = request.swrap;
-    how.twrap = request.twrap;
+    how.swrap = wrap_of(request.swrap);
+    how.twrap = wrap_of(request.twrap);
     how.mipmode = is_trilinear ? TextureOpt::MipModeTrilinear : TextureOpt::MipModeOneLevel;
     how.interpmode = is_closest ? TextureOpt::InterpClosest : TextureOpt::InterpBilinear;
     float out[8];
@@ -327,88 +169,6 @@ class Worker {
   std::unordered_map<std::string_view, Met> files;
 };
 
-// ---- the lines ----
-
-class Page {
- public:
-  void text(std::string_view some) {
-    std::memcpy(place, some.data(), some.size());
-    place += some.size();
-  }
-  void number(int64_t value) {
-    if (place > end) put();
-    *place++ = ' ';
-    place = std::to_chars(place, place + 24, value).ptr;
-  }
-  void end_line() {
-    *place++ = '\n';
-    if (place > end) put();
-  }
-  void put() {
-    for (const char* done = waiting; done < place;) {
-      ssize_t some = write(1, done, size_t(place - done));
-      if (some <= 0) stop("cannot write", 5);
-      done += some;
-    }
-    place = waiting;
-  }
-
- private:
-  // a word and a number have room behind the end
-  char waiting[PAGE + 256];
-  char* place = waiting;
-  char* end = waiting + PAGE;
-};
-
-bool is_refusal(const Answer& answer) { return answer.word > Answer::Word::Sync; }
-
-void write_line(Page& page, const Answer& answer, const std::vector<uint16_t>& store) {
-  using Word = Answer::Word;
-  switch (answer.word) {
-    case Word::Sync: page.text("sync"); break;
-    case Word::NoSuchFile: page.text("no such file"); break;
-    case Word::BadFile: page.text("bad file 1"); break;
-    case Word::TooLarge: page.text("region too large"); break;
-    case Word::NoLevel: page.text("no level 1"), page.number(answer.numbers[0]); break;
-    case Word::Tex: page.text("tex 1"); break;
-    case Word::Pixels: page.text("pixels 1"), page.number(answer.numbers[0]); break;
-    case Word::Info:
-      page.text("info 1");
-      for (int number : answer.numbers) page.number(number);
-      break;
-  }
-  for (size_t i = 0; i < answer.values; ++i) page.number(store[answer.first + i]);
-  page.end_line();
-}
-
-// Microseconds of a clock.
-double now(clockid_t clock) {
-  timespec time;
-  clock_gettime(clock, &time);
-  return double(time.tv_sec) * 1e6 + double(time.tv_nsec) / 1e3;
-}
-
-// What the calls of OpenImageIO take, round by round.
-struct Calls {
-  double cpu = 0, wall = 0;
-  void begin() { cpu -= now(CLOCK_PROCESS_CPUTIME_ID), wall -= now(CLOCK_MONOTONIC); }
-  void end() { cpu += now(CLOCK_PROCESS_CPUTIME_ID), wall += now(CLOCK_MONOTONIC); }
-};
-
-// Where the round ends that begins at `first`.
-size_t round_end(const std::vector<Request>& requests, size_t first) {
-  uint64_t texels = 0;
-  for (size_t i = first; i < requests.size(); ++i) {
-    if (requests[i].kind == Kind::Sync) return i + 1;
-    if (requests[i].kind != Kind::Pixels) continue;
-    uint64_t more = uint64_t(requests[i].d) * uint64_t(requests[i].e);
-    if (more > MAX_REGION_TEXELS) continue;
-    if (texels + more > MAX_ROUND_TEXELS) return i;
-    texels += more;
-  }
-  return requests.size();
-}
-
 }  // namespace
 
 int main(int count, char** words) {
@@ -422,34 +182,10 @@ int main(int count, char** words) {
   images->attribute("autotile", options.autotile);
   images->attribute("automip", options.automip ? 1 : 0);
   TextureSystem* textures = TextureSystem::create(false, images);
-  Caches caches{textures, images, options.folder};
 
-  std::vector<Worker> workers(size_t(options.workers), Worker(caches));
-  Page page;
-  Calls calls;
-  size_t refused = 0;
-  for (size_t first = 0; first < requests.size();) {
-    size_t end = round_end(requests, first);
-    std::vector<std::thread> threads;
-    calls.begin();
-    for (size_t i = 1; i < workers.size(); ++i)
-      threads.emplace_back([&, i] { workers[i].answer_share(requests, first + i, end, workers.size()); });
-    workers[0].answer_share(requests, first, end, workers.size());
-    for (std::thread& thread : threads) thread.join();
-    calls.end();
-    for (size_t i = first; i < end; ++i) {
-      const Worker& worker = workers[(i - first) % workers.size()];
-      const Answer& answer = worker.answers[(i - first) / workers.size()];
-      refused += is_refusal(answer);
-      write_line(page, answer, worker.store);
-    }
-    first = end;
-  }
-  page.text("total"), page.number(int64_t(requests.size()));
-  page.text(" refused"), page.number(int64_t(refused)), page.end_line();
-  page.put();
-  std::fprintf(stderr, "calls %.0f %.0f\n", calls.cpu, calls.wall);
+  std::vector<Worker> workers(size_t(options.workers), Worker(Caches{textures, images, options.folder}));
+  int status = answer_all(requests, workers);
   TextureSystem::destroy(textures, false);
   ImageCache::destroy(images);
-  return refused ? 1 : 0;
+  return status;
 }

@@ -1,7 +1,7 @@
-"""The rows of the benchmark: what each asks for, and of which files.
+"""The rows of the benchmark: what each asks for, and from which files.
 
-A row has two lists. What it costs is the difference of the two, divided by the difference of what they
-ask for: so neither start-up nor the first reading of what the short list reads as well is in it.
+A row has two lists. Its figure is the difference of the two, divided by the number of items that the long one has more.
+So neither start-up nor what the short list reads too is in it.
 """
 
 import random
@@ -25,7 +25,7 @@ FILTERS = ("closest", "bilinear", "trilinear")
 
 
 def at(texel, side, shift=18):
-    """The coordinate of a place in a texel, `shift` of 64 parts behind its middle."""
+    """The coordinate of a place in a texel, `shift` 64ths behind its middle."""
     return ((2 * texel + 1) * 64 + 2 * shift) * ONE // (128 * side)
 
 
@@ -34,7 +34,7 @@ def tex(s, t, lod, wraps, kind, channels, name):
 
 
 def scan(kind, lod, passes, rows=48, wide=SIDE):
-    """Each texel of some rows of the tiled picture, from left to right, so many times over."""
+    """Each texel of some rows of the tiled picture, from left to right, in several passes."""
     one = [tex(at(x, SIDE), at(5 + y * (SIDE // rows), SIDE), lod, ("clamp", "clamp"), kind, 3, "t.tif")
            for y in range(rows) for x in range(wide)]
     return one * passes
@@ -60,11 +60,26 @@ def anywhere(passes, many=49152):
     return one * passes
 
 
-def cold(files):
-    """One lookup in each tile of so many files, tile by tile."""
+def files_in_turn(passes, many=49152):
+    """Four files in turn, within one tile of each."""
+    middle = range(MANY_TILE // 4, MANY_TILE // 2)
+    one = [tex(at(middle[i // 4 % 16], MANY_SIDE), at(middle[i // 64 % 16], MANY_SIDE), 0, ("clamp", "clamp"), "bilinear",
+               3, MANY[i % 4]) for i in range(many)]
+    return one * passes
+
+
+def cold_scan(files):
+    """One lookup in each tile of the first files, tile by tile."""
     middles = range(MANY_TILE // 2, MANY_SIDE, MANY_TILE)
     return [tex(at(x, MANY_SIDE, 0), at(y, MANY_SIDE, 0), 0, ("clamp", "clamp"), "closest", 3, name)
             for name in MANY[:files] for y in middles for x in middles]
+
+
+def cold(many):
+    """One lookup in each of the tiles of all files, in random order."""
+    all_of = cold_scan(len(MANY))
+    random.Random(5).shuffle(all_of)
+    return all_of[:many]
 
 
 def far_over_budget(many):
@@ -119,9 +134,8 @@ def wide_scan(rows):
 
 
 class Row(NamedTuple):
-    """What a row asks for. A unit is what its figure is of, and `units` how many more of them the long
-    list has than the short one; where there is no short list, all that the program takes is the figure.
-    """
+    """What a row asks for. `units` is how many items (lookups, tiles, files) the long list has more than the short one.
+    Without a short list, all that a program takes is the figure."""
 
     name: str
     title: str
@@ -132,31 +146,18 @@ class Row(NamedTuple):
     units: int
     options: tuple = ()
     workers: tuple = (1, 4)
-    # the lists of the count of instructions, where they are counted, and their difference
-    few: list = None
-    more: list = None
-    more_units: int = 0
 
     def lists(self):
-        found = [("short", self.short), ("long", self.long), ("few", self.few), ("more", self.more)]
-        return [(kind, lines) for kind, lines in found if lines is not None]
-
-
-def repeated(name, title, unit, make, **others):
-    """A row whose list is one pass, and so many passes."""
-    short, long, few, more = make(1, False), make(6, False), make(1, True), make(12, True)
-    return Row(name, title, unit, "main", short, long, len(long) - len(short),
-               few=few, more=more, more_units=len(more) - len(few), **others)
-
-
-def scan_row(kind, lod):
-    def make(passes, is_small):
-        return scan(kind, lod, passes, 4, 512) if is_small else scan(kind, lod, passes)
-    return repeated(kind, f"warm, in scan order: {kind}", "lookup", make)
+        return [(kind, lines) for kind, lines in (("short", self.short), ("long", self.long)) if lines is not None]
 
 
 def grown(name, title, unit, folder, short, long, **others):
     return Row(name, title, unit, folder, short, long, len(long) - len(short), **others)
+
+
+def repeated(name, title, unit, folder, make):
+    """A row whose lists are one pass, and six."""
+    return grown(name, title, unit, folder, make(1), make(6))
 
 
 BUDGET = ("--budget", str(64 * 2 ** 20))
@@ -164,33 +165,30 @@ STRIPS = ("--autotile", "64")
 
 
 def all_rows():
-    yield scan_row("closest", 0)
-    yield scan_row("bilinear", 0)
-    yield scan_row("trilinear", ONE // 2)
-    yield repeated("quarters", "four quarters in turn: bilinear", "lookup",
-                   lambda passes, is_small: quarters(passes, 2048 if is_small else 49152))
-    yield repeated("random", "at random: all wraps, filters, levels", "lookup",
-                   lambda passes, is_small: anywhere(passes, 2048 if is_small else 40960))
-    few = {"few": cold(1)[:200], "more": cold(1)[:1000], "more_units": 800}
-    yield grown("cold", "cold: one lookup in each tile", "tile", "many", cold(1), cold(12), **few)
+    for kind, lod in (("closest", 0), ("bilinear", 0), ("trilinear", ONE // 2)):
+        yield repeated(kind, f"warm, in scan order: {kind}", "lookup", "main",
+                       lambda passes, kind=kind, lod=lod: scan(kind, lod, passes))
+    yield repeated("quarters", "four quarters in turn: bilinear", "lookup", "main", quarters)
+    yield repeated("files", "four files in turn: bilinear", "lookup", "many", files_in_turn)
+    yield repeated("random", "at random: all wraps, filters, levels", "lookup", "main", anywhere)
+    yield grown("cold", "cold tiles at random, budget 64 MB", "tile", "many", cold(8000), cold(72000), options=BUDGET)
     yield grown("budget", "64 files of 1 GB, budget 64 MB, at random", "lookup", "many",
-                far_over_budget(8000), far_over_budget(24000), options=BUDGET,
-                few=far_over_budget(400), more=far_over_budget(1200), more_units=800)
-    yield grown("regions", "regions of 256 by 256", "region", "main", regions(1), regions(8))
+                far_over_budget(8000), far_over_budget(24000), options=BUDGET)
+    yield grown("cold_scan", "cold tiles in scan order", "tile", "many", cold_scan(1), cold_scan(12))
+    yield grown("regions", "regions of 256 by 256, warm", "region", "main", regions(1), regions(8))
     info = [f"info {name}" for name in SMALL]
     middle = at(SMALL_SIDE // 2, SMALL_SIDE, 0)
     look = [tex(middle, middle, 0, ("clamp", "clamp"), "closest", 3, name) for name in SMALL]
-    yield grown("info", "opening 4,000 files: the size", "file", "small", info[:1000], info,
-                few=info[:200], more=info[:1000], more_units=800)
-    yield grown("open", "opening 4,000 files: one lookup", "file", "small", look[:1000], look,
-                few=look[:200], more=look[:1000], more_units=800)
-    levels = [f"info {name}" for name in LEVELS]
-    yield grown("levels", "opening 400 files of nine levels: the size", "file", "levels", levels[:100], levels)
+    yield grown("info", "opening 4,000 files: the size", "file", "small", info[:1000], info)
+    yield grown("open", "opening 4,000 files: one lookup", "file", "small", look[:1000], look)
+    middle = at(LEVELS_SIDE // 2, LEVELS_SIDE, 0)
+    levels = [tex(middle, middle, 0, ("clamp", "clamp"), "closest", 3, name) for name in LEVELS]
+    yield grown("levels", "opening 400 files of nine levels: one lookup", "file", "levels", levels[:100], levels)
     yield grown("strips", "stripped 8192 by 8192, in scan order", "lookup", "main",
                 stripped_scan(1024), stripped_scan(8192), options=STRIPS)
     yield grown("strips_random", "stripped 8192 by 8192, at random", "lookup", "main",
                 stripped_anywhere(100), stripped_anywhere(6000), options=STRIPS)
-    yield grown("strips_budget", "the same, budget 64 MB", "lookup", "main",
+    yield grown("strips_budget", "stripped 8192 by 8192, at random, budget 64 MB", "lookup", "main",
                 stripped_anywhere(100), stripped_anywhere(1100), options=(*STRIPS, *BUDGET))
     yield grown("turn", "eight stripped files of 2048 by 2048 in turn", "cell", "turn",
                 in_turn(256), in_turn(2048), options=STRIPS)

@@ -1,17 +1,15 @@
 #!/usr/bin/env python3
-"""Runs the benchmark: texcache beside OpenImageIO on the same lists.
+"""Measures texcache beside OpenImageIO on the same lists of requests: the program, and the C library.
 
-    python3 run.py [--program FILE] [--folder FOLDER] [--passes N] [--rows NAME,..] [--only WHAT]
-                   [--leave-out ONE] [--add]
+It makes files and lists (make_files.py), builds the two programs that answer lists through the C library
+(texcache_lists.cpp) and through OpenImageIO (oiio_lists.cpp), runs all three in turn and keeps the least of the passes.
+Each row has a short and a long list; its figure is the difference of the two, for each item that the long one has more,
+so start-up is in none. OpenImageIO's calls and those of the C library are taken by their programs' own clock, without
+parsing and printing; the program texcache and OpenImageIO's program are taken as a whole.
 
-It makes the pictures and the lists (make_files.py), builds what answers the lists through OpenImageIO
-(oiio_lists.cpp), runs both in turn, keeps the least of the passes, and writes figures.json, from which
-draw.py makes table.md and docs/pictures/benchmark.svg. OpenImageIO's calls are timed by its program's own
-clock too, so that its parsing of a list is no part of a ratio. Where OpenImageIO is not installed (Debian's
-libopenimageio-dev) its column is left out. Instructions are counted where valgrind is installed, which
-takes minutes. Without --folder all files are made in a temporary folder and deleted at the end.
+It prints the tables of docs/BENCHMARK.md. With --write it also writes figures.json, that page and its plot, but only if
+all rows were measured, of a commit without changes, and the load was never above 2 per processor.
 """
-
 import argparse
 import json
 import os
@@ -30,182 +28,170 @@ from rows import ROWS
 
 HERE = Path(__file__).resolve().parent
 TOP = HERE.parent
-BUILT = TOP / "crates" / "texcache" / "out" / "texcache"
-LOOKUP = {"texcache": "", "oiio": "*lookup_alone*"}
+PROGRAM = TOP / "crates" / "texcache" / "out" / "texcache"
+LIBRARY = TOP / "crates" / "tex_c" / "out" / "libtex_c.a"
+MOST_LOAD = 2  # per processor
+NAMES = ("program", "c", "oiio")
 
 
 def say(text):
-    print(text, file=sys.stderr, flush=True)
+    print(f"run.py: {text}", file=sys.stderr, flush=True)
 
 
 def arguments():
-    read = argparse.ArgumentParser(description=__doc__, formatter_class=argparse.RawDescriptionHelpFormatter)
-    read.add_argument("--program", type=Path, default=BUILT, help="the built program; ./build leaves it there")
-    read.add_argument("--folder", type=Path, help="where the files are made, and stay")
-    read.add_argument("--passes", type=int, default=5)
-    read.add_argument("--rows", default=",".join(ROWS), help="some of the rows: " + ", ".join(ROWS))
-    read.add_argument("--only", choices=("times", "instructions"))
-    read.add_argument("--leave-out", choices=("texcache", "oiio"))
-    read.add_argument("--add", action="store_true", help="keep what figures.json has and this run does not measure")
-    return read.parse_args()
+    parser = argparse.ArgumentParser(description=__doc__, formatter_class=argparse.RawDescriptionHelpFormatter)
+    parser.add_argument("--program", type=Path, default=PROGRAM, help="the program; ./build makes it")
+    parser.add_argument("--library", type=Path, default=LIBRARY, help="the C library; ./build tex_c makes it")
+    parser.add_argument("--folder", type=Path, help="where the files are made, and stay; else they are deleted at the end")
+    parser.add_argument("--passes", type=int, default=5, help="how often each list is run; 5 by default")
+    parser.add_argument("--rows", default=",".join(ROWS), help="some of the rows: " + ", ".join(ROWS))
+    parser.add_argument("--write", action="store_true", help="write bench/figures.json, docs/BENCHMARK.md and its plot")
+    asked = parser.parse_args()
+    unknown = [it for it in asked.rows.split(",") if it not in ROWS]
+    if unknown:
+        parser.error(f"no row is called {unknown[0]}; there are {', '.join(ROWS)}")
+    return asked
+
+
+def told(words):
+    return subprocess.run([str(it) for it in words], stdout=subprocess.PIPE, check=True, text=True).stdout.strip()
 
 
 def build(folder, asked):
-    """The programs that are there, by their names, and what measures them."""
-    def compiled(words):
-        subprocess.run(words, cwd=HERE, check=True)
+    """The programs, by their names, and what measures them; a missing part ends the run."""
+    for file, makes in ((asked.program, "./build"), (asked.library, "./build tex_c")):
+        if not file.is_file():
+            sys.exit(f"run.py: {file} does not exist; {makes} makes it")
+    if subprocess.run(["pkg-config", "--exists", "OpenImageIO"], check=False).returncode:
+        sys.exit("run.py: OpenImageIO is not installed: apt-get install libopenimageio-dev")
+    heap = Path(told(["rt", "doc"])).parent / "c" / "liblibc_c.a"
+    flags = ["g++", "-std=c++17", "-O2", "-I", TOP / "include"]
+    subprocess.run(["cc", "-O2", "-o", folder / "measure", HERE / "measure.c"], check=True)
+    subprocess.run([*flags, "-o", folder / "c", HERE / "texcache_lists.cpp", asked.library.resolve(), heap, "-lm",
+                    "-lpthread"], check=True)
+    found = told(["pkg-config", "--cflags", "--libs", "OpenImageIO"]).split()
+    subprocess.run([*flags, "-o", folder / "oiio", HERE / "oiio_lists.cpp", "-lpthread", *found], check=True)
+    return {"program": asked.program.resolve(), "c": folder / "c", "oiio": folder / "oiio"}
 
-    compiled(["cc", "-O2", "-o", str(folder / "measure"), "measure.c"])
-    programs = {}
-    if asked.program.is_file():
-        programs["texcache"] = asked.program.resolve()
-    else:
-        say(f"run.py: {asked.program} is not there; ./build makes it. Its column is left out")
-    found = subprocess.run(["pkg-config", "--cflags", "--libs", "OpenImageIO"], capture_output=True, text=True,
-                           check=False)
-    if found.returncode == 0:
-        programs["oiio"] = folder / "oiio_lists"
-        compiled(["g++", "-std=c++17", "-O2", "-o", str(programs["oiio"]), "oiio_lists.cpp", "-lpthread",
-                  *found.stdout.split()])
-    else:
-        say("run.py: OpenImageIO is not installed (libopenimageio-dev). Its column is left out")
-    programs.pop(asked.leave_out, None)
-    return programs
+
+class Load:
+    """The least and the most load that was seen."""
+
+    def __init__(self):
+        self.seen = []
+        self.look()
+
+    def look(self):
+        self.seen.append(os.getloadavg()[0])
+        return self.seen[-1]
+
+    def is_too_high(self):
+        return max(self.seen) > MOST_LOAD * os.cpu_count()
+
+    def __str__(self):
+        return f"load {min(self.seen):.1f} to {max(self.seen):.1f}"
 
 
 class Bench:
-    """The programs, the folder of pictures and lists, and how to run the first on the second."""
+    """The programs, the folder with files and lists, and how to run the first on the second."""
 
     def __init__(self, folder, programs):
         self.folder, self.programs = folder, programs
-
-    def words(self, name, row, workers):
-        return [str(self.programs[name]), str(self.folder / row.folder), "--workers", str(workers), *row.options]
 
     def list(self, row, kind):
         return self.folder / "lists" / f"{row.name}.{kind}"
 
     def took(self, name, row, kind, workers, lines="/dev/null"):
-        """Processor time and wall time in microseconds, and the peak memory in KiB, of one run, and the two
-        times of the calls alone by the program's own clock, where it says them; none where it did not come to
-        its end in a minute."""
-        done = subprocess.run([str(self.folder / "measure"), str(self.list(row, kind)), str(lines),
-                               *self.words(name, row, workers)], capture_output=True, text=True, check=False)
+        """One run: processor time, wall time (microseconds), peak memory (KiB), and the two times of the calls if the
+        program says them. None if it did not end within a minute."""
+        words = [self.programs[name], self.folder / row.folder, "--workers", str(workers), *row.options]
+        done = subprocess.run([self.folder / "measure", self.list(row, kind), lines, *words], capture_output=True,
+                              text=True, check=False)
         numbers = done.stdout.split()
         if len(numbers) == 4 and int(numbers[3]) == 128 + signal.SIGKILL:
-            say(f"run.py: {name} was ended at {row.name}.{kind}, {workers} workers")
+            say(f"{name} did not end at {row.name}.{kind} with {workers} workers")
             return None
         if len(numbers) != 4 or numbers[3] != "0":
             sys.exit(f"run.py: {name} failed at {row.name}.{kind}: {done.stdout} {done.stderr}")
         calls = re.search(r"^calls (\d+) (\d+)$", done.stderr, re.M)
-        return tuple(map(int, [*numbers[:3], *(calls.groups() if calls else ())]))
+        return tuple(map(int, [*numbers[:3], *(calls.groups() if calls else (0, 0))]))
 
     def times(self, row, workers, passes):
-        """For each program and list the least of the passes, the programs in turn."""
+        """The figures of a row: the least of the passes, with the programs in turn; and the peak memory in MB."""
         kinds = [kind for kind in ("short", "long") if self.list(row, kind).exists()]
-        all_of = {(name, kind): [] for name in self.programs for kind in kinds}
+        runs = {(name, kind): [] for name in NAMES for kind in kinds}
         for _ in range(passes):
             for kind in kinds:
-                for name in self.programs:
-                    all_of[name, kind].append(self.took(name, row, kind, workers))
-        all_of = {key: [it for it in several if it] for key, several in all_of.items()}
-        found = {}
-        for name in self.programs:
-            if not all(all_of[name, kind] for kind in kinds):
-                continue
-            least = {kind: [min(one) for one in zip(*all_of[name, kind])] for kind in kinds}
-            long, short = least["long"], least.get("short", [0] * 5)
-            words = ("cpu", "wall", "memory", "calls_cpu", "calls_wall")
-            found[name] = {word: (a - b) / row.units for word, a, b in zip(words, long, short)}
-            found[name]["memory"] = long[2]
-        return found
+                for name in NAMES:
+                    runs[name, kind].append(self.took(name, row, kind, workers))
+        least = {key: [min(one) for one in zip(*[it for it in several if it])] for key, several in runs.items()}
+        whole, calls = (0, 3) if workers == 1 else (1, 4)  # processor time of one worker, wall time of several
+        figures = {}
+        for key, name, place in (("program", "program", whole), ("oiio_text", "oiio", whole), ("c", "c", calls),
+                                 ("oiio", "oiio", calls)):
+            long, short = least[name, "long"], least.get((name, "short"), [0] * 5)
+            if long and short and (long[place] or place == whole):
+                figures[key] = round((long[place] - short[place]) / row.units, 4)
+        memory = {name: round(least[name, "long"][2] / 1024) for name in ("program", "oiio") if least[name, "long"]}
+        return figures, memory
 
-    def counted(self, name, row, kind, only=""):
-        """The instructions of one run with one worker, or those below the functions of a name."""
-        out = self.folder / "callgrind.out"
-        words = ["valgrind", "--tool=callgrind", f"--callgrind-out-file={out}"]
-        words += [f"--toggle-collect={only}"] if only else []
-        with open(self.list(row, kind), "rb") as lines:
-            subprocess.run([*words, *self.words(name, row, 1)], stdin=lines, stdout=subprocess.DEVNULL,
-                           stderr=subprocess.DEVNULL, check=False)
-        return int(re.search(r"^(?:summary|totals): (\d+)", out.read_text(encoding="utf-8"), re.M)[1])
-
-    def instructions(self, row, lookup):
-        """For each program the instructions of a unit, and where they can be told those of the call alone."""
-        found = {}
-        for name in self.programs:
-            def one(only="", name=name):
-                more, few = (self.counted(name, row, kind, only) for kind in ("more", "few"))
-                return (more - few) / row.more_units
-            found[name] = {"all": one()}
-            if lookup and LOOKUP[name]:
-                found[name]["call"] = one(LOOKUP[name])
-        return found
-
-    def agreement(self, row):
-        """How many lines of the long list differ between the programs, of how many, and by how much."""
+    def differing(self, row):
+        """How many lines of the long list differ from the program's, and by how much at most, for the other two."""
         lines = {}
-        for name in self.programs:
+        for name in NAMES:
             self.took(name, row, "long", 1, self.folder / "lines")
             text = (self.folder / "lines").read_text(encoding="utf-8")
-            lines[name] = [line.split() for line in text.splitlines() if line.startswith(("tex ", "pixels "))]
-        by = [max(abs(int(a) - int(b)) for a, b in zip(one[2:], other[2:]))
-              for one, other in zip(*lines.values(), strict=True)]
-        return {"lines": len(by), "differ": sum(it > 0 for it in by), "by_one": sum(it == 1 for it in by),
-                "most": max(by, default=0)}
-
-
-def machine():
-    """The processor, how many there are, the system and the load."""
-    model = re.search(r"model name\s*: (.*)", Path("/proc/cpuinfo").read_text(encoding="utf-8"))
-    return {"processor": model[1] if model else platform.processor(), "processors": os.cpu_count(),
-            "system": platform.platform(), "load": os.getloadavg()}
-
-
-def version():
-    found = subprocess.run(["pkg-config", "--modversion", "OpenImageIO"], capture_output=True, text=True, check=False)
-    return found.stdout.strip()
+            lines[name] = [it.split()[2:] for it in text.splitlines() if it.startswith(("tex ", "pixels "))]
+        for name in ("c", "oiio"):
+            by = [max(abs(int(a) - int(b)) for a, b in zip(*both)) for both in zip(lines["program"], lines[name], strict=True)]
+            yield f"{name}: {sum(it > 0 for it in by)} of {len(by)} lines differ, by {max(by, default=0)} at most"
 
 
 def measure(bench, asked):
-    """The figures, beside those that figures.json had where they are to be kept."""
-    file = HERE / "figures.json"
-    figures = json.loads(file.read_text(encoding="utf-8")) if asked.add and file.exists() else {"rows": {}}
-    with_times, with_counts = asked.only != "instructions", asked.only != "times" and shutil.which("valgrind")
-    if with_times:
-        figures |= {"machine": machine(), "oiio": version(), "passes": asked.passes}
+    """The figures, and the load that was seen."""
+    load, rows = Load(), []
     for row in (ROWS[name] for name in asked.rows.split(",")):
-        say(f"run.py: {row.title}, load {os.getloadavg()[0]:.1f}")
-        one = figures["rows"].setdefault(row.name, {"times": {}, "instructions": {}})
-        if with_times:
-            for workers in row.workers:
-                one["times"].setdefault(str(workers), {}).update(bench.times(row, workers, asked.passes))
-            one["load"] = os.getloadavg()[0]
-            if len(bench.programs) == 2 and row.long:
-                one["agreement"] = bench.agreement(row)
-        if with_counts and row.few:
-            one["instructions"].update(bench.instructions(row, row.unit == "lookup"))
-        file.write_text(json.dumps(figures, indent=1) + "\n", encoding="utf-8")
-    if with_times:
-        figures["machine"]["load_after"] = os.getloadavg()
-    return figures
+        say(f"{row.title}, load {load.look():.1f}")
+        found = {workers: bench.times(row, workers, asked.passes) for workers in row.workers}
+        rows.append({"name": row.name, "title": row.title, "unit": row.unit,
+                     "times": {str(workers): figures for workers, (figures, _) in found.items()},
+                     "memory": found[1][1]})
+        if row.long:
+            say("; ".join(bench.differing(row)))
+    load.look()
+    model = re.search(r"model name\s*: (.*)", Path("/proc/cpuinfo").read_text(encoding="utf-8"))
+    figures = {"commit": told(["git", "-C", TOP, "describe", "--always", "--dirty", "--exclude", "*"]),
+               "oiio": told(["pkg-config", "--modversion", "OpenImageIO"]),
+               "processor": model[1] if model else platform.processor(), "processors": os.cpu_count(),
+               "load": str(load), "passes": asked.passes, "rows": rows}
+    return figures, load
 
 
 def main():
     asked = arguments()
-    folder = asked.folder or Path(tempfile.mkdtemp(prefix="texcache_bench_"))
+    folder = (asked.folder or Path(tempfile.mkdtemp(prefix="texcache_bench_"))).resolve()
     try:
-        say(f"run.py: the files are made in {folder}")
+        folder.mkdir(parents=True, exist_ok=True)
+        programs = build(folder, asked)
+        say(f"the files are made in {folder}")
         make(folder, [ROWS[name] for name in asked.rows.split(",")])
-        figures = measure(Bench(folder, build(folder, asked)), asked)
+        figures, load = measure(Bench(folder, programs), asked)
     finally:
         if not asked.folder:
             shutil.rmtree(folder)
-    (HERE / "figures.json").write_text(json.dumps(figures, indent=1) + "\n", encoding="utf-8")
+    print(draw.tables(figures))
+    if not asked.write:
+        return 0
+    if load.is_too_high():
+        say(f"{load} is above {MOST_LOAD} per processor: nothing is written")
+        return 1
+    if asked.rows != ",".join(ROWS) or figures["commit"].endswith("-dirty"):
+        say("not all rows were measured, or sources were changed since the last commit: nothing is written")
+        return 1
+    draw.FIGURES.write_text(json.dumps(figures, indent=1) + "\n", encoding="utf-8")
     draw.write(figures)
-    if "machine" in figures:
-        print(draw.tables(figures))
+    return 0
 
 
 if __name__ == "__main__":
-    main()
+    sys.exit(main())

@@ -1,7 +1,7 @@
 /* texcache.h: textures of a folder of TIFF files, for programs in C and C++.
  *
- * Header only, beside the static library libtex_c.a, which is proved and has no input or output: it
- * says which bytes it lacks, and this header reads and supplies them. Build and link: docs/EMBEDDING.md.
+ * It needs the static library libtex_c.a, which is proved and does no input or output: the library says which
+ * bytes it lacks, and this header reads and supplies them. How to build and link: docs/EMBEDDING.md.
  *
  *     texcache *cache;
  *     texcache_pass *pass = NULL;
@@ -17,18 +17,20 @@
  *     texcache_end(&pass);
  *     texcache_close(&cache);
  *
- * Names and meanings are OpenImageIO's where they mean the same; docs/FILTERING.md says what differs.
+ * Names are OpenImageIO's if they mean the same; docs/FILTERING.md says what differs.
  *
- * What a caller must see to, since nothing here can test it:
- * - A pass serves one thread at a time. Two calls in one pass at once are refused (TEXCACHE_IN_USE);
- *   but a pass that has ended, and a cache that was closed, must not be used through another copy of
- *   their pointers. texcache_end and texcache_close set the pointer that they are given to NULL, and
- *   every call refuses NULL (TEXCACHE_CLOSED).
- * - Buffers have the sizes that are given for them.
- * - No call from a signal handler, and none in the forked child of a process with threads.
+ * What you must see to, because nothing here can test it:
+ * - A pass serves one thread at a time. Two calls at once in one pass are refused (TEXCACHE_IN_USE).
+ * - Do not use an ended pass or a closed cache through a copy of its pointer. texcache_end and texcache_close
+ *   set your pointer to NULL, and every call refuses NULL (TEXCACHE_CLOSED).
+ * - Buffers have the sizes that you say.
+ * - Call nothing from a signal handler, or in the forked child of a process with threads.
  */
 #ifndef TEXCACHE_H
 #define TEXCACHE_H
+
+/* The version of texcache, as in the file VERSION. */
+#define TEXCACHE_VERSION "1.0.0-rc1"
 
 #ifndef _GNU_SOURCE
 #define _GNU_SOURCE
@@ -56,18 +58,18 @@
 extern "C" {
 #endif
 
-/* ---- refusals */
+/* ---- errors */
 
-/* Why a call is refused. 0 to 25 are the library's numbers, those from 40 on this header's. */
+/* Why a call fails. 0 to 25 are the library's numbers, those from 40 on this header's. */
 enum texcache_status {
     TEXCACHE_OK = 0,
-    TEXCACHE_NEEDED = 1,            /* bytes are lacking; no call of this header answers it */
+    TEXCACHE_NEEDED = 1,            /* the library lacks bytes; no texcache_ call answers this */
     TEXCACHE_BAD_OPTIONS = 2,       /* detail: 1 budget, 2 shards, 3 passes, 4 handles, 5 autotile, 6 slots */
     TEXCACHE_NO_FILE = 3,           /* no file has this number */
-    TEXCACHE_BAD_REQUEST = 4,       /* a wrap, a filter, the channels or a derivative is out of range */
+    TEXCACHE_BAD_REQUEST = 4,       /* a number of the request is out of range */
     TEXCACHE_SMALL_BUFFER = 5,      /* value: how many values there are */
-    TEXCACHE_NO_PERMIT = 6,         /* there are as many passes as the cache was made for */
-    TEXCACHE_NOT_LOCAL = 7,         /* the microcache has not all that the lookup needs */
+    TEXCACHE_NO_PERMIT = 6,         /* the cache has as many passes as it may have */
+    TEXCACHE_NOT_LOCAL = 7,         /* the pass's two latest tiles do not have all texels of the lookup */
     TEXCACHE_NOTHING_HELD = 8,      /* no tile is held at that place */
     TEXCACHE_NO_PART = 9,           /* there is no such shard or row */
     TEXCACHE_BAD_FILE = 10,         /* detail: the fault, 1 to 12 (docs/FORMAT.md, "Faults") */
@@ -76,65 +78,66 @@ enum texcache_status {
     TEXCACHE_OUTSIDE = 13,          /* the texel is not in the level */
     TEXCACHE_REGION_TOO_LARGE = 14, /* more than 1048576 texels */
     TEXCACHE_HOLDS_FULL = 15,       /* the pass holds four tiles */
-    TEXCACHE_AGAIN = 16,            /* the file was replaced again and again while it was read */
-    TEXCACHE_READ_FAULT = 17,       /* the file is gone, or was not read */
+    TEXCACHE_AGAIN = 16,            /* the file was replaced each time it was read, 64 times */
+    TEXCACHE_READ_FAULT = 17,       /* the file is gone, cannot be read, or was replaced twice within a call */
     TEXCACHE_NO_MEMORY = 18,
-    TEXCACHE_BUSY = 19,             /* other threads kept a shard for too long */
-    TEXCACHE_NOT_NEEDED = 20,       /* 20 to 25: a supply that is not what was lacking */
+    TEXCACHE_BUSY = 19,             /* other threads used a part of the cache for too long */
+    TEXCACHE_NOT_NEEDED = 20,       /* 20 to 25: a supply that does not match what is lacking */
     TEXCACHE_OTHER_PLACE = 21,
     TEXCACHE_OLDER = 22,
     TEXCACHE_OTHER_GENERATION = 23,
     TEXCACHE_SHORT = 24,
     TEXCACHE_LONG = 25,
-    TEXCACHE_NO_FOLDER = 40,        /* the folder is not opened or not read */
+    TEXCACHE_NO_FOLDER = 40,        /* the folder cannot be opened or read */
     TEXCACHE_TOO_MANY_FILES = 41,   /* more than 4096 plain files */
     TEXCACHE_NO_NAME = 42,          /* the folder had no plain file of this name */
     TEXCACHE_IN_USE = 43,           /* another call runs in this pass */
-    TEXCACHE_CLOSED = 44,           /* a pass, a cache or a place for the answer that is NULL */
+    TEXCACHE_CLOSED = 44,           /* an argument is NULL: a pass, a cache, a place for the result */
     TEXCACHE_PASSES_LEFT = 45       /* a pass of the cache has not ended */
 };
 
-/* The name of a refusal. */
+/* The name of an error. */
 TEXCACHE_API const char *texcache_error_string(int status)
 {
     static const char *const low[] = {
-        "ok", "needed", "bad options", "no such file", "bad request", "buffer too small", "no permit",
-        "not local", "nothing held", "no such part", "bad file", "tile too large", "no level", "outside",
-        "region too large", "holds full", "again", "read fault", "no memory", "busy", "not needed",
-        "other place", "older", "other generation", "short", "long"};
-    static const char *const high[] = {"no folder", "too many files", "no such name", "pass in use",
-                                       "closed", "passes left"};
+        "ok", "bytes are needed", "an option is out of range", "no such file", "a number is out of range",
+        "buffer too small", "too many passes", "not in the two latest tiles", "nothing held", "no such shard or row",
+        "bad file", "tile too large", "no level", "outside", "region too large", "holds full", "again", "read fault",
+        "no memory", "busy", "supply not needed", "supply for another place", "supply of an older version",
+        "supply of another version", "supply too short", "supply too long"};
+    static const char *const high[] = {"folder cannot be read", "too many files", "no such name", "pass in use",
+                                       "a NULL argument", "a pass has not ended"};
     if (status >= 0 && status < (int)(sizeof low / sizeof *low)) return low[status];
     if (status >= 40 && status - 40 < (int)(sizeof high / sizeof *high)) return high[status - 40];
     return "unknown";
 }
 
-/* ---- what crosses to the library */
+/* ---- what is passed to the library */
 
-/* What a cache is made with. */
+/* The options of a cache. */
 typedef struct texcache_options {
     uint64_t budget;    /* the bytes that unpinned tiles may take, 0 to 4294967296 */
     uint32_t shards;    /* 1 to 64 */
-    uint32_t passes;    /* the passes that there may be at once, 1 to 16; the cache keeps one for itself */
-    uint32_t handles;   /* the files that may lie open, 1 to 1024 */
+    uint32_t passes;    /* passes at once, 1 to 16; the cache keeps one for itself */
+    uint32_t handles;   /* idle files that stay open, 1 to 1024 */
     uint32_t autotile;  /* the side of the cells of a stripped level: 0, or a multiple of 16 up to 4096 */
-    uint32_t slots;     /* for parts of rows that find no memory as tiles, 0 to 65536; some 1,100 bytes each */
-    bool automip;       /* a file that stores one level has those down to 1 by 1 */
+    uint32_t slots;     /* rows kept when a tile finds no memory, 0 to 65536; some 1,100 bytes each */
+    bool automip;       /* generate the other levels of a file that stores one */
 } texcache_options;
 
-/* What belongs to an answer or a refusal. What it does not fill is 0. */
+/* What belongs to a result or an error. Other fields are 0. */
 typedef struct texcache_answer {
-    uint32_t generation;   /* the version of the file that is answered, or that the refusal is of */
-    uint32_t newer;        /* AGAIN: the version that was met */
+    uint32_t generation;   /* the version of the file */
+    uint32_t newer;        /* AGAIN: the newer version */
     uint32_t detail;
-    uint32_t part;         /* BAD_FILE: the tag or the level that the fault is of */
-    uint64_t value;        /* BAD_FILE: the value or the index; get_pixels: how many values there are */
+    uint32_t part;         /* BAD_FILE: a tag or a level */
+    uint64_t value;        /* BAD_FILE: a value or an index; get_pixels: the number of values */
     uint32_t channels;     /* get_pixels: the values of each texel */
     uint32_t need;         /* 0 nothing, 1 a look at a file, 2 bytes of it, 3 rows of it */
     uint32_t need_file;
     uint32_t need_generation;
     uint64_t need_at, need_least, need_most;
-    uint64_t need_stride, need_row;  /* rows: each begins so many bytes behind the one before, and has so many */
+    uint64_t need_stride, need_row;  /* rows: the distance from one to the next, and the bytes of one */
 } texcache_answer;
 
 enum texcache_wrap { TEXCACHE_BLACK, TEXCACHE_CLAMP, TEXCACHE_PERIODIC, TEXCACHE_MIRROR };
@@ -157,7 +160,7 @@ typedef struct texcache_info {
     uint32_t width, height, channels, depth, stored, levels;
 } texcache_info;
 
-/* A region of a level; it may lie beside the level, where all is 0. */
+/* A region of a level. Outside the level values are 0. */
 typedef struct texcache_region {
     uint32_t level;
     int32_t x, y;
@@ -169,7 +172,7 @@ typedef struct texcache_texel {
     uint32_t level, x, y;
 } texcache_texel;
 
-/* A tile that a pass holds: its rectangle in its level, and the samples of a texel. */
+/* A held tile: its rectangle in its level, and its channels. */
 typedef struct texcache_tile {
     uint32_t x, y, w, h, channels;
 } texcache_tile;
@@ -180,29 +183,29 @@ typedef struct texcache_counts {
     uint32_t shards;
 } texcache_counts;
 
-/* What a shard has: tiles, pins, the bytes of its unpinned tiles and how many these may be. */
+/* What a shard has: tiles, pins, the bytes of its unpinned tiles, and how many these may be. */
 typedef struct texcache_shard {
     uint32_t tiles, pins;
     uint64_t loose, share;
 } texcache_shard;
 
-/* A handle of the library. It goes in by value, and comes back; NULL is none. */
+/* A handle of the library. Calls take it by value and give it back. NULL is no handle. */
 typedef struct texcache_held {
     void *at;
 } texcache_held;
 
-/* Room for bytes, which the library lends: it comes back with a supply, or by tex_c_give_back. */
+/* A buffer that the library lends. Give it back with a supply, or by tex_c_give_back. */
 typedef struct texcache_room {
     void *at;
 } texcache_room;
 
-/* What is seen of a file: its generation, and the length that it has at it. */
+/* A look at a file: its generation and length. */
 typedef struct texcache_seen {
     uint32_t file, generation;
     uint64_t len;
 } texcache_seen;
 
-/* Rows of a generation of a file: the first from a place on, each `stride` bytes behind the one before. */
+/* Rows of a file: the first at `at`, each `row` bytes long, `stride` bytes apart. */
 typedef struct texcache_rows {
     uint32_t file, generation;
     uint64_t at, stride, row;
@@ -244,11 +247,11 @@ uint32_t tex_c_supply_fault(texcache_held from, texcache_held *to);
 #define TEXC_LAST_GENERATION 1048575u
 #define TEXC_STAMP_MASK ((UINT64_C(1) << 44) - 1)
 #define TEXC_NO_STAMP UINT64_MAX
-/* So many bytes are read at least where a few are lacking, if the file has them. */
+/* The least number of bytes that is read at once, if the file has them. */
 #define TEXC_BLOCK 16384
-/* What one thread writes to shares no so many bytes with what another does. */
+/* What different threads write is at least this many bytes apart. */
 #define TEXC_LINE 128
-/* How often a call is tried anew after the file was replaced under it, or where it is busy. */
+/* How often a call is repeated because its file was replaced, or because a shard is busy. */
 #define TEXC_AGAIN 64
 #define TEXC_TRIES 100000
 
@@ -318,7 +321,7 @@ static inline void texc_release(texcache *cache, texc_file *file, texc_open *ope
     __atomic_fetch_sub(&cache->idle, 1, __ATOMIC_RELAXED);
 }
 
-/* Looks at a file and settles its generation; its lock is held. Whether it is a plain file with one. */
+/* Looks at a file and settles its generation; its lock is held. Returns whether it is a plain file. */
 static inline int texc_settle(texcache *cache, texc_file *file)
 {
     struct stat seen;
@@ -372,7 +375,7 @@ static inline size_t texc_pread(int fd, uint8_t *to, size_t count, uint64_t at)
     return done;
 }
 
-/* What is lacking of a file: so many bytes in all, in rows, of which one is a stretch. */
+/* What is lacking of a file: rows, and the bytes of all of them. A single stretch is one row. */
 typedef struct texc_wanted {
     texcache_rows rows;
     size_t size;
@@ -390,7 +393,7 @@ static inline texc_wanted texc_want(const texcache_answer *need)
     return w;
 }
 
-/* Reads what is wanted of an open file into the room, and says whether all of it was read. */
+/* Reads what is lacking from an open file into the buffer. Returns whether all was read. */
 static inline int texc_read(texcache *cache, int fd, const texc_wanted *w, uint8_t *to)
 {
     size_t row = w->rows.stride == w->rows.row ? w->size : (size_t)w->rows.row;
@@ -403,8 +406,8 @@ static inline int texc_read(texcache *cache, int fd, const texc_wanted *w, uint8
     return 1;
 }
 
-/* Reads the bytes or the rows that are lacking under their generation into room of the library, and
- * supplies them. Where the file has a newer one that is supplied, and where it is not read nothing is. */
+/* Reads the lacking bytes or rows into a buffer of the library, and supplies them. If the file has a newer
+ * generation, that is supplied instead; if it cannot be read, nothing is. */
 static inline uint32_t texc_supply_bytes(texcache_pass *pass, const texcache_answer *need)
 {
     texcache *cache = pass->cache;
@@ -441,7 +444,7 @@ static inline uint32_t texc_supply_bytes(texcache_pass *pass, const texcache_ans
     return TEXCACHE_READ_FAULT;
 }
 
-/* Looks at a file. Whether it is there, at a generation that is told. */
+/* Looks at a file, and returns whether it exists; `seen` has its generation. */
 static inline int texc_look(texcache *cache, uint32_t number, texcache_seen *seen)
 {
     texc_file *file = &cache->files[number];
@@ -461,7 +464,7 @@ static inline uint32_t texc_supply_look(texcache_pass *pass, const texcache_answ
     return tex_c_supply_look(pass->held, &pass->held, seen.file, seen.generation, seen.len);
 }
 
-/* Supplies the look that is lacking, with one at each later file that was looked at before. */
+/* Supplies the lacking look, and looks at all later files that were looked at before. */
 static inline uint32_t texc_supply_looks(texcache_pass *pass, const texcache_answer *need)
 {
     texcache *cache = pass->cache;
@@ -481,21 +484,21 @@ static inline uint32_t texc_supply_looks(texcache_pass *pass, const texcache_ans
     return code;
 }
 
-/* Supplies what is lacking, or says that it cannot be had. */
+/* Supplies what is lacking, or says that it cannot be read. */
 static inline void texc_supply(texcache_pass *pass, const texcache_answer *need)
 {
     uint32_t code = need->need == 1 ? texc_supply_look(pass, need) : texc_supply_bytes(pass, need);
     if (code) tex_c_supply_fault(pass->held, &pass->held);
 }
 
-/* Another thread keeps a shard: it is tried again, unless that was done too often. */
+/* Another thread has a shard: try again, unless that was done too often. */
 static inline int texc_waits(unsigned *anew)
 {
     sched_yield();
     return ++*anew < TEXC_TRIES;
 }
 
-/* Whether a call that is not answered goes on: something was supplied, or it is tried anew. */
+/* Whether an unanswered call is repeated: something was supplied, or it is worth another try. */
 static inline int texc_goes_on(texcache_pass *pass, uint32_t code, const texcache_answer *answer, unsigned *anew)
 {
     if (code == TEXCACHE_NEEDED) {
@@ -506,7 +509,7 @@ static inline int texc_goes_on(texcache_pass *pass, uint32_t code, const texcach
     return code == TEXCACHE_BUSY && texc_waits(anew);
 }
 
-/* A pass is used by one call at a time. */
+/* Only one call at a time may use a pass. */
 static inline int texc_enter(texcache_pass *pass)
 {
     if (!pass) return TEXCACHE_CLOSED;
@@ -518,7 +521,7 @@ static inline void texc_leave(texcache_pass *pass)
     __atomic_store_n(&pass->in_use, 0, __ATOMIC_RELEASE);
 }
 
-/* A call of the library, until it is answered or refused. */
+/* Repeats a call of the library until it succeeds or fails. */
 #define TEXC_CALL(pass, answer, call)                                           \
     do {                                                                        \
         texcache_answer texc_own, *texc_said = (answer) ? (answer) : &texc_own; \
@@ -534,7 +537,7 @@ static inline void texc_leave(texcache_pass *pass)
         return (int)texc_code;                                                  \
     } while (0)
 
-/* The same of a call that reads nothing, and is tried anew only where it is busy. */
+/* For a call that reads nothing: it is repeated only if a shard is busy. */
 #define TEXC_BARE(pass, call)                                                             \
     do {                                                                                  \
         unsigned texc_anew = 0;                                                           \
@@ -550,7 +553,7 @@ static inline void texc_leave(texcache_pass *pass)
 
 /* ---- caches and passes */
 
-/* The options of the program where none are given. */
+/* The default options, those of the program. */
 TEXCACHE_API texcache_options texcache_default_options(void)
 {
     texcache_options o = {UINT64_C(268435456), 16, 16, 100, 64, 1024, true};
@@ -606,7 +609,7 @@ static inline int texc_list(texcache *cache)
     return refused;
 }
 
-/* A handle ends, and is NULL. */
+/* Frees a handle, and sets it to NULL. */
 static inline void texc_end_held(texcache_held *held)
 {
     texcache_held none = {NULL};
@@ -637,8 +640,8 @@ static inline void texc_free(texcache *cache)
     free(cache);
 }
 
-/* A cache of the plain files that the folder has now; a symbolic link is none. Where it is refused the
- * cache is NULL, and of BAD_OPTIONS the first bad option is answered in *bad, if that is given. */
+/* A cache of the plain files that the folder has now, without symbolic links. On an error the cache is NULL,
+ * and for BAD_OPTIONS *bad, if given, is the number of the first bad option. */
 TEXCACHE_API int texcache_open_saying(texcache **out, const char *folder, const texcache_options *options,
                                       uint32_t *bad)
 {
@@ -668,7 +671,7 @@ TEXCACHE_API int texcache_open(texcache **out, const char *folder, const texcach
     return texcache_open_saying(out, folder, options, NULL);
 }
 
-/* Closes a cache whose passes have all ended, and sets the pointer to NULL. */
+/* Closes a cache and sets the pointer to NULL. All of its passes must have ended. */
 TEXCACHE_API int texcache_close(texcache **cache)
 {
     if (!cache || !*cache) return TEXCACHE_CLOSED;
@@ -681,7 +684,7 @@ TEXCACHE_API int texcache_close(texcache **cache)
     return TEXCACHE_OK;
 }
 
-/* A pass in lines of memory of its own, since its thread writes to it at each call. */
+/* A pass on cache lines of its own, because its thread writes to it at each call. */
 static inline texcache_pass *texc_new_pass(void)
 {
     void *at = NULL;
@@ -690,7 +693,7 @@ static inline texcache_pass *texc_new_pass(void)
     return (texcache_pass *)memset(at, 0, size);
 }
 
-/* A pass, for one thread at a time. Each thread that looks up textures has its own. */
+/* A new pass, for one thread at a time. Each thread that looks up textures needs its own. */
 TEXCACHE_API int texcache_perthread(texcache *cache, texcache_pass **out)
 {
     int refused = TEXCACHE_OK;
@@ -715,7 +718,7 @@ TEXCACHE_API int texcache_perthread(texcache *cache, texcache_pass **out)
     return refused;
 }
 
-/* A pass ends, and the pointer becomes NULL. Its tiles are released; the next pass goes on with it. */
+/* Ends a pass, releases its tiles and sets the pointer to NULL. A later pass may reuse it, with its counts. */
 TEXCACHE_API int texcache_end(texcache_pass **end)
 {
     int refused = texc_enter(end ? *end : NULL);
@@ -739,7 +742,7 @@ TEXCACHE_API int texcache_end(texcache_pass **end)
 
 /* ---- files */
 
-/* How many files the folder had, and the name of one of them. */
+/* The number of files in the folder, and the name of one. */
 TEXCACHE_API uint32_t texcache_file_count(const texcache *cache)
 {
     return cache ? cache->count : 0;
@@ -750,7 +753,7 @@ TEXCACHE_API const char *texcache_file_name(const texcache *cache, uint32_t file
     return cache && file < cache->count ? cache->files[file].name : NULL;
 }
 
-/* The number of the file of this name. */
+/* The number of the file with this name. */
 TEXCACHE_API int texcache_find(const texcache *cache, const char *name, uint32_t *file)
 {
     if (!cache || !name || !file) return TEXCACHE_CLOSED;
@@ -768,7 +771,7 @@ TEXCACHE_API int texcache_find(const texcache *cache, const char *name, uint32_t
     return TEXCACHE_NO_NAME;
 }
 
-/* What a file is. The answer may be NULL, here and below. */
+/* Size, channels, depth and levels of a file. The answer may be NULL, here and below. */
 TEXCACHE_API int texcache_get_info(texcache_pass *pass, uint32_t file, texcache_info *info, texcache_answer *answer)
 {
     if (!info) return TEXCACHE_CLOSED;
@@ -777,7 +780,7 @@ TEXCACHE_API int texcache_get_info(texcache_pass *pass, uint32_t file, texcache_
 
 /* ---- lookups */
 
-/* A lookup at a place: periodic, bilinear. */
+/* A lookup with periodic wraps and the bilinear filter. */
 TEXCACHE_API texcache_lookup texcache_lookup_at(int32_t s, int32_t t, uint32_t lod, uint32_t channels)
 {
     texcache_lookup r = {s, t, lod, TEXCACHE_PERIODIC, TEXCACHE_PERIODIC, TEXCACHE_BILINEAR, channels, 0, 0, 0, 0};
@@ -792,7 +795,7 @@ TEXCACHE_API int texcache_texture(texcache_pass *pass, uint32_t file, const texc
     TEXC_CALL(pass, answer, tex_c_texture(pass->held, &pass->held, file, r, out, room, texc_said));
 }
 
-/* The same along the longer axis of a pixel's footprint, by its derivatives. */
+/* The 16-bit values of a lookup along a pixel's footprint, by its derivatives. */
 TEXCACHE_API int texcache_texture_d(texcache_pass *pass, uint32_t file, const texcache_lookup *r, uint16_t *out,
                                     size_t room, texcache_answer *answer)
 {
@@ -800,8 +803,8 @@ TEXCACHE_API int texcache_texture_d(texcache_pass *pass, uint32_t file, const te
     TEXC_CALL(pass, answer, tex_c_texture_d(pass->held, &pass->held, file, r, out, room, texc_said));
 }
 
-/* The same at S, T and LOD where the pass's two latest tiles have all that is needed, at once and without
- * reading; else TEXCACHE_NOT_LOCAL. */
+/* Like texcache_texture, but only if the pass's two latest tiles have all texels; never reads. Otherwise
+ * TEXCACHE_NOT_LOCAL. */
 TEXCACHE_API int texcache_texture_local(texcache_pass *pass, uint32_t file, const texcache_lookup *r, uint16_t *out,
                                         size_t room, texcache_answer *answer)
 {
@@ -809,7 +812,7 @@ TEXCACHE_API int texcache_texture_local(texcache_pass *pass, uint32_t file, cons
     TEXC_CALL(pass, answer, tex_c_texture_local(pass->held, &pass->held, file, r, out, room, texc_said));
 }
 
-/* floor(65536 * value + 0.5), where it is in a range. */
+/* floor(65536 * value + 0.5), if it is in a range. */
 static inline int texc_fixed(double value, double least, double most, int32_t *out)
 {
     double found = floor(value * 65536.0 + 0.5);
@@ -818,10 +821,9 @@ static inline int texc_fixed(double value, double least, double most, int32_t *o
     return 1;
 }
 
-/* A lookup with floats: coordinates and derivatives in parts of the image, rounded to 1/65536, a half up.
- * The LOD is 65536 times the logarithm to base 2 of how many texels of level 0 the longer side of a pixel
- * has. The wraps, the filter and the channels are those of `like`; with `along` it is a lookup along the
- * footprint, which takes no filter. */
+/* Makes a lookup from floats: coordinates and derivatives as fractions of the image, rounded to 1/65536. The LOD is
+ * 65536 * log2(p), if the longer side of a pixel is p texels of level 0. Wraps, filter and channels are those of
+ * `like`. With `along` it is a lookup along the footprint, which takes no filter. */
 TEXCACHE_API int texcache_round(texcache_lookup *r, const texcache_lookup *like, const texcache_info *info, double s,
                                 double t, double dsdx, double dtdx, double dsdy, double dtdy, bool along)
 {
@@ -842,7 +844,7 @@ TEXCACHE_API int texcache_round(texcache_lookup *r, const texcache_lookup *like,
     return TEXCACHE_OK;
 }
 
-/* The values of such a lookup, as parts of 1. */
+/* The values of a lookup with floats, as floats from 0 to 1. */
 TEXCACHE_API int texcache_texture_f(texcache_pass *pass, uint32_t file, const texcache_lookup *like, float s, float t,
                                     float dsdx, float dtdx, float dsdy, float dtdy, bool along, float *out,
                                     size_t room, texcache_answer *answer)
@@ -863,8 +865,8 @@ TEXCACHE_API int texcache_texture_f(texcache_pass *pass, uint32_t file, const te
     return refused;
 }
 
-/* The 16-bit values of a region, row by row, channels side by side. The answer has the channels, and how
- * many values there are; where the room is too small for them it is TEXCACHE_SMALL_BUFFER. */
+/* The 16-bit values of a region, row by row, channels side by side. The answer has the channels and the number of
+ * values. If the buffer is too small it is TEXCACHE_SMALL_BUFFER. */
 TEXCACHE_API int texcache_get_pixels(texcache_pass *pass, uint32_t file, const texcache_region *region, uint16_t *out,
                                      size_t room, texcache_answer *answer)
 {
@@ -877,10 +879,10 @@ TEXCACHE_API int texcache_get_pixels(texcache_pass *pass, uint32_t file, const t
     TEXC_CALL(pass, answer, tex_c_pixels(pass->held, &pass->held, file, region, out, room, texc_said));
 }
 
-/* ---- tiles that are held */
+/* ---- held tiles */
 
-/* The cell that holds a texel of a level becomes the pass's latest hold; it holds four at most, the
- * oldest at place 0. A tile that is held stays as it is, whatever becomes of the file. */
+/* Holds the cell of a texel. A pass holds at most four, the oldest at place 0. A held tile stays as it is,
+ * whatever happens to the file. */
 TEXCACHE_API int texcache_get_tile(texcache_pass *pass, uint32_t file, uint32_t level, uint32_t x, uint32_t y,
                                    texcache_answer *answer)
 {
@@ -895,7 +897,7 @@ TEXCACHE_API int texcache_tile_at(texcache_pass *pass, size_t place, texcache_ti
     TEXC_BARE(pass, tex_c_tile(pass->held, &pass->held, place, tile));
 }
 
-/* Its samples, in the depth of the file (an 8-bit sample counts as 257 times itself), row by row. */
+/* Its samples, in the depth of the file, row by row. (An 8-bit sample becomes 257 times itself in a lookup.) */
 TEXCACHE_API int texcache_tile_texels(texcache_pass *pass, size_t place, uint16_t *out, size_t room)
 {
     texcache_tile tile;
@@ -910,23 +912,22 @@ TEXCACHE_API int texcache_tile_texels(texcache_pass *pass, size_t place, uint16_
     return refused;
 }
 
-/* The hold at a place is released, and the later ones close up. */
+/* Releases the hold at a place. The later ones move up. */
 TEXCACHE_API int texcache_release_tile(texcache_pass *pass, size_t place)
 {
     TEXC_BARE(pass, tex_c_release_tile(pass->held, &pass->held, place));
 }
 
-/* ---- files that are made invalid */
+/* ---- replaced files */
 
-/* The file is looked at again; where it was replaced, what is kept of older versions goes. With force it
- * goes in any case. The answer has the newest generation. */
+/* Looks at a file again. If it was replaced, older versions are dropped; with force that happens in any case. The
+ * answer has the newest generation. */
 TEXCACHE_API int texcache_invalidate(texcache_pass *pass, uint32_t file, bool force, texcache_answer *answer)
 {
     TEXC_CALL(pass, answer, tex_c_invalidate(pass->held, &pass->held, file, force, texc_said));
 }
 
-/* The same without force for each file that is known, in the order of their numbers. It ends at the first
- * that is refused. */
+/* Does so, without force, for each known file, in the order of their numbers. Ends at the first that fails. */
 TEXCACHE_API int texcache_invalidate_all(texcache_pass *pass, texcache_answer *answer)
 {
     texcache_answer own, *said = answer ? answer : &own;
@@ -949,7 +950,7 @@ TEXCACHE_API int texcache_invalidate_all(texcache_pass *pass, texcache_answer *a
 
 /* ---- counts */
 
-/* What the pass has counted, and what was looked at, opened and read by all passes. */
+/* What the pass has counted, and what all passes looked at, opened and read. */
 TEXCACHE_API int texcache_stats(texcache_pass *pass, texcache_statistics *out)
 {
     int refused = out ? texc_enter(pass) : TEXCACHE_CLOSED;
@@ -963,7 +964,7 @@ TEXCACHE_API int texcache_stats(texcache_pass *pass, texcache_statistics *out)
     return TEXCACHE_OK;
 }
 
-/* What a shard of the cache has. */
+/* What one shard has. */
 TEXCACHE_API int texcache_shard_stats(texcache_pass *pass, uint32_t shard, texcache_shard *out)
 {
     if (!out) return TEXCACHE_CLOSED;

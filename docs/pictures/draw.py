@@ -1,11 +1,11 @@
 #!/usr/bin/env python3
 """Draws the pictures of the documents: layers.svg, tile_way.svg and turn.svg, beside this script.
 
-The crates of layers.svg are those of crates.txt, heading by heading. With --check nothing is
-written: the script prints which picture is not the one that it draws, and ends with status 1. So it
-does, and writes nothing, where boxes or words lie over each other or leave their picture.
+The crates of layers.svg are those of crates.txt, heading by heading. Without --write nothing is written: the
+script prints which picture is not the one that it draws, and ends with status 1. So it does, and writes nothing,
+if boxes or words lie over each other or leave their picture.
 """
-
+import argparse
 import sys
 from pathlib import Path
 from xml.sax.saxutils import escape
@@ -69,7 +69,7 @@ class Picture:
             self.words(*at, says, size=11)
 
     def faults(self):
-        """What lies over something else, or leaves the picture."""
+        """What overlaps something else, or leaves the picture."""
         whole = (0, 0, self.width, self.height)
         places = [it[:2] for it in self.boxes] + [it[:2] for it in self.texts]
         yield from (f"{name} leaves the picture" for name, it in places if not is_inside(it, whole))
@@ -112,20 +112,21 @@ def headings():
 
 # Who owns what at a heading, by its number.
 OWNERS = {
-    "1": ["nobody owns anything: bytes come in,", "levels, places and samples go out"],
-    "2": ["a folder: names, numbers of files, taps", "a tap: the stamps and words of its files"],
-    "3": ["a board: the newest generation of each file", "a view: what its caller has seen"],
-    "4": ["a shard: its tiles; a seat: permits and pins", "a pass: microcache, holds and hand"],
-    "5": ["the table: records, and handles that lie idle", "a lent handle: its caller"],
-    "6": ["a pass: its view, its seat, its tiles,", "the record of its latest lookup"],
-    "7": ["nobody owns anything: a fetch is lent"],
-    "8": ["run: requests, page, the tap,", "the newest known generations"],
+    "1": ["nothing is owned here: definitions,", "traits of the outside world, waiters"],
+    "2": ["nothing is owned here: bytes come in,", "levels, places and samples go out"],
+    "3": ["nothing is owned here: a fetch is lent"],
+    "4": ["a listing: names and words of all files", "a handle: an open file; a view: what was seen"],
+    "5": ["a shard: its tiles; a seat: permits and pins", "a pass: microcache, holds and hand"],
+    "6": ["the table: records, idle handles, read-ahead", "a lent handle: its caller"],
+    "7": ["a pass: its view, its seat, its tiles,", "the record of its latest lookup"],
+    "8": ["run: requests, cache, page", "each worker: a pass and a tap of its own"],
+    "9": ["a program: its folder, input and output", "tex_c: what C has supplied for a call"],
 }
 
 # What threads share is in these: atomic steps, or locks.
 SHARED = {
-    *("tag_lock", "gen_board", "shard_gate", "pinned_tiles"),
-    *("file_table", "image_cache", "texture_sys"),
+    *("tag_lock", "gen_board", "shard_gate", "pinned_tiles", "tile_slots"),
+    *("file_table", "image_cache", "texture_sys", "host_folder"),
 }
 
 
@@ -138,7 +139,7 @@ def layers():
     # who owns what stands behind the longest row of boxes
     owners_at = 190 + max(sum(box_width(name) + 8 for name in crates) for _, crates in rows) + 16
     picture = Picture(owners_at + 320, 60 + 62 * len(rows))
-    picture.words(16, 24, "The layers, the program at the top", 14, "bold")
+    picture.words(16, 24, "The layers, the programs at the top", 14, "bold")
     picture.words(owners_at, 24, "Who owns what", 14, "bold")
     for row, (title, crates) in enumerate(rows):
         y = 40 + 62 * row
@@ -164,7 +165,7 @@ def tile_way():
     picture.box(570, 60, 180, 56, ["values (texel_values)", "16 bits, a hit is counted"], AMBER)
     picture.box(290, 180, 180, 56, ["shard (shard_gate)", "tiles, last used first"], GREEN)
     picture.box(570, 180, 180, 56, ["hand (pinned_tiles)", "a tile that is pinned"], BLUE)
-    picture.box(20, 310, 170, 56, ["file_table", "a handle that lies idle"], GREEN)
+    picture.box(20, 310, 170, 56, ["file_table", "an idle handle"], GREEN)
     picture.box(290, 310, 180, 56, ["tile_load", "reads and unpacks the cell"], BLUE)
     picture.box(570, 310, 180, 56, ["tile (tile_store)", "the samples of the cell"], BLUE)
     picture.box(810, 310, 150, 56, ["file", "one generation"], AMBER)
@@ -211,16 +212,18 @@ def turn():
     return picture
 
 
-def main(words):
-    status = 0
+def main():
+    asked = argparse.ArgumentParser(description=__doc__, formatter_class=argparse.RawDescriptionHelpFormatter)
+    asked.add_argument("--write", action="store_true", help="write the pictures; else they are compared")
+    asked.add_argument("--check", action="store_true", help="compare, as without an option")
+    status, args = 0, asked.parse_args()
     for name, picture in (("layers", layers()), ("tile_way", tile_way()), ("turn", turn())):
         file = HERE / f"{name}.svg"
         faults = list(picture.faults())
         if faults:
             print(f"docs/pictures/{name}.svg:", *faults, sep="\n    ")
             status = 1
-            continue
-        if words != ["--check"]:
+        elif args.write:
             file.write_text(picture.text(), encoding="utf-8")
         elif not file.exists() or file.read_text(encoding="utf-8") != picture.text():
             print(f"docs/pictures/{name}.svg is not what docs/pictures/draw.py draws")
@@ -229,4 +232,4 @@ def main(words):
 
 
 if __name__ == "__main__":
-    sys.exit(main(sys.argv[1:]))
+    sys.exit(main())

@@ -1,5 +1,6 @@
 #!/usr/bin/env bash
 # Makes the pictures of docs/FILTERING.md: the program answers each pixel by a lookup in a demo picture.
+[ "$*" = --write ] || { echo 'usage: docs/pictures/make.sh --write, which writes the pictures of docs/FILTERING.md'; [ "$*" = --help ]; exit; }
 cd "$(dirname "${BASH_SOURCE[0]}")" || exit 1
 picture() { python3 ../../demo/picture.py "$@" || exit 1; }
 

@@ -6,13 +6,14 @@
 """
 import argparse
 import colorsys
-import struct
+import sys
+from functools import partial
 from pathlib import Path
 
+sys.path.insert(0, str(Path(__file__).resolve().parents[2] / "tools"))
+from texcheck.tiff import LITTLE, LONG, NARROW, SHORT, laid_out  # noqa: E402
+
 TILE = 64
-ENTRIES = 11
-DIRECTORY = 2 + 12 * ENTRIES + 4 + 6  # with its three numbers of bits behind it
-TILE_BYTES = TILE * TILE * 3
 
 
 def colour(part, value):
@@ -29,41 +30,22 @@ def tile(one, other, level):
     return b"".join((pair, swapped)[y // square % 2][:3 * TILE] for y in range(TILE))
 
 
-def directory(start, side, count, places, further):
-    """A directory of a level with its numbers of bits; `places` is where its tiles are listed, or the only one lies."""
-    many = count > 1
-    fields = [(254, 4, 1, 0 if start == 8 else 1), (256, 4, 1, side), (257, 4, 1, side),
-              (258, 3, 3, start + DIRECTORY - 6), (259, 3, 1, 1), (262, 3, 1, 2), (277, 3, 1, 3), (322, 4, 1, TILE),
-              (323, 4, 1, TILE), (324, 4, count, places), (325, 4, count, places + 4 * count if many else TILE_BYTES)]
-    listed = b"".join(struct.pack("<HHII", *it) for it in fields)
-    return struct.pack("<H", ENTRIES) + listed + struct.pack("<I3H", further, 8, 8, 8)
+def fields(number, side, offsets, sizes):
+    """The fields of a level, by the places and sizes of its tiles."""
+    return [(254, LONG, [min(number, 1)]), (256, LONG, [side]), (257, LONG, [side]), (258, SHORT, [8, 8, 8]),
+            (259, SHORT, [1]), (262, SHORT, [2]), (277, SHORT, [3]), (322, LONG, [TILE]), (323, LONG, [TILE]),
+            (324, LONG, offsets), (325, LONG, sizes)]
 
 
 def write(path, side, one, other):
-    sides = [side >> n for n in range(side.bit_length())]
-    counts = [max(1, it // TILE) ** 2 for it in sides]
-    starts = [8 + n * DIRECTORY for n in range(len(sides))]
-    lists = starts[-1] + DIRECTORY
-    tiles = lists + sum(8 * it for it in counts if it > 1)
-    with path.open("wb") as to:
-        to.write(struct.pack("<2sHI", b"II", 42, 8))
-        at, place, tables = tiles, lists, []
-        for n, (it, count) in enumerate(zip(sides, counts)):
-            further = starts[n + 1] if n + 1 < len(sides) else 0
-            to.write(directory(starts[n], it, count, place if count > 1 else at, further))
-            if count > 1:
-                tables.append(struct.pack(f"<{count}I", *range(at, at + count * TILE_BYTES, TILE_BYTES)))
-                tables.append(struct.pack("<I", TILE_BYTES) * count)
-                place += 8 * count
-            at += count * TILE_BYTES
-        to.writelines(tables)
-        for n, (it, count) in enumerate(zip(sides, counts)):
-            if n:
-                to.writelines([tile(one, other, n)] * count)
-                continue
-            across = max(1, it // TILE)
-            whole = one * (TILE * TILE), other * (TILE * TILE)
-            to.writelines(whole[(k % across + k // across) % 2] for k in range(count))
+    """A texture whose level 0 has tiles of two colours in turn."""
+    levels, whole = [], (one * (TILE * TILE), other * (TILE * TILE))
+    for number in range(side.bit_length()):
+        across = max(1, (side >> number) // TILE)
+        tiles = [tile(one, other, number)] * across ** 2 if number else [
+            whole[(k % across + k // across) % 2] for k in range(across ** 2)]
+        levels.append((tiles, None, partial(fields, number, side >> number)))
+    path.write_bytes(laid_out(LITTLE, NARROW, levels))
 
 
 def main():
