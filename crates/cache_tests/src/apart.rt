@@ -1,6 +1,6 @@
-//! What is answered where no memory is found, one growth refused in each run (`rt try --test
-//! --fail-alloc N`): a texel is answered apart. A lookup that need not open the file is not refused,
-//! and neither is one that opens it since its record could not be shared.
+//! What is answered when one allocation fails in each run (`rt try --test --fail-alloc N`): a texel
+//! is answered uncached. A lookup does not fail if it need not open the file, nor if it opens it
+//! only because its record could not be shared.
 ghost use Rattle.std.specs.Prelude.{ℕ, ◌≡◌, ◌<◌};
 ghost use Rattle.tex_world.specs.World.{IsFile};
 
@@ -20,32 +20,32 @@ use waiter::Tries;
 /// How a call came out.
 #[derive(Clone, Copy, PartialEq, Eq)]
 enum Met {
-    /// As with memory for all of it.
+    /// As if there were enough memory.
     Calm,
-    /// A texel was answered apart.
+    /// A texel was uncached.
     Apart,
-    /// It was not made, since an earlier growth was refused.
+    /// The call was not made, because an earlier allocation failed.
     Unmade,
-    /// None of these.
+    /// None of these: the test fails.
     Wrong,
 }
 
-/// What is asked.
+/// The call to make.
 #[derive(Clone, Copy)]
 enum Asked {
-    /// A lookup of a file that was looked up and made invalid.
+    /// A lookup in a file that was looked up and invalidated before.
     Lookup,
-    /// One texel by a record.
+    /// One texel of a record.
     Texel,
 }
 
-/// No slot, and room for all tiles.
+/// No slots, and a budget for all tiles.
 const NO_SLOTS: Options = Options {
     slots: 0,
     ..ONE_SHARD
 };
 
-/// The same where no tile stays without a pin.
+/// No slots, and a budget of 0, so that only pinned tiles stay.
 const NO_SLOTS_NO_BYTES: Options = Options {
     slots: 0,
     ..NO_BYTES
@@ -58,12 +58,12 @@ static CASES: &[(&str, Options, Asked)] = &[
     ("a texel without slots", NO_SLOTS, Asked::Texel),
 ];
 
-// The middle of `A`, whose four texels are 17, 18, 33 and 34: their mean is 6553.5.
+// the middle of `A`, whose four texels are 17, 18, 33 and 34: their mean is 6553.5
 const MIDDLE: Look = ((32768, 32768, 0), Clamp, Bilinear, 1);
 
 const MEAN: u16 = 6554;
 
-// The texel in column 1 of row 1, which is 257 times 17.
+// the texel in column 1 of row 1, which is 257 times 17
 const TEXEL: Ask = Fetch((1, 1), 1);
 
 const VALUE: u16 = 4369;
@@ -71,7 +71,7 @@ const VALUE: u16 = 4369;
 const SHARE: u64 = 268435456;
 
 impl<T: Tap> Worker<'_, T> {
-    // The one value that the latest call left, if it left one.
+    // The one value that the last call wrote, if it wrote one.
     fn value(&self) -> Option<u16> {
         match self.out.as_slice() {
             [value] => Some(*value),
@@ -83,7 +83,7 @@ impl<T: Tap> Worker<'_, T> {
         [self.pass.needs(), self.pass.hits(), self.pass.apart()]
     }
 
-    // One try is enough for one caller.
+    // A single caller needs only one try.
     fn ask(&mut self, ask: Ask) -> crate::asks::Answer
         requires { (file : ℕ) → file < 5 → IsFile T.W.files file }
         ensures { self.new.cache.now ≡ self.old.cache.now }
@@ -91,7 +91,7 @@ impl<T: Tap> Worker<'_, T> {
         self.answer(&Tries::new(1), PLAIN, ask)
     }
 
-    // The lookup once more, behind one and after the file was made invalid.
+    // Repeats the lookup after an earlier one, and after the file was invalidated.
     fn looked_up_again(&mut self) -> Met
         requires { (file : ℕ) → file < 5 → IsFile T.W.files file }
         ensures { self.new.cache.now ≡ self.old.cache.now }
@@ -109,7 +109,7 @@ impl<T: Tap> Worker<'_, T> {
         }
     }
 
-    // One texel. Where it is answered apart the microcache and the shard are as they were.
+    // Fetches one texel. If it is uncached, the microcache and the shard must be unchanged.
     fn fetched(&mut self) -> Met
         requires { (file : ℕ) → file < 5 → IsFile T.W.files file }
         ensures { self.new.cache.now ≡ self.old.cache.now }
@@ -120,7 +120,7 @@ impl<T: Tap> Worker<'_, T> {
         let answer = self.ask(TEXEL);
         let value = self.value();
         if value.is_none() {
-            // the test's own growth
+            // the failed allocation was one of the test itself
             return Met::Unmade;
         }
         let is_right = answer == There && value == Some(VALUE);
@@ -168,7 +168,7 @@ fn case_met(alloc: Global, options: Options, asked: Asked) -> Met {
     }
 }
 
-// Each is asked twice, so that one of both has memory where one growth is refused.
+// Each call is made twice, so that one of the two has memory if a single allocation fails.
 #[test]
 fn a_refused_growth_changes_no_value(rt: HostRuntime) {
     let alloc = rt.alloc();

@@ -1,80 +1,80 @@
-//! What is asked of a cache, and what it answers.
+//! The calls that tests make, and their answers.
 use image_cache::CacheError;
 use texel_filter::{Filter, Wrap};
 
-/// S, T and LOD of a lookup, its wrap across and down, its filter and its channels.
+/// S, T and LOD of a lookup, its wrap for both directions, its filter and its number of channels.
 pub(crate) type Look = ((i32, i32, u32), Wrap, Filter, u32);
 
-/// A call of a cache. The first number is that of a file, where it is on one.
+/// A call of a cache. The first number is the file, if it has one.
 #[derive(Clone, Copy)]
 pub(crate) enum Ask {
     Info(u32),
-    /// Level, column and row of a texel, whose cell is to be held.
+    /// Holds the cell of a texel, given by level, column and row.
     Hold(u32, (u32, u32, u32)),
-    /// The place of a hold that is released.
+    /// Releases the hold at a place.
     Release(usize),
-    /// The place of a hold, whose tile's rectangle is answered.
+    /// Asks for the rectangle of the tile held at a place.
     Held(usize),
-    /// Level, column and row of a region, and its sides.
+    /// Reads a region, given by level, column, row, width and height.
     Pixels(u32, (u32, i32, i32), (u32, u32)),
     Texture(u32, Look),
     TextureLocal(u32, Look),
-    /// What a shard has.
+    /// Counts a shard.
     Count(u32),
-    /// A file that is made invalid, with force or without.
+    /// Invalidates a file, with force or without.
     Invalidate(u32, bool),
     InvalidateAll,
-    /// A file whose record is that of the fetches behind it.
+    /// Opens a file, whose record the following fetches use.
     Open(u32),
-    /// Column and row of a texel of level 0, and how many channels are asked for.
+    /// Fetches a texel of level 0, given by column and row, and a number of channels.
     Fetch((u32, u32), usize),
-    /// The same where the microcache has its cell.
+    /// Like `Fetch`, if the microcache has the cell.
     FetchLocal((u32, u32), usize),
-    /// Column and row of a texel of level 0.
+    /// Asks whether the microcache has the cell of a texel of level 0, given by column and row.
     HasLocal((u32, u32)),
-    /// The record is kept.
+    /// Lets the pass keep the record.
     Keep,
-    /// The record that is kept of a file is handed out.
+    /// Takes the kept record of a file out of the pass.
     Local(u32),
 }
 
-/// What a call answers.
+/// The answer of a call.
 #[derive(Clone, Copy, PartialEq, Eq)]
 pub(crate) enum Answer {
     /// The generation.
     Of(u32),
-    /// Generation and channels of a region.
+    /// The generation and the channels of a region.
     Texels(u32, u32),
-    /// Generation, width, height, channels, bits, stored levels and levels of a file.
+    /// The generation, width, height, channels, bits, stored levels and levels of a file.
     Facts([u32; 7]),
     /// Column, row, width and height.
     Rectangle([u32; 4]),
-    /// The tiles and the pins of a shard, the bytes of its unpinned tiles, and the most of those.
+    /// The tiles and the pins of a shard, the bytes of its unpinned tiles, and their limit.
     Shard([u64; 4]),
     Released,
-    /// All files that are known were asked for.
+    /// All known files were checked.
     Known,
     /// The texel was fetched, or the microcache has it.
     There,
     /// No generation, no tile at that place, or no record.
     Nothing,
-    /// Generation and number of the fault.
+    /// The generation, and the number of the file fault.
     BadFile(u32, u32),
     TileTooLarge(u32),
-    /// Generation and number of levels.
+    /// The generation, and the number of levels.
     NoLevel(u32, u32),
     Outside(u32),
     RegionTooLarge,
     HoldsFull,
     Again(u32, u32),
     ReadFault,
-    /// The waiter gave up.
+    /// The waiter gave up on a lock.
     Busy,
-    /// No memory, or a call that cannot be made.
+    /// Out of memory, or a call that cannot be made.
     Other,
 }
 
-/// What a refusal is.
+/// The answer for an error.
 pub(crate) fn refusal<B: Drop>(e: CacheError<B>) -> Answer {
     match e {
         CacheError::BadFile { generation, fault } => Answer::BadFile(generation, fault.code()),

@@ -1,5 +1,5 @@
-//! A waiter that makes a call of the cache in the middle of another one: what it finds taken, it
-//! gives up at. The next try is answered.
+//! A waiter that makes another call in the middle of a call. What that call finds locked, it gives
+//! up on; the next try succeeds.
 use crate::asks::Ask::{Hold, Info, Invalidate, InvalidateAll, Pixels, Texture};
 use crate::asks::{Answer, Ask, Look};
 use crate::folder::{cache_of, second_of};
@@ -14,13 +14,13 @@ use texel_filter::Filter::Bilinear;
 use texel_filter::Wrap::Clamp;
 use waiter::{GaveUp, Tries, Waiter};
 
-// The middle of `A`, whose mean is 6553.5.
+// the middle of `A`, whose mean is 6553.5
 const MIDDLE: Look = ((32768, 32768, 0), Clamp, Bilinear, 1);
 
-// A call asks its waiter no more often for its tries.
+// no call asks its waiter for its tries more often
 const LAST_TRY: u32 = 16;
 
-// At the k-th time that it is asked for its tries, another caller makes a call by one try.
+// When it is asked for its tries for the k-th time, another caller makes a call with a single try.
 #[derive(Drop)]
 struct Nosy<'a> {
     caller: Cell<Option<Worker<'a, MemTap<SmallFiles>>>>,
@@ -44,7 +44,7 @@ impl<'a> Nosy<'a> {
         }
     }
 
-    // What the call answered, and the other caller.
+    // The answer of that call, and the other caller.
     fn into_parts(self) -> (Answer, Option<Worker<'a, MemTap<SmallFiles>>>) {
         let Nosy { caller, answer, .. } = self;
         (answer.into_inner(), caller.into_inner())
@@ -68,8 +68,8 @@ impl Waiter for Nosy<'_> {
     }
 }
 
-/// What the second caller has asked for before, what the first one asks for, and by which tap the
-/// second asks for what inside of it; and its answer once nothing is taken.
+/// The name of the case. What the second caller has asked before; what the first one asks; through
+/// which tap the second asks what inside of it; and its answer when nothing is locked.
 type Row = (&'static str, Ask, Ask, (usize, Ask), Answer);
 
 static ROWS: &[Row] = &[
@@ -138,8 +138,8 @@ static ROWS: &[Row] = &[
     ),
 ];
 
-// What a call answers that is made inside another one at the k-th time that this one asks its waiter
-// for its tries, and the same call behind it.
+// The answer of a call that is made inside another one, when that one asks its waiter for its tries
+// for the k-th time; and the answer of the same call afterwards.
 fn answers(alloc: Global, row: &Row, k: u32) -> Result<(Answer, Answer), Fail> {
     let (_what, before, outer, inner, _answer) = *row;
     let (cache, mut pass) = cache_of(alloc, ONE_SHARD, 5)?;
@@ -176,7 +176,7 @@ fn answers(alloc: Global, row: &Row, k: u32) -> Result<(Answer, Answer), Fail> {
     Ok((inside, behind))
 }
 
-// Whether the call of a row is once busy inside the other, and is then answered.
+// Whether the inner call of a case is once busy, and succeeds afterwards.
 fn is_met(alloc: Global, row: &Row) -> Result<bool, Fail> {
     let mut busy = false;
     for k in 1..=LAST_TRY {

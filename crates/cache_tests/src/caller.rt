@@ -1,3 +1,4 @@
+//! One caller of a cache.
 use image_cache::Pass;
 use tex_world::Tap;
 

@@ -1,5 +1,5 @@
-//! Regions, holds, shards and what a file is, where nothing fails: values, needs and hits, what the
-//! pass has seen, and whether its tap was called.
+//! Regions, holds, shards and file facts when nothing fails: values, needs and hits, what the pass
+//! has seen, and whether its tap was called.
 use crate::asks::Answer::{
     Facts, HoldsFull, NoLevel, Nothing, Of, Outside, Rectangle, RegionTooLarge, Released, Shard,
     Texels,
@@ -10,8 +10,8 @@ use crate::small_files::{A, B, SHORT};
 use crate::steps::{CALLS, QUIET, Step};
 use std::test::Fail;
 
-// A region on the corner of all four cells of `B`, whose tiles take 12288, 3072, 6144 and 1536
-// bytes. A comment names the cells of the microcache then, the latest first.
+// Regions around the corner of all four cells of `B`, whose tiles take 12288, 3072, 6144 and 1536
+// bytes. The comment of a step names the cells that are then in the microcache, the latest first.
 static REGIONS: &[Step] = &[
     (
         PLAIN,
@@ -23,7 +23,7 @@ static REGIONS: &[Step] = &[
         [4, 0, 1, 0], // 3 2
         CALLS,
     ),
-    // the cells 0 and 1 have no pin
+    // cells 0 and 1 have no pin
     (
         PLAIN,
         Count(0),
@@ -43,7 +43,7 @@ static REGIONS: &[Step] = &[
         [8, 0, 1, 0], // 3 2
         QUIET,
     ),
-    // past the right edge
+    // beyond the right edge
     (
         PLAIN,
         Pixels(B, (0, 79, 47), (2, 1)),
@@ -52,7 +52,7 @@ static REGIONS: &[Step] = &[
         [9, 1, 1, 0], // 3 2
         QUIET,
     ),
-    // past the left and the upper edge
+    // beyond the left and the upper edge
     (
         PLAIN,
         Pixels(B, (0, -1, -1), (2, 2)),
@@ -61,7 +61,7 @@ static REGIONS: &[Step] = &[
         [10, 1, 1, 0], // 0 3
         QUIET,
     ),
-    // beside the level, and of no texel
+    // outside the level, and without texels
     (
         PLAIN,
         Pixels(B, (0, 80, 0), (1, 1)),
@@ -111,7 +111,7 @@ static REGIONS: &[Step] = &[
         [12, 2, 1, 0], // B0 A
         QUIET,
     ),
-    // what is refused is asked of the region, then of the level
+    // errors: the size of the region is checked first, then the level
     (
         PLAIN,
         Pixels(SHORT, (9, 0, 0), (1025, 1024)),
@@ -130,7 +130,7 @@ static REGIONS: &[Step] = &[
     ),
 ];
 
-// All four cells of `B` are held, and no fifth one.
+// All four cells of `B` are held, and a fifth hold fails.
 static HOLDS: &[Step] = &[
     (PLAIN, Release(0), Nothing, &[], [0, 0, 0, 0], QUIET),
     (PLAIN, Held(0), Nothing, &[], [0, 0, 0, 0], QUIET),
@@ -146,7 +146,7 @@ static HOLDS: &[Step] = &[
         [0, 0, 1, 4],
         QUIET,
     ),
-    // before anything of the file
+    // this error comes before anything about the file
     (
         PLAIN,
         Hold(SHORT, (9, 9, 9)),
@@ -195,7 +195,7 @@ static HOLDS: &[Step] = &[
         [0, 0, 0, 4],
         QUIET,
     ),
-    // a place in the middle, and the later ones close up
+    // a hold in the middle is released, and the later ones move up
     (PLAIN, Release(1), Released, &[], [0, 0, 0, 3], QUIET),
     (PLAIN, Release(3), Nothing, &[], [0, 0, 0, 3], QUIET),
     (
@@ -222,7 +222,7 @@ static HOLDS: &[Step] = &[
         [0, 0, 0, 3],
         QUIET,
     ),
-    // one cell twice, each time with a pin
+    // one cell is held twice, with a pin each time
     (PLAIN, Hold(B, (0, 5, 5)), Of(1), &[], [0, 0, 1, 4], QUIET),
     (
         PLAIN,
@@ -240,7 +240,7 @@ static HOLDS: &[Step] = &[
         [0, 0, 0, 4],
         QUIET,
     ),
-    // the microcache and the holds each have their pins
+    // the microcache and the holds have separate pins
     (
         PLAIN,
         Pixels(B, (0, 0, 0), (1, 1)),
@@ -270,7 +270,7 @@ static HOLDS: &[Step] = &[
         [1, 0, 0, 0],
         QUIET,
     ),
-    // the level is asked for before the texel
+    // the level is checked before the texel
     (
         PLAIN,
         Hold(A, (1, 9, 9)),

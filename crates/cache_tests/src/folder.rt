@@ -1,4 +1,4 @@
-//! Caches and their passes.
+//! Makes caches and their passes.
 ghost use Rattle.std.specs.Prelude.{◌≡◌, ◌≤◌, length, IfOk};
 ghost use Rattle.tex_world.specs.World.{max_files};
 ghost use Rattle.image_cache.specs.Pass.{IsPassOf};
@@ -8,7 +8,7 @@ use std::alloc::Global;
 use std::test::Fail;
 use tex_world::Tap;
 
-/// A cache of so many files and its first pass.
+/// Makes a cache with this number of files, and its first pass.
 pub(crate) fn cache_of<T: Tap>(
     alloc: Global,
     options: Options,
@@ -25,7 +25,7 @@ pub(crate) fn cache_of<T: Tap>(
     }
 }
 
-/// A second pass of a cache.
+/// Splits off a second pass of a cache.
 pub(crate) fn second_of<T: Tap>(cache: &Cache<T>, pass: &mut Pass<T::W>) -> Result<Pass<T::W>, Fail>
     requires { IsPassOf cache.now pass.old }
     ensures pass { IsPassOf cache.now pass.new }

@@ -1,5 +1,5 @@
-//! Levels that no file stores: what is answered of them, which tiles are there then, and whether a tap
-//! was called.
+//! Generated levels: their values, the tiles that are then in the cache, and whether a tap was
+//! called.
 use crate::asks::Answer::{Again, Facts, NoLevel, Of, ReadFault, Shard, Texels};
 use crate::asks::Ask;
 use crate::asks::Ask::{Count, Hold, Info, Pixels};
@@ -10,7 +10,7 @@ use image_cache::Options;
 use std::test::Fail;
 use tiff_format::Cut;
 
-/// One shard, in which all tiles find room, and generated levels.
+/// One shard with a budget for all tiles, and generated levels.
 const GENERATED: Options = Options {
     cut: Cut {
         autotile: 64,
@@ -19,14 +19,14 @@ const GENERATED: Options = Options {
     ..ONE_SHARD
 };
 
-// The most bytes of unpinned tiles. The four tiles of `B` take 12288, 3072, 6144 and 1536 bytes.
+// the limit of unpinned tiles; the four tiles of `B` take 12288, 3072, 6144 and 1536 bytes
 const SHARE: u64 = 268435456;
 
-// Level 1 of `B` is 40 by 24 and one cell. Its texel (0, 0) is made of 0, 1, 100 and 101, and so are
-// its other channels, which are greater by 20000 and 40000.
+// Level 1 of `B` is 40 by 24, a single cell. Its texel (0, 0) is the mean of 0, 1, 100 and 101. The
+// other channels are greater by 20000 and 40000.
 const ONE: Ask = Pixels(B, (1, 0, 0), (1, 1));
 
-/// What each row shows, and its steps.
+/// The name of each case, and its steps.
 static ROWS: &[(&str, &[Step])] = &[
     (
         "the tiles that it is made of stay, and none is made twice",

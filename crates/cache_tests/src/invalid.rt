@@ -1,5 +1,5 @@
-//! What is left of the cache where a file is made invalid: tiles, holds, what is seen, and whether a
-//! tap is called then and by the next call.
+//! What is left of the cache after a file was invalidated: tiles, holds, what is seen, and whether
+//! a tap is called then and by the next call.
 use crate::asks::Answer::{Facts, Known, Of, ReadFault, Rectangle, Released, Shard, Texels};
 use crate::asks::Ask;
 use crate::asks::Ask::{Count, Held, Hold, Info, Invalidate, InvalidateAll, Pixels, Release};
@@ -8,15 +8,15 @@ use crate::small_files::{A, B};
 use crate::steps::{CALLS, QUIET, Step};
 use std::test::Fail;
 
-// One texel of `A`, which is 33, and 133 in generation 2; and one of `B`.
+// one texel of `A`, which is 33 in generation 1 and 133 in generation 2; and one of `B`
 const ONE: Ask = Pixels(A, (0, 1, 2), (1, 1));
 
 const OTHER: Ask = Pixels(B, (0, 0, 1), (1, 1));
 
-// The most bytes of unpinned tiles. The tile of `A` takes 32 bytes, that of `B` 12288.
+// the limit of unpinned tiles; the tile of `A` takes 32 bytes, that of `B` 12288
 const SHARE: u64 = 268435456;
 
-/// What each row shows, and its steps.
+/// The name of each case, and its steps.
 static ROWS: &[(&str, &[Step])] = &[
     (
         "nothing newer is known: tile and record stay",

@@ -1,6 +1,6 @@
-//! Tests of the cache and of lookups through it, over files in memory: regions, holds, records, fetches
-//! and lookups, files that are made invalid, generated levels, the refusals of each call, a pass that
-//! ends in another, two threads, and a shard that is taken. Options, and what refusals are called.
+//! Tests of the cache and of lookups, on files in memory. They cover regions, holds, records,
+//! fetches, lookups, invalidated files, generated levels, errors, passes that are joined, two
+//! threads, and a locked shard.
 #![tactic(auto)]
 
 #[cfg(test)]

@@ -1,4 +1,4 @@
-//! Lookups through the cache, worked out by hand, with their needs and hits.
+//! Lookups through the cache, with values, needs and hits worked out by hand.
 use crate::asks::Answer::{Facts, Nothing, Of};
 use crate::asks::Ask::{Info, Texture, TextureLocal};
 use crate::asks::Look;
@@ -9,10 +9,10 @@ use std::test::Fail;
 use texel_filter::Filter::{Bilinear, Closest, Trilinear};
 use texel_filter::Wrap::{Black, Clamp, Mirror, Periodic};
 
-// The middle of a picture: of `A` the mean of 17, 18, 33 and 34, which is 6553.5.
+// the middle of an image; for `A` the mean of 17, 18, 33 and 34, which is 6553.5
 const MIDDLE: Look = ((32768, 32768, 0), Clamp, Bilinear, 1);
 
-// One file of one level. Only the first lookup reads it.
+// One file with one level. Only the first lookup reads it.
 static ONE_LEVEL: &[Step] = &[
     (
         PLAIN,
@@ -46,7 +46,7 @@ static ONE_LEVEL: &[Step] = &[
         [12, 11, 1, 0],
         QUIET,
     ),
-    // half of the last and half of the first texel of a row; black leaves texels out
+    // half of the last and half of the first texel of a row; `black` leaves texels out
     (
         PLAIN,
         Texture(A, ((0, 8192, 0), Periodic, Bilinear, 1)),
@@ -106,8 +106,8 @@ static ONE_LEVEL: &[Step] = &[
     ),
 ];
 
-// In the middle of level 0 lies the corner of 3, 4, 5 and 6: the mean of their values is 1156.5. In
-// level 1 it is that of 200 and 100, which is 38550.
+// The middle of level 0 is the corner of 3, 4, 5 and 6: the mean of their values is 1156.5. In
+// level 1 it is the corner of 200 and 100, whose mean is 38550.
 static LEVELS: &[Step] = &[
     (
         PLAIN,
@@ -166,7 +166,7 @@ static LEVELS: &[Step] = &[
         [16, 14, 1, 0],
         QUIET,
     ),
-    // halfway and a quarter of the way between the levels: 19853.25 and 10504.875
+    // halfway, and a quarter of the way, between the levels: 19853.25 and 10504.875
     (
         PLAIN,
         Texture(TWO_LEVELS, ((32768, 32768, 32768), Clamp, Trilinear, 1)),
@@ -183,7 +183,7 @@ static LEVELS: &[Step] = &[
         [32, 30, 1, 0],
         QUIET,
     ),
-    // level 0 alone, and the last level alone
+    // only level 0, and only the last level
     (
         PLAIN,
         Texture(TWO_LEVELS, ((32768, 32768, 0), Clamp, Trilinear, 1)),
@@ -205,16 +205,15 @@ static LEVELS: &[Step] = &[
     ),
 ];
 
-// 16 parts in 65536 more than halfway between the columns 63 and 64 of row 1: channel 0 is
-// 163.500244.
+// 16/65536 more than halfway from column 63 to 64 in row 1: channel 0 is 163.500244
 const SEAM: Look = ((52429, 2048, 0), Clamp, Bilinear, 3);
 
-// As near to the corner of all four cells: channel 0 is 3213.524658.
+// just as near to the corner of all four cells: channel 0 is 3213.524658
 const CORNER: Look = ((52429, 43691, 0), Clamp, Bilinear, 3);
 
 const FIRST: Look = ((0, 0, 0), Clamp, Closest, 8);
 
-// A comment names the cells of the microcache then, the latest first.
+// The comment of a step names the cells that are then in the microcache, the latest first.
 static CELLS: &[Step] = &[
     (
         PLAIN,
@@ -248,7 +247,7 @@ static CELLS: &[Step] = &[
         [12, 8, 1, 0], // 3 2
         CALLS,
     ),
-    // the shard has all four
+    // the shard has all four cells
     (
         PLAIN,
         Texture(B, CORNER),
@@ -265,7 +264,7 @@ static CELLS: &[Step] = &[
         [16, 8, 1, 0], // 3 2
         QUIET,
     ),
-    // a channel that lacks
+    // a channel that the file lacks
     (
         PLAIN,
         Texture(B, ((52429, 2048, 0), Clamp, Bilinear, 4)),

@@ -1,4 +1,4 @@
-//! A file of a cache that was opened, and fetches by its record.
+//! A file that was opened through a cache, and fetches from its record.
 ghost use Rattle.std.specs.Prelude.{ℕ, ◌≡◌, ◌<◌, IfSome, IsSome};
 ghost use Rattle.std.specs.Bool.{OnTrue};
 ghost use Rattle.tex_world.specs.World.{IsFile};
@@ -13,7 +13,7 @@ use tex_world::Tap;
 use tiff_format::MAX_CHANNELS;
 use waiter::Waiter;
 
-/// The record is one of the files of the cache, used under its cut.
+/// Whether the record belongs to a file of the cache and has the cache's cut.
 fn is_of<T: Tap>(cache: &Cache<T>, known: &Record<T::W>) -> bool
     ensures file { OnTrue result (known.now.file < 5) }
     ensures cut { OnTrue result (known.now.cut ≡ cache.now.gate.cut) }
@@ -21,7 +21,7 @@ fn is_of<T: Tap>(cache: &Cache<T>, known: &Record<T::W>) -> bool
     known.file() < FILES && known.cut() == cache.cut()
 }
 
-/// A texel of level 0 of a record of the cache, where the file shows no fault and has it.
+/// A texel of level 0 of a record, if the file is valid and has it.
 fn texel<T: Tap>(cache: &Cache<T>, known: &Record<T::W>, place: (u32, u32)) -> Option<TexelAt>
     requires count { cache.now.files.board.files ≡ 5 }
     requires told { (file : ℕ) → file < 5 → IsFile T.W.files file }
@@ -35,7 +35,7 @@ fn texel<T: Tap>(cache: &Cache<T>, known: &Record<T::W>, place: (u32, u32)) -> O
     let Ok(layout) = known.layout() else {
         return None;
     };
-    // level 0 is one of the levels
+    // needed by the proof: level 0 is one of the levels
     let _levels = layout.levels(cut);
     let (width, height) = layout.size(0);
     let (x, y) = place;
@@ -45,7 +45,7 @@ fn texel<T: Tap>(cache: &Cache<T>, known: &Record<T::W>, place: (u32, u32)) -> O
     Some(TexelAt { level: 0, x, y })
 }
 
-// The answer of a record of this generation, or of none.
+// The answer for a record of this generation; 0 means none exists.
 fn of_record(generation: u32) -> Answer {
     if generation == 0 {
         Answer::Nothing
@@ -55,7 +55,7 @@ fn of_record(generation: u32) -> Answer {
 }
 
 impl<T: Tap> Worker<'_, T> {
-    /// Opens a file.
+    /// Opens a file, and keeps its record for fetches.
     pub(crate) fn open<V: Waiter>(&mut self, waiter: &V, tap: usize, file: u32) -> Answer
         requires file { file < 5 }
         requires told { (file : ℕ) → file < 5 → IsFile T.W.files file }
@@ -74,7 +74,7 @@ impl<T: Tap> Worker<'_, T> {
         }
     }
 
-    /// The values of a texel of level 0.
+    /// Fetches the values of a texel of level 0.
     pub(crate) fn fetch<V: Waiter>(
         &mut self,
         waiter: &V,
@@ -110,7 +110,7 @@ impl<T: Tap> Worker<'_, T> {
         self.left(answer, &out[..channels])
     }
 
-    /// The same where the microcache has its cell.
+    /// Fetches the values of a texel of level 0, if the microcache has its cell.
     pub(crate) fn fetch_local(&mut self, place: (u32, u32), channels: usize) -> Answer
         requires { (file : ℕ) → file < 5 → IsFile T.W.files file }
         ensures { self.new.cache.now ≡ self.old.cache.now }
@@ -131,7 +131,7 @@ impl<T: Tap> Worker<'_, T> {
         self.left(there(is_there), &out[..channels])
     }
 
-    /// Whether the microcache has the cell of a texel of level 0.
+    /// Asks whether the microcache has the cell of a texel of level 0.
     pub(crate) fn has_local(&self, place: (u32, u32)) -> Answer
         requires { (file : ℕ) → file < 5 → IsFile T.W.files file }
     {
@@ -145,7 +145,7 @@ impl<T: Tap> Worker<'_, T> {
         }
     }
 
-    /// Keeps the record, where its generation is none that the pass has not seen.
+    /// Lets the pass keep the record, unless the pass has not seen its generation.
     pub(crate) fn keep(&mut self) -> Answer
         ensures { self.new.cache.now ≡ self.old.cache.now }
     {
@@ -165,7 +165,7 @@ impl<T: Tap> Worker<'_, T> {
         }
     }
 
-    /// The record that is found of a file, which is no longer kept then.
+    /// Takes the kept record of a file out of the pass.
     pub(crate) fn local(&mut self, file: u32) -> Answer
         requires { file < 5 }
         ensures { self.new.cache.now ≡ self.old.cache.now }

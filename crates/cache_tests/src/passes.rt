@@ -1,4 +1,4 @@
-//! Two passes of a cache, of which one ends.
+//! Two passes of a cache, one of which is joined to the other.
 ghost use Rattle.std.specs.Prelude.{ℕ, ◌≡◌, ◌<◌, length};
 ghost use Rattle.tex_world.specs.World.{IsFile};
 ghost use Rattle.image_cache.specs.Pass.{IsPassOf};
@@ -16,8 +16,8 @@ use std::test::Fail;
 use tex_world::Tap;
 use waiter::Tries;
 
-// The tiles of `B` take 12288, 3072, 6144 and 1536 bytes. The first pass has pinned the cells 0 and
-// 1 in its microcache, and cell 2 by a hold.
+// The tiles of `B` take 12288, 3072, 6144 and 1536 bytes. The first pass has cells 0 and 1 pinned
+// in its microcache, and cell 2 by a hold.
 static FIRST: &[Step] = &[
     (
         PLAIN,
@@ -38,7 +38,7 @@ static FIRST: &[Step] = &[
     ),
 ];
 
-// The second has pinned cell 3 by a hold, and cell 1 in its microcache. Its tap meets another
+// The second pass has cell 3 pinned by a hold, and cell 1 in its microcache. Its tap meets a newer
 // generation of `A`.
 static SECOND: &[Step] = &[
     (PLAIN, Hold(B, (0, 64, 32)), Of(1), &[], [0, 0, 1, 1], CALLS),
@@ -69,7 +69,7 @@ static SECOND: &[Step] = &[
     (CHANGED, Info(A), Again(1, 2), &[], [2, 1, 2, 1], CALLS),
 ];
 
-// The first pass once the other has ended.
+// The first pass after the other was joined to it.
 static LAST: &[Step] = &[
     (
         PLAIN,
@@ -89,9 +89,9 @@ static LAST: &[Step] = &[
     ),
 ];
 
-/// Why there is no third pass; the steps that each pass met, and the last ones; what the second has
-/// seen of `B` before and after it is told of it, and the first of `A` before and after the other
-/// ends.
+/// The result of the test: why there is no third pass; how many steps each pass got right, and the
+/// last steps; what the second pass has seen of `B` before and after `carry`; and what the first
+/// has seen of `A` before and after the join.
 #[derive(Clone, Copy)]
 struct Ended {
     third: Option<SplitError>,
@@ -100,7 +100,7 @@ struct Ended {
     joined: Option<[u32; 2]>,
 }
 
-// How many steps a pass meets, and the pass.
+// How many steps a pass got right, and the pass.
 fn walked<T: Tap + Drop + Shows>(
     alloc: Global,
     cache: &Cache<T>,
@@ -126,7 +126,7 @@ fn walked<T: Tap + Drop + Shows>(
     (met, worker.into_pass())
 }
 
-// Why there is no third pass, if there is none.
+// The error of a third split, if it fails.
 fn third<T: Tap>(cache: &Cache<T>, pass: &mut Pass<T::W>) -> Option<SplitError>
     requires { IsPassOf cache.now pass.old }
     ensures { IsPassOf cache.now pass.new }
@@ -137,7 +137,7 @@ fn third<T: Tap>(cache: &Cache<T>, pass: &mut Pass<T::W>) -> Option<SplitError>
     }
 }
 
-// What a pass has seen of a file before and after what another has seen is carried to it.
+// What a pass has seen of a file before and after `carry`.
 fn carried<T: Tap>(
     cache: &Cache<T>,
     from: &mut Pass<T::W>,
@@ -157,7 +157,7 @@ fn carried<T: Tap>(
     }
 }
 
-// What a pass has seen of a file before and after another ends in it.
+// What a pass has seen of a file before and after another pass is joined to it.
 fn joined<T: Tap>(
     cache: &Cache<T>,
     keep: &mut Pass<T::W>,
@@ -184,7 +184,7 @@ struct Taps<T> {
     last: Vec<T>,
 }
 
-// How the second pass ends in the first.
+// Joins the second pass to the first, and returns what was seen.
 fn ended_in<T: Tap + Drop + Shows>(
     alloc: Global,
     cache: &Cache<T>,

@@ -1,4 +1,4 @@
-//! Callers over the files in memory, by taps whose calls fail and whose files change as planned.
+//! Callers over files in memory, with taps whose calls fail and whose files change as planned.
 ghost use Rattle.std.specs.Prelude.{ℕ, ◌≡◌, ◌<◌, false};
 ghost use Rattle.tex_world.specs.World.{IsFile};
 
@@ -13,44 +13,44 @@ use tex_world::{FailByte, FailCall, Folder, MemFolder, MemTap, Newest, Plan, Ris
 use tiff_format::Cut;
 use waiter::Tries;
 
-/// The tap of which nothing is planned.
+/// The tap without a plan.
 pub(crate) const PLAIN: usize = 0;
 
-/// The newest generation of `A` is 2.
+/// The tap for which the newest generation of `A` is 2.
 pub(crate) const NEWER: usize = 1;
 
-/// Its first call fails.
+/// The tap whose first call fails.
 pub(crate) const FAILING: usize = 2;
 
-/// Its first read of the samples of `A` fails.
+/// The tap whose first read of the samples of `A` fails.
 pub(crate) const FAULTY: usize = 3;
 
-/// Its first read of the directory of `A` meets generation 2.
+/// The tap whose first read of the directory of `A` meets generation 2.
 pub(crate) const CHANGED: usize = 4;
 
-/// Its first read of the samples of `A` meets generation 2.
+/// The tap whose first read of the samples of `A` meets generation 2.
 pub(crate) const CHANGING: usize = 5;
 
-/// Its first read of the second tile of `B` meets generation 2.
+/// The tap whose first read of the second tile of `B` meets generation 2.
 pub(crate) const RISING: usize = 6;
 
-/// Its first read of the second tile of `B` fails.
+/// The tap whose first read of the second tile of `B` fails.
 pub(crate) const BROKEN: usize = 7;
 
-/// The newest generation of `A` is 2, and its second call fails.
+/// The tap for which the newest generation of `A` is 2, and whose second call fails.
 pub(crate) const HALTING: usize = 8;
 
-// The byte at which the samples of `A` begin, and two tiles of `B`.
+// the places of the samples of `A`, and of two tiles of `B`
 const SAMPLES: u64 = 122;
 
 const SECOND_TILE: u64 = 12472;
 
 const LAST_TILE: u64 = 37048;
 
-// A byte of the number of entries of `A`.
+// a byte of the number of entries of `A`
 const ENTRIES: u64 = 9;
 
-/// One shard, in which all tiles find room.
+/// One shard with a budget for all tiles.
 pub(crate) const ONE_SHARD: Options = Options {
     budget: 268435456,
     shards: 1,
@@ -63,7 +63,7 @@ pub(crate) const ONE_SHARD: Options = Options {
     slots: 1024,
 };
 
-/// One shard, in which no tile stays without a pin, and one idle handle.
+/// One shard with a budget of 0, so that only pinned tiles stay, and one idle handle.
 pub(crate) const NO_BYTES: Options = Options {
     budget: 0,
     shards: 1,
@@ -76,7 +76,7 @@ pub(crate) const NO_BYTES: Options = Options {
     slots: 1024,
 };
 
-/// One shard, in which no tile stays without a pin, since none is of one byte.
+/// One shard with a budget of 1 byte, so that only pinned tiles stay.
 pub(crate) const ONE_BYTE: Options = Options {
     budget: 1,
     shards: 1,
@@ -128,7 +128,7 @@ fn folder_of(alloc: Global) -> Result<MemFolder<SmallFiles>, Fail> {
     Ok(MemFolder::new(plan))
 }
 
-/// The nine taps.
+/// Makes the nine taps.
 pub(crate) fn taps_of(alloc: Global) -> Result<Vec<MemTap<SmallFiles>>, Fail> {
     let mut folder = folder_of(alloc)?;
     let mut taps = Vec::new(alloc);
@@ -138,8 +138,8 @@ pub(crate) fn taps_of(alloc: Global) -> Result<Vec<MemTap<SmallFiles>>, Fail> {
     Ok(taps)
 }
 
-/// Two taps. Each meets generation 2 of `B` where it first reads its last tile, and the newest
-/// generation of `A` is 2 for the second.
+/// Makes two taps. Each meets generation 2 of `B` when it first reads its last tile. For the
+/// second, the newest generation of `A` is 2.
 pub(crate) fn pair_of(alloc: Global) -> Result<(MemTap<SmallFiles>, MemTap<SmallFiles>), Fail> {
     let mut plan = Plan::new(alloc);
     plan.rises.push(rise(0, B, LAST_TILE))?;
@@ -153,8 +153,8 @@ pub(crate) fn pair_of(alloc: Global) -> Result<(MemTap<SmallFiles>, MemTap<Small
     Ok((folder.tap(alloc)?, folder.tap(alloc)?))
 }
 
-// How many steps the first caller of a new cache of five files meets, up to the first that it does
-// not. One try is enough for one caller.
+// How many steps the first caller of a new cache of five files gets right, before the first wrong
+// one. A single caller needs only one try.
 fn met_by<T: Tap + Drop + Shows>(
     alloc: Global,
     options: Options,
@@ -175,8 +175,8 @@ fn met_by<T: Tap + Drop + Shows>(
     Ok(worker.steps_met(&Tries::new(1), steps))
 }
 
-/// How many steps the first caller of a new cache over the files in memory meets, up to the first
-/// that it does not.
+/// How many steps the first caller of a new cache over the files in memory gets right, before the
+/// first wrong one.
 pub(crate) fn steps_met(alloc: Global, options: Options, steps: &[Step]) -> Result<usize, Fail> {
     met_by(alloc, options, taps_of(alloc)?, steps)
 }

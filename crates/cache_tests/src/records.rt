@@ -1,5 +1,5 @@
-//! The record of a file, and fetches by it: what its microcache has, and where calls of the tap fail
-//! and the file changes.
+//! The record of a file, and fetches from it: what is in the microcache, which calls of the tap
+//! fail, and when the file changes.
 use crate::asks::Answer::{Again, Nothing, Of, Other, ReadFault, Shard, There};
 use crate::asks::Ask::{Count, Fetch, FetchLocal, HasLocal, Hold, Keep, Local, Open};
 use crate::planned::{CHANGED, CHANGING, FAILING, FAULTY, ONE_BYTE, ONE_SHARD, PLAIN, steps_met};
@@ -7,8 +7,8 @@ use crate::small_files::{A, B};
 use crate::steps::{CALLS, QUIET, Step};
 use std::test::Fail;
 
-/// What each row shows, and its steps. The texel in column x of row y of `A` is 257 times
-/// 16 * y + x, and of 100 more in the second generation.
+/// The name of each case, and its steps. The texel (x, y) of `A` is 257 times 16 * y + x, and 257
+/// times 100 more in generation 2.
 static ROWS: &[(&str, &[Step])] = &[
     (
         "a record is kept, found and handed out, and opening gives it up",
@@ -167,8 +167,9 @@ static ROWS: &[(&str, &[Step])] = &[
             (CHANGING, Local(A), Of(2), &[], [4, 1, 2, 0], QUIET),
         ],
     ),
-    // Cells of 64 by 32 of a level of 80 by 48: 0 and 1 stand over 2 and 3. Channel c of texel (x, y) is
-    // 20000 * c + 100 * y + x. A comment names the cells of the microcache then, the latest first.
+    // Cells of 64 by 32 in a level of 80 by 48: 0 and 1 are above 2 and 3. Channel c of texel (x,
+    // y) is 20000 * c + 100 * y + x. The comment of a step names the cells that are then in the
+    // microcache, the latest first.
     (
         "a look changes nothing, and a local fetch asks for its cell as any other or changes nothing",
         &[
@@ -248,7 +249,7 @@ static ROWS: &[(&str, &[Step])] = &[
                 [7, 3, 0, 0],
                 QUIET,
             ), // 0 1
-            // the cell that was asked for least lately leaves
+            // the least recently used cell leaves
             (
                 PLAIN,
                 Fetch((79, 47), 1),
@@ -260,7 +261,7 @@ static ROWS: &[(&str, &[Step])] = &[
             (PLAIN, HasLocal((64, 0)), Nothing, &[], [8, 3, 0, 0], QUIET),
             (PLAIN, Fetch((80, 0), 1), Other, &[], [8, 3, 0, 0], QUIET),
             (PLAIN, Fetch((0, 48), 1), Other, &[], [8, 3, 0, 0], QUIET),
-            // the first cell of another file, and then this one again
+            // the first cell of another file, then this one again
             (PLAIN, Open(A), Of(1), &[], [8, 3, 1, 0], CALLS),
             (PLAIN, HasLocal((0, 0)), Nothing, &[], [8, 3, 1, 0], QUIET),
             (PLAIN, Fetch((0, 0), 2), There, &[0, 0], [9, 3, 1, 0], CALLS), // A 3
@@ -287,9 +288,9 @@ fn fetches_by_a_record(rt: HostRuntime) -> Result<(), Fail> {
     Ok(())
 }
 
-// Fetches in the four cells of `B` and then in the first again, which the microcache has no more. A
-// comment names the cells of the microcache then, the latest first. The tiles take 12288, 3072, 6144
-// and 1536 bytes.
+// Fetches from the four cells of `B`, and then from the first again, which has left the microcache.
+// The comment of a step names the cells that are then in the microcache, the latest first. The
+// tiles take 12288, 3072, 6144 and 1536 bytes.
 static FIVE_CELLS: &[Step] = &[
     (PLAIN, Open(B), Of(1), &[], [0, 0, 1, 0], CALLS),
     (PLAIN, Fetch((0, 0), 1), There, &[0], [1, 0, 0, 0], CALLS), // 0
@@ -310,7 +311,7 @@ static FIVE_CELLS: &[Step] = &[
         [4, 0, 0, 0],
         CALLS,
     ), // 3 2
-    // no hit, and no call
+    // no hit, and no call to the tap
     (
         PLAIN,
         Fetch((63, 31), 1),
@@ -336,8 +337,7 @@ fn fetches_a_cell_of_the_shards_by_no_call(rt: HostRuntime) -> Result<(), Fail> 
     Ok(())
 }
 
-// The first cell of `B` is held. It stays in a shard in which no tile has room, and the second does
-// not.
+// The first cell of `B` is held. It stays in a shard with a budget of 0; the second does not.
 static HELD_CELL: &[Step] = &[
     (PLAIN, Hold(B, (0, 0, 0)), Of(1), &[], [0, 0, 1, 1], CALLS),
     (PLAIN, Open(B), Of(1), &[], [0, 0, 1, 1], QUIET),
@@ -350,7 +350,7 @@ static HELD_CELL: &[Step] = &[
         [2, 0, 0, 1],
         CALLS,
     ), // 2 1
-    // no hit, and no call
+    // no hit, and no call to the tap
     (PLAIN, Fetch((5, 4), 1), There, &[405], [3, 0, 0, 1], QUIET), // 0 2
     (PLAIN, Fetch((64, 0), 1), There, &[64], [4, 0, 0, 1], CALLS), // 1 0
     (

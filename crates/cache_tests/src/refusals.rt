@@ -1,4 +1,4 @@
-//! Options out of range, and what refusals are called.
+//! Options out of range, and the texts of errors.
 use crate::small_files::SmallFiles;
 use image_cache::{Cache, CacheError, NewError, Options, SplitError};
 use std::alloc::Global;
@@ -8,8 +8,8 @@ use tex_world::{MemTap, Tap};
 use tiff_format::Cut;
 use waiter::GaveUp;
 
-// Budget, then shards, passes, handles, autotile and slots, and the number of the first that is out of
-// its range, or 0.
+// Budget, then shards, passes, handles, autotile and slots, and the number of the first that is out
+// of range; 0 if all are in range.
 static ROWS: &[(u64, [u32; 5], u32)] = &[
     (0, [1, 1, 1, 0, 0], 0),
     (4294967296, [64, 16, 1024, 4096, 65536], 0),
@@ -32,7 +32,7 @@ static ROWS: &[(u64, [u32; 5], u32)] = &[
     (0, [1, 1, 1, 1, 65537], 5),
 ];
 
-// The number of the option that is refused, 0 where a cache is made.
+// The number of the option that is out of range; 0 if a cache is made.
 fn refused<T: Tap>(alloc: Global, budget: u64, numbers: [u32; 5]) -> u32 {
     let [shards, passes, handles, autotile, slots] = numbers;
     let cut = Cut {

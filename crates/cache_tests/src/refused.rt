@@ -1,5 +1,5 @@
-//! What is answered where a file is bad, is not opened, changes while it is opened, or has a cell
-//! that is too large. The values stay, what is seen does not fall, and the next call answers.
+//! Files that are invalid, cannot be opened, change while they are opened, or have a cell that is
+//! too large. The caller's values stay, what is seen does not fall, and the next call succeeds.
 use crate::asks::Answer::{Again, BadFile, Facts, Nothing, Of, ReadFault, Texels, TileTooLarge};
 use crate::asks::Ask::{Hold, Info, Pixels, Texture, TextureLocal};
 use crate::asks::Look;
@@ -12,14 +12,14 @@ use texel_filter::Filter::Bilinear;
 use texel_filter::Wrap::Clamp;
 use tiff_format::Cut;
 
-// The middle of `A`, whose four texels are 17, 18, 33 and 34, and 100 more in generation 2: their
-// means are 6553.5 and 32253.5.
+// the middle of `A`, whose four texels are 17, 18, 33 and 34, and 100 more in generation 2: their
+// means are 6553.5 and 32253.5
 const MIDDLE: Look = ((32768, 32768, 0), Clamp, Bilinear, 1);
 
-// The same of two channels, of which it has one.
+// the same place with two channels; the file has one
 const WIDER: Look = ((32768, 32768, 0), Clamp, Bilinear, 2);
 
-/// What each row shows, and its steps.
+/// The name of each case, and its steps.
 static ROWS: &[(&str, &[Step])] = &[
     (
         "a bad file",
@@ -218,7 +218,7 @@ fn refusals_of_each_call(rt: HostRuntime) -> Result<(), Fail> {
     Ok(())
 }
 
-/// A cell for each level of a stripped file.
+/// One cell per level of a stripped file.
 const WHOLE: Options = Options {
     budget: 0,
     shards: 1,
@@ -231,7 +231,7 @@ const WHOLE: Options = Options {
     slots: 1024,
 };
 
-// The one cell of the large file takes 67108864 bytes.
+// the only cell of the large file takes 67108864 bytes
 static TOO_LARGE: &[Step] = &[
     (
         PLAIN,

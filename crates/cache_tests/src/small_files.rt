@@ -1,5 +1,5 @@
-//! Files in memory: pictures in a strip, in tiles and in two levels, one that ends in its header,
-//! and one whose only cell may be too large.
+//! Files in memory: an image in a strip, one in tiles, one with two levels, a file that ends in its
+//! header, and one whose only cell can be too large.
 ghost use Rattle.std.specs.Prelude.{◌≡◌, ◌<◌, ◌-◌, ◌&&◌, ◌||◌, ◌==◌, nat_lt, nat_le};
 ghost use Rattle.std.specs.Prelude.{slice_index, Some, None, refl, if◌then◌else◌};
 ghost use Rattle.std.proofs.Common.{arith, lit≤};
@@ -11,22 +11,21 @@ ghost use Rattle.cache_tests.specs.declared.small_files.TheConstants.{TWO, HUGE}
 
 use tex_world::FileTable;
 
-/// 4 by 4 texels of one channel of 8 bits in one strip, which stands at 122: the one in column x of
-/// row y is `16 * y + x`, and greater by 100 in the second generation.
+/// 4 by 4 texels, one 8-bit channel, in one strip at 122. Texel (x, y) is `16 * y + x`, and 100
+/// more in generation 2.
 pub(crate) const A: u32 = 0;
 
-/// 80 by 48 texels of three channels of 16 bits in four tiles of 64 by 32, which stand at 184,
-/// 12472, 24760 and 37048: channel c of the one in column x of row y is `20000 * c + 100 * y + x`,
-/// and greater by 1 in the second generation.
+/// 80 by 48 texels, three 16-bit channels, in four tiles of 64 by 32 at 184, 12472, 24760 and
+/// 37048. Channel c of texel (x, y) is `20000 * c + 100 * y + x`, and 1 more in generation 2.
 pub(crate) const B: u32 = 1;
 
-/// Two levels of one channel of 8 bits: 2 by 4 texels from 1 to 8, and 200 above 100.
+/// Two levels of one 8-bit channel: 2 by 4 texels from 1 to 8, and below that 200 above 100.
 pub(crate) const TWO_LEVELS: u32 = 2;
 
 /// The first seven bytes of `A`.
 pub(crate) const SHORT: u32 = 3;
 
-/// 8192 by 4096 texels of one channel of 8 bits in one strip, all 0.
+/// 8192 by 4096 texels, one 8-bit channel, in one strip, all 0.
 pub(crate) const LARGE: u32 = 4;
 
 static FOUR: [u8; 138] = [
@@ -44,12 +43,12 @@ static FOUR: [u8; 138] = [
     0x00, 0x01, 0x02, 0x03, 0x10, 0x11, 0x12, 0x13, 0x20, 0x21, 0x22, 0x23, 0x30, 0x31, 0x32, 0x33,
 ];
 
-// The samples of its second generation.
+// the samples of generation 2
 static LATER: [u8; 16] = [
     100, 101, 102, 103, 116, 117, 118, 119, 132, 133, 134, 135, 148, 149, 150, 151,
 ];
 
-// What stands before the tiles.
+// the bytes before the tiles
 static TILED: [u8; 184] = [
     0x4d, 0x4d, 0x00, 0x2a, 0x00, 0x00, 0x00, 0x08, 0x00, 0x0b, //
     0x01, 0x00, 0x00, 0x03, 0x00, 0x00, 0x00, 0x01, 0x00, 0x50, 0x00, 0x00, //
@@ -71,7 +70,7 @@ static TILED: [u8; 184] = [
     0x00, 0x00, 0x30, 0x00, 0x00, 0x00, 0x30, 0x00,
 ];
 
-// Each row of level 1 is a strip, and that of its last row stands before that of its first.
+// each row of level 1 is a strip, and the last row comes first in the file
 static TWO: [u8; 138] = [
     0x49, 0x49, 0x2a, 0x00, 0x08, 0x00, 0x00, 0x00, 0x04, 0x00, //
     0x00, 0x01, 0x03, 0x00, 0x01, 0x00, 0x00, 0x00, 0x02, 0x00, 0x00, 0x00, //
@@ -88,7 +87,7 @@ static TWO: [u8; 138] = [
     1, 2, 3, 4, 5, 6, 7, 8, 100, 200,
 ];
 
-// What stands before the strip.
+// the bytes before the strip
 static HUGE: [u8; 122] = [
     0x49, 0x49, 0x2a, 0x00, 0x08, 0x00, 0x00, 0x00, 0x09, 0x00, //
     0x00, 0x01, 0x03, 0x00, 0x01, 0x00, 0x00, 0x00, 0x00, 0x20, 0x00, 0x00, //
@@ -103,8 +102,8 @@ static HUGE: [u8; 122] = [
     0x00, 0x00, 0x00, 0x00,
 ];
 
-/// The sample of channel c of the texel in column x of row y of the tiles, in a generation of them,
-/// and what stands beside the picture.
+/// The sample of channel c of texel (x, y) in the tiles, in generation g; or the padding outside
+/// the image.
 fn tiled_sample(g: u32, x: u64, y: u64, c: u64) -> u64
     requires { c < 3 }
     ensures value { result ≡ tiles.tiled_sample g x y c }
@@ -135,7 +134,7 @@ fn tiled_byte(g: u32, at: u64) -> u8
     }
 }
 
-/// The byte at a place of the tiled picture.
+/// The byte at a place of the tiled image.
 fn byte_of_tiled(g: u32, at: u64) -> u8
     requires { at < 49336 }
     ensures { result ≡ tiles.byte_behind TILED 184 (tiles.tiled_byte g) at }
@@ -147,7 +146,7 @@ fn byte_of_tiled(g: u32, at: u64) -> u8
     }
 }
 
-/// The byte at a place of the large picture.
+/// The byte at a place of the large image.
 fn byte_of_large(at: u64) -> u8
     ensures { result ≡ tiles.byte_behind HUGE 122 (λ k. 0) at }
 {

@@ -1,4 +1,4 @@
-//! Calls of one caller, each with its answer and what it leaves.
+//! Sequences of calls by one caller, with the expected answers and counts.
 ghost use Rattle.std.specs.Prelude.{ℕ, ◌≡◌, ◌<◌};
 ghost use Rattle.tex_world.specs.World.{IsFile};
 
@@ -8,7 +8,7 @@ use crate::worker::Worker;
 use tex_world::{MemTap, Tap};
 use waiter::Waiter;
 
-/// A tap that shows how many calls it has had.
+/// A tap that can say how many calls it has had.
 pub(crate) trait Shows {
     fn shown(&self) -> u64;
 }
@@ -19,18 +19,18 @@ impl Shows for MemTap<SmallFiles> {
     }
 }
 
-/// The tap has no call.
+/// The tap was not called.
 pub(crate) const QUIET: bool = false;
 
-/// The tap has one call or more.
+/// The tap was called at least once.
 pub(crate) const CALLS: bool = true;
 
-/// The number of a tap, a call by it, its answer, and the values that are then there: 7 was there
-/// before. Then the needs, the hits, the generation that is seen of the call's file, and the holds;
-/// and whether the tap had a call.
+/// One step: the number of a tap, a call, its answer, and the values afterwards (7 means not
+/// written). Then needs, hits, the generation seen of the call's file, and holds; and whether the
+/// tap was called.
 pub(crate) type Step = (usize, Ask, Answer, &'static [u16], [u64; 4], bool);
 
-// The file of a call, 0 where it has none.
+// The file of a call; 0 if it has none.
 fn file_of(ask: Ask) -> u32 {
     match ask {
         Ask::Info(file) => file,
@@ -50,7 +50,7 @@ fn are_same(values: &[u16], wanted: &[u16]) -> bool {
 }
 
 impl<T: Tap + Shows> Worker<'_, T> {
-    // The calls that a tap has had, 0 where there is no such tap.
+    // The number of calls that a tap has had; 0 if there is no such tap.
     fn calls(&self, tap: usize) -> u64 {
         match self.taps.get(tap) {
             Some(tap) => tap.shown(),
@@ -58,7 +58,7 @@ impl<T: Tap + Shows> Worker<'_, T> {
         }
     }
 
-    // Makes the call of a step. It answers whether all is as the step says.
+    // Makes the call of a step. True if everything is as the step says.
     fn is_so<V: Waiter>(&mut self, waiter: &V, step: &Step) -> bool
         requires { (file : ℕ) → file < 5 → IsFile T.W.files file }
         ensures { self.new.cache.now ≡ self.old.cache.now }
@@ -77,7 +77,7 @@ impl<T: Tap + Shows> Worker<'_, T> {
         answer == *wanted && same && counts == *left && rose == *called
     }
 
-    /// How many steps are as they say, up to the first that is not.
+    /// How many steps are as they say, before the first that is not.
     pub(crate) fn steps_met<V: Waiter>(&mut self, waiter: &V, steps: &[Step]) -> usize
         requires { (file : ℕ) → file < 5 → IsFile T.W.files file }
         ensures { self.new.cache.now ≡ self.old.cache.now }

@@ -1,5 +1,5 @@
-//! A shard that one thread takes all the while, and a caller in a second one that has a single try:
-//! each of its calls gives up sooner or later, leaves what was there, and is answered once it waits.
+//! One thread locks a shard again and again, and a caller in a second thread has a single try. Each
+//! kind of call gives up sooner or later, changes nothing then, and succeeds when it waits.
 ghost use Rattle.std.specs.Prelude.{ℕ, ◌≡◌, ◌<◌, length, IfOk};
 ghost use Rattle.tex_world.specs.World.{IsFile};
 ghost use Rattle.image_cache.specs.Pass.{IsPassOf};
@@ -22,7 +22,7 @@ use tex_world::Tap;
 use tiff_format::Cut;
 use waiter::{Forever, Tries, Waiter};
 
-/// One shard, in which all tiles find room, for three passes.
+/// One shard with a budget for all tiles, for three passes.
 const THREE_PASSES: Options = Options {
     budget: 268435456,
     shards: 1,
@@ -35,18 +35,19 @@ const THREE_PASSES: Options = Options {
     slots: 1024,
 };
 
-/// So often the first thread takes the shard at most. It ends once the second one has.
+/// The first thread locks the shard at most this often. It ends when the second one has ended.
 const TAKES: u32 = 100_000_000;
 
-/// So many rounds the second one makes at most, some seconds long.
+/// The second thread makes at most this many rounds, which take some seconds.
 const ROUNDS: u32 = 1_000_000;
 
-/// The first cell of `B`, of 12288 bytes, is the one tile of the shard: pinned once, and by nobody.
+/// The counts of the shard with one tile, the first cell of `B` with 12288 bytes: pinned once, and
+/// not pinned.
 const PINNED: [u64; 4] = [1, 1, 0, 268435456];
 
 const UNPINNED: [u64; 4] = [1, 0, 12288, 268435456];
 
-/// Which calls gave up once.
+/// Which calls have given up at least once.
 #[derive(Clone, Copy, PartialEq, Eq)]
 struct GaveUpAt {
     count: bool,
@@ -54,14 +55,14 @@ struct GaveUpAt {
     join: bool,
 }
 
-/// What was not as it should be.
+/// What went wrong.
 type Wrong = &'static str;
 
 fn all_gave_up(met: GaveUpAt) -> bool {
     met.count && met.release && met.join
 }
 
-// The shard's numbers are these.
+// Whether the shard has these counts.
 fn has<V: Waiter, T: Tap>(waiter: &V, worker: &mut Worker<'_, T>, numbers: [u64; 4]) -> bool
     requires { (file : ℕ) → file < 5 → IsFile T.W.files file }
     ensures { worker.new.cache.now ≡ worker.old.cache.now }
@@ -69,7 +70,7 @@ fn has<V: Waiter, T: Tap>(waiter: &V, worker: &mut Worker<'_, T>, numbers: [u64;
     worker.answer(waiter, 0, Count(0)) == Shard(numbers)
 }
 
-// Counts the shard by one try. It answers whether that gave up.
+// Counts the shard with one try. True if that gave up.
 fn count_gave_up<V: Waiter, T: Tap>(waiter: &V, worker: &mut Worker<'_, T>) -> Result<bool, Wrong>
     requires { (file : ℕ) → file < 5 → IsFile T.W.files file }
     ensures { worker.new.cache.now ≡ worker.old.cache.now }
@@ -92,7 +93,7 @@ fn holds_again<V: Waiter, T: Tap>(waiter: &V, worker: &mut Worker<'_, T>) -> boo
     worker.answer(waiter, 0, Hold(B, (0, 0, 0))) == Of(1)
 }
 
-// The one hold is there, and is released.
+// Whether there is one hold, and it can be released.
 fn releases_last<V: Waiter, T: Tap>(waiter: &V, worker: &mut Worker<'_, T>) -> bool
     requires { (file : ℕ) → file < 5 → IsFile T.W.files file }
     ensures { worker.new.cache.now ≡ worker.old.cache.now }
@@ -102,8 +103,8 @@ fn releases_last<V: Waiter, T: Tap>(waiter: &V, worker: &mut Worker<'_, T>) -> b
     held && one && worker.answer(waiter, 0, Release(0)) == Released
 }
 
-// Holds the cell twice and releases it twice by one try. The pin of the first hold may stay in hand,
-// and then the second is not released. It answers whether that was so.
+// Holds the cell twice, and releases it twice with one try each. The pin of the first hold may stay
+// in hand, and then the second is not released. True if that was so.
 fn release_gave_up<V: Waiter, T: Tap>(waiter: &V, worker: &mut Worker<'_, T>) -> Result<bool, Wrong>
     requires { (file : ℕ) → file < 5 → IsFile T.W.files file }
     ensures { worker.new.cache.now ≡ worker.old.cache.now }
@@ -120,7 +121,7 @@ fn release_gave_up<V: Waiter, T: Tap>(waiter: &V, worker: &mut Worker<'_, T>) ->
     if !gave_up && answer != Released {
         return Err("the second release");
     }
-    // a call that pins gives back first what is in hand
+    // a call that pins first gives back the pin in hand
     if holds_again(waiter, worker)
         && releases_last(waiter, worker)
         && worker.holds() == 0
@@ -132,7 +133,7 @@ fn release_gave_up<V: Waiter, T: Tap>(waiter: &V, worker: &mut Worker<'_, T>) ->
     }
 }
 
-// A further pass, which holds the cell.
+// Splits off a further pass, which holds the cell.
 fn holding<V: Waiter, T: Tap>(waiter: &V, worker: &mut Worker<'_, T>) -> Result<Pass<T::W>, Wrong>
     requires { (file : ℕ) → file < 5 → IsFile T.W.files file }
     ensures same { worker.new.cache.now ≡ worker.old.cache.now }
@@ -155,7 +156,7 @@ fn holding<V: Waiter, T: Tap>(waiter: &V, worker: &mut Worker<'_, T>) -> Result<
     }
 }
 
-// A pass that was not joined has its tile yet, and joins once its caller waits.
+// Whether a pass that could not be joined still has its tile, and joins when its caller waits.
 fn joins_yet<V: Waiter, T: Tap>(waiter: &V, worker: &mut Worker<'_, T>, other: Pass<T::W>) -> bool
     requires pass { IsPassOf worker.old.cache.now other }
     requires told { (file : ℕ) → file < 5 → IsFile T.W.files file }
@@ -168,7 +169,7 @@ fn joins_yet<V: Waiter, T: Tap>(waiter: &V, worker: &mut Worker<'_, T>, other: P
     }
 }
 
-// A further pass ends in the worker's by one try. It answers whether that gave up.
+// Joins a further pass to the worker's with one try. True if that gave up.
 fn join_gave_up<V: Waiter, T: Tap>(waiter: &V, worker: &mut Worker<'_, T>) -> Result<bool, Wrong>
     requires { (file : ℕ) → file < 5 → IsFile T.W.files file }
     ensures { worker.new.cache.now ≡ worker.old.cache.now }
@@ -190,7 +191,7 @@ fn join_gave_up<V: Waiter, T: Tap>(waiter: &V, worker: &mut Worker<'_, T>) -> Re
     }
 }
 
-// Makes each call by one try until each has given up.
+// Makes each call with one try, until each has given up once.
 fn rounds<V: Waiter, T: Tap>(waiter: &V, worker: &mut Worker<'_, T>) -> Result<GaveUpAt, Wrong>
     requires { (file : ℕ) → file < 5 → IsFile T.W.files file }
 {
@@ -239,7 +240,7 @@ fn tries<R: Wait, T: Tap + Drop>(
     rounds(&Forever::new(rt), &mut worker)
 }
 
-// Takes the shard again and again, until the other caller has ended. It reads no file.
+// Locks the shard again and again, until the other caller has ended. Reads no file.
 fn takes<R: Wait, T: Tap + Drop>(
     rt: &R,
     alloc: Global,

@@ -1,4 +1,4 @@
-//! Two threads over one cache in which no tile stays, of files that change under their taps.
+//! Two threads over one cache with a budget of 0, with files that change under their taps.
 ghost use Rattle.std.specs.Prelude.{ℕ, ◌≡◌, ◌<◌, length};
 ghost use Rattle.tex_world.specs.World.{IsFile};
 ghost use Rattle.image_cache.specs.Pass.{IsPassOf};
@@ -20,11 +20,11 @@ use texel_filter::Filter::Closest;
 use texel_filter::Wrap::Clamp;
 use waiter::{Forever, Waiter};
 
-/// So many calls each caller makes.
+/// The number of calls that each caller makes.
 const ROUNDS: u32 = 2000;
 
 // The file of a round, a texel of it, and the call that asks for it: a lookup of that texel, its
-// cell, or a region of it alone. The lower cells of `B` are asked for in the second half.
+// cell, or a region of that texel. The lower cells of `B` are used in the second half.
 fn asked(round: u32) -> (u32, (u32, u32), Ask) {
     if round % 4 == 0 {
         let (x, y) = (round / 4 % 4, round / 16 % 4);
@@ -40,7 +40,7 @@ fn asked(round: u32) -> (u32, (u32, u32), Ask) {
     (B, (x, y), ask)
 }
 
-// Whether these are the values of a texel in a generation. Of a cell that is held there are none.
+// Whether these are the values of a texel in a generation. A held cell has no values.
 fn are_values(file: u32, (x, y): (u32, u32), generation: u32, values: &[u16]) -> bool {
     let row = y.wrapping_mul(if file == A { 16 } else { 100 });
     let first = row.wrapping_add(x);
@@ -54,7 +54,7 @@ fn are_values(file: u32, (x, y): (u32, u32), generation: u32, values: &[u16]) ->
     }
 }
 
-// Each of the three is greater by 20000 than the one before.
+// Whether each of the three is greater by 20000 than the one before.
 fn are_from(first: u32, values: [u16; 3]) -> bool {
     let [red, green, blue] = values;
     u32::from(red) == first
@@ -65,15 +65,15 @@ fn are_from(first: u32, values: [u16; 3]) -> bool {
 /// How the calls of a caller ended.
 #[derive(Clone, Copy)]
 struct Tally {
-    /// With the values of the generation that was answered, which is not older than what was seen.
+    /// Calls with the values of the answered generation, which is not older than what was seen.
     answered: u32,
-    /// With two generations, of which the first is not older than what was seen.
+    /// Calls that answered `Again`, with a first generation not older than what was seen.
     again: u32,
-    /// The generation that is then seen of `B`.
+    /// The generation seen of `B` at the end.
     seen: u32,
 }
 
-// The generation of an answer, 0 where it has none.
+// The generation of an answer; 0 if it has none.
 fn generation_of(answer: Answer) -> u32 {
     match answer {
         Answer::Of(generation) => generation,
@@ -82,8 +82,8 @@ fn generation_of(answer: Answer) -> u32 {
     }
 }
 
-// Whether a newer generation was met than one that is not older than what was seen before, and that
-// is seen after.
+// Whether the answer is `Again`, from a generation not older than what was seen before, to one that
+// is seen afterwards.
 fn is_again(answer: Answer, before: u32, after: u32) -> bool {
     match answer {
         Answer::Again(from, to) => before <= from && from < to && to <= after,
@@ -92,7 +92,7 @@ fn is_again(answer: Answer, before: u32, after: u32) -> bool {
 }
 
 impl Tally {
-    // One more, as it was answered.
+    // Counts one more call.
     fn with(self, answered: bool, again: bool) -> Tally {
         Tally {
             answered: self.answered.saturating_add(u32::from(answered)),
@@ -102,8 +102,8 @@ impl Tally {
     }
 }
 
-// Makes the call of a round, and releases what it held. It answers whether it was answered as it
-// should be, and whether it is to be made again.
+// Makes the call of a round, and releases what it held. Returns whether the answer is right, and
+// whether the call must be repeated.
 fn made<V: Waiter, T: Tap>(waiter: &V, worker: &mut Worker<'_, T>, round: u32) -> (bool, bool)
     requires { (file : ℕ) → file < 5 → IsFile T.W.files file }
 {
@@ -118,7 +118,7 @@ fn made<V: Waiter, T: Tap>(waiter: &V, worker: &mut Worker<'_, T>, round: u32) -
     (right && fresh, is_again(answer, before, after))
 }
 
-// The rounds of a caller.
+// Makes all rounds of a caller.
 fn tally_of<V: Waiter, T: Tap>(waiter: &V, worker: &mut Worker<'_, T>) -> Tally
     requires { (file : ℕ) → file < 5 → IsFile T.W.files file }
 {
@@ -206,8 +206,8 @@ where
     Ok(in_two_threads(rt, alloc, &cache, one, two))
 }
 
-// Whoever first reads the last cell of `B` meets its second generation, and so does the other if it
-// has begun to read it too. The second tap may meet that of `A`.
+// The caller that first reads the last cell of `B` meets its second generation, and so may the
+// other if it was reading too. The second tap may meet generation 2 of `A`.
 #[test]
 fn no_answer_is_older_than_what_was_seen(rt: HostRuntime) -> Result<(), Fail> {
     let alloc = rt.alloc();

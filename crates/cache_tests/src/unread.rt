@@ -1,5 +1,5 @@
-//! What is answered where a cell is not read: a call of the tap fails, or the file has changed.
-//! The values stay, what is seen does not fall, and the next call answers.
+//! Cells that are not read, because a call of the tap fails or the file has changed. The caller's
+//! values stay, what is seen does not fall, and the next call succeeds.
 use crate::asks::Answer::{Again, Facts, HoldsFull, Nothing, Of, ReadFault, Texels};
 use crate::asks::Ask::{Hold, Info, Pixels, Texture, TextureLocal};
 use crate::asks::Look;
@@ -12,14 +12,14 @@ use std::test::Fail;
 use texel_filter::Filter::Bilinear;
 use texel_filter::Wrap::Clamp;
 
-// The middle of `A`, whose four texels are 17, 18, 33 and 34, and 100 more in generation 2: their
-// means are 6553.5 and 32253.5.
+// the middle of `A`, whose four texels are 17, 18, 33 and 34, and 100 more in generation 2: their
+// means are 6553.5 and 32253.5
 const MIDDLE: Look = ((32768, 32768, 0), Clamp, Bilinear, 1);
 
-// The same of two channels, of which it has one.
+// the same place with two channels; the file has one
 const WIDER: Look = ((32768, 32768, 0), Clamp, Bilinear, 2);
 
-/// What each row shows, and its steps.
+/// The name of each case, and its steps.
 static ROWS: &[(&str, &[Step])] = &[
     (
         "hold: the samples are not read",
@@ -194,7 +194,7 @@ static ROWS: &[(&str, &[Step])] = &[
             ),
         ],
     ),
-    // what the pass has of generation 1 serves until it has seen the newer one
+    // what the pass has of generation 1 can be used until it has seen the newer one
     (
         "a hold outlives its generation",
         &[

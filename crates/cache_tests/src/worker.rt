@@ -13,8 +13,8 @@ use texture_sys::{texture, texture_local};
 use tiff_format::MAX_CHANNELS;
 use waiter::Waiter;
 
-/// A pass of a cache of five files and so many shards, the taps that it may use, the values that its
-/// latest call left, and the record of the file that was opened last.
+/// A pass of a cache of five files, the number of shards, the taps to use, the values that the last
+/// call wrote, and the record of the file opened last.
 #[derive(Drop)]
 pub(crate) struct Worker<'a, T: Tap> {
     pub(crate) cache: &'a Cache<T>,
@@ -30,10 +30,10 @@ pub(crate) struct Worker<'a, T: Tap> {
 
 pub(crate) const FILES: u32 = 5;
 
-/// What is there before a call that writes values.
+/// The value of every place before a call.
 pub(crate) const BEFORE: u16 = 7;
 
-// The lookup of both wraps alike.
+// Makes a lookup request with the same wrap in both directions.
 fn request(look: Look) -> TexRequest
     ensures { result.nch ≡ look.3 }
 {
@@ -50,7 +50,7 @@ fn request(look: Look) -> TexRequest
 }
 
 impl<T: Tap> Worker<'_, T> {
-    /// Makes a call by a tap.
+    /// Makes a call through a tap.
     pub(crate) fn answer<V: Waiter>(&mut self, waiter: &V, tap: usize, ask: Ask) -> Answer
         requires { (file : ℕ) → file < 5 → IsFile T.W.files file }
         ensures { self.new.cache.now ≡ self.old.cache.now }
@@ -214,7 +214,7 @@ impl<T: Tap> Worker<'_, T> {
         self.left(answer, &out[..r.nch as usize])
     }
 
-    /// The answer of a call that left these values.
+    /// The answer of a call that wrote these values.
     pub(crate) fn left(&mut self, answer: Answer, values: &[u16]) -> Answer
         ensures { self.new.cache.now ≡ self.old.cache.now }
     {
@@ -269,7 +269,7 @@ impl<T: Tap> Worker<'_, T> {
         }
     }
 
-    /// The generation that its pass has seen of a file, 0 where the cache has no such file.
+    /// The generation that the pass has seen of a file; 0 if the cache has no such file.
     pub(crate) fn seen(&self, file: u32) -> u32 {
         if file < FILES {
             self.pass.seen(file)
@@ -278,7 +278,7 @@ impl<T: Tap> Worker<'_, T> {
         }
     }
 
-    /// How many tiles its pass holds, up to 5.
+    /// The number of tiles that the pass holds, up to 5.
     pub(crate) fn holds(&self) -> u64 {
         for place in 0..5u64 {
             if self.pass.held(place as usize).is_none() {
@@ -290,7 +290,7 @@ impl<T: Tap> Worker<'_, T> {
 }
 
 impl<T: Tap + Drop> Worker<'_, T> {
-    /// Its pass.
+    /// Takes the pass out.
     pub(crate) fn into_pass(self) -> Pass<T::W>
         ensures { IsPassOf self.entry.cache.now result }
     {

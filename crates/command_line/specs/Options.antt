@@ -1,4 +1,4 @@
--- Which options do the matches of the words give?
+-- Which options do the parsed arguments give?
 use Rattle.std.specs.Prelude.{ℕ, ◌≤◌, List, Option, Some, None, not, codes, Bool}
 use Rattle.std.specs.Prelude.{false}
 use Rattle.std.specs.Option.{option_map_or}
@@ -9,17 +9,17 @@ use Rattle.command_line.specs.declared.range.NumberRange.{NumberRange}
 use Rattle.command_line.specs.declared.options.Options.{Options}
 use Rattle.command_line.specs.Range as range
 
--- what is made of a value that is there
+-- applies a function to a value, if there is one
 infixl 10 ◌>>=◌
 abbrev pub ◌>>=◌ : {A B : Type 0} → Option A → (A → Option B) → Option B
 None >>= next = None
 (Some v) >>= next = next v
 
--- the number of an option, by its value or its default
+-- the number of an option, given or by default
 abbrev pub number : NumberRange → Text → List Row → Option ℕ
 number of name rows = range.number_or_default of (first_of name rows)
 
--- the flag is given
+-- whether the flag is given
 abbrev pub is_given : Text → List Row → Bool
 is_given name rows = option_map_or (λ text. bytes_eq text (codes "true")) (first_of name rows) false
 

@@ -1,11 +1,11 @@
--- Which numbers does an option take, and which does it have where it is not given?
+-- Which numbers does an option take, and what is its default?
 use Rattle.std.specs.Prelude.{◌≡◌, ℕ, ◌≤◌, ◌%◌, ◌==◌, ◌&&◌, ◌^◌, nat_le, List, Option, Some, None}
 use Rattle.std.specs.Prelude.{if◌then◌else◌, option_and_then}
 use Rattle.request_lang.specs.LineField.{digits_number}
 use Rattle.tiff_format.specs.Cut.{autotile_step, max_autotile}
 use Rattle.command_line.specs.declared.range.NumberRange.{NumberRange}
 
--- from the least to the most in steps
+-- from the least to the most in steps, and the default
 abbrev pub range : ℕ → ℕ → ℕ → ℕ → NumberRange
 range least most step default =
     record { least = least; most = most; step = step; default = default }
@@ -21,11 +21,11 @@ abbrev pub taken : NumberRange → ℕ → Option ℕ
 taken range n =
     if nat_le range.least n && (nat_le n range.most && n % range.step == 0) then Some n else None
 
--- the number that a value of 1 to 10 decimal digits spells, if the option takes it
+-- the number of 1 to 10 decimal digits, if the option takes it
 abbrev pub value_in_range : NumberRange → List ℕ → Option ℕ
 value_in_range range text = option_and_then (taken range) (digits_number text)
 
--- the number of an option whose value is this, or which is not given
+-- the number of an option with this value, or the default if it is not given
 abbrev pub number_or_default : NumberRange → Option (List ℕ) → Option ℕ
 number_or_default range None = Some range.default
 number_or_default range (Some text) = value_in_range range text

@@ -1,4 +1,4 @@
-//! The command whose words are read.
+//! Describes the command line: its folder, options and flag.
 
 ghost use Rattle.std.specs.Prelude.{◌≡◌, IfOk, false};
 ghost use Rattle.clap.specs.Words.{app_of, rule_of};
@@ -7,7 +7,7 @@ ghost use Rattle.command_line.specs.Command as spec;
 use clap::{Arg, ArgAction, Command};
 use std::alloc::{AllocError, Global};
 
-/// The folder: a word that stands alone.
+/// The folder: the argument without a name.
 fn folder<'a>(alloc: Global) -> Arg<'a>
     ensures rule { rule_of result ≡ spec.folder }
     ensures local { result.global ≡ false }
@@ -17,7 +17,7 @@ fn folder<'a>(alloc: Global) -> Arg<'a>
         .action(ArgAction::Set)
 }
 
-/// `--NAME VALUE` or `--NAME=VALUE`.
+/// An option: `--NAME VALUE` or `--NAME=VALUE`.
 fn option<'a>(alloc: Global, name: &'a str) -> Arg<'a>
     ensures rule { rule_of result ≡ spec.option name.entry.now }
     ensures local { result.global ≡ false }
@@ -25,7 +25,7 @@ fn option<'a>(alloc: Global, name: &'a str) -> Arg<'a>
     Arg::new(alloc, name).long(name).action(ArgAction::Set)
 }
 
-/// `--NAME`.
+/// A flag: `--NAME`.
 fn flag<'a>(alloc: Global, name: &'a str) -> Arg<'a>
     ensures rule { rule_of result ≡ spec.flag name.entry.now }
     ensures local { result.global ≡ false }

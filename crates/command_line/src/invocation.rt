@@ -1,4 +1,4 @@
-//! What the words of the command line ask for.
+//! Reads the arguments of the command line.
 
 ghost use Rattle.std.specs.Prelude.{◌≡◌, map, IfOk, IfSome, option_map};
 ghost use Rattle.std.specs.String.{string_bytes};
@@ -13,7 +13,7 @@ use clap::error::ErrorKind;
 use clap::{ArgMatches, Command, Error};
 use std::alloc::{AllocError, Global};
 
-/// What the words of the command line ask for.
+/// What the arguments ask for.
 #[derive(Clone, Copy, Debug, PartialEq, Eq)]
 pub struct Invocation<'a> {
     /// The path of the folder.
@@ -22,12 +22,12 @@ pub struct Invocation<'a> {
     pub options: Options,
 }
 
-/// Why the words ask for nothing.
+/// Why the arguments are not accepted.
 #[derive(Clone, Copy, Debug, PartialEq, Eq)]
 pub enum WordsError {
-    /// They are not those of the command, or a number is out of its range.
+    /// They are not those of the command, or a number is out of range.
     Bad,
-    /// No memory was found.
+    /// Out of memory.
     NoMemory,
 }
 
@@ -41,7 +41,7 @@ impl From<AllocError> for WordsError {
     }
 }
 
-/// Why words that the command refused ask for nothing.
+/// Converts the error of the argument parser.
 fn refused(error: &Error) -> WordsError
     ensures { result ≡ spec.refused (kind_of error.now) }
 {
@@ -51,7 +51,7 @@ fn refused(error: &Error) -> WordsError
     }
 }
 
-/// The matches of the words, if the command takes them.
+/// Parses the arguments.
 fn taken<'a>(command: Command<'a>, words: &'a [String]) -> Result<ArgMatches<'a>, WordsError>
     requires { app_of command ≡ line.command }
     ensures { spec.TakesWords (map string_bytes words.entry.now) result }
@@ -62,7 +62,7 @@ fn taken<'a>(command: Command<'a>, words: &'a [String]) -> Result<ArgMatches<'a>
     }
 }
 
-/// What the matches of the words ask for.
+/// The folder and the options, from the parsed arguments.
 fn asked_for<'a>(matches: &ArgMatches<'a>) -> Option<Invocation<'a>>
     ensures value { option_map spec.asked_in result
         ≡ spec.asked_for (rows_of (found_of matches.now)) }
@@ -73,7 +73,7 @@ fn asked_for<'a>(matches: &ArgMatches<'a>) -> Option<Invocation<'a>>
     Some(Invocation { folder, options })
 }
 
-/// What the words ask for, of which none is the program's name.
+/// What the arguments ask for. The program's name must not be among them.
 pub fn invocation_of<'a>(alloc: Global, words: &'a [String]) -> Result<Invocation<'a>, WordsError>
     ensures exact { spec.IsAsked (spec.invocation_of (map string_bytes words.entry.now)) result }
     ensures in_range { IfOk result (λ i. IsInRange i.options) }

@@ -1,4 +1,4 @@
-//! The words of the command line: the folder that they name, and the options of a run.
+//! The command line: its folder, and the options of a run.
 #![tactic(auto)]
 
 mod command;

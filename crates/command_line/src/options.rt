@@ -14,28 +14,28 @@ use tiff_format::Cut;
 /// The options of a run.
 #[derive(Clone, Copy, Debug, PartialEq, Eq)]
 pub struct Options {
-    /// How many workers answer requests.
+    /// The number of workers that answer requests.
     pub workers: u32,
-    /// How many bytes the cached texels take.
+    /// The most bytes of cached texels.
     pub budget: u64,
-    /// How many shards the cache has.
+    /// The number of shards of the cache.
     pub shards: u32,
-    /// How many files are kept open.
+    /// The number of idle files that are kept open.
     pub handles: u32,
-    /// How levels are cut into cells, and which levels a file has.
+    /// How levels are divided into cells, and whether smaller levels are generated.
     pub cut: Cut,
-    /// How many slots there are for parts of rows that find no memory as tiles.
+    /// The number of slots for parts of rows whose tiles find no memory.
     pub slots: u32,
 }
 
-/// The text of an argument, if it was given or has one by default.
+/// The text of an argument, given or by default.
 pub(crate) fn text_of<'a>(matches: &ArgMatches<'a>, name: &str) -> Option<&'a str>
     ensures { option_map (λ s. s.now) result ≡ first_of name.now (rows_of (found_of matches.now)) }
 {
     matches.get_str(name)
 }
 
-/// The number of an option, by its value or its default.
+/// The number of an option, given or by default.
 fn number(matches: &ArgMatches<'_>, name: &str, range: NumberRange) -> Option<u64>
     requires step { 0 < range.step }
     requires default { Takes range range.default }
@@ -45,14 +45,14 @@ fn number(matches: &ArgMatches<'_>, name: &str, range: NumberRange) -> Option<u6
     number_or_default(range, text_of(matches, name))
 }
 
-/// The flag was given.
+/// Whether the flag was given.
 fn is_given(matches: &ArgMatches<'_>, name: &str) -> bool
     ensures { result ≡ spec.is_given name.now (rows_of (found_of matches.now)) }
 {
     text_of(matches, name) == Some("true")
 }
 
-/// The options that the matches of the words give.
+/// The options, from the parsed arguments.
 pub(crate) fn options_of(matches: &ArgMatches<'_>) -> Option<Options>
     ensures value { result ≡ spec.options_of (rows_of (found_of matches.now)) }
     ensures in_range { IfSome result spec.IsInRange }

@@ -1,4 +1,4 @@
-//! The numbers that an option takes.
+//! The ranges and defaults of numeric options.
 
 ghost use Rattle.std.specs.Prelude.{◌≡◌, ◌≤◌, ◌<◌};
 ghost use Rattle.std.specs.Option.{IfSome, option_map};
@@ -7,20 +7,20 @@ ghost use Rattle.command_line.specs.Range as spec;
 use request_lang::digits_number;
 use tiff_format::{AUTOTILE_STEP, MAX_AUTOTILE};
 
-/// The numbers that an option takes, and the one that it has where it is not given.
+/// The range of a numeric option, and its default.
 #[derive(Clone, Copy, Debug, PartialEq, Eq)]
 pub struct NumberRange {
     /// The least number.
     pub least: u64,
-    /// The greatest.
+    /// The greatest number.
     pub most: u64,
-    /// Each number is a multiple of this.
+    /// Every number must be a multiple of this.
     pub step: u64,
-    /// The number of an option that is not given.
+    /// The number if the option is not given.
     pub default: u64,
 }
 
-/// How many workers answer requests.
+/// The number of workers that answer requests.
 pub(crate) const WORKERS: NumberRange = NumberRange {
     least: 1,
     most: 16,
@@ -28,7 +28,7 @@ pub(crate) const WORKERS: NumberRange = NumberRange {
     default: 4,
 };
 
-/// How many bytes the cached texels take.
+/// The most bytes of cached texels.
 pub(crate) const BUDGET: NumberRange = NumberRange {
     least: 0,
     most: 4294967296,
@@ -36,7 +36,7 @@ pub(crate) const BUDGET: NumberRange = NumberRange {
     default: 268435456,
 };
 
-/// How many shards the cache has.
+/// The number of shards of the cache.
 pub(crate) const SHARDS: NumberRange = NumberRange {
     least: 1,
     most: 64,
@@ -44,7 +44,7 @@ pub(crate) const SHARDS: NumberRange = NumberRange {
     default: 16,
 };
 
-/// How many files are kept open.
+/// The number of idle files that are kept open.
 pub(crate) const HANDLES: NumberRange = NumberRange {
     least: 1,
     most: 1024,
@@ -52,7 +52,7 @@ pub(crate) const HANDLES: NumberRange = NumberRange {
     default: 100,
 };
 
-/// The side of the cells of a level in strips, 0 for none.
+/// The side of the cells of a stripped level, in texels; 0 means that the level is a single cell.
 pub(crate) const AUTOTILE: NumberRange = NumberRange {
     least: 0,
     most: MAX_AUTOTILE as u64,
@@ -60,7 +60,7 @@ pub(crate) const AUTOTILE: NumberRange = NumberRange {
     default: 64,
 };
 
-/// How many slots there are for parts of rows.
+/// The number of slots for parts of rows.
 pub(crate) const SLOTS: NumberRange = NumberRange {
     least: 0,
     most: 65536,
@@ -68,7 +68,7 @@ pub(crate) const SLOTS: NumberRange = NumberRange {
     default: 1024,
 };
 
-/// The number of the range that a text spells.
+/// The number that a text spells, if it is in the range.
 pub(crate) fn value_in_range(range: NumberRange, text: &str) -> Option<u64>
     requires { 0 < range.step }
     ensures value { result ≡ spec.value_in_range range text.now }
@@ -81,7 +81,7 @@ pub(crate) fn value_in_range(range: NumberRange, text: &str) -> Option<u64>
     Some(number)
 }
 
-/// The number of the range that a value spells, or the default where none is given.
+/// The number that a value spells, if it is in the range; the default if no value is given.
 pub(crate) fn number_or_default(range: NumberRange, value: Option<&str>) -> Option<u64>
     requires step { 0 < range.step }
     requires default { spec.Takes range range.default }

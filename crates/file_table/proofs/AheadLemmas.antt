@@ -14,7 +14,7 @@ kept-cons : (e : ℕ × AheadState) (es : List (ℕ × AheadState))
     → kept_bytes (e ∷ es) ≡ e.1.count + kept_bytes es
 kept-cons e es = sum_by-cons (λ (a : AheadState). a.count) e.1 (values_of es)
 
--- of fewer files there are no more
+-- fewer files have no more bytes of read-ahead
 kept-take : (n : ℕ) (es : List (ℕ × AheadState)) → kept_bytes (take n es) ≤ kept_bytes es
 kept-take zero es = omega arith
 kept-take (suc n) [] = omega arith
@@ -22,18 +22,18 @@ kept-take (suc n) (e ∷ es) =
     let more : kept_bytes (e ∷ take n es) ≤ kept_bytes (e ∷ es) =
     omega (arith, kept-take n es, kept-cons e es, kept-cons e (take n es)) in more
 
--- with what is taken out they are as many as before
+-- the bytes kept and the bytes taken out add up to those before
 kept-removed : (test : ℕ → Bool) (es : List (ℕ × AheadState)) (a : AheadState)
     → lookup test es ≡ Some a → kept_bytes (remove_entry test es) + a.count ≡ kept_bytes es
 kept-removed test es a found =
     rw found at (sum_by-remove_entry (λ (b : AheadState). b.count) test es)
 
--- and without it no more
+-- removing an entry leaves no more bytes
 kept-fewer : (test : ℕ → Bool) (es : List (ℕ × AheadState))
     → kept_bytes (remove_entry test es) ≤ kept_bytes es
 kept-fewer test es = omega (arith, sum_by-remove_entry (λ (b : AheadState). b.count) test es)
 
--- where one is put in the place of another or before the others
+-- replacing an entry, or adding one in front, changes the bytes in this way
 placed : (a : AheadState) (k all : ℕ) (rest before : List (ℕ × AheadState))
     → kept_bytes rest ≤ all → kept_bytes before ≤ all → (o : Option (ℕ × AheadState))
     → kept_bytes (option_map_or (λ e. (e.0, a) ∷ rest) o ((k, a) ∷ before)) ≤ a.count + all

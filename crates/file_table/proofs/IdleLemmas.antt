@@ -1,4 +1,4 @@
--- Handles that stand under the numbers of their files do so whichever are put or taken out.
+-- Handles filed under the numbers of their files stay so, whichever are added or removed.
 use Rattle.std.proofs.Common.{◌≡◌, ℕ, ◌<◌, ◌≤◌, Bool, true, nat_eq, List}
 use Rattle.std.proofs.Common.{Option, Some, None, IfSome, IsSomeAnd, Result, Ok, Err, OnOk, OnErr}
 use Rattle.std.proofs.Common.{refl, sym, ◌∙◌, ap, subst, inl, inr, arith}
@@ -29,7 +29,7 @@ module _ {H : Type 0} (named : H → Named) where
       ap (λ (c : LruCache ℕ H). c.entries) popped in
       subst (AreOwn named) (sym at) (AreOwn-remove_entry test old.entries own)
 
-  -- the handle that stands under the number of a file is of this file
+  -- the handle filed under the number of a file belongs to that file
   pub file_of_lookup : (file : ℕ) (es : List (ℕ × H)) → AreOwn named es
       → IfSome (lookup (nat_eq file) es) (λ h. (named h).file ≡ file)
   file_of_lookup file es own = found (lookup (nat_eq file) es) refl where

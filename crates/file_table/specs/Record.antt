@@ -1,4 +1,4 @@
--- What does a record say of its file?
+-- What does a record say about its file?
 use Rattle.std.specs.Prelude.{◌≡◌, ◌↔◌, ℕ, ◌<◌, ◌≤◌, Bool, IsTrue, List, length, slice_index_or}
 use Rattle.std.specs.Prelude.{Result, Ok, Err, IfOk, IsOkAnd}
 use Rattle.std.specs.Option.{ForSome, option_map_or}
@@ -16,8 +16,7 @@ use Rattle.tile_layout.specs.Cell.{cut_level_in, channels_in, bit_depth_in, Cell
 use Rattle.tile_layout.specs.Grid.{shown_grid}
 use Rattle.file_table.specs.declared.known_level.KnownLevel.{KnownLevel}
 
--- The file and the generation that it is of, the cut that it is used under, and what is kept of
--- those bytes, or their fault.
+-- The file and the generation, the cut, and what is kept of the generation's bytes, or their fault.
 pub record RecordState : Type 0 where
   pub file : ℕ
   pub generation : ℕ
@@ -32,39 +31,39 @@ record_state file generation cut layout = record {
   layout = layout;
 }
 
--- what bytes give: the first fault that they show, and where they show none what is kept of them
+-- the first fault of these bytes or, if they are valid, what is kept of them
 abbrev pub layout_of : List ℕ → Result Kept TiffFault
 layout_of bytes = option_map_or Err (first_fault bytes) (Ok (kept_of bytes))
 
--- The generation is a real one of the file. Where the world tells, the layout is that of the bytes
--- of this file and generation.
+-- The generation exists. If the world is modelled, the layout is that of the bytes of this file and
+-- generation.
 pub record IsRecord (files : Files) (state : RecordState) : Type 0 where
   pub real : IsReal files state.file state.generation
   pub layout : ForSome (files.held state.file state.generation) (λ bytes.
       state.layout ≡ layout_of bytes)
 
--- ---- what lookups ask for
+-- ---- what lookups need to know
 
--- the file shows no fault and has this level under the cut
+-- the file is valid and has this level under the cut
 abbrev pub HasCutLevel : RecordState → ℕ → Type 0
 HasCutLevel state l =
     IsOkAnd state.layout (λ kept. l < level_count_in kept state.cut.automip)
 
--- the file has so many levels under the cut
+-- the file has this number of levels under the cut
 abbrev pub CountsLevels : RecordState → ℕ → Type 0
 CountsLevels state n = IfOk state.layout (λ kept. n ≡ level_count_in kept state.cut.automip)
 
--- the level is cut so
+-- the level is divided into cells in this way
 abbrev pub CutsLevel : RecordState → ℕ → Grid → Type 0
 CutsLevel state l grid =
     IfOk state.layout (λ kept. shown_grid grid ≡ cut_level_in kept state.cut l)
 
--- whether the file shows no fault, and no cell of any level takes more memory than a cell may
+-- whether the file is valid, and all its cells are small enough
 abbrev pub TellsFit : RecordState → Bool → Type 0
 TellsFit state fits = IsTrue fits ↔ IsOkAnd state.layout (λ kept. CellsFit kept state.cut)
 
--- What is kept of a level is so: it is cut as the cut cuts it, its first cell has this key, and its
--- texels have these samples. A key has room for the numbers of so many files as a folder can have.
+-- What is kept of a level is right: how it is divided into cells, the key of its first cell, and
+-- the samples per texel and their bits. The key is right for file numbers that a folder can have.
 pub record IsLevelOf (file generation : ℕ) (cut : Cut) (kept : Kept) (l : ℕ) (level : KnownLevel)
     : Type 0 where
   pub grid : shown_grid level.grid ≡ cut_level_in kept cut l
@@ -74,7 +73,7 @@ pub record IsLevelOf (file generation : ℕ) (cut : Cut) (kept : Kept) (l : ℕ)
   pub samples : IsChannelCount level.channels
   pub depth : level.depth ≡ bit_depth_in kept
 
--- these are the levels that the file has under the cut, one at least
+-- these are the levels that the file has under the cut, at least one
 pub record AreLevelsOf (file generation : ℕ) (cut : Cut) (kept : Kept) (levels : List KnownLevel)
     : Type 0 where
   pub count : length levels ≡ level_count_in kept cut.automip
@@ -82,7 +81,7 @@ pub record AreLevelsOf (file generation : ℕ) (cut : Cut) (kept : Kept) (levels
   pub each : (l : ℕ) (d : KnownLevel) → l < length levels
       → IsLevelOf file generation cut kept l (slice_index_or levels l d)
 
--- the levels of a file without fault, and never more than a file can have
+-- these are the levels of a valid file, never more than a file can have
 pub record HasLevels (state : RecordState) (levels : List KnownLevel) : Type 0 where
   pub few : length levels ≤ max_levels
   pub are : IfOk state.layout (λ kept.

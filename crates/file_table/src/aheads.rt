@@ -1,3 +1,4 @@
+//! The read-ahead buffers of files that nobody reads at the moment.
 ghost use Rattle.std.specs.Prelude.{◌≡◌, ◌≤◌, IfSome, length};
 ghost use Rattle.tap_reader.specs.ReadAhead.{IsOf};
 ghost use Rattle.file_table.specs.Aheads.{max_aheads, max_kept_bytes, kept_bytes};
@@ -8,18 +9,18 @@ use std::num::NonZeroUsize;
 use tap_reader::ReadAhead;
 use tex_world::{NoMemory, World};
 
-/// Of how many files what was read ahead is kept.
+/// The greatest number of files whose read-ahead is kept.
 const MAX_AHEADS: usize = 256;
 
-/// How many bytes of it are kept, of all files together: 16 MiB.
+/// The most bytes of read-ahead kept for all files together: 16 MiB.
 pub const MAX_KEPT_BYTES: usize = 16777216;
 
-/// What was read ahead of files that nobody reads, at most one for each file, for so many files and of
-/// so many bytes in all. The one that was kept longest ago leaves first.
+/// The read-ahead of files that nobody reads, at most one entry per file. The number of files and
+/// of bytes is limited; the entry kept longest ago leaves first.
 #[derive(Drop)]
 pub struct Aheads<W: World> {
     aheads: LruCache<u32, ReadAhead<W>>,
-    /// The bytes of all of them, or more.
+    /// An upper bound of the bytes of all entries.
     held: usize,
     ghost cap: { aheads.cap ≡ max_aheads },
     ghost few: { held ≤ max_kept_bytes },
@@ -27,14 +28,14 @@ pub struct Aheads<W: World> {
 }
 
 impl<W: World> Aheads<W> {
-    /// Of no file.
+    /// Nothing is kept yet.
     pub fn new(alloc: Global) -> Result<Aheads<W>, NoMemory> {
         let cap = NonZeroUsize::new(MAX_AHEADS).unwrap();
         let aheads = LruCache::sparse(alloc, cap)?;
         Ok(Aheads { aheads, held: 0 })
     }
 
-    /// Of how many files there is something: never more than may be.
+    /// The number of files with read-ahead, at most 256.
     pub fn len(&self) -> usize
         ensures value { result ≡ length self.now.aheads.entries }
         ensures few { result ≤ max_aheads }
@@ -42,7 +43,7 @@ impl<W: World> Aheads<W> {
         self.aheads.len()
     }
 
-    /// How many bytes there are, or more: never more than may be kept of all files together.
+    /// An upper bound of the bytes kept, at most 16 MiB.
     pub fn bytes(&self) -> usize
         ensures all { kept_bytes self.now.aheads.entries ≤ result }
         ensures few { result ≤ max_kept_bytes }
@@ -50,8 +51,8 @@ impl<W: World> Aheads<W> {
         self.held
     }
 
-    /// What was read ahead of a file, where it is of this generation. It stays here too, and takes
-    /// memory for its places alone.
+    /// The read-ahead of a file if it is of this generation. The entry stays, and its bytes are
+    /// shared, so only the list of stretches is allocated.
     pub fn get(&self, file: u32, generation: u32) -> Option<ReadAhead<W>>
         ensures { IfSome result (IsOf file generation) }
     {
@@ -63,7 +64,7 @@ impl<W: World> Aheads<W> {
         }
     }
 
-    /// Takes out what was read ahead of a file, of whatever generation.
+    /// Takes out the read-ahead of a file, of any generation.
     pub fn forget(&mut self, file: u32) -> Option<ReadAhead<W>>
         ensures { self.new.held ≤ self.old.held }
     {
@@ -72,8 +73,8 @@ impl<W: World> Aheads<W> {
         Some(ahead)
     }
 
-    /// Keeps what was read ahead of a file over what there was (`ReadAhead::over`). What is not kept
-    /// comes back.
+    /// Keeps the read-ahead of a file, merged with what was kept before (`ReadAhead::over`). What
+    /// is not kept is returned.
     pub fn keep(&mut self, ahead: ReadAhead<W>) -> Option<ReadAhead<W>> {
         if ahead.is_blank() {
             return Some(ahead);
@@ -88,7 +89,7 @@ impl<W: World> Aheads<W> {
         }
     }
 
-    /// Drops what was kept longest ago.
+    /// Drops the entry kept longest ago.
     fn drop_oldest(&mut self) {
         let oldest = match self.aheads.peek_lru() {
             Some((file, _)) => *file,
@@ -97,13 +98,13 @@ impl<W: World> Aheads<W> {
         let _dropped = self.forget(oldest);
     }
 
-    /// So many bytes of one file more may be kept.
+    /// Whether `size` bytes of one more file may be kept.
     fn has_room(&self, size: usize) -> bool {
         let few = self.held.saturating_add(size) <= MAX_KEPT_BYTES;
         few && self.aheads.len() < MAX_AHEADS
     }
 
-    /// Drops what was kept longest ago until so many bytes of one file more may be kept.
+    /// Drops the oldest entries until `size` bytes of one more file may be kept.
     fn make_room(&mut self, size: usize) {
         for _ in 0..MAX_AHEADS {
             if self.has_room(size) {
@@ -113,8 +114,8 @@ impl<W: World> Aheads<W> {
         }
     }
 
-    /// Puts what was read ahead of a file before that of all others. What leaves for it comes back,
-    /// or it itself where no memory is found.
+    /// Puts the read-ahead of a file in front of all others. Returns what leaves for it, or the
+    /// read-ahead itself if memory runs out.
     fn put(&mut self, ahead: ReadAhead<W>) -> Option<ReadAhead<W>> {
         let size = ahead.len();
         self.make_room(size);

@@ -1,17 +1,17 @@
-//! Why a call of the table is refused.
+//! The errors of the file table.
 use std::alloc::AllocError;
 use tex_world::OpenError;
 
-/// Why a file has no record, or no handle of it is lent.
+/// Why a file has no record, or no handle of it can be lent.
 #[derive(Clone, Copy, Debug, PartialEq, Eq)]
 pub enum FileError<B> {
-    /// The source failed. Its count of faults has risen.
+    /// An I/O error. The tap's count of faults has risen.
     ReadFault,
-    /// The generation `from` was opened or asked for, and a newer one was met.
+    /// Generation `from` was opened or asked for, and a newer one was met.
     Again { from: u32, to: u32 },
-    /// No memory was found.
+    /// Out of memory.
     NoMemory,
-    /// The waiter gave up before the lock that the call needs was free.
+    /// The waiter gave up on a lock that the call needs.
     Busy(B),
 }
 
@@ -40,7 +40,7 @@ impl<B> From<AllocError> for FileError<B> {
     }
 }
 
-/// A `settle` gave up. The file comes back, and dropping it closes its handle.
+/// A `settle` gave up on a lock. The file comes back; dropping it closes its handle.
 #[derive(Drop)]
 pub struct NotSettled<F: Drop, B: Drop> {
     pub file: F,

@@ -1,3 +1,4 @@
+//! The table of files: their newest records, shared by many workers.
 ghost use Rattle.std.specs.Prelude.{◌≡◌, ℕ, ◌<◌, ◌≤◌, IfOk, IfErr, IfSome, slice_index};
 ghost use Rattle.tex_world.specs.World.{IsFile, IsReal};
 ghost use Rattle.gen_board.specs.View.{IsNewView};
@@ -21,16 +22,16 @@ use tex_world::{NoMemory, Tap, World};
 use tiff_format::Cut;
 use waiter::Waiter;
 
-/// The lock of a file's record. Its tag is the number of the file.
+/// The lock of a file's record. Its tag is the file's number.
 type RecordLock<W> = TagLock<KnownRecord<W>, OfFile<W>>;
 
-/// The lock of the handles that lie idle, with what was read ahead of their files. Its tag is the
-/// most handles that there may be.
+/// The lock of the idle handles and of the read-ahead of their files. Its tag is the greatest
+/// number of idle handles.
 type IdleLock<T> = TagLock<Box<IdleFiles<T>>, SoMany>;
 
-/// The files of a folder as many workers use them. In a clause it is its board, the most handles
-/// that lie idle in it, and the cut that its files are used under. It holds no tap: `T` names the
-/// world, and the kind of handles that lie idle.
+/// The files of a folder, used by many workers. Clauses see its board, the greatest number of idle
+/// handles, and the cut that its files are used under. It owns no tap: `T` only names the world and
+/// the kind of idle handles.
 #[derive(Drop)]
 pub struct Files<T: Tap> {
     pub(crate) alloc: Global,
@@ -63,8 +64,8 @@ fn record_locks<W: World>(alloc: Global, files: u32) -> Result<Vec<RecordLock<W>
 }
 
 impl<T: Tap> Files<T> {
-    /// A table of so many files, none of which is known yet, and the first view of its board.
-    /// At most `cap` handles lie idle in it, and its files are used under the cut.
+    /// Makes a table of `files` files, none of them known, and the first view of its board. At most
+    /// `cap` handles are kept idle.
     pub fn new(
         alloc: Global,
         files: u32,
@@ -92,7 +93,7 @@ impl<T: Tap> Files<T> {
         Ok((table, view))
     }
 
-    /// The newest known generations.
+    /// The board: the newest known generation of each file.
     pub fn board(&self) -> &Board<T::W>
         ensures { result.now ≡ self.now.board }
     {
@@ -101,10 +102,10 @@ impl<T: Tap> Files<T> {
 
     /// The record of the newest known generation of a file.
     ///
-    /// The board is looked at once. A record that is kept and at least as new as what the view has
-    /// then seen is answered without a call of the tap. Else the file is opened and read, and its
-    /// record is kept, unless the waiter then gives up, and so is the handle where the directories
-    /// took a window. The lock of the file's record is held for no read and for no growth of memory.
+    /// Reads the board once. If a record is kept that is as new as what the view has then seen, it
+    /// is returned without a call to the tap. Otherwise the file is opened and read, and its record
+    /// is kept, unless the waiter gives up. The handle is kept idle too if the directories were
+    /// read through a window. No lock of a record is held during a read or an allocation.
     pub fn record<V: Waiter>(
         &self,
         waiter: &V,
@@ -121,7 +122,7 @@ impl<T: Tap> Files<T> {
         ensures cause { IfErr result (RecordCause T.W.files file
             (sighted view.old (T.state tap.old)) (sighted view.new (T.state tap.new))) }
 
-        // What the call leaves, whatever it answers.
+        // The state after the call, also after an error.
         ensures looks { LooksOnce file view.old view.new }
         ensures once { OpensIfAtAll (T.state tap.old) (T.state tap.new) }
     {
@@ -140,7 +141,7 @@ impl<T: Tap> Files<T> {
         }
     }
 
-    /// The record that is kept of a file, where its generation is at least `least`.
+    /// The record that is kept of a file, if its generation is at least `least`.
     fn known<V: Waiter>(
         &self,
         waiter: &V,
@@ -155,12 +156,12 @@ impl<T: Tap> Files<T> {
         let lock = &self.records[file as usize];
         let known = lock.take(waiter)?;
         let found = known.at_least(least, self.cut);
-        // Who took it puts it back at the first try.
+        // puts it back at the first try, because only this call has taken it
         put_back(lock, waiter, known);
         Ok(found)
     }
 
-    /// Forgets the record that is kept of a file.
+    /// Drops the record that is kept of a file.
     pub(crate) fn forget<V: Waiter>(&self, waiter: &V, file: u32) -> Result<(), V::Busy>
         requires { file < self.now.board.files }
     {
@@ -171,7 +172,7 @@ impl<T: Tap> Files<T> {
         Ok(())
     }
 
-    /// Makes a generation known, where the view has seen less.
+    /// Raises the board's number for a file, if the view has seen less.
     pub(crate) fn see(&self, view: &mut View<T::W>, file: u32, generation: u32)
         requires board { view.old.board ≡ self.now.board }
         requires file { file < self.now.board.files }
@@ -186,7 +187,7 @@ impl<T: Tap> Files<T> {
         }
     }
 
-    /// Opens and reads a file at a generation that is at least what the view has seen, and keeps
+    /// Opens and reads a file in a generation at least as new as what the view has seen, and keeps
     /// its record.
     fn read_anew<V: Waiter>(
         &self,
@@ -224,7 +225,7 @@ impl<T: Tap> Files<T> {
         }
     }
 
-    /// Keeps a record for the calls to come, unless the waiter gives up.
+    /// Keeps a record for later calls, unless the waiter gives up.
     fn keep<V: Waiter>(&self, waiter: &V, file: u32, read: &Arc<Record<T::W>>)
         requires file { file < self.now.board.files }
         requires of_file { read.now.value.file ≡ file }

@@ -1,9 +1,10 @@
-//! What was taken out of a lock is put back.
+//! Puts back a value that was taken out of its lock.
 
 use tag_lock::{NotPut, TagLock, TagRule};
 use waiter::Waiter;
 
-/// Puts back what was taken. Only a taker puts, so the lock holds none and the first try does it.
+/// Puts back what was taken. Only a taker puts back, so the lock is empty and the first try
+/// succeeds.
 pub(crate) fn put_back<X: Drop, F: TagRule<X>, V: Waiter>(
     lock: &TagLock<X, F>,
     waiter: &V,

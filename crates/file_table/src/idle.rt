@@ -1,3 +1,4 @@
+//! Open handles that are kept for later use.
 ghost use Rattle.std.specs.Prelude.{◌≡◌, ◌↔◌, ◌⊎◌, ◌<◌, ◌≤◌, nat_eq, [], length};
 ghost use Rattle.std.specs.Prelude.{None, IsTrue, IfOk, IfSome, IsSome};
 ghost use Rattle.std.specs.List.{IsDistinct};
@@ -10,8 +11,8 @@ use std::marker::Model;
 use std::num::NonZeroUsize;
 use tex_world::{NoMemory, TapHandle};
 
-/// Open handles that nobody uses, at most one for each file and so many in all. In a clause it is
-/// the handles by their files, the latest settled first, and how many there may be.
+/// Idle open handles, at most one per file and `cap` in all. Clauses see the handles by file, the
+/// one settled last first, and the limit.
 #[derive(Drop)]
 pub struct IdleHandles<H: TapHandle + Drop> {
     handles: LruCache<u32, H>,
@@ -30,7 +31,7 @@ impl<H: TapHandle + Drop> Model for IdleHandles<H> {
 }
 
 impl<H: TapHandle + Drop> IdleHandles<H> {
-    /// No handle, and room for so many.
+    /// No handles, with memory for `cap` of them.
     pub fn new(alloc: Global, cap: usize) -> Result<IdleHandles<H>, NoMemory>
         requires { 0 < cap }
         ensures empty { IfOk result (λ idle. idle.entries ≡ []) }
@@ -41,8 +42,8 @@ impl<H: TapHandle + Drop> IdleHandles<H> {
         Ok(IdleHandles { handles })
     }
 
-    /// The number of handles. There are never more than may be, each is that of its file, and no
-    /// file has two.
+    /// The number of idle handles. It is at most the limit; each handle is filed under its own
+    /// file, and no file has two.
     pub fn len(&self) -> usize
         ensures value { result ≡ length self.now.entries }
         ensures few { result ≤ self.now.cap }
@@ -52,7 +53,7 @@ impl<H: TapHandle + Drop> IdleHandles<H> {
         self.handles.len()
     }
 
-    /// Whether the handle of a file is of a generation above this one.
+    /// Whether the idle handle of a file is newer than this generation.
     pub fn has_newer(&self, file: u32, generation: u32) -> bool
         ensures { IsTrue result ↔ HasNewer H.named self.now.entries file generation }
     {
@@ -62,7 +63,7 @@ impl<H: TapHandle + Drop> IdleHandles<H> {
         }
     }
 
-    /// Takes out the handle of a file, unless it is of a generation above this one.
+    /// Takes out the handle of a file, unless it is newer than this generation.
     pub fn take_until(&mut self, file: u32, generation: u32) -> Option<H>
         ensures newer { HasNewer H.named self.old.entries file generation →
             (result ≡ None) × (self.new ≡ self.old) }
@@ -84,9 +85,9 @@ impl<H: TapHandle + Drop> IdleHandles<H> {
         self.handles.pop(&file)
     }
 
-    /// Makes a handle the one of its file, the latest, in the place of one that is not newer. The
-    /// one whose place it takes comes back, or the handle itself where that of its file is newer.
-    /// Where its file has none it comes back where no memory is found.
+    /// Makes a handle the idle one of its file, in front of all others. It replaces one that is not
+    /// newer, which is returned. The handle itself is returned if the file has a newer idle one, or
+    /// if memory runs out.
     pub fn settle(&mut self, handle: H) -> Option<H>
         ensures newer { HasNewer H.named self.old.entries
             (H.named handle).file (H.named handle).generation →

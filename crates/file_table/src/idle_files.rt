@@ -1,4 +1,4 @@
-//! The files that nobody reads.
+//! Idle handles together with the read-ahead of their files.
 ghost use Rattle.std.specs.Prelude.{◌≡◌, ◌<◌, IfOk};
 
 use crate::aheads::Aheads;
@@ -7,7 +7,7 @@ use std::alloc::Global;
 use tag_lock::TagRule;
 use tex_world::{NoMemory, Tap};
 
-/// The handles that lie idle, and what was read ahead of their files.
+/// The idle handles, and the read-ahead of their files.
 #[derive(Drop)]
 pub(crate) struct IdleFiles<T: Tap> {
     pub(crate) handles: IdleHandles<T::Handle>,
@@ -15,7 +15,7 @@ pub(crate) struct IdleFiles<T: Tap> {
 }
 
 impl<T: Tap> IdleFiles<T> {
-    /// None, and room for so many handles.
+    /// Nothing is idle; memory for `cap` handles.
     pub(crate) fn new(alloc: Global, cap: usize) -> Result<IdleFiles<T>, NoMemory>
         requires { 0 < cap }
         ensures { IfOk result (λ idle. idle.handles.cap ≡ cap) }
@@ -27,7 +27,7 @@ impl<T: Tap> IdleFiles<T> {
     }
 }
 
-/// The handles that may lie idle are as many as the tag says.
+/// The lock's rule: the tag is the greatest number of idle handles.
 pub(crate) struct SoMany;
 
 impl<T: Tap> TagRule<Box<IdleFiles<T>>> for SoMany {

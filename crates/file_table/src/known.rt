@@ -1,4 +1,4 @@
-//! What the lock of a file's record has.
+//! The value inside the lock of a file's record.
 ghost use Rattle.std.specs.Prelude.{◌≡◌, ◌⊎◌, ◌≤◌, Some, None, IfSome, IsSome, IsSomeAnd};
 
 use crate::record::Record;
@@ -9,13 +9,13 @@ use tag_lock::TagRule;
 use tex_world::World;
 use tiff_format::Cut;
 
-/// The newest record that is known of a file, if there is one.
+/// The newest known record of a file, if there is one.
 #[derive(Drop)]
 pub(crate) struct KnownRecord<W: World> {
     record: Option<Arc<Record<W>>>,
 }
 
-/// The record that is known is that of the file whose number is the tag.
+/// The lock's rule: the record is that of the file whose number is the tag.
 pub(crate) struct OfFile<W> {
     world: PhantomData<W>,
 }
@@ -31,8 +31,8 @@ impl<W: World> KnownRecord<W> {
         KnownRecord { record: None }
     }
 
-    /// The record, where its generation is at least this one. All are under one cut, so no other is
-    /// found here.
+    /// The record, if its generation is at least this one. All records of a table have the same
+    /// cut, so one of another cut is never found.
     pub(crate) fn at_least(&self, least: u32, cut: Cut) -> Option<Arc<Record<W>>>
         ensures known { IfSome result (λ r. IfSome self.now.record (λ k. r.value ≡ k.value)) }
         ensures there { IsSome result → IsSome self.now.record }
@@ -47,7 +47,7 @@ impl<W: World> KnownRecord<W> {
         }
     }
 
-    /// Knows no record from then on. The one that was known comes back.
+    /// Drops the record, which is returned.
     pub(crate) fn forget(&mut self) -> Option<Arc<Record<W>>>
         ensures gone { self.new.record ≡ None }
         ensures back { result ≡ self.old.record }
@@ -55,7 +55,7 @@ impl<W: World> KnownRecord<W> {
         self.record.take()
     }
 
-    /// Keeps a record in the place of one that is not newer. The one that is not kept comes back.
+    /// Keeps a record unless the known one is newer. The one that is not kept is returned.
     pub(crate) fn keep(&mut self, read: Arc<Record<W>>) -> Option<Arc<Record<W>>>
         ensures kept { (self.new.record ≡ Some read) ⊎ (self.new.record ≡ self.old.record) }
         ensures newest { IsSomeAnd self.new.record (λ kept.

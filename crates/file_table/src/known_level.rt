@@ -1,14 +1,15 @@
+//! What lookups need to know about a level.
 use tile_layout::{Grid, TileKey};
 
-/// What lookups ask for of a level of a record, worked out once. It takes 64 bytes.
+/// What lookups need to know about a level, computed once per record. It takes 64 bytes.
 #[derive(Clone, Copy, Debug, PartialEq, Eq)]
 pub struct KnownLevel {
-    /// How it is cut into cells.
+    /// How the level is divided into cells.
     pub grid: Grid,
-    /// The key of its first cell, which has all that the keys of its cells share.
+    /// The key of the first cell. Keys of other cells differ from it only in the index.
     pub first: TileKey,
-    /// The samples of a texel.
+    /// The number of samples per texel.
     pub channels: u32,
-    /// The bits of a sample.
+    /// The bits per sample, 8 or 16.
     pub depth: u32,
 }

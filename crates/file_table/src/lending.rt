@@ -1,4 +1,4 @@
-//! Files that are lent, with their handles, and settle and lie idle.
+//! Lends open handles, and keeps them idle when they come back.
 ghost use Rattle.std.specs.Prelude.{◌≡◌, ◌<◌, ◌≤◌, IfOk, IfErr, IfSome, OnOk};
 ghost use Rattle.tex_world.specs.World.{IsFile, IsReal};
 ghost use Rattle.file_table.specs.Calls.{sighted, RaisesIfAtAll, OpensIfAtAll, OpensOnce};
@@ -15,11 +15,11 @@ use tex_world::{Tap, TapHandle};
 use waiter::Waiter;
 
 impl<T: Tap> Files<T> {
-    /// A file open at a generation: its handle is the one that lies idle, or one that is opened.
-    /// With it comes what was read ahead of that generation and is kept.
+    /// Lends a file, open at a generation: with its idle handle or a newly opened one, and with the
+    /// read-ahead kept of that generation.
     ///
-    /// An idle handle that is older is closed, and one that is newer stays. No file is opened, read
-    /// or closed while the lock of the idle handles is held.
+    /// An older idle handle is closed, and a newer one stays. The lock of the idle handles is not
+    /// held while a file is opened, read or closed.
     pub fn lend<V: Waiter>(
         &self,
         waiter: &V,
@@ -37,7 +37,7 @@ impl<T: Tap> Files<T> {
         ensures cause { IfErr result (LendCause T.W.files file generation
             (sighted view.old (T.state tap.old)) (sighted view.new (T.state tap.new))) }
 
-        // What the call leaves, whatever it answers.
+        // The state after the call, also after an error.
         ensures raises { RaisesIfAtAll file view.old view.new }
         ensures same { OnOk result (view.new ≡ view.old) }
         ensures moves { MovesOnlyAgain (T.state tap.old) (T.state tap.new) result }
@@ -60,12 +60,10 @@ impl<T: Tap> Files<T> {
         Ok(OpenFile { handle, ahead })
     }
 
-    /// Makes a handle the one that lies idle of its file, in the place of one that is not newer,
-    /// and keeps what was read ahead.
+    /// Keeps a handle as the idle one of its file, and keeps its read-ahead.
     ///
-    /// The handle whose place it takes is closed, and so is the handle itself where the idle one is
-    /// newer or no memory is found. Where the waiter gives up the file comes back, and the idle
-    /// handles are as they were.
+    /// A replaced handle is closed. The handle itself is closed if the idle one is newer or memory
+    /// runs out. If the waiter gives up, the file is returned and nothing changes.
     pub fn settle<V: Waiter>(
         &self,
         waiter: &V,
@@ -84,8 +82,8 @@ impl<T: Tap> Files<T> {
         Ok(())
     }
 
-    /// The same for the handle that a record was read by, of which nothing is kept that was read ahead.
-    /// Where the waiter gives up it is closed.
+    /// Keeps the handle that a record was read through as the idle one of its file. Nothing of its
+    /// read-ahead is kept. If the waiter gives up, the handle is closed.
     pub(crate) fn settle_read<V: Waiter>(&self, waiter: &V, handle: Option<T::Handle>) {
         if let Some(handle) = handle {
             let ahead = ReadAhead::none(self.alloc, handle.file(), handle.generation());
@@ -93,9 +91,9 @@ impl<T: Tap> Files<T> {
         }
     }
 
-    /// Forgets the record of a file and what was read ahead of it, and closes its idle handle.
+    /// Drops the record of a file and its read-ahead, and closes its idle handle.
     ///
-    /// Where the waiter gives up at one of the two, that one stays, and the other is gone.
+    /// If the waiter gives up at one of the two locks, only what that lock guards stays.
     pub fn drop_idle<V: Waiter>(&self, waiter: &V, file: u32) -> Result<(), V::Busy>
         requires { file < self.now.board.files }
     {
@@ -107,7 +105,7 @@ impl<T: Tap> Files<T> {
         forgotten
     }
 
-    /// How many handles lie idle: never more than may.
+    /// The number of idle handles, at most the limit.
     pub fn idle<V: Waiter>(&self, waiter: &V) -> Result<usize, V::Busy>
         ensures { IfOk result (λ n. n ≤ self.now.cap) }
     {
@@ -117,7 +115,7 @@ impl<T: Tap> Files<T> {
         Ok(count)
     }
 
-    /// Of how many files what was read ahead is kept: never of more than 256.
+    /// The number of files whose read-ahead is kept, at most 256.
     pub fn aheads<V: Waiter>(&self, waiter: &V) -> Result<usize, V::Busy>
         ensures { IfOk result (λ n. n ≤ max_aheads) }
     {
@@ -127,8 +125,8 @@ impl<T: Tap> Files<T> {
         Ok(count)
     }
 
-    /// The idle handle of a file, unless it is of a generation above this one, and what is kept of
-    /// what was read ahead of this one.
+    /// Takes the idle handle of a file, unless it is newer than this generation, and the read-ahead
+    /// kept of this generation.
     fn take_idle<V: Waiter>(
         &self,
         waiter: &V,
@@ -146,7 +144,7 @@ impl<T: Tap> Files<T> {
         Ok((handle, ahead))
     }
 
-    /// Opens a file at exactly a generation.
+    /// Opens a file at exactly this generation.
     fn open_at<B>(
         &self,
         view: &mut View<T::W>,

@@ -1,5 +1,5 @@
-//! The files of a folder as many workers use them: of each file a record of its newest known
-//! generation, which is read once and shared, and open handles that lie idle until they are lent.
+//! The files of a folder, used by many workers: a shared record of each file's newest known
+//! generation, and idle handles that are lent.
 #![tactic(auto)]
 
 mod aheads;

@@ -1,4 +1,4 @@
-//! A file opened and read, which makes its record.
+//! Opens a file and makes its record.
 ghost use Rattle.std.specs.Prelude.{◌≡◌, ◌≤◌, IfOk, IfErr};
 ghost use Rattle.tex_world.specs.World.{IsFile};
 ghost use Rattle.tex_world.specs.Tap.{IsLeast};
@@ -14,15 +14,15 @@ use tiff_dirs::{DirsError, read_dirs};
 use tiff_format::Cut;
 use tile_layout::Layout;
 
-/// A file that was opened and read: its record, and its handle, which is to lie idle where the file shows
-/// no fault and its directories took a window.
+/// The result of opening and reading a file: its record and perhaps its handle. The handle is worth
+/// keeping idle if the file is valid and its directories were read through a window.
 #[derive(Drop)]
 pub(crate) struct Opened<T: Tap> {
     pub(crate) record: Record<T::W>,
     pub(crate) idle: Option<T::Handle>,
 }
 
-/// Opens a file at a generation that is at least `least`, and reads its record.
+/// Opens a file at a generation of at least `least`, and reads its record.
 pub(crate) fn open_record<T: Tap, B>(
     alloc: Global,
     tap: &mut T,
@@ -43,7 +43,7 @@ pub(crate) fn open_record<T: Tap, B>(
     read_record(alloc, tap, handle, cut)
 }
 
-/// Reads the record of the generation that a handle names.
+/// Reads the record of the handle's generation.
 fn read_record<T: Tap, B>(
     alloc: Global,
     tap: &mut T,

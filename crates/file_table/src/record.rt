@@ -1,3 +1,4 @@
+//! The record of one generation of a file.
 ghost use Rattle.std.specs.Prelude.{◌≡◌, ℕ, ◌^◌, ◌<◌, ◌≤◌, length, Ok, Err, MatchResult, IfOk};
 ghost use Rattle.std.specs.Option.{ForSome};
 ghost use Rattle.tex_world.specs.World.{IsReal, last_generation, max_files};
@@ -18,11 +19,11 @@ use tex_world::World;
 use tiff_format::{Cut, TiffFault};
 use tile_layout::{Grid, Layout, TileKey};
 
-/// The number of the last file that a folder can have.
+/// The greatest file number of a folder.
 const LAST_FILE: u32 = 4095;
 
-/// What is known of one generation of a file: the layout of its levels, or the fault that it shows,
-/// and what lookups ask for under a cut.
+/// What is known of one generation of a file: its layout or its fault, and what lookups need to
+/// know of each level under the cut.
 #[derive(Drop)]
 pub struct Record<W: World> {
     file: u32,
@@ -47,8 +48,8 @@ impl<W: World> Model for Record<W> {
         IsRecord W.files state × HasLevels state r.levels.items × Fits state r.fits };
 }
 
-/// The key of the first cell of a level. Keys have no room for a file of a larger number than a
-/// folder can have: it gets that of another.
+/// The key of the first cell of a level. File numbers above 4095 do not fit into a key; such a file
+/// gets the key of file 4095.
 fn first_key(generation: u32, file: u32, level: u32) -> TileKey
     requires low { 1 ≤ generation }
     requires high { generation ≤ last_generation }
@@ -59,7 +60,7 @@ fn first_key(generation: u32, file: u32, level: u32) -> TileKey
     TileKey::new(generation, file.min(LAST_FILE), level, 0)
 }
 
-/// What lookups ask for of each level of a file.
+/// What lookups need to know of each level of a file.
 fn levels_of(
     alloc: Global,
     file: u32,
@@ -90,7 +91,7 @@ fn levels_of(
 impl<W: World> Record<W> {
     ghost use Rattle.file_table.specs.Record.{IsRecord};
 
-    /// The record of a generation, by what its bytes gave.
+    /// The record of a generation, from what was read of its bytes.
     pub(crate) fn of(
         alloc: Global,
         file: u32,
@@ -124,14 +125,14 @@ impl<W: World> Record<W> {
         })
     }
 
-    /// The number of its file.
+    /// The number of the file.
     pub fn file(&self) -> u32
         ensures { result ≡ self.now.file }
     {
         self.file
     }
 
-    /// The generation whose bytes it is of.
+    /// The generation that the record describes.
     pub fn generation(&self) -> u32
         ensures value { result ≡ self.now.generation }
         ensures told { IsRecord W.files self.now }
@@ -139,15 +140,15 @@ impl<W: World> Record<W> {
         self.generation
     }
 
-    /// The cut that it is used under.
+    /// The cut that the record is used under.
     pub fn cut(&self) -> Cut
         ensures { result ≡ self.now.cut }
     {
         self.cut
     }
 
-    /// The levels of the file, or the first fault that it shows. Where the world tells, those of
-    /// the bytes of this generation.
+    /// The levels of the file, or its first fault. If the world is modelled, they are those of this
+    /// generation's bytes.
     pub fn layout(&self) -> Result<&Layout, &TiffFault>
         ensures value { MatchResult result (λ layout. self.now.layout ≡ Ok layout.now)
             (λ fault. self.now.layout ≡ Err fault.now) }
@@ -156,7 +157,7 @@ impl<W: World> Record<W> {
         self.layout.as_ref()
     }
 
-    /// The number of levels that the file has under the cut, one at least where it shows no fault.
+    /// The number of levels under the cut; at least one if the file is valid.
     pub fn levels(&self) -> u32
         ensures value { CountsLevels self.now result }
         ensures some { IfOk self.now.layout (λ _. 1 ≤ result) }
@@ -164,8 +165,8 @@ impl<W: World> Record<W> {
         self.levels.len() as u32
     }
 
-    /// How a level is cut into cells. The four texels from which one of the next level is made lie
-    /// in one cell.
+    /// How a level is divided into cells. Each group of four texels that the next level averages
+    /// lies in one cell.
     pub fn grid(&self, level: u32) -> Grid
         requires { HasCutLevel self.now level }
         ensures value { CutsLevel self.now level result }
@@ -175,7 +176,7 @@ impl<W: World> Record<W> {
         self.levels[level as usize].grid
     }
 
-    /// What lookups ask for of a level.
+    /// What lookups need to know of a level.
     pub fn level(&self, level: u32) -> &KnownLevel
         requires { HasCutLevel self.now level }
         ensures grid { CutsLevel self.now level result.now.grid }
@@ -201,8 +202,7 @@ impl<W: World> Record<W> {
         self.level(level).first.with_index(index)
     }
 
-    /// Whether the file shows no fault and no cell of any level takes more than 33554432 bytes in
-    /// memory.
+    /// Whether the file is valid and no cell of any level takes more than 33554432 bytes in memory.
     pub fn fits(&self) -> bool
         ensures { TellsFit self.now result }
     {

@@ -1,4 +1,4 @@
-//! Little-endian files of several directories, all of which stand before the samples.
+//! Builds little-endian files with several directories, all of them before the samples.
 
 ghost use Rattle.std.specs.Prelude.{◌<◌, length};
 
@@ -8,17 +8,17 @@ const SHORT: u16 = 3;
 
 const LONG: u16 = 4;
 
-/// The header, the first directory at 8.
+/// The header, with the first directory at 8.
 const HEADER: [u8; 8] = [0x49, 0x49, 0x2a, 0, 8, 0, 0, 0];
 
-/// An entry: its tag, type and count, and its value or where its values stand.
+/// An entry: tag, type, number of values, and the value or its place.
 type Entry = (u16, u16, u32, u32);
 
 fn push_long(file: &mut Vec<u8>, value: u32) -> Result<(), AllocError> {
     file.extend_from_slice(&value.to_le_bytes())
 }
 
-/// A directory of these entries, and the place of the next one.
+/// Appends a directory with these entries, and the place of the next one.
 fn push_directory(file: &mut Vec<u8>, entries: &[Entry], next: u32) -> Result<(), AllocError>
     requires { length entries.now < 100 }
 {
@@ -33,7 +33,7 @@ fn push_directory(file: &mut Vec<u8>, entries: &[Entry], next: u32) -> Result<()
     push_long(file, next)
 }
 
-/// A directory of 114 bytes: 100 by 80, 8 bits, one channel, one strip.
+/// Appends a directory of 114 bytes: 100 by 80, 8 bits, one channel, one strip.
 fn push_page(file: &mut Vec<u8>, strip: u32, next: u32) -> Result<(), AllocError> {
     let entries = [
         (256, SHORT, 1, 100), // ImageWidth
@@ -59,7 +59,7 @@ pub(crate) fn pages(alloc: Global) -> Result<Vec<u8>, AllocError> {
 }
 
 /// Levels of 131072 by 1 down to 1 by 1: 18 directories of 54 bytes, and zeros. Each level has one
-/// strip at 8. The last directory leads to the first.
+/// strip at 8. The last directory leads back to the first.
 pub(crate) fn chain(alloc: Global) -> Result<Vec<u8>, AllocError> {
     let mut file = Vec::from_slice(alloc, &HEADER)?;
     for level in 0..18u32 {

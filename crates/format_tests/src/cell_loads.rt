@@ -1,4 +1,4 @@
-//! Cells of a file in memory, loaded through taps and kept in a shard.
+//! Cells of a file in memory, loaded through taps and put into a shard.
 ghost use Rattle.std.specs.Prelude.{◌≡◌, IfOk};
 ghost use Rattle.std.specs.Option.{ForSome};
 ghost use Rattle.tile_load.specs.Load.{IsLayoutOf};
@@ -19,7 +19,7 @@ use tile_layout::{Layout, TileKey};
 use tile_load::{LoadError, load_at};
 use tile_store::{Shard, Tile};
 
-/// The layout of the bytes that a handle reads.
+/// The layout of a handle's bytes.
 fn layout_of<T: Tap>(alloc: Global, tap: &mut T, handle: &mut T::Handle) -> Result<Layout, Fail>
     ensures same { IfOk result (λ layout.
         T.Handle.named handle.new ≡ T.Handle.named handle.old) }
@@ -55,21 +55,21 @@ fn load_cell<T: Tap>(
     Ok(load_at(alloc, tap, open, &layout, key, cut))
 }
 
-/// What loading is to answer.
+/// The expected result of loading a cell.
 #[derive(Clone, Copy)]
 enum Wanted {
-    /// A cell of this number, its rectangle, and the samples of its first and of its last texel.
+    /// The index of the cell, its rectangle, and the samples of its first and last texel.
     Cell(u32, Place, &'static [u16], &'static [u16]),
     Fault,
     Gone(u32),
 }
 
-/// The rectangle has this place.
+/// Whether the rectangle has these numbers.
 fn is_at(rect: Rect, (x, y, w, h): Place) -> bool {
     rect.x == x && rect.y == y && rect.w == w && rect.h == h
 }
 
-/// The first and the last texel of a tile near the corner of its level have these samples.
+/// Whether the first and the last texel of a tile have these samples.
 fn has_ends<W: World>(tile: &Tile<W>, first: &[u16], last: &[u16]) -> bool {
     let rect = tile.rect();
     if rect.w < 1 || rect.h < 1 || rect.x > 99 || rect.y > 99 || rect.w > 99 || rect.h > 99 {
@@ -90,8 +90,8 @@ fn is_wanted<W: World>(answer: Result<Tile<W>, LoadError>, wanted: Wanted) -> bo
     }
 }
 
-/// The tap of a number. For tap 1 the read of the byte 184 fails, and at 12472 tap 2 meets
-/// generation 2.
+/// The tap with a number. For tap 1 the read of byte 184 fails, and at 12472 tap 2 meets generation
+/// 2.
 fn tap_of(alloc: Global, number: u32) -> Result<MemTap<Tiled>, Fail> {
     let mut plan = Plan::new(alloc);
     plan.fail_bytes.push(FailByte {
@@ -112,14 +112,14 @@ fn tap_of(alloc: Global, number: u32) -> Result<MemTap<Tiled>, Fail> {
     Ok(folder.tap(alloc)?)
 }
 
-/// The file, open at its first generation.
+/// Opens the file at its first generation.
 fn open_at_first(alloc: Global, tap: &mut MemTap<Tiled>) -> Result<OpenFile<MemTap<Tiled>>, Fail> {
     let handle = tap.open(alloc, 0, 1).map_err(|_e| "not open")?;
     let ahead = ReadAhead::none(alloc, 0, handle.generation());
     Ok(OpenFile { handle, ahead })
 }
 
-/// The cell 0, which two taps load.
+/// Cell 0, which two taps load.
 const FIRST: Wanted = Wanted::Cell(
     0,
     (0, 0, 64, 32),
@@ -127,7 +127,7 @@ const FIRST: Wanted = Wanted::Cell(
     &[42920, 43434, 43948],
 );
 
-/// The cell 1.
+/// Cell 1.
 const SECOND: Wanted = Wanted::Cell(
     1,
     (64, 0, 16, 32),
@@ -165,7 +165,7 @@ static ROWS: &[(u32, (u32, u32), Wanted)] = &[
     (2, (64, 0), Wanted::Gone(2)),
 ];
 
-// Each cell is one read. Before it stand the opening and six reads of the directory.
+// Each cell is one read. Before come the opening and six reads of the directory.
 #[test]
 fn loads_cells_as_each_row_says(rt: HostRuntime) -> Result<(), Fail> {
     for (number, texel, wanted) in ROWS {
@@ -183,7 +183,7 @@ const SHARE: u64 = 4000;
 
 const SLOTS: u32 = 1031;
 
-// The cells 0 and 1, of 12288 and 3072 bytes, under a share of 4000.
+// Cells 0 and 1, of 12288 and 3072 bytes, in a shard with a share of 4000.
 #[test]
 fn keeps_what_fits_the_share(rt: HostRuntime) -> Result<(), Fail> {
     let mut tap = tap_of(rt.alloc(), 0)?;

@@ -1,17 +1,17 @@
-//! The cells of levels: how many there are, which holds a texel, and its rectangle.
+//! The cells of levels: how many there are, which one holds a texel, and its rectangle.
 
 use crate::layouts::{Place, cut_of, layout_of};
 use std::test::Fail;
 use tile_layout::Layout;
 
-/// 131072 by 1.
+/// An image of 131072 by 1.
 const WIDEST: &str = "A to=131194 12=4 18=0,0,2,0 30=1 102=1";
 
-/// 20 by 17, in tiles of 16 by 16.
+/// An image of 20 by 17, in tiles of 16 by 16.
 const EDGES: &str = "B 19=20 31=17 79=2 103=16 115=16";
 
-/// A file, a level, the cut's side, a texel, how many cells there are across and down, and the
-/// number and the rectangle of the texel's cell.
+/// A file, a level, the side of the cut, a texel, the number of cells across and down, and the
+/// index and the rectangle of the texel's cell.
 type CellRow = (&'static str, u32, u32, (u32, u32), (u32, u32), u32, Place);
 
 static CELLS: &[CellRow] = &[
@@ -29,12 +29,12 @@ static CELLS: &[CellRow] = &[
     // its level of 50 by 40
     ("Pages", 1, 32, (32, 31), (2, 2), 1, (32, 0, 18, 32)),
     ("Pages", 1, 0, (49, 39), (1, 1), 0, (0, 0, 50, 40)),
-    // 80 by 48 in tiles of 64 by 32, whatever the cut says
+    // 80 by 48 in tiles of 64 by 32, whatever the cut is
     ("B", 0, 16, (63, 31), (2, 2), 0, (0, 0, 64, 32)),
     ("B", 0, 0, (64, 31), (2, 2), 1, (64, 0, 16, 32)),
     ("B", 0, 16, (63, 32), (2, 2), 2, (0, 32, 64, 16)),
     ("B", 0, 16, (79, 47), (2, 2), 3, (64, 32, 16, 16)),
-    // its level of 40 by 24, which has cells as level 0 has
+    // its level of 40 by 24, divided like level 0
     ("B", 1, 16, (39, 23), (1, 1), 0, (0, 0, 40, 24)),
     (EDGES, 0, 64, (19, 0), (2, 2), 1, (16, 0, 4, 16)),
     (EDGES, 0, 64, (0, 16), (2, 2), 2, (0, 16, 16, 1)),
@@ -50,11 +50,11 @@ static CELLS: &[CellRow] = &[
     ),
 ];
 
-/// The numbers of cells of a level across and down, the number of a texel's cell, and its column,
-/// row, width and height.
+/// The numbers of cells across and down, the index of a texel's cell, and its column, row, width
+/// and height.
 type Cell = [u32; 7];
 
-/// The cell of a texel, where there is such a cut, level and texel.
+/// The cell of a texel, if there is such a cut, level and texel.
 fn cell_of(layout: &Layout, level: u32, autotile: u32, (x, y): (u32, u32)) -> Option<Cell> {
     let cut = cut_of(autotile, true)?;
     if level >= layout.levels(cut) {
@@ -70,7 +70,7 @@ fn cell_of(layout: &Layout, level: u32, autotile: u32, (x, y): (u32, u32)) -> Op
     Some([across, down, index, rect.x, rect.y, rect.w, rect.h])
 }
 
-/// The cell of a row's texel is as the row says.
+/// Whether the cell of a case's texel is as the case says.
 fn is_cell(layout: &Layout, row: &CellRow) -> bool {
     let (_, level, autotile, texel, (across, down), index, (x, y, w, h)) = row;
     match cell_of(layout, *level, *autotile, *texel) {
@@ -93,7 +93,7 @@ fn cuts_levels_into_cells(rt: HostRuntime) -> Result<(), Fail> {
     Ok(())
 }
 
-/// A file, the cut's side, and whether each cell takes at most 32 MiB.
+/// A file, the side of the cut, and whether each cell takes at most 32 MiB.
 static FITS: &[(&str, u32, bool)] = &[
     // 8192 by 4096, one channel of 8 bits
     ("A to=33554554 18=0,32 30=0,16 102=0,16", 0, false),
@@ -105,7 +105,7 @@ static FITS: &[(&str, u32, bool)] = &[
     ("B", 0, true),
 ];
 
-/// There is such a cut, and all its cells fit or do not, as is wanted.
+/// Whether there is such a cut, and its cells are small enough as expected.
 fn fits_as(layout: &Layout, autotile: u32, wanted: bool) -> bool {
     match cut_of(autotile, true) {
         Some(cut) => layout.fits(cut) == wanted,

@@ -1,11 +1,11 @@
-//! The files of the tests. A file is made by a text: the name of one of those that are written out
-//! here and in `built_files`, and then changes of it, as `A 18=5 102=2,0`.
+//! The files of the tests. A text describes a file: the name of one that is written out here or in
+//! `built_files`, and then changes to it, as in `A 18=5 102=2,0`.
 
 use crate::built_files::{chain, pages};
 use std::alloc::{AllocError, Global};
 use std::test::Fail;
 
-/// 4 by 4, 8 bits, one channel, one strip, little-endian; the texel (x, y) is 16 * y + x.
+/// 4 by 4, 8 bits, one channel, one strip, little-endian; texel (x, y) is 16 * y + x.
 const SMALL: [u8; 138] = [
     0x49, 0x49, 0x2a, 0, 8, 0, 0, 0, // header, the directory at 8
     9, 0, // entries
@@ -23,7 +23,7 @@ const SMALL: [u8; 138] = [
     0x20, 0x21, 0x22, 0x23, 0x30, 0x31, 0x32, 0x33,
 ];
 
-/// The same file, big-endian.
+/// The file `A`, big-endian.
 const SMALL_BIG: [u8; 138] = [
     0x4d, 0x4d, 0, 0x2a, 0, 0, 0, 8, // header, the directory at 8
     0, 9, // entries
@@ -41,7 +41,8 @@ const SMALL_BIG: [u8; 138] = [
     0x20, 0x21, 0x22, 0x23, 0x30, 0x31, 0x32, 0x33,
 ];
 
-/// A second directory, to stand at 138: 2 by 2, 8 bits, one strip at 204, all else by default.
+/// A second directory, to be placed at 138: 2 by 2, 8 bits, one strip at 204, everything else by
+/// default.
 const HALF: [u8; 70] = [
     5, 0, // entries
     0x00, 1, 3, 0, 1, 0, 0, 0, 2, 0, 0, 0, // at 140: ImageWidth 2
@@ -53,7 +54,7 @@ const HALF: [u8; 70] = [
     200, 201, 202, 203, // at 204: samples
 ];
 
-/// The file `A` with wide offsets.
+/// The file `A` as BigTIFF.
 const WIDE: [u8; 228] = [
     0x49, 0x49, 43, 0, 8, 0, 0, 0, // header, the bytes of an offset, 0
     16, 0, 0, 0, 0, 0, 0, 0, // the directory at 16
@@ -81,7 +82,7 @@ const WIDE: [u8; 228] = [
     0x20, 0x21, 0x22, 0x23, 0x30, 0x31, 0x32, 0x33,
 ];
 
-/// The same file, big-endian.
+/// The file `A` as big-endian BigTIFF.
 const WIDE_BIG: [u8; 228] = [
     0x4d, 0x4d, 0, 43, 0, 8, 0, 0, // header, the bytes of an offset, 0
     0, 0, 0, 0, 0, 0, 0, 16, // the directory at 16
@@ -109,8 +110,8 @@ const WIDE_BIG: [u8; 228] = [
     0x20, 0x21, 0x22, 0x23, 0x30, 0x31, 0x32, 0x33,
 ];
 
-/// A second directory with wide offsets, to stand at 228: 2 by 2, 8 bits, one strip at 344, all else by
-/// default.
+/// A second BigTIFF directory, to be placed at 228: 2 by 2, 8 bits, one strip at 344, everything
+/// else by default.
 const WIDE_HALF: [u8; 120] = [
     5, 0, 0, 0, 0, 0, 0, 0, // entries
     0, 1, 16, 0, 1, 0, 0, 0, 0, 0, 0, 0, // at 236: ImageWidth 2, LONG8
@@ -127,7 +128,7 @@ const WIDE_HALF: [u8; 120] = [
     200, 201, 202, 203, // at 344: samples
 ];
 
-/// What stands before the tiles of the file `B`.
+/// The bytes before the tiles of the file `B`.
 const TILED_HEAD: [u8; 184] = [
     0x4d, 0x4d, 0, 0x2a, 0, 0, 0, 8, // header, the directory at 8
     0, 11, // entries
@@ -149,7 +150,7 @@ const TILED_HEAD: [u8; 184] = [
     0, 0, 0x30, 0, 0, 0, 0x30, 0, 0, 0, 0x30, 0, 0, 0, 0x30, 0, // at 168: 12288 each
 ];
 
-/// Channel c of the texel (x, y) of the file `B`, or its padding.
+/// Channel c of texel (x, y) of the file `B`, or its padding.
 fn tiled_sample(x: u16, y: u16, c: u16) -> u16 {
     if x < 80 && y < 48 && c < 3 {
         20000 * c + 100 * y + x
@@ -158,7 +159,7 @@ fn tiled_sample(x: u16, y: u16, c: u16) -> u16 {
     }
 }
 
-/// A row of 64 texels of a tile.
+/// Appends a row of 64 texels of a tile.
 fn push_tile_row(file: &mut Vec<u8>, left: u16, y: u16) -> Result<(), AllocError> {
     for column in 0..64u16 {
         for c in 0..3u16 {
@@ -169,7 +170,7 @@ fn push_tile_row(file: &mut Vec<u8>, left: u16, y: u16) -> Result<(), AllocError
     Ok(())
 }
 
-/// A tile of 64 by 32 texels, the first of which is that one.
+/// Appends a tile of 64 by 32 texels, given its first texel.
 fn push_tile(file: &mut Vec<u8>, left: u16, top: u16) -> Result<(), AllocError> {
     for row in 0..32u16 {
         push_tile_row(file, left, top.wrapping_add(row))?;
@@ -177,8 +178,8 @@ fn push_tile(file: &mut Vec<u8>, left: u16, top: u16) -> Result<(), AllocError> 
     Ok(())
 }
 
-/// 80 by 48, 16 bits, three channels, big-endian, tiles of 64 by 32; channel c of the texel (x, y)
-/// is 20000 * c + 100 * y + x, and the padding 65535.
+/// 80 by 48, 16 bits, three channels, big-endian, tiles of 64 by 32; channel c of texel (x, y) is
+/// 20000 * c + 100 * y + x, and the padding is 65535.
 fn tiled(alloc: Global) -> Result<Vec<u8>, AllocError> {
     let mut file = Vec::from_slice(alloc, &TILED_HEAD)?;
     push_tile(&mut file, 0, 0)?;
@@ -188,7 +189,7 @@ fn tiled(alloc: Global) -> Result<Vec<u8>, AllocError> {
     Ok(file)
 }
 
-/// The small file, its next offset leading to its half behind it.
+/// The file `A`, followed by a level of half its size.
 fn two(alloc: Global) -> Result<Vec<u8>, AllocError> {
     let mut file = Vec::from_slice(alloc, &SMALL)?;
     file.extend_from_slice(&HALF)?;
@@ -198,7 +199,7 @@ fn two(alloc: Global) -> Result<Vec<u8>, AllocError> {
     Ok(file)
 }
 
-/// The small file with wide offsets, its next offset leading to its half behind it.
+/// The BigTIFF form of `A`, followed by a level of half its size.
 fn wide_two(alloc: Global) -> Result<Vec<u8>, AllocError> {
     let mut file = Vec::from_slice(alloc, &WIDE)?;
     file.extend_from_slice(&WIDE_HALF)?;
@@ -208,7 +209,7 @@ fn wide_two(alloc: Global) -> Result<Vec<u8>, AllocError> {
     Ok(file)
 }
 
-/// The file of a name.
+/// The file with a name.
 fn named(alloc: Global, name: &str) -> Result<Vec<u8>, Fail> {
     match name {
         "A" => Ok(Vec::from_slice(alloc, &SMALL)?),
@@ -224,7 +225,7 @@ fn named(alloc: Global, name: &str) -> Result<Vec<u8>, Fail> {
     }
 }
 
-/// Other bytes from a place on, their numbers with commas between them.
+/// Replaces bytes from a place on. Their numbers are separated by commas.
 fn put(file: &mut [u8], place: usize, bytes: &str) -> Result<(), Fail> {
     let mut at = place;
     for byte in bytes.split(',') {
@@ -235,7 +236,7 @@ fn put(file: &mut [u8], place: usize, bytes: &str) -> Result<(), Fail> {
     Ok(())
 }
 
-/// So many times a number, in two bytes and lowest first, behind the file.
+/// Appends a two-byte number, lowest byte first, this many times.
 fn push_shorts(file: &mut Vec<u8>, short: u16, count: u32) -> Result<(), AllocError> {
     for _ in 0..count {
         file.extend_from_slice(&short.to_le_bytes())?;
@@ -243,8 +244,8 @@ fn push_shorts(file: &mut Vec<u8>, short: u16, count: u32) -> Result<(), AllocEr
     Ok(())
 }
 
-/// One change: `to=7` leaves the first 7 bytes, or as many as there are and zeros behind them;
-/// `8*3000` puts 3000 times the number 8 behind the file; `18=5,0` puts 5 and 0 at 18 and 19.
+/// Applies one change: `to=7` keeps the first 7 bytes, or adds zeros up to 7; `8*3000` appends the
+/// number 8 3000 times; `18=5,0` puts 5 and 0 at 18 and 19.
 fn change(file: &mut Vec<u8>, word: &str) -> Result<(), Fail> {
     if let Some((short, count)) = word.split_once('*') {
         push_shorts(file, short.parse()?, count.parse()?)?;
@@ -258,7 +259,7 @@ fn change(file: &mut Vec<u8>, word: &str) -> Result<(), Fail> {
     put(file, place.parse()?, bytes)
 }
 
-/// The file of a text.
+/// The file that a text describes.
 pub(crate) fn file_of(alloc: Global, text: &str) -> Result<Vec<u8>, Fail> {
     let mut words = text.split_whitespace();
     let mut file = named(alloc, words.next().ok_or("no name")?)?;

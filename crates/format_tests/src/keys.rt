@@ -1,4 +1,4 @@
-//! Keys at the ends of their ranges.
+//! Keys with numbers at the ends of their ranges.
 use std::test::Fail;
 use tile_layout::TileKey;
 

@@ -1,9 +1,9 @@
-//! The two latest items of a caller that asks for cells in turn.
+//! The microcache: the last two items of a caller that asks for cells.
 use micro::{Keyed, Micro};
 use std::test::Fail;
 use tile_layout::TileKey;
 
-// What was made for a cell.
+// An item made for a cell.
 #[derive(Drop)]
 struct Made {
     cell: u8,
@@ -22,8 +22,8 @@ fn cell_key(cell: u8) -> TileKey {
     TileKey::new(1, 0, 0, cell as u32)
 }
 
-// What a caller meets that asks for a cell: an item of it, none, or none while there is no room for
-// one more, so that the item of another cell leaves.
+// What a caller that asks for a cell finds: its item; nothing; or nothing and no space, so that the
+// item of another cell leaves.
 #[derive(Clone, Copy, PartialEq, Eq)]
 enum Answer {
     Hit,
@@ -31,7 +31,7 @@ enum Answer {
     InPlaceOf(u8),
 }
 
-// An item of the cell is made where there is none.
+// Asks for a cell, and makes an item if none exists.
 fn ask(items: &mut Micro<Made>, cell: u8) -> Answer {
     let key = cell_key(cell);
     if items.find(key) {
@@ -56,8 +56,8 @@ fn is_last(items: &mut Micro<Made>, cell: u8) -> bool {
     matches!(items.take_last(), Some(made) if made.cell == cell)
 }
 
-// Cells that are asked for with their answers, and the cells of the items in the end, the latest
-// first. No row asks for cell 9.
+// The name of a case, the cells asked for with the answers, and the cells of the items at the end,
+// the latest first. No case asks for cell 9.
 type Row = (&'static str, &'static [(u8, Answer)], &'static [u8]);
 
 static ROWS: &[Row] = &[

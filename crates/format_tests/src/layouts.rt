@@ -1,4 +1,4 @@
-//! The levels of a file, how their samples are stored, and where the texels of a rectangle lie.
+//! The levels of a file, how their samples are stored, and where the texels of a rectangle are.
 
 ghost use Rattle.std.specs.Prelude.{◌+◌, ◌<◌, ◌≤◌, ◌↔◌, IfSome, IsTrue};
 ghost use Rattle.tiff_format.specs.Cut.{IsCut};
@@ -13,7 +13,7 @@ use tiff_dirs::read_dirs;
 use tiff_format::{Cut, Rect};
 use tile_layout::{Layout, Piece, TexelFormat};
 
-/// 131072 by 1.
+/// An image of 131072 by 1.
 const WIDEST: &str = "A to=131194 12=4 18=0,0,2,0 30=1 102=1";
 
 /// 5 by 4, 16 bits, three channels, WhiteIsZero, in strips of two rows at 100 and 300. A row has 30
@@ -24,7 +24,7 @@ const STRIPS: &str = "A to=400 18=5 42=16 66=0 72=3 74=2 78=100,0,44,1 90=3 102=
 /// tile has 64 bytes.
 const EDGES: &str = "B 19=20 31=17 79=2 103=16 115=16";
 
-/// The cut by squares of a side, where there is one.
+/// The cut with squares of this side, if that is allowed.
 pub(crate) fn cut_of(autotile: u32, automip: bool) -> Option<Cut>
     ensures { IfSome result (λ cut. IsCut cut) }
 {
@@ -34,7 +34,7 @@ pub(crate) fn cut_of(autotile: u32, automip: bool) -> Option<Cut>
     Some(Cut { autotile, automip })
 }
 
-/// The layout of a file of these bytes.
+/// The layout of a file with these bytes.
 pub(crate) fn layout_in(alloc: Global, bytes: &[u8]) -> Result<Layout, Fail> {
     match read_dirs(alloc, &mut MemReader::new(bytes, 0)) {
         Ok(dirs) => Ok(Layout::of(dirs)),
@@ -47,7 +47,7 @@ pub(crate) fn layout_of(alloc: Global, file: &str) -> Result<Layout, Fail> {
     layout_in(alloc, &bytes)
 }
 
-/// A file, how many levels it stores, and the sizes of those that it has with the halved ones.
+/// A file, the number of stored levels, and the sizes of all levels.
 type LevelsRow = (&'static str, u32, &'static [(u32, u32)]);
 
 static LEVELS: &[LevelsRow] = &[
@@ -93,7 +93,7 @@ static LEVELS: &[LevelsRow] = &[
     ),
 ];
 
-/// There is such a level, and it has this size.
+/// Whether there is such a level, and it has this size.
 fn has_size(layout: &Layout, cut: Cut, level: u32, size: (u32, u32)) -> bool
     requires { IsCut cut }
 {
@@ -104,7 +104,7 @@ fn has_size(layout: &Layout, cut: Cut, level: u32, size: (u32, u32)) -> bool
     width == size.0 && height == size.1
 }
 
-/// How many levels, from 0 on, have the sizes of a row.
+/// How many levels, from 0 on, have the sizes of a case.
 fn levels_of(layout: &Layout, cut: Cut, sizes: &[(u32, u32)]) -> u32
     requires { IsCut cut }
 {
@@ -134,8 +134,8 @@ fn counts_the_levels(rt: HostRuntime) -> Result<(), Fail> {
     Ok(())
 }
 
-/// A file; of its level 0 the depth, the channels and whether it is white; whether numbers stand
-/// highest byte first; how many channels are turned round, and the bytes of a texel.
+/// A file; the depth and channels of its level 0, and whether it is WhiteIsZero; whether numbers
+/// have their highest byte first; how many channels are inverted, and the bytes of a texel.
 type SamplesRow = (&'static str, (u32, u32, bool), bool, (usize, usize));
 
 static SAMPLES: &[SamplesRow] = &[
@@ -146,7 +146,7 @@ static SAMPLES: &[SamplesRow] = &[
     (EDGES, (16, 2, false), true, (0, 4)),
 ];
 
-/// The layout tells the samples of a row.
+/// Whether the layout has the samples of a case.
 fn has_samples(layout: &Layout, row: &SamplesRow) -> bool {
     let (_, (depth, channels, white), big, _) = row;
     layout.stored() > 0
@@ -156,7 +156,7 @@ fn has_samples(layout: &Layout, row: &SamplesRow) -> bool {
         && layout.big() == *big
 }
 
-/// A format tells the samples of a row.
+/// Whether a format has the samples of a case.
 fn is_format(format: &TexelFormat, row: &SamplesRow) -> bool {
     let (_, (depth, channels, white), big, (invert, texel_bytes)) = row;
     format.depth == *depth
@@ -167,7 +167,7 @@ fn is_format(format: &TexelFormat, row: &SamplesRow) -> bool {
         && format.texel_bytes == *texel_bytes
 }
 
-/// The format of level 0 tells the samples of a row.
+/// Whether the format of level 0 has the samples of a case.
 fn has_format(layout: &Layout, row: &SamplesRow) -> bool {
     layout.stored() > 0 && layout.planes(0) > 0 && is_format(&layout.format(0, 0), row)
 }
@@ -182,10 +182,10 @@ fn shows_the_samples(rt: HostRuntime) -> Result<(), Fail> {
     Ok(())
 }
 
-/// A place in the file, a column and a row, and how many texels stand side by side there.
+/// A place in the file, a column and a row, and how many texels follow one another there.
 type Texels = (u64, u32, u32, u32);
 
-/// A column, a row, a width and a height.
+/// Column, row, width and height.
 pub(crate) type Place = (u32, u32, u32, u32);
 
 /// A file, a level, a rectangle, and its pieces.
@@ -212,7 +212,7 @@ static PIECES: &[PiecesRow] = &[
     (STRIPS, 0, (1, 1, 3, 2), &[(136, 1, 1, 3), (306, 1, 2, 3)]),
     // texel (79, 47) is in tile 3, at column 15 and row 15 of it
     ("B", 0, (79, 47, 1, 1), &[(42898, 79, 47, 1)]),
-    // round the corner where the four tiles meet
+    // around the corner where the four tiles meet
     (
         "B",
         0,
@@ -234,14 +234,14 @@ static PIECES: &[PiecesRow] = &[
     (EDGES, 0, (18, 3, 2, 1), &[(12672, 18, 3, 2)]),
 ];
 
-/// So many texels from one of them on lie on a side.
+/// Whether `count` texels from `from` on lie on a side.
 fn lies_on(from: u32, count: u32, side: u32) -> bool
     ensures { IsTrue result ↔ from + count ≤ side }
 {
     from <= side && count <= side - from
 }
 
-/// The rectangle of a place, where the level is stored and the rectangle lies on it.
+/// The rectangle of a place, if the level is stored and contains it.
 pub(crate) fn rect_on(layout: &Layout, level: u32, place: Place) -> Option<Rect>
     ensures stored { IfSome result (λ rect. level < stored_count layout.now) }
     ensures inside { IfSome result (λ rect. LiesOnLevel layout.now level rect) }
@@ -263,7 +263,7 @@ fn is_at(piece: &Piece, wanted: &Texels) -> bool {
     piece.at == *at && piece.x == *x && piece.y == *y && piece.n == *n
 }
 
-/// The rectangle lies on the stored level, and its pieces are the wanted ones.
+/// Whether the stored level contains the rectangle, and its pieces are the expected ones.
 fn has_pieces(layout: &Layout, level: u32, place: Place, wanted: &[Texels]) -> bool {
     let Some(rect) = rect_on(layout, level, place) else {
         return false;

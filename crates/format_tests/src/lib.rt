@@ -1,8 +1,6 @@
-//! Tests of what is read of a file, over small files in memory: the levels or the first fault of a
-//! file, its samples, the reads that it takes, and where its texels lie; keys, cells loaded through
-//! taps, the texels of a tile, a shard call by call and beside a plain list, and the two latest
-//! items of a caller. Expected values were worked out by hand from the rules, and no program's
-//! output is among them.
+//! Tests of reading small files in memory: levels and faults, samples, the number of reads, the
+//! places of texels, keys, loading cells, tiles, shards, and the microcache. Expected values were
+//! worked out by hand from the rules; none comes from a program's output.
 #![tactic(auto)]
 
 #[cfg(test)]

@@ -1,4 +1,4 @@
-//! Bytes in memory, with a read that was planned to fail.
+//! A reader of bytes in memory, with a read that is planned to fail.
 
 ghost use Rattle.std.specs.Prelude.{◌≡◌, length, Some, refl};
 ghost use Rattle.std.proofs.Common.{sym, ◌∙◌, ap};
@@ -10,13 +10,13 @@ use tiff_dirs::ByteReader;
 #[derive(Clone, Copy, Debug)]
 pub(crate) struct Failed(pub(crate) u64);
 
-/// Bytes in memory. The read of that number fails, counted from 1.
+/// Bytes in memory. The read with the given number, counted from 1, fails.
 #[derive(Drop)]
 pub(crate) struct MemReader<'a> {
     bytes: &'a [u8],
     failing: u64,
     pub(crate) reads: u64,
-    /// How many bytes were read.
+    /// The number of bytes read.
     pub(crate) filled: u64,
 }
 

@@ -1,4 +1,4 @@
-//! Rectangles of levels, read at once, beside what the plain program finds texel by texel.
+//! Compares rectangles that were read at once with the plain reader, texel by texel.
 ghost use Rattle.std.specs.Prelude.{◌≡◌, ◌<◌, None};
 ghost use Rattle.tiff_format.specs.Fault.{first_fault as fault_of};
 ghost use Rattle.tiff_format.specs.Level.{stored_levels as levels_in};
@@ -14,8 +14,8 @@ use std::test::Fail;
 use tiff_plain::{PlainShape, directory_level, first_fault, sample_at, stored_levels};
 use tile_layout::Layout;
 
-/// Strips and tiles of 8 and of 16 bits in both orders, with one channel and with several, with 0 as
-/// white, with edge tiles, with a second level, with planes, and with wide offsets.
+/// Strips and tiles with 8 and 16 bits in both byte orders, one and several channels, WhiteIsZero,
+/// edge tiles, a second level, planes, and BigTIFF.
 static FILES: [&str; 13] = [
     "A",
     "BigA",
@@ -32,11 +32,11 @@ static FILES: [&str; 13] = [
     PLANES,
 ];
 
-/// Two planes of two strips each, the second of one row, with 0 as white.
+/// Two planes of two strips each, the second strip with one row, WhiteIsZero.
 const PLANES: &str = "A 66=0 74=4 78=138 90=2 102=3 106=28 114=2 to=170 \
     138=122,0,0,0,134,0,0,0,154,0,0,0,166,0,0,0,200,201,202,203,204,205,206,207,208,209,210,211,212";
 
-/// What lies on the level of each of them is read.
+/// Rectangles to read; only the part inside the level is read.
 static PLACES: [Place; 12] = [
     (0, 0, 3, 2),
     (0, 0, 4, 4),
@@ -52,14 +52,14 @@ static PLACES: [Place; 12] = [
     (5, 5, 4, 0),
 ];
 
-/// The places from `start` on that lie on a side of `size` places.
+/// The part of the places from `start` on that lies on a side of `size` places.
 fn on_side(start: u32, count: u32, side: u64) -> (u32, u32) {
     let size = side.min(u64::from(u32::MAX)) as u32;
     let first = start.min(size);
     (first, count.min(size - first))
 }
 
-/// What lies of a place on a level.
+/// The part of a rectangle that lies on a level.
 fn on_level(place: Place, shape: PlainShape) -> Place {
     let (left, top, width, height) = place;
     let (x, w) = on_side(left, width, shape.width);
@@ -67,7 +67,7 @@ fn on_level(place: Place, shape: PlainShape) -> Place {
     (x, y, w, h)
 }
 
-/// How many samples of a rectangle, from the first on, are those that the plain program finds.
+/// How many samples of a rectangle, from the first on, equal those of the plain reader.
 fn right_samples(bytes: &[u8], level: u32, shape: PlainShape, place: Place, samples: &[u16]) -> u32
     requires good { fault_of bytes.now ≡ None }
     requires stored { level < levels_in bytes.now }
@@ -88,7 +88,7 @@ fn right_samples(bytes: &[u8], level: u32, shape: PlainShape, place: Place, samp
     right
 }
 
-/// The rectangle is read, and each of its samples is the one that the plain program finds.
+/// Whether the rectangle is read, and each sample equals that of the plain reader.
 fn agrees_on(
     alloc: Global,
     bytes: &[u8],
@@ -114,7 +114,7 @@ fn agrees_on(
     Ok(samples.len() as u64 == count && u64::from(right) == count)
 }
 
-/// So it is of each rectangle of each level of a file.
+/// Whether this holds for each rectangle of each level of a file.
 fn agrees(rt: &impl Abort, alloc: Global, file: &str) -> Result<(), Fail> {
     let bytes = file_of(alloc, file)?;
     let layout = layout_in(alloc, &bytes)?;

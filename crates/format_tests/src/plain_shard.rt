@@ -1,11 +1,12 @@
-//! Thousands of calls of shards of 1 to 40 slots beside a plain list that is walked for each.
+//! Compares thousands of calls on shards of 1 to 40 slots with a plain list that is searched each
+//! time.
 use crate::shard_calls::{counts, find, insert, release};
 use crate::untold::{OneShard, gray, one_shard};
 use std::alloc::{AllocError, Global};
 use std::test::Fail;
 use tile_layout::TileKey;
 
-// One tile of the list, which has the most recently used first.
+// One tile of the list, which has the most recently used tile first.
 #[derive(Clone, Copy)]
 struct Listed {
     key: TileKey,
@@ -99,7 +100,7 @@ fn one_key(number: u32) -> TileKey {
     TileKey::new(1 + number % 3, number / 3 % 2, 0, number / 6 % 4)
 }
 
-// The next of a row of numbers that look random.
+// The next random number.
 fn next(seed: &mut u64) -> u32 {
     *seed = seed
         .wrapping_mul(6364136223846793005)
@@ -107,7 +108,7 @@ fn next(seed: &mut u64) -> u32 {
     (*seed >> 33) as u32
 }
 
-// Each of these does the same to both, and tells whether they answered alike.
+// Makes the same call on both, and returns whether they answered alike.
 fn find_both(
     shard: &mut OneShard,
     list: &mut Vec<Listed>,
@@ -144,7 +145,7 @@ fn release_both(shard: &mut OneShard, list: &mut Vec<Listed>, key: TileKey, shar
     unpin(list, key, share) == released
 }
 
-// Both have the same counts, the same keys pinned, and a slot for each key that is there.
+// Whether both have the same counts and the same pinned keys, and every key there has a slot.
 fn are_alike(shard: &OneShard, list: &Vec<Listed>) -> bool {
     let mut alike = counts(shard) == counted(list);
     for number in 0..24 {
@@ -159,7 +160,7 @@ fn are_alike(shard: &OneShard, list: &Vec<Listed>) -> bool {
     alike
 }
 
-// One call of both.
+// Makes one call on both.
 fn call_both(
     alloc: Global,
     shard: &mut OneShard,
@@ -180,7 +181,7 @@ fn call_both(
 #[test]
 fn keeps_what_a_plain_list_keeps(rt: HostRuntime) -> Result<(), Fail> {
     let mut seed = 2026u64;
-    // One slot is always taken or free, few are often full, and so many never are.
+    // 1 slot is always taken or free, 5 and 12 are often full, and 40 never are
     for slots in [1, 5, 12, 40] {
         let mut shard = one_shard(rt.alloc(), slots)?;
         let mut list = Vec::new(rt.alloc());

@@ -1,5 +1,5 @@
-//! The number of reads of a file's directories, each of them failing in turn, and what
-//! PhotometricInterpretation says of a level.
+//! The number of reads of a file's directories, with each read failing in turn; and the photometric
+//! interpretation of a level.
 
 use crate::files::file_of;
 use crate::mem_reader::{Failed, MemReader};
@@ -9,18 +9,18 @@ use std::test::Fail;
 use tiff_dirs::{DirsError, read_dirs};
 use tiff_format::{Dirs, TiffFault};
 
-/// How many levels a file has, or its first fault.
+/// The number of levels of a file, or its first fault.
 #[derive(Clone, Copy, PartialEq, Eq)]
 enum Outcome {
     Levels(usize),
     Fault(TiffFault),
 }
 
-/// What is said of a file, the file, its outcome, and how many reads it takes of how many bytes in
-/// all. Each has one read of 8 bytes for its header. A directory has one of 2 bytes for its count,
-/// one for its entries and the 4 bytes of its next offset, and further ones as its row says. Where
-/// offsets are wide the header has a second read of 8 bytes, and the count and the next offset have
-/// 8 bytes each.
+/// The name of a case, the file, its outcome, and the number of reads and of bytes read. Each case
+/// has one read of 8 bytes for the header. A directory has one of 2 bytes for its number of
+/// entries, one for its entries and the 4 bytes after them, and further ones as the case says. In
+/// BigTIFF the header has a second read of 8 bytes, and the number of entries and the next offset
+/// have 8 bytes each.
 type Row = (&'static str, &'static str, Outcome, u64, u64);
 
 static ROWS: &[Row] = &[
@@ -33,7 +33,7 @@ static ROWS: &[Row] = &[
         8 + 2 + 132 + 4 + 2 + 6 + 16,
     ),
     ("two levels", "Two", Levels(2), 5, 8 + 114 + 66),
-    // A page is no half of another: nothing behind its directory is read.
+    // A page is not half of another, so nothing after its directory is read.
     ("two pages", "Pages", Levels(1), 5, 8 + 114 + 114),
     // Its BitsPerSample, three values at 122, is not read.
     (
@@ -43,9 +43,10 @@ static ROWS: &[Row] = &[
         5,
         8 + 114 + 66,
     ),
-    // 1 by 1 is the last level: its next offset, which leads to the first, is not followed.
+    // The last level is 1 by 1. Its next offset, which leads to the first directory, is not
+    // followed.
     ("a chain of 18 levels", "Chain", Levels(18), 37, 8 + 18 * 54),
-    // Nothing behind a fault is read.
+    // Nothing after a fault is read.
     ("no rows", "A 102=0", Fault(TiffFault::ZeroSize), 3, 8 + 114),
     (
         "a strip of level 0 in the header",
@@ -61,7 +62,8 @@ static ROWS: &[Row] = &[
         5,
         8 + 114 + 66,
     ),
-    // Rows of one texel, each a strip: 16384 offsets at once, 64 KiB where they are LONG.
+    // Rows of one texel, each a strip: 16384 offsets are read at once, which is 64 KiB if they are
+    // LONG.
     (
         "20000 strips, their offsets LONG",
         "A 8*40000 to=600000 18=1 30=32,78 74=32,78,0,0,138 102=1",
@@ -76,7 +78,7 @@ static ROWS: &[Row] = &[
         3 + 3,
         8 + 114 + 80_000,
     ),
-    // offsets behind the last block are not read
+    // offsets after the last block are not read
     (
         "60000 offsets of one strip",
         "A 8*60000 72=3 74=96,234,0,0,138",
@@ -84,7 +86,7 @@ static ROWS: &[Row] = &[
         3 + 1,
         8 + 114 + 2,
     ),
-    // BitsPerSample: its first value, and all values, 16384 at once
+    // BitsPerSample: first its first value, then all values, 16384 at once
     (
         "60000 samples",
         "A 8*60000 38=96,234,0,0,138 90=96,234",
@@ -92,7 +94,7 @@ static ROWS: &[Row] = &[
         3 + 1 + 4,
         8 + 114 + 2 + 120_000,
     ),
-    // at most 5461 entries at once, and the 4 bytes behind them
+    // at most 5461 entries at once, and the 4 bytes after them
     (
         "no entries",
         "A 8=0",
@@ -141,7 +143,7 @@ static ROWS: &[Row] = &[
         5,
         16 + 196 + 2,
     ),
-    // 8192 LONG8 at once, which all are 0
+    // 8192 LONG8 at once, all of them 0
     (
         "20000 strips, their offsets LONG8",
         "Wide to=160228 36=1 56=32,78 128=32,78 136=228 176=1",
@@ -149,7 +151,7 @@ static ROWS: &[Row] = &[
         4 + 3,
         16 + 196 + 160_000,
     ),
-    // 3276 wide entries at once
+    // 3276 BigTIFF entries at once
     (
         "3277 wide entries",
         "Wide to=65572 16=205,12",
@@ -159,7 +161,7 @@ static ROWS: &[Row] = &[
     ),
 ];
 
-/// How many levels there are, or the first fault.
+/// The number of levels, or the first fault.
 fn outcome_of(read: Result<Dirs, DirsError<Failed>>) -> Option<Outcome> {
     match read {
         Ok(dirs) => Some(Levels(dirs.levels.len())),
@@ -168,7 +170,7 @@ fn outcome_of(read: Result<Dirs, DirsError<Failed>>) -> Option<Outcome> {
     }
 }
 
-/// What reading a file's directories answers, and how many reads of how many bytes it takes.
+/// The result of reading a file's directories, and the number of reads and of bytes read.
 #[derive(Clone, Copy)]
 struct Reading {
     outcome: Option<Outcome>,
@@ -176,7 +178,7 @@ struct Reading {
     filled: u64,
 }
 
-/// No read fails.
+/// Reads the directories without a failing read.
 fn reading_of(alloc: Global, bytes: &[u8]) -> Reading {
     let mut reader = MemReader::new(bytes, 0);
     let outcome = outcome_of(read_dirs(alloc, &mut reader));
@@ -199,8 +201,7 @@ fn counts_the_reads(rt: HostRuntime) -> Result<(), Fail> {
     Ok(())
 }
 
-/// A file, and whether in its first level white is 0, and whether the samples of a texel are red, green
-/// and blue.
+/// A file, and whether its first level is WhiteIsZero and RGB.
 static COLOURS: &[(&str, bool, bool)] = &[
     ("A 66=0", true, false),
     ("A", false, false),
@@ -208,7 +209,7 @@ static COLOURS: &[(&str, bool, bool)] = &[
     ("B", false, true),
 ];
 
-/// The first level of a file says so of its samples.
+/// Whether the first level of a file has these colours.
 fn has_colours(alloc: Global, bytes: &[u8], white: bool, rgb: bool) -> bool {
     match read_dirs(alloc, &mut MemReader::new(bytes, 0)) {
         Ok(dirs) => match dirs.levels.first() {
@@ -228,7 +229,7 @@ fn tells_the_colours(rt: HostRuntime) -> Result<(), Fail> {
     Ok(())
 }
 
-/// The read of that number fails and is named, and it is the last one.
+/// Whether the read with this number fails and is named in the error, and is the last one.
 fn fails_at(alloc: Global, bytes: &[u8], failing: u64) -> bool {
     let mut reader = MemReader::new(bytes, failing);
     match read_dirs(alloc, &mut reader) {

@@ -1,4 +1,4 @@
-//! The samples of rectangles of levels, and how many reads they take.
+//! The samples of rectangles of levels, and the number of reads that they take.
 
 use crate::files::file_of;
 use crate::layouts::{Place, layout_in, rect_on};
@@ -12,7 +12,7 @@ use tile_layout::Layout;
 /// The samples of a rectangle, or why they were not read.
 type Samples = Result<Vec<u16>, RectError<Failed>>;
 
-/// The samples of a rectangle, where the level is stored and the rectangle lies on it.
+/// The samples of a rectangle, if the level is stored and contains it.
 fn samples_of(
     alloc: Global,
     reader: &mut MemReader<'_>,
@@ -26,7 +26,7 @@ fn samples_of(
     }
 }
 
-/// The samples of a rectangle, and how many reads of how many bytes they took.
+/// The samples of a rectangle, and the number of reads and of bytes read.
 #[derive(Drop)]
 pub(crate) struct Taken {
     pub(crate) samples: Vec<u16>,
@@ -34,7 +34,7 @@ pub(crate) struct Taken {
     pub(crate) filled: u64,
 }
 
-/// What is read of a rectangle of a file, no read of which fails.
+/// Reads a rectangle of a file without a failing read.
 pub(crate) fn taken_of(alloc: Global, file: &str, level: u32, place: Place) -> Result<Taken, Fail> {
     let bytes = file_of(alloc, file)?;
     let layout = layout_in(alloc, &bytes)?;
@@ -50,23 +50,23 @@ pub(crate) fn taken_of(alloc: Global, file: &str, level: u32, place: Place) -> R
     }
 }
 
-/// 4 by 6 in three strips of two rows, at 122, 130 and 138; the texel (x, y) is 16 * y + x.
+/// 4 by 6 in three strips of two rows, at 122, 130 and 138; texel (x, y) is 16 * y + x.
 pub(crate) const STRIPS: &str = "A 16704*1 17218*1 20816*1 21330*1 122*1 130*1 138*1 \
     30=6 72=3 74=3 78=146 102=2";
 
-/// The same, the last strip one byte further on, at 139.
+/// The file `STRIPS` with its last strip one byte later, at 139.
 pub(crate) const GAP: &str = "A 16639*1 16961*1 20547*1 21073*1 83*1 122*1 130*1 139*1 \
     30=6 72=3 74=3 78=148 102=2";
 
-/// The same, the last strip at 130, before the second at 138.
+/// The file `STRIPS` with its last strip at 130, before the second at 138.
 const SHUFFLED: &str = "A to=130 16704*1 17218*1 20816*1 21330*1 \
     8480*1 8994*1 12592*1 13106*1 122*1 138*1 130*1 30=6 72=3 74=3 78=146 102=2";
 
-/// `B` by 8 bits: the bytes of its samples, one after another, the highest first. So a tile is the
+/// `B` with 8 bits: the bytes of its samples one after another, highest first. So a tile is the
 /// first half of one of `B`.
 pub(crate) const BYTES: &str = "B 147=8 149=8 151=8";
 
-/// What is said of a file, the file, a level, a rectangle, and its samples. Each takes one read.
+/// The name of a case, the file, a level, a rectangle, and its samples. Each takes one read.
 type Row = (&'static str, &'static str, u32, Place, &'static [u16]);
 
 static ROWS: &[Row] = &[
@@ -115,7 +115,7 @@ static ROWS: &[Row] = &[
         &[245, 20, 5, 60],
     ),
     ("level 1", "Two", 1, (0, 0, 2, 2), &[200, 201, 202, 203]),
-    // strips that stand side by side
+    // strips that follow one another
     (
         "from the middle of the first strip to that of the last",
         STRIPS,
@@ -137,14 +137,13 @@ fn reads_samples(rt: HostRuntime) -> Result<(), Fail> {
     Ok(())
 }
 
-/// What is said of a file, the file, a rectangle of its level 0, and how many reads of how many
-/// bytes in all it takes.
+/// The name of a case, the file, a rectangle of level 0, and the number of reads and of bytes read.
 pub(crate) type ReadsRow = (&'static str, &'static str, Place, u64, u64);
 
 pub(crate) static READS: &[ReadsRow] = &[
     ("a tile", "B", (0, 0, 64, 32), 1, 12288),
     ("a tile of 8 bits", BYTES, (0, 0, 64, 32), 1, 6144),
-    // 32 rows of 96 bytes, 384 bytes apart, without the padding behind the last
+    // 32 rows of 96 bytes, 384 bytes apart, without the padding after the last
     ("an edge tile", "B", (64, 0, 16, 32), 1, 31 * 384 + 96),
     ("another", "B", (0, 32, 64, 16), 1, 16 * 384),
     ("the corner", "B", (64, 32, 16, 16), 1, 15 * 384 + 96),
@@ -157,7 +156,7 @@ pub(crate) static READS: &[ReadsRow] = &[
         4,
         12288 + 12000 + 6144 + 5856,
     ),
-    // rows of 4000 bytes: between two pieces stand 3990, which are read too
+    // rows of 4000 bytes: the 3990 bytes between two pieces are read too
     (
         "close rows",
         "A to=16122 18=160,15",
@@ -165,7 +164,7 @@ pub(crate) static READS: &[ReadsRow] = &[
         1,
         3 * 4000 + 10,
     ),
-    // 65 rows of 4096 bytes, which are whole: 256 KiB at once
+    // 65 whole rows of 4096 bytes: 256 KiB at once
     (
         "a large strip",
         "A to=266362 18=0,16 30=65 102=65",
@@ -173,17 +172,17 @@ pub(crate) static READS: &[ReadsRow] = &[
         2,
         266_240,
     ),
-    // six rows of three strips
+    // six rows in three strips
     ("strips side by side", STRIPS, (0, 0, 4, 6), 1, 24),
     ("from the middle of a strip on", STRIPS, (0, 3, 4, 2), 1, 8),
-    // The first strip with its rows, then the others: twice the 4 bytes that were read ahead and
-    // the distance to the last row are the three rows to come.
+    // First the first strip with its rows, then the others. Twice the 4 bytes read ahead, plus the
+    // distance to the last row, covers the three rows to come.
     ("three columns of them", STRIPS, (0, 0, 3, 6), 2, 7 + 15),
-    // The first strip with its rows, then the second and what lies close behind it, as many bytes
-    // as twice what was read ahead before and the distance to the last row, or the rows to come:
-    // that ends in the last row, which is a read.
+    // First the first strip with its rows, then the second and what follows closely: twice what was
+    // read ahead before plus the distance to the last row, or the rows to come. That ends within
+    // the last row, which takes another read.
     ("a gap before the last", GAP, (0, 0, 4, 6), 3, 8 + 16 + 4),
-    // The first strip, then the second and what lies behind it in the file, and the last.
+    // The first strip, then the second and what follows it in the file, and the last.
     (
         "strips in another order",
         SHUFFLED,
@@ -201,12 +200,12 @@ pub(crate) static READS: &[ReadsRow] = &[
         2,
         266_240,
     ),
-    // rows of 8192 bytes: each piece is a read
+    // rows of 8192 bytes: each piece is one read
     ("distant rows", "A to=32890 18=0,32", (100, 0, 10, 4), 4, 40),
 ];
 
-/// A file that is cut off behind so many bytes, the samples that it then has, and how many reads
-/// they take. Its pieces are rows of 4 bytes from 122 on.
+/// A file that is cut off after this many bytes, its samples, and the number of reads. Its pieces
+/// are rows of 4 bytes from 122 on.
 pub(crate) type ShortRow = (&'static str, usize, &'static [u16], u64);
 
 pub(crate) static SHORT: &[ShortRow] = &[
@@ -227,7 +226,7 @@ pub(crate) static SHORT: &[ShortRow] = &[
     ("A 66=0", 125, &[0; 16], 0),
 ];
 
-// The layout is that of the whole file.
+// the layout is that of the whole file
 #[test]
 fn counts_as_zero_what_lies_beyond(rt: HostRuntime) -> Result<(), Fail> {
     for (file, len, wanted, reads) in SHORT {
@@ -250,7 +249,7 @@ fn texel_of((x, y, w, _): Place, k: u64) -> (u64, u64) {
     (column, u64::from(y).saturating_add(k / w))
 }
 
-/// The channel, the row and the column make the number of a sample of `B`.
+/// The sample of `B` for a channel, row and column.
 fn sample_of_b(place: Place, k: u64) -> u64 {
     let (column, row) = texel_of(place, k / 3);
     (k % 3 * 20000)
@@ -258,13 +257,13 @@ fn sample_of_b(place: Place, k: u64) -> u64 {
         .saturating_add(column)
 }
 
-/// The row and the column make the number of a sample of the files of three strips.
+/// The sample of the files with three strips for a row and column.
 fn sample_of_strips(place: Place, k: u64) -> u64 {
     let (column, row) = texel_of(place, k);
     row.saturating_mul(16).saturating_add(column)
 }
 
-/// The number of sample k of a rectangle, in the files that have a rule for it.
+/// The expected sample k of a rectangle, for the files that have a rule for it.
 fn wanted_sample(file: &str, place: Place, k: u64) -> Option<u64> {
     match file {
         "B" => Some(sample_of_b(place, k)),
@@ -273,8 +272,8 @@ fn wanted_sample(file: &str, place: Place, k: u64) -> Option<u64> {
     }
 }
 
-/// How many samples of a rectangle, from the first on, are as they should be. In a file that has no
-/// rule all are.
+/// How many samples of a rectangle, from the first on, are as expected. In a file without a rule
+/// all are.
 fn right_samples(file: &str, samples: &[u16], place: Place) -> usize {
     let mut right = 0usize;
     for sample in samples {
@@ -299,7 +298,7 @@ fn counts_the_reads_of_rectangles(rt: HostRuntime) -> Result<(), Fail> {
     Ok(())
 }
 
-/// The read of that number fails and is named, and it is the last one.
+/// Whether the read with this number fails and is named in the error, and is the last one.
 fn fails_at(alloc: Global, bytes: &[u8], layout: &Layout, place: Place, failing: u64) -> bool {
     let mut reader = MemReader::new(bytes, failing);
     match samples_of(alloc, &mut reader, layout, 0, place) {

@@ -1,4 +1,4 @@
-//! The samples of rectangles in the room that they take: a byte each, or two.
+//! The samples of rectangles in the size that they need: one byte each, or two.
 
 use crate::files::file_of;
 use crate::layouts::{Place, layout_in, rect_on};
@@ -9,11 +9,10 @@ use std::alloc::{AllocError, Global};
 use std::test::Fail;
 use tile_layout::Layout;
 
-/// The samples of a rectangle in the room that they take, or why they were not read.
+/// The samples of a rectangle in the size that they need, or why they were not read.
 type InRoom = Result<Texels, RectError<Failed>>;
 
-/// The samples of a rectangle in the room that they take, where the level is stored and the rectangle
-/// lies on it.
+/// The samples of a rectangle in the size that they need, if the level is stored and contains it.
 fn texels_of(
     alloc: Global,
     reader: &mut MemReader<'_>,
@@ -27,7 +26,7 @@ fn texels_of(
     }
 }
 
-/// How many bytes a sample takes.
+/// The number of bytes per sample.
 fn size_of(texels: &Texels) -> u32 {
     match texels {
         Texels::Bytes(_) => 1,
@@ -35,7 +34,7 @@ fn size_of(texels: &Texels) -> u32 {
     }
 }
 
-/// The samples, two bytes each.
+/// The samples with two bytes each.
 fn shorts_of(alloc: Global, texels: Texels) -> Result<Vec<u16>, AllocError> {
     match texels {
         Texels::Shorts(samples) => Ok(samples),
@@ -49,7 +48,7 @@ fn shorts_of(alloc: Global, texels: Texels) -> Result<Vec<u16>, AllocError> {
     }
 }
 
-/// What is read of a rectangle of a file, no read of which fails, and how many bytes a sample takes.
+/// Reads a rectangle of a file without a failing read, and returns the bytes per sample too.
 fn in_room_of(alloc: Global, file: &str, level: u32, place: Place) -> Result<(Taken, u32), Fail> {
     let bytes = file_of(alloc, file)?;
     let layout = layout_in(alloc, &bytes)?;
@@ -69,16 +68,16 @@ fn in_room_of(alloc: Global, file: &str, level: u32, place: Place) -> Result<(Ta
     }
 }
 
-/// Two planes of two strips each, the second of one row, with 0 as white.
+/// Two planes of two strips each, the second strip with one row, WhiteIsZero.
 const PLANES: &str = "A 66=0 74=4 78=138 90=2 102=3 106=28 114=2 to=170 \
     138=122,0,0,0,134,0,0,0,154,0,0,0,166,0,0,0,200,201,202,203,204,205,206,207,208,209,210,211,212";
 
-/// The same, with 0 as black.
+/// The file `PLANES` with BlackIsZero.
 const BLACK_PLANES: &str = "A 74=4 78=138 90=2 102=3 106=28 114=2 to=170 \
     138=122,0,0,0,134,0,0,0,154,0,0,0,166,0,0,0,200,201,202,203,204,205,206,207,208,209,210,211,212";
 
-/// What is said of a file, the file, a rectangle of its level 0, how many bytes a sample takes in
-/// memory and how many reads they take, and the samples.
+/// The name of a case, the file, a rectangle of level 0, the bytes per sample in memory and the
+/// number of reads, and the samples.
 type RoomRow = (&'static str, &'static str, Place, u32, u64, &'static [u16]);
 
 static ROOMS: &[RoomRow] = &[
@@ -110,8 +109,8 @@ static ROOMS: &[RoomRow] = &[
         1,
         &[0, 0, 78, 32, 156, 64, 0, 1, 78, 33, 156, 65],
     ),
-    // the last three bytes of a row of the first tile, of the samples 20031 and 40031, and the first
-    // three of the next
+    // the last three bytes of a row of the first tile, from the samples 20031 and 40031, and the
+    // first three of the next
     (
         "over two tiles",
         BYTES,
@@ -219,7 +218,7 @@ fn counts_as_zero_in_a_room_of_bytes(rt: HostRuntime) -> Result<(), Fail> {
     Ok(())
 }
 
-// The samples are those that `read_rect` finds, by as many reads of as many bytes.
+// The samples equal those of `read_rect`, with as many reads and bytes.
 #[test]
 fn counts_the_reads_of_samples_in_their_room(rt: HostRuntime) -> Result<(), Fail> {
     for (what, file, place, reads, filled) in READS {
@@ -232,8 +231,8 @@ fn counts_the_reads_of_samples_in_their_room(rt: HostRuntime) -> Result<(), Fail
     Ok(())
 }
 
-/// The read of that number fails and is named, and it is the last one, where the samples are read to
-/// their room.
+/// Whether the read with this number fails and is named in the error, and is the last one, if the
+/// samples are read in the size that they need.
 pub(crate) fn fails_in_room(
     alloc: Global,
     bytes: &[u8],

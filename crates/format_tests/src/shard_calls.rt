@@ -1,4 +1,4 @@
-//! The calls of a shard, each after the test of its condition.
+//! The calls of a shard, each after a check of what it requires.
 use tex_world::World;
 use tile_layout::TileKey;
 use tile_store::{Shard, Tile};
@@ -8,7 +8,7 @@ pub fn find<W: World>(shard: &mut Shard<W>, key: TileKey) -> bool {
     shard.pins() < u32::MAX && matches!(shard.find_pin(key), Ok(Some(_)))
 }
 
-// Whether a tile is kept. The slots that tiles left are told first.
+// Whether a tile is kept. Emptied slots are reported first.
 pub fn insert<W: World>(shard: &mut Shard<W>, tile: Tile<W>, slots: u32) -> bool {
     'telling: while shard.left().is_some() {}
     let pins = shard.pins();
@@ -27,7 +27,7 @@ pub fn release<W: World>(shard: &mut Shard<W>, key: TileKey, share: u64) -> bool
     pinned
 }
 
-// Its tiles, its pins and its unpinned bytes.
+// The tiles, the pins and the unpinned bytes of a shard.
 pub fn counts<W: World>(shard: &Shard<W>) -> [u64; 3] {
     [shard.tiles() as u64, shard.pins() as u64, shard.loose()]
 }

@@ -25,7 +25,7 @@ fn put(
     Ok(insert(shard, tile, slots))
 }
 
-// A second tile under a key that is there is given up.
+// A second tile with a key that is there is dropped.
 #[test]
 fn keeps_the_tile_that_is_there(rt: HostRuntime) -> Result<(), Fail> {
     let key = TileKey::new(1, 1, 0, 0);
@@ -40,7 +40,7 @@ fn keeps_the_tile_that_is_there(rt: HostRuntime) -> Result<(), Fail> {
     Ok(())
 }
 
-// The least recently used of two unpinned tiles makes room, and a pinned one does not.
+// The least recently used of two unpinned tiles leaves; a pinned one does not.
 #[test]
 fn makes_room_for_one_more(rt: HostRuntime) -> Result<(), Fail> {
     let (a, b) = (TileKey::new(1, 1, 0, 0), TileKey::new(1, 1, 0, 1));
@@ -59,7 +59,7 @@ fn makes_room_for_one_more(rt: HostRuntime) -> Result<(), Fail> {
     Ok(())
 }
 
-// Tiles of file 1 below generation 3 leave, but for those that are pinned.
+// Tiles of file 1 below generation 3 leave, except those that are pinned.
 #[test]
 fn purges_older_generations(rt: HostRuntime) -> Result<(), Fail> {
     let old = TileKey::new(2, 1, 0, 0);

@@ -1,15 +1,15 @@
-//! Samples and values of texels, by the plain program.
+//! Samples and values of texels, by the plain reader.
 
 use crate::files::file_of;
 use std::test::Fail;
 use tiff_format::Form;
 use tiff_plain::{directory_place, first_fault, sample_at, stored_levels, value_at};
 
-/// A file, level, column, row and channel, and the sample and the value that stand there.
+/// A file, level, column, row and channel, and the sample and the value there.
 type Row = (&'static str, (u32, u32, u32, u32), (u32, u16));
 
 static ROWS: &[Row] = &[
-    // the texel (x, y) is 16 * y + x
+    // texel (x, y) is 16 * y + x
     ("A", (0, 0, 0, 0), (0, 0)),
     ("A", (0, 3, 0, 0), (3, 771)),
     ("A", (0, 1, 2, 0), (33, 8481)),
@@ -19,7 +19,7 @@ static ROWS: &[Row] = &[
     ("Wide", (0, 1, 2, 0), (33, 8481)),
     ("BigWide", (0, 3, 3, 0), (51, 13107)),
     ("WideTwo", (1, 1, 0, 0), (201, 51657)),
-    // of level 1 it is 200 + 2 * y + x
+    // in level 1 it is 200 + 2 * y + x
     ("Two", (1, 0, 0, 0), (200, 51400)),
     ("Two", (1, 1, 0, 0), (201, 51657)),
     ("Two", (1, 0, 1, 0), (202, 51914)),
@@ -53,7 +53,7 @@ static ROWS: &[Row] = &[
     ("A 18=2 42=16 66=0", (0, 1, 3, 0), (52429, 52429)),
     ("BigA 19=2 43=16", (0, 0, 0, 0), (0x0001, 0x0001)),
     ("BigA 19=2 43=16", (0, 1, 3, 0), (0x3233, 0x3233)),
-    // channel c of the texel (x, y) is 20000 * c + 100 * y + x
+    // channel c of texel (x, y) is 20000 * c + 100 * y + x
     ("B", (0, 0, 0, 0), (0, 0)),
     ("B", (0, 63, 31, 0), (3163, 3163)),
     ("B", (0, 64, 31, 1), (23164, 23164)),
@@ -64,7 +64,7 @@ static ROWS: &[Row] = &[
     ("B", (0, 79, 47, 2), (44779, 44779)),
 ];
 
-/// The file is good, the level stored, and the sample and the value are these.
+/// Whether the file is valid, the level stored, and these are the sample and the value.
 fn has_texel(
     bytes: &[u8],
     (l, x, y, c): (u32, u32, u32, u32),

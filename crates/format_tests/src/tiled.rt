@@ -7,8 +7,8 @@ ghost use Rattle.format_tests.specs.declared.tiled.TheConstants.{HEAD};
 
 use tex_world::FileTable;
 
-// 80 by 48, 16 bits, three channels, highest byte first, in four tiles of 64 by 32, which stand at
-// 184, 12472, 24760 and 37048. Cells 0 and 1 take 12288 and 3072 bytes.
+// 80 by 48, 16 bits, three channels, highest byte first, in four tiles of 64 by 32 at 184, 12472,
+// 24760 and 37048. Cells 0 and 1 take 12288 and 3072 bytes.
 static HEAD: [u8; 184] = [
     0x4d, 0x4d, 0x00, 0x2a, 0x00, 0x00, 0x00, 0x08, 0x00, 0x0b, //
     0x01, 0x00, 0x00, 0x03, 0x00, 0x00, 0x00, 0x01, 0x00, 0x50, 0x00, 0x00, //
@@ -30,7 +30,8 @@ static HEAD: [u8; 184] = [
     0x00, 0x00, 0x30, 0x00, 0x00, 0x00, 0x30, 0x00, //
 ];
 
-/// `B.tif` has two generations with the same bytes: each behind the head is its place, modulo 251.
+/// `B.tif` has two generations with the same bytes. Each byte after the header is its place modulo
+/// 251.
 #[derive(Drop)]
 pub struct Tiled;
 

@@ -6,7 +6,7 @@ use tiff_format::Rect;
 use tile_layout::TileKey;
 use tile_store::{Row, Tile};
 
-// The texel is in the tile, and a sample of it is this.
+// Whether the texel is in the tile and has this sample.
 fn has_sample(tile: &Tile<Untold>, (x, y, c): (u32, u32, u32), sample: u16) -> bool {
     let rect = tile.rect();
     if x < rect.x || y < rect.y || c >= tile.channels() {
@@ -15,7 +15,7 @@ fn has_sample(tile: &Tile<Untold>, (x, y, c): (u32, u32, u32), sample: u16) -> b
     x - rect.x < rect.w && y - rect.y < rect.h && tile.texel(x, y, c) == sample
 }
 
-/// The samples of the row are these.
+/// Whether the row has these samples.
 pub(crate) fn is_row(row: &Row<'_>, samples: &[u16]) -> bool {
     if row.count() != samples.len() {
         return false;
@@ -28,7 +28,7 @@ pub(crate) fn is_row(row: &Row<'_>, samples: &[u16]) -> bool {
     true
 }
 
-// The texels from one on are in its row of the tile, and these are their samples.
+// Whether the tile has these texels of a row, with these samples.
 fn has_row(tile: &Tile<Untold>, (x, y, n): (u32, u32, u32), samples: &[u16]) -> bool {
     let rect = tile.rect();
     if x < rect.x || y < rect.y || y - rect.y >= rect.h || n > rect.w {
@@ -41,7 +41,7 @@ static SAMPLES: [u16; 12] = [10, 11, 20, 21, 30, 31, 40, 41, 50, 51, 60, 61];
 
 static BYTES: [u8; 12] = [10, 11, 20, 21, 30, 31, 40, 41, 50, 51, 60, 61];
 
-// Two rows of three texels, whose left upper texel is (8, 4).
+// two rows of three texels, whose upper left texel is (8, 4)
 const RECT: Rect = Rect {
     x: 8,
     y: 4,
@@ -49,17 +49,17 @@ const RECT: Rect = Rect {
     h: 2,
 };
 
-// They have two samples each.
+// A tile with two samples per texel.
 fn tile_of(alloc: Global, key: TileKey) -> Result<Tile<Untold>, AllocError> {
     Ok(Tile::new(key, RECT, 2, SAMPLES.to_vec(alloc)?))
 }
 
-// The same, of a byte each.
+// The same tile with one byte per sample.
 fn tile_of_bytes(alloc: Global, key: TileKey) -> Result<Tile<Untold>, AllocError> {
     Ok(Tile::of_bytes(key, RECT, 2, BYTES.to_vec(alloc)?))
 }
 
-// The tile has those samples, and counts two bytes for each.
+// Whether the tile has these samples, and counts two bytes for each.
 fn has_samples(tile: &Tile<Untold>) -> bool {
     tile.channels() == 2
         && tile.bytes() == 24
@@ -70,7 +70,7 @@ fn has_samples(tile: &Tile<Untold>) -> bool {
         && has_row(tile, (8, 4, 0), &[])
 }
 
-// The samples of a row of the tile, copied, are these.
+// Whether copying a row of the tile gives these samples.
 fn copies(tile: &Tile<Untold>, y: u32, samples: &[u16; 6]) -> bool {
     let rect = tile.rect();
     if rect.w != 3 || tile.channels() != 2 || y < rect.y || y - rect.y >= rect.h {

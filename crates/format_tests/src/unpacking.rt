@@ -1,14 +1,14 @@
-//! The samples of bytes, worked out by hand.
+//! Samples from bytes, worked out by hand.
 
 use std::alloc::{AllocError, Global};
 use std::process::Abort;
 use std::test::Fail;
 use unpack::{unpack, unpack_as, unpack_plane, unpack_plane_as};
 
-/// The channels of a WhiteIsZero picture, or 0; the bytes; the samples.
+/// The channels of a WhiteIsZero image, or 0; the bytes; the samples.
 type Row = (usize, &'static [u8], &'static [u16]);
 
-/// 8 bits, where the byte order says nothing.
+/// 8 bits, where the byte order does not matter.
 const BYTES: [Row; 8] = [
     (0, &[], &[]),
     (2, &[], &[]),
@@ -40,7 +40,7 @@ const HIGHEST_FIRST: [Row; 6] = [
     (usize::MAX, &[1, 0, 1, 0], &[65279, 256]),
 ];
 
-/// There are bytes for so many samples, and these are the samples of them.
+/// Whether the bytes give exactly these samples.
 fn is_unpacked(alloc: Global, wide: bool, big: bool, row: &Row) -> Result<bool, AllocError> {
     let (invert, bytes, samples) = row;
     let size = if wide { 2 } else { 1 };
@@ -80,7 +80,7 @@ fn unpacks_one_case(rt: HostRuntime) {
     assert!(rt; dst == [60875, 65534, 65534]);
 }
 
-/// Of so many samples the white rule is applied in blocks.
+/// With this many samples, white is inverted in blocks.
 #[test]
 fn unpacks_many_white_samples(rt: HostRuntime) -> Result<(), Fail> {
     let mut bytes = Vec::new(rt.alloc());

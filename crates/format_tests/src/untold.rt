@@ -1,4 +1,4 @@
-//! A world that tells nothing, and tiles of it.
+//! A world that is not modelled, and tiles of it.
 ghost use Rattle.std.specs.Prelude.{◌*◌, ◌≤◌};
 ghost use Rattle.format_tests.specs.Untold.{untold, untold_is_world};
 
@@ -19,7 +19,7 @@ impl World for Untold {
     ghost lawful = { untold_is_world };
 }
 
-// A tile of so many texels with three samples each, all 0.
+// A tile of this width and height with three samples per texel, all 0.
 pub fn gray(alloc: Global, key: TileKey, w: u32, h: u32) -> Result<Tile<Untold>, AllocError>
     requires { w * h * 3 ≤ 16777216 }
 {
@@ -27,7 +27,7 @@ pub fn gray(alloc: Global, key: TileKey, w: u32, h: u32) -> Result<Tile<Untold>,
     Ok(Tile::new(key, Rect { x: 0, y: 0, w, h }, 3, texels))
 }
 
-// A shard of so many slots.
+// A shard with this many slots.
 pub fn one_shard(alloc: Global, slots: u32) -> Result<OneShard, AllocError> {
     OneShard::with_slots(alloc, slots).map_err(|_e| AllocError)
 }

@@ -4,7 +4,7 @@ use Rattle.std.proofs.Common.{refl, subst, sym, ⊎_elim, arith}
 use Rattle.std.specs.Prelude.{slice_index}
 use Rattle.gen_board.specs.Rule.{later_of}
 
--- What holds of each number holds after a write, if it holds of the number that is written.
+-- What is true of each number holds after a write, if it holds of the number that is written.
 pub set_keeps : (P : ℕ → ℕ → Type 0) (xs : List ℕ) (i m : ℕ) → ((k : ℕ) → P k (slice_index xs k))
     → P i m → (k : ℕ) → P k (slice_index (set xs i m) k)
 set_keeps P [] i m each new k = each k
@@ -18,14 +18,14 @@ set_keeps P (x ∷ xs) (suc i) m each new (suc k) =
 max_is_one : (a b : ℕ) → (max a b ≡ a) ⊎ (max a b ≡ b)
 max_is_one a b = grind arith
 
--- What holds of two numbers holds of the greater one.
+-- What is true of two numbers holds of the greater one.
 pub max_keeps : (P : ℕ → Type 0) (a b : ℕ) → P a → P b → P (max a b)
 max_keeps P a b left right = ⊎_elim
     (λ (e : max a b ≡ a). subst P (sym e) left)
     (λ (e : max a b ≡ b). subst P (sym e) right)
     (max_is_one a b)
 
--- What holds of each number of two lists holds of the greater ones.
+-- What is true of each number of two lists holds of the greater ones.
 pub later_keeps : (P : ℕ → ℕ → Type 0) (xs ys : List ℕ) → ((k : ℕ) → P k (slice_index xs k))
     → ((k : ℕ) → P k (slice_index ys k)) → (k : ℕ) → P k (slice_index (later_of xs ys) k)
 later_keeps P [] ys left right k = left k
@@ -34,7 +34,7 @@ later_keeps P (x ∷ xs) (y ∷ ys) left right zero = max_keeps (P zero) x y (le
 later_keeps P (x ∷ xs) (y ∷ ys) left right (suc k) =
     later_keeps (λ j. P (suc j)) xs ys (λ j. left (suc j)) (λ j. right (suc j)) k
 
--- Of two lists of one length each number is the greater one.
+-- merging two lists of equal length takes the greater number at each place
 pub later_at : (xs ys : List ℕ) (k : ℕ) → length ys ≡ length xs
     → slice_index (later_of xs ys) k ≡ max (slice_index xs k) (slice_index ys k)
 later_at [] [] k same = refl

@@ -20,7 +20,7 @@ module _ (world : Files) (files : ℕ) where
   EachSeen words views = (seat : ℕ) (sight : Sight) → get_elem? views seat ≡ some sight
       → (file : ℕ) → IsSeen world words file (slice_index sight.seen file)
 
-  -- One seat's new view, of which each number is right, keeps all of them right.
+  -- If one seat's new view is right, all views stay right.
   pub one_view : (words : List ℕ) (views : List Sight) (id : ℕ) (new : Sight) → EachSeen words views
       → ((file : ℕ) → IsSeen world words file (slice_index new.seen file))
       → EachSeen words (set views id new)

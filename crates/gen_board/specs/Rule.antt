@@ -1,4 +1,4 @@
--- What holds of a board between any two steps, and what each kind of step tells its seat.
+-- What is true of a board between atomic steps, and what does each kind of step tell its seat?
 use Rattle.std.specs.Prelude.{◌≡◌, ℕ, ◌+◌, ◌≤◌, max, List, [], ◌∷◌, length, replicate}
 use Rattle.std.specs.Prelude.{slice_index, slice_set}
 use mathlib.Core.Option.{some}
@@ -8,7 +8,7 @@ use Rattle.tex_world.specs.World.{Files}
 use Rattle.tex_world.specs.Tap.{IsLeast}
 use Rattle.gen_board.specs.declared.sight.Sight.{Sight}
 
--- one word for each file, and one at least
+-- one word for each file, and at least one
 abbrev pub word_count : ℕ → ℕ
 word_count files = max 1 files
 
@@ -16,30 +16,30 @@ word_count files = max 1 files
 abbrev pub first_sight : ℕ → Sight
 first_sight files = record { seen = replicate files 0; steps = replicate files 0 }
 
--- a spent seat claims nothing
+-- what a spent seat knows: nothing
 abbrev pub spent_sight : Sight
 spent_sight = record { seen = []; steps = [] }
 
--- the number is none or a real generation of the file, and at most the word
+-- the number is 0 or a generation of the file that exists, and at most the word
 abbrev pub IsSeen : Files → List ℕ → ℕ → ℕ → Type 0
 IsSeen world words file seen = IsLeast world file seen × (seen ≤ slice_index words file)
 
--- The rule: each word is 0 or a real generation of its file, and so is each number that a seat has
--- seen, which is at most the word.
+-- The invariant: each word is 0 or a generation of its file that exists. So is each number that a
+-- seat has seen, and it is at most the word.
 pub record IsBoard (world : Files) (files : ℕ) (s : State (Unit {0}) Sight) : Type 0 where
   pub count : length s.words ≡ word_count files
   pub words : (file : ℕ) → IsLeast world file (slice_index s.words file)
   pub views : (seat : ℕ) (sight : Sight) → get_elem? s.views seat ≡ some sight
       → (file : ℕ) → IsSeen world s.words file (slice_index sight.seen file)
 
--- the sight after a step on the word of a file, which has then been seen to be this number
+-- what the seat knows after a step on the word of a file, in which it saw this number
 abbrev pub stepped_sight : Sight → ℕ → ℕ → Sight
 stepped_sight old file n = record {
   seen = slice_set old.seen file n;
   steps = slice_set old.steps file (slice_index old.steps file + 1);
 }
 
--- A look finds 0 or a real generation, at least what was seen, and has then seen it.
+-- A read finds 0 or a generation that exists, at least what was seen, and has now seen it.
 pub record Looked (world : Files) (step : Step (Unit {0})) (old : Me (Unit {0}) Sight) (found : ℕ)
     (new : Me (Unit {0}) Sight) : Type 0 where
   pub real : IsLeast world step.word found
@@ -47,8 +47,8 @@ pub record Looked (world : Files) (step : Step (Unit {0})) (old : Me (Unit {0}) 
   pub sight : new.0 ≡ stepped_sight old.0 step.word found
   pub slots : new.1 ≡ old.1
 
--- A raise finds 0 or a real generation, at least what was seen, and has then seen the greater of it
--- and the generation given.
+-- A raise finds 0 or a generation that exists, at least what was seen. It has now seen the greater
+-- of it and the generation given.
 pub record Raised (world : Files) (step : Step (Unit {0})) (old : Me (Unit {0}) Sight) (found : ℕ)
     (new : Me (Unit {0}) Sight) : Type 0 where
   pub real : IsLeast world step.word found
@@ -56,7 +56,7 @@ pub record Raised (world : Files) (step : Step (Unit {0})) (old : Me (Unit {0}) 
   pub sight : new.0 ≡ stepped_sight old.0 step.word (max found step.first)
   pub slots : new.1 ≡ old.1
 
--- for each file the greater number of both
+-- the greater of both numbers for each file
 abbrev pub later_of : List ℕ → List ℕ → List ℕ
 later_of [] ys = []
 later_of (x ∷ xs) [] = x ∷ xs

@@ -1,5 +1,4 @@
--- How a board lies in its table, and how a view is known to it: by its seat, and by the numbers
--- that it keeps itself.
+-- How is a board stored in its table, and a view in its seat and in the numbers that it keeps?
 use Rattle.std.specs.Prelude.{◌≡◌, ℕ, List, [], length, slice_index}
 use Rattle.atomic_table.specs.declared.shared.Seat.{Seat}
 use Rattle.tex_world.specs.World.{Files}
@@ -8,7 +7,7 @@ use Rattle.gen_board.specs.View.{ViewState}
 use Rattle.gen_board.specs.Rule.{word_count}
 use Rattle.gen_board.specs.declared.sight.Sight.{Sight}
 
--- The table was told the number of files, and it has their words.
+-- The table was made for this number of files, and has their words.
 pub record IsLaid (files told laid : ℕ) : Type 0 where
   pub key : told ≡ files
   pub words : laid ≡ word_count files
@@ -21,7 +20,8 @@ view_state seat seen = record {
   steps = seat.me.0.steps;
 }
 
--- The seat knows of just these numbers, and each is 0 or a real generation. It holds no slot.
+-- The seat knows exactly these numbers, and each is 0 or a generation that exists. It holds no
+-- slot.
 pub record IsSeated (world : Files) (seat : Seat (Unit {0}) Sight) (kept : List ℕ) : Type 0 where
   pub seen : seat.me.0.seen ≡ kept
   pub length_steps : length seat.me.0.steps ≡ length kept

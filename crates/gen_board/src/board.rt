@@ -1,3 +1,4 @@
+//! The board: the newest known generation of each file, shared by all threads.
 ghost use Rattle.std.specs.Prelude.{◌≡◌, ◌<◌, ◌≤◌, IfOk};
 ghost use Rattle.tex_world.specs.World.{IsReal};
 ghost use Rattle.tex_world.specs.Tap.{IsLeast};
@@ -14,8 +15,7 @@ use std::cmp::max;
 use std::marker::{Model, PhantomData};
 use tex_world::{NoMemory, World};
 
-/// The newest known generation of each file, 0 where none is known yet. In a clause it is which
-/// board it is.
+/// The newest known generation of each file; 0 if none is known yet. Clauses see which board it is.
 #[derive(Drop)]
 pub struct Board<W: World> {
     table: Table<(), Sight, u32, Generations<W>, Global>,
@@ -48,21 +48,21 @@ fn made<W: World>(alloc: Global, files: u32) -> Result<(Board<W>, View<W>), Allo
 }
 
 impl<W: World> Board<W> {
-    /// A board of so many files, none of which is known yet, and its first view.
+    /// A board of `files` files, none of them known, and its first view.
     pub fn new(alloc: Global, files: u32) -> Result<(Board<W>, View<W>), NoMemory>
         ensures ok { IfOk result (λ made. IsNewView files made.0 made.1) }
     {
         Ok(made(alloc, files)?)
     }
 
-    /// The number of its files.
+    /// The number of files.
     pub fn files(&self) -> u32
         ensures { result ≡ self.now.files }
     {
         self.files
     }
 
-    /// The newest generation that is known of a file, or 0. One load.
+    /// The newest known generation of a file, or 0. Costs one atomic load.
     pub fn look(&self, v: &mut View<W>, file: u32) -> u32
         requires board { v.old.board ≡ self.now }
         requires file { file < self.now.files }
@@ -75,7 +75,8 @@ impl<W: World> Board<W> {
         found
     }
 
-    /// Makes a generation known, and answers the newest one that is then known. One fetch-and-max.
+    /// Raises a file's generation to at least `g`, and returns the newest one then known. Costs one
+    /// atomic fetch-and-max.
     pub fn raise(&self, v: &mut View<W>, file: u32, g: u32) -> u32
         requires board { v.old.board ≡ self.now }
         requires file { file < self.now.files }
@@ -91,7 +92,7 @@ impl<W: World> Board<W> {
         newest
     }
 
-    /// A second view, which has seen and counted the same.
+    /// Makes a second view, which starts with what `v` has seen and counted.
     pub fn split(&self, v: &mut View<W>) -> Result<View<W>, NoMemory>
         requires board { v.old.board ≡ self.now }
         ensures ok { IfOk result (IsSameView v.old) }
@@ -106,7 +107,7 @@ impl<W: World> Board<W> {
         })
     }
 
-    /// The view has then seen the greater of both for each file. The other view ends.
+    /// Ends the other view: `v` has then seen the newer generation of each file.
     pub fn join(&self, v: &mut View<W>, other: View<W>)
         requires board { v.old.board ≡ self.now }
         requires other { other.board ≡ self.now }

@@ -1,5 +1,5 @@
-//! The newest known generation of each file, in one word a file that threads share. A view is what
-//! one caller has seen of them. No call waits, and none but `new` and `split` takes memory.
+//! The newest known generation of each file, in atomic words that threads share, and views of what
+//! each caller has seen. No call waits; only `new` and `split` allocate.
 #![tactic(auto)]
 
 mod board;

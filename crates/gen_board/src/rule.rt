@@ -1,3 +1,4 @@
+//! The invariant of the board's atomic words.
 ghost use Rattle.gen_board.specs.Rule.{IsBoard, first_sight};
 
 use crate::sight::Sight;
@@ -5,8 +6,8 @@ use atomic_table::TableRule;
 use std::marker::PhantomData;
 use tex_world::World;
 
-/// What holds between any two steps: each word and each number that a seat has seen is 0 or a real
-/// generation, and what is seen is at most the word.
+/// Between atomic steps, each word, and each number that a seat has seen, is 0 or a generation that
+/// exists. What is seen is at most the word.
 pub(crate) struct Generations<W> {
     world: PhantomData<W>,
 }

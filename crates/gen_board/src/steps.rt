@@ -1,4 +1,4 @@
-//! The four kinds of step, and what each tells its seat.
+//! The four kinds of atomic step, and what each of them tells the seat.
 ghost use Rattle.gen_board.specs.Rule.{Looked, Raised, both_sights, spent_sight};
 
 use crate::sight::Sight;
@@ -6,7 +6,7 @@ use atomic_table::{Join, Play, Split};
 use std::marker::PhantomData;
 use tex_world::World;
 
-/// A load: the number found is what the seat has then seen.
+/// A load: the seat has then seen the number found.
 pub(crate) struct Look<W> {
     world: PhantomData<W>,
 }
@@ -15,8 +15,7 @@ impl<W: World> Play<(), Sight> for Look<W> {
     ghost then = { Looked W.files };
 }
 
-/// A fetch-and-max: the greater of the number found and the one given is what the seat has then
-/// seen.
+/// A fetch-and-max: the seat has then seen the greater of the number found and the one given.
 pub(crate) struct Raise<W> {
     world: PhantomData<W>,
 }
@@ -34,7 +33,7 @@ impl Split<Sight> for Copied {
     ghost right = { λ sight. sight };
 }
 
-/// The seat has then seen the greater of both, and the other is spent.
+/// The seat has then seen the greater of both, and the other seat ends.
 pub(crate) struct Joined;
 
 impl Join<Sight> for Joined {

@@ -1,3 +1,4 @@
+//! A view: what one caller has seen of a board.
 ghost use Rattle.std.specs.Prelude.{◌≡◌, ℕ, ◌<◌, slice_index};
 ghost use Rattle.tex_world.specs.Tap.{IsLeast};
 ghost use Rattle.gen_board.specs.View.{ViewState};
@@ -7,8 +8,8 @@ use atomic_table::Seat;
 use std::marker::{Model, PhantomData};
 use tex_world::World;
 
-/// What one caller has seen of the files of a board. In a clause it is the board that it belongs
-/// to, what it has seen, and its counts of looks and raises, which are for contracts alone.
+/// What one caller has seen of the files of a board. Clauses see the board, what was seen, and
+/// counts of reads and raises, which exist only for contracts.
 #[derive(Drop)]
 pub struct View<W: World> {
     pub(crate) seat: Seat<(), Sight>,
@@ -28,7 +29,7 @@ impl<W: World> Model for View<W> {
 }
 
 impl<W: World> View<W> {
-    /// The generation that it has seen of a file, or 0.
+    /// The newest generation that the caller has seen of a file, or 0.
     pub fn seen(&self, file: u32) -> u32
         requires { file < self.now.board.files }
         ensures value { result ≡ slice_index self.now.seen file }

@@ -24,7 +24,7 @@ use Rattle.host_folder.specs.Listing.{KeepsNames}
 
 -- ---- the order of names
 
--- how a file's name stands to another
+-- how a file's name compares with another name
 abbrev pub compared : List ℕ → Listed → Ordering
 compared name file = slice_cmp nat_cmp (listed_name file) name
 
@@ -53,7 +53,7 @@ sorted_in_order files ordered k d low within =
     let turned = by_name_total.antisymm (get_or files (k + 1) d) (get_or files k d) in
     ap is_lt turned ∙ not_greater _ less
 
--- all of a list, told by its places
+-- a fact of each place of a list is a fact of the whole list
 all_at : (P : Listed → Type 0) (files : List Listed) → AllByRecursion P files → All P files
 all_at P [] each k d low = absurd (omega (arith, low))
 all_at P (file ∷ files) each zero d low = each.0
@@ -144,7 +144,7 @@ module _ (files : List Listed) (name : List ℕ) where
       other_before ordered k n d before low same
       (sym (get_or-map listed_name files k d [] within) ∙ other))
 
-  -- Where a gap is found, the name has no number.
+  -- If a gap is found, the name has no number.
   pub no_number_around : (n : ℕ) → AreInOrder files
       → IsBinarySearchResult (compared name) files (Err n)
       → number_in (listed_names files) name ≡ None

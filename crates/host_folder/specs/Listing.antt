@@ -1,4 +1,4 @@
--- Which files does a listing have, in which order, and what are their names?
+-- Which files does a listing have, in which order, and under which names?
 use Rattle.std.specs.Prelude.{◌≡◌, ℕ, true, List, map, string_bytes}
 use Rattle.std.specs.List.{All, Any, AllPairs}
 use Rattle.std.specs.List.Sorted.{IsSortedBy}
@@ -11,7 +11,7 @@ use Rattle.host_folder.specs.declared.listed.Listed.{Listed}
 abbrev pub listed_name : Listed → List ℕ
 listed_name file = string_bytes file.name
 
--- the names of files, each at its file's number
+-- the names of the files, in the order of their numbers
 abbrev pub listed_names : List Listed → List (List ℕ)
 listed_names files = map listed_name files
 
@@ -23,10 +23,10 @@ by_name a b = slice_cmp nat_cmp (listed_name a) (listed_name b)
 abbrev pub AreSorted : List Listed → Type 0
 AreSorted files = IsSortedBy (λ a b. is_lt (by_name a b)) files
 
--- each name is less than all those after it, so none is there twice
+-- each name is less than all later ones, so there are no duplicates
 abbrev pub AreInOrder : List Listed → Type 0
 AreInOrder files = AllPairs (λ a b. is_lt (by_name a b) ≡ true) files
 
--- each old file's name is that of a new one
+-- each old name is still the name of a file
 abbrev pub KeepsNames : List Listed → List Listed → Type 0
 KeepsNames old new = All (λ file. Any (λ kept. listed_name kept ≡ listed_name file) new) old

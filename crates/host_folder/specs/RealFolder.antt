@@ -1,4 +1,4 @@
--- What are the counts of a real folder, and what is known of it?
+-- What does a real folder count, and what do contracts know of it?
 use Rattle.std.specs.Prelude.{◌≡◌, ℕ, ◌<◌, ◌≤◌, List, [], length, Option, Some, None}
 use Rattle.std.specs.Prelude.{string_bytes}
 use Rattle.std.specs.Option.{ForSome}
@@ -21,17 +21,17 @@ abbrev pub listed_path : {A : Type 0} → Option (Arc Listing A) → Option (Lis
 listed_path None = None
 listed_path (Some listing) = Some (string_bytes (arc_value listing).path)
 
--- the files of a listing, and none where there is no listing
+-- the files of a listing; none if there is no listing
 abbrev pub listed_in : {A : Type 0} → Option (Arc Listing A) → List Listed
 listed_in None = []
 listed_in (Some listing) = (arc_value listing).files.items
 
--- the number of files of a listing, and 0 where there is none
+-- the number of files of a listing; 0 if there is no listing
 abbrev pub listed_files : {A : Type 0} → Option (Arc Listing A) → ℕ
 listed_files None = 0
 listed_files (Some listing) = length (arc_value listing).files.items
 
--- The counts and the mark that its fields keep. It is entered where it is listed.
+-- The counts in the folder's fields. The folder is entered if it has a listing.
 abbrev pub folder_state : {R : Type 0} → RealFolder R → FolderState
 folder_state folder = record {
   faults = folder.faults;
@@ -53,7 +53,7 @@ none_before : {A : Type 0} (listing : Option (Arc Listing A)) → listed_path li
 none_before None same = refl
 none_before (Some listing) same = cc
 
--- A name's number is that of a file of the listing.
+-- A name's number belongs to a file of the listing.
 numbered : {A : Type 0} (listing : Option (Arc Listing A)) (name : List ℕ)
     → ForSome (number_in (listed_names (listed_in listing)) name) (λ n. n < listed_files listing)
 numbered None name n found = absurd (cc found)
@@ -67,7 +67,7 @@ unnumbered : {A : Type 0} (listing : Option (Arc Listing A)) → listed_path lis
 unnumbered None before name = refl
 unnumbered (Some listing) before name = absurd (cc before)
 
--- A listing has few files, and there are none where there is no listing.
+-- A listing has few enough files; without a listing there are none.
 pub folder_is_lawful : {R : Type 0} (folder : RealFolder R)
     → IsFolder untold_files (folder_state folder)
 folder_is_lawful folder = record {

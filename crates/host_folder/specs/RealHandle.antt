@@ -2,6 +2,6 @@
 use Rattle.tex_world.specs.Tap.{Named}
 use Rattle.host_folder.specs.declared.handle.RealHandle.{RealHandle}
 
--- its file, its generation, and the length that was seen at that generation
+-- the file, the generation, and the length seen in that generation
 abbrev pub handle_named : RealHandle → Named
 handle_named h = record { file = h.file; generation = h.generation; len = h.look.len }

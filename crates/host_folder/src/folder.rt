@@ -1,4 +1,4 @@
-//! A real folder.
+//! A folder of the file system.
 ghost use Rattle.std.specs.Prelude.{◌≡◌, IfOk, string_bytes};
 ghost use Rattle.std.specs.Arc.{arc_value};
 ghost use Rattle.tex_world.specs.Tap.{IsNew};
@@ -14,7 +14,7 @@ use std::fs::{File, Files};
 use std::sync::Arc;
 use tex_world::{EnterError, Folder, NoMemory};
 
-/// A folder of the system. It is listed once, when it is entered.
+/// A folder of the file system. It is listed once, when it is entered.
 #[derive(Drop)]
 pub struct RealFolder<R> {
     rt: R,
@@ -27,7 +27,7 @@ pub struct RealFolder<R> {
 }
 
 impl<R> RealFolder<R> {
-    /// A folder that is not entered.
+    /// A folder that has not been entered.
     pub fn new(rt: R) -> Self
         ensures { IsNewFolder (folder_state result) }
     {
@@ -44,7 +44,7 @@ impl<R> RealFolder<R> {
 }
 
 impl<R: Files<File = File> + AllocGlobal + Clone + Drop> RealFolder<R> {
-    /// The plain files of the folder of this path, for the taps to share.
+    /// Lists the plain files of the folder with this path, for the taps to share.
     fn list(&self, alloc: Global, path: &str) -> Result<Arc<Listing>, EnterError>
         ensures { IfOk result (λ l. string_bytes (arc_value l).path ≡ path.now) }
     {
@@ -52,7 +52,7 @@ impl<R: Files<File = File> + AllocGlobal + Clone + Drop> RealFolder<R> {
         Arc::new(alloc, listing).map_err(|_| EnterError::NoMemory)
     }
 
-    /// A tap over the files that are listed.
+    /// Makes a tap for the listed files.
     fn new_tap(&self) -> Result<RealTap<R>, AllocError>
         ensures { IfOk result (λ t. IsNew (tap_state t)) }
     {
@@ -98,7 +98,7 @@ impl<R: Files<File = File> + AllocGlobal + Clone + Drop> Folder for RealFolder<R
         }
     }
 
-    /// It takes about as many comparisons as the count has binary digits.
+    /// A binary search by name.
     fn find(&self, name: &str) -> Option<u32> {
         match &self.listing {
             Some(listing) => listing.find(name),

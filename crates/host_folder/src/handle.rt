@@ -1,4 +1,4 @@
-//! A file of a real folder, open at one generation.
+//! A file of the file system, open at one generation.
 ghost use Rattle.std.specs.Prelude.{◌≡◌, ◌<◌, ◌≤◌};
 ghost use Rattle.tex_world.specs.World.{last_generation};
 ghost use Rattle.host_folder.specs.RealWorld.{handle_in_range};
@@ -8,7 +8,7 @@ use crate::world::RealWorld;
 use std::fs::File;
 use tex_world::TapHandle;
 
-/// An open file, with the length and the stamp that it had when its generation was settled.
+/// An open file, with its length and its stamp in this generation.
 #[derive(Drop)]
 pub struct RealHandle {
     file: u32,
@@ -20,7 +20,7 @@ pub struct RealHandle {
 }
 
 impl RealHandle {
-    /// The handle of an open file that looks so at this generation.
+    /// A handle of an open file, which was seen in this way at this generation.
     pub(crate) fn new(file: u32, generation: u32, look: Look, source: File) -> Self
         requires low { 1 ≤ generation }
         requires high { generation ≤ last_generation }
@@ -36,7 +36,7 @@ impl RealHandle {
         }
     }
 
-    /// The stamp of its generation.
+    /// The stamp of the handle's generation.
     pub(crate) fn stamp(&self) -> u64
         ensures { result ≡ self.now.look.stamp }
     {

@@ -1,5 +1,5 @@
-//! A folder of the system, as the texture service sees it: its plain files in generations, the taps
-//! that read them, and a reader and a writer as feed and sink.
+//! The real outside world: a folder of the file system, its taps, and a reader and a writer as feed
+//! and sink.
 #![tactic(auto)]
 
 mod folder;

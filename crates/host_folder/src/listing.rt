@@ -1,4 +1,4 @@
-//! The plain files of one folder.
+//! The list of a folder's plain files.
 ghost use Rattle.std.specs.Prelude.{◌≡◌, ◌<◌, ◌≤◌, length, IfOk, IfErr, IfSome, IsNone};
 ghost use Rattle.std.specs.Prelude.{string_bytes};
 ghost use Rattle.std.specs.List.{HoldsAt};
@@ -18,9 +18,8 @@ use tex_world::EnterError;
 /// The most files that a folder can have.
 const MAX_FILES: usize = 4096;
 
-/// The plain files that a folder had when it was listed, in the order of their names. No name is
-/// there twice. Each has a word, which all taps share: the latest generation that one of them settled,
-/// and the stamp of that generation.
+/// The plain files that a folder had when it was listed, ordered by name, without duplicates. All
+/// taps share one atomic word per file, which holds the newest known generation and its stamp.
 #[derive(Drop)]
 pub struct Listing {
     path: String,
@@ -31,7 +30,7 @@ pub struct Listing {
 }
 
 impl Listing {
-    /// Lists the folder of this path. A symbolic link counts as what it leads to.
+    /// Lists the folder with this path. A symbolic link counts as what it points to.
     pub fn of<R: Files + AllocGlobal + Clone + Drop>(
         rt: &R,
         alloc: Global,
@@ -47,14 +46,14 @@ impl Listing {
         Ok(Listing { path, files, words })
     }
 
-    /// The number of its files.
+    /// The number of files.
     pub fn len(&self) -> usize
         ensures { result ≡ length self.now.files.items }
     {
         self.files.len()
     }
 
-    /// The number of the file of this name.
+    /// The number of the file with this name.
     pub fn find(&self, name: &str) -> Option<u32>
         ensures { result ≡ number_in (listed_names self.now.files.items) name.now }
     {
@@ -68,7 +67,7 @@ impl Listing {
         }
     }
 
-    /// The path that opens a file.
+    /// The path to open a file.
     pub fn path_of(&self, file: u32) -> Option<&str>
         ensures path { IfSome result (λ path.
             HoldsAt (λ listed. string_bytes listed.path ≡ path.now) self.now.files.items file) }
@@ -77,13 +76,13 @@ impl Listing {
         Some(self.files.get(file as usize)?.path.as_str())
     }
 
-    /// The word of a file.
+    /// The word of a file: its newest known generation and stamp.
     pub fn word(&self, file: u32) -> Option<&AtomicU64> {
         self.words.get(file as usize)
     }
 }
 
-/// So many words of files that were not seen yet.
+/// Words for `count` files that have not been seen yet.
 fn unseen_words(alloc: Global, count: usize) -> Result<Vec<AtomicU64>, AllocError> {
     let mut words = Vec::with_capacity(alloc, count)?;
     for _ in 0..count {
@@ -92,7 +91,7 @@ fn unseen_words(alloc: Global, count: usize) -> Result<Vec<AtomicU64>, AllocErro
     Ok(words)
 }
 
-/// The plain files among the entries, in the order in which they come.
+/// The plain files among the directory entries, in their order.
 fn plain_files<R: Files + AllocGlobal + Clone + Drop>(
     rt: &R,
     alloc: Global,
@@ -112,7 +111,7 @@ fn plain_files<R: Files + AllocGlobal + Clone + Drop>(
     Ok(files)
 }
 
-/// The files in the order of their names, byte by byte.
+/// Sorts the files by name, byte by byte.
 fn sorted(mut files: Vec<Listed>) -> Result<Vec<Listed>, EnterError>
     ensures len { IfOk result (λ after. length after.items ≡ length files.items) }
     ensures sorted { IfOk result (λ after. AreSorted after.items) }
@@ -124,8 +123,8 @@ fn sorted(mut files: Vec<Listed>) -> Result<Vec<Listed>, EnterError>
     }
 }
 
-/// Drops each file that has the name of the one before it. A folder that is changed while it is
-/// read can give a name twice.
+/// Drops each file that has the same name as the one before it. A folder that changes while it is
+/// listed can give a name twice.
 fn drop_doubles(files: &mut Vec<Listed>)
     requires { AreSorted files.old.items }
     ensures in_order { AreInOrder files.new.items }
@@ -135,7 +134,7 @@ fn drop_doubles(files: &mut Vec<Listed>)
     files.dedup_by(|a, b| a.name.as_str() == b.name.as_str());
 }
 
-/// The plain file of an entry. One whose name is not UTF-8 is passed over.
+/// The plain file of a directory entry. A file whose name is not UTF-8 is ignored.
 fn plain_file<R: Files + AllocGlobal + Clone + Drop>(
     rt: &R,
     alloc: Global,
@@ -152,7 +151,7 @@ fn plain_file<R: Files + AllocGlobal + Clone + Drop>(
     Ok(Some(Listed::of(alloc, &entry).map_err(no_memory)?))
 }
 
-/// Whether an entry is a plain file. One that is gone since its folder was read is none.
+/// Whether an entry is a plain file. One that has disappeared since counts as not plain.
 fn is_plain<R: Files + AllocGlobal + Clone + Drop>(
     rt: &R,
     entry: &DirEntry<R>,
@@ -165,7 +164,7 @@ fn is_plain<R: Files + AllocGlobal + Clone + Drop>(
     }
 }
 
-/// Whether a symbolic link leads to a plain file.
+/// Whether a symbolic link points to a plain file.
 fn leads_to_plain<R: Files + AllocGlobal + Clone + Drop>(rt: &R, link: &DirEntry<R>) -> bool {
     match fs::metadata(rt, link.path()) {
         Ok(metadata) => metadata.is_file(),

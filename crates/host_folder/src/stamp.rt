@@ -1,5 +1,4 @@
-//! What shows that a file was changed: its stamp, and the word that keeps a generation beside its
-//! stamp.
+//! How a changed file is recognized: its stamp, and the word that holds a generation and its stamp.
 ghost use Rattle.std.specs.Prelude.{◌≡◌, ◌↔◌, ◌+◌, ◌*◌, ◌%◌, ◌^◌, ◌<◌, ◌≤◌, IsSome, IfSome};
 ghost use Rattle.std.specs.Fs.{metadata_len, file_type, IsFile};
 ghost use Rattle.host_folder.specs.Stamp.{stamps, nanos_end, HasStamp, stamp_of_file};
@@ -11,10 +10,10 @@ use std::fs::Metadata;
 use std::time::UNIX_EPOCH;
 use tex_world::LAST_GENERATION;
 
-/// One more than the greatest stamp: a stamp has 44 bits.
+/// The number of stamps: a stamp has 44 bits.
 const STAMPS: u64 = 1 << 44;
 
-/// How much a nanosecond counts in a stamp. It is a prime.
+/// The weight of a nanosecond in a stamp. It is a prime.
 const NANO_WEIGHT: u128 = 1_000_003;
 
 /// What was seen of a plain file: its length in bytes and its stamp.
@@ -25,7 +24,7 @@ pub struct Look {
     ghost in_range: { stamp < stamps },
 }
 
-/// What the system says of a file, and none where it is not a plain one.
+/// What the system says about a file. `None` if it is not a plain file.
 pub fn look_of(metadata: &Metadata) -> Option<Look>
     ensures plain { IsSome result ↔ IsFile (file_type metadata.now) }
     ensures len { IfSome result (λ look. look.len ≡ metadata_len metadata.now) }
@@ -39,8 +38,8 @@ pub fn look_of(metadata: &Metadata) -> Option<Look>
     Some(Look { len, stamp })
 }
 
-/// When the file was changed, in nanoseconds since the start of 1970, and 0 where the system gives
-/// no time or an earlier one.
+/// When the file was changed, in nanoseconds since 1970. 0 if the system gives no time or an
+/// earlier one.
 fn modified(metadata: &Metadata) -> u128
     ensures { result < nanos_end }
 {
@@ -53,7 +52,7 @@ fn modified(metadata: &Metadata) -> u128
     }
 }
 
-/// The stamp of a file of this length in bytes that was changed at this time in nanoseconds.
+/// The stamp of a file with this length in bytes and this time of change in nanoseconds.
 fn stamp_of(len: u64, nanos: u128) -> u64
     requires { nanos < nanos_end }
     ensures value { result ≡ stamp_of_file len nanos }
@@ -62,15 +61,15 @@ fn stamp_of(len: u64, nanos: u128) -> u64
     ((u128::from(len) + NANO_WEIGHT * nanos) % u128::from(STAMPS)) as u64
 }
 
-/// The generation that a word keeps, 0 where it keeps none.
+/// The generation in a word; 0 if none.
 pub fn generation_in(word: u64) -> u32
     ensures { result ≡ word_generation word }
 {
     (word / STAMPS) as u32
 }
 
-/// The word after a look at a file: as it was where its generation is of this stamp, else of the
-/// next generation. None after the last generation.
+/// The word after a freshness check: unchanged if the stamp is the same, otherwise with the next
+/// generation. `None` after the last generation.
 pub fn settled(word: u64, stamp: u64) -> Option<u64>
     requires { stamp < stamps }
     ensures value { result ≡ settled_word word stamp }
@@ -85,8 +84,8 @@ pub fn settled(word: u64, stamp: u64) -> Option<u64>
     Some((u64::from(generation) + 1) * STAMPS + stamp)
 }
 
-/// The generation that a word keeps, where it is of this stamp. It is that of a file which looks so,
-/// also where another tap has put this word in the place of the one that was looked at.
+/// The generation in a word, if its stamp is this one. It is right also if another tap wrote the
+/// word.
 pub fn generation_of(word: u64, stamp: u64) -> Option<u32>
     ensures value { result ≡ generation_by word stamp }
     ensures real { IfSome result (λ g. (1 ≤ g) × (g ≤ last_generation)) }
@@ -99,10 +98,10 @@ pub fn generation_of(word: u64, stamp: u64) -> Option<u32>
     }
 }
 
-/// The generation of a file with this stamp, after its word was to be exchanged for the one that keeps
-/// it: `loaded` was looked at before, and `found` stood there in the exchange. Where they are the same
-/// it is that of the word which stands there then. Where another tap was first it is that of the word
-/// which it left, if it is of the same stamp.
+/// The generation of a file with this stamp, after the attempt to exchange its word. `loaded` was
+/// read before, and `found` was there at the exchange. If they are equal, the new word was written
+/// and its generation counts. Otherwise another tap was first, and its word counts if it has the
+/// same stamp.
 pub fn generation_after(loaded: u64, found: u64, stamp: u64) -> Option<u32>
     requires { stamp < stamps }
     ensures value { result ≡ spec.generation_after loaded found stamp }

@@ -1,4 +1,4 @@
-//! Standard input as the source of the list, and standard output as the place of the answers.
+//! Standard input as feed, and standard output as sink.
 ghost use Rattle.std.specs.Prelude.{◌≡◌, ◌≤◌, None, IfOk, OnErr};
 ghost use Rattle.tex_world.specs.Counts.{Rises};
 
@@ -7,7 +7,7 @@ use std::io;
 use std::io::{BufWriter, ErrorKind, Read, Write};
 use tex_world::{Failed, Feed, Sink};
 
-/// A reader whose bytes are not told. It counts the reads that fail.
+/// A reader as feed. Its bytes are not modelled. It counts the reads that fail.
 #[derive(Drop)]
 pub struct RealFeed<I> {
     input: I,
@@ -15,7 +15,7 @@ pub struct RealFeed<I> {
 }
 
 impl<I> RealFeed<I> {
-    /// A feed of what the reader gives.
+    /// A feed of a reader's bytes.
     pub fn new(input: I) -> Self
         ensures { result.faults ≡ 0 }
     {
@@ -39,11 +39,11 @@ impl<I: Read> Feed for RealFeed<I> {
     }
 }
 
-/// How many bytes the sink holds back at most, so that small lines go out together.
+/// The most bytes that the sink buffers, so that small lines are written together.
 const HELD_BACK: usize = 65536;
 
-/// A writer whose bytes are not told. It holds some bytes back until `flush`, and counts the writes
-/// that fail.
+/// A writer as sink. Its bytes are not modelled. It buffers bytes until `flush`, and counts the
+/// writes that fail.
 #[derive(Drop)]
 pub struct RealSink<W: Write + Drop> {
     out: BufWriter<W>,
@@ -51,7 +51,7 @@ pub struct RealSink<W: Write + Drop> {
 }
 
 impl<W: Write + Drop> RealSink<W> {
-    /// A sink that gives all to the writer.
+    /// A sink that writes everything to the writer.
     pub fn new(alloc: Global, out: W) -> io::Result<Self>
         ensures { IfOk result (λ s. s.faults ≡ 0) }
     {
@@ -59,7 +59,7 @@ impl<W: Write + Drop> RealSink<W> {
         Ok(RealSink { out, faults: 0 })
     }
 
-    /// Writes what is held back.
+    /// Writes the buffered bytes.
     pub fn flush(&mut self) -> Result<(), Failed>
         ensures faults { self.old.faults ≤ self.new.faults }
         ensures cause { OnErr result (Rises self.old.faults self.new.faults) }
@@ -84,7 +84,7 @@ impl<W: Write + Drop> Sink for RealSink<W> {
 
     ghost faults = { λ s. s.faults };
 
-    /// Where it fails, what was held back is written as far as that goes.
+    /// If it fails, as much as possible of the buffered bytes has been written.
     fn put(&mut self, bytes: &[u8]) -> Result<(), Failed> {
         match self.out.write_all(bytes) {
             Ok(()) => Ok(()),

@@ -1,4 +1,4 @@
-//! A source of the bytes of a real folder's files.
+//! A tap of a folder of the file system.
 ghost use Rattle.std.specs.Prelude.{◌≡◌, ◌+◌, ◌<◌, ◌≤◌, min, OnOk, IfErr, IfSome};
 ghost use Rattle.tex_world.specs.Counts.{last_count};
 ghost use Rattle.tex_world.specs.World.{last_generation};
@@ -20,9 +20,8 @@ use std::sync::Arc;
 use std::sync::atomic::{AtomicU64, Ordering};
 use tex_world::{Failed, OpenError, ReadError, Tap, TapHandle};
 
-/// A source of the files of a folder as they were when it was listed. The word of each file, the
-/// generation that it was last seen in with the stamp of that generation, is one for all taps. No call
-/// waits for another tap.
+/// Reads the files of a folder as it was listed. All taps share one word per file: the generation
+/// in which the file was last seen, and its stamp. No call waits for another tap.
 #[derive(Drop)]
 pub struct RealTap<R> {
     rt: R,
@@ -34,18 +33,18 @@ pub struct RealTap<R> {
     moves: u64,
     lost: u64,
     newest: (u32, u32),
-    /// How often reads looked at their files.
+    /// The number of freshness checks made by reads.
     looks: u64,
 }
 
-/// A generation of a file, with what was seen of the file at it.
+/// A generation of a file, with the length and the stamp seen.
 #[derive(Clone, Copy)]
 struct Settled {
     generation: u32,
     look: Look,
 }
 
-/// Rows of so many bytes, the first from a place on, each `stride` bytes behind the one before.
+/// Rows of `row` bytes, the first at `at`, each `stride` bytes after the one before.
 #[derive(Clone, Copy)]
 struct Rows {
     at: u64,
@@ -55,7 +54,7 @@ struct Rows {
 }
 
 impl<R> RealTap<R> {
-    /// A tap that has had no call.
+    /// A tap without calls so far.
     pub(crate) fn new(rt: R, listing: Option<Arc<Listing>>) -> Self
         ensures { IsNew (tap_state result) }
     {
@@ -73,35 +72,35 @@ impl<R> RealTap<R> {
         }
     }
 
-    /// How many of its calls failed.
+    /// How many calls failed.
     pub fn faults(&self) -> u64
         ensures { result ≡ (tap_state self.now).faults }
     {
         self.faults
     }
 
-    /// How often it met a newer generation.
+    /// How often the tap met a newer generation.
     pub fn moves(&self) -> u64
         ensures { result ≡ (tap_state self.now).moves }
     {
         self.moves
     }
 
-    /// Counts a failed call.
+    /// Counts an I/O error.
     fn count_fault(&mut self)
         ensures { AddsFault (tap_state self.old) (tap_state self.new) }
     {
         self.faults = self.faults.saturating_add(1);
     }
 
-    /// Counts a meeting with a newer generation.
+    /// Counts that a newer generation was met.
     fn count_move(&mut self)
         ensures { AddsMove (tap_state self.old) (tap_state self.new) }
     {
         self.moves = self.moves.saturating_add(1);
     }
 
-    /// Counts a read that met one.
+    /// Counts a read that failed because a newer generation was met.
     fn count_loss(&mut self)
         ensures { AddsLoss (tap_state self.old) (tap_state self.new) }
     {
@@ -122,7 +121,7 @@ impl<R> RealTap<R> {
         read
     }
 
-    /// The path that opens a file.
+    /// The path to open a file.
     fn path_of(&self, file: u32) -> Option<&str> {
         match &self.listing {
             Some(listing) => listing.path_of(file),
@@ -132,7 +131,7 @@ impl<R> RealTap<R> {
 }
 
 impl<R: Files<File = File>> RealTap<R> {
-    /// What is seen of a file at its path, and none where there is no plain file.
+    /// The length and the stamp of the file at its path. `None` if there is no plain file.
     fn look(&self, file: u32) -> Option<Look> {
         match fs::metadata(&self.rt, self.path_of(file)?) {
             Ok(metadata) => look_of(&metadata),
@@ -140,7 +139,7 @@ impl<R: Files<File = File>> RealTap<R> {
         }
     }
 
-    /// The word of a file, if it is one of the folder's.
+    /// The word of a file, if it is in the listing.
     fn word(&self, file: u32) -> Option<&AtomicU64> {
         match &self.listing {
             Some(listing) => listing.word(file),
@@ -148,9 +147,9 @@ impl<R: Files<File = File>> RealTap<R> {
         }
     }
 
-    /// Looks at a file and settles its generation: that of its word where the stamp is as it was,
-    /// else the next one, which the word then keeps. None where there is no plain file, where another
-    /// tap has settled the file by another stamp meanwhile, and where the generation would be below
+    /// Checks a file and determines its generation: that in its word if the stamp is the same,
+    /// otherwise the next one, which is then written to the word. `None` if there is no plain file,
+    /// if another tap has written another stamp meanwhile, or if the generation would be below
     /// `least` or past the last one.
     fn settle(&self, file: u32, least: u32) -> Option<Settled>
         ensures low { IfSome result (λ s. 1 ≤ s.generation) }
@@ -167,7 +166,7 @@ impl<R: Files<File = File>> RealTap<R> {
         Some(Settled { generation, look })
     }
 
-    /// Settles the generation of a file and opens it. None where another file was put in its place
+    /// Determines the generation of a file and opens it. `None` if another file took its place
     /// meanwhile.
     fn opened(&self, file: u32, least: u32) -> Option<RealHandle>
         ensures file { IfSome result (λ h. (handle_named h).file ≡ file) }
@@ -182,8 +181,8 @@ impl<R: Files<File = File>> RealTap<R> {
         }
     }
 
-    /// Fills the buffer from the open file, where the stamp is that of the handle before the read
-    /// and after it.
+    /// Fills the buffer from the open file. The stamp must be the handle's both before and after
+    /// the read.
     fn fill(&mut self, h: &RealHandle, at: u64, buf: &mut [u8]) -> Result<(), ReadError>
         ensures same { tap_state self.new ≡ tap_state self.old }
         ensures looks { OnOk result (LooksTwice self.old self.new) }
@@ -198,8 +197,8 @@ impl<R: Files<File = File>> RealTap<R> {
         }
     }
 
-    /// Fills the buffer with rows from the open file, where the stamp is that of the handle before
-    /// all of them are read and after.
+    /// Fills the buffer with rows from the open file. The stamp must be the handle's both before
+    /// the first row and after the last.
     fn fill_rows(&mut self, h: &RealHandle, rows: Rows, buf: &mut [u8]) -> Result<(), ReadError>
         ensures same { tap_state self.new ≡ tap_state self.old }
         ensures looks { OnOk result (LooksTwice self.old self.new) }
@@ -211,8 +210,8 @@ impl<R: Files<File = File>> RealTap<R> {
         if read { Ok(()) } else { Err(ReadError::Failed) }
     }
 
-    /// Nothing where the file at the handle's path still has the stamp of its generation. Else the
-    /// generation that the file has now, if that is a newer one.
+    /// Succeeds if the file at the handle's path still has the handle's stamp. Otherwise the error
+    /// names the file's generation, if that is newer.
     fn stay(&mut self, h: &RealHandle) -> Result<(), ReadError>
         ensures same { tap_state self.new ≡ tap_state self.old }
         ensures looks { self.new.looks ≡ min (self.old.looks + 1) last_count }
@@ -232,8 +231,8 @@ impl<R: Files<File = File>> RealTap<R> {
     }
 }
 
-/// The generation of a file with this stamp, by its word: that of the word as it was loaded where the
-/// stamp is as it was, else the next one, which the word is to keep. It waits for no other tap.
+/// The generation of a file with this stamp: that of the loaded word if the stamp is the same,
+/// otherwise the next one, which is written to the word. Never waits for another tap.
 fn settle_word(word: &AtomicU64, loaded: u64, stamp: u64) -> Option<u32>
     requires { stamp < stamps }
     ensures { IfSome result (λ g. (1 ≤ g) × (g ≤ last_generation)) }
@@ -249,7 +248,7 @@ fn settle_word(word: &AtomicU64, loaded: u64, stamp: u64) -> Option<u32>
     generation_after(loaded, found, stamp)
 }
 
-/// Whether an open file is the one that was seen.
+/// Whether an open file has the length and the stamp that were seen.
 fn is_seen(source: &File, look: Look) -> bool {
     match source.metadata() {
         Ok(metadata) => match look_of(&metadata) {
@@ -260,8 +259,8 @@ fn is_seen(source: &File, look: Look) -> bool {
     }
 }
 
-/// Fills the buffer with rows from an open file: at once where they stand side by side. Whether all
-/// were read.
+/// Fills the buffer with rows from an open file, in one read if they follow one another. False if a
+/// read failed.
 fn are_read(source: &File, rows: Rows, buf: &mut [u8]) -> bool {
     if rows.row as u64 == rows.stride {
         return source.read_exact_at(buf, rows.at).is_ok();
@@ -283,8 +282,8 @@ impl<R: Files<File = File>> Tap for RealTap<R> {
 
     ghost state = { tap_state };
 
-    /// It takes no memory. It fails where the file that is opened has another stamp or length than
-    /// the one that its generation was settled by.
+    /// Allocates nothing. Fails if the opened file has another stamp or length than was seen when
+    /// its generation was determined.
     fn open(&mut self, _alloc: Global, file: u32, least: u32) -> Result<RealHandle, OpenError> {
         self.calls = self.calls.saturating_add(1);
         self.opens = self.opens.saturating_add(1);
@@ -317,16 +316,15 @@ impl<R: Files<File = File>> Tap for RealTap<R> {
         }
     }
 
-    /// It looks at the stamp of the file at the path, before the read and after it, so that a file
-    /// that was put in its place is noticed as well as one that was rewritten. The bytes are those
-    /// of the open file.
+    /// Checks the stamp of the file at the path before and after the read. So it notices a file
+    /// that was replaced as well as one that was rewritten. The bytes come from the open file.
     fn read_at(&mut self, h: &mut RealHandle, at: u64, buf: &mut [u8]) -> Result<(), ReadError> {
         self.calls = self.calls.saturating_add(1);
         let read = self.fill(h, at, buf);
         self.told(read)
     }
 
-    /// It looks at the stamp before the first row and after the last one.
+    /// Checks the stamp before the first row and after the last one.
     fn read_rows(
         &mut self,
         h: &mut RealHandle,

@@ -1,10 +1,10 @@
-//! The files of a real folder.
+//! The contracts' model of a folder of the file system: nothing is known of its files.
 ghost use Rattle.host_folder.specs.RealWorld.{untold_files, untold_is_world};
 
 use tex_world::World;
 
-/// The files that the system has. It tells nothing of them, since other programs may change them
-/// at any time.
+/// The files of the file system. They are not modelled, because other programs may change them at
+/// any time.
 #[derive(Drop)]
 pub struct RealWorld;
 

@@ -1,4 +1,4 @@
--- Which of the tiles that a pass holds is that of a cell, and which values have the samples of a part?
+-- Which held tile belongs to a cell, and which values have the samples of a part?
 use Rattle.std.proofs.Common.{◌≡◌, ℕ, zero, suc, ◌<◌, ◌≤◌, ◌∙◌, refl, ap, subst, false, arith, List, [], ◌∷◌}
 use Rattle.std.proofs.Common.{length, map, Some, Result, Ok, Err}
 use Rattle.std.specs.Prelude.{slice_get, slice_index_or, IsTrue, IsOkAnd, IfOk, slice_index}
@@ -41,7 +41,7 @@ use Rattle.image_cache.specs.declared.error.CacheError.TheVariants as refused
 
 -- ---- holds
 
--- where one of the tiles has the key, one of them is that of the cell
+-- if one of the held tiles has the key, one of them is the cell's
 pub held_found : (files : Files) (state : RecordState) (cell : CellAt) (holds : List CachedTile)
     → IsTrue files.tells → IsRecord files state → IsCellOf state cell
     → All (FitsCut files state.cut) holds → HasKey key_in cell.key holds
@@ -86,7 +86,7 @@ stored_texel state at n inside stored count = by state.layout inside stored coun
         record { stored = stored; column = inside.column; row = inside.row; channels = count }
     by (Err fault) inside stored count = absurd inside
 
--- of its layout
+-- a stored texel of a record, given its layout
 pub texel_of : (state : RecordState) (at : TexelAt) (n : ℕ) (kept : Kept) → state.layout ≡ Ok kept
     → IsOkAnd state.layout (λ k. IsStoredTexel k at n) → IsTexelOf kept (part_at state at) at.x n
 texel_of state at n kept is lies =
@@ -98,7 +98,7 @@ texel_of state at n kept is lies =
       channels = there.channels;
     }
 
--- and of the bytes of its generation, where the world tells
+-- in a modelled world, a stored texel belongs to the bytes of the record's generation
 pub texel_told : (files : Files) (state : RecordState) (at : TexelAt) (n : ℕ)
     → IsRecord files state → IsOkAnd state.layout (λ kept. IsStoredTexel kept at n)
     → ForSome (files.held state.file state.generation)
@@ -167,7 +167,7 @@ reads_fall a b c lent read opened first last reads moves =
       newest = reads.newest;
     })))
 
--- a file is not lent for want of memory only where it was opened
+-- lending a file runs out of memory only if the file was opened
 pub lend_memory : {B : Type 0} (files : Files) (file generation : ℕ) (old new : Sighted)
     (e : FileError B) → LendCause files file generation old new e
     → WantsByOpening old.tap new.tap (of_file e)
@@ -179,9 +179,9 @@ lend_memory files file generation old new unread.ReadFault cause = tt
 lend_memory files file generation old new (unread.Again from to) cause = tt
 lend_memory files file generation old new (unread.Busy b) cause = tt
 
--- ---- refusals
+-- ---- errors
 
--- one that is not want of memory
+-- an error other than out of memory
 pub wants_none : {B : Type 0} (old new : TapState) (e : CacheError B)
     → (e ≡ refused.NoMemory → ⊥) → WantsByOpening old new e
 wants_none old new refused.NoMemory not_so = absurd (not_so refl)

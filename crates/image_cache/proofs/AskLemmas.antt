@@ -10,7 +10,7 @@ use Rattle.tex_world.specs.Tap.{TapState}
 use Rattle.file_table.specs.Calls.{KeepsView}
 use Rattle.image_cache.specs.Invalid.{RisesBy, AsksIfKnown, seen_count}
 
--- it is the same where the same is seen of these files
+-- the count is the same if the same is seen of these files
 same_count : (a b : ViewState) (n : ℕ)
     → ((f : ℕ) → f < n → slice_index b.seen f ≡ slice_index a.seen f)
     → seen_count b n ≡ seen_count a n

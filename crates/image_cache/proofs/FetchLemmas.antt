@@ -21,7 +21,7 @@ use Rattle.image_cache.specs.Reading.{PassTap, pass_tap}
 use Rattle.image_cache.specs.Fetches.{at_of, AsksForCell, Fetches, Refuses}
 use Rattle.image_cache.proofs.FillLemmas.{none_fell}
 
--- what is so of the value of a function, where there is one
+-- a fact of a function's value, if there is one
 pub at_mapped : {A B : Type 0} (f : A → B) (o : Option A) (y : B) (P : B → Type 0)
     → option_map f o ≡ Some y → ((x : A) → o ≡ Some x → P (f x)) → P y
 at_mapped f None y P is each = absurd (none-some y is)
@@ -45,7 +45,7 @@ asks_met files state texel old new met = record {
   needs = λ none. met.needs;
 }
 
--- so it was fetched
+-- a texel that was read from the microcache was fetched
 pub fetches_met : (files : Files) (gate : GateState) (state : RecordState) (texel : Texel)
     (tap : TapState) (old new : PassState) → MeetsAt files state (at_of texel) old new
     → Fetches files gate state (pass_tap old tap) texel (pass_tap new tap)

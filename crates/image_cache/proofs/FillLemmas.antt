@@ -199,7 +199,7 @@ holds_or_not rect x y = left (less_or_not x rect.x)
     left (inl out) = inr (λ is. let l = is.left in omega (arith, out, l))
     left (inr l) = right l (less_or_not x (rect.x + rect.w))
 
--- what is painted of one rectangle stays, where another one is painted
+-- what was painted of one rectangle stays when another one is painted
 pub painted_stays : (bytes : List ℕ) (level : ℕ) (window : Window) (height : ℕ) (one other : Rect)
     (old new : List ℕ) → HasValuesOn bytes level one window height old
     → HasValuesOn bytes level other window height new
@@ -260,7 +260,7 @@ has_area r region area grid channels ok cuts same is = by r.layout refl ok cuts 
     }
     by (Err fault) layout fits cut alike = absurd fits
 
--- and of its own grid
+-- the area of a region on its own grid
 pub own_area : (region : Region) (area : Area) (level : CutLevel) (channels : ℕ)
     → IsAreaOf level region channels area
     → IsAreaOf (shown_grid area.grid) region area.window.channels area

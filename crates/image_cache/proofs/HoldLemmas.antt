@@ -1,4 +1,4 @@
--- What is held, where the tile of a cell was taken in hand?
+-- What is held after the tile of a cell was taken in hand?
 use Rattle.std.proofs.Common.{◌≡◌, ℕ, ◌++◌, ◌∷◌, [], List, Result, Ok, Err, Option, Some, None, ap, ◌∙◌}
 use Rattle.std.specs.Prelude.{IsOkAnd, IsSomeAnd, IfSome}
 use Rattle.tex_world.specs.World.{Files}
@@ -17,7 +17,7 @@ use Rattle.image_cache.specs.Call.{HoldsCell}
 use Rattle.image_cache.specs.Reading.{TakesHold}
 use Rattle.image_cache.proofs.NeedLemmas.{told_rect}
 
--- what is so of the layout of a record, which shows no fault
+-- a fact of the layout of a valid record
 by_layout : (P Q R : Kept → Type 0) (layout : Result Kept TiffFault)
     → ((kept : Kept) → P kept → Q kept → R kept) → IsOkAnd layout P → IsOkAnd layout Q
     → IsOkAnd layout R

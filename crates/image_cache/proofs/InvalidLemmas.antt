@@ -1,4 +1,4 @@
--- What is left where each known file is made invalid, file by file?
+-- What is left after every known file was checked, one after another?
 use Rattle.std.proofs.Common.{◌≡◌, ℕ, ◌+◌, ◌<◌, refl, add-one}
 use Rattle.tex_world.specs.World.{Files}
 use Rattle.tex_world.specs.Tap.{TapState}
@@ -31,7 +31,7 @@ renews_more files gate n old mid new so_far one = record {
   each = rw add-one (mid, so_far.each, one);
 }
 
--- what follows from a fault, for each refusal
+-- a consequence of an I/O error, for each error
 pub at_fault : {B P Q : Type 0} (e : CacheError B) → AtReadFault P e → (P → Q) → AtReadFault Q e
 at_fault refused.ReadFault here each = each here
 at_fault (refused.Again from to) here each = tt
@@ -44,7 +44,7 @@ at_fault (refused.Outside g) here each = tt
 at_fault refused.RegionTooLarge here each = tt
 at_fault refused.HoldsFull here each = tt
 
--- the source failed at the next file
+-- an I/O error occurred at the next file
 pub ends_at : {B : Type 0} (files : Files) (gate : GateState) (n file : ℕ) (old done new : PassTap)
     (e : CacheError B) → RenewsUpTo files gate file old done → file < n
     → AtReadFault (FailsAt file done new) e → AtReadFault (EndsAtFault files gate n old new) e

@@ -1,4 +1,4 @@
--- Which cells are the parts of a cell that is made, and why is a step refused?
+-- Which cells is a cell made from, and why does a step fail?
 use Rattle.std.proofs.Common.{◌≡◌, ℕ, ◌-◌, ◌<◌, ◌≤◌, ◌∙◌, refl, sym, ap, subst, arith, length, slice_index, Ok}
 use Rattle.std.specs.Prelude.{IsOkAnd, Result}
 use Rattle.std.proofs.Common.{inl, inr}
@@ -53,7 +53,7 @@ part_is_key state halving cell part of halves key is =
           );
     }
 
--- and its cell is the next one
+-- the cell of the next part is the next one
 pub next_part : (state : RecordState) (halving : HalvingState) (part : CellAt)
     → IsCellOf state part → Halves state halving
     → halving.done < part_count halving.layout halving.cut halving.key
@@ -94,7 +94,7 @@ rises_before a b c before rises = record {
   ];
 }
 
--- the cause of a refusal holds from an earlier moment of the tap on
+-- the cause of an error holds from an earlier moment of the tap on
 pub cause_before : {B : Type 0} (files : Files) (r : RecordState) (view : ViewState)
     (a b c : TapState) (e : CacheError B) → NoneFalls a b → FetchCause files r view b c e
     → FetchCause files r view a c e

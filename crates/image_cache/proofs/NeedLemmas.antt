@@ -85,7 +85,7 @@ rect_like cell tile is =
     let like = tile_like cell tile is in
     rect_of_parts tile.rect cell.rect like.x like.y like.w like.h
 
--- ---- a told tile of the key is that of the cell
+-- ---- in a modelled world, a tile with the key belongs to the cell
 
 held_parts : (files : Files) (state : RecordState) (cell : CellAt) (key : ℕ)
     (P : List ℕ → Type 0) → key ≡ cell.key → IsCellOf state cell
@@ -114,7 +114,7 @@ under_bytes files state cell bytes (Ok kept) is honest held under =
     (record { file = refl; generation = refl }) bytes held).kept under
 under_bytes files state cell bytes (Err fault) is honest held under = absurd under
 
--- what a told tile of the key has in common with the cell
+-- what a tile with the key has in common with the cell, in a modelled world
 record IsAsCell (cell : CellAt) (tile : CachedTile) : Type 0 where
   rect : tile.rect ≡ cell.rect
   channels : tile.channels ≡ cell.channels
@@ -157,7 +157,7 @@ key_decides_at cell t tiles true is here rest =
 key_decides_at cell t tiles false is here rest =
     rw (is, nat_eq_equiv.symm cell.key t.key, is) rest
 
--- so that the key alone decides
+-- in a modelled world, the key alone decides
 key_decides : (cell : CellAt) (tiles : List CachedTile)
     → All (λ tile. tile.key ≡ cell.key → is_tile_of cell tile ≡ true) tiles
     → has_cell cell tiles ≡ list_any (nat_eq cell.key) (map key_in tiles)
@@ -228,7 +228,7 @@ module _ (files : Files) (state : RecordState) (cell : CellAt) where
             answer ∙ hits_of old.hits asked.0 low));
       }
 
--- so is the cell that holds a texel, which the microcache had not
+-- the cell of a texel was needed, and the microcache did not have it
 pub needed_at : (files : Files) (state : RecordState) (at : TexelAt) (cell : CellAt)
     (old mid new : PassState) → IsRecord files state → IsCellAt state at cell
     → All (FitsCut files state.cut) old.pinned.recent → mid.pinned.recent ≡ old.pinned.recent

@@ -94,12 +94,12 @@ module _ {files : Files} {gate : GateState} {known : RecordState} {Busy : Type 0
         seen = omega (arith, given.seen, keeps.later file);
       }))
 
--- ---- why a call on a file is refused
+-- ---- why a call on a file fails
 
 module _ {B : Type 0} (a : Around) (First : CacheError B → Type 0)
     (Refuses : RecordState → CacheError B → Type 0)
   where
-    -- it was not opened
+    -- the call failed because the file could not be opened
     pub by_opening : (e : CacheError B)
         → OpeningCause a.files a.file (sighted a.old.view a.tap_old) (sighted a.new.view a.tap_new) e
         → HasCause a First Refuses e

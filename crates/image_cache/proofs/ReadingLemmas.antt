@@ -30,7 +30,7 @@ use Rattle.image_cache.proofs.FillLemmas.{hand_chain}
 use Rattle.image_cache.proofs.MakingLemmas.{cause_before}
 use Rattle.image_cache.proofs.VisitLemmas.{visits_same}
 
--- ---- refusals
+-- ---- errors
 
 moves_then : {B : Type 0} (a b c : TapState) (refused : Option (CacheError B))
     → b.moves ≡ a.moves → MeetsOnlyAgain refused b c → MeetsOnlyAgain refused a c
@@ -49,11 +49,11 @@ refused_by : {A E : Type 0} (result : Result A E) (e : E) → IsErrAnd result (�
 refused_by (Ok x) e is = absurd is
 refused_by (Err x) e is = ap (λ y. Some y) is
 
--- no refusal
+-- no error
 abbrev pub none_of : (B : Type 0) → Option (CacheError B)
 none_of B = None
 
--- memory was wanting, or the waiter gave up
+-- out of memory, or the waiter gave up
 abbrev pub IsWant : {B : Type 0} → CacheError B → Type 0
 IsWant refused.NoMemory = ⊤
 IsWant (refused.Busy b) = ⊤
@@ -166,7 +166,7 @@ module _ {V T Busy W H : Type 0} {v : a_waiter.Ghosts V Busy} {t : a_tap.Ghosts 
   same_call : {a : Reading V T Busy W H v t h} → IsSameCall a a
   same_call = record { cache = refl; known = refl; pass_name = refl; tap_name = refl }
 
-  -- what is said of the cache and the record of a later moment
+  -- a fact of the cache and the record at a later moment
   of_first : {a b : Reading V T Busy W H v t h} (P : GateState → RecordState → Type 0)
       → IsSameCall a b → P b.cache.now.gate b.known.now → P a.cache.now.gate a.known.now
   of_first {a} {b} P call p =
@@ -373,7 +373,7 @@ module _ {V T Busy W H : Type 0} {v : a_waiter.Ghosts V Busy} {t : a_tap.Ghosts 
     hand = inl none;
   }
 
-  -- and it is placed there
+  -- a tile is brought into the microcache by placing it first
   pub brings_placed : {files : Files} {a b c d : Reading V T Busy W H v t h}
       → Brings files a b None → Makes files b c None → Steps files c d None
       → SameCounts c.pass.now d.pass.now → (d.pass.now.pinned.hand ≡ None) ⊎ Busy

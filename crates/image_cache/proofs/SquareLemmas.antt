@@ -56,7 +56,7 @@ cell_alike generation file cut kept level x y v u same = ap
     } in cell) (sym same)
 
 module _ (state : RecordState) (square : Square) (cell : CellAt) where
-  -- it is the cell of each
+  -- the cell holds each of the four texels
   pub record IsCellOfEach : Type 0 where
     pub first : IsCellIn state (left_top square) cell
     pub second : IsCellIn state (right_top square) cell
@@ -94,7 +94,7 @@ module _ (state : RecordState) (square : Square) (cell : CellAt) where
         square.top square.right square.bottom lie.right_bottom_in) is one;
   }
 
--- the microcache has the cell of a texel exactly where it has this cell
+-- the microcache has the cell of a texel if and only if it has this cell
 pub has_at : (state : RecordState) (at : TexelAt) (cell : CellAt) (tiles : List CachedTile)
     → IsCellIn state at cell → has_cell_at state at tiles ≡ has_cell cell tiles
 has_at state at cell tiles is = by state.layout is
@@ -129,7 +129,7 @@ module _ (files : Files) (state : RecordState) (cell : CellAt) where
         (needs_hit files cell.key old new asked need);
   }
 
-  -- and each further one finds it there
+  -- each further texel finds the cell in the microcache
   meets_again : (at : TexelAt) (old new : PassState) → IsCellIn state at cell
       → StandsFirst cell old.pinned.recent → StaysAskedFor cell.key old.pinned.recent
       → new.pinned.recent ≡ old.pinned.recent → CountsNeed true old new → new.apart ≡ old.apart
@@ -140,7 +140,7 @@ module _ (files : Files) (state : RecordState) (cell : CellAt) where
       (subst (λ (tiles : List CachedTile). AsksFor cell.key old.pinned.recent tiles) (sym same)
       stays.again) need apart kept
 
--- a pass that has counted so many
+-- a pass with these counts
 abbrev with_counts : PassState → ℕ → ℕ → PassState
 with_counts pass n h = record pass { needs = n; hits = h }
 
@@ -212,7 +212,7 @@ meets_square files state square cell old new is one has asked asks first stays k
           (same_but_counts new n3 h3 new.needs new.hits kept.tiles.few);
     }
 
--- the same of the three behind the first
+-- reading the three texels after the first from the microcache
 pub meets_rest : (files : Files) (state : RecordState) (square : Square) (cell : CellAt)
     (old new : PassState)
     → IsCellIn state (left_top square) cell → LieInOneOf state square
@@ -271,7 +271,7 @@ shown_at state at cell tiles is has = record {
   keyed = at_cell (λ key. cell.key ≡ key) state at cell is refl;
 }
 
--- where it has the one cell of all four it shows each
+-- if the microcache has the one cell of all four texels, it shows each of them
 pub each_shown : (state : RecordState) (square : Square) (cell : CellAt) (tiles : List CachedTile)
     → IsCellIn state (left_top square) cell → LieInOneOf state square
     → has_cell cell tiles ≡ true → AreShown state square tiles cell.key
@@ -294,7 +294,7 @@ module _ (level : CutLevel) where
       let rest : x ≡ k * cell + (x - k * cell) = omega (arith, left) in
       ap (λ (n : ℕ). n / cell) rest ∙ div-mul-add k cell (x - k * cell) (omega (arith, left, right))
 
-  -- so a texel in the rectangle of a cell lies in that cell
+  -- a texel in the rectangle of a cell belongs to that cell
   pub index_held : (i x y : ℕ) → 1 ≤ level.cell_width → 1 ≤ level.cell_height
       → HoldsTexel (cell_rect level i) x y → cell_index level x y ≡ i
   unfolding cell_index cell_rect
@@ -314,7 +314,7 @@ has_cells_in state kept l grid is = subst HasCells is (has_cells grid)
 module _ (state : RecordState) (square : Square) (cell : CellAt) (grid : Grid)
     (cuts : CutsLevel state square.level grid)
     (is : IsCellIn state (left_top square) cell) where
-  -- where its rectangle holds the first and the last texel, one cell holds all four
+  -- if a cell's rectangle contains the first and the last texel, one cell holds all four
   pub one_from_held : HoldsTexel cell.rect square.left square.top
       → HoldsTexel cell.rect square.right square.bottom → LieInOneOf state square
   one_from_held first last = by state.layout cuts is
@@ -353,7 +353,7 @@ module _ (state : RecordState) (square : Square) (cell : CellAt) (grid : Grid)
           }
       by (Err fault) cut here = absurd here
 
-  -- and where one cell holds all four, its rectangle holds the last
+  -- if one cell holds all four texels, its rectangle contains the last
   pub held_from_one : IsTexelIn state (right_bottom square) → LieInOneOf state square
       → HoldsTexel cell.rect square.right square.bottom
   held_from_one inside one = by state.layout cuts is inside one

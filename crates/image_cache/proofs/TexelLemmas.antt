@@ -26,7 +26,7 @@ use Rattle.pinned_tiles.specs.Pinned.{AsksFor}
 use Rattle.image_cache.specs.Call.{AsksForCellAt, NoneFalls}
 use Rattle.image_cache.specs.Cause.{FetchCause, WantsByOpening}
 
--- a world that holds bytes tells
+-- a world with known bytes is modelled
 pub tells_of : (files : Files) → IsWorld files → (n g : ℕ) (bytes : List ℕ)
     → files.held n g ≡ Some bytes → IsTrue files.tells
 tells_of files world n g bytes held = by files.tells refl
@@ -35,7 +35,7 @@ tells_of files world n g bytes held = by files.tells refl
     by true is = refl
     by false is = absurd (cc (world.untold is n g, held))
 
--- what is so of the bytes that are held
+-- a fact of the bytes of a generation
 pub of_held : (o : Option (List ℕ)) (bytes : List ℕ) (P : List ℕ → Type 0) → o ≡ Some bytes
     → IsSomeAnd o P → P bytes
 of_held o bytes P is holds = subst (λ (q : Option (List ℕ)). IsSomeAnd q P) is holds
@@ -76,7 +76,7 @@ values_told files world state at cell tile depth out bytes honest is_at key same
     some_layout (Ok kept) under = tt
     some_layout (Err fault) under = absurd under
 
--- What a tile of a cell of the record tells of its file's bytes, if its samples have their bits.
+-- What a tile of a cell says about its file's bytes, if its samples are in range.
 pub told_by_record : (files : Files) → IsWorld files → (state : RecordState) (cell : CellAt)
     (key depth : ℕ) (bytes : List ℕ) (P : List ℕ → Type 0) → IsRecord files state
     → IsCellOf state cell → key ≡ cell.key → IfOk state.layout (λ kept. depth ≡ bit_depth_in kept)
@@ -99,7 +99,7 @@ told_by_record files world state cell key depth bytes P honest of keyed same tol
     some_layout (Ok kept) under = tt
     some_layout (Err fault) under = absurd under
 
--- what is so of the key of a texel's cell
+-- a fact of the key of a texel's cell
 pub at_cell : (P : ℕ → Type 0) (state : RecordState) (at : TexelAt) (cell : CellAt)
     → IsCellIn state at cell → P cell.key
     → IfOk state.layout (λ kept. P (cell_of state.generation state.file state.cut kept at).key)
@@ -111,7 +111,7 @@ at_cell P state at cell is here = by state.layout is
     by (Ok kept) same = subst (λ (c : CellAt). P c.key) same here
     by (Err fault) same = tt
 
--- and so is what is so of the key of the cell that holds it
+-- a fact of the key of the cell that holds a texel
 pub from_cell : (P : ℕ → Type 0) (state : RecordState) (at : TexelAt) (cell : CellAt)
     → IsCellIn state at cell
     → IsOkAnd state.layout (λ kept. P (cell_of state.generation state.file state.cut kept at).key)
@@ -172,7 +172,7 @@ cause_since files r view old mid new (refused.Outside generation) later none = n
 cause_since files r view old mid new refused.RegionTooLarge later none = none
 cause_since files r view old mid new refused.HoldsFull later none = none
 
--- memory that was wanting by an opening was so since an earlier moment
+-- memory that ran out because of an opening did so since an earlier moment
 pub wants_since : {B : Type 0} (old mid new : TapState) (e : CacheError B) → NoneFalls old mid
     → WantsByOpening mid new e → WantsByOpening old new e
 wants_since old mid new refused.NoMemory later rises =

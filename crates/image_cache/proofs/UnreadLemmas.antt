@@ -1,4 +1,4 @@
--- What a refusal leaves of microcache and counts that comes before a cell is needed.
+-- What an error leaves of microcache and counts if it comes before any cell is needed.
 use Rattle.std.proofs.Common.{refl, ◌∙◌, Result, Ok, Err}
 use Rattle.std.specs.Prelude.{IfErr}
 use Rattle.tex_world.specs.World.{Files}
@@ -31,7 +31,7 @@ chain a b c d first next last = record {
 }
 
 module _ {B : Type 0} where
-  -- they are as they were, for each refusal
+  -- microcache and counts are unchanged, for each error
   pub at_kept : (e : CacheError B) (old new : PassState) → KeepsRecent old new
       → KeepsRecentAt old new e
   at_kept (refused.Again from to) old new kept = tt
@@ -45,7 +45,7 @@ module _ {B : Type 0} where
   at_kept refused.RegionTooLarge old new kept = kept
   at_kept refused.HoldsFull old new kept = kept
 
-  -- a refusal of a cell may leave others
+  -- an error of a cell may change microcache and counts
   pub at_fetch : (e : CacheError B) (old new : PassState) (files : Files) (r : RecordState)
       (view : ViewState) (t u : TapState) → FetchCause files r view t u e
       → KeepsRecentAt old new e
@@ -60,7 +60,7 @@ module _ {B : Type 0} where
   at_fetch refused.RegionTooLarge old new files r view t u none = absurd none
   at_fetch refused.HoldsFull old new files r view t u none = absurd none
 
-  -- and where the record alone is another one before and behind it
+  -- if only the record changed before and after it
   pub at_between : (e : CacheError B) (a b c d : PassState) → KeepsRecent a b → KeepsRecent c d
       → KeepsRecentAt b c e → KeepsRecentAt a d e
   at_between (refused.Again from to) a b c d first last free = tt

@@ -42,7 +42,7 @@ missed_at gate state at cell old new t u is (inl none) = inl none
 missed_at gate state at cell old new t u is (inr missed) = inr (at_cell
     (λ key. Misses gate key old.pinned.seat new.pinned.seat) state at cell is missed)
 
--- Where the world tells, the tile of the key that stands first is that of the cell.
+-- In a modelled world, the first tile, if it has the key, belongs to the cell.
 pub told_stands : (files : Files) (state : RecordState) (cell : CellAt) (tiles : List CachedTile)
     → IsTrue files.tells → IsRecord files state → IsCellOf state cell → HasFirst cell.key tiles
     → All (FitsCut files state.cut) tiles → StandsFirst cell tiles

@@ -1,4 +1,4 @@
--- Which part of a row has a texel of a record, and which samples has it?
+-- Which part of a row holds a texel of a record, and which samples has the texel?
 use Rattle.std.specs.Prelude.{ℕ, ◌/◌, List}
 use Rattle.tex_world.specs.World.{Files}
 use Rattle.file_table.specs.Record.{RecordState}
@@ -6,7 +6,7 @@ use Rattle.texel_values.specs.declared.texel_at.TexelAt.{TexelAt}
 use Rattle.tile_slots.specs.declared.part_key.PartKey.{PartKey}
 use Rattle.tile_slots.specs.Part.{part_texels, AreToldAt}
 
--- the part of its row that has the texel
+-- the part of its row that holds the texel
 abbrev pub part_at : RecordState → TexelAt → PartKey
 part_at state at = record {
   generation = state.generation;
@@ -16,6 +16,6 @@ part_at state at = record {
   row = at.y;
 }
 
--- where the world tells, these are the samples of the texel in the bytes of the record's generation
+-- if the world is modelled, these are the samples of the texel in the record's generation
 abbrev pub AreSamplesAt : Files → RecordState → TexelAt → List ℕ → Type 0
 AreSamplesAt files state at samples = AreToldAt files (part_at state at) at.x samples

@@ -1,4 +1,4 @@
--- Why is a call of a cache refused?
+-- Why does a call of the cache fail?
 use Rattle.std.specs.Prelude.{◌≡◌, ◌⊎◌, ℕ, ◌*◌, ◌<◌, ◌≤◌, length, slice_index, ⊤}
 use Rattle.std.specs.Prelude.{Result, Err, IsOkAnd, IsSomeAnd, OnOk, IfErr}
 use Rattle.tex_world.specs.Counts.{Rises}
@@ -27,13 +27,14 @@ use Rattle.image_cache.specs.Pass.{PassState}
 use Rattle.image_cache.specs.Call.{KeepsRecent}
 use Rattle.image_cache.specs.Texel.{IsTexelOf}
 
--- ---- the one table
--- A call is refused since a newer generation was met, since the source failed, for want of memory,
--- since its waiter gave up, or with a refusal of its own.
+-- ---- the causes of all calls
+--
+-- A call fails because a newer generation was met, an I/O error occurred, memory ran out, its
+-- waiter gave up, or with an error of its own.
 
--- Why any call is refused: `Met` says which newer generation is met, `Wants` and `Waits` what holds
--- where memory was wanting and where the waiter gave up, and `Refuses` which refusals are the call's
--- own, each with what is so only then.
+-- Why a call fails. `Met` says which newer generation was met. `Wants` and `Waits` say what holds
+-- if memory ran out and if the waiter gave up. `Refuses` says which errors are the call's own and
+-- when they occur.
 abbrev pub RefusedFor : {B : Type 0} → (ℕ → ℕ → Type 0) → TapState → TapState → Type 0 → Type 0
     → (CacheError B → Type 0) → CacheError B → Type 0
 RefusedFor Met old new Wants Waits Refuses (refused.Again from to) = Met from to
@@ -42,14 +43,13 @@ RefusedFor Met old new Wants Waits Refuses refused.NoMemory = Wants
 RefusedFor Met old new Wants Waits Refuses (refused.Busy b) = Waits
 RefusedFor Met old new Wants Waits Refuses e = Refuses e
 
--- a call that has no refusal of its own
+-- for a call without errors of its own
 abbrev pub Never : {B : Type 0} → CacheError B → Type 0
 Never e = ⊥
 
--- ---- of a texel
+-- ---- a texel
 
--- The generation `from` of a file was asked for, and the newer `to` was met, which the pass has
--- then seen.
+-- Generation `from` of a file was used and the newer `to` was met, which the pass has now seen.
 pub record MetNewer (files : Files) (file generation from to : ℕ) (new : ViewState)
     (tap_old tap_new : TapState) : Type 0 where
   pub from_is : from ≡ generation
@@ -59,91 +59,92 @@ pub record MetNewer (files : Files) (file generation from to : ℕ) (new : ViewS
   pub seen : to ≤ slice_index new.seen file
   pub moves : Rises tap_old.moves tap_new.moves
 
--- Why a step of a call by a record is refused: a call of the tap failed, a newer generation was met,
--- memory was wanting, the waiter gave up, or by what `Refuses` says of the record.
+-- Why a step of a call on a record fails: an I/O error, a newer generation, out of memory, a waiter
+-- that gave up, or what `Refuses` says of the record.
 abbrev pub StepCause : {B : Type 0} → Files → RecordState → ViewState → TapState → TapState
     → (RecordState → CacheError B → Type 0) → CacheError B → Type 0
 StepCause files r new tap_old tap_new Refuses e =
     RefusedFor (λ from to. MetNewer files r.file r.generation from to new tap_old tap_new)
     tap_old tap_new ⊤ ⊤ (Refuses r) e
 
--- Why a texel of a record is not given: it has no refusal of its own.
+-- Why a texel of a record is not fetched: a step's causes, without errors of its own.
 abbrev pub FetchCause : {B : Type 0} → Files → RecordState → ViewState → TapState → TapState
     → CacheError B → Type 0
 FetchCause files r new tap_old tap_new e =
     StepCause files r new tap_old tap_new (λ _. Never) e
 
--- why a file has no record or is not lent, as the cache says it
+-- an error of the file table, as the cache reports it
 abbrev pub of_file : {B : Type 0} → FileError B → CacheError B
 of_file unread.ReadFault = refused.ReadFault
 of_file (unread.Again from to) = refused.Again from to
 of_file unread.NoMemory = refused.NoMemory
 of_file (unread.Busy b) = refused.Busy b
 
--- why a tile is not pinned, as the cache says it
+-- an error of pinning a tile, as the cache reports it
 abbrev pub of_pin : {B : Type 0} → PinError B → CacheError B
 of_pin unpinned.NoMemory = refused.NoMemory
 of_pin (unpinned.Busy b) = refused.Busy b
 
--- the refusal is that a newer generation was met
+-- the error is that a newer generation was met
 abbrev pub IsAgain : {B : Type 0} → CacheError B → Type 0
 IsAgain (refused.Again from to) = ⊤
 IsAgain _ = ⊥
 
--- The tap met a newer generation only where that is the answer: where memory was wanting, where the
--- source failed and where the waiter gave up it met none.
+-- The tap met a newer generation only if that is the answer. After out of memory, an I/O error or a
+-- waiter that gave up, it met none.
 pub record MovesOnlyAgain {A B : Type 0} (old new : TapState) (result : Result A (CacheError B))
     : Type 0 where
   pub ok : OnOk result (new.moves ≡ old.moves)
   pub err : IfErr result (λ e. (IsAgain e → ⊥) → new.moves ≡ old.moves)
 
--- The refusal is that no memory was found, or that the waiter gave up.
+-- The error is out of memory, or that the waiter gave up.
 abbrev pub IsWanting : {B : Type 0} → CacheError B → Type 0
 IsWanting refused.NoMemory = ⊤
 IsWanting (refused.Busy b) = ⊤
 IsWanting _ = ⊥
 
--- The refusal is that the waiter gave up.
+-- The error is that the waiter gave up.
 abbrev pub IsBusy : {B : Type 0} → CacheError B → Type 0
 IsBusy (refused.Busy b) = ⊤
 IsBusy _ = ⊥
 
--- Memory is wanting only where a file was opened.
+-- Memory runs out only if a file was opened.
 abbrev pub WantsByOpening : {B : Type 0} → TapState → TapState → CacheError B → Type 0
 WantsByOpening old new refused.NoMemory = Rises old.opens new.opens
 WantsByOpening old new _ = ⊤
 
--- The tap had no call, and nothing but a waiter that gave up refuses.
+-- The tap was not called, and only a waiter that gives up makes the call fail.
 pub record AnswersFromHold {A B : Type 0} (old new : TapState) (result : Result A (CacheError B))
     : Type 0 where
   pub tap : new ≡ old
   pub busy : IfErr result IsBusy
 
--- The tap had no call, and the answer is refused for nothing else.
+-- The tap was not called, and only out of memory or a waiter that gives up makes the call fail.
 pub record AnswersHeld {A B : Type 0} (old new : TapState) (result : Result A (CacheError B))
     : Type 0 where
   pub tap : new ≡ old
   pub wants : IfErr result IsWanting
 
--- ---- of a file that is opened
+-- ---- opening a file
 
--- A file was opened in the generation `from`, which is at least what the pass had seen, a read of it
--- met the newer `to`, and the pass has then seen that.
+-- A file was opened in generation `from`, at least what the pass had seen. A read of it met the
+-- newer `to`, which the pass has now seen.
 pub record MetAtOpening (files : Files) (file from to : ℕ) (old new : Sighted) : Type 0 where
   pub newer : MeetsNewer files file (slice_index old.view.seen file) from to old.tap new.tap
   pub read : Rises old.tap.lost new.tap.lost
   pub seen : to ≤ slice_index new.view.seen file
 
--- Why a file is not opened. A newer generation was met by a read of it. Memory is wanting only where
--- the file was opened, and where the waiter gave up the tap had no call.
+-- Why a file cannot be opened. If a newer generation was met, a read met it. If memory ran out, the
+-- file had been opened. If the waiter gave up, the tap was not called.
 abbrev pub OpeningCause : {B : Type 0} → Files → ℕ → Sighted → Sighted → CacheError B → Type 0
 OpeningCause files file old new e =
     RefusedFor (λ from to. MetAtOpening files file from to old new)
     old.tap new.tap (OpensOnce old.tap new.tap) (new.tap ≡ old.tap) Never e
 
--- ---- of a call on a file
+-- ---- a call on a file
 
--- A call on a file, before and after: the world, how its files are cut, the pass and the tap.
+-- The surroundings of a call on a file: the world and the cut, and the pass and the tap before and
+-- after it.
 pub record Around : Type 0 where
   pub files : Files
   pub file : ℕ
@@ -164,95 +165,95 @@ around files file cut old new tap_old tap_new = record {
   tap_new = tap_new;
 }
 
--- It rests on a record that was given to this call and that the pass keeps.
+-- `P` holds of a record that this call found, and that the pass keeps.
 abbrev pub RestsOnGiven : Around → (RecordState → Type 0) → Type 0
 RestsOnGiven a P = IsSomeAnd a.new.latest (λ r.
     GivesRecord a.files a.file a.cut a.old.view a.new.view r × P r)
 
--- where the newer generation was met: as the file was opened, or by a step by the record that was
--- given to this call, whose generation is then the older one
+-- where the newer generation was met: when the file was opened, or in a step on the record that
+-- this call found, whose generation is the older one
 abbrev pub IsMetAt : Around → ℕ → ℕ → Type 0
 IsMetAt a from to =
     MetAtOpening a.files a.file from to (sighted a.old.view a.tap_old) (sighted a.new.view a.tap_new)
     ⊎ RestsOnGiven a (λ r.
     MetNewer a.files a.file r.generation from to a.new.view a.tap_old a.tap_new)
 
--- A newer generation was met than one that is at least what the pass had seen at entry, and the
--- pass has then seen it.
+-- A newer generation was met than one at least as new as the pass had seen before, and the pass has
+-- now seen it.
 abbrev pub MetAgain : Around → ℕ → ℕ → Type 0
 MetAgain a from to =
     MeetsNewer a.files a.file (slice_index a.old.view.seen a.file) from to a.tap_old a.tap_new
     × (to ≤ slice_index a.new.view.seen a.file) × IsMetAt a from to
 
--- Why a call on a file is refused. `First` says what it refuses before it opens the file, and
--- `Refuses` what it refuses by its record.
+-- Why a call on a file fails. `First` says which errors come before the file is opened, and
+-- `Refuses` which ones depend on its record.
 abbrev pub HasCause : {B : Type 0} → Around → (CacheError B → Type 0)
     → (RecordState → CacheError B → Type 0) → CacheError B → Type 0
 HasCause a First Refuses e = RefusedFor (MetAgain a) a.tap_old a.tap_new ⊤ ⊤
     (λ own. First own ⊎ RestsOnGiven a (λ r. Refuses r own)) e
 
--- ---- what a record refuses
+-- ---- errors that depend on the record
 
--- the file shows this fault
+-- the file has this fault
 pub record ShowsFault (r : RecordState) (generation : ℕ) (fault : TiffFault) : Type 0 where
   pub of_generation : generation ≡ r.generation
   pub shows : r.layout ≡ Err fault
 
--- a cell of it takes more memory than a cell may
+-- one of the file's cells would be too large
 pub record CellTooLarge (r : RecordState) (generation : ℕ) : Type 0 where
   pub of_generation : generation ≡ r.generation
   pub too_large : IsOkAnd r.layout (λ kept. ¬ CellsFit kept r.cut)
 
--- all its cells fit, and it has only so many levels
+-- the cells are small enough, but the file has only this many levels
 pub record LacksLevel (level : ℕ) (r : RecordState) (generation levels : ℕ) : Type 0 where
   pub of_generation : generation ≡ r.generation
   pub fits : IsOkAnd r.layout (λ kept. CellsFit kept r.cut
       × (levels ≡ level_count_in kept r.cut.automip))
   pub lacks : levels ≤ level
 
--- all its cells fit and it has the level, but not the texel
+-- the cells are small enough and the file has the level, but not the texel
 pub record LacksTexel (at : TexelAt) (r : RecordState) (generation : ℕ) : Type 0 where
   pub of_generation : generation ≡ r.generation
   pub fits : IsOkAnd r.layout (λ kept. CellsFit kept r.cut
       × (at.level < level_count_in kept r.cut.automip) × (¬ IsTexelOf kept r.cut at))
 
--- `info` refuses a file with a fault alone.
+-- `info` fails only for a file with a fault.
 abbrev pub InfoRefuses : {B : Type 0} → RecordState → CacheError B → Type 0
 InfoRefuses r (refused.BadFile generation fault) = ShowsFault r generation fault
 InfoRefuses r _ = ⊥
 
--- A lookup refuses a file with a fault, and one that does not fit the cut.
+-- A lookup fails for a file with a fault or with cells that are too large.
 abbrev pub LookupRefuses : {B : Type 0} → RecordState → CacheError B → Type 0
 LookupRefuses r (refused.BadFile generation fault) = ShowsFault r generation fault
 LookupRefuses r (refused.TileTooLarge generation) = CellTooLarge r generation
 LookupRefuses r _ = ⊥
 
--- A region is refused for its level too.
+-- Reading a region fails also for a level that the file does not have.
 abbrev pub PixelsRefuses : {B : Type 0} → ℕ → RecordState → CacheError B → Type 0
 PixelsRefuses level r (refused.NoLevel generation levels) = LacksLevel level r generation levels
 PixelsRefuses level r e = LookupRefuses r e
 
--- A cell is refused for its texel too.
+-- Holding a tile fails also for a texel that the file does not have.
 abbrev pub TileRefuses : {B : Type 0} → TexelAt → RecordState → CacheError B → Type 0
 TileRefuses at r (refused.Outside generation) = LacksTexel at r generation
 TileRefuses at r e = PixelsRefuses at.level r e
 
--- ---- what is refused before a file is opened
+-- ---- errors that come before a file is opened
 
--- a region of too many texels
+-- the region has too many texels
 abbrev pub TooManyTexels : {B : Type 0} → ℕ → ℕ → CacheError B → Type 0
 TooManyTexels w h refused.RegionTooLarge = max_texels < w * h
 TooManyTexels w h _ = ⊥
 
--- a fifth hold
+-- the pass already holds four tiles
 abbrev pub NoFurtherHold : {B : Type 0} → PassState → CacheError B → Type 0
 NoFurtherHold old refused.HoldsFull = length old.pinned.holds ≡ 4
 NoFurtherHold old _ = ⊥
 
--- ---- what a refusal leaves
+-- ---- what an error leaves
 
--- A refusal that comes before a cell is needed leaves microcache and counts as they were. The four
--- that may come of a cell too may leave others.
+-- An error that comes before any cell was needed leaves microcache and counts unchanged. Four
+-- errors can also come later, and then they may have changed.
 abbrev pub KeepsRecentAt : {B : Type 0} → PassState → PassState → CacheError B → Type 0
 KeepsRecentAt old new (refused.Again from to) = ⊤
 KeepsRecentAt old new refused.ReadFault = ⊤
@@ -267,7 +268,7 @@ abbrev pub ReleaseCause : {B : Type 0} → ℕ → PassState → NotReleased B �
 ReleaseCause place old unreleased.NothingHeld = length old.pinned.holds ≤ place
 ReleaseCause place old (unreleased.Busy b) = place < length old.pinned.holds
 
--- why a pass was not split
+-- why a pass cannot be split
 abbrev pub SplitCause : ℕ → SplitError → Type 0
 SplitCause permits undivided.NoPermit = permits ≡ 1
 SplitCause permits undivided.NoMemory = 1 < permits

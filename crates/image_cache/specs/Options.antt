@@ -1,4 +1,4 @@
--- Which options may a cache be made with?
+-- Which options may a cache have?
 use Rattle.std.specs.Prelude.{◌≡◌, ℕ, ◌%◌, ◌==◌, ◌&&◌, nat_le, Bool, Option, Some, None}
 use Rattle.std.specs.Prelude.{if◌then◌else◌}
 use Rattle.tiff_format.specs.Cut.{autotile_step, max_autotile}
@@ -7,24 +7,24 @@ use Rattle.image_cache.specs.declared.options.Options.{Options}
 use Rattle.image_cache.specs.declared.options.NewError.{NewError}
 use Rattle.image_cache.specs.declared.options.NewError.TheVariants as new
 
--- the handles that may lie idle
+-- the greatest number of idle handles
 abbrev pub max_handles : ℕ
 max_handles = 1024
 
--- the slots for parts of rows
+-- the greatest number of slots for parts of rows
 abbrev pub max_slots : ℕ
 max_slots = 65536
 
--- the number is 1 at least
+-- the number is at least 1 and at most this
 abbrev pub is_from_one_to : ℕ → ℕ → Bool
 is_from_one_to most n = nat_le 1 n && nat_le n most
 
--- 0, or a multiple of 16 up to 4096
+-- the number is 0, or a multiple of 16 up to 4096
 abbrev pub is_autotile : ℕ → Bool
 is_autotile side = nat_le side max_autotile && side % autotile_step == 0
 
--- The first option that is out of its range, by its number: 1 budget, 2 shards, 3 passes,
--- 4 handles, 5 autotile, 6 slots.
+-- The number of the first option that is out of range: 1 budget, 2 shards, 3 passes, 4 handles, 5
+-- autotile, 6 slots.
 abbrev pub first_bad : Options → Option ℕ
 first_bad o =
     if nat_le o.budget max_budget then

@@ -1,4 +1,4 @@
--- What is known of a cache and of its passes, and what does each call leave of a pass?
+-- How do contracts see a cache and its passes, and what does each call leave of a pass?
 use Rattle.std.specs.Prelude.{◌≡◌, ℕ, ◌+◌, ◌-◌, ◌^◌, ◌≤◌, min, max, [], Bool, true, false, ⊤}
 use Rattle.std.specs.Prelude.{Option, None, IfSome, slice_index, length}
 use Rattle.std.specs.Option.{option_map}
@@ -13,23 +13,21 @@ use Rattle.shard_gate.specs.Gate.{GateState, IsNewGate}
 use Rattle.pinned_tiles.specs.Pinned.{PinnedState, ArePinned}
 use Rattle.image_cache.specs.declared.options.Options.{Options}
 
--- What is known of a cache.
+-- A cache, as contracts see it.
 pub record CacheState : Type 0 where
   -- its records and idle handles
   pub files : FilesState
-  -- its tiles
   pub gate : GateState
 
--- What is known of a pass.
+-- A pass, as contracts see it.
 pub record PassState : Type 0 where
   -- what it has seen of each file
   pub view : ViewState
-  -- what it has pinned
+  -- the tiles that it has pinned
   pub pinned : PinnedState
   -- the record that it keeps for its next lookup
   pub latest : Option RecordState
-  -- how many cells its answers needed, how many of these its microcache had, and how many were
-  -- answered apart
+  -- how many cells its answers needed, how many of the needs were hits, and how many were uncached
   pub needs : ℕ
   pub hits : ℕ
   pub apart : ℕ
@@ -37,13 +35,13 @@ pub record PassState : Type 0 where
 abbrev pub cache_state : FilesState → GateState → CacheState
 cache_state files gate = record { files = files; gate = gate }
 
--- What a pass counts.
+-- The counts of a pass.
 pub record PassCounts : Type 0 where
   pub needs : ℕ
   pub hits : ℕ
   pub apart : ℕ
 
--- nothing yet
+-- the counts of a new pass
 abbrev pub no_counts : PassCounts
 no_counts = record { needs = 0; hits = 0; apart = 0 }
 
@@ -57,19 +55,17 @@ pass_state view pinned latest counts = record {
   apart = counts.apart;
 }
 
--- the same, of a record that is shared
+-- a pass whose record, if it has one, is shared
 abbrev pub kept_pass : {Z : Type 0} → ViewState → PinnedState → Option (Arc RecordState Z)
     → PassCounts → PassState
 kept_pass view pinned latest counts = pass_state view pinned (option_map arc_value latest) counts
 
--- the three counts
+-- the three counts as a record
 abbrev pub pass_counts : ℕ → ℕ → ℕ → PassCounts
 pass_counts needs hits apart = record { needs = needs; hits = hits; apart = apart }
 
--- What holds of every pass: its pins are those of its tiles, two at most in its microcache and four
--- at most that it holds, and where the world tells each is a cell of its file. Its record is used
--- under its cut, it has seen the record's generation of its file, and it counts no hit that is no
--- need.
+-- True of every pass. Its pins are those of its tiles, each of which is a cell of its file if the
+-- world is modelled. Its record has its cut and a generation that it has seen.
 pub record IsPass (files : Files) (pass : PassState) : Type 0 where
   pub are : ArePinned files pass.pinned
   pub cut : IfSome pass.latest (λ r. r.cut ≡ pass.pinned.cut)
@@ -81,14 +77,13 @@ pub record IsKeptBy (pass : PassState) (r : RecordState) : Type 0 where
   pub cut : r.cut ≡ pass.pinned.cut
   pub seen : r.generation ≤ slice_index pass.view.seen r.file
 
--- the pass is one of the cache's
+-- the pass belongs to this cache
 pub record IsPassOf (cache : CacheState) (pass : PassState) : Type 0 where
   pub board : pass.view.board ≡ cache.files.board
   pub gate : pass.pinned.seat.gate ≡ cache.gate.id
   pub cut : pass.pinned.cut ≡ cache.gate.cut
 
--- What holds of every cache: its files and its tiles are under one cut, and there are not too many
--- files.
+-- True of every cache: its files and its tiles use one cut, and the number of files is in range.
 pub record IsCache (cache : CacheState) : Type 0 where
   pub cut : cache.files.cut ≡ cache.gate.cut
   pub few : cache.files.board.files ≤ max_files
@@ -96,28 +91,28 @@ pub record IsCache (cache : CacheState) : Type 0 where
 
 -- ---- counts
 
--- the most that a count tells
+-- the greatest value of a count
 abbrev pub max_count : ℕ
 max_count = 2 ^ 64 - 1
 
--- one more, unless it stands at the most that it tells
+-- one more, unless the count has its greatest value
 abbrev pub counted : ℕ → ℕ
 counted n = min (n + 1) max_count
 
--- the sum of two counts, or the most that one tells
+-- the sum of two counts, or the greatest value of a count
 abbrev pub counted_together : ℕ → ℕ → ℕ
 counted_together m n = min (m + n) max_count
 
--- ---- new, split, carry, join
+-- ---- making, splitting, joining
 
--- The cache has the options.
+-- The cache was made with these options.
 pub record IsNewCache (o : Options) (count : ℕ) (cache : CacheState) : Type 0 where
   pub files : cache.files.board.files ≡ count
   pub cap : cache.files.cap ≡ o.handles
   pub cut : cache.files.cut ≡ o.cut
   pub gate : IsNewGate o.budget o.shards o.passes o.cut cache.gate
 
--- The pass has nothing yet: no tile, no record, and counts of 0.
+-- The pass is empty: no tile, no record, and counts of 0.
 pub record IsFresh (pass : PassState) : Type 0 where
   pub recent : pass.pinned.recent ≡ []
   pub holds : pass.pinned.holds ≡ []
@@ -127,14 +122,14 @@ pub record IsFresh (pass : PassState) : Type 0 where
   pub hits : pass.hits ≡ 0
   pub apart : pass.apart ≡ 0
 
--- The pass is the cache's first one. It has all permits and has seen nothing.
+-- The pass is the first of the cache. It has all permits and has seen nothing.
 pub record IsFirstPass (cache : CacheState) (pass : PassState) : Type 0 where
   pub of : IsPassOf cache pass
   pub fresh : IsFresh pass
   pub permits : pass.pinned.seat.permits ≡ cache.gate.passes
   pub seen : (file : ℕ) → slice_index pass.view.seen file ≡ 0
 
--- The pass has one permit and has seen what the other has.
+-- The new pass has one permit, and has seen what the other has seen.
 pub record IsSecondPass (old pass : PassState) : Type 0 where
   pub board : pass.view.board ≡ old.view.board
   pub gate : pass.pinned.seat.gate ≡ old.pinned.seat.gate
@@ -146,36 +141,36 @@ pub record IsSecondPass (old pass : PassState) : Type 0 where
 
 -- ---- what calls leave
 
--- It belongs to the same cache, with the same cut and permits.
+-- The pass belongs to the same cache, with the same cut and permits.
 pub record SamePlace (old new : PassState) : Type 0 where
   pub board : new.view.board ≡ old.view.board
   pub gate : new.pinned.seat.gate ≡ old.pinned.seat.gate
   pub cut : new.pinned.cut ≡ old.pinned.cut
   pub permits : new.pinned.seat.permits ≡ old.pinned.seat.permits
 
--- It has the same tiles.
+-- The pass has the same tiles.
 pub record SameTiles (old new : PassState) : Type 0 where
   pub recent : new.pinned.recent ≡ old.pinned.recent
   pub holds : new.pinned.holds ≡ old.pinned.holds
   pub hand : new.pinned.hand ≡ old.pinned.hand
 
--- It has counted the same.
+-- The counts are the same.
 pub record SameCounts (old new : PassState) : Type 0 where
   pub needs : new.needs ≡ old.needs
   pub hits : new.hits ≡ old.hits
   pub apart : new.apart ≡ old.apart
 
--- It has seen and counted the same.
+-- The pass has seen and counted the same.
 pub record SameView (old new : PassState) : Type 0 where
   pub seen : new.view.seen ≡ old.view.seen
   pub steps : new.view.steps ≡ old.view.steps
 
--- Its seat has the same pins and has made no visit.
+-- The seat has the same pins and has made no visit.
 pub record SameSeat (old new : PassState) : Type 0 where
   pub pins : new.pinned.seat.pins ≡ old.pinned.seat.pins
   pub visits : new.pinned.seat.visits ≡ old.pinned.seat.visits
 
--- What may a call do with the seat: nothing, visit shards, or pin and unpin too?
+-- What may a call do with the seat: nothing, visit shards, or pin and unpin as well?
 pub data SeatUse : Type 0 where
   unused : SeatUse
   visiting : SeatUse
@@ -186,8 +181,7 @@ SeatAfter unused old new = new.pinned.seat ≡ old.pinned.seat
 SeatAfter visiting old new = new.pinned.seat.pins ≡ old.pinned.seat.pins
 SeatAfter pinning old new = ⊤
 
--- Which of its tiles stay: all, all but the one in hand, those that it holds, or those of its
--- microcache?
+-- Which tiles does a call keep: all, all but the one in hand, the held ones, or the microcache?
 pub data TilesKept : Type 0 where
   all_stay : TilesKept
   both_stay : TilesKept
@@ -195,12 +189,12 @@ pub data TilesKept : Type 0 where
   recent_stay : TilesKept
   some_stay : TilesKept
 
--- Its microcache and its holds are as they were.
+-- The microcache and the holds are unchanged.
 pub record SameKept (old new : PassState) : Type 0 where
   pub recent : new.pinned.recent ≡ old.pinned.recent
   pub holds : new.pinned.holds ≡ old.pinned.holds
 
--- Its holds and its hand are as they were, and its microcache has two tiles at most.
+-- The holds and the hand are unchanged, and the microcache has at most two tiles.
 pub record SameHolds (old new : PassState) : Type 0 where
   pub few : length new.pinned.recent ≤ 2
   pub holds : new.pinned.holds ≡ old.pinned.holds
@@ -215,21 +209,19 @@ TilesAfter some_stay old new = ⊤
 
 -- The parts of a pass that a call may change.
 pub record Parts : Type 0 where
-  -- what it has seen and looked at
   pub view : Bool
   -- the pins and the visits of its seat
   pub seat : SeatUse
   pub tiles : TilesKept
   pub counts : Bool
-  -- the record that it keeps
   pub latest : Bool
 
--- what is so of a part, unless a call may change it
+-- the part is unchanged unless the call may change it
 abbrev pub Unless : Bool → Type 0 → Type 0
 Unless true same = ⊤
 Unless false same = same
 
--- All of it but these parts is as it was.
+-- All parts but these are unchanged.
 pub record KeepsAllBut (may : Parts) (old new : PassState) : Type 0 where
   pub place : SamePlace old new
   pub view : Unless may.view (new.view ≡ old.view)
@@ -256,24 +248,24 @@ its_visits = record nothing { seat = visiting }
 abbrev pub its_hand : Parts
 its_hand = record nothing { seat = pinning; tiles = both_stay }
 
--- the tiles that it holds, with the hand by which they come and go
+-- the held tiles, and the hand through which they come and go
 abbrev pub its_holds : Parts
 its_holds = record nothing { seat = pinning; tiles = recent_stay }
 
 abbrev pub its_tiles : Parts
 its_tiles = record nothing { seat = pinning; tiles = some_stay }
 
--- the order of its microcache, and its counts
+-- the order of the microcache, and the counts
 abbrev pub recent_and_counts : Parts
 recent_and_counts = record nothing { tiles = holds_stay; counts = true }
 
--- Its counts alone may be others.
+-- Only the counts may have changed.
 pub record CountsAlone (old new : PassState) : Type 0 where
   pub view : new.view ≡ old.view
   pub pinned : new.pinned ≡ old.pinned
   pub latest : new.latest ≡ old.latest
 
--- One permit went to another pass, and all else is as it was.
+-- One permit went to another pass; nothing else changed.
 pub record PassAfterSplit (old new : PassState) : Type 0 where
   pub board : new.view.board ≡ old.view.board
   pub gate : new.pinned.seat.gate ≡ old.pinned.seat.gate
@@ -285,13 +277,13 @@ pub record PassAfterSplit (old new : PassState) : Type 0 where
   pub view : SameView old new
   pub latest : new.latest ≡ old.latest
 
--- It has seen of each file the greater of both.
+-- The pass has seen the newer of both generations of each file.
 abbrev pub SeesBoth : PassState → PassState → PassState → Type 0
 SeesBoth other old new = (file : ℕ) → slice_index new.view.seen file
     ≡ max (slice_index old.view.seen file) (slice_index other.view.seen file)
 
--- It has the permits of both, has seen the greater of both and counted both. Its tiles, their pins
--- and its record are as they were, and its own seat made no visit.
+-- The pass has the permits of both, has seen the newer of both, and the sum of both counts. Its
+-- tiles, their pins and its record are unchanged, and its own seat made no visit.
 pub record PassAfterJoin (other old new : PassState) : Type 0 where
   pub board : new.view.board ≡ old.view.board
   pub gate : new.pinned.seat.gate ≡ old.pinned.seat.gate

@@ -1,4 +1,4 @@
--- What does a call by a record work with, and what does a step of it leave?
+-- With what state does a call on a record work, and what does each step leave of it?
 use Rattle.std.specs.Prelude.{◌≡◌, ◌⊎◌, ℕ, None, Some, Option, Result, Ok, Err, List, ◌++◌, ◌∷◌, []}
 use Rattle.std.specs.Prelude.{IfSome, IsTrue, true, false}
 use Rattle.tex_world.specs.declared.tap.Tap as a_tap
@@ -26,56 +26,55 @@ use Rattle.image_cache.specs.Cause.{FetchCause, IsAgain}
 
 -- ---- answers
 
--- why a call is refused, if it is
+-- the error of a call, if it failed
 abbrev pub refusal : {A E : Type 0} → Result A E → Option E
 refusal (Ok a) = None
 refusal (Err e) = Some e
 
--- The tap met a newer generation only where that is the refusal.
+-- The tap met a newer generation only if that is the error.
 abbrev pub MeetsOnlyAgain : {B : Type 0} → Option (CacheError B) → TapState → TapState → Type 0
 MeetsOnlyAgain None old new = new.moves ≡ old.moves
 MeetsOnlyAgain (Some e) old new = (IsAgain e → ⊥) → new.moves ≡ old.moves
 
--- The tile of a cell is this one, or where there is none, it stands first in the microcache.
+-- The tile of a cell is this one or, if none is given, the first of the microcache.
 abbrev pub IsTileAt : CellAt → List CachedTile → Option CachedTile → Type 0
 IsTileAt cell recent None = StandsFirst cell recent
 IsTileAt cell recent (Some tile) = (tile.key ≡ cell.key) × IsTrue (is_tile_of cell tile)
 
--- The cell that holds a texel of a record was needed, and is in the microcache then.
+-- The cell of a texel was needed, and is now in the microcache.
 pub record IsNeededAt (files : Files) (known : RecordState) (at : TexelAt) (old new : PassState)
     : Type 0 where
   pub asked : AsksForCellAt known at old.pinned.recent new.pinned.recent
   pub turned : TurnsToCellAt known at old.pinned.recent new.pinned.recent
   pub needs : NeedsCellAt files known at old new
 
--- A tile of the key was there, and stands first now.
+-- A tile with the key was there, and is now first.
 pub record FindsKey (key : ℕ) (old new : List CachedTile) : Type 0 where
   pub asked : IsAsked key_in old key true new
   pub latest : AsksFor key old new
   pub first : HasFirst key new
 
--- A tile of the key was placed first.
+-- A tile with the key was placed first.
 pub record PlacesKey (key : ℕ) (old new : List CachedTile) : Type 0 where
   pub asked : IsAsked key_in old key false new
   pub latest : AsksFor key old new
   pub first : HasFirst key new
 
--- A read of a part of a row leaves the tiles and the counts of a pass as they were.
+-- A read of a part of a row changes neither the tiles nor the counts of a pass.
 pub record IsReadApart (old new : PassState) : Type 0 where
   pub pinned : new.pinned ≡ old.pinned
   pub counts : SameCounts old new
 
--- What it leaves of a pass that a need is answered apart, or is to be: its tiles and its other
--- counts are as they were.
+-- What an uncached need leaves of a pass: its tiles and its other counts are unchanged.
 pub record IsTakenApart (old new : PassState) : Type 0 where
   pub pinned : new.pinned ≡ old.pinned
   pub needs : new.needs ≡ old.needs
   pub hits : new.hits ≡ old.hits
   pub apart : (new.apart ≡ old.apart) ⊎ (new.apart ≡ counted old.apart)
 
--- ---- what a step leaves, whatever it answers
+-- ---- what a step leaves, also one that fails
 
--- what is known of a pass and of the tap that it reads by
+-- a pass and the tap that it reads through
 pub record PassTap : Type 0 where
   pub pass : PassState
   pub tap : TapState
@@ -83,9 +82,9 @@ pub record PassTap : Type 0 where
 abbrev pub pass_tap : PassState → TapState → PassTap
 pass_tap pass tap = record { pass = pass; tap = tap }
 
--- Each refusal has its cause. No count of the tap has fallen, and it met a newer generation only
--- where that is the refusal. Of the pass the holds and the record are as they were, only this file's
--- number was seen to rise, and each visit is that of a `pin`, a `pin_new`, an `unpin` or a `count`.
+-- What a step leaves. Each error has its cause. No count of the tap has fallen, and it met a newer
+-- generation only if that is the error. The pass's holds and record are unchanged, and only this
+-- file's newest generation may have risen. Shards were visited only to pin, unpin and count tiles.
 pub record StepsAt {B : Type 0} (files : Files) (gate : GateState) (known : RecordState)
     (old new : PassTap) (refused : Option (CacheError B)) : Type 0 where
   pub cause : IfSome refused (FetchCause files known new.pass.view old.tap new.tap)
@@ -94,15 +93,15 @@ pub record StepsAt {B : Type 0} (files : Files) (gate : GateState) (known : Reco
   pub need : AfterNeed known.file old.pass new.pass
   pub visits : PurgesNone gate old.pass.pinned.seat new.pass.pinned.seat
 
--- So does a read of cells that are needed, by which no count falls, and which leaves nothing in hand
--- but what was there before, unless the waiter can give up.
+-- What a read of needed cells leaves: what a step leaves, and no count has fallen. No tile is in
+-- hand that was not there before, unless the waiter can give up.
 pub record ReadsAt {B : Type 0} (files : Files) (gate : GateState) (known : RecordState)
     (old new : PassTap) (refused : Option (CacheError B)) : Type 0 where
   pub steps : StepsAt files gate known old new refused
   pub counts : CountsOn old.pass new.pass
   pub hand : LeavesNoHand B old.pass new.pass
 
--- What it leaves but for the cause of a refusal.
+-- What a read leaves, apart from the cause of an error.
 pub record ReadsOn (files : Files) (gate : GateState) (known : RecordState) (old new : PassTap)
     (Busy : Type 0) : Type 0 where
   pub tap : NoneFalls old.tap new.tap
@@ -111,13 +110,13 @@ pub record ReadsOn (files : Files) (gate : GateState) (known : RecordState) (old
   pub hand : LeavesNoHand Busy old.pass new.pass
   pub visits : PurgesNone gate old.pass.pinned.seat new.pass.pinned.seat
 
--- A tile of the key became the pass's latest hold.
+-- A tile with the key became the latest hold of the pass.
 pub record TakesHold (files : Files) (cut : Cut) (key : ℕ) (old new : PassState) : Type 0 where
   pub tile : CachedTile
   pub held : new.pinned.holds ≡ old.pinned.holds ++ tile ∷ []
   pub is : IsTileOf files cut key tile
 
--- What that leaves: microcache and counts as they were, and nothing in hand but what was there
+-- What a hold leaves: microcache and counts are unchanged. No tile is in hand that was not there
 -- before, unless the waiter can give up.
 pub record HoldsOn {B : Type 0} (files : Files) (gate : GateState) (known : RecordState)
     (old new : PassTap) (refused : Option (CacheError B)) : Type 0 where
@@ -133,21 +132,21 @@ module _ {V T Busy W H : Type 0} {v : a_waiter.Ghosts V Busy} {t : a_tap.Ghosts 
   abbrev pub moment : Reading V T Busy W H v t h → PassTap
   moment r = pass_tap r.pass.now (t.state r.tap.now)
 
-  -- It is the same call: by the same record, for the same pass and with the same tap.
+  -- The call has the same cache, record, pass and tap.
   pub record IsSameCall (old new : Reading V T Busy W H v t h) : Type 0 where
     pub cache : new.cache ≡ old.cache
     pub known : new.known ≡ old.known
     pub pass_name : new.pass.ghost_name ≡ old.pass.ghost_name
     pub tap_name : new.tap.ghost_name ≡ old.tap.ghost_name
 
-  -- a step of the call
+  -- one step of the call was done
   pub record Steps (files : Files) (old new : Reading V T Busy W H v t h)
       (refused : Option (CacheError Busy)) : Type 0 where
     pub call : IsSameCall old new
     pub left : StepsAt files old.cache.now.gate old.known.now (moment old) (moment new) refused
 
-  -- So does making a tile, which leaves the microcache and the counts too. Where it is refused
-  -- nothing is in hand, unless the waiter gave up.
+  -- What making a tile leaves: microcache and counts are unchanged. After an error no tile is in
+  -- hand, unless the waiter gave up.
   pub record Makes (files : Files) (old new : Reading V T Busy W H v t h)
       (refused : Option (CacheError Busy)) : Type 0 where
     pub steps : Steps files old new refused
@@ -155,22 +154,21 @@ module _ {V T Busy W H : Type 0} {v : a_waiter.Ghosts V Busy} {t : a_tap.Ghosts 
     pub recent : new.pass.now.pinned.recent ≡ old.pass.now.pinned.recent
     pub empty : IfSome refused (λ _. (new.pass.now.pinned.hand ≡ None) ⊎ Busy)
 
-  -- So does bringing a cell into the microcache, which leaves the counts, and nothing in hand but
-  -- what was there before, unless the waiter can give up.
+  -- What bringing a cell into the microcache leaves: the counts are unchanged. No tile is in hand
+  -- that was not there before, unless the waiter can give up.
   pub record Brings (files : Files) (old new : Reading V T Busy W H v t h)
       (refused : Option (CacheError Busy)) : Type 0 where
     pub steps : Steps files old new refused
     pub counts : SameCounts old.pass.now new.pass.now
     pub hand : LeavesNoHand Busy old.pass.now new.pass.now
 
-  -- a read of cells that are needed
+  -- what a read of needed cells leaves of the call
   pub record Reads (files : Files) (old new : Reading V T Busy W H v t h)
       (refused : Option (CacheError Busy)) : Type 0 where
     pub call : IsSameCall old new
     pub left : ReadsAt files old.cache.now.gate old.known.now (moment old) (moment new) refused
 
-  -- The tap had no call, or a visit was made to the shard of the key that took entries which lack
-  -- it.
+  -- The tap was not called, or the shard of the key was visited and lacked it.
   abbrev pub IsCold : ℕ → Reading V T Busy W H v t h → Reading V T Busy W H v t h → Type 0
   IsCold key old new = HasNoCall (t.state old.tap.now) (t.state new.tap.now)
       ⊎ Misses old.cache.now.gate key old.pass.now.pinned.seat new.pass.now.pinned.seat

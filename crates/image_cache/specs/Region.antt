@@ -1,4 +1,4 @@
--- What is read of a region of a record?
+-- What is read for a region of a record?
 use Rattle.std.specs.Prelude.{◌≡◌, ℕ, ◌<◌, List, map, Ok, IsOkAnd}
 use Rattle.std.specs.List.{range_with_len}
 use Rattle.tex_world.specs.World.{Files}
@@ -14,31 +14,32 @@ use Rattle.texel_values.specs.Area.{IsAreaOf, area_cell, area_cells}
 use Rattle.image_cache.specs.Pass.{PassState}
 use Rattle.image_cache.specs.Call.{Needs}
 
--- the keys of the first n cells that an area of a level of a record meets, row by row
+-- the keys of the first n cells that an area meets, row by row
 abbrev pub area_keys : RecordState → Area → ℕ → List ℕ
 area_keys r area n =
     map (λ k. key_of r.generation r.file area.level (area_cell area k)) (range_with_len 0 n)
 
--- the record shows no fault and has the level of the area, which is cut so
+-- the file is valid and has the level of the area, which is divided in this way
 abbrev pub HasAreaAt : Area → RecordState → Type 0
 HasAreaAt area r = IsOkAnd r.layout (λ kept.
     (area.level < level_count_in kept r.cut.automip)
     × (shown_grid area.grid ≡ cut_level_in kept r.cut area.level)
     × (area.window.channels ≡ channels_in kept))
 
--- The record shows no fault, fits the cut and has the level. The area is that of a region of it.
+-- The file is valid, its cells are small enough and it has the level. The area is that of the
+-- region.
 pub record HasArea (kept : Kept) (region : Region) (area : Area) (r : RecordState) : Type 0 where
   pub layout : r.layout ≡ Ok kept
   pub fits : CellsFit kept r.cut
   pub level : region.level < level_count_in kept r.cut.automip
   pub is : IsAreaOf (cut_level_in kept r.cut region.level) region (channels_in kept) area
 
--- so it is of the layout of the record, which shows no fault
+-- the record's layout is valid, and the area is that of the region in it
 abbrev pub HasAreaOf : Region → Area → RecordState → Type 0
 HasAreaOf region area r = IsOkAnd r.layout (λ kept. HasArea kept region area r)
 
--- A region of a level of a record was read, with so many values of each texel: each cell that it
--- meets was needed once, row by row.
+-- A region of a level was read, with this number of channels: each cell that it meets was needed
+-- once, row by row.
 pub record ReadsRegion (files : Files) (region : Region) (channels : ℕ) (old new : PassState)
     (r : RecordState) : Type 0 where
   pub kept : Kept

@@ -11,7 +11,7 @@ use Rattle.tile_layout.specs.Value.{channel_value_of}
 use Rattle.file_table.specs.Record.{RecordState}
 use Rattle.texel_filter.specs.Image.{Sizes, Values}
 
--- the levels of what is kept of a file, and their sizes
+-- the levels and their sizes, from what the cache keeps of a file
 abbrev pub sizes_in : Kept → Cut → Sizes
 sizes_in file cut = record {
   levels = level_count_in file cut.automip;
@@ -19,7 +19,7 @@ sizes_in file cut = record {
   height = height_in file;
 }
 
--- the sizes of a file that shows a fault, of which no lookup is made
+-- the sizes of a file with a fault, which is never looked up
 abbrev pub no_sizes : Sizes
 no_sizes = record { levels = 1; width = λ l. 1; height = λ l. 1 }
 
@@ -31,6 +31,6 @@ sizes_by cut (Err fault) = no_sizes
 abbrev pub sizes_known : RecordState → Sizes
 sizes_known state = sizes_by state.cut state.layout
 
--- the values of its texels, where the bytes of its generation are told
+-- the values of the record's texels, if the world is modelled
 abbrev pub values_known : Files → RecordState → Option Values
 values_known files state = option_map channel_value_of (files.held state.file state.generation)

@@ -1,4 +1,4 @@
--- When has a microcache all four texels of a square, and what do they leave, one after another?
+-- When does a microcache have all four texels of a square, and what does reading them leave?
 use Rattle.std.specs.Prelude.{◌≡◌, ℕ, true, IsTrue, IfOk, IsOkAnd, List, [], ◌∷◌}
 use Rattle.tex_world.specs.World.{Files}
 use Rattle.texel_filter.specs.declared.square.Square.{Square}
@@ -29,46 +29,46 @@ left_bottom square = record { level = square.level; x = square.left; y = square.
 abbrev pub right_bottom : Square → TexelAt
 right_bottom square = record { level = square.level; x = square.right; y = square.bottom }
 
--- those behind the first
+-- the three texels after the first
 abbrev pub rest_of : Square → List Texel
 rest_of square =
     texel_of square.level square.right square.top ∷ texel_of square.level square.left square.bottom
     ∷ texel_of square.level square.right square.bottom ∷ []
 
--- the first of the corners has its values, in the first so many channels
+-- the first corner has its values, in the first `channels` channels
 abbrev pub HasLeftTop : Values → Square → ℕ → Corners → Type 0
 HasLeftTop values square channels corners =
     AreFirst channels (values square.level square.left square.top) corners.left_top
 
--- they lie in a level of the record
+-- the square lies in a level of the record
 pub record IsSquareIn (state : RecordState) (square : Square) : Type 0 where
   pub first : IsTexelIn state (left_top square)
   pub last : IsTexelIn state (right_bottom square)
 
--- one cell holds all four
+-- one cell holds all four texels
 pub record LieInOne (kept : Kept) (cut : Cut) (square : Square) : Type 0 where
   pub right_top_in : cell_number_at kept cut (right_top square) ≡ cell_number_at kept cut (left_top square)
   pub left_bottom_in : cell_number_at kept cut (left_bottom square) ≡ cell_number_at kept cut (left_top square)
   pub right_bottom_in
       : cell_number_at kept cut (right_bottom square) ≡ cell_number_at kept cut (left_top square)
 
--- one cell of the record holds them
+-- one cell of the record holds all four texels
 abbrev pub LieInOneOf : RecordState → Square → Type 0
 LieInOneOf state square = IsOkAnd state.layout (λ kept. LieInOne kept state.cut square)
 
--- so it is, and the microcache has that cell
+-- one cell of the record holds all four texels, and the microcache has it
 abbrev pub HasSquareAt : RecordState → Square → List CachedTile → Type 0
 HasSquareAt state square tiles =
     LieInOneOf state square × IsTrue (has_cell_at state (left_top square) tiles)
 
--- the microcache has the cell that holds a texel, which has this key
+-- the microcache has the cell of a texel, and the cell has this key
 pub record IsShownAt (state : RecordState) (at : TexelAt) (tiles : List CachedTile) (key : ℕ)
     : Type 0 where
   pub had : has_cell_at state at tiles ≡ true
   pub keyed : IfOk state.layout (λ kept.
       key ≡ (cell_of state.generation state.file state.cut kept at).key)
 
--- so it is of each
+-- the microcache has the cell of each of the four texels, and each cell has this key
 pub record AreShown (state : RecordState) (square : Square) (tiles : List CachedTile) (key : ℕ)
     : Type 0 where
   pub left_top_shown : IsShownAt state (left_top square) tiles key
@@ -76,9 +76,9 @@ pub record AreShown (state : RecordState) (square : Square) (tiles : List Cached
   pub left_bottom_shown : IsShownAt state (left_bottom square) tiles key
   pub right_bottom_shown : IsShownAt state (right_bottom square) tiles key
 
--- ---- what they leave
+-- ---- what reading them leaves
 
--- The microcache had the cell of a texel, which was read there: what `fetch_local` leaves then.
+-- A texel was read from its cell in the microcache: what `fetch_local` leaves if the cell is there.
 pub record MeetsAt (files : Files) (state : RecordState) (at : TexelAt) (old new : PassState)
     : Type 0 where
   pub had : has_cell_at state at old.pinned.recent ≡ true
@@ -90,7 +90,7 @@ pub record MeetsAt (files : Files) (state : RecordState) (at : TexelAt) (old new
   pub kept : KeepsAllBut recent_and_counts old new
   pub needs : NeedsCellAt files state at old new
 
--- All four were read so, one after another, the upper row first.
+-- All four texels were read from the microcache, one after another, the upper row first.
 pub record MeetsSquare (files : Files) (state : RecordState) (square : Square)
     (old new : PassState) : Type 0 where
   pub first : PassState
@@ -101,7 +101,7 @@ pub record MeetsSquare (files : Files) (state : RecordState) (square : Square)
   pub to_third : MeetsAt files state (left_bottom square) second third
   pub to_last : MeetsAt files state (right_bottom square) third new
 
--- The three behind the first were read so, one after another.
+-- The three texels after the first were read from the microcache, one after another.
 pub record MeetsRest (files : Files) (state : RecordState) (square : Square)
     (old new : PassState) : Type 0 where
   pub second : PassState

@@ -1,4 +1,4 @@
--- Which cell holds a texel, when has a microcache that cell, and which values has the texel?
+-- Which cell holds a texel, when does a microcache have it, and which values has the texel?
 use Rattle.std.specs.Prelude.{◌≡◌, ℕ, ◌<◌, Bool, false, List}
 use Rattle.std.specs.Prelude.{Result, Ok, Err, IsOkAnd}
 use Rattle.tex_world.specs.World.{Files, IsFile}
@@ -22,43 +22,43 @@ pub record IsTexelOf (kept : Kept) (cut : Cut) (at : TexelAt) : Type 0 where
   pub column : at.x < width_in kept at.level
   pub row : at.y < height_in kept at.level
 
--- The record shows no fault, and no cell of it takes more memory than a cell may.
+-- The file is valid, and no cell of it is too large.
 abbrev pub MayServe : RecordState → Type 0
 MayServe state = IsOkAnd state.layout (λ kept. CellsFit kept state.cut)
 
--- The record is of one of the cache's files, used under its cut.
+-- The record is of one of the cache's files, and is used under its cut.
 pub record IsUnder (cache : CacheState) (state : RecordState) : Type 0 where
   pub number : state.file < cache.files.board.files
   pub cut : state.cut ≡ cache.gate.cut
 
--- The record is of one of the cache's files, used under its cut, shows no fault, and no cell of it
--- takes more memory than a cell may.
+-- The record is of one of the cache's files, is used under its cut and valid, and no cell is too
+-- large.
 pub record IsKnownTo (cache : CacheState) (state : RecordState) : Type 0 where
   pub number : state.file < cache.files.board.files
   pub cut : state.cut ≡ cache.gate.cut
   pub fits : MayServe state
 
--- So it is, and where the world tells it has the file.
+-- The record is valid under the cache's cut and, if the world is modelled, the world has the file.
 pub record IsRecordOf (files : Files) (cache : CacheState) (state : RecordState) : Type 0 where
   pub number : state.file < cache.files.board.files
   pub file : IsFile files state.file
   pub cut : state.cut ≡ cache.gate.cut
   pub fits : MayServe state
 
--- The record is one of the cache's files, used under its cut. It may show a fault.
+-- The record is of one of the cache's files, and is used under its cut. It may have a fault.
 pub record IsGivenBy (files : Files) (cache : CacheState) (state : RecordState) : Type 0 where
   pub number : state.file < cache.files.board.files
   pub file : IsFile files state.file
   pub cut : state.cut ≡ cache.gate.cut
 
--- The texel lies in a stored level, and has so many samples.
+-- The texel lies in a stored level and has n samples.
 pub record IsStoredTexel (kept : Kept) (at : TexelAt) (n : ℕ) : Type 0 where
   pub stored : at.level < stored_count kept
   pub column : at.x < width_in kept at.level
   pub row : at.y < height_in kept at.level
   pub channels : n ≡ channels_in kept
 
--- the level of the texel is a stored one of the record
+-- the level of the texel is a stored one
 abbrev pub IsStoredAt : RecordState → TexelAt → Type 0
 IsStoredAt state at = IsOkAnd state.layout (λ kept. at.level < stored_count kept)
 
@@ -72,7 +72,7 @@ IsTexelIn state at = IsOkAnd state.layout (λ kept. IsTexelOf kept state.cut at)
 abbrev pub cell_number_at : Kept → Cut → TexelAt → ℕ
 cell_number_at kept cut at = cell_index (cut_level_in kept cut at.level) at.x at.y
 
--- the cell that holds a texel of a generation of a file
+-- the cell that holds a texel, in one generation of a file
 abbrev pub cell_of : ℕ → ℕ → Cut → Kept → TexelAt → CellAt
 cell_of generation file cut kept at = record {
   key = key_of generation file at.level (cell_number_at kept cut at);
@@ -80,19 +80,19 @@ cell_of generation file cut kept at = record {
   channels = channels_in kept;
 }
 
--- it is that of a texel of a record
+-- this is the cell of the record that holds the texel
 abbrev pub IsCellIn : RecordState → TexelAt → CellAt → Type 0
 IsCellIn state at cell =
     IsOkAnd state.layout (λ kept. cell ≡ cell_of state.generation state.file state.cut kept at)
 
--- The cell is one of a file under a cut.
+-- The cell belongs to a file under a cut.
 pub record IsCellUnder (kept : Kept) (cut : Cut) (cell : CellAt) : Type 0 where
   pub level : level_of cell.key < level_count_in kept cut.automip
   pub index : index_of cell.key < cell_count (cut_level_in kept cut (level_of cell.key))
   pub rect : cell.rect ≡ cell_rect (cut_level_in kept cut (level_of cell.key)) (index_of cell.key)
   pub channels : cell.channels ≡ channels_in kept
 
--- The cell is one of the record's.
+-- The cell belongs to the record.
 pub record IsCellOf (state : RecordState) (cell : CellAt) : Type 0 where
   pub generation : generation_of cell.key ≡ state.generation
   pub file : file_of cell.key ≡ state.file
@@ -105,7 +105,7 @@ pub record IsCellAt (state : RecordState) (at : TexelAt) (cell : CellAt) : Type 
   pub level : level_of cell.key ≡ at.level
   pub holds : HoldsTexel cell.rect at.x at.y
 
--- so it is of the cell that holds a texel of the record
+-- whether the microcache has the cell of a texel, given the layout of its record
 abbrev pub has_cell_by : ℕ → ℕ → Cut → TexelAt → List CachedTile → Result Kept TiffFault → Bool
 has_cell_by generation file cut at tiles (Ok kept) =
     has_cell (cell_of generation file cut kept at) tiles

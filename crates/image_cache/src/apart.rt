@@ -1,4 +1,4 @@
-//! A need that is answered apart: no memory was found for the tile of its cell.
+//! A need that stays uncached because no memory was found for the tile of its cell.
 ghost use Rattle.std.specs.Prelude.{◌≡◌, ℕ, ◌<◌, length, slice_get, Some, IsTrue, IsFalse, IsNone};
 ghost use Rattle.std.specs.Prelude.{false, IfErr, IfSome, OnOk, OnErr, IsOkAnd, Ok, None};
 ghost use Rattle.std.specs.List.{All};
@@ -29,7 +29,7 @@ use tile_store::Tile;
 use waiter::Waiter;
 
 impl<W: World> Pass<W> {
-    /// The first of the tiles that it holds which is that of the cell.
+    /// The first held tile that is the tile of this cell.
     fn hold_of(&self, cell: &CellAt) -> Option<&Tile<W>>
         ensures keyed { IfSome result (λ tile. tile.now.key ≡ cell.now.key) }
         ensures of_cell { IfSome result (λ tile. IsTrue (is_tile_of cell.now tile.now)) }
@@ -47,7 +47,7 @@ impl<W: World> Pass<W> {
         None
     }
 
-    /// The tile that it holds at a place, where that is the one of the cell.
+    /// The held tile at this place, if it is the tile of this cell.
     fn hold_at(&self, place: usize, cell: &CellAt) -> Option<&Tile<W>>
         ensures keyed { IfSome result (λ tile. tile.now.key ≡ cell.now.key) }
         ensures of_cell { IfSome result (λ tile. IsTrue (is_tile_of cell.now tile.now)) }
@@ -65,9 +65,9 @@ impl<W: World> Pass<W> {
 }
 
 impl<'a, V: Waiter, T: Tap> Reading<'a, V, T> {
-    /// Writes the values of a texel for whose tile no memory was found: those of a tile that the pass
-    /// holds, or else of a stored level those that a slot shows or that are read from the file. Such
-    /// a need is counted as one answered apart. It takes no memory but to open the file.
+    /// Answers a texel for whose tile no memory was found: from a held tile or, in a stored level,
+    /// from a slot or the file. The need is counted as uncached. Memory is allocated only to open
+    /// the file.
     pub(crate) fn fetch_apart(
         &mut self,
         cell: &CellAt,
@@ -82,7 +82,7 @@ impl<'a, V: Waiter, T: Tap> Reading<'a, V, T> {
         ensures ok { OnOk result (self.new.pass.now.apart ≡ counted self.old.pass.now.apart) }
         ensures left { Reads T.W.files self.old self.new (refusal result) }
         ensures taken { IsTakenApart self.old.pass.now self.new.pass.now }
-        // Where it is not counted the tap had no call.
+        // If the need is not counted as uncached, the tap was not called.
         ensures uncounted { NoneApart self.old.pass.now self.new.pass.now
             → self.new.tap.now ≡ self.old.tap.now }
         ensures memory { IsStoredAt self.old.known.now at → IfErr result (WantsByOpening
@@ -103,7 +103,7 @@ impl<'a, V: Waiter, T: Tap> Reading<'a, V, T> {
         self.write_part(cell, at, out)
     }
 
-    /// Writes the values of a texel by a tile that the pass holds, where one is that of its cell.
+    /// Writes the values of a texel from a held tile. False if no held tile is the cell's.
     fn write_held(&self, cell: &CellAt, at: TexelAt, out: &mut [u16]) -> bool
         requires cell { IsCellAt self.now.known.now at cell.now }
         ensures value { IsTrue result → ForSome (T.W.files.held self.now.known.now.file
@@ -112,7 +112,8 @@ impl<'a, V: Waiter, T: Tap> Reading<'a, V, T> {
         ensures told { IsTrue T.W.files.tells
             → HasKey key_in cell.now.key self.now.pass.now.pinned.holds → IsTrue result }
     {
-        // the record's layout is that of its bytes, and a tile of the key that of its cell
+        // needed by the proof: ties the record's layout to the file's bytes, and a tile of the key
+        // to its cell
         let _known = self.known.record();
         let pass = &*self.pass;
         match pass.hold_of(cell) {
@@ -124,7 +125,7 @@ impl<'a, V: Waiter, T: Tap> Reading<'a, V, T> {
         }
     }
 
-    /// Counts a need that is answered apart.
+    /// Counts an uncached need.
     fn count_apart(&mut self)
         ensures apart { self.new.pass.now.apart ≡ counted self.old.pass.now.apart }
         ensures tap { self.new.tap.now ≡ self.old.tap.now }
@@ -136,7 +137,7 @@ impl<'a, V: Waiter, T: Tap> Reading<'a, V, T> {
         pass.count_apart();
     }
 
-    /// Writes the values of a texel of a stored level by its samples, which a slot shows or which are
+    /// Writes the values of a texel of a stored level from its samples, which are in a slot or are
     /// read from the file.
     fn write_part(
         &mut self,
@@ -164,7 +165,7 @@ impl<'a, V: Waiter, T: Tap> Reading<'a, V, T> {
         Ok(())
     }
 
-    /// The samples of a texel of a stored level, from a slot or else from the file.
+    /// Reads the samples of a texel of a stored level from a slot or, failing that, from the file.
     fn take_samples(&mut self, at: TexelAt, samples: &mut [u16]) -> Result<(), CacheError<V::Busy>>
         requires texel { IsOkAnd self.old.known.now.layout (λ kept.
             IsStoredTexel kept at (length samples.old)) }

@@ -1,4 +1,4 @@
-//! The cache.
+//! The cache, and how passes are made, split and joined.
 ghost use Rattle.std.specs.Prelude.{◌≡◌, ◌<◌, ◌≤◌, [], None, length, IfOk, IfErr, OnOk, OnErr};
 ghost use Rattle.tex_world.specs.World.{max_files};
 ghost use Rattle.tile_store.specs.Tag.{tag_of};
@@ -24,8 +24,8 @@ use tiff_format::{Cut, ShardCount};
 use tile_slots::Slots;
 use waiter::Waiter;
 
-/// The texels of the files of a folder, for many passes at once. In a clause it is its files and
-/// its tiles. It holds no tap: `T` names the world, and the kind of handles that lie idle.
+/// The texels of a folder's files, shared by many passes. Clauses see its files and its tiles. It
+/// owns no tap: `T` only names the world and the kind of idle handles.
 #[derive(Drop)]
 pub struct Cache<T: Tap> {
     pub(crate) alloc: Global,
@@ -52,7 +52,7 @@ impl<T: Tap> Model for Cache<T> {
 }
 
 impl<T: Tap> Cache<T> {
-    /// A cache of so many files, and its first pass, which has all permits.
+    /// Makes a cache for `files` files, and its first pass, which has all permits.
     pub fn new(
         alloc: Global,
         options: Options,
@@ -71,14 +71,14 @@ impl<T: Tap> Cache<T> {
         Ok(made)
     }
 
-    /// How the levels of its files are cut.
+    /// The cut: how the levels of its files are divided into cells.
     pub fn cut(&self) -> Cut
         ensures { result ≡ self.now.gate.cut }
     {
         self.cut
     }
 
-    /// How many shards its tiles lie in, 1 to 64.
+    /// The number of shards, 1 to 64.
     pub fn shards(&self) -> u32
         ensures value { result ≡ length self.now.gate.id }
         ensures some { 0 < result }
@@ -87,7 +87,7 @@ impl<T: Tap> Cache<T> {
         self.shards
     }
 
-    /// What a shard has. It takes no memory.
+    /// Counts the tiles and the pins of one shard. Allocates nothing.
     pub fn count<V: Waiter>(
         &self,
         waiter: &V,
@@ -96,13 +96,13 @@ impl<T: Tap> Cache<T> {
     ) -> Result<ShardCount, V::Busy>
         requires pass { IsPassOf self.now pass.old }
         requires shard { shard < length self.now.gate.id }
-        // One record has the numbers, the entries that they are of, and the visit that found them.
+        // One record ties together the counts, the entries counted, and the visit that found them.
         ensures lawful { IfOk result (λ count. AtShard shard
             (Counts T.W.files (tag_of self.now.gate.share self.now.gate.cut) count)
             pass.old.pinned.seat.visits pass.new.pinned.seat.visits) }
         ensures share { IfOk result (λ count. count.share ≡ self.now.gate.share) }
         ensures within { IfOk result (λ count. count.loose ≤ count.share) }
-        // The pins of the pass's own tiles are counted, and no others where it has all permits.
+        // The pass's own pins are among them. If it has all permits, there are no others.
         ensures own { IfOk result (λ count.
             tiles_at (length self.now.gate.id) shard pass.old.pinned ≤ count.pins) }
         ensures alone { IfOk result (λ count.
@@ -113,7 +113,7 @@ impl<T: Tap> Cache<T> {
         pass.pinned.count(&self.gate, waiter, shard)
     }
 
-    /// A second pass, which has one permit of the pass and has seen the same.
+    /// Makes a second pass. It gets one permit of `pass` and starts with what `pass` has seen.
     pub fn split(&self, pass: &mut Pass<T::W>) -> Result<Pass<T::W>, SplitError>
         requires pass { IsPassOf self.now pass.old }
         ensures ok { IfOk result (IsSecondPass pass.old) }
@@ -128,7 +128,8 @@ impl<T: Tap> Cache<T> {
         Ok(second)
     }
 
-    /// The second pass has then seen of each file the greater of both. It does not wait.
+    /// Hands on what `from` has seen: `to` has then seen the newer generation of each file. Never
+    /// waits.
     pub fn carry(&self, from: &mut Pass<T::W>, to: &mut Pass<T::W>) -> Result<(), NoMemory>
         requires from { IsPassOf self.now from.old }
         requires to { IsPassOf self.now to.old }
@@ -144,10 +145,10 @@ impl<T: Tap> Cache<T> {
         Ok(())
     }
 
-    /// Another pass ends: its tiles are given back, and the pass gets its permits, has seen what it
-    /// had, and adds its counts. It takes no memory.
+    /// Ends the other pass: its tiles are unpinned, and `pass` gets its permits, its counts and
+    /// what it has seen. Allocates nothing.
     ///
-    /// Where the waiter gives up the other pass comes back with the tiles that it still has.
+    /// If the waiter gives up, the other pass is returned with the tiles that it still has.
     pub fn join<V: Waiter>(
         &self,
         waiter: &V,
@@ -158,7 +159,7 @@ impl<T: Tap> Cache<T> {
         requires other { IsPassOf self.now other }
         ensures ok { OnOk result (PassAfterJoin other keep.old keep.new) }
         ensures err { OnErr result (KeepsAllBut nothing keep.old keep.new) }
-        // The other pass, where the waiter gives up.
+        // The other pass, if the waiter gives up.
         ensures back { IfErr result (λ e. KeepsAllBut its_tiles other e.other) }
         ensures part { IfErr result (λ e. LeavesPart other.pinned e.other.pinned) }
     {
@@ -170,7 +171,7 @@ impl<T: Tap> Cache<T> {
         Ok(())
     }
 
-    /// Another pass, which has no tile, ends.
+    /// Ends another pass that has no tiles.
     fn take_in(&self, keep: &mut Pass<T::W>, other: Pass<T::W>)
         requires keep { IsPassOf self.now keep.old }
         requires other { IsPassOf self.now other }
@@ -192,7 +193,7 @@ impl<T: Tap> Cache<T> {
         keep.apart = keep.apart.saturating_add(apart);
     }
 
-    /// A second pass.
+    /// Makes a second pass.
     fn second(&self, pass: &mut Pass<T::W>) -> Result<Pass<T::W>, NoMemory>
         requires pass { IsPassOf self.now pass.old }
         requires permits { 1 < pass.old.pinned.seat.permits }
@@ -207,7 +208,7 @@ impl<T: Tap> Cache<T> {
     }
 }
 
-/// A cache of these options and its first pass.
+/// Makes a cache with these options, and its first pass.
 fn made<T: Tap>(
     alloc: Global,
     options: Options,

@@ -1,4 +1,4 @@
-//! What is asked of a record before a cell of it is read.
+//! Checks of a record that come before a cell of it is read.
 ghost use Rattle.std.specs.Prelude.{◌≡◌, ◌<◌, OnOk, IfOk, IfErr, IsOkAnd};
 ghost use Rattle.tile_layout.specs.Level.{level_count_in};
 ghost use Rattle.tile_layout.specs.Cell.{CellsFit};
@@ -12,7 +12,7 @@ use tex_world::World;
 use texel_values::TexelAt;
 use tile_layout::Grid;
 
-/// The record shows no fault, and all its cells fit the cut.
+/// Fails unless the file is valid and all its cells are small enough.
 pub fn fits_cut<W: World, B>(known: &Record<W>) -> Result<(), CacheError<B>>
     ensures ok { OnOk result (IsOkAnd known.now.layout (λ kept. CellsFit kept known.now.cut)) }
     ensures err { IfErr result (LookupRefuses known.now) }
@@ -30,7 +30,8 @@ pub fn fits_cut<W: World, B>(known: &Record<W>) -> Result<(), CacheError<B>>
     Err(CacheError::TileTooLarge { generation })
 }
 
-/// The record shows no fault, all its cells fit the cut, and it has the level, which is cut so.
+/// The division of one level into cells. Fails unless the file is valid, its cells are small enough
+/// and it has the level.
 pub(crate) fn level_in<W: World, B>(known: &Record<W>, level: u32) -> Result<Grid, CacheError<B>>
     ensures ok { OnOk result (IsOkAnd known.now.layout (λ kept. CellsFit kept known.now.cut
         × (level < level_count_in kept known.now.cut.automip))) }
@@ -48,7 +49,8 @@ pub(crate) fn level_in<W: World, B>(known: &Record<W>, level: u32) -> Result<Gri
     })
 }
 
-/// The record shows no fault, all its cells fit the cut, and the texel lies in one of its levels.
+/// Fails unless the file is valid, its cells are small enough and the texel lies in one of its
+/// levels.
 pub(crate) fn inside<W: World, B>(known: &Record<W>, at: TexelAt) -> Result<(), CacheError<B>>
     ensures ok { OnOk result (IsOkAnd known.now.layout (λ kept.
         CellsFit kept known.now.cut × IsTexelOf kept known.now.cut at)) }

@@ -1,4 +1,4 @@
-//! Why a call of the cache is refused.
+//! The errors of the cache.
 use crate::pass::Pass;
 use file_table::FileError;
 use shard_gate::PinError;
@@ -7,38 +7,38 @@ use tex_world::{NoMemory, World};
 use thiserror::Error;
 use tiff_format::TiffFault;
 
-/// Why a call of the cache is not answered.
+/// Why a call of the cache fails.
 #[derive(Clone, Copy, Debug, PartialEq, Eq, Error)]
 #[error_bound(B: Debug)]
 pub enum CacheError<B> {
-    /// The bytes of this generation show the fault.
+    /// The bytes of this generation have a fault.
     #[error("BadFile")]
     BadFile { generation: u32, fault: TiffFault },
-    /// A cell of the file takes more than 33554432 bytes.
+    /// A cell of the file would take more than 33554432 bytes.
     #[error("TileTooLarge")]
     TileTooLarge { generation: u32 },
-    /// The file has only so many levels.
+    /// The file has only this many levels.
     #[error("NoLevel")]
     NoLevel { generation: u32, levels: u32 },
-    /// The texel is not in the level.
+    /// The texel is outside the level.
     #[error("Outside")]
     Outside { generation: u32 },
     /// The region has more than 1048576 texels.
     #[error("RegionTooLarge")]
     RegionTooLarge,
-    /// The pass holds four tiles.
+    /// The pass already holds four tiles.
     #[error("HoldsFull")]
     HoldsFull,
-    /// The generation `from` was used, and a newer one was met.
+    /// The call used the generation `from`, and a newer one was met. Ask again.
     #[error("Again")]
     Again { from: u32, to: u32 },
-    /// The source failed. Its count of faults has risen.
+    /// An I/O error. The tap's count of faults has risen.
     #[error("ReadFault")]
     ReadFault,
-    /// No memory was found.
+    /// Out of memory.
     #[error("NoMemory")]
     NoMemory,
-    /// The waiter gave up.
+    /// The waiter gave up on a lock.
     #[error("Busy")]
     Busy(B),
 }
@@ -88,21 +88,21 @@ impl<B> From<PinError<B>> for CacheError<B> {
 #[derive(Clone, Copy, Debug, PartialEq, Eq, Error)]
 #[error_bound(B: Debug)]
 pub enum NotReleased<B> {
-    /// No tile is held at that place.
+    /// The pass holds no tile at that place.
     #[error("NothingHeld")]
     NothingHeld,
-    /// The waiter gave up.
+    /// The waiter gave up on a lock.
     #[error("Busy")]
     Busy(B),
 }
 
-/// Why a pass was not split.
+/// Why a pass cannot be split.
 #[derive(Clone, Copy, Debug, PartialEq, Eq, Error)]
 pub enum SplitError {
-    /// The pass has one permit.
+    /// The pass has only one permit.
     #[error("NoPermit")]
     NoPermit,
-    /// No memory was found.
+    /// Out of memory.
     #[error("NoMemory")]
     NoMemory,
 }
@@ -118,8 +118,8 @@ impl From<NoMemory> for SplitError {
     }
 }
 
-/// The waiter gave up before all tiles of the other pass were given back. It comes back with those
-/// that it still has.
+/// The waiter gave up before all tiles of the other pass were unpinned. That pass comes back with
+/// the tiles that it still has.
 #[derive(Drop)]
 pub struct NotJoined<W: World, B> {
     pub other: Pass<W>,

@@ -1,4 +1,4 @@
-//! What a file is: its size and its levels.
+//! The size and the levels of a file.
 ghost use Rattle.std.specs.Prelude.{◌≡◌, ◌<◌, IfOk, IfErr, IsOkAnd};
 ghost use Rattle.tex_world.specs.World.{IsFile};
 ghost use Rattle.file_table.specs.Calls.{LooksOnce, OpensIfAtAll};
@@ -17,8 +17,8 @@ use tiff_format::Info;
 use waiter::Waiter;
 
 impl<T: Tap> Cache<T> {
-    /// What a file is: the sides of its level 0, its samples and their bits, how many levels it
-    /// stores, and how many it has under the cut.
+    /// The width and height of level 0, the samples and their bits, and the number of levels:
+    /// stored, and together with generated ones.
     pub fn info<V: Waiter>(
         &self,
         waiter: &V,
@@ -34,7 +34,7 @@ impl<T: Tap> Cache<T> {
             info ≡ info_of r.generation kept r.cut))) }
         ensures cause { IfErr result (HasCause (around T.W.files file self.now.gate.cut
             pass.old pass.new (T.state tap.old) (T.state tap.new)) Never InfoRefuses) }
-        // What the call leaves.
+        // The state after the call.
         ensures latest { KeepsOne T.W.files file self.now.gate.cut pass.old pass.new
             (T.state tap.old) (T.state tap.new) }
         ensures same { KeepsAllBut view_and_record pass.old pass.new }
@@ -48,7 +48,7 @@ impl<T: Tap> Cache<T> {
     }
 }
 
-/// What the file of a record is.
+/// Reads these from the record of a file.
 fn facts_in<W: World, B>(known: &Record<W>) -> Result<Info, CacheError<B>>
     ensures ok { IfOk result (λ info. IsOkAnd known.now.layout (λ kept.
         info ≡ info_of known.now.generation kept known.now.cut)) }

@@ -1,4 +1,4 @@
-//! One texel: from the microcache, else from the shards, else from the file.
+//! One texel: from the microcache, from a shard, or from the file.
 ghost use Rattle.std.specs.Prelude.{◌≡◌, ◌⊎◌, ◌≤◌, true, false, OnOk, OnErr, IfErr, IsTrue};
 ghost use Rattle.std.specs.Prelude.{IsFalse};
 ghost use Rattle.std.specs.Option.{ForSome};
@@ -33,10 +33,10 @@ use tile_store::Tile;
 use waiter::Waiter;
 
 impl<T: Tap> Cache<T> {
-    /// Writes the 16-bit values of the first channels of a texel, and 0 for those that the file
-    /// lacks: from the microcache, else from the shards, else from the file.
+    /// Writes the 16-bit values of a texel's first channels, with 0 for channels that the file
+    /// lacks. They come from the microcache, from a shard or from the file.
     ///
-    /// One need is counted, and a hit where the microcache had the cell.
+    /// Counts one need, and a hit if the microcache had the cell.
     pub fn fetch<V: Waiter>(
         &self,
         waiter: &V,
@@ -56,7 +56,7 @@ impl<T: Tap> Cache<T> {
         ensures moves { MovesOnlyAgain (T.state tap.old) (T.state tap.new) result }
         ensures err { OnErr result (out.new ≡ out.old) }
         ensures tap { NoneFalls (T.state tap.old) (T.state tap.new) }
-        // What the call leaves of the pass.
+        // The pass after the call.
         ensures need { CountsNeed (has_cell_at known.now at pass.old.pinned.recent)
             pass.old pass.new }
         ensures apart { OnOk result (MayBeApart T.W.files pass.old pass.new) }
@@ -69,20 +69,20 @@ impl<T: Tap> Cache<T> {
         ensures later { pass.old.apart ≤ pass.new.apart }
         ensures hand { LeavesNoHand V.Busy pass.old pass.new }
         ensures same { AfterNeed known.now.file pass.old pass.new }
-        // Each visit that it makes is that of a `pin`, a `pin_new`, an `unpin` or a `count`. Where
-        // the world tells, the tap has a call only where one of them missed the cell, or where the
-        // need was answered apart.
+        // It visits shards only to pin, unpin and count tiles; it purges nothing. If the world is
+        // modelled, it calls the tap only if a shard lacked the cell or the need was uncached.
         ensures visits { PurgesNone self.now.gate pass.old.pinned.seat pass.new.pinned.seat }
         ensures missed { IsTrue T.W.files.tells → NoneApart pass.old pass.new
             → HasNoCall (T.state tap.old) (T.state tap.new)
             ⊎ MissesCellAt self.now.gate known.now at pass.old pass.new }
-        // It has none where the pass holds the cell, and nothing but a waiter that gives up refuses.
+        // If the pass holds the cell, the tap is not called, and only a waiter that gives up makes
+        // it fail.
         ensures held { IsTrue T.W.files.tells → HoldsCellAt known.now at pass.old → AnswersFromHold
             (T.state tap.old) (T.state tap.new) result }
-        // Of a stored level memory is wanting only where a file was opened.
+        // If the level is stored, it runs out of memory only if it opened a file.
         ensures memory { IsStoredAt known.now at → IfErr result
             (WantsByOpening (T.state tap.old) (T.state tap.new)) }
-        // A cell that the microcache has takes no call of the tap and no memory.
+        // If the microcache has the cell, it calls no tap and allocates nothing.
         ensures warm { IsTrue (has_cell_at known.now at pass.old.pinned.recent) → AnswersWarm
             (sighted pass.old.view (T.state tap.old)) (sighted pass.new.view (T.state tap.new))
             result }
@@ -104,7 +104,7 @@ impl<T: Tap> Cache<T> {
         reading.fetch_cold(&cell, at, out)
     }
 
-    /// Whether the microcache has the cell that holds a texel. It changes nothing.
+    /// Whether the microcache has the cell that holds a texel. Changes nothing.
     pub fn has_local(&self, pass: &Pass<T::W>, known: &Record<T::W>, at: TexelAt) -> bool
         requires pass { IsPassOf self.now pass.now }
         requires known { IsKnownTo self.now known.now }
@@ -114,8 +114,8 @@ impl<T: Tap> Cache<T> {
         pass.pinned.tile_of(&self.cell(known, at)).is_some()
     }
 
-    /// Where the microcache has the cell that holds a texel, what `fetch` does. Else false, and all
-    /// is as before.
+    /// Does what `fetch` does if the microcache has the cell of the texel. Otherwise returns false
+    /// and changes nothing.
     pub fn fetch_local(
         &self,
         pass: &mut Pass<T::W>,
@@ -130,16 +130,16 @@ impl<T: Tap> Cache<T> {
         ensures value { IsTrue result →
             ForSome (T.W.files.held known.now.file known.now.generation) (λ bytes.
             AreValuesAt bytes at out.new) }
-        // What the call leaves of the pass, where it has the cell.
+        // The pass after the call, if the microcache has the cell.
         ensures met { IsTrue result → MeetsAt T.W.files known.now at pass.old pass.new }
-        // And where not.
+        // If the microcache does not have the cell, nothing changes.
         ensures same { IsFalse result → (pass.new ≡ pass.old) × (out.new ≡ out.old) }
     {
         let cell = self.cell(known, at);
         self.fetch_kept(pass, known, &cell, at, out)
     }
 
-    /// The same, of the cell that holds the texel.
+    /// Does the work of `fetch_local` once the cell of the texel is known.
     fn fetch_kept(
         &self,
         pass: &mut Pass<T::W>,
@@ -155,9 +155,9 @@ impl<T: Tap> Cache<T> {
         ensures value { IsTrue result →
             ForSome (T.W.files.held known.now.file known.now.generation) (λ bytes.
             AreValuesAt bytes at out.new) }
-        // What the call leaves of the pass, where it has the cell.
+        // The pass after the call, if the microcache has the cell.
         ensures met { IsTrue result → MeetsAt T.W.files known.now at pass.old pass.new }
-        // And where not.
+        // If the microcache does not have the cell, nothing changes.
         ensures same { IsFalse result → (pass.new ≡ pass.old) × (out.new ≡ out.old) }
     {
         if !pass.pinned.turn_to(cell) {
@@ -174,12 +174,13 @@ impl<T: Tap> Cache<T> {
         requires inside { IsTexelIn known.now at }
         ensures { IsCellAt known.now at result }
     {
-        // it has no more files than a folder can have
+        // needed by the proof: bounds the number of files
         let _files = self.files.board();
         cell_at(known, at)
     }
 
-    /// Writes the values of a texel by the tile of its cell, which stands first in the microcache.
+    /// Writes the values of a texel from the first tile of the microcache, which is that of its
+    /// cell.
     fn write_latest(
         &self,
         pass: &Pass<T::W>,
@@ -199,8 +200,7 @@ impl<T: Tap> Cache<T> {
 }
 
 impl<'a, V: Waiter, T: Tap> Reading<'a, V, T> {
-    /// A need is counted of a cell that the microcache has not, and the values of a texel of it are
-    /// written.
+    /// Answers a texel whose cell is not in the microcache, and counts the need.
     fn fetch_cold(
         &mut self,
         cell: &CellAt,
@@ -247,7 +247,7 @@ impl<'a, V: Waiter, T: Tap> Reading<'a, V, T> {
         }
     }
 
-    /// Writes the values of a texel by a tile of its cell.
+    /// Writes the values of a texel from a tile of its cell.
     pub(crate) fn write_by(&self, tile: &Tile<T::W>, cell: &CellAt, at: TexelAt, out: &mut [u16])
         requires keyed { tile.now.key ≡ cell.now.key }
         requires of_cell { IsTrue (is_tile_of cell.now tile.now) }
@@ -259,7 +259,8 @@ impl<'a, V: Waiter, T: Tap> Reading<'a, V, T> {
         write_values(tile, depth, at, out);
     }
 
-    /// The same by the tile of the cell that stands first in the microcache.
+    /// Writes the values of a texel from the first tile of the microcache, which is that of its
+    /// cell.
     fn write_first(&self, cell: &CellAt, at: TexelAt, out: &mut [u16])
         requires first { StandsFirst cell.now self.now.pass.now.pinned.recent }
         requires cell { IsCellAt self.now.known.now at cell.now }

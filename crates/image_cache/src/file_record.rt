@@ -1,4 +1,4 @@
-//! A record as it is read by through a tap.
+//! A valid record of a file of the world, lent to a call that reads through a tap.
 ghost use Rattle.std.specs.Prelude.{◌≡◌, ◌<◌, ◌≤◌};
 ghost use Rattle.tex_world.specs.World.{IsFile};
 ghost use Rattle.file_table.specs.Record.{IsRecord};
@@ -11,8 +11,8 @@ use file_table::Record;
 use std::marker::Model;
 use tex_world::World;
 
-/// A record that shows no fault and fits its cut, of a file that the world has, lent to a call with a
-/// tap. In a clause it is the record.
+/// A record without a fault and with small enough cells, of a file of the world, lent to a call
+/// that reads through a tap. Clauses see the record.
 #[derive(Drop)]
 pub struct FileRecord<'a, W: World> {
     fitting: Fitting<'a, W>,
@@ -30,7 +30,7 @@ impl<'a, W: World> Model for FileRecord<'a, W> {
 }
 
 impl<'a, W: World> FileRecord<'a, W> {
-    /// A record, lent.
+    /// Lends a record.
     pub fn of(known: &'a Record<W>) -> FileRecord<'a, W>
         requires fits { MayServe known.now }
         requires file { IsFile W.files known.now.file }
@@ -41,7 +41,7 @@ impl<'a, W: World> FileRecord<'a, W> {
         }
     }
 
-    /// The record.
+    /// The lent record.
     pub fn record(&self) -> &'a Record<W>
         ensures value { result.now ≡ self.now }
         ensures serves { MayServe self.now }
@@ -51,7 +51,7 @@ impl<'a, W: World> FileRecord<'a, W> {
         self.fitting.record()
     }
 
-    /// The number of levels under the cut.
+    /// The number of levels, generated ones included.
     pub fn levels(&self) -> u32
         ensures value { result ≡ (sizes_known self.now).levels }
         ensures some { 1 ≤ result }
@@ -59,7 +59,7 @@ impl<'a, W: World> FileRecord<'a, W> {
         self.fitting.levels()
     }
 
-    /// Width and height of a level.
+    /// The width and height of a level, in texels.
     pub fn size(&self, level: u32) -> (u32, u32)
         requires { level < (sizes_known self.now).levels }
         ensures value { result

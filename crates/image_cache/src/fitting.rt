@@ -1,4 +1,4 @@
-//! A record as a call works with it.
+//! A valid record, lent to a call.
 ghost use Rattle.std.specs.Prelude.{◌≡◌, ◌<◌, ◌≤◌};
 ghost use Rattle.file_table.specs.Record.{IsRecord};
 ghost use Rattle.texel_filter.specs.Image.{IsSide};
@@ -9,7 +9,7 @@ use file_table::Record;
 use std::marker::Model;
 use tex_world::World;
 
-/// A record that shows no fault and fits its cut, lent to a call. In a clause it is the record.
+/// A record without a fault and with small enough cells, lent to a call. Clauses see the record.
 #[derive(Drop)]
 pub struct Fitting<'a, W: World> {
     record: &'a Record<W>,
@@ -27,7 +27,7 @@ impl<'a, W: World> Model for Fitting<'a, W> {
 }
 
 impl<'a, W: World> Fitting<'a, W> {
-    /// A record, lent.
+    /// Lends a record.
     pub fn of(known: &'a Record<W>) -> Fitting<'a, W>
         requires { MayServe known.now }
         ensures { result ≡ known.now }
@@ -35,18 +35,18 @@ impl<'a, W: World> Fitting<'a, W> {
         Fitting { record: known }
     }
 
-    /// The record.
+    /// The lent record.
     pub fn record(&self) -> &'a Record<W>
         ensures value { result.now ≡ self.now }
         ensures serves { MayServe self.now }
         ensures told { IsRecord W.files self.now }
     {
-        // its layout is that of the bytes of its generation
+        // needed by the proof: ties the record's layout to the file's bytes
         let _generation = self.record.generation();
         self.record
     }
 
-    /// The number of levels under the cut.
+    /// The number of levels, generated ones included.
     pub fn levels(&self) -> u32
         ensures value { result ≡ (sizes_known self.now).levels }
         ensures some { 1 ≤ result }
@@ -54,7 +54,7 @@ impl<'a, W: World> Fitting<'a, W> {
         self.record.levels()
     }
 
-    /// Width and height of a level.
+    /// The width and height of a level, in texels.
     pub fn size(&self, level: u32) -> (u32, u32)
         requires { level < (sizes_known self.now).levels }
         ensures value { result

@@ -26,8 +26,8 @@ use texel_values::TexelAt;
 use waiter::Waiter;
 
 impl<T: Tap> Cache<T> {
-    /// The cell that holds a texel becomes the pass's latest hold, with a pin of its own, and its
-    /// generation is answered.
+    /// Pins the tile of the cell that holds a texel, as the latest hold of the pass. Returns the
+    /// generation.
     pub fn get_tile<V: Waiter>(
         &self,
         waiter: &V,
@@ -46,7 +46,7 @@ impl<T: Tap> Cache<T> {
             (TileRefuses at)) }
         ensures full { length pass.old.pinned.holds ≡ 4 → (result ≡ Err CacheError.HoldsFull)
             × (pass.new ≡ pass.old) × (T.state tap.new ≡ T.state tap.old) }
-        // What the call leaves. An answer comes behind a look at the board.
+        // The state after the call. Before an answer the board was read.
         ensures looked { OnOk result (slice_index pass.old.view.steps file
             < slice_index pass.new.view.steps file) }
         ensures err { OnErr result (pass.new.pinned.holds ≡ pass.old.pinned.holds) }
@@ -66,7 +66,7 @@ impl<T: Tap> Cache<T> {
         answer
     }
 
-    /// The same of a record.
+    /// Pins the tile of a texel's cell for a given record, as the latest hold of the pass.
     fn hold_cell<V: Waiter>(
         &self,
         waiter: &V,
@@ -82,7 +82,7 @@ impl<T: Tap> Cache<T> {
             × HoldsCell T.W.files at pass.old pass.new known.now) }
         ensures cause { IfErr result (StepCause T.W.files known.now pass.new.view
             (T.state tap.old) (T.state tap.new) (TileRefuses at)) }
-        // What the call leaves.
+        // The state after the call.
         ensures err { OnErr result (pass.new.pinned.holds ≡ pass.old.pinned.holds) }
         ensures same { AfterRecordStep known.now.file pass.old pass.new }
         ensures recent { KeepsRecent pass.old pass.new }
@@ -91,7 +91,7 @@ impl<T: Tap> Cache<T> {
         ensures tap { NoneFalls (T.state tap.old) (T.state tap.new) }
     {
         inside(known, at)?;
-        // the record's layout is that of its bytes
+        // needed by the proof: ties the record's layout to the file's bytes
         let _known = known.generation();
         let cell = self.cell(known, at);
         let lent = FileRecord::of(known);
@@ -106,7 +106,7 @@ impl<T: Tap> Cache<T> {
         Ok(known.generation())
     }
 
-    /// The hold at a place is released, and the later ones close up. It takes no memory.
+    /// Releases the hold at a place; later holds move up by one. Allocates nothing.
     pub fn release_tile<V: Waiter>(
         &self,
         waiter: &V,
@@ -117,7 +117,7 @@ impl<T: Tap> Cache<T> {
         ensures ok { OnOk result (pass.new.pinned.holds ≡ remove pass.old.pinned.holds place) }
         ensures cause { IfErr result (ReleaseCause place pass.old) }
         ensures none { length pass.old.pinned.holds ≤ place → result ≡ Err NotReleased.NothingHeld }
-        // What the call leaves.
+        // The state after the call.
         ensures err { OnErr result (pass.new.pinned.holds ≡ pass.old.pinned.holds) }
         ensures same { KeepsAllBut its_holds pass.old pass.new }
         ensures hand { LeavesNoHand V.Busy pass.old pass.new }
@@ -132,7 +132,7 @@ impl<T: Tap> Cache<T> {
         }
     }
 
-    /// The pin of a tile is given back that stays in hand where a waiter gave up. It takes no memory.
+    /// Gives back the pin that stayed in hand when a waiter gave up. Allocates nothing.
     pub fn release_hand<V: Waiter>(&self, waiter: &V, pass: &mut Pass<T::W>) -> Result<(), V::Busy>
         requires pass { IsPassOf self.now pass.old }
         ensures ok { OnOk result (pass.new.pinned.hand ≡ None) }
@@ -145,7 +145,7 @@ impl<T: Tap> Cache<T> {
 }
 
 impl<'a, V: Waiter, T: Tap> Reading<'a, V, T> {
-    /// The cell becomes the pass's latest hold.
+    /// Pins the tile of a cell as the latest hold of the pass.
     fn hold(&mut self, cell: &CellAt) -> Result<(), CacheError<V::Busy>>
         requires cell { IsCellOf self.old.known.now cell.now }
         requires room { length self.old.pass.now.pinned.holds < 4 }
@@ -162,7 +162,7 @@ impl<'a, V: Waiter, T: Tap> Reading<'a, V, T> {
         Ok(())
     }
 
-    /// The tile in hand becomes the pass's latest hold.
+    /// Makes the tile in hand the latest hold of the pass.
     fn keep_hold(&mut self)
         requires hand { IsSome self.old.pass.now.pinned.hand }
         requires room { length self.old.pass.now.pinned.holds < 4 }

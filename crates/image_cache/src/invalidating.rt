@@ -1,4 +1,4 @@
-//! Files that are made invalid.
+//! Freshness checks on request: what is kept of a replaced file is dropped.
 ghost use Rattle.std.specs.Prelude.{◌≡◌, ◌<◌, ℕ, [], IfOk, IfErr, OnOk, length, slice_index};
 ghost use Rattle.tex_world.specs.World.{IsFile};
 ghost use Rattle.tex_world.specs.Tap.{IsLeast};
@@ -21,7 +21,7 @@ use crate::pass::Pass;
 use tex_world::{LAST_GENERATION, Tap};
 use waiter::Waiter;
 
-/// A file that is made invalid, with force or without.
+/// A file to check, with or without force.
 #[derive(Clone, Copy, Debug)]
 struct Invalid {
     file: u32,
@@ -29,13 +29,13 @@ struct Invalid {
 }
 
 impl<T: Tap> Cache<T> {
-    /// Asks the tap for the newest generation of a file, which is answered and made known. The
-    /// pass's microcache and its record are given up first, whatever is answered.
+    /// Asks the tap for the newest generation of a file, publishes it on the board and returns it.
+    /// The microcache and the record of the pass are dropped first, even if the call then fails.
     ///
-    /// Where the answer is newer than what was known, the file's record, its idle handle and its
-    /// unpinned tiles of older generations are given up too. With `force` they are in any case, and
-    /// so are its unpinned tiles of every generation. A pinned tile stays until its last pin goes,
-    /// and the microcaches of other passes stay. It takes no memory.
+    /// If the answer is newer than what was known, or with `force`, the file's record and idle
+    /// handle are dropped. So are its unpinned tiles: those of older generations or, with `force`,
+    /// all. A pinned tile stays until its last pin goes, and the microcaches of other passes stay.
+    /// Allocates nothing.
     pub fn invalidate<V: Waiter>(
         &self,
         waiter: &V,
@@ -50,10 +50,10 @@ impl<T: Tap> Cache<T> {
         ensures ok { IfOk result (MakesInvalid T.W.files self.now.gate (invalid file force)
             pass.old pass.new (T.state tap.old) (T.state tap.new)) }
         ensures cause { IfErr result (InvalidCause (T.state tap.old) (T.state tap.new)) }
-        // Where the source failed no tile is purged.
+        // If there is an I/O error, no tile is purged.
         ensures failed { IfErr result (AtReadFault (PurgesNone self.now.gate
             pass.old.pinned.seat pass.new.pinned.seat)) }
-        // What the call leaves, whatever it answers.
+        // The state after the call, also after an error.
         ensures emptied { IsEmptied V.Busy pass.old pass.new }
         ensures view { KeepsView file pass.old.view pass.new.view }
         ensures tap { MayAsk (T.state tap.old) (T.state tap.new) }
@@ -65,8 +65,8 @@ impl<T: Tap> Cache<T> {
         self.renew(waiter, pass, tap, Invalid { file, force }, looked)
     }
 
-    /// `invalidate` without force for each file that is known, in the order of their numbers. Where
-    /// the tap fails it ends there.
+    /// Calls `invalidate`, without force, for each known file in the order of their numbers. It
+    /// stops at the first I/O error.
     pub fn invalidate_all<V: Waiter>(
         &self,
         waiter: &V,
@@ -79,11 +79,11 @@ impl<T: Tap> Cache<T> {
             self.now.files.board.files (pass_tap pass.old (T.state tap.old))
             (pass_tap pass.new (T.state tap.new))) }
         ensures cause { IfErr result (InvalidCause (T.state tap.old) (T.state tap.new)) }
-        // Where the source failed the files before that one are done.
+        // After an I/O error the files before the failing one are done.
         ensures failed { IfErr result (AtReadFault (EndsAtFault T.W.files self.now.gate
             self.now.files.board.files (pass_tap pass.old (T.state tap.old))
             (pass_tap pass.new (T.state tap.new)))) }
-        // What the call leaves, whatever it answers.
+        // The state after the call, also after an error.
         ensures emptied { IsEmptied V.Busy pass.old pass.new }
         ensures later { IsLater pass.old.view.seen pass.new.view.seen }
         ensures tap { MayAsk (T.state tap.old) (T.state tap.new) }
@@ -99,7 +99,7 @@ impl<T: Tap> Cache<T> {
         Ok(())
     }
 
-    /// Looks at a file, and asks for its newest generation if it is known.
+    /// Checks one file if it is known.
     fn renew_known<V: Waiter>(
         &self,
         waiter: &V,
@@ -129,8 +129,8 @@ impl<T: Tap> Cache<T> {
         Ok(())
     }
 
-    /// The newest generation of a file, of which this one was just looked at. It is made known, and
-    /// what is kept of the file is given up where it is stale.
+    /// Asks the tap for the newest generation of a file and publishes it on the board. `looked` is
+    /// what the board showed before. What is stale of the file is dropped.
     fn renew<V: Waiter>(
         &self,
         waiter: &V,
@@ -167,7 +167,7 @@ impl<T: Tap> Cache<T> {
         Ok(newest)
     }
 
-    /// The pass's microcache and its record are given up.
+    /// Drops the pass's microcache and record.
     fn empty<V: Waiter>(&self, waiter: &V, pass: &mut Pass<T::W>) -> Result<(), V::Busy>
         requires pass { IsPassOf self.now pass.old }
         ensures recent { OnOk result (pass.new.pinned.recent ≡ []) }
@@ -179,7 +179,7 @@ impl<T: Tap> Cache<T> {
         pass.pinned.release_recent(&self.gate, waiter)
     }
 
-    /// What is kept of a file is given up: its record, its idle handle, and its unpinned tiles of
+    /// Drops what is kept of a file: its record, its idle handle, and its unpinned tiles of
     /// generations below the bound.
     fn give_up<V: Waiter>(
         &self,
@@ -203,8 +203,8 @@ impl<T: Tap> Cache<T> {
     }
 }
 
-/// The bound below which tiles are stale: with force those of every generation are, and else those
-/// that are older than the newest.
+/// The bound below which tiles are stale: the newest generation, or above all generations with
+/// force.
 fn stale_below(force: bool, newest: u32) -> u32
     ensures { result ≡ spec.stale_below force newest }
 {

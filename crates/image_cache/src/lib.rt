@@ -1,5 +1,5 @@
-//! The cache: the texels of files, through tiles that threads share. Each caller has a pass of its
-//! own, and what may wait is generic over how it waits.
+//! The cache of texels: files are cut into tiles that threads share. Each caller has its own pass,
+//! and chooses how to wait for locks.
 #![tactic(auto)]
 
 mod apart;

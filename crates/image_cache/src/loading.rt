@@ -1,4 +1,4 @@
-//! A cell that no shard has: loaded from its file, under a handle that the table lends.
+//! Loads a cell that no shard has from its file, through a handle of the file table.
 ghost use Rattle.std.specs.Prelude.{◌≡◌, ◌<◌, ◌≤◌, IfOk, IfErr, OnOk, OnErr, IsOkAnd, IsTrue};
 ghost use Rattle.std.specs.Prelude.{length, slice_index};
 ghost use Rattle.tex_world.specs.World.{IsReal};
@@ -29,8 +29,8 @@ use tile_store::Tile;
 use waiter::Waiter;
 
 impl<T: Tap> Cache<T> {
-    /// The tile of a cell of a stored level, read under a handle of exactly the record's
-    /// generation, which then lies idle unless it failed, with what was read ahead.
+    /// Loads the tile of a cell of a stored level, through a handle of the record's generation.
+    /// Unless a read fails, the handle is kept idle afterwards, with its read-ahead.
     pub(crate) fn load_cell<V: Waiter>(
         &self,
         waiter: &V,
@@ -56,12 +56,12 @@ impl<T: Tap> Cache<T> {
             ≤ slice_index view.new.steps known.now.file }
         ensures tap { NoneFalls (T.state tap.old) (T.state tap.new) }
     {
-        // the record's layout is that of its bytes
+        // needed by the proof: ties the record's layout to the file's bytes
         let _known = known.generation();
         let mut file = self.lend(waiter, view, tap, known)?;
         match load(self.alloc, tap, &mut file, known, cell.key, self.cut) {
             Ok(tile) => {
-                // where the waiter gives up the handle is closed
+                // if the waiter gives up, the handle is closed instead of kept
                 let _settled = self.files.settle(waiter, file);
                 Ok(tile)
             }
@@ -74,8 +74,9 @@ impl<T: Tap> Cache<T> {
         }
     }
 
-    /// The samples of a texel of a stored level, read under a handle of exactly the record's
-    /// generation, which then lies idle unless it failed. It takes no memory but to open the file.
+    /// Reads the samples of a texel of a stored level, through a handle of the record's generation.
+    /// Unless a read fails, the handle is kept idle afterwards. Memory is allocated only to open
+    /// the file.
     pub(crate) fn read_samples<V: Waiter>(
         &self,
         waiter: &V,
@@ -99,7 +100,7 @@ impl<T: Tap> Cache<T> {
             ≤ slice_index view.new.steps known.now.file }
         ensures tap { NoneFalls (T.state tap.old) (T.state tap.new) }
     {
-        // the record's layout is that of its bytes
+        // needed by the proof: ties the record's layout to the file's bytes
         let _known = known.generation();
         let Ok(layout) = known.layout() else {
             unreachable!()
@@ -111,7 +112,7 @@ impl<T: Tap> Cache<T> {
             .fill(tap, &mut file.handle, layout, part, at.x, samples)
         {
             Ok(_put) => {
-                // where the waiter gives up the handle is closed
+                // if the waiter gives up, the handle is closed instead of kept
                 let _settled = self.files.settle(waiter, file);
                 Ok(())
             }
@@ -120,7 +121,7 @@ impl<T: Tap> Cache<T> {
         }
     }
 
-    /// The samples of a texel of a stored level, where a slot shows them.
+    /// The samples of a texel of a stored level, if a slot has them.
     pub(crate) fn show_samples(
         &self,
         known: &Record<T::W>,
@@ -131,12 +132,12 @@ impl<T: Tap> Cache<T> {
             IsStoredTexel kept at (length samples.old)) }
         ensures told { IsTrue result → AreSamplesAt T.W.files known.now at samples.new }
     {
-        // the record's layout is that of its bytes
+        // needed by the proof: ties the record's layout to the file's bytes
         let _known = known.generation();
         self.slots.show(part_of(known, at), at.x, samples)
     }
 
-    /// A read by a record met a newer generation, which is made known.
+    /// The error after a read met a newer generation, which is published on the board.
     fn outdated<B>(&self, view: &mut View<T::W>, known: &Record<T::W>, to: u32) -> CacheError<B>
         requires view { view.old.board ≡ self.now.files.board }
         requires number { known.now.file < self.now.files.board.files }
@@ -154,7 +155,7 @@ impl<T: Tap> Cache<T> {
         }
     }
 
-    /// The file of a record, open at its generation.
+    /// A handle of the record's file, open at the record's generation.
     fn lend<V: Waiter>(
         &self,
         waiter: &V,
@@ -181,7 +182,7 @@ impl<T: Tap> Cache<T> {
     }
 }
 
-/// The part of a row that has a texel of a record.
+/// The key of the part of a row that has this texel.
 fn part_of<W: World>(known: &Record<W>, at: TexelAt) -> PartKey
     ensures { result ≡ part_at known.now at }
 {

@@ -1,5 +1,5 @@
-//! A cell that the microcache has not: from the shards, else loaded from its file, or made of the
-//! cells of the level before.
+//! A cell that is not in the microcache: found in a shard, loaded from its file, or made from the
+//! next larger level.
 ghost use Rattle.std.specs.Prelude.{◌≡◌, ◌<◌, ◌≤◌, length, None, IsTrue, IsFalse, IsSomeAnd};
 ghost use Rattle.std.specs.Prelude.{IfOk, IfErr, OnOk, IsOkAnd, ⊤};
 ghost use Rattle.micro.specs.Items.{HasKey};
@@ -29,7 +29,7 @@ use tile_store::Tile;
 use waiter::Waiter;
 
 impl<'a, V: Waiter, T: Tap> Reading<'a, V, T> {
-    /// Pins the tile of a cell's key, which is made where no shard has it, and takes it in hand.
+    /// Pins the tile of a cell and takes it in hand. If no shard has it, it is made first.
     #[cycle(making)]
     pub(crate) fn take_in_hand(&mut self, cell: &CellAt) -> Result<(), CacheError<V::Busy>>
         requires cell { IsCellOf self.old.known.now cell.now }
@@ -48,7 +48,7 @@ impl<'a, V: Waiter, T: Tap> Reading<'a, V, T> {
         self.pin_made(tile)
     }
 
-    /// Pins the tile of a key, if its shard has one, and takes it in hand.
+    /// Pins the tile of a key and takes it in hand, if its shard has it.
     fn pin_kept(&mut self, key: TileKey) -> Result<bool, CacheError<V::Busy>>
         ensures found { IfOk result (λ found. IsTrue found → IsSomeAnd self.new.pass.now.pinned.hand
             (IsTileOf T.W.files self.old.cache.now.gate.cut key)) }
@@ -56,7 +56,7 @@ impl<'a, V: Waiter, T: Tap> Reading<'a, V, T> {
             self.new.pass.now.pinned.hand ≡ None) }
         ensures missed { IfOk result (λ found. IsFalse found → Misses self.old.cache.now.gate key
             self.old.pass.now.pinned.seat self.new.pass.now.pinned.seat) }
-        // What the pass holds is there.
+        // If the pass holds a tile of the key, the shard has it.
         ensures held { HasKey key_in key self.old.pass.now.pinned.holds
             → IfOk result (λ found. IsTrue found) }
         ensures wants { IfErr result IsWanting }
@@ -68,7 +68,7 @@ impl<'a, V: Waiter, T: Tap> Reading<'a, V, T> {
         Ok(found)
     }
 
-    /// Keeps a tile that was made in its shard, pinned, and takes it in hand.
+    /// Puts a new tile into its shard, pinned, and takes it in hand.
     fn pin_made(&mut self, tile: Tile<T::W>) -> Result<(), CacheError<V::Busy>>
         requires hand { self.old.pass.now.pinned.hand ≡ None }
         requires cell { HasCellRect T.W.files self.old.cache.now.gate.cut tile }
@@ -81,7 +81,7 @@ impl<'a, V: Waiter, T: Tap> Reading<'a, V, T> {
         Ok(())
     }
 
-    /// Gives the pin of the tile in hand back.
+    /// Gives back the pin of the tile in hand.
     pub(crate) fn give_back(&mut self) -> Result<(), CacheError<V::Busy>>
         ensures hand { OnOk result (self.new.pass.now.pinned.hand ≡ None) }
         ensures made { Makes T.W.files self.old self.new (refusal result) }
@@ -93,8 +93,8 @@ impl<'a, V: Waiter, T: Tap> Reading<'a, V, T> {
         }
     }
 
-    /// The tile of a cell: of a stored level it is loaded from the file, and of a generated one it
-    /// is made of the tiles of the level before.
+    /// Makes the tile of a cell: loads it if its level is stored, or halves tiles of the next
+    /// larger level.
     #[cycle(making)]
     pub(crate) fn make(&mut self, cell: &CellAt) -> Result<Tile<T::W>, CacheError<V::Busy>>
         requires cell { IsCellOf self.old.known.now cell.now }
@@ -131,8 +131,7 @@ impl<'a, V: Waiter, T: Tap> Reading<'a, V, T> {
         )
     }
 
-    /// The tile of a cell of a generated level. Each tile that it is made of is pinned alone, and
-    /// its pin is given back before the next.
+    /// Makes the tile of a cell of a generated level. Only one source tile is pinned at a time.
     #[cycle(making)]
     fn halve(&mut self, cell: &CellAt) -> Result<Tile<T::W>, CacheError<V::Busy>>
         requires cell { IsCellOf self.old.known.now cell.now }
@@ -151,10 +150,10 @@ impl<'a, V: Waiter, T: Tap> Reading<'a, V, T> {
         Ok(self.finished(cell, halving))
     }
 
-    /// The next part of a cell is added, which is the cell `part` of the level before.
+    /// Adds the next source cell, `part`, of the next larger level.
     ///
-    /// Over a world that does not tell, a shard may have another tile of that cell's key. It is not
-    /// read, and one that is made for it alone is added.
+    /// If the world is not modelled, the contracts allow a shard to have a different tile under the
+    /// cell's key. Such a tile is not read; a tile made for this use is added instead.
     #[cycle(making)]
     fn add_part(
         &mut self,
@@ -177,7 +176,7 @@ impl<'a, V: Waiter, T: Tap> Reading<'a, V, T> {
         Ok(())
     }
 
-    /// Adds the tile in hand, where it is that of the part.
+    /// Adds the tile in hand. False if it is not the tile of the part.
     fn add_in_hand(&self, part: &CellAt, halving: &mut Halving<'_, T::W>) -> bool
         requires { IsNextPart halving.old part.now }
         ensures added { IsTrue result → AddsPart halving.old halving.new }
@@ -194,7 +193,7 @@ impl<'a, V: Waiter, T: Tap> Reading<'a, V, T> {
         }
     }
 
-    /// What holds of its pass. It does nothing.
+    /// Does nothing; its contract gives the proof what is true of every pass.
     pub(crate) fn know(&self)
         ensures few { length self.now.pass.now.pinned.recent ≤ 2 }
         ensures needs { self.now.pass.now.needs ≤ max_count }
@@ -203,7 +202,7 @@ impl<'a, V: Waiter, T: Tap> Reading<'a, V, T> {
         self.pass.know();
     }
 
-    /// A cell of a generated level of which no part was added.
+    /// The halving of a cell, without any source cell added yet.
     fn halving(&self, cell: &CellAt) -> Result<Halving<'a, T::W>, NoMemory>
         requires cell { IsCellOf self.now.known.now cell.now }
         requires generated { IsGenerated self.now.known.now cell.now.key }
@@ -215,7 +214,7 @@ impl<'a, V: Waiter, T: Tap> Reading<'a, V, T> {
         Halving::new(cache.alloc, self.known.record(), cell.key, cache.cut)
     }
 
-    /// The tile of a cell whose parts were all added.
+    /// The tile of a cell, after all source cells were added.
     fn finished(&self, cell: &CellAt, halving: Halving<'_, T::W>) -> Tile<T::W>
         requires cell { IsCellOf self.now.known.now cell.now }
         requires halves { Halves self.now.known.now halving }
@@ -226,13 +225,13 @@ impl<'a, V: Waiter, T: Tap> Reading<'a, V, T> {
         ensures rect { HasCellRect T.W.files self.now.cache.now.gate.cut result }
         ensures told { IsTold T.W.files result }
     {
-        // the record's layout is that of its bytes
+        // needed by the proof: ties the record's layout to the file's bytes
         let _known = self.known.record();
         halving.finish()
     }
 }
 
-/// Whether a level of a record is stored. The first one is.
+/// Whether a key's level is stored. Level 0 always is.
 pub(crate) fn is_stored<W: World>(known: &Record<W>, key: TileKey) -> bool
     requires { IsOkAnd known.now.layout (λ kept. ⊤) }
     ensures stored { IsTrue result → IsOkAnd known.now.layout (λ kept.
@@ -245,7 +244,7 @@ pub(crate) fn is_stored<W: World>(known: &Record<W>, key: TileKey) -> bool
     }
 }
 
-/// The cell of a key.
+/// The cell with this key.
 fn cell_of_key<W: World>(known: &Record<W>, key: TileKey) -> CellAt
     requires { IsKeyOf known.now key }
     ensures key { result.key ≡ key }
@@ -259,7 +258,7 @@ fn cell_of_key<W: World>(known: &Record<W>, key: TileKey) -> CellAt
     }
 }
 
-/// The cell of the level before which is the next part of a cell.
+/// The cell of the next larger level that is the k-th source of a cell.
 fn part_at<W: World>(known: &Record<W>, cell: &CellAt, halving: &Halving<'_, W>, k: u32) -> CellAt
     requires cell { IsCellOf known.now cell.now }
     requires generated { IsGenerated known.now cell.now.key }
@@ -274,7 +273,7 @@ fn part_at<W: World>(known: &Record<W>, cell: &CellAt, halving: &Halving<'_, W>,
     cell_of_key(known, halving.part(k))
 }
 
-/// Adds the tile of the next part.
+/// Adds the tile of the next source cell.
 fn add_tile<W: World>(tile: &Tile<W>, part: &CellAt, halving: &mut Halving<'_, W>)
     requires next { IsNextPart halving.old part.now }
     requires keyed { tile.now.key ≡ part.now.key }

@@ -1,4 +1,4 @@
-//! A cell that is needed: from the microcache, else from the shards or the file.
+//! Gets the cell that an answer needs: from the microcache, a shard or the file.
 ghost use Rattle.std.specs.Prelude.{◌≡◌, ◌≤◌, ◌⊎◌, ◌∷◌, [], None, IfOk, OnOk, OnErr, IsTrue};
 ghost use Rattle.std.specs.Prelude.{IsFalse};
 ghost use Rattle.std.specs.Prelude.{IsSomeAnd};
@@ -25,7 +25,7 @@ use tile_store::Tile;
 use waiter::Waiter;
 
 impl<'a, V: Waiter, T: Tap> Reading<'a, V, T> {
-    /// A cell is needed, and a hit is counted where the microcache had it.
+    /// Gets a cell and counts the need, as a hit if the microcache had it.
     pub(crate) fn need_counted(
         &mut self,
         cell: &CellAt,
@@ -40,10 +40,10 @@ impl<'a, V: Waiter, T: Tap> Reading<'a, V, T> {
         self.need_tile(cell)
     }
 
-    /// The tile of a cell that is needed. None where it stands first in the microcache then.
+    /// Gets the tile of a cell. `None` if the tile is then the first of the microcache.
     ///
-    /// Over a world that does not tell, a shard may have another tile of the cell's key. It is not
-    /// read, and one that is made for it alone is answered.
+    /// If the world is not modelled, the contracts allow a shard to have a different tile under the
+    /// cell's key. Such a tile is not read; a tile made for this one need is returned instead.
     pub(crate) fn need_tile(
         &mut self,
         cell: &CellAt,
@@ -70,19 +70,19 @@ impl<'a, V: Waiter, T: Tap> Reading<'a, V, T> {
         Ok(Some(alone))
     }
 
-    /// The tile of a cell, made for one need alone.
+    /// Makes the tile of a cell for one need only.
     fn make_alone(&mut self, cell: &CellAt) -> Result<Tile<T::W>, CacheError<V::Busy>>
         requires cell { IsCellOf self.old.known.now cell.now }
         ensures tile { IfOk result (IsMadeFor T.W.files self.old.cache.now.gate.cut cell.now) }
         ensures hand { OnOk result (self.new.pass.now.pinned.hand ≡ None) }
         ensures made { Makes T.W.files self.old self.new (refusal result) }
     {
-        // a tile whose pin could not be given back before is given back first
+        // a pin that could not be given back earlier goes first
         self.give_back()?;
         self.make(cell)
     }
 
-    /// Puts the tile of a cell's key first in the microcache.
+    /// Moves the tile of a cell's key to the front of the microcache, loading it if necessary.
     fn bring(&mut self, cell: &CellAt) -> Result<(), CacheError<V::Busy>>
         requires cell { IsCellOf self.old.known.now cell.now }
         ensures asked { OnOk result (AsksFor cell.now.key
@@ -105,7 +105,7 @@ impl<'a, V: Waiter, T: Tap> Reading<'a, V, T> {
         Ok(())
     }
 
-    /// Counts a need of a cell, which the microcache has or not.
+    /// Counts a need of a cell; `hit` says whether the microcache had it.
     pub(crate) fn count(&mut self, hit: bool)
         ensures counts { CountsNeed hit self.old.pass.now self.new.pass.now }
         ensures apart { self.new.pass.now.apart ≡ self.old.pass.now.apart }
@@ -118,7 +118,8 @@ impl<'a, V: Waiter, T: Tap> Reading<'a, V, T> {
         ensures tap { self.new.tap.now ≡ self.old.tap.now }
         ensures left { Reads T.W.files self.old self.new None }
     {
-        // the record's layout is that of its bytes, and a tile of the key that of its cell
+        // needed by the proof: ties the record's layout to the file's bytes, and a tile of the key
+        // to its cell
         let _known = self.known.record();
         let pass = &mut *self.pass;
         pass.know();
@@ -133,7 +134,7 @@ impl<'a, V: Waiter, T: Tap> Reading<'a, V, T> {
         pass.pinned.has(cell)
     }
 
-    /// Whether the microcache has a tile of the key. It then stands first.
+    /// Whether the microcache has a tile of the key. If so, moves it to the front.
     fn find(&mut self, key: TileKey) -> bool
         ensures some { IsTrue result → FindsKey key
             self.old.pass.now.pinned.recent self.new.pass.now.pinned.recent }
@@ -162,15 +163,16 @@ impl<'a, V: Waiter, T: Tap> Reading<'a, V, T> {
         pass.pinned.place(&cache.gate, self.waiter, key);
     }
 
-    /// Whether the tile that stands first in the microcache is that of the cell. Where the world tells
-    /// it is where it has the cell's key.
+    /// Whether the first tile of the microcache is the tile of the cell. If the world is modelled,
+    /// comparing the keys is enough.
     fn is_latest(&self, cell: &CellAt) -> bool
         requires cell { IsCellOf self.now.known.now cell.now }
         ensures is { IsTrue result → StandsFirst cell.now self.now.pass.now.pinned.recent }
         ensures told { IsTrue T.W.files.tells →
             HasFirst cell.now.key self.now.pass.now.pinned.recent → IsTrue result }
     {
-        // the record's layout is that of its bytes, and a tile of the key that of its cell
+        // needed by the proof: ties the record's layout to the file's bytes, and a tile of the key
+        // to its cell
         let _known = self.known.record();
         let pass = &*self.pass;
         pass.pinned.know();

@@ -1,4 +1,4 @@
-//! The record of a file: opened, kept by a pass, and found there again.
+//! The record of a file: opened, kept by a pass, and taken out again.
 ghost use Rattle.std.specs.Prelude.{◌≡◌, ◌↔◌, ◌<◌, ◌≤◌, None, Some, IfOk, IfErr, OnOk, OnErr};
 ghost use Rattle.std.specs.Prelude.{IsSome, IsNone, IfSome, IsSomeAnd, length, slice_index};
 ghost use Rattle.tex_world.specs.World.{IsFile};
@@ -18,8 +18,8 @@ use tex_world::Tap;
 use waiter::Waiter;
 
 impl<T: Tap> Cache<T> {
-    /// The record of the newest known generation of a file. It is handed out: the pass has then no
-    /// record of its own until `keep`.
+    /// The record of the newest known generation of a file. It is moved out of the pass, which has
+    /// no record until `keep`.
     pub fn open<V: Waiter>(
         &self,
         waiter: &V,
@@ -35,7 +35,7 @@ impl<T: Tap> Cache<T> {
         ensures as_seen { IfOk result (λ r. IsAsSeen 1 file pass.old.view pass.new.view r.value) }
         ensures cause { IfErr result (OpeningCause T.W.files file
             (sighted pass.old.view (T.state tap.old)) (sighted pass.new.view (T.state tap.new))) }
-        // What the call leaves.
+        // The state after the call.
         ensures taken { OnOk result (pass.new.latest ≡ None) }
         ensures err { OnErr result (pass.new.latest ≡ pass.old.latest) }
         ensures same { KeepsAllBut view_and_record pass.old pass.new }
@@ -47,7 +47,7 @@ impl<T: Tap> Cache<T> {
         Ok(known)
     }
 
-    /// The record is the one that the pass keeps for its next lookup.
+    /// Gives the pass this record for its next lookup.
     pub fn keep(&self, pass: &mut Pass<T::W>, known: Arc<Record<T::W>>)
         requires pass { IsPassOf self.now pass.old }
         requires cut { known.value.cut ≡ self.now.gate.cut }
@@ -59,8 +59,8 @@ impl<T: Tap> Cache<T> {
         pass.latest = Some(known);
     }
 
-    /// The record that the pass keeps, where it is of this file and of its newest known generation,
-    /// shows no fault and fits the cut. It is handed out. The board is looked at once.
+    /// Takes out the pass's record if it is of this file's newest known generation, valid and with
+    /// small enough cells. Reads the board once.
     pub fn local(&self, pass: &mut Pass<T::W>, file: u32) -> Option<Arc<Record<T::W>>>
         requires pass { IsPassOf self.now pass.old }
         requires file { file < self.now.files.board.files }
@@ -70,7 +70,7 @@ impl<T: Tap> Cache<T> {
         ensures few { length pass.new.pinned.recent ≤ 2 }
         ensures serves { IfSome result (λ r. Serves file pass.new.view r.value
             × (r.value.cut ≡ self.now.gate.cut)) }
-        // What the call leaves.
+        // The state after the call.
         ensures taken { IsSome result → pass.new.latest ≡ None }
         ensures none { IsNone result → pass.new.latest ≡ pass.old.latest }
         ensures same { KeepsAllBut view_and_record pass.old pass.new }

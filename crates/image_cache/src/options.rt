@@ -1,4 +1,4 @@
-//! What a cache is made with.
+//! The options of a new cache.
 ghost use Rattle.std.specs.Prelude.{◌≡◌};
 ghost use Rattle.image_cache.specs.Options.{first_bad};
 
@@ -7,31 +7,31 @@ use thiserror::Error;
 use tiff_format::{AUTOTILE_STEP, Cut, MAX_AUTOTILE};
 use tile_slots::MAX_SLOTS;
 
-/// What a cache is made with.
+/// The options of a new cache.
 #[derive(Clone, Copy, Debug, PartialEq, Eq)]
 pub struct Options {
-    /// The bytes that unpinned tiles may take, 0 to 4294967296.
+    /// The most bytes of unpinned tiles, 0 to 4294967296.
     pub budget: u64,
-    /// The shards, 1 to 64.
+    /// The number of shards, 1 to 64.
     pub shards: u32,
-    /// The passes that there may be at once, 1 to 16.
+    /// The greatest number of passes at one time, 1 to 16.
     pub passes: u32,
-    /// The handles that may lie idle, 1 to 1024.
+    /// The greatest number of idle handles, 1 to 1024.
     pub handles: u32,
-    /// How the levels of files are cut.
+    /// The cut: how levels are divided into cells, and whether smaller ones are generated.
     pub cut: Cut,
-    /// The slots for parts of rows that find no memory as tiles, 0 to 65536.
+    /// The number of slots for parts of rows whose tiles find no memory, 0 to 65536.
     pub slots: u32,
 }
 
 /// Why no cache was made.
 #[derive(Clone, Copy, Debug, PartialEq, Eq, Error)]
 pub enum NewError {
-    /// The option of this number is the first that is out of its range: 1 budget, 2 shards,
-    /// 3 passes, 4 handles, 5 autotile, 6 slots.
+    /// The number of the first option that is out of range: 1 budget, 2 shards, 3 passes, 4
+    /// handles, 5 autotile, 6 slots.
     #[error("BadOptions")]
     BadOptions(u32),
-    /// No memory was found.
+    /// Out of memory.
     #[error("NoMemory")]
     NoMemory,
 }
@@ -56,7 +56,7 @@ const MAX_PASSES: u32 = 16;
 const MAX_HANDLES: u32 = 1024;
 
 impl Options {
-    /// The first option that is out of its range.
+    /// The number of the first option that is out of range.
     pub(crate) fn first_bad(&self) -> Option<u32>
         ensures { result ≡ first_bad self.now }
     {

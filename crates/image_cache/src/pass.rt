@@ -1,3 +1,4 @@
+//! A pass: what one caller has of a cache.
 ghost use Rattle.std.specs.Prelude.{◌≡◌, ◌↔◌, ◌<◌, ◌≤◌, length, None, slice_index, slice_get};
 ghost use Rattle.std.specs.Prelude.{IsTrue, IsSome, IfSome};
 ghost use Rattle.std.specs.List.{All};
@@ -17,8 +18,8 @@ use std::sync::Arc;
 use tex_world::World;
 use tile_store::Tile;
 
-/// What one caller has of a cache: what it has seen of the files, its microcache, the tiles that it
-/// holds, the record of its latest lookup, and its counts. It may move to another thread.
+/// What one caller has of a cache: what it has seen of the files, its microcache, its holds, the
+/// record of its last lookup, and its counts. It may move to another thread.
 #[derive(Drop)]
 pub struct Pass<W: World> {
     pub(crate) view: View<W>,
@@ -43,7 +44,7 @@ impl<W: World> Model for Pass<W> {
 }
 
 impl<W: World> Pass<W> {
-    /// A pass that has pinned nothing.
+    /// A new pass without pins.
     pub(crate) fn of(view: View<W>, pinned: Pinned<W>) -> Pass<W>
         requires { ArePinned W.files pinned }
         ensures { result ≡ pass_state view pinned None no_counts }
@@ -58,14 +59,16 @@ impl<W: World> Pass<W> {
         }
     }
 
-    /// How many cells its answers needed. It stays at 18446744073709551615 once it is there.
+    /// How many cells its answers needed. The count stays at 18446744073709551615, its greatest
+    /// value.
     pub fn needs(&self) -> u64
         ensures { result ≡ self.now.needs }
     {
         self.needs
     }
 
-    /// How many of these its microcache had. It stays at 18446744073709551615 once it is there.
+    /// How many needs its microcache served. The count stays at 18446744073709551615, its greatest
+    /// value.
     pub fn hits(&self) -> u64
         ensures value { result ≡ self.now.hits }
         ensures most { self.now.hits ≤ self.now.needs }
@@ -73,15 +76,15 @@ impl<W: World> Pass<W> {
         self.hits
     }
 
-    /// How many were answered apart, since no memory was found for a tile: from a tile that it holds,
-    /// from a slot, or from the file. It stays at 18446744073709551615 once it is there.
+    /// How many needs were uncached because no memory was found for a tile: they were answered from
+    /// a hold, a slot or the file. The count stays at 18446744073709551615, its greatest value.
     pub fn apart(&self) -> u64
         ensures { result ≡ self.now.apart }
     {
         self.apart
     }
 
-    /// The generation that it has seen of a file, or 0.
+    /// The newest generation that the pass has seen of a file, or 0.
     pub fn seen(&self, file: u32) -> u32
         requires { file < self.now.view.board.files }
         ensures { result ≡ slice_index self.now.view.seen file }
@@ -89,35 +92,35 @@ impl<W: World> Pass<W> {
         self.view.seen(file)
     }
 
-    /// The tile that it holds at a place, the oldest at place 0.
+    /// The held tile at a place; the oldest is at place 0.
     pub fn held(&self, place: usize) -> Option<&Tile<W>>
         ensures { option_copied result ≡ slice_get self.now.pinned.holds place }
     {
         self.pinned.held(place)
     }
 
-    /// How many tiles it holds.
+    /// The number of held tiles.
     pub fn held_count(&self) -> usize
         ensures { result ≡ length self.now.pinned.holds }
     {
         self.pinned.held_count()
     }
 
-    /// The tile of its microcache that is that of a cell.
+    /// The tile of a cell, if the microcache has it.
     #[inline(always)]
     pub(crate) fn tile_of(&self, cell: &CellAt) -> Option<&Tile<W>>
         ensures some { IsSome result ↔ IsTrue (has_cell cell.now self.now.pinned.recent) }
         ensures keyed { IfSome result (λ tile. tile.now.key ≡ cell.now.key) }
         ensures of_cell { IfSome result (λ tile. IsTrue (is_tile_of cell.now tile.now)) }
     {
-        // mostly it stands first
+        // usually it is the first
         if self.pinned.is_latest(cell) {
             return Some(self.pinned.latest(cell));
         }
         self.pinned.tile_of(cell)
     }
 
-    /// What holds of it. It does nothing.
+    /// Does nothing; its contract gives the proof what is true of every pass.
     pub(crate) fn know(&self)
         ensures few { length self.now.pinned.recent ≤ 2 }
         ensures cells { All (FitsCut W.files self.now.pinned.cut) self.now.pinned.recent }
@@ -131,7 +134,7 @@ impl<W: World> Pass<W> {
         let _apart = self.apart;
     }
 
-    /// Counts a need, which the microcache had or not.
+    /// Counts a need; `hit` says whether the microcache had the cell.
     pub(crate) fn count_need(&mut self, hit: bool)
         ensures counts { CountsNeed hit self.old self.new }
         ensures apart { self.new.apart ≡ self.old.apart }
@@ -144,7 +147,7 @@ impl<W: World> Pass<W> {
         }
     }
 
-    /// Counts four needs, all of which the microcache had.
+    /// Counts four needs, all of them hits.
     pub(crate) fn count_four(&mut self)
         ensures needs { self.new.needs ≡ counted_together self.old.needs 4 }
         ensures hits { self.new.hits ≡ counted_together self.old.hits 4 }
@@ -155,7 +158,7 @@ impl<W: World> Pass<W> {
         self.hits = self.hits.saturating_add(4);
     }
 
-    /// Counts three.
+    /// Counts three needs, all of them hits.
     pub(crate) fn count_three(&mut self)
         ensures needs { self.new.needs ≡ counted_together self.old.needs 3 }
         ensures hits { self.new.hits ≡ counted_together self.old.hits 3 }
@@ -166,7 +169,7 @@ impl<W: World> Pass<W> {
         self.hits = self.hits.saturating_add(3);
     }
 
-    /// Counts so many needs, all of which the microcache had.
+    /// Counts `needs` needs, all of them hits.
     pub(crate) fn count_hits(&mut self, needs: u64)
         ensures counts { CountsHits needs self.old self.new }
         ensures kept { CountsAlone self.old self.new }
@@ -175,7 +178,7 @@ impl<W: World> Pass<W> {
         self.hits = self.hits.saturating_add(needs);
     }
 
-    /// Counts a need that is answered apart.
+    /// Counts an uncached need.
     pub(crate) fn count_apart(&mut self)
         ensures apart { self.new.apart ≡ counted self.old.apart }
         ensures needs { self.new.needs ≡ self.old.needs }

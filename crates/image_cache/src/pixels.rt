@@ -1,4 +1,4 @@
-//! The values of a region, cell by cell.
+//! Reads the values of a region of a level, cell by cell.
 ghost use Rattle.std.specs.Prelude.{◌≡◌, ℕ, ◌+◌, ◌*◌, ◌<◌, ◌≤◌, ◌++◌, [], ◌∷◌, length, replicate};
 ghost use Rattle.std.specs.Prelude.{Err, IfOk, IfErr, IsOkAnd, IsTrue, OnOk, OnErr, slice_index};
 ghost use Rattle.std.specs.Option.{ForSome};
@@ -36,15 +36,15 @@ use texel_values::{Area, Region, paint};
 use tile_store::Tile;
 use waiter::Waiter;
 
-/// What a region was read of.
+/// What the values of a region were read from.
 #[derive(Clone, Copy, Debug, PartialEq, Eq)]
 pub struct Pixels {
     pub generation: u32,
-    /// The values of each texel.
+    /// The number of values per texel.
     pub channels: u32,
 }
 
-/// The values of a region, row by row, and how many each texel has.
+/// The values of a region, row by row, and the number of values per texel.
 #[derive(Drop)]
 struct RegionValues {
     values: Vec<u16>,
@@ -52,8 +52,8 @@ struct RegionValues {
 }
 
 impl<T: Tap> Cache<T> {
-    /// Appends the 16-bit values of a region of a level: row by row, channels side by side, and 0
-    /// for each texel beside the level.
+    /// Appends the 16-bit values of a region of a level, row by row, all channels of a texel
+    /// together. Texels outside the level are 0.
     ///
     /// Each cell that the region meets is needed once, row by row.
     pub fn get_pixels<V: Waiter>(
@@ -75,7 +75,7 @@ impl<T: Tap> Cache<T> {
             + region.now.h * (region.now.w * pixels.channels)) }
         ensures value { IfOk result (λ pixels. ForSome (T.W.files.held file pixels.generation)
             (λ bytes. Appends (AreRegionValues bytes region.now) out.old.items out.new.items)) }
-        // Each refusal, with what it leaves of the output.
+        // Each error, with its cause and what it leaves of the output.
         ensures cause { IfErr result (HasCause (around T.W.files file self.now.gate.cut
             pass.old pass.new (T.state tap.old) (T.state tap.new))
             (TooManyTexels region.now.w region.now.h) (PixelsRefuses region.now.level)) }
@@ -84,7 +84,7 @@ impl<T: Tap> Cache<T> {
             × (pass.new ≡ pass.old) × (T.state tap.new ≡ T.state tap.old) }
         ensures err { OnErr result (out.new.items ≡ out.old.items) }
         ensures unread { IfErr result (KeepsRecentAt pass.old pass.new) }
-        // What the call leaves. An answer comes behind a look at the board.
+        // The state after the call. Before an answer the board was read.
         ensures looked { OnOk result (slice_index pass.old.view.steps file
             < slice_index pass.new.view.steps file) }
         ensures latest { KeepsOne T.W.files file self.now.gate.cut pass.old pass.new
@@ -110,7 +110,7 @@ impl<T: Tap> Cache<T> {
         })
     }
 
-    /// The values of a region of a record.
+    /// Reads the values of a region from the level of a given record.
     fn read_region<V: Waiter>(
         &self,
         waiter: &V,
@@ -131,12 +131,12 @@ impl<T: Tap> Cache<T> {
         ensures cause { IfErr result (StepCause T.W.files known.now pass.new.view
             (T.state tap.old) (T.state tap.new) (PixelsRefuses region.now.level)) }
         ensures unread { IfErr result (KeepsRecentAt pass.old pass.new) }
-        // What the call leaves.
+        // The state after the call.
         ensures left { ReadsOn T.W.files self.now.gate known.now
             (pass_tap pass.old (T.state tap.old)) (pass_tap pass.new (T.state tap.new)) V.Busy }
     {
         pass.know();
-        // the record's layout is that of its bytes
+        // needed by the proof: ties the record's layout to the file's bytes
         let _known = known.generation();
         let area = area_of(known, region)?;
         let known = FileRecord::of(known);
@@ -184,7 +184,7 @@ impl<'a, V: Waiter, T: Tap> Reading<'a, V, T> {
         Ok(values)
     }
 
-    /// Writes the values of all texels that a region has on its level.
+    /// Writes the values of all texels of the region that lie in the level.
     fn fill(&mut self, area: &Area, values: &mut [u16]) -> Result<(), CacheError<V::Busy>>
         requires area { HasAreaAt area.now self.old.known.now }
         requires values { HasValues area.now.window area.now.height values.old }
@@ -205,8 +205,7 @@ impl<'a, V: Waiter, T: Tap> Reading<'a, V, T> {
         Ok(())
     }
 
-    /// Writes the values of the texels that a region has in one of the cells that it meets, which
-    /// is needed once.
+    /// Writes the values of the region's texels in one cell, which is needed once.
     fn fill_cell(
         &mut self,
         area: &Area,
@@ -250,13 +249,13 @@ impl<'a, V: Waiter, T: Tap> Reading<'a, V, T> {
         ensures bottom { result.rect.y + result.rect.h ≤ area.now.grid.down.size }
         ensures channels { result.channels ≡ area.now.window.channels }
     {
-        // it has no more files than a folder can have
+        // needed by the proof: bounds the number of files
         let cache = self.cache;
         let _files = cache.files.board();
         cell_met(self.known.record(), area, k)
     }
 
-    /// Writes the values of the texels that a region has in a cell, whose tile stands first in the
+    /// Writes the values of the region's texels in one cell, whose tile is the first of the
     /// microcache.
     fn paint_local(&self, cell: &CellAt, area: &Area, values: &mut [u16])
         requires first { StandsFirst cell.now self.now.pass.now.pinned.recent }
@@ -284,7 +283,8 @@ impl<'a, V: Waiter, T: Tap> Reading<'a, V, T> {
     }
 }
 
-/// The area of a region of a record that shows no fault, fits the cut and has its level.
+/// The area of a region on a level. Fails unless the file is valid, its cells are small enough and
+/// it has the level.
 fn area_of<W: World, B>(known: &Record<W>, region: &Region) -> Result<Area, CacheError<B>>
     ensures area { IfOk result (λ area. HasAreaOf region.now area known.now) }
     ensures is { IfOk result (λ area. IsAreaOf (shown_grid area.grid) region.now
@@ -298,7 +298,7 @@ fn area_of<W: World, B>(known: &Record<W>, region: &Region) -> Result<Area, Cach
     Ok(Area::new(grid, region, channels_of(known)))
 }
 
-/// The values of an area of which no texel is written yet.
+/// The values of an area, all 0.
 fn zeros(alloc: Global, area: &Area) -> Result<Vec<u16>, NoMemory>
     requires few { area.now.window.width * area.now.height ≤ max_texels }
     requires channels { IsChannelCount area.now.window.channels }
@@ -310,7 +310,7 @@ fn zeros(alloc: Global, area: &Area) -> Result<Vec<u16>, NoMemory>
     Ok(values)
 }
 
-/// So many values of 0.
+/// A vector of `count` zeros.
 fn filled(alloc: Global, count: usize) -> Result<Vec<u16>, NoMemory>
     ensures { IfOk result (λ values. values.items ≡ replicate count 0) }
 {
@@ -319,7 +319,7 @@ fn filled(alloc: Global, count: usize) -> Result<Vec<u16>, NoMemory>
     Ok(values)
 }
 
-/// Puts values behind others.
+/// Appends values to others.
 fn append(out: &mut Vec<u16>, values: &Vec<u16>) -> Result<(), NoMemory>
     ensures ok { OnOk result (out.new.items ≡ out.old.items ++ values.now.items) }
     ensures err { OnErr result (out.new.items ≡ out.old.items) }
@@ -349,7 +349,7 @@ fn cell_met<W: World>(known: &Record<W>, area: &Area, k: u64) -> CellAt
     }
 }
 
-/// Writes the values of the texels that a region has in a cell, by a tile of the cell.
+/// Writes the values of the region's texels in one cell, from a tile of that cell.
 fn paint_part<W: World>(
     tile: &Tile<W>,
     known: &Record<W>,

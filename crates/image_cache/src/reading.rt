@@ -1,4 +1,4 @@
-//! What a call by a record works with.
+//! The state of a call on one record: cache, waiter, pass, tap and record.
 ghost use Rattle.image_cache.specs.Pass.{IsPassOf};
 ghost use Rattle.image_cache.specs.Texel.{IsUnder};
 
@@ -8,8 +8,8 @@ use crate::pass::Pass;
 use tex_world::Tap;
 use waiter::Waiter;
 
-/// What a call by a record works with, for as long as it takes: the cache, how it waits, its pass,
-/// its tap, and the record of a file of the world that shows no fault and fits the cut.
+/// What a call on one record works with: the cache, the waiter, the pass, the tap, and a valid
+/// record of a file of the world.
 #[derive(Drop)]
 pub struct Reading<'a, V: Waiter, T: Tap> {
     pub cache: &'a Cache<T>,

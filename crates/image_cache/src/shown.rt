@@ -1,4 +1,4 @@
-//! Texels that are read where they lie in the microcache, and counted together later.
+//! Reads texels in place in the microcache, and counts them later all together.
 ghost use Rattle.std.specs.Prelude.{◌≡◌, ◌↔◌, IsTrue, IsSome, IfSome};
 ghost use Rattle.std.specs.Option.{ForSome};
 ghost use Rattle.texel_values.specs.Values.{AreValuesAt};
@@ -21,8 +21,8 @@ use tile_layout::TileKey;
 use tile_store::Tile;
 
 impl<T: Tap> Cache<T> {
-    /// Writes the values of a texel, where the microcache has the cell that holds it, and answers its
-    /// key. Else none. Nothing is counted, and no tile moved.
+    /// Writes the values of a texel if the microcache has its cell, and returns the cell's key.
+    /// Counts nothing and moves no tile.
     pub fn show_local(
         &self,
         pass: &Pass<T::W>,
@@ -47,7 +47,7 @@ impl<T: Tap> Cache<T> {
         Some(cell.key)
     }
 
-    /// Writes the values of a texel by a tile of its cell.
+    /// Writes the values of a texel from a tile of its cell.
     #[inline(always)]
     fn write_shown(
         &self,
@@ -67,8 +67,8 @@ impl<T: Tap> Cache<T> {
         write_values(tile, depth, at, out);
     }
 
-    /// Counts so many needs of cells that the microcache had, and moves the tile of the latest one's
-    /// key to the first place, as it stands once each was asked for.
+    /// Counts `needs` hits, and moves the tile of the last key to the front. The result is the same
+    /// as asking for the cells one by one.
     #[inline(always)]
     pub fn count_shown(&self, pass: &mut Pass<T::W>, needs: u64, latest: Option<TileKey>)
         requires pass { IsPassOf self.now pass.old }
@@ -77,7 +77,7 @@ impl<T: Tap> Cache<T> {
         ensures moved { pass.new.pinned.recent ≡ turned_to latest pass.old.pinned.recent }
         ensures kept { KeepsAllBut recent_and_counts pass.old pass.new }
     {
-        // it has two tiles at most
+        // needed by the proof: the microcache has at most two tiles
         pass.know();
         pass.count_hits(needs);
         if let Some(key) = latest {

@@ -1,4 +1,4 @@
-//! Four texels at once, from one cell that the microcache has.
+//! Reads four texels at once from one cell of the microcache.
 ghost use Rattle.std.specs.Prelude.{◌≡◌, ◌↔◌, IsTrue, IsFalse, IsSome, IfSome};
 ghost use Rattle.std.specs.Option.{ForSome};
 ghost use Rattle.texel_filter.specs.Image.{IsChannelCount};
@@ -23,10 +23,10 @@ use tile_layout::TileKey;
 use tile_store::Tile;
 
 impl<T: Tap> Cache<T> {
-    /// What four calls of `fetch_local` do with the texels of a square, the upper row first, where
-    /// all four lie in one cell that the microcache has. Else false, and all is as before.
+    /// Does what four calls of `fetch_local` do with the texels of a square, if one cell of the
+    /// microcache holds all four. Otherwise returns false and changes nothing.
     ///
-    /// The corners get the values of so many channels.
+    /// The corners get the values of the first `channels` channels. The upper row comes first.
     #[inline(always)]
     pub fn fetch_square_local(
         &self,
@@ -44,13 +44,13 @@ impl<T: Tap> Cache<T> {
         ensures value { IsTrue result →
             ForSome (T.W.files.held known.now.file known.now.generation) (λ bytes.
             AreCorners (channel_value_of bytes) square.now channels out.new) }
-        // What the call leaves of the pass, where it has the cell.
+        // The pass after the call, if the microcache has the cell.
         ensures met { IsTrue result →
             MeetsSquare T.W.files known.now square.now pass.old pass.new }
-        // And where not.
+        // If the microcache does not have the cell, nothing changes.
         ensures same { IsFalse result → (pass.new ≡ pass.old) × (out.new ≡ out.old) }
     {
-        // it has no more files than a folder can have
+        // needed by the proof: bounds the number of files
         let _files = self.files.board();
         let Some(cell) = cell_of_square(known, square) else {
             return false;
@@ -70,8 +70,8 @@ impl<T: Tap> Cache<T> {
         true
     }
 
-    /// The same once the first of the four was read: what three calls of `fetch_local` do with the
-    /// others.
+    /// Does what three calls of `fetch_local` do with the other texels of a square, after the first
+    /// was read. False, and no change, unless one cell of the microcache holds all four.
     pub(crate) fn fetch_rest_local(
         &self,
         pass: &mut Pass<T::W>,
@@ -87,13 +87,13 @@ impl<T: Tap> Cache<T> {
         ensures value { IsTrue result →
             ForSome (T.W.files.held known.now.file known.now.generation) (λ bytes.
             AreCorners (channel_value_of bytes) square.now channels out.new) }
-        // What the call leaves of the pass, where it has the cell.
+        // The pass after the call, if the microcache has the cell.
         ensures met { IsTrue result →
             MeetsRest T.W.files known.now square.now pass.old pass.new }
-        // And where not.
+        // If the microcache does not have the cell, nothing changes.
         ensures same { IsFalse result → (pass.new ≡ pass.old) × (out.new ≡ out.old) }
     {
-        // it has no more files than a folder can have
+        // needed by the proof: bounds the number of files
         let _files = self.files.board();
         let Some(cell) = cell_of_square(known, square) else {
             return false;
@@ -113,8 +113,8 @@ impl<T: Tap> Cache<T> {
         true
     }
 
-    /// Writes the values of the texels of a square by one cell of the microcache that holds all
-    /// four, and answers its key. Else none. Nothing is counted, and no tile moved.
+    /// Writes the values of a square's four texels if one cell of the microcache holds them all,
+    /// and returns the cell's key. Counts nothing and moves no tile.
     #[inline(always)]
     pub fn show_square_local(
         &self,
@@ -134,7 +134,7 @@ impl<T: Tap> Cache<T> {
             AreCorners (channel_value_of bytes) square.now channels out.new) }
         ensures each { IfSome result (AreShown known.now square.now pass.now.pinned.recent) }
     {
-        // it has no more files than a folder can have
+        // needed by the proof: bounds the number of files
         let _files = self.files.board();
         let Some(cell) = cell_of_square(known, square) else {
             return None;
@@ -146,7 +146,7 @@ impl<T: Tap> Cache<T> {
         Some(cell.key)
     }
 
-    /// Writes the values of the texels of a square by a tile of their cell.
+    /// Writes the values of a square's texels from a tile of their cell.
     #[inline(always)]
     fn write_corners(
         &self,

@@ -1,4 +1,4 @@
-//! A texel, and the cell that holds it.
+//! Finds the cell that holds a texel.
 ghost use Rattle.std.specs.Prelude.{◌≡◌, ◌↔◌, ◌<◌, IfOk, IfSome, IsSome, IsTrue};
 ghost use Rattle.tex_world.specs.World.{max_files};
 ghost use Rattle.tiff_format.specs.Facts.{IsChannelCount};
@@ -19,7 +19,7 @@ use texel_values::TexelAt;
 use tiff_format::Rect;
 use tile_layout::Grid;
 
-/// The cell that holds a texel of a record.
+/// The cell of a record that holds a texel.
 #[inline(always)]
 pub(crate) fn cell_at<W: World>(known: &Record<W>, at: TexelAt) -> CellAt
     requires inside { IsTexelIn known.now at }
@@ -51,7 +51,7 @@ fn place_at(grid: &Grid, x: u32, y: u32) -> (u32, Rect)
     (grid.index(column, row), grid.rect(column, row))
 }
 
-/// The cell that holds all four texels of a square of a record, if there is one.
+/// The cell that holds all four texels of a square, if there is one.
 #[inline(always)]
 pub(crate) fn cell_of_square<W: World>(known: &Record<W>, square: &Square) -> Option<CellAt>
     requires inside { IsSquareIn known.now square.now }
@@ -60,7 +60,7 @@ pub(crate) fn cell_of_square<W: World>(known: &Record<W>, square: &Square) -> Op
     ensures holds { IfSome result (λ cell. HoldsSquare cell.rect square.now) }
     ensures one { IsSome result ↔ LieInOneOf known.now square.now }
 {
-    // each of its cells has sides
+    // needed by the proof: no cell is empty
     let _level = known.level(square.level);
     let first = TexelAt {
         level: square.level,
@@ -75,14 +75,14 @@ pub(crate) fn cell_of_square<W: World>(known: &Record<W>, square: &Square) -> Op
     }
 }
 
-/// A texel is in a rectangle.
+/// Whether a rectangle contains a texel.
 fn holds(rect: &Rect, x: u32, y: u32) -> bool
     ensures { IsTrue result ↔ HoldsTexel rect.now x y }
 {
     rect.x <= x && x - rect.x < rect.w && rect.y <= y && y - rect.y < rect.h
 }
 
-/// The samples of a texel of a record that shows no fault.
+/// The number of samples per texel in a valid file.
 pub(crate) fn channels_of<W: World>(known: &Record<W>) -> u32
     ensures value { IfOk known.now.layout (λ kept. result ≡ channels_in kept) }
     ensures in_range { IfOk known.now.layout (λ kept. IsChannelCount result) }
@@ -93,13 +93,13 @@ pub(crate) fn channels_of<W: World>(known: &Record<W>) -> u32
     }
 }
 
-/// The bits of a sample of a record that has the level.
+/// The bits per sample in a file that has the level.
 pub(crate) fn depth_of<W: World>(known: &Record<W>, level: u32) -> u32
     requires { HasCutLevel known.now level }
     ensures value { IfOk known.now.layout (λ kept. result ≡ bit_depth_in kept) }
     ensures told { IsRecord W.files known.now }
 {
-    // it tells that the layout is that of its bytes
+    // needed by the proof: ties the layout to the file's bytes
     let _generation = known.generation();
     known.level(level).depth
 }

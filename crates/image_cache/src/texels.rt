@@ -1,4 +1,4 @@
-//! The texels of a record, as a lookup fetches them.
+//! Fetches the texels of a record for a lookup, through the cache.
 ghost use Rattle.std.specs.Prelude.{◌≡◌, length, OnOk, IfOk, IfErr};
 ghost use Rattle.std.specs.Option.{ForSome};
 ghost use Rattle.texel_filter.specs.Image.{IsInside, IsChannelCount, AreValues, texel_of};
@@ -53,7 +53,7 @@ impl<'a, V: Waiter, T: Tap> Fetch for Reading<'a, V, T> {
         channels: usize,
         out: &mut Corners,
     ) -> Result<(), CacheError<V::Busy>> {
-        // all four from one cell of the microcache, or each from where it is
+        // usually one cell of the microcache holds all four
         if self
             .cache
             .fetch_square_local(self.pass, self.known.record(), square, channels, out)
@@ -72,8 +72,7 @@ impl<'a, V: Waiter, T: Tap> Fetch for Reading<'a, V, T> {
 }
 
 impl<'a, V: Waiter, T: Tap> Reading<'a, V, T> {
-    /// Writes the first channels of a texel: from the microcache, else from the shards, else from
-    /// the file.
+    /// Writes the first channels of a texel: from the microcache, a shard or the file.
     fn fetch_at(
         &mut self,
         level: u32,
@@ -94,7 +93,7 @@ impl<'a, V: Waiter, T: Tap> Reading<'a, V, T> {
         cache.fetch(self.waiter, self.pass, self.tap, known, at, out)
     }
 
-    /// The same of the four texels of a square, one after another, the upper row first.
+    /// Fetches the four texels of a square one after another, the upper row first.
     #[inline(always)]
     fn fetch_four(
         &mut self,
@@ -113,7 +112,8 @@ impl<'a, V: Waiter, T: Tap> Reading<'a, V, T> {
         Ok(())
     }
 
-    /// The same, by value: so the corners of a square that lies in one cell need no memory.
+    /// Fetches the four texels of a square and returns them by value, so that the corners need not
+    /// lie in memory on the common path, where one cell holds the square.
     #[inline(never)]
     fn four_corners(
         &mut self,
@@ -132,8 +132,8 @@ impl<'a, V: Waiter, T: Tap> Reading<'a, V, T> {
         Ok(corners)
     }
 
-    /// The same. Where the first texel brings a cell that holds all four, the others are read from it
-    /// at once.
+    /// Fetches the first texel of a square, and then the others. If the first brings in a cell that
+    /// holds all four, the others are read from it at once.
     fn fetch_in_turn(
         &mut self,
         square: &Square,
@@ -157,7 +157,7 @@ impl<'a, V: Waiter, T: Tap> Reading<'a, V, T> {
         self.fetch_rest(square, channels, out)
     }
 
-    /// The same of the three behind the first, whose values stand there.
+    /// Fetches the other three texels of a square. The first one's values are already in `out`.
     fn fetch_rest(
         &mut self,
         square: &Square,
@@ -181,7 +181,7 @@ impl<'a, V: Waiter, T: Tap> Reading<'a, V, T> {
         self.fetch_three(square, channels, out)
     }
 
-    /// The same of them, one after another.
+    /// Fetches the other three texels of a square one after another.
     fn fetch_three(
         &mut self,
         square: &Square,

@@ -66,7 +66,7 @@ module _ (asked : List ℕ) (key : ℕ) where
       → hit_count (asked ++ key ∷ []) ≡ hit_count asked + 1
   hit_count-push_recent has = hit_count-push ∙ rw (any_from_Contains (recent asked) key has) refl
 
-  -- Another key is none.
+  -- Asking for another key is not a hit.
   pub hit_count-push_other : ¬ Contains (recent asked) key
       → hit_count (asked ++ key ∷ []) ≡ hit_count asked
   hit_count-push_other absent =

@@ -1,4 +1,4 @@
--- Which items, of which keys, are left by a find and by a placing.
+-- Which items, with which keys, are left by a find and by a placing.
 use Rattle.std.proofs.Common.{◌≡◌, ℕ, Bool, true, false, ◌||◌, nat_eq, List, [], ◌∷◌, ◌++◌}
 use Rattle.std.proofs.Common.{take, map, refl, sym, ap, ◌∙◌, arith}
 use Rattle.std.specs.List.{IsDistinct, filter, list_any}
@@ -25,7 +25,7 @@ module _ {P : Type 0} (key_of : P → ℕ) where
   unfolding IsDistinct
   two_apart p q are = are.distinct.0.0
 
-  -- the keys behind it, where one of these keys stands first now
+  -- the keys that follow, if one of these keys is now first
   abbrev pub keys_behind : ℕ → List P → List ℕ
   keys_behind key items = key ∷ take 1 (filter (is_other key) (map key_of items))
 

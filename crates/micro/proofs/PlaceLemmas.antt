@@ -55,7 +55,7 @@ module _ {P : Type 0} (key_of : P → ℕ) where
       or_here (nat_eq key (key_of a)) (nat_eq key (key_of b)) there
 
   module _ (key : ℕ) (first second : Option P) (is : IsMicro key_of first second) where
-    -- found where it stands first
+    -- the item found in the first place
     pub recent_first : (asked : List ℕ) → is_at key first ≡ true
         → AreRecent key_of asked (items_in first second)
         → AreRecent key_of (asked ++ key ∷ []) (items_in first second)
@@ -73,7 +73,7 @@ module _ {P : Type 0} (key_of : P → ℕ) where
       found =
           first_found key_of key (items_in first second) is.items (any_second key first second here)
 
-      -- found behind it
+      -- the item found in the second place
       pub recent_second : (asked : List ℕ) → AreRecent key_of asked (items_in first second)
           → AreRecent key_of (asked ++ key ∷ []) (items_in second first)
       recent_second asked were =

@@ -14,7 +14,7 @@ use Rattle.std.proofs.lemmas.List.Sorted.{IsPermutation-reverse}
 use Rattle.std.proofs.lemmas.Map.Keys.{IsDistinct-IsPermutation}
 use Rattle.micro.specs.Recent.{by_last_place, recent}
 
--- it is another key than this
+-- whether the key is a different one
 abbrev pub is_other : ℕ → ℕ → Bool
 is_other key k = not (nat_eq k key)
 
@@ -84,7 +84,7 @@ IsDistinct-by_last_place asked =
 third_apart : (a b key : ℕ) → nat_eq a b ≡ false → nat_eq a key ≡ true → nat_eq b key ≡ false
 third_apart a b key apart same = grind (arith, nat_tests)
 
--- of distinct keys the first other than this one is among the first two
+-- of distinct keys, the first that differs from this one is among the first two
 first_other : (key : ℕ) (ks : List ℕ) → IsDistinct nat_eq ks
     → take 1 (filter (is_other key) ks) ≡ take 1 (filter (is_other key) (take 2 ks))
 unfolding IsDistinct
@@ -103,7 +103,7 @@ pub recent-none : recent [] ≡ []
 unfolding recent
 recent-none = refl
 
--- The key that is asked for is the latest, and behind it the latest other one stays.
+-- The key asked for is the latest, and the latest different one follows it.
 pub recent-push : (asked : List ℕ) (key : ℕ)
     → recent (asked ++ key ∷ []) ≡ key ∷ take 1 (filter (is_other key) (recent asked))
 unfolding recent

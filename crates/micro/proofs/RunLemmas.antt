@@ -41,7 +41,7 @@ module _ {P : Type 0} (key_of : P → ℕ) where
         hit = ap (list_any (nat_eq key)) (sym were) ∙ none;
       }
 
-  -- what a run answers and leaves behind these keys
+  -- what a sequence of calls answers and leaves after these keys
   pub record IsRun (before asked : List ℕ) (answers : List Bool) (new : List P) : Type 0 where
     pub answers_are : hits (before ++ asked) ≡ hits before ++ answers
     pub latest : AreRecent key_of (before ++ asked) new

@@ -1,5 +1,5 @@
-//! The two latest items of one caller of the cache, each with the key of a cell: a caller that asks
-//! for the same two cells again and again finds them here, with no lock and no look into a shard.
+//! The two items that one caller used last, by key. A caller that alternates between two cells
+//! finds them here, without a lock.
 #![tactic(auto)]
 
 mod keyed;

@@ -1,3 +1,4 @@
+//! A microcache of two items.
 ghost use Rattle.std.specs.Prelude.{◌≡◌, ℕ, ◌<◌, ◌↔◌, List, [], ◌∷◌, ◌++◌, length, slice_get};
 ghost use Rattle.std.specs.Prelude.{false, IsTrue, IsFalse, IsSome, IsNone, IfSome};
 ghost use Rattle.std.specs.List.{find, Contains};
@@ -10,8 +11,8 @@ use std::marker::Model;
 use std::mem::{replace, swap};
 use tile_layout::TileKey;
 
-/// The latest items of a caller, two at most. In a clause it is their list, the latest first.
-/// It takes no memory beside itself, and no call loses an item: one that leaves comes back.
+/// The items that a caller used last, at most two. Clauses see their list, the most recent first.
+/// It allocates nothing, and an item that leaves is returned.
 #[derive(Drop)]
 pub struct Micro<P: Keyed> {
     first: Option<P>,
@@ -30,7 +31,7 @@ impl<P: Keyed> Model for Micro<P> {
 }
 
 impl<P: Keyed> Micro<P> {
-    /// One with no item.
+    /// No items.
     pub fn new() -> Micro<P>
         ensures value { result ≡ [] }
         ensures latest { AreRecent P.own_key [] result }
@@ -41,13 +42,13 @@ impl<P: Keyed> Micro<P> {
         }
     }
 
-    /// Whether an item has the key. It then stands first. Where the first has it nothing is moved.
+    /// Whether an item has the key. If so, moves it to the front.
     pub fn find(&mut self, key: TileKey) -> bool
-        // What is answered, and what is left.
+        // The answer, and the items left.
         ensures value { IsTrue result ↔ HasKey P.own_key key self.old }
         ensures moved { self.new ≡ key_first P.own_key key self.old }
         ensures same { IsFalse result → self.new ≡ self.old }
-        // Where the items are those of the two keys that a caller asked for last.
+        // If the items belonged to the two keys that the caller asked for last, they still do.
         ensures hit { (asked : List ℕ) → AreRecent P.own_key asked self.old →
             (IsTrue result ↔ Contains (recent asked) key) }
         ensures latest { (asked : List ℕ) → AreRecent P.own_key asked self.old →
@@ -63,7 +64,7 @@ impl<P: Keyed> Micro<P> {
         true
     }
 
-    /// Whether an item has the key. Nothing is moved.
+    /// Whether an item has the key. Moves nothing.
     pub fn has(&self, key: TileKey) -> bool
         ensures value { IsTrue result ↔ HasKey P.own_key key self.now }
         ensures valid { AreItems P.own_key self.now }
@@ -71,7 +72,7 @@ impl<P: Keyed> Micro<P> {
         is_of(&self.first, key) || is_of(&self.second, key)
     }
 
-    /// The item that has the key.
+    /// The item with the key.
     pub fn peek(&self, key: TileKey) -> Option<&P>
         ensures value { option_copied result ≡ find (has_key P.own_key key) self.now }
         ensures some { IsSome result ↔ HasKey P.own_key key self.now }
@@ -84,7 +85,7 @@ impl<P: Keyed> Micro<P> {
         }
     }
 
-    /// The latest item.
+    /// The most recent item.
     pub fn first(&self) -> Option<&P>
         ensures value { option_copied result ≡ slice_get self.now 0 }
         ensures none { IsNone result ↔ (self.now ≡ []) }
@@ -92,22 +93,23 @@ impl<P: Keyed> Micro<P> {
         self.first.as_ref()
     }
 
-    /// The item behind the latest.
+    /// The second most recent item.
     pub fn second(&self) -> Option<&P>
         ensures value { option_copied result ≡ slice_get self.now 1 }
     {
         self.second.as_ref()
     }
 
-    /// Puts an item first. Of two that were there the second comes back.
+    /// Puts an item first. If two were there, the second is returned.
     pub fn place(&mut self, p: P) -> Option<P>
         requires { ¬ HasKey P.own_key (P.own_key p) self.old }
-        // What is left, and what comes back.
+        // The items left, and the one returned.
         ensures placed { self.new ≡ placed p self.old }
         ensures value { result ≡ slice_get self.old 1 }
         ensures none { IsNone result ↔ (length self.old < 2) }
         ensures kept { self.new ++ option_to_list result ≡ p ∷ self.old }
-        // Where the items were those of the two keys that a caller asked for last.
+        // If the items belonged to the two keys that the caller asked for last, they do so with
+        // this key too.
         ensures latest { (asked : List ℕ) → AreRecent P.own_key asked self.old →
             AreRecent P.own_key (asked ++ P.own_key p ∷ []) self.new }
     {
@@ -115,7 +117,7 @@ impl<P: Keyed> Micro<P> {
         replace(&mut self.second, second)
     }
 
-    /// The last item leaves.
+    /// Takes out the last item.
     pub fn take_last(&mut self) -> Option<P>
         ensures value { self.new ++ option_to_list result ≡ self.old }
         ensures none { IsNone result ↔ (self.old ≡ []) }
@@ -128,7 +130,7 @@ impl<P: Keyed> Micro<P> {
     }
 }
 
-/// There is an item, and it has the key.
+/// Whether there is an item with the key.
 fn is_of<P: Keyed>(item: &Option<P>, key: TileKey) -> bool
     ensures { result ≡ option_map_or (has_key P.own_key key) item.now false }
 {

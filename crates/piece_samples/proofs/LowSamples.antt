@@ -8,7 +8,7 @@ use Rattle.tiff_format.specs.Texel.{greatest_sample}
 use Rattle.tile_layout.specs.Texel.{FitDepth}
 use borrow.Rule.Slice.PartMut.{put_mid}
 
--- none is above, also behind the last
+-- no sample is greater, also after the last one
 pub each_low : (depth : ℕ) (samples : List ℕ) → FitDepth depth samples → (k : ℕ)
     → get_or samples k 0 ≤ greatest_sample depth
 each_low depth samples fit k = elim (cases_lt k (length samples)) [
@@ -21,7 +21,7 @@ pub all_low : (depth : ℕ) (samples : List ℕ)
 all_low depth samples each =
     All-from_get_or (λ s. s ≤ greatest_sample depth) samples 0 (λ k lt. each k)
 
--- of a list of which w were written, from a on
+-- a list of which w elements were written, from index a on
 pub part_low : (depth a w : ℕ) (old new : List ℕ) → FitDepth depth old → FitDepth depth new
     → FitDepth depth (put_mid a w old new)
 part_low depth a w old new fit written =

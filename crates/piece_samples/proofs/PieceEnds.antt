@@ -8,7 +8,7 @@ use Rattle.tile_layout.specs.declared.piece.Piece.{Piece}
 use Rattle.tile_layout.specs.Pieces.{row_rest_by, LiesSideBySide}
 use Rattle.piece_samples.specs.Beyond.{columns_behind, piece_end}
 
--- behind each column of a row of a block there is one less
+-- each further column of a block's row has one column less after it
 rest_behind : (shape : LevelShape) (tile : Option (ℕ × ℕ)) (x j : ℕ) → j < row_rest_by shape tile x
     → row_rest_by shape tile (x + j) ≡ row_rest_by shape tile x - j
 rest_behind shape None x j below = omega arith

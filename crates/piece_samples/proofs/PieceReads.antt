@@ -49,7 +49,7 @@ module _ (len : ℕ) (held : Option (List ℕ)) (level : Level) (format : TexelF
             (part bytes told) size i c column (rw (← is.channels) channel));
       }
 
-  -- one that does not has none over told bytes, which have all blocks
+  -- modelled bytes contain all blocks, so no piece lies beyond them
   pub piece_unread : len < piece.at + piece.n * format.texel_bytes
       → ForSome held (λ bytes. length bytes ≡ len)
       → IsReadSample len held format.big level right (piece.x + i) piece.y c 0
@@ -64,7 +64,7 @@ module _ (len : ℕ) (held : Option (List ℕ)) (level : Level) (format : TexelF
             absurd (omega (arith, there, lies.block.to, bytes_of, long bytes told, beyond));
       }
 
--- a refusal after answered reads
+-- an error after successful reads
 pub refused_after : {R E : Type 0} (keeps : R → R → Type 0) (refuses : R → E → R → Type 0)
     → ((a b c : R) → keeps a b → keeps b c → keeps a c)
     → (T U : Type 0) (a b c : R) (e : E) → keeps a b

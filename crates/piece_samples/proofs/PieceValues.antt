@@ -1,4 +1,4 @@
--- The samples of texels that stand side by side are those of their bytes.
+-- The samples of texels that follow one another come from their bytes.
 use Rattle.std.proofs.Common.{◌≡◌, ℕ, ◌+◌, ◌*◌, ◌<◌, ◌≤◌, Bool, true, false, eqb, cond, List}
 use Rattle.std.proofs.Common.{length, sym, ap, ◌∙◌, arith, refl}
 use Rattle.std.specs.Prelude.{◌&&◌}
@@ -35,7 +35,7 @@ white_by true n j c lt =
     let some : eqb n 0 ≡ false = ne_eqb n 0 (λ e. omega arith) in
     rw (some, mod-mul-add j n c lt) refl
 
--- `count` texels whose samples stand side by side from `at` on, and the bytes there
+-- `count` texels whose samples follow one another from `at` on, and the bytes there
 module _ (big : Bool) (bytes : List ℕ) (level : Level) (format : TexelFormat)
     (is : IsFormatOf big level.shape format) (count at : ℕ) (x_of y_of : ℕ → ℕ)
     (places : (j c : ℕ) → j < count → sample_place level (x_of j) (y_of j) c

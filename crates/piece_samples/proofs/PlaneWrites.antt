@@ -14,7 +14,7 @@ use borrow.Rule.Slice.PartMut.{mid_of, put_mid}
 pub length_part : (a w : ℕ) (xs : List ℕ) → a + w ≤ length xs → length (mid_of a w xs) ≡ w
 length_part a w xs room = length-take-le w (drop a xs) (omega (arith, length-drop a xs, room))
 
--- ---- elements of a list of which w were written, from a on
+-- ---- elements of a list of which w were written, from index a on
 
 module _ (a w : ℕ) (xs ys : List ℕ) (from : a ≤ length xs) (long : length ys ≡ w) where
   pub before_part : (i : ℕ) → i < a → get_or (put_mid a w xs ys) i 0 ≡ get_or xs i 0
@@ -52,7 +52,7 @@ same_place k n step c d c-low d-low is = (
   sym (mod-mul-add k step c c-low) ∙ ap (λ (p : ℕ). p % step) is ∙ mod-mul-add n step d d-low,
 )
 
--- where there is room for one sample more, its place is there
+-- if there is memory for one more sample, its place exists
 pub place_within : (done step first more steps room : ℕ) → first < step → more ≡ done + 1
     → steps ≡ step → more * steps ≤ room → done * step + first < room
 place_within done step first more steps room own is same fits =
@@ -83,7 +83,7 @@ module _ (step first a count w : ℕ) (xs ys : List ℕ) (own : first < step)
     ]
   ]
 
-  -- and a sample is at its place
+  -- a written sample is at its place
   pub sample_stands : (k : ℕ) → k < count
       → get_or (put_mid a w xs ys) (a + (k * step + first)) 0 ≡ get_or ys (k * step + first) 0
   sample_stands k lt =

@@ -13,7 +13,7 @@ use Rattle.tile_layout.proofs.PlaneBlocks.{plane_held, plane_sample}
 use Rattle.piece_samples.specs.Beyond.{CountAsZero}
 use Rattle.piece_samples.specs.Row.{IsReadSample, row_rect}
 
--- where a sample of channel c stands: in which plane, and at which place there
+-- the plane of a sample of channel c, and its place there
 record StandsAt (planes aside channels p a c : ℕ) : Type 0 where
   plane : p < planes
   place : a < aside
@@ -90,7 +90,7 @@ module _ (level : Level) (count : IsPlaneCount level.shape.channels level.shape.
       let row : y + j ≡ y = omega (arith, zero) in
       rw index ((read_at i c across below).zero (rw row at beyond))
 
-  -- and those that stand in told bytes
+  -- the samples of a row in modelled bytes
   pub row_texels_told : (bytes : List ℕ) → held ≡ Some bytes → HoldsBlocks bytes level
       → length samples ≡ n * level.shape.channels
       → AreTexelsOn (sample_in big bytes level) level.shape.channels (row_rect x y n) samples

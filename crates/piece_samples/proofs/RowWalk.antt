@@ -80,7 +80,7 @@ own_order big shape format is = record {
   invert = is.invert;
 }
 
--- where no piece of a row lies below a length, none that is taken does
+-- if every piece of a row lies beyond a length, so does each piece that is taken
 pub piece_beyond : (level : Level) (len x y n done : ℕ) (piece : Piece)
     → IsPlaneBeyond level len (row_rect x y n) → LiesSideBySide level (x + n) piece → done < n
     → piece.x ≡ x + done → piece.y ≡ y → len < piece.at + piece.n * texel_bytes level.shape

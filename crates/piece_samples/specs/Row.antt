@@ -1,4 +1,4 @@
--- Which samples are read of a row of texels, and what do reads leave of their reader?
+-- Which samples are read of a row of texels, and what do the reads leave of the reader?
 use Rattle.std.specs.Prelude.{◌≡◌, ℕ, ◌<◌, ◌≤◌, Bool, List, Option, Result, Ok, Err}
 use Rattle.std.specs.Option.{ForSome}
 use Rattle.tiff_format.specs.Block.{Level}
@@ -17,24 +17,23 @@ max_row_texels = 64
 abbrev pub row_rect : ℕ → ℕ → ℕ → Rect
 row_rect x y n = record { x = x; y = y; w = n; h = 1 }
 
--- they are texels of a stored level, and not too many
+-- the texels belong to a stored level, and are not too many
 pub record IsRow (layout : Kept) (level x y n : ℕ) : Type 0 where
   pub stored : level < stored_count layout
   pub inside : LiesOnLevel layout level (row_rect x y n)
   pub few : n ≤ max_row_texels
 
--- The value is read as sample c of texel (x, y) of a plane, taken alone as a level, of a file of so many
--- bytes, in a row that ends before `right`. It is 0 where the texel's piece does not lie below that
--- length. Where the bytes are told, and all strips and tiles of the plane lie in them, it is the
--- sample that stands there.
+-- The value was read as sample c of texel (x, y) of a plane, taken alone, in a file of this length
+-- and in a row that ends before `right`. It is 0 if the texel's piece lies beyond the end of the
+-- file. For modelled bytes that contain all strips and tiles of the plane, it is the stored sample.
 pub record IsReadSample (len : ℕ) (held : Option (List ℕ)) (big : Bool) (level : Level)
     (right x y c value : ℕ) : Type 0 where
   pub zero : IsBeyond level right len x y → value ≡ 0
   pub told : ForSome held (λ bytes. HoldsBlocks bytes level
       → value ≡ sample_in big bytes level x y c)
 
--- The reader is left as answered reads leave it, and after its own error as the refused read then
--- left it.
+-- After success the reader is as its reads leave it. After a reader's error it is as the failed
+-- read left it.
 abbrev pub AfterReads : {R E T : Type 0} → (R → R → Type 0) → (R → E → R → Type 0) → R → R
     → Result T E → Type 0
 AfterReads keeps refuses old new (Ok x) = keeps old new

@@ -1,5 +1,4 @@
-//! The samples of pieces, from their bytes: texels of a row that stand side by side in one strip or
-//! tile. And the reader of one row of texels, which takes no memory.
+//! Converts pieces of rows to samples, and reads one row of texels without allocating.
 #![tactic(auto)]
 
 mod piece;

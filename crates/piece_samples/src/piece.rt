@@ -1,4 +1,4 @@
-//! One piece of a row, read to its places.
+//! Reads one piece of a row, and writes its samples to their places.
 
 ghost use Rattle.std.specs.Prelude.{◌≡◌, ◌≢◌, ◌+◌, ◌*◌, ◌≤◌, ◌<◌, ℕ, length, slice_index, take, OnOk};
 ghost use Rattle.std.specs.Option.{ForSome};
@@ -30,8 +30,8 @@ fn read_span<B: ByteReader>(reader: &mut B, span: &Span, room: &mut [u8]) -> Res
     reader.read(span.at, &mut room[..span.size])
 }
 
-/// Reads a piece, and writes its samples to their places behind those that stand there: 0 where it
-/// does not lie in the file, which is then not read. It takes no memory.
+/// Reads a piece, and writes its samples to the next places. They are 0, and nothing is read, if
+/// the piece lies beyond the end of the file. Allocates nothing.
 pub(crate) fn read_piece<B: ByteReader>(
     reader: &mut B,
     format: &TexelFormat,

@@ -1,16 +1,17 @@
+//! The places of a plane's samples among those of all planes.
 ghost use Rattle.std.specs.Prelude.{◌≡◌, ◌+◌, ◌*◌, ◌^◌, ◌<◌, ◌≤◌, IfOk};
 ghost use Rattle.tiff_format.specs.Limits.{max_channels};
 
 use std::alloc::AllocError;
 
-/// Where the samples of a plane stand among those of the others: sample k at place
-/// `k * step + first`.
+/// Where the samples of a plane are written among those of the others: sample k at place `k * step
+/// + first`.
 #[derive(Clone, Copy, Debug)]
 pub struct Places {
-    /// How many planes there are. Where there is one, samples are appended.
+    /// The number of planes. If there is one, samples are appended.
     pub step: usize,
     pub first: usize,
-    /// How many samples of the plane stand there.
+    /// How many samples of the plane have been written.
     pub done: usize,
     ghost some: { 1 ≤ step },
     ghost few: { step ≤ max_channels },
@@ -18,7 +19,7 @@ pub struct Places {
 }
 
 impl Places {
-    /// The same with so many samples more.
+    /// The places after `count` more samples.
     pub fn more(&self, count: usize) -> Result<Places, AllocError>
         ensures step { IfOk result (λ more. more.step ≡ self.now.step) }
         ensures first { IfOk result (λ more. more.first ≡ self.now.first) }

@@ -1,4 +1,4 @@
-//! Texels of a row, read piece by piece.
+//! Reads texels of a row, piece by piece.
 
 ghost use Rattle.std.specs.Prelude.{◌≡◌, ◌≢◌, ◌+◌, ◌*◌, ◌≤◌, ◌<◌, ℕ, length, slice_index, OnOk};
 ghost use Rattle.std.specs.Option.{ForSome};
@@ -20,7 +20,7 @@ use tile_layout::Layout;
 /// The most texels of a row that are read at once.
 pub const MAX_ROW_TEXELS: u32 = 64;
 
-/// Texels of a row of a stored level: n of them, 64 at most, from (x, y) on.
+/// Texels of a row of a stored level: n of them, at most 64, from (x, y) on.
 #[derive(Drop)]
 pub struct Row<'a> {
     pub layout: &'a Layout,
@@ -43,7 +43,7 @@ fn rect_of(row: &Row<'_>) -> Rect
     }
 }
 
-/// Reads the samples of a row that stand in one plane, each to its place among those of the others.
+/// Reads the samples of a row in one plane, each to its place among those of the other planes.
 fn read_plane<B: ByteReader>(
     reader: &mut B,
     row: &Row<'_>,
@@ -93,12 +93,12 @@ fn read_plane<B: ByteReader>(
     Ok(())
 }
 
-/// Reads the samples of a row of texels, in the depth of the file, those of a texel side by side. A
-/// piece of the row of a plane that does not lie below the reader's length is not read, and its
-/// samples count as 0: over told bytes there is none. The samples fit that depth where what stood
-/// in their places did. After a refusal what they are is open.
+/// Reads the samples of a row of texels, with the file's number of bits, all samples of a texel
+/// together. A piece beyond the end of the file is not read, and its samples are 0; modelled files
+/// have no such piece. The samples are in the range of that number of bits if what was there before
+/// is. After an error they are undefined.
 ///
-/// It takes no memory.
+/// Allocates nothing.
 pub fn read_row<B: ByteReader>(
     reader: &mut B,
     row: &Row<'_>,

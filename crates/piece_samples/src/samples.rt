@@ -1,4 +1,4 @@
-//! The samples of a plane, from their bytes to their places.
+//! Converts the bytes of one plane to samples, and writes them to their places.
 
 ghost use Rattle.std.specs.Prelude.{◌≡◌, ◌≢◌, ◌+◌, ◌*◌, ◌≤◌, ◌<◌, ℕ, length, slice_index};
 ghost use Rattle.tiff_format.specs.Block.{sample_bytes};
@@ -12,10 +12,10 @@ use crate::places::Places;
 use tile_layout::TexelFormat;
 use unpack::{unpack_as, unpack_plane_as};
 
-/// The bits of a wide sample.
+/// The bits of a sample that takes two bytes.
 const WIDE_DEPTH: u32 = 16;
 
-/// Samples of the format are wide.
+/// Whether samples of this format take two bytes.
 fn is_wide(format: &TexelFormat) -> bool
     ensures value { result ≡ is_wide format.now.depth }
     ensures depth { format.now.depth ≡ depth_of result }
@@ -23,7 +23,7 @@ fn is_wide(format: &TexelFormat) -> bool
     format.depth == WIDE_DEPTH
 }
 
-/// Writes each sample.
+/// Converts bytes to samples.
 pub fn unpack_samples(format: &TexelFormat, bytes: &[u8], samples: &mut [u16])
     requires { length bytes.now ≡ sample_bytes format.now.depth * length samples.old }
     ensures long { length samples.new ≡ length samples.old }
@@ -35,7 +35,7 @@ pub fn unpack_samples(format: &TexelFormat, bytes: &[u8], samples: &mut [u16])
     unpack_as(is_wide(format), format.big, bytes, format.invert, samples);
 }
 
-/// Writes so many samples of one of several planes to their places, behind those that stand there.
+/// Writes `count` samples of one of several planes to their next places.
 pub fn unpack_among(
     format: &TexelFormat,
     bytes: &[u8],
@@ -72,7 +72,7 @@ pub fn unpack_among(
     );
 }
 
-/// Writes so many samples side by side, from one on.
+/// Writes `count` samples one after another, from index `from` on.
 fn unpack_from(format: &TexelFormat, bytes: &[u8], count: usize, from: usize, samples: &mut [u16])
     requires size { length bytes.now ≡ sample_bytes format.now.depth * count }
     requires room { from + count ≤ length samples.old }
@@ -84,8 +84,8 @@ fn unpack_from(format: &TexelFormat, bytes: &[u8], count: usize, from: usize, sa
     unpack_samples(format, bytes, &mut samples[from..from + count]);
 }
 
-/// Writes so many samples of a plane to their places, behind those that stand there. Those of the
-/// other planes stay.
+/// Writes `count` samples of a plane to their next places. The samples of the other planes are
+/// unchanged.
 pub(crate) fn unpack_to(
     format: &TexelFormat,
     bytes: &[u8],
@@ -114,8 +114,7 @@ pub(crate) fn unpack_to(
     }
 }
 
-/// Writes 0 to so many places of a plane, behind those of the samples that stand there. The samples
-/// of the other planes stay.
+/// Writes 0 to the next `count` places of a plane. The samples of the other planes are unchanged.
 pub(crate) fn clear_to(count: usize, places: &Places, samples: &mut [u16])
     requires room { (places.now.done + count) * places.now.step ≤ length samples.old }
     ensures before { (k : ℕ) → k < places.now.done

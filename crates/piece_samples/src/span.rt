@@ -1,8 +1,9 @@
+//! A range of bytes in a file.
 ghost use Rattle.std.specs.Prelude.{◌≡◌, ◌+◌, ◌*◌, ◌≤◌, ◌↔◌, IsTrue};
 
 use tile_layout::{Piece, TexelFormat};
 
-/// Bytes of the file: so many from a place on.
+/// A range of bytes of a file: `size` bytes at `at`.
 #[derive(Clone, Copy, Debug)]
 pub struct Span {
     pub at: u64,
@@ -21,7 +22,7 @@ impl Span {
         }
     }
 
-    /// The bytes lie below a length of the file.
+    /// Whether the bytes lie below a length of the file.
     pub fn lies_below(&self, len: u64) -> bool
         ensures { IsTrue result ↔ (self.now.at + self.now.size ≤ len) }
     {

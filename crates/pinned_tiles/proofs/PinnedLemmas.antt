@@ -34,7 +34,7 @@ ones : {X : Type 0} (xs : List X) → sum_by (λ x. 1) xs ≡ length xs
 ones [] = refl
 ones {X} (x ∷ xs) = omega (arith, sum_by-cons (λ (y : X). 1) x xs, ones xs)
 
--- 1 where a key is this one
+-- 1 if the test passes, otherwise 0
 abbrev one_if : Bool → ℕ
 one_if true = 1
 one_if false = 0
@@ -53,7 +53,7 @@ times_has key (k ∷ keys) some = here (nat_eq k key) refl (times_has key keys)
         let one = sum_by-cons (λ j. one_if (nat_eq j key)) k keys in
         Contains-append_right (k ∷ []) keys key (rest (omega (arith, some, one, ap one_if is)))
 
--- and a tile of it is counted among tiles
+-- a tile with the key is counted among tiles
 keyed_there : (key : ℕ) (tiles : List CachedTile) → HasKey key_in key tiles
     → 1 ≤ key_sum (λ k. one_if (nat_eq k key)) tiles
 keyed_there key [] (i, lt, is) = absurd (omega (arith, lt))
@@ -78,7 +78,7 @@ one_in_hand : (hand : Option CachedTile) → hand_sum (λ k. 1) hand ≤ 1
 one_in_hand None = omega arith
 one_in_hand (Some t) = omega arith
 
--- what holds of each tile holds of the one that is found
+-- a fact of every tile is a fact of the one found
 found_by : (P : CachedTile → Type 0) (test : CachedTile → Bool) (t : CachedTile)
     (tiles : List CachedTile) (is : Bool) → test t ≡ is → P t → IfSome (find test tiles) P
     → IfSome (find test (t ∷ tiles)) P
@@ -172,13 +172,13 @@ module _ (files : Files) (cut : Cut) where
       own : one_if (nat_eq t.key t.key) ≡ 1
       own = ap one_if (eq-eqb t.key t.key refl)
 
-  -- So are those of the tiles that are held.
+  -- The pins of the held tiles are those of the seat.
   pub held_is : (seat : PinSeatState) (recent holds : List CachedTile) (hand : Option CachedTile)
       (key : ℕ) → Are seat recent holds hand → HasKey key_in key holds → Contains seat.pins key
   held_is seat recent holds hand key are has = times_has key seat.pins
       (omega (arith, are.pins (λ k. one_if (nat_eq k key)), keyed_there key holds has))
 
-  -- It was given back.
+  -- The pin of the tile in hand was given back.
   pub given_back : (old new : PinSeatState) (recent holds : List CachedTile) (t : CachedTile)
       → Are old recent holds (Some t) → OnePinLess t.key old new → Are new recent holds None
   given_back old new recent holds t are less = record {
@@ -215,14 +215,14 @@ module _ (files : Files) (cut : Cut) where
     some = omega (arith, are.some, more.permits);
   }
 
-  -- There is room for one more, where nothing is in hand.
+  -- One more pin is allowed if nothing is in hand.
   pub room_for_pin : (seat : PinSeatState) (recent holds : List CachedTile)
       (hand : Option CachedTile) → Are seat recent holds hand → hand ≡ None
       → length seat.pins < max_pins * seat.permits
   room_for_pin seat recent holds hand are none =
       room_is seat recent holds (subst (λ (h : Option CachedTile). Are seat recent holds h) none are)
 
-  -- A tile of the key, which fits the cut, was pinned where nothing was in hand.
+  -- A tile with the key, which fits the cut, was pinned while nothing was in hand.
   pub tile_pinned : (old new : PinSeatState) (recent holds : List CachedTile)
       (hand : Option CachedTile) (t : CachedTile) (key : ℕ) (gate_cut : Cut)
       → Are old recent holds hand → hand ≡ None → cut ≡ gate_cut → OnePinMore key old new
@@ -272,7 +272,7 @@ module _ (files : Files) (cut : Cut) where
         some = are.some;
       }
 
-  -- A tile of the microcache that was asked for stands first.
+  -- A tile of the microcache that was asked for is first.
   pub asked_for : (seat : PinSeatState) (recent holds : List CachedTile)
       (hand : Option CachedTile) (key : ℕ) → Are seat recent holds hand
       → Are seat (key_first key_in key recent) holds hand
@@ -370,7 +370,7 @@ module _ (files : Files) (cut : Cut) where
     some = permits;
   }
 
-  -- There is no pin where there is no tile.
+  -- There is no pin without a tile.
   pub no_pins : (seat : PinSeatState) (recent holds : List CachedTile) (hand : Option CachedTile)
       → Are seat recent holds hand → recent ≡ [] → holds ≡ [] → hand ≡ None → seat.pins ≡ []
   no_pins seat recent holds hand are no_recent no_holds no_hand = empty seat.pins (omega (

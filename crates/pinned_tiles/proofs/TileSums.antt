@@ -40,8 +40,8 @@ module _ {X : Type 0} (f : X → ℕ) (counts : List X) (shards : ℕ) (long : l
   keys_long : length (map key_in (tiles_in p)) ≡ length (tiles_in p)
   keys_long = length-map {A = CachedTile} {B = ℕ} (tiles_in p) key_in
 
-  -- Where the number of each shard is at least that of its tiles, all are at least as many as the
-  -- tiles,
+  -- if the number of each shard is at least that of its tiles, the sum is at least the number of
+  -- tiles
   pub at_least_tiles : ((k : ℕ) (d : X) → k < shards → tiles_at shards k p ≤ f (get_or counts k d))
       → length (tiles_in p) ≤ sum_by f counts
   at_least_tiles each = omega (
@@ -51,7 +51,7 @@ module _ {X : Type 0} (f : X → ℕ) (counts : List X) (shards : ℕ) (long : l
         (λ k d low. omega (arith, keys_at shards k p, each k d low)),
   )
 
-  -- and where it is exactly that, they are as many.
+  -- if the number of each shard equals that of its tiles, the sum is the number of tiles
   pub exactly_tiles : ((k : ℕ) (d : X) → k < shards → f (get_or counts k d) ≡ tiles_at shards k p)
       → sum_by f counts ≡ length (tiles_in p)
   exactly_tiles each = omega (

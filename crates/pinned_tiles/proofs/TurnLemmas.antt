@@ -1,4 +1,4 @@
--- A tile that was asked for stands first, and stays there where it is asked for again.
+-- A tile that was asked for is first, and stays there if it is asked for again.
 use Rattle.std.proofs.Common.{◌≡◌, ℕ, Bool, true, false, not, ◌&&◌, nat_eq, List, [], ◌∷◌, ◌++◌, map}
 use Rattle.std.proofs.Common.{Some, None}
 use Rattle.std.specs.Prelude.{slice_get}
@@ -75,7 +75,7 @@ module _ (cell : CellAt) where
       turned_two a b (nat_eq a.key cell.key) (nat_eq b.key cell.key) refl refl are has
   turned (a ∷ b ∷ c ∷ rest) are has = let few = are.few in absurd (omega arith)
 
--- ---- the tile that stands first
+-- ---- the first tile
 
 head_at : (key : ℕ) (t : CachedTile) (tiles behind : List CachedTile) (is : Bool)
     → nat_eq t.key key ≡ is
@@ -106,13 +106,13 @@ pub first_placed : (key : ℕ) (old new : List CachedTile) → IsAsked key_in ol
 first_placed key old new asked =
     subst (HasFirst key) (sym asked.1.2) asked.1.1
 
--- so the microcache has the cell
+-- if the cell's tile is first, the microcache has the cell
 pub stands_has : (cell : CellAt) (tiles : List CachedTile) → StandsFirst cell tiles
     → has_cell cell tiles ≡ true
 stands_has cell [] first = absurd first
 stands_has cell (t ∷ tiles) first = rw (eq-eqb t.key cell.key first.0) first.1
 
--- and the tile stays there, where its key is asked for again
+-- the tile stays first if its key is asked for again
 stays_two : (cell : CellAt) (a b : CachedTile) (in_b : Bool) → nat_eq a.key cell.key ≡ true
     → nat_eq b.key cell.key ≡ in_b → AreItems key_in (a ∷ b ∷ [])
     → StaysAskedFor cell.key (a ∷ b ∷ [])
@@ -134,13 +134,13 @@ stands_stays cell (a ∷ b ∷ []) are first =
 stands_stays cell (a ∷ b ∷ c ∷ rest) are first =
     let few = are.few in absurd (omega arith)
 
--- ---- the tile behind it
+-- ---- the second tile
 
 off : (t : Bool) → (t ≡ true → ⊥) → t ≡ false
 off true not_so = absurd (not_so refl)
 off false not_so = refl
 
--- of a tile that stands behind one that is not the cell's
+-- a second tile, if the first is not the cell's
 behind_by : (cell : CellAt) (a b : CachedTile) (in_a in_b : Bool) → nat_eq a.key cell.key ≡ in_a
     → nat_eq b.key cell.key ≡ in_b → AreItems key_in (a ∷ b ∷ [])
     → ¬ StandsFirst cell (a ∷ b ∷ [])

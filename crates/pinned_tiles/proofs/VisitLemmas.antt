@@ -5,7 +5,7 @@ use Rattle.shard_gate.specs.Gate.{GateState, PinSeatState}
 use Rattle.shard_gate.specs.Since.{PurgesNone, Misses}
 use Rattle.shard_gate.proofs.SinceLemmas.{purges_none_chain, misses_after}
 
--- with a step between that makes none
+-- two steps with a step between them that makes no visit
 pub visits_round : (gate : GateState) (a b c d : PinSeatState) → PurgesNone gate a b → c ≡ b
     → PurgesNone gate c d → PurgesNone gate a d
 visits_round gate a b c d first same later = purges_none_chain gate a b d first

@@ -1,4 +1,4 @@
-//! A cell, and the tile that is its own.
+//! A cell of a file, and whether a tile belongs to it.
 ghost use Rattle.std.specs.Prelude.{◌≡◌};
 ghost use Rattle.pinned_tiles.specs.Cell.{is_tile_of};
 
@@ -7,7 +7,7 @@ use tiff_format::Rect;
 use tile_layout::TileKey;
 use tile_store::Tile;
 
-/// A cell of a file: its key, its rectangle of the level, and the samples of a texel.
+/// A cell of a file: its key, its rectangle in the level, and the number of samples per texel.
 #[derive(Clone, Copy, Debug, PartialEq, Eq)]
 pub struct CellAt {
     pub key: TileKey,
@@ -15,8 +15,8 @@ pub struct CellAt {
     pub channels: u32,
 }
 
-/// The tile of a cell's key has the rectangle of the cell, and its number of samples. Over a world
-/// that tells each has.
+/// Whether a tile with the cell's key has the cell's rectangle and number of samples. In a modelled
+/// world it always has.
 pub fn is_tile_of<W: World>(tile: &Tile<W>, cell: &CellAt) -> bool
     ensures { result ≡ is_tile_of cell.now tile.now }
 {

@@ -1,4 +1,4 @@
-//! The tile in hand: one that was pinned just now, or one whose pin is on its way back.
+//! The tile in hand: one that was just pinned, or one whose pin is about to be given back.
 ghost use Rattle.std.specs.Prelude.{◌≡◌, ◌⊎◌, ◌↔◌, ◌++◌, IsTrue, IsFalse, IsSome, IsSomeAnd};
 ghost use Rattle.std.specs.Prelude.{None, Some, OnOk, OnErr, IfOk, IfSome};
 ghost use Rattle.shard_gate.specs.Gate.{HasCellRect, IsTileOf};
@@ -16,7 +16,7 @@ use tile_store::Tile;
 use waiter::Waiter;
 
 impl<W: World> Pinned<W> {
-    /// Gives the pin of the tile in hand back. Where the waiter gives up it stays in hand.
+    /// Gives back the pin of the tile in hand. If the waiter gives up, the tile stays in hand.
     pub fn release_hand<V: Waiter>(&mut self, gate: &Gate<W>, waiter: &V) -> Result<(), V::Busy>
         requires gate { PinsAt gate.now self.old }
         ensures ok { OnOk result (self.new.hand ≡ None) }
@@ -38,7 +38,8 @@ impl<W: World> Pinned<W> {
         }
     }
 
-    /// The same, where nothing more can be done if the waiter gives up.
+    /// Gives back the pin of the tile in hand, if the lock can be had. Otherwise it stays in hand,
+    /// and the call goes on.
     pub(crate) fn try_hand<V: Waiter>(&mut self, gate: &Gate<W>, waiter: &V)
         requires gate { PinsAt gate.now self.old }
         ensures hand { (self.new.hand ≡ None) ⊎ V.Busy }
@@ -49,7 +50,7 @@ impl<W: World> Pinned<W> {
         let _given_back = self.release_hand(gate, waiter);
     }
 
-    /// The tile in hand, where it is that of the cell.
+    /// The tile in hand, if it is the tile of the cell.
     pub fn tile_in_hand(&self, cell: &CellAt) -> Option<&Tile<W>>
         ensures some { IsSome result ↔ IsSomeAnd self.now.hand (λ tile.
             (tile.key ≡ cell.now.key) × IsTrue (is_tile_of cell.now tile)) }
@@ -65,7 +66,7 @@ impl<W: World> Pinned<W> {
         }
     }
 
-    /// Pins the tile of a key, if its shard has one, and takes it in hand.
+    /// Pins the tile of a key and takes it in hand, if its shard has it.
     pub fn pin<V: Waiter>(
         &mut self,
         gate: &Gate<W>,
@@ -77,7 +78,7 @@ impl<W: World> Pinned<W> {
         ensures found { IfOk result (λ found. IsTrue found →
             IsSomeAnd self.new.hand (IsTileOf W.files self.new.cut key)) }
         ensures none { IfOk result (λ found. IsFalse found → self.new.hand ≡ None) }
-        // What it holds is there.
+        // If the pass holds a tile of the key, the shard has it.
         ensures held { HasKey key_in key self.old.holds → IfOk result (λ found. IsTrue found) }
         ensures err { OnErr result (self.new.hand ≡ None) }
         ensures same { KeepsTiles self.old self.new }
@@ -96,8 +97,8 @@ impl<W: World> Pinned<W> {
         }
     }
 
-    /// Keeps a tile in its shard, pinned, and takes it in hand. Where the shard has one of its key,
-    /// that one is pinned.
+    /// Puts a tile into its shard, pinned, and takes it in hand. If the shard already has a tile of
+    /// the key, that one is pinned instead.
     pub fn pin_new<V: Waiter>(
         &mut self,
         gate: &Gate<W>,
@@ -124,8 +125,8 @@ impl<W: World> Pinned<W> {
         }
     }
 
-    /// Pins the tile of a key, if its shard has one, and takes it in hand. A tile whose pin could
-    /// not be given back before is given back first.
+    /// Pins the tile of a key and takes it in hand, if its shard has it. A pin that could not be
+    /// given back earlier is given back first.
     pub fn pin_next<V: Waiter>(
         &mut self,
         gate: &Gate<W>,
@@ -136,7 +137,7 @@ impl<W: World> Pinned<W> {
         ensures found { IfOk result (λ found. IsTrue found →
             IsSomeAnd self.new.hand (IsTileOf W.files self.new.cut key)) }
         ensures none { IfOk result (λ found. IsFalse found → self.new.hand ≡ None) }
-        // What it holds is there.
+        // If the pass holds a tile of the key, the shard has it.
         ensures held { HasKey key_in key self.old.holds → IfOk result (λ found. IsTrue found) }
         ensures err { OnErr result ((self.new.hand ≡ None) ⊎ V.Busy) }
         ensures same { KeepsTiles self.old self.new }

@@ -14,7 +14,7 @@ use tile_store::Tile;
 use waiter::Waiter;
 
 impl<W: World> Pinned<W> {
-    /// The tile that is held at a place.
+    /// The held tile at a place; the oldest is at place 0.
     pub fn held(&self, place: usize) -> Option<&Tile<W>>
         ensures { option_copied result ≡ slice_get self.now.holds place }
     {
@@ -24,14 +24,14 @@ impl<W: World> Pinned<W> {
         }
     }
 
-    /// How many tiles it holds.
+    /// The number of held tiles.
     pub fn held_count(&self) -> usize
         ensures { result ≡ length self.now.holds }
     {
         self.holds.len()
     }
 
-    /// The tile in hand is held, behind the others.
+    /// Makes the tile in hand the latest hold.
     pub fn hold(&mut self)
         requires hand { IsSome self.old.hand }
         requires room { length self.old.holds < max_holds }
@@ -49,8 +49,8 @@ impl<W: World> Pinned<W> {
         }
     }
 
-    /// The hold at a place is released, and the later ones close up. Where the waiter gives up at
-    /// its own pin it is in hand; where it gives up before, all is as it was.
+    /// Releases the hold at a place; later holds move up by one. If the waiter gives up on this
+    /// pin, the tile is in hand; if it gives up earlier, nothing changes.
     pub fn release_hold<V: Waiter>(
         &mut self,
         gate: &Gate<W>,
@@ -85,7 +85,7 @@ impl<W: World> Pinned<W> {
         self.hand = Some(self.holds.remove(place));
     }
 
-    /// All its pins are given back. Where the waiter gives up it still has some.
+    /// Gives back all pins. If the waiter gives up, some remain.
     pub fn release_all<V: Waiter>(&mut self, gate: &Gate<W>, waiter: &V) -> Result<(), V::Busy>
         requires gate { PinsAt gate.now self.old }
         ensures ok { OnOk result (self.new.seat.pins ≡ []) }
@@ -105,7 +105,7 @@ impl<W: World> Pinned<W> {
         Ok(())
     }
 
-    /// There is no pin without a tile. It does nothing.
+    /// Does nothing; its contract gives the proof that there is no pin without a tile.
     fn know_none(&self)
         ensures { self.now.recent ≡ [] → self.now.holds ≡ [] → self.now.hand ≡ None
             → self.now.seat.pins ≡ [] }
@@ -113,7 +113,7 @@ impl<W: World> Pinned<W> {
         let _permits = self.seat.permits();
     }
 
-    /// Takes the latest hold in hand, if there is one.
+    /// Takes the latest hold in hand. False if none exists.
     fn take_hold(&mut self) -> bool
         requires hand { self.old.hand ≡ None }
         requires recent { self.old.recent ≡ [] }

@@ -1,3 +1,4 @@
+//! A tile of a microcache.
 ghost use Rattle.std.specs.Prelude.{◌≡◌};
 ghost use Rattle.pinned_tiles.specs.Pinned.{key_in};
 
@@ -8,7 +9,7 @@ use tex_world::World;
 use tile_layout::TileKey;
 use tile_store::Tile;
 
-/// A tile that a pass read lately, with its pin. In a clause it is the tile.
+/// A tile that a pass read lately, with its pin. Clauses see the tile.
 #[derive(Drop)]
 pub(crate) struct Lately<W: World> {
     pub(crate) pin: Pin<W>,
@@ -38,7 +39,7 @@ impl<W: World> Lately<W> {
         self.pin.tile()
     }
 
-    /// Its pin.
+    /// Takes the pin out.
     pub(crate) fn into_pin(self) -> Pin<W>
         ensures value { result.tile ≡ self }
     {

@@ -1,5 +1,5 @@
-//! What one caller of a cache has pinned: the tiles of its microcache, those that it holds, and one in
-//! hand whose pin is on its way.
+//! What one pass has pinned: its microcache, its holds, and one tile in hand whose pin is on its
+//! way in or out.
 #![tactic(auto)]
 
 mod cell;

@@ -1,4 +1,4 @@
-//! What a pass has pinned: the tiles of its microcache, those that it holds, and one in hand.
+//! What a pass has pinned: its microcache, its holds, and one tile in hand.
 ghost use Rattle.std.specs.Prelude.{◌≡◌, ◌+◌, ◌-◌, ◌<◌, ◌≤◌, [], length, vec_capacity, None};
 ghost use Rattle.std.specs.Prelude.{OnOk, OnErr, IfOk};
 ghost use Rattle.tile_store.specs.Tag.{tag_of};
@@ -15,14 +15,14 @@ use tex_world::{NoMemory, World};
 use tiff_format::{Cut, ShardCount};
 use waiter::Waiter;
 
-/// The tiles that a pass may hold.
+/// The greatest number of tiles that a pass may hold.
 pub const MAX_HOLDS: usize = 4;
 
 /// What a pass has pinned.
 ///
-/// A tile that is pinned is in hand first, and goes from there into the microcache or to the holds.
-/// A tile that leaves is in hand until its pin was given back: where the waiter gives up it stays
-/// there, and the next call that pins gives it back first.
+/// A newly pinned tile is first in hand, and goes from there into the microcache or to the holds. A
+/// tile that leaves is in hand until its pin is given back. If the waiter gives up, it stays in
+/// hand, and the next call that pins gives it back first.
 #[derive(Drop)]
 pub struct Pinned<W: World> {
     pub(crate) seat: PinSeat<W>,
@@ -47,7 +47,7 @@ impl<W: World> Model for Pinned<W> {
         × (max_holds ≤ vec_capacity p.holds) };
 }
 
-/// Room for the tiles that a pass holds.
+/// Memory for the tiles that a pass will hold.
 fn room_for_holds<W: World>(alloc: Global) -> Result<Vec<Pin<W>>, NoMemory>
     ensures empty { IfOk result (λ holds. holds.items ≡ []) }
     ensures room { IfOk result (λ holds. max_holds ≤ vec_capacity holds) }
@@ -56,7 +56,7 @@ fn room_for_holds<W: World>(alloc: Global) -> Result<Vec<Pin<W>>, NoMemory>
 }
 
 impl<W: World> Pinned<W> {
-    /// What a new pass has pinned: nothing. There is room for the tiles that it will hold.
+    /// Nothing pinned yet. Allocates the memory for the holds.
     pub fn new(alloc: Global, seat: PinSeat<W>, cut: Cut) -> Result<Pinned<W>, NoMemory>
         requires pins { seat.pins ≡ [] }
         requires permits { 1 ≤ seat.permits }
@@ -66,7 +66,7 @@ impl<W: World> Pinned<W> {
         Ok(Pinned::of(seat, cut, holds))
     }
 
-    /// The same with that room.
+    /// Nothing pinned yet, with memory for the holds.
     fn of(seat: PinSeat<W>, cut: Cut, holds: Vec<Pin<W>>) -> Pinned<W>
         requires pins { seat.pins ≡ [] }
         requires permits { 1 ≤ seat.permits }
@@ -83,14 +83,14 @@ impl<W: World> Pinned<W> {
         }
     }
 
-    /// Its pins are those of its tiles. It does nothing.
+    /// Does nothing; its contract gives the proof that the pins are those of the tiles.
     pub fn know(&self)
         ensures { ArePinned W.files self.now }
     {
         let _permits = self.seat.permits();
     }
 
-    /// The permits of its seat.
+    /// The permits of the seat.
     pub fn permits(&self) -> u32
         ensures value { result ≡ self.now.seat.permits }
         ensures some { 1 ≤ result }
@@ -98,7 +98,7 @@ impl<W: World> Pinned<W> {
         self.seat.permits()
     }
 
-    /// What a shard has.
+    /// Counts the tiles and the pins of one shard.
     pub fn count<V: Waiter>(
         &mut self,
         gate: &Gate<W>,
@@ -112,12 +112,12 @@ impl<W: World> Pinned<W> {
             self.old.seat.visits self.new.seat.visits) }
         ensures share { IfOk result (λ count. count.share ≡ gate.now.share) }
         ensures within { IfOk result (λ count. count.loose ≤ count.share) }
-        // The pins of its own tiles are counted, and no others where it has all permits.
+        // The pins of its own tiles are among them. If it has all permits, there are no others.
         ensures own { IfOk result (λ count.
             tiles_at (length gate.now.id) shard self.old ≤ count.pins) }
         ensures alone { IfOk result (λ count. self.old.seat.permits ≡ gate.now.passes
             → count.pins ≡ tiles_at (length gate.now.id) shard self.old) }
-        // What the call leaves.
+        // The state after the call.
         ensures pins { self.new.seat.pins ≡ self.old.seat.pins }
         ensures hand { self.new.hand ≡ self.old.hand }
         ensures same { KeepsTiles self.old self.new }
@@ -126,7 +126,7 @@ impl<W: World> Pinned<W> {
         gate.count(waiter, &mut self.seat, shard)
     }
 
-    /// The unpinned tiles of a file leave whose generation is below the bound, in each shard in turn.
+    /// Purges the file's unpinned tiles whose generation is below the bound, shard by shard.
     pub fn purge<V: Waiter>(
         &mut self,
         gate: &Gate<W>,
@@ -144,7 +144,7 @@ impl<W: World> Pinned<W> {
         gate.purge(waiter, &mut self.seat, file, below)
     }
 
-    /// What a second pass has pinned: nothing. It has one permit of the seat.
+    /// Makes what a second pass has pinned: nothing yet. It gets one permit of this seat.
     pub fn split(&mut self, alloc: Global, gate: &Gate<W>) -> Result<Pinned<W>, NoMemory>
         requires gate { PinsAt gate.now self.old }
         requires permits { 1 < self.old.seat.permits }
@@ -160,7 +160,7 @@ impl<W: World> Pinned<W> {
         Ok(Pinned::of(seat, self.cut, holds))
     }
 
-    /// It gets the permits of another pass, which has pinned nothing and ends.
+    /// Takes over the permits of another pass, which has nothing pinned and ends.
     pub fn join(&mut self, gate: &Gate<W>, other: Pinned<W>)
         requires gate { PinsAt gate.now self.old }
         requires other { other.seat.gate ≡ gate.now.id }

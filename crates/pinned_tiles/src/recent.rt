@@ -20,7 +20,7 @@ use tile_store::Tile;
 use waiter::Waiter;
 
 impl<W: World> Pinned<W> {
-    /// Whether the microcache has a tile of the key. It then stands first.
+    /// Whether the microcache has a tile of the key. If so, moves it to the front.
     pub fn find(&mut self, key: TileKey) -> bool
         ensures some { IsTrue result → IsAsked key_in self.old.recent key true self.new.recent }
         ensures none { IsFalse result →
@@ -35,7 +35,7 @@ impl<W: World> Pinned<W> {
         self.recent.find(key)
     }
 
-    /// The tile of the microcache that is that of the cell.
+    /// The tile of a cell, if the microcache has it.
     pub fn tile_of(&self, cell: &CellAt) -> Option<&Tile<W>>
         ensures some { IsSome result ↔ IsTrue (has_cell cell.now self.now.recent) }
         ensures has { IsSome result → HasKey key_in cell.now.key self.now.recent }
@@ -49,8 +49,8 @@ impl<W: World> Pinned<W> {
         }
     }
 
-    /// Whether the microcache has a tile that is that of the cell. It then stands first, and else
-    /// all is as before.
+    /// Whether the microcache has the tile of the cell. If so, moves it to the front; otherwise
+    /// nothing changes.
     #[inline(always)]
     pub fn turn_to(&mut self, cell: &CellAt) -> bool
         ensures has { result ≡ has_cell cell.now self.old.recent }
@@ -60,14 +60,14 @@ impl<W: World> Pinned<W> {
         ensures first { IsTrue result → StandsFirst cell.now self.new.recent }
         ensures again { IsTrue result → StaysAskedFor cell.now.key self.new.recent }
         ensures none { IsFalse result → self.new ≡ self.old }
-        // What the call leaves.
+        // The state after the call.
         ensures kept { (self.new.seat ≡ self.old.seat) × (self.new.hand ≡ self.old.hand) }
         ensures same { KeepsHolds self.old self.new }
         ensures are { ArePinned W.files self.new }
     {
-        // no two of its tiles have one key
+        // needed by the proof: the two tiles have different keys
         let _has = self.recent.has(cell.key);
-        // mostly it stands first already
+        // usually it is the first already
         if self.is_latest(cell) {
             return true;
         }
@@ -78,7 +78,7 @@ impl<W: World> Pinned<W> {
         true
     }
 
-    /// The tile of a cell, which stands first in the microcache.
+    /// The tile of the cell, which must be the first of the microcache.
     #[inline(always)]
     pub fn latest(&self, cell: &CellAt) -> &Tile<W>
         requires { StandsFirst cell.now self.now.recent }
@@ -91,7 +91,7 @@ impl<W: World> Pinned<W> {
         }
     }
 
-    /// Whether the tile that stands first in the microcache is that of the cell.
+    /// Whether the first tile of the microcache is the tile of the cell.
     #[inline(always)]
     pub fn is_latest(&self, cell: &CellAt) -> bool
         ensures { IsTrue result ↔ StandsFirst cell.now self.now.recent }
@@ -102,13 +102,13 @@ impl<W: World> Pinned<W> {
         }
     }
 
-    /// Whether the other tile of the microcache is that of the cell, where the first is not.
+    /// Whether the second tile of the microcache is the tile of the cell. The first must not be.
     fn is_behind(&self, cell: &CellAt) -> bool
         requires { ¬ StandsFirst cell.now self.now.recent }
         ensures value { IsTrue result ↔ IsTrue (has_cell cell.now self.now.recent) }
         ensures has { IsTrue result → HasKey key_in cell.now.key self.now.recent }
     {
-        // no two of its tiles have one key
+        // needed by the proof: the two tiles have different keys
         let _has = self.recent.has(cell.key);
         match self.recent.second() {
             Some(lately) => lately.tile().key() == cell.key && is_tile_of(lately.tile(), cell),
@@ -116,15 +116,15 @@ impl<W: World> Pinned<W> {
         }
     }
 
-    /// Whether the microcache has a tile that is that of the cell.
+    /// Whether the microcache has the tile of the cell.
     pub fn has(&self, cell: &CellAt) -> bool
         ensures { result ≡ has_cell cell.now self.now.recent }
     {
         self.tile_of(cell).is_some()
     }
 
-    /// Puts the tile in hand, which has this key, first in the microcache. Of two that were there
-    /// the second leaves.
+    /// Puts the tile in hand, which has this key, first in the microcache. If two were there, the
+    /// second leaves.
     pub fn place<V: Waiter>(&mut self, gate: &Gate<W>, waiter: &V, key: TileKey)
         requires gate { PinsAt gate.now self.old }
         requires hand { IsSomeAnd self.old.hand (λ t. t.key ≡ key) }
@@ -138,11 +138,12 @@ impl<W: World> Pinned<W> {
         ensures are { ArePinned W.files self.new }
     {
         self.move_in(key);
-        // where the waiter gives up it stays in hand
+        // if the waiter gives up, the tile that leaves stays in hand
         self.try_hand(gate, waiter);
     }
 
-    /// The same; the tile that leaves is then in hand.
+    /// Moves the tile in hand, which has this key, to the front of the microcache. The tile that
+    /// leaves is then in hand.
     fn move_in(&mut self, key: TileKey)
         requires hand { IsSomeAnd self.old.hand (λ t. t.key ≡ key) }
         requires absent { ¬ HasKey key_in key self.old.recent }
@@ -160,7 +161,7 @@ impl<W: World> Pinned<W> {
         }
     }
 
-    /// The pins of the microcache, and that of the tile in hand, are given back.
+    /// Gives back the pins of the microcache and of the tile in hand.
     pub fn release_recent<V: Waiter>(&mut self, gate: &Gate<W>, waiter: &V) -> Result<(), V::Busy>
         requires gate { PinsAt gate.now self.old }
         ensures hand { OnOk result (self.new.hand ≡ None) }
@@ -181,7 +182,7 @@ impl<W: World> Pinned<W> {
         Ok(())
     }
 
-    /// Takes the last tile of the microcache in hand, if there is one.
+    /// Takes the last tile of the microcache in hand. False if none exists.
     fn take_recent(&mut self) -> bool
         requires hand { self.old.hand ≡ None }
         ensures some { IsTrue result → length self.old.recent ≡ length self.new.recent + 1 }

@@ -1,4 +1,4 @@
--- Values that stand behind others.
+-- Values that were appended to others.
 use Rattle.std.proofs.Common.{◌≡◌, ℕ, ◌+◌, ◌-◌, ◌<◌, List, ◌++◌, length, map}
 use Rattle.std.proofs.Common.{slice_index, ap, ◌∙◌, arith, sym, inl, inr, refl, zero-add}
 use Rattle.std.proofs.lemmas.Bool.{cases_lt}
@@ -7,7 +7,7 @@ use Rattle.std.proofs.lemmas.Grind.{same_number_lists}
 use Rattle.std.proofs.lemmas.List.{length-append, get_or_append_left, get_or-append_right}
 use Rattle.std.proofs.lemmas.List.FromFn.{length-map-range_with_len, get_or-map-range_with_len}
 
--- the list is the old one, and behind it the values of so many numbers
+-- the list is the old one, followed by the values of `count` numbers
 pub is_appended : (old new : List ℕ) (value : ℕ → ℕ) (count : ℕ)
     → length new ≡ length old + count
     → ((k : ℕ) → k < length old → slice_index new k ≡ slice_index old k)

@@ -29,7 +29,7 @@ pub byte_is : (format : TexelFormat) (bytes : List ℕ) (k : ℕ) → AreBytes f
     → unpacked format bytes k ≡ get_or bytes k 0
 byte_is format bytes k are = rw (are.depth, are.as_stored) (byte_number format.big bytes k)
 
--- so the samples of bytes are the bytes
+-- the samples of bytes are the bytes
 pub bytes_are : (format : TexelFormat) (bytes : List ℕ) (count : ℕ) → AreBytes format
     → length bytes ≡ sample_bytes format.depth * count
     → bytes ≡ map (unpacked format bytes) (range_with_len 0 count)
@@ -43,7 +43,7 @@ bytes_are format bytes count are size =
     sym (get_or-map-range_with_len value 0 count k k 0 below (zero-add k)
     ∙ byte_is format bytes k are))
 
--- and they fit 8 bits
+-- bytes fit 8 bits
 pub fit_bytes : (depth : ℕ) (bytes : List ℕ) → depth ≡ 8
     → ((k : ℕ) → k < length bytes → get_or bytes k 0 < 2 ^ 8) → FitDepth depth bytes
 fit_bytes depth bytes is each =
@@ -54,7 +54,7 @@ fit_bytes depth bytes is each =
 pub unit_of_bytes : (format : TexelFormat) → AreBytes format → format.texel_bytes ≡ format.channels
 unit_of_bytes format are = format.in_range.bytes ∙ rw are.depth (omega arith)
 
--- bytes that were read behind others are the samples of a run
+-- bytes that were read and appended are the samples of a run
 pub run_bytes : (file : List ℕ) (format : TexelFormat) (run : Run) (old new : List ℕ)
     → AreBytes format → length new ≡ length old + run.texels * format.texel_bytes
     → take (length old) new ≡ old → IsPartAt file run.at (drop (length old) new)
@@ -74,13 +74,13 @@ run_bytes file format run old new are long before part =
           (bytes_are format more (run.texels * format.channels) are count);
     }
 
--- what stands behind others where a call succeeded
+-- what was appended, if the call succeeded
 pub ok_behind : {T E : Type 0} (result : Result T E) (old more new : List ℕ)
     → new ≡ (if is_ok result then old ++ more else old) → OnOk result (new ≡ old ++ more)
 ok_behind (Ok x) old more new is = is
 ok_behind (Err e) old more new is = tt
 
--- what is so where a call succeeded, by three facts that are so there
+-- a fact after success, from three facts that hold there
 pub on_three : {T E P Q R S : Type 0} (result : Result T E) → (P → Q → R → S)
     → OnOk result P → OnOk result Q → OnOk result R → OnOk result S
 on_three (Ok x) by p q r = by p q r

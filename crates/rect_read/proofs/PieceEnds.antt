@@ -20,7 +20,7 @@ use Rattle.piece_samples.proofs.PieceEnds.{end_of_piece}
 use Rattle.rect_read.specs.Zeros.{AreZeros, AddsTexel, AddsTexels, LiesBeyond}
 use Rattle.rect_read.proofs.ZeroTexels.{adds_split}
 
--- where a rectangle stands side by side and ends below a length, each of its pieces does
+-- if a rectangle is one run that ends below a length, each of its pieces does
 pub below_of_whole : (level : Level) (rect : Rect) (at len : ℕ) → StandsWhole level rect at
     → at + rect.w * rect.h * texel_bytes level.shape ≤ len → (i j : ℕ) → i < rect.w → j < rect.h
     → piece_end level (rect.x + rect.w) (rect.x + i) (rect.y + j) ≤ len
@@ -55,7 +55,7 @@ module _ (level : Level) (right len : ℕ) (piece : Piece) (lies : LiesSideBySid
     texel_is j d below =
         get_or-map-range_with_len (λ i. (piece.x + i, piece.y)) 0 piece.n j j d below (zero-add j)
 
-    -- each lies beyond the length where the piece does
+    -- each texel lies beyond the length if its piece does
     far_with_piece : (j : ℕ) (d : ℕ × ℕ) → j < piece.n
         → LiesBeyond level right len (get_or texels j d) → piece_beyond
     far_with_piece j d below far =
@@ -65,7 +65,7 @@ module _ (level : Level) (right len : ℕ) (piece : Piece) (lies : LiesSideBySid
           end_of_piece level right piece lies j below,
         )
 
-    -- so its numbers are those of a piece, all 0 where it lies beyond
+    -- the numbers of the texels are those of a piece, all 0 if it lies beyond
     pub piece_adds : (n : ℕ) (old new : List ℕ) → AddsTexel piece_beyond (piece.n * n) old new
         → AddsTexels (LiesBeyond level right len) n texels old new
     piece_adds n old new some =
@@ -78,7 +78,7 @@ module _ (level : Level) (right len : ℕ) (piece : Piece) (lies : LiesSideBySid
         subst (λ (v : List ℕ). AddsTexels (LiesBeyond level right len) n texels old v)
         (sym some.behind) (adds_split (LiesBeyond level right len) n texels old some.added long zeros)
 
-    -- and where all texels to come lie beyond it so does the piece, and those behind it
+    -- if all texels to come lie beyond, so do the piece and the texels after it
     piece_far : (rest : List (ℕ × ℕ)) → All (LiesBeyond level right len) (texels ++ rest)
         → piece_beyond × All (LiesBeyond level right len) rest
     piece_far rest far =
@@ -96,7 +96,7 @@ module _ (level : Level) (right len : ℕ) (piece : Piece) (lies : LiesSideBySid
               (All-get_or P all (length texels + k) (0, 0) (omega (arith, long, count, below)) far)),
         )
 
--- so it is of a piece that is taken
+-- a piece that is taken lies beyond if all texels to come do
 pub taken_far : (old new : Walk) (piece : Piece) (level : Level) (right len : ℕ)
     → old.level ≡ level → old.right ≡ right → Takes old piece new
     → All (LiesBeyond level right len) old.texels

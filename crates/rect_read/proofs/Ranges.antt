@@ -14,7 +14,7 @@ range_parts a (suc m) n =
     let behind : a + suc m ≡ a + 1 + m = omega arith in
     rw (more, behind) (ap (λ (r : List ℕ). a ∷ r) (range_parts (a + 1) m n))
 
--- the same pieces over two ranges
+-- equal pieces over two ranges join to equal lists
 pub flat_alike : {X : Type 0} (f g : ℕ → List X) (a b n : ℕ) → ((i : ℕ) → i < n → f (a + i) ≡ g (b + i))
     → flat_map f (range_with_len a n) ≡ flat_map g (range_with_len b n)
 flat_alike f g a b zero same = refl
@@ -28,7 +28,7 @@ flat_alike f g a b (suc n) same =
     next : (c i : ℕ) → c + 1 + i ≡ c + (i + 1)
     next c i = omega arith
 
--- the same values over two ranges
+-- equal values over two ranges make equal lists
 pub map_alike : {X : Type 0} (f g : ℕ → X) (a b n : ℕ) → ((i : ℕ) → i < n → f (a + i) ≡ g (b + i))
     → map f (range_with_len a n) ≡ map g (range_with_len b n)
 map_alike f g a b zero same = refl
@@ -42,7 +42,7 @@ map_alike f g a b (suc n) same =
     next : (c i : ℕ) → c + 1 + i ≡ c + (i + 1)
     next c i = omega arith
 
--- rows of n values stand one after the other
+-- rows of n values, one after another
 pub flat_rows : {X : Type 0} (f : ℕ → X) (n a m : ℕ)
     → flat_map (λ i. map (λ c. f (i * n + c)) (range_with_len 0 n)) (range_with_len a m)
     ≡ map f (range_with_len (a * n) (m * n))

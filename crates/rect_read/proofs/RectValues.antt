@@ -88,7 +88,7 @@ module _ (texel : ℕ → ℕ → ℕ → ℕ) (n : ℕ) (rect : Rect) where
             ∙ number_at i j c across some;
       }
 
--- the same numbers by another name
+-- numbers given by an equal function
 pub same_texels : (old new : ℕ → ℕ → ℕ → ℕ) (n : ℕ) (rect : Rect) (numbers : List ℕ)
     → ((x y c : ℕ) → old x y c ≡ new x y c) → AreTexelsOn old n rect numbers
     → AreTexelsOn new n rect numbers

@@ -1,4 +1,4 @@
--- The values of texels that stand side by side, appended part by part.
+-- The values of texels that follow one another, appended part by part.
 use Rattle.std.proofs.Common.{◌≡◌, ℕ, ◌+◌, ◌-◌, ◌*◌, ◌<◌, ◌≤◌, List, [], ◌++◌, length, map}
 use Rattle.std.proofs.Common.{slice_index, ap, ◌∙◌, arith, sym, inl, inr, refl, subst, append_assoc}
 use Rattle.std.specs.List.{range_with_len}
@@ -22,7 +22,7 @@ use Rattle.piece_samples.proofs.PieceValues.{value_is}
 pub bytes_within : (n texels size : ℕ) → n ≤ texels → n * size ≤ texels * size
 bytes_within n texels size few = omega (arith, mul-le-mul_left size few)
 
--- a part of a run, behind its first texels
+-- a part of a run, after its first texels
 pub part_stands : (level : Level) (run part : Run) (x_of y_of : ℕ → ℕ) (done : ℕ)
     → StandSideBySide level run x_of y_of → done + part.texels ≤ run.texels
     → part.at ≡ run.at + done * texel_bytes level.shape
@@ -83,7 +83,7 @@ module _ (bytes : List ℕ) (level : Level) (format : TexelFormat) (part : Run)
             (values_behind (j - done) c (omega arith) c-below)
       ]
 
--- ---- behind the values that were there
+-- ---- appended to the values that were there
 
 pub appends_none : (bytes : List ℕ) (level : Level) (format : TexelFormat) (x_of y_of : ℕ → ℕ)
     (old : List ℕ) → AppendsValues bytes level format 0 x_of y_of old old

@@ -21,7 +21,7 @@ own_order big shape format is = record {
   invert = is.invert;
 }
 
--- numbers that fit a depth, behind others that do
+-- numbers that fit a depth, appended to others that do
 pub fit_appended : (depth : ℕ) (old : List ℕ) (value : ℕ → ℕ) (count : ℕ) → FitDepth depth old
     → ((k : ℕ) → k < count → value k ≤ greatest_sample depth)
     → FitDepth depth (old ++ map value (range_with_len 0 count))

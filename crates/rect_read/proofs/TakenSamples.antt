@@ -16,7 +16,7 @@ use Rattle.rect_read.proofs.Appended.{is_appended}
 
 -- ---- what was taken
 
--- all where there is one plane
+-- with one plane, all samples were taken
 pub taken_alone : (places : Places) (values : List ℕ) → places.step ≡ 1
     → taken_by places values ≡ values
 unfolding taken_by
@@ -39,7 +39,7 @@ module _ (step first : ℕ) where
       get_or-map-range_with_len (λ j. slice_index values (j * step + first)) 0 n k k 0 below
       (zero-add k)
 
-  -- so many more, behind those that stay as they were
+  -- `count` more samples of a plane, after those that are unchanged
   pub among_more : (done count : ℕ) (value : ℕ → ℕ) (old new : List ℕ)
       → ((k : ℕ) → k < done
       → slice_index new (k * step + first) ≡ slice_index old (k * step + first))
@@ -87,7 +87,7 @@ length_taken places values several =
     ap length (taken_among places values several)
     ∙ length_among places.step places.first places.done values
 
--- so many more were taken
+-- `count` more samples were taken
 pub taken_more : (p q : Places) (old new : List ℕ) (count : ℕ) (value : ℕ → ℕ) → p.step ≢ 1
     → q.step ≡ p.step → q.first ≡ p.first → q.done ≡ p.done + count
     → ((k : ℕ) → k < p.done
@@ -121,7 +121,7 @@ zero_of zero k = refl
 zero_of (suc n) zero = refl
 zero_of (suc n) (suc k) = zero_of n k
 
--- zeros behind others are as if they were not there
+-- appended zeros do not change what was there
 pub zeros_behind : (values : List ℕ) (n k : ℕ)
     → get_or (values ++ replicate n 0) k 0 ≡ get_or values k 0
 zeros_behind values n k = elim (cases_lt k (length values)) [
@@ -156,7 +156,7 @@ pub taken_same : (a b : Samples) → b.places ≡ a.places → samples_of b.valu
     → taken_by b.places (samples_of b.values) ≡ taken_by a.places (samples_of a.values)
 taken_same a b places values = rw (places, values) refl
 
--- behind a write of the plane's own
+-- after a write of the plane's own samples
 pub keeps_more : (a b : Samples) (n : ℕ) → are_wide b.values ≡ are_wide a.values
     → b.places.step ≡ a.places.step → b.places.first ≡ a.places.first → b.places.done ≡ a.places.done + n
     → (b.places.done * b.places.step ≤ length (samples_of a.values)
@@ -192,7 +192,7 @@ keeps_after a b c one two = record {
       (rw one.step at more) ∙ one.others k d below other;
 }
 
--- those of texels, which stand side by side, have no others
+-- samples of whole texels have no other planes
 pub keeps_alone : (a b : Samples) → a.places.step ≡ 1 → b.places ≡ a.places
     → are_wide b.values ≡ are_wide a.values → KeepsOthers a b
 keeps_alone a b one places wide = record {
@@ -219,7 +219,7 @@ one_by zero false by narrow = let wide = by (λ e. omega (arith, e)) in cc
 one_by (suc zero) false by narrow = refl
 one_by (suc (suc n)) false by narrow = let wide = by (λ e. omega (arith, e)) in cc
 
--- those that take a byte each are of one plane
+-- samples of one byte each belong to a level with one plane
 pub one_of_bytes : (samples : Samples) (format : TexelFormat) → FitsSamples samples format
     → are_wide samples.values ≡ false → samples.places.step ≡ 1
 one_of_bytes samples format fits = one_by samples.places.step (are_wide samples.values) fits.wide

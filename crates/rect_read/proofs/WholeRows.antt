@@ -1,4 +1,4 @@
--- The texels of whole rows stand side by side, one after the other.
+-- The texels of whole rows follow one another.
 use Rattle.std.proofs.Common.{◌≡◌, ℕ, ◌+◌, ◌*◌, ◌/◌, ◌%◌, ◌<◌, List, ◌++◌, map, ap, ◌∙◌}
 use Rattle.std.proofs.Common.{slice_index, arith, sym, inl, inr, zero, suc, refl, Result, Ok, Err, OnOk}
 use Rattle.std.specs.List.{range_with_len, flat_map}
@@ -25,7 +25,7 @@ column_of rect j = rect.x + j % rect.w
 abbrev pub row_of : Rect → ℕ → ℕ
 row_of rect j = rect.y + j / rect.w
 
--- where there are texels there are columns
+-- a rectangle with texels has columns
 pub some_columns : (w h j : ℕ) → j < w * h → 0 < w
 some_columns zero h j lt = absurd (omega arith)
 some_columns (suc w) h j lt = omega arith
@@ -73,7 +73,7 @@ texels_listed texel n rect numbers are =
     ∙ sym (own.each (k / n % rect.w) (k / n / rect.w) (k % n) across down sample)
     ∙ ap (slice_index all) at)
 
--- the values of texels that stand side by side, row behind row, are those of the rectangle
+-- the values of texels that follow one another, row after row, are those of the rectangle
 pub rect_appended : (bytes : List ℕ) (level : Level) (format : TexelFormat) (rect : Rect)
     (old new : List ℕ)
     → AppendsValues bytes level format (rect.w * rect.h) (column_of rect) (row_of rect) old new
@@ -92,12 +92,12 @@ rect_appended bytes level format rect old new more =
     more.behind ∙ ap (λ (v : List ℕ). old ++ v)
     (texels_listed texel level.shape.channels rect more.added are)
 
--- what is so whether or not a call succeeded
+-- a fact whether or not a call succeeded
 pub any_ok : {T E P : Type 0} (result : Result T E) → P → OnOk result P
 any_ok (Ok x) p = p
 any_ok (Err e) p = tt
 
--- what is so where a call succeeded, by a fact that is so there
+-- a fact after success, from another fact that holds there
 pub on_ok : {T E P Q : Type 0} (result : Result T E) → (P → Q) → OnOk result P → OnOk result Q
 on_ok (Ok x) by p = by p
 on_ok (Err e) by p = tt

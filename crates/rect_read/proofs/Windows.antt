@@ -5,7 +5,7 @@ use Rattle.rect_read.specs.declared.window.Window.{Window}
 use Rattle.rect_read.specs.Window.{IsWindow, AreWindows}
 
 module _ (bytes : List ℕ) where
-  -- one more behind them
+  -- one more window
   pub window_more : (windows : List Window) (window : Window) → AreWindows bytes windows
       → IsWindow bytes window → AreWindows bytes (windows ++ window ∷ [])
   window_more [] window are is = (is, tt)

@@ -28,7 +28,7 @@ zeros_behind : (n : ℕ) (numbers : List ℕ) → AreZeros numbers → AreZeros 
 zeros_behind n numbers zeros k below =
     get_or-drop n numbers k 0 ∙ zeros (n + k) (omega (arith, below, length-drop n numbers))
 
--- numbers of which nothing is said are any where the fact does not hold
+-- if the fact does not hold, any numbers will do
 pub adds_any : {P : Type 0} (n : ℕ) (old new : List ℕ) → (P → ⊥) → AddsTexel ⊥ n old new
     → AddsTexel P n old new
 adds_any n old new never some = record {
@@ -38,7 +38,7 @@ adds_any n old new never some = record {
   zeros = λ far. absurd (never far);
 }
 
--- zeros are so whether or not it does
+-- zeros will do whether or not the fact holds
 pub adds_zeros : {P : Type 0} (n : ℕ) (old new : List ℕ) → new ≡ old ++ replicate n 0
     → AddsTexel P n old new
 adds_zeros n old new more = record {
@@ -54,7 +54,7 @@ adds_long n old new some =
     ap length some.behind ∙ length-append old some.added ∙ ap (λ k. length old + k) some.count
 
 module _ (beyond : ℕ × ℕ → Type 0) (n : ℕ) where
-  -- those of more texels behind those of some
+  -- the numbers of more texels, appended to those of some
   pub adds_then : (texels more : List (ℕ × ℕ)) (old mid new : List ℕ)
       → AddsTexels beyond n texels old mid → AddsTexels beyond n more mid new
       → AddsTexels beyond n (texels ++ more) old new
@@ -107,7 +107,7 @@ module _ (beyond : ℕ × ℕ → Type 0) (n : ℕ) where
       ∙ ap (λ (v : List ℕ). slice_index v k) own.behind
       ∙ get_or_append_left old own.added 0 k below
 
-  -- and number c of texel k is 0 where the fact holds of it
+  -- number c of texel k is 0 if the fact holds of it
   pub zero_at : (texels : List (ℕ × ℕ)) (old new : List ℕ) → AddsTexels beyond n texels old new
       → (k c : ℕ) (d : ℕ × ℕ) → k < length texels → c < n → beyond (get_or texels k d)
       → slice_index new (length old + (k * n + c)) ≡ 0

@@ -4,7 +4,7 @@ use Rattle.std.specs.List.{range_with_len}
 use Rattle.tiff_format.specs.Block.{Level}
 use Rattle.tiff_format.specs.Texel.{sample_in}
 
--- those of a texel, by its column and row, channels side by side
+-- the samples of a texel, given by column and row, all channels together
 abbrev pub samples_at : Bool → List ℕ → Level → ℕ × ℕ → List ℕ
 samples_at big bytes level texel =
     map (λ c. sample_in big bytes level texel.0 texel.1 c)

@@ -1,4 +1,4 @@
-//! The one place that reads texels: a rectangle of a stored level, from the bytes of its file.
+//! Reads the texels of a rectangle of a stored level from the bytes of its file.
 #![tactic(auto)]
 
 mod place;

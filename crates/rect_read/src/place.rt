@@ -1,9 +1,10 @@
+//! A rectangle in one plane of a stored level.
 ghost use Rattle.rect_read.specs.Place.{IsPlace};
 
 use tiff_format::Rect;
 use tile_layout::Layout;
 
-/// A rectangle of a plane of a stored level.
+/// A rectangle in one plane of a stored level.
 #[derive(Drop)]
 pub struct Place<'a> {
     pub layout: &'a Layout,

@@ -1,4 +1,4 @@
-//! The planes of a level, read one after another.
+//! Reads the planes of a level one after another.
 
 ghost use Rattle.std.specs.Prelude.{◌≡◌, ◌≢◌, ◌*◌, [], length, replicate, IfOk};
 ghost use Rattle.std.specs.Option.{ForSome};
@@ -27,8 +27,8 @@ use tiff_dirs::ByteReader;
 use tiff_format::Rect;
 use tile_layout::TexelFormat;
 
-/// The samples of a rectangle of one plane, taken behind none: row by row, those of a texel that stand
-/// side by side.
+/// Reads the samples of a rectangle in one plane, row by row, all samples of a texel together. None
+/// may have been read before.
 pub(crate) fn read_plane<B: ByteReader>(
     alloc: Global,
     reader: &mut B,
@@ -69,8 +69,8 @@ pub(crate) fn read_plane<B: ByteReader>(
     Ok(reading.samples)
 }
 
-/// The samples of a rectangle of a level of one plane, those of a texel side by side, in a room where
-/// there are none yet.
+/// Reads the samples of a rectangle of a level with one plane, all samples of a texel together. The
+/// buffer must be empty.
 pub(crate) fn read_chunky<B: ByteReader>(
     alloc: Global,
     reader: &mut B,
@@ -106,7 +106,7 @@ pub(crate) fn read_chunky<B: ByteReader>(
     Ok(all.values)
 }
 
-/// Samples of 0, so many for each texel of a rectangle.
+/// A sample buffer for a rectangle, all 0.
 fn blank(alloc: Global, rect: Rect, channels: u32) -> Result<Vec<u16>, AllocError>
     ensures { IfOk result (λ samples.
         samples.items ≡ replicate (rect.w * rect.h * channels) 0) }
@@ -117,7 +117,7 @@ fn blank(alloc: Global, rect: Rect, channels: u32) -> Result<Vec<u16>, AllocErro
     Ok(samples)
 }
 
-/// The samples of a rectangle of a level of several planes, each plane read alone.
+/// Reads the samples of a rectangle of a level with several planes, plane by plane.
 pub(crate) fn read_planes<B: ByteReader>(
     alloc: Global,
     reader: &mut B,

@@ -1,4 +1,4 @@
-//! A reading of the pieces of a level: the samples so far, and what was read ahead.
+//! Reads the pieces of a level's rows: collects samples, and reads ahead.
 
 ghost use Rattle.std.specs.Prelude.{◌≡◌, ◌+◌, ◌*◌, ◌≤◌, ◌<◌, ◌++◌, ℕ, [], length, replicate, OnOk};
 ghost use Rattle.std.specs.List.{All};
@@ -30,19 +30,19 @@ use tiff_dirs::ByteReader;
 use tiff_format::Rect;
 use tile_layout::{Piece, Pieces, TexelFormat};
 
-/// The most bytes that the windows of a row read ahead, all together.
+/// The most bytes that all windows of a row read ahead together: 256 KiB.
 pub(crate) const MAX_AHEAD: u64 = 256 * 1024;
 
-/// The samples that were read, and a window for each piece of a row.
+/// The samples read so far, and a window for each piece of a row.
 #[derive(Drop)]
 pub(crate) struct Reading {
     pub(crate) samples: Samples,
     pub(crate) windows: Vec<Window>,
-    /// The rows that are to be read.
+    /// The rows to read.
     rows: Rows,
 }
 
-/// The window of a piece of row y: the first where the row is a new one, else the next.
+/// The index of the window for a piece of row y: 0 at the start of a row, otherwise the next one.
 fn window_of(row: &mut u32, y: u32, next: usize) -> usize
     ensures { result ≤ next }
 {
@@ -55,7 +55,7 @@ fn window_of(row: &mut u32, y: u32, next: usize) -> usize
 }
 
 impl Reading {
-    /// A reading behind the samples that were taken.
+    /// A reading that continues after the samples already taken.
     pub(crate) fn new(alloc: Global, samples: Samples, rows: Rows) -> Reading
         ensures samples { result.samples ≡ samples }
         ensures windows { result.windows.items ≡ [] }
@@ -67,7 +67,7 @@ impl Reading {
         }
     }
 
-    /// Finds memory for the samples of a rectangle, so many of a texel.
+    /// Reserves memory for the samples of a rectangle.
     pub(crate) fn reserve(&mut self, rect: Rect, channels: usize) -> Result<(), AllocError>
         ensures taken { taken self.new.samples ≡ taken self.old.samples }
         ensures values { samples_of self.new.samples.values ≡ samples_of self.old.samples.values }
@@ -81,7 +81,7 @@ impl Reading {
         Ok(())
     }
 
-    /// Appends the numbers of the texels of a piece that lies in the file, read through window k.
+    /// Appends the samples of a piece that lies in the file, read through window k.
     fn read_span<B: ByteReader>(
         &mut self,
         reader: &mut B,
@@ -121,8 +121,8 @@ impl Reading {
         Ok(())
     }
 
-    /// Appends the numbers of the texels of a piece, read through window k: 0 where it does not lie
-    /// in the file.
+    /// Appends the samples of a piece, read through window k. They are 0 if the piece lies beyond
+    /// the end of the file.
     fn read_piece<B: ByteReader>(
         &mut self,
         reader: &mut B,
@@ -163,8 +163,8 @@ impl Reading {
         Ok(())
     }
 
-    /// Appends the numbers of the texels of the pieces of rows. Of each row the k-th is read
-    /// through window k.
+    /// Appends the samples of the pieces of rows. The k-th piece of each row is read through window
+    /// k.
     pub(crate) fn read_pieces<B: ByteReader>(
         &mut self,
         reader: &mut B,
@@ -205,8 +205,8 @@ impl Reading {
         Ok(())
     }
 
-    /// Appends the numbers of the texels of a place, row by row: at once where they stand side by
-    /// side in the file.
+    /// Appends the samples of a place, row by row. If its rows follow one another in the file, they
+    /// are read together.
     pub(crate) fn read_place<B: ByteReader>(
         &mut self,
         reader: &mut B,

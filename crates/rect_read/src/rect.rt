@@ -1,4 +1,4 @@
-//! The samples of a rectangle of a level.
+//! Reads the samples of a rectangle of a level.
 
 ghost use Rattle.std.specs.Prelude.{◌≡◌, ◌*◌, ◌<◌, length, IfOk, IsTrue};
 ghost use Rattle.std.specs.Option.{ForSome};
@@ -22,11 +22,11 @@ use tiff_dirs::ByteReader;
 use tiff_format::Rect;
 use tile_layout::{Layout, TexelFormat};
 
-/// The samples of a rectangle of a stored level, in the depth of the file: row by row, those of a
-/// texel side by side. A piece of a row of a plane that does not lie below the reader's length is
-/// not read, and its samples count as 0: over told bytes there is none.
+/// Reads the samples of a rectangle of a stored level, with the file's number of bits: row by row,
+/// all samples of a texel together. A piece of a row beyond the end of the file is not read, and
+/// its samples are 0; modelled files have no such piece.
 ///
-/// Besides them it takes the bytes of a row and at most 256 KiB that are read ahead.
+/// Besides the samples, memory is needed for a row and for at most 256 KiB that are read ahead.
 pub fn read_rect<B: ByteReader>(
     alloc: Global,
     reader: &mut B,
@@ -68,21 +68,21 @@ pub fn read_rect<B: ByteReader>(
     }
 }
 
-/// The bits of a sample that takes a byte.
+/// The bits of a sample that fits a byte.
 const BYTE_DEPTH: u32 = 8;
 
-/// Samples of the format are the bytes that are stored.
+/// Whether the samples of this format are exactly the stored bytes.
 fn are_bytes(format: &TexelFormat) -> bool
     ensures { IsTrue result → AreBytes format.now }
 {
     format.depth == BYTE_DEPTH && format.invert == 0
 }
 
-/// The samples of a rectangle of a stored level, as `read_rect` reads them, and in the room that they
-/// take: a byte each in a file of 8 bits, else two (TIFF 6.0, section 8, BitsPerSample).
+/// Reads the samples of a rectangle of a stored level, like `read_rect`, in the size that they
+/// need: one byte each for an 8-bit file, otherwise two (TIFF 6.0, section 8, BitsPerSample).
 ///
-/// Those of 8 bits of a level of one plane are read straight into their room, except those of a
-/// WhiteIsZero level: these, and those of several planes, take two bytes each until all are read.
+/// 8-bit samples of one plane are read straight into the result. Those of WhiteIsZero levels, and
+/// of several planes, take two bytes each until all are read.
 pub fn read_texels<B: ByteReader>(
     alloc: Global,
     reader: &mut B,

@@ -1,14 +1,15 @@
+//! Why a rectangle could not be read.
 ghost use Rattle.std.specs.Prelude.{◌≡◌};
 ghost use Rattle.rect_read.specs.declared.rect_error.RectError.TheVariants.{NoMemory};
 
 use std::alloc::AllocError;
 
-/// Why a rectangle was not read.
+/// Why a rectangle could not be read.
 #[derive(Debug, Drop)]
 pub enum RectError<E> {
-    /// The reader refused a read with this error.
+    /// The reader failed with this error.
     Reader(E),
-    /// No memory was found.
+    /// Out of memory.
     NoMemory,
 }
 

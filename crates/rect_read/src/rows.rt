@@ -1,35 +1,35 @@
-//! The rows that are to be read.
+//! Describes the rows to read, so that later rows can be read ahead.
 
 ghost use Rattle.std.specs.Prelude.{◌≤◌, ◌<◌};
 ghost use Rattle.tile_layout.specs.Kept.{stored_count};
 
 use tile_layout::{Layout, TexelFormat};
 
-/// The rows that are to be read, and how they stand in their strips or tiles.
+/// The rows to read, and how they lie in their strips or tiles.
 #[derive(Clone, Copy, Debug)]
 pub(crate) struct Rows {
-    /// The row behind the last.
+    /// The row after the last one.
     bottom: u32,
-    /// The rows of a strip or tile.
+    /// The number of rows per strip or tile.
     in_block: u32,
-    /// The bytes from a row of a strip or tile to the next.
+    /// The bytes from one row of a strip or tile to the next.
     stride: u64,
     ghost some: { 1 ≤ in_block },
 }
 
-/// The rows behind the one that is read.
+/// The rows after the one that is being read.
 #[derive(Clone, Copy, Debug)]
 pub(crate) struct RowsBehind {
     /// How many there are.
     pub(crate) all: u32,
-    /// How many of them are rows of the same strip or tile.
+    /// How many of them lie in the same strip or tile.
     pub(crate) in_block: u32,
-    /// The bytes from a row of the strip or tile to the next.
+    /// The bytes from one row of the strip or tile to the next.
     pub(crate) stride: u64,
 }
 
 impl Rows {
-    /// Those before row `bottom` of a stored level.
+    /// The rows of a stored level above row `bottom`.
     pub(crate) fn of(layout: &Layout, level: u32, format: &TexelFormat, bottom: u32) -> Rows
         requires { level < stored_count layout.now }
     {
@@ -41,7 +41,7 @@ impl Rows {
         }
     }
 
-    /// Those behind row y.
+    /// The rows after row y.
     pub(crate) fn behind(&self, y: u32) -> RowsBehind {
         let all = self.bottom.saturating_sub(y).saturating_sub(1);
         RowsBehind {

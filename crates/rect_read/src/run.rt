@@ -1,4 +1,4 @@
-//! Texels that stand side by side in the file: read window by window, straight to their samples.
+//! Reads texels that follow one another in the file, without going row by row.
 
 ghost use Rattle.std.specs.Prelude.{◌≡◌, ◌+◌, ◌*◌, ◌^◌, ◌<◌, ◌≤◌, ℕ, List, length, IfOk, IfSome};
 ghost use Rattle.std.specs.Prelude.{take, drop, OnOk};
@@ -28,7 +28,7 @@ use std::alloc::AllocError;
 use tiff_dirs::ByteReader;
 use tile_layout::TexelFormat;
 
-/// Texels that stand side by side in the file: so many from a place on.
+/// Texels that follow one another in the file: `texels` of them, from `at` on.
 #[derive(Clone, Copy, Debug)]
 pub(crate) struct Run {
     pub(crate) at: u64,
@@ -36,8 +36,8 @@ pub(crate) struct Run {
 }
 
 impl Run {
-    /// The texels of a rectangle of a stored level, where they stand side by side, row behind row,
-    /// below a length of the file.
+    /// The texels of a rectangle as one run, if all its rows follow one another in the file, below
+    /// length `len`.
     pub(crate) fn of(place: &Place<'_>, format: &TexelFormat, len: u64) -> Option<Run>
         requires { IsFormatOf place.now.layout.now.big
             (plane_in place.now.layout.now place.now.level place.now.plane).shape format.now }
@@ -66,21 +66,21 @@ impl Run {
     }
 }
 
-/// The rows that are read ahead of a run: none.
+/// A run has no later rows to read ahead.
 const NO_ROWS: RowsBehind = RowsBehind {
     all: 0,
     in_block: 0,
     stride: 0,
 };
 
-/// How many texels a window holds.
+/// How many texels fit into a window.
 fn texels_at_once(format: &TexelFormat) -> usize
     ensures { 1 ≤ result }
 {
     (MAX_AHEAD as usize / format.texel_bytes.max(1)).max(1)
 }
 
-/// Reads the bytes of a span behind those that are there.
+/// Reads the bytes of a span, appended to those that are there.
 fn read_behind<B: ByteReader>(
     reader: &mut B,
     span: &Span,
@@ -106,8 +106,8 @@ fn read_behind<B: ByteReader>(
     }
 }
 
-/// Appends the numbers of the texels of a part of a run: those that take a byte each are read where
-/// they stay, the others through a window.
+/// Appends the samples of a part of a run. Samples that are plain bytes are read straight into the
+/// result, others through a window.
 fn read_part<B: ByteReader>(
     reader: &mut B,
     format: &TexelFormat,
@@ -142,7 +142,7 @@ fn read_part<B: ByteReader>(
     Ok(())
 }
 
-/// Finds memory for the values of the texels of a run.
+/// Reserves memory for the samples of a run.
 fn reserve(samples: &mut Samples, format: &TexelFormat, run: &Run) -> Result<(), AllocError>
     ensures taken { taken samples.new ≡ taken samples.old }
     ensures values { samples_of samples.new.values ≡ samples_of samples.old.values }
@@ -154,9 +154,9 @@ fn reserve(samples: &mut Samples, format: &TexelFormat, run: &Run) -> Result<(),
     Ok(())
 }
 
-/// Appends the numbers of the texels of a run, channels side by side.
+/// Appends the samples of a run, all channels of a texel together.
 ///
-/// Besides them it takes 256 KiB at most.
+/// Besides the samples it needs at most 256 KiB of memory.
 pub(crate) fn read_run<B: ByteReader>(
     reader: &mut B,
     format: &TexelFormat,

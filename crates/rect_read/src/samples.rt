@@ -1,4 +1,4 @@
-//! The samples of a level, from their bytes.
+//! Collects the samples of a level from their bytes.
 
 ghost use Rattle.std.specs.Prelude.{◌≡◌, ◌≢◌, ◌+◌, ◌-◌, ◌*◌, ◌≤◌, ◌<◌, ◌++◌, ℕ, length, map, []};
 ghost use Rattle.std.specs.Prelude.{◌∷◌, slice_index, replicate, true, OnOk};
@@ -17,15 +17,15 @@ use piece_samples::{Places, unpack_among, unpack_samples};
 use std::alloc::AllocError;
 use tile_layout::TexelFormat;
 
-/// The samples that are read: those of a texel side by side, or those of one plane, each at its place
-/// among those of the other planes.
+/// The samples read so far: whole texels, or the samples of one plane, each at its place among
+/// those of the other planes.
 #[derive(Drop)]
 pub(crate) struct Samples {
     pub(crate) values: Texels,
     pub(crate) places: Places,
 }
 
-/// Writes each sample behind the first `from` ones.
+/// Unpacks bytes into the samples from index `from` on.
 fn unpack_behind(format: &TexelFormat, bytes: &[u8], from: usize, samples: &mut [u16])
     requires before { from ≤ length samples.old }
     requires size { length bytes.now
@@ -40,7 +40,7 @@ fn unpack_behind(format: &TexelFormat, bytes: &[u8], from: usize, samples: &mut 
     unpack_samples(format, bytes, &mut samples[from..]);
 }
 
-/// Appends so many samples.
+/// Appends `count` samples.
 pub(crate) fn push_samples(
     samples: &mut Vec<u16>,
     format: &TexelFormat,
@@ -59,7 +59,7 @@ pub(crate) fn push_samples(
     Ok(())
 }
 
-/// Has so many values be there: 0 where there are none yet.
+/// Makes a buffer `count` long, by appending zeros.
 fn ready(values: &mut Vec<u16>, count: usize) -> Result<(), AllocError>
     ensures room { OnOk result (count ≤ length values.new.items) }
     ensures there { OnOk result (count ≤ length values.old.items
@@ -76,7 +76,7 @@ fn ready(values: &mut Vec<u16>, count: usize) -> Result<(), AllocError>
 }
 
 impl Samples {
-    /// Those of texels, each texel's side by side.
+    /// Collects whole texels, all samples of a texel together.
     pub(crate) fn of_texels(values: Texels) -> Samples
         ensures same { result.values ≡ values }
         ensures taken { taken result ≡ samples_of values }
@@ -92,7 +92,7 @@ impl Samples {
         }
     }
 
-    /// Those of so many planes, where none of this plane stands at its place yet.
+    /// Collects the samples of one of several planes. None of this plane has been placed yet.
     pub(crate) fn of_plane(values: Vec<u16>, planes: u32, plane: u32) -> Samples
         requires several { planes ≢ 1 }
         requires few { planes ≤ max_channels }
@@ -112,7 +112,7 @@ impl Samples {
         }
     }
 
-    /// Finds memory for so many more samples, where they are appended.
+    /// Reserves memory for `count` more samples, if they are appended.
     pub(crate) fn reserve(&mut self, count: usize) -> Result<(), AllocError>
         ensures taken { taken self.new ≡ taken self.old }
         ensures values { samples_of self.new.values ≡ samples_of self.old.values }
@@ -125,7 +125,7 @@ impl Samples {
         Ok(())
     }
 
-    /// Writes so many samples to their places.
+    /// Writes `count` samples to their places.
     fn place(&mut self, format: &TexelFormat, bytes: &[u8], count: usize) -> Result<(), AllocError>
         requires size { length bytes.now ≡ sample_bytes format.now.depth * count }
         requires planar { self.old.places.step ≢ 1 }
@@ -149,7 +149,7 @@ impl Samples {
         Ok(())
     }
 
-    /// Takes so many samples behind those that were taken.
+    /// Takes `count` samples, after those already taken.
     pub(crate) fn push(
         &mut self,
         format: &TexelFormat,
@@ -171,7 +171,7 @@ impl Samples {
         }
     }
 
-    /// Writes a 0 to its place.
+    /// Writes a 0 to the next place.
     fn place_zero(&mut self) -> Result<(), AllocError>
         requires planar { self.old.places.step ≢ 1 }
         requires wide { are_wide self.old.values ≡ true }

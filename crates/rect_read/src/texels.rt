@@ -1,4 +1,4 @@
-//! The samples of texels, in the room that their depth takes.
+//! Samples of texels, stored in the size that they need.
 
 ghost use Rattle.std.specs.Prelude.{◌≡◌, ◌*◌, ◌++◌, ℕ, true, length, map, replicate, IfOk, OnOk};
 ghost use Rattle.std.specs.List.{range_with_len};
@@ -11,17 +11,17 @@ use crate::samples::push_samples;
 use std::alloc::{AllocError, Global};
 use tile_layout::TexelFormat;
 
-/// The samples of texels, in the room that their depth takes.
+/// Samples of texels, stored in the size that they need.
 #[derive(Debug, Drop)]
 pub enum Texels {
-    /// A byte each, from 0 to 255: those of a file of 8 bits.
+    /// One byte each, 0 to 255: from an 8-bit file.
     Bytes(Vec<u8>),
-    /// Two bytes each, from 0 to 65535: those of a file of 16 bits.
+    /// Two bytes each, 0 to 65535: from a 16-bit file.
     Shorts(Vec<u16>),
 }
 
 impl Texels {
-    /// Where the memory for them is found.
+    /// The allocator of the samples.
     pub(crate) fn allocator(&self) -> Global {
         match self {
             Texels::Bytes(values) => *values.allocator(),
@@ -29,7 +29,7 @@ impl Texels {
         }
     }
 
-    /// Finds memory for so many more.
+    /// Reserves memory for `count` more samples.
     pub(crate) fn reserve(&mut self, count: usize) -> Result<(), AllocError>
         ensures same { samples_of self.new ≡ samples_of self.old }
         ensures wide { are_wide self.new ≡ are_wide self.old }
@@ -40,7 +40,7 @@ impl Texels {
         }
     }
 
-    /// Appends so many samples. Those that take a byte each are the bytes.
+    /// Appends `count` samples. If a sample takes one byte, the bytes are copied.
     pub(crate) fn push(
         &mut self,
         format: &TexelFormat,
@@ -81,7 +81,7 @@ impl Texels {
         Ok(())
     }
 
-    /// Those that take two bytes each.
+    /// The samples, which must take two bytes each.
     pub(crate) fn into_shorts(self) -> Vec<u16>
         requires { are_wide self ≡ true }
         ensures { result.items ≡ samples_of self }
@@ -93,7 +93,7 @@ impl Texels {
     }
 }
 
-/// Samples of 8 bits, a byte each.
+/// Copies 8-bit samples into one byte each.
 pub fn narrowed(alloc: Global, samples: &[u16]) -> Result<Vec<u8>, AllocError>
     requires { FitDepth 8 samples.now }
     ensures { IfOk result (λ bytes. bytes.items ≡ samples.now) }

@@ -1,4 +1,4 @@
-//! Bytes of the file that are read ahead, for the rows behind the one that is read.
+//! A window: bytes of the file that are read ahead for the rows to come.
 
 ghost use Rattle.std.specs.Prelude.{◌≡◌, ◌+◌, ◌<◌, ◌≤◌, ℕ, List, length, OnOk, IsTrue};
 ghost use Rattle.std.specs.Option.{ForSome};
@@ -12,27 +12,27 @@ use piece_samples::Span;
 use std::alloc::{AllocError, Global};
 use tiff_dirs::ByteReader;
 
-/// The most bytes between the pieces of two rows that are read with them: reading them costs about
-/// what another call costs.
+/// The most bytes between the pieces of two rows that are still read together. Reading that many
+/// costs about as much as another call.
 pub const MAX_GAP: u64 = 4096;
 
-/// The place of no piece: none stands behind it.
+/// A place of no piece, so that no piece follows it.
 const NO_PLACE: u64 = u64::MAX;
 
-/// Bytes of the file from a place on, which hold a piece of a row and what was read ahead of it.
+/// Bytes of the file from a place on: a piece of a row and what was read ahead with it.
 #[derive(Debug, Drop)]
 pub(crate) struct Window {
     /// The place of the first byte.
     at: u64,
     bytes: Vec<u8>,
-    /// The place of the last piece that was asked for.
+    /// The place of the piece that was last asked for.
     last: u64,
-    /// How many bytes were read ahead in the last call.
+    /// The number of bytes that the last read read ahead.
     ahead: u64,
 }
 
 impl Window {
-    /// A window that holds nothing.
+    /// An empty window.
     pub(crate) fn new(alloc: Global) -> Window
         ensures { (bytes : List ℕ) → IsWindow bytes result }
     {
@@ -44,7 +44,7 @@ impl Window {
         }
     }
 
-    /// The bytes of a span that the window holds.
+    /// The bytes of a span that lies in the window.
     pub(crate) fn piece(&self, span: &Span) -> &[u8]
         requires { HoldsSpan self.now span.now }
         ensures long { length result.now ≡ span.now.size }
@@ -55,7 +55,7 @@ impl Window {
         &self.bytes[start..start + span.size]
     }
 
-    /// The window holds the bytes of a span.
+    /// Whether the window has the bytes of a span.
     fn holds(&self, span: &Span) -> bool
         ensures { IsTrue result → HoldsSpan self.now span.now }
     {
@@ -63,9 +63,9 @@ impl Window {
         span.at >= self.at && span.size <= len && span.at - self.at <= (len - span.size) as u64
     }
 
-    /// How many bytes are read ahead of a piece of so many bytes that stands `stride` bytes behind
-    /// the last one: the rows of its strip or tile, and where its distance to the last one goes on
-    /// behind these, each time twice as much as before. `most` and the rows to come are its bounds.
+    /// How many bytes to read ahead of a piece of `size` bytes. It is the rest of its strip or
+    /// tile; if the pieces go on at the same distance beyond, twice as much each time. `most` and
+    /// the rows to come limit it.
     fn more(&self, stride: u64, size: u64, behind: &RowsBehind, most: u64) -> u64
         ensures { result ≤ most }
     {
@@ -76,8 +76,8 @@ impl Window {
             .min(most)
     }
 
-    /// Has the window hold the bytes of a piece of a row that lie in the file. Where it must read,
-    /// it reads up to `most` bytes ahead, for the rows to come.
+    /// Makes sure that the window has the bytes of a piece that lies in the file. If it must read,
+    /// it reads up to `most` bytes more, for the rows to come.
     pub(crate) fn fill<B: ByteReader>(
         &mut self,
         reader: &mut B,
@@ -108,8 +108,8 @@ impl Window {
     }
 }
 
-/// The bytes from a piece of a row to the end of that of the last of so many rows behind it, none
-/// where more lies between two rows than is read with them.
+/// The bytes from a piece to the end of the last of `rows` pieces after it. 0 if the gap between
+/// rows is too large to read.
 fn bytes_of_rows(stride: u64, size: u64, rows: u32) -> u64 {
     if stride < size || stride - size > MAX_GAP {
         0
@@ -118,7 +118,7 @@ fn bytes_of_rows(stride: u64, size: u64, rows: u32) -> u64 {
     }
 }
 
-/// Has window k be there, behind those that are.
+/// Makes sure that window k exists.
 pub(crate) fn ready(windows: &mut Vec<Window>, k: usize) -> Result<(), AllocError>
     requires { k ≤ length windows.old.items }
     ensures some { OnOk result (k < length windows.new.items) }

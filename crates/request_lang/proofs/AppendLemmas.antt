@@ -1,4 +1,4 @@
--- What stays where text is appended?
+-- What stays unchanged when text is appended?
 use Rattle.std.proofs.Common.{◌≡◌, ℕ, ◌≤◌, List, ◌++◌, length, take, Result, Ok}
 use Rattle.std.proofs.Common.{Err, is_ok, cond, true, OnErr, IsErr, sym, ap, ◌∙◌}
 use Rattle.std.proofs.Common.{append_assoc, arith}
@@ -26,14 +26,14 @@ begins_more a text b c e p =
 
 pub ruleset kept = (begins_same, begins_more)
 
--- whether all was appended or not, what stood there stays
+-- what was there before stays, whether or not all text was appended
 pub pushes_keep : {T E : Type 0} (text old new : List ℕ) (r : Result T E)
     → Pushes text old new r → Begins old new
 unfolding Begins
 pushes_keep text old new (Ok _) p = rw p (take-append_seam old text)
 pushes_keep text old new (Err _) p = p
 
--- where it was answered, all was
+-- after success, all text was appended
 pub pushes_all : {T E : Type 0} (text old new : List ℕ) (r : Result T E)
     → Pushes text old new r → is_ok r ≡ true → new ≡ old ++ text
 pushes_all text old new (Ok _) p ok = p
@@ -45,7 +45,7 @@ pub pushes_slice : {T E : Type 0} (text old new : List ℕ) (r : Result T E)
 pushes_slice text old new (Ok _) e = e
 pushes_slice text old new (Err _) e = begins_same old new e
 
--- a text behind one that was appended
+-- a text appended after another one
 pub pushes_then : {T E : Type 0} (text more all old mid new : List ℕ) (r : Result T E)
     → text ++ more ≡ all → mid ≡ old ++ text → Pushes more mid new r → Pushes all old new r
 pushes_then text more all old mid new (Ok _) whole e p =
@@ -55,13 +55,13 @@ pushes_then text more all old mid new (Ok _) whole e p =
     ∙ ap (λ (xs : List ℕ). old ++ xs) whole
 pushes_then text more all old mid new (Err _) whole e p = begins_more old text mid new e p
 
--- more numbers behind a word with numbers
+-- more numbers appended to a word with numbers
 pub more_fields : (word a b : List ℕ) → (word ++ fields a) ++ fields b ≡ word ++ fields (a ++ b)
 more_fields word a b =
     append_assoc word (fields a) (fields b)
     ∙ ap (λ (xs : List ℕ). word ++ xs) (sym (flat_map-append (number_behind space) a b))
 
--- a cut behind what was there before takes away all that was appended
+-- cutting after what was there before removes everything appended
 pub cut_back : {T E S F : Type 0} (text old mid new : List ℕ) (n : ℕ)
     (pushed : Result S F) (r : Result T E) → n ≡ length old → Pushes text old mid pushed
     → OnErr r (new ≡ take n mid) → OnErr r (new ≡ old)
@@ -70,7 +70,7 @@ cut_back text old mid new n pushed (Ok _) e p cut = cut
 cut_back text old mid new n pushed (Err _) e p cut =
     cut ∙ ap (λ (k : ℕ). take k mid) e ∙ pushes_keep text old mid pushed p
 
--- and that is no longer
+-- the appended text is no longer than the text
 pub pushes_few : {T E : Type 0} (text old new : List ℕ) (r : Result T E)
     → Pushes text old new r → length old ≤ length new
 unfolding Begins
@@ -85,12 +85,12 @@ begins_chain a b c p q =
     let few : length a ≤ length b = omega (arith, ap length p, length-take (length a) b) in
     sym (take-take (length a) (length b) c few) ∙ ap (take (length a)) q ∙ p
 
--- and so does what a text was appended to
+-- what the first text begins with, the longer one begins with too
 pub begins_on : (a b c text : List ℕ) → Begins a b → c ≡ b ++ text → Begins a c
 unfolding Begins
 begins_on a b c text p e = begins_chain a b c p (rw e (take-append_seam b text))
 
--- what was refused behind more than a list leaves that list
+-- an error after more text leaves the list that was there before
 pub pushes_refused : {T E : Type 0} (text old mid new : List ℕ) (r : Result T E) → IsErr r
     → Begins old mid → Begins mid new → Pushes text old new r
 pushes_refused text old mid new (Ok _) refused p q = absurd cc

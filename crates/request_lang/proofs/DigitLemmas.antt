@@ -14,7 +14,7 @@ use Rattle.std.proofs.lemmas.Grind.{pow_more}
 use Rattle.std.proofs.Math.Nat.{pow-le-pow_right}
 use Rattle.request_lang.specs.LineField.{max_digits}
 
--- so many digits fit 64 bits
+-- a number of this many digits fits 64 bits
 pub digit_fits : (n i : ℕ) → n < 10 ^ i → i < max_digits → n * 10 + 9 < 2 ^ 64
 digit_fits n i below few =
     let most : 10 ^ (i + 1) ≤ 10 ^ max_digits =

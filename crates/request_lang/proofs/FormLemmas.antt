@@ -1,4 +1,4 @@
--- What holds of each request that a form gives holds of each request of a list.
+-- What is true of each request that a form gives holds of each request of a list.
 use Rattle.std.proofs.Common.{◌≡◌, ℕ, ◌+◌, nat_lt, ◌==◌, Bool, true, false, List, [], ◌∷◌, refl}
 use Rattle.std.proofs.Common.{ap, length, nat_le, Option, Some, None, Result, Ok, Err}
 use Rattle.std.specs.Prelude.{if◌then◌else◌, ⊤}
@@ -19,7 +19,7 @@ use Rattle.request_lang.specs.Grammar.{bad_at, whole_list}
 
 -- ---- fields
 
--- a field and what stands behind it were found
+-- a field was found, with what follows it
 pub record Found {A : Type 0} (f : Result (A × List ℕ) Cause) (rest : A → RequestForm) (r : Request)
     : Type 0 where
   pub value : A
@@ -75,17 +75,17 @@ good_behind count (Ok request) r is = by_test (nat_lt count max_requests) is
     by_test false is = absurd cc
 
 module _ (Good : Request → Type 0) where
-  -- it holds of each request of a form
+  -- the fact holds of each request that a form makes
   abbrev pub IsGood : RequestForm → Type 0
   IsGood form = (text : List ℕ) (r : Request) → form text ≡ Ok r → Good r
 
-  -- of a form that has a name alone
+  -- a form that has only a name
   pub good_named : (make : List ℕ → Request) → ((n : List ℕ) → Good (make n)) → IsGood (named make)
   good_named make good text r is =
       let by_name = named_is make (name_field text) r is in
       rw by_name.1 (good by_name.0)
 
-  -- of one that has nothing
+  -- a form without fields
   pub good_alone : (request : Request) → Good request → IsGood (alone request)
   good_alone request good text r is = by_test (length text == 0) is
     where
@@ -93,7 +93,7 @@ module _ (Good : Request → Type 0) where
       by_test true is = let same : request ≡ r = cc in rw (← same) good
       by_test false is = absurd cc
 
-  -- of each form
+  -- a fact of each form in a table
   abbrev pub AreGood : List (List ℕ × RequestForm) → Type 0
   AreGood [] = ⊤
   AreGood (row ∷ rows) = IsGood row.1 × AreGood rows
@@ -158,7 +158,7 @@ module _ (Good : Request → Type 0) where
           (λ r said. good_request good (content line) r
           (good_behind count (request_of (content line)) r said)) others
 
-  -- then it holds of each request of a list
+  -- the fact holds of each request of a list, if it holds of each form
   pub good_list : AreGood forms → (bytes : List ℕ) (requests : List Request)
       → list_of bytes ≡ Ok requests → All Good requests
   unfolding list_of

@@ -55,7 +55,7 @@ abbrev pub with_front : List Request → Parsed → Parsed
 with_front front (Ok rs) = Ok (front ++ rs)
 with_front front (Err bad) = Err bad
 
--- one request more stands in front of the rest
+-- one more request before the rest
 regroup : (front : List Request) (number : ℕ) (r : Request) (rest : Parsed)
     → with_front front (before_rest number (Ok r) rest) ≡ with_front (front ++ r ∷ []) rest
 regroup front number r (Ok rs) =

@@ -59,7 +59,7 @@ more_digits_padded n at padded long small tenth is =
       whole = length-set longer 7 (k + 1) ∙ size;
     })
 
--- one value more in the room
+-- one more value in the buffer
 pub one_value_more : (room padded rest before text : List ℕ) (at count : ℕ) → at ≤ length room
     → count ≤ length padded → take at room ≡ before → take count padded ≡ text
     → take (at + count) (take at room ++ padded ++ rest) ≡ before ++ text

@@ -1,4 +1,4 @@
--- What does a field spell where one `-` may stand first?
+-- What does a field spell that may begin with a `-`?
 use Rattle.std.proofs.Common.{◌≡◌, ℕ, ◌<◌, ◌==◌}
 use Rattle.std.proofs.Common.{Bool, true, false, List, [], ◌∷◌, length, take, drop, get_or}
 use Rattle.std.proofs.Common.{Result, Ok, Err, refl, sym, ap, ◌∙◌, arith, true≢false}
@@ -21,7 +21,7 @@ first_minus (b ∷ text) = by_test (b == 32) refl
     by_test false e =
         ap (λ n. get_or (take n (b ∷ text)) 0 0 == 45) (space_at_cons b text e)
 
--- where a `-` stands first, the field goes on behind it
+-- if a field begins with a `-`, it goes on after it
 behind_minus : (text : List ℕ) → (get_or text 0 0 == 45) ≡ true
     → (drop 1 (before_space text) ≡ before_space (drop 1 text))
     × (from_space text ≡ from_space (drop 1 text))
@@ -33,7 +33,7 @@ behind_minus (b ∷ text) e =
       ap (λ n. drop n (b ∷ text)) cons,
     )
 
--- what stands behind a value is the same, whatever is made of the value
+-- what follows a value does not depend on what is made of the value
 regroup : {A : Type 0} (f : ℕ → A) (r : Result ℕ Cause) (rest : List ℕ)
     → mapped {B = A × List ℕ} (λ v. (v, rest)) (mapped f r)
     ≡ mapped {B = A × List ℕ} (λ g. (f g.0, g.1)) (mapped {B = ℕ × List ℕ} (λ v. (v, rest)) r)
@@ -55,7 +55,7 @@ module _ (below above : ℕ) where
       (mapped {B = ℕ × List ℕ} (λ v. (v, rest)) (number_within 0 above field))
   plain_parts field rest e = rw e (regroup (λ n. pos n) (number_within 0 above field) rest)
 
-  -- what a text spells up to its first space, where a `-` stands first and where none does
+  -- what a text spells up to its first space, with a leading `-` and without
   pub signed_minus : (text : List ℕ) → (get_or text 0 0 == 45) ≡ true
       → spelled (signed_within below above) (Ok (cut text))
       ≡ mapped {B = ℤ × List ℕ} (λ g. (neg_ℤ (pos g.0), g.1))

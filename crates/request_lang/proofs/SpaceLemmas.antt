@@ -1,4 +1,4 @@
--- Where does the first space of a text stand whose first bytes are none?
+-- Where is the first space of a text whose first bytes are not spaces?
 use Rattle.std.proofs.Common.{◌≡◌, ℕ, suc, ◌<◌, ◌≤◌, ◌==◌, ◌⊎◌, inl, inr}
 use Rattle.std.proofs.Common.{Bool, true, false, List, ◌∷◌, length, take, get_or, position}
 use Rattle.std.proofs.Common.{Option, Some, None, refl, sym, ap, ◌∙◌, arith, true≢false}
@@ -45,7 +45,7 @@ digits_only text k few all i lt =
     passes is_ascii_digit (get_or text i 0) refl
     (ap is_ascii_digit (sym (get_or-take k text i 0 lt)) ∙ all_at is_ascii_digit (take k text) i some all)
 
--- the first space stands behind them
+-- the first space comes after these bytes
 pub space_behind : (text : List ℕ) (k : ℕ) → k ≤ length text → NoSpace text k → k ≤ space_at text
 space_behind text k few none = by_place (position (λ b. b == 32) text) refl
   where
@@ -58,7 +58,7 @@ space_behind text k few none = by_place (position (λ b. b == 32) text) refl
     by_place (Some i) e =
         rw e (before i (position-Some (λ b. b == 32) text i 0 e).1 (cases_lt i k))
 
--- where no space stands right behind them, it is farther
+-- if the next byte is not a space, the first space is further on
 pub space_farther : (text : List ℕ) (k : ℕ) → k < length text → NoSpace text k
     → (get_or text k 0 == 32) ≡ false → k < space_at text
 space_farther text k lt none other = space_behind text (suc k) (omega arith) (λ i h. by_place i h (cases_lt i k))
@@ -77,7 +77,7 @@ space_at-is text = elim (cases_lt (position_or_len (λ b. b == 32) text) (length
       (omega (arith, prefix_len-le-length (λ b. not (b == 32)) text))
 ]
 
--- where one does, or the text ends there, it is the first
+-- if the next byte is a space, or the text ends, that is the first space
 pub space_here : (text : List ℕ) (k : ℕ) → k ≤ length text → NoSpace text k
     → (k < length text → (get_or text k 0 == 32) ≡ true) → space_at text ≡ k
 space_here text k few none ends =

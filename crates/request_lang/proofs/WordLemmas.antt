@@ -1,4 +1,4 @@
--- Which word stands before the first space of a text?
+-- Which word does a text have before its first space?
 use Rattle.std.proofs.Common.{◌≡◌, ℕ, ◌+◌, ◌<◌, ◌≤◌, ◌==◌, Bool, true, false}
 use Rattle.std.proofs.Common.{List, [], ◌∷◌, ◌++◌, length, take, drop, get_or, refl, sym, ap, ◌∙◌}
 use Rattle.std.proofs.Common.{arith, true≢false}
@@ -11,7 +11,7 @@ use Rattle.request_lang.specs.LineField.{before_space, from_space, space_at, has
 use Rattle.request_lang.proofs.SpaceLemmas.{NoSpace, all_at, passes, not_space}
 use Rattle.request_lang.proofs.SpaceLemmas.{space_here, space_farther}
 
--- texts that differ are told apart
+-- `bytes_eq` answers false for texts that differ
 differ : (xs ys : List ℕ) → (xs ≡ ys → ⊥) → bytes_eq xs ys ≡ false
 differ xs ys other = by_test (bytes_eq xs ys) refl
   where
@@ -20,7 +20,7 @@ differ xs ys other = by_test (bytes_eq xs ys) refl
     by_test false e = e
 
 module _ (text word : List ℕ) where
-  -- texts that begin alike do so up to the next place, where they are alike there
+  -- texts that begin alike do so up to the next place, if they are equal there
   pub alike_more : (k : ℕ) → k < length word → length word ≤ length text
       → take k text ≡ take k word → get_or text k 0 ≡ get_or word k 0
       → take (k + 1) text ≡ take (k + 1) word
@@ -30,7 +30,7 @@ module _ (text word : List ℕ) where
       ∙ ap (λ (b : ℕ). take k word ++ b ∷ []) at
       ∙ sym (take_more word k 0 lt)
 
-  -- a text begins with a word where they are alike up to its end
+  -- a text begins with a word if they are equal up to the word's end
   pub alike_all : (k : ℕ) → k ≤ length word → length word ≤ k → take k text ≡ take k word
       → bytes_eq word (take (length word) text) ≡ true
   alike_all k within ends same =
@@ -39,14 +39,14 @@ module _ (text word : List ℕ) where
       (sym (take_all (length word) word (omega arith))
       ∙ ap (λ (n : ℕ). take n word) whole ∙ sym same ∙ ap (λ (n : ℕ). take n text) (sym whole))
 
-  -- and does not where they are not alike at one of its places
+  -- a text does not begin with a word if they differ at one of its places
   pub alike_not : (k : ℕ) → k < length word → (get_or text k 0 ≡ get_or word k 0 → ⊥)
       → bytes_eq word (take (length word) text) ≡ false
   alike_not k lt other =
       differ word (take (length word) text)
       (λ e. other (sym (ap (λ (w : List ℕ). get_or w k 0) e ∙ get_or-take (length word) text k 0 lt)))
 
-  -- nor where it is shorter
+  -- a text does not begin with a word if it is shorter
   pub alike_short : length text < length word → bytes_eq word (take (length word) text) ≡ false
   alike_short short =
       differ word (take (length word) text)
@@ -65,7 +65,7 @@ module _ (text word : List ℕ) (whole : has_no_space word ≡ true) where
       passes (λ b. not (b == 32)) (get_or text i 0) refl
       (ap (λ b. not (b == 32)) (sym at) ∙ all_at (λ b. not (b == 32)) word i lt whole)
 
-  -- and up to its first space it is that word where a space or the end follows
+  -- a text is the word up to its first space, if a space or the end follows the word
   module _ (few : length word ≤ length text)
       (same : bytes_eq word (take (length word) text) ≡ true)
       (ends : length word < length text → (get_or text (length word) 0 == 32) ≡ true) where
@@ -81,14 +81,14 @@ module _ (text word : List ℕ) (whole : has_no_space word ≡ true) where
     pub behind_found : drop (length word) text ≡ from_space text
     behind_found = ap (λ (k : ℕ). drop k text) (sym word_end)
 
-  -- and where the text ends with it nothing stands behind it
+  -- if the text ends with the word, nothing follows it
   pub none_behind_word : length word ≡ length text
       → bytes_eq word (take (length word) text) ≡ true → [] ≡ from_space text
   none_behind_word whole_text same =
       sym (drop_of_length-le text (omega arith))
       ∙ behind_found (omega arith) same (λ (lt : length word < length text). absurd (omega arith))
 
-  -- where another byte follows it is a longer one
+  -- if another byte follows the word, the text has a longer word
   pub word_longer : length word < length text → bytes_eq word (take (length word) text) ≡ true
       → (get_or text (length word) 0 ≡ 32 → ⊥) → bytes_eq (before_space text) word ≡ false
   word_longer lt same other =

@@ -1,4 +1,4 @@
--- What does an answer rest on, is it a refusal, and which generations does it print?
+-- What is an answer based on, is it a refusal, and which generations does it print?
 use Rattle.std.specs.Prelude.{ℕ, Bool, true, false, Option, Some, None}
 use Rattle.request_lang.specs.declared.answer.Answer.{Answer}
 use Rattle.request_lang.specs.declared.answer.Answer.TheVariants.{Tex, Texd, Pixels, Info, Held}
@@ -9,10 +9,9 @@ use Rattle.request_lang.specs.declared.answer.Answer.TheVariants.{NoLevel, Outsi
 use Rattle.request_lang.specs.declared.answer.Answer.TheVariants.{HoldsFull, NothingHeld, Again}
 use Rattle.request_lang.specs.declared.answer.Answer.TheVariants.{ReadFault, NoMemory}
 
--- What an answer rests on: the bytes of one generation of the file, a generation that was asked
--- for and not read, a newer generation that was met under an older one, the names of the folder,
--- the words of the request, what the worker holds, the shards, a fault of the source, or want of
--- memory.
+-- What an answer is based on: the bytes of a generation; a generation that was asked for but not
+-- read; a newer generation that was met; the names of the folder; the request's own words; the
+-- worker's holds; the shards; an I/O error; or out of memory.
 pub data Basis : Type 0 where
   OnBytes : ℕ → Basis
   OnNewest : ℕ → Basis
@@ -24,20 +23,20 @@ pub data Basis : Type 0 where
   OnFault : Basis
   OnMemory : Basis
 
--- whether an answer is a refusal, and what it rests on
+-- whether an answer is a refusal, and what it is based on
 pub record Kind : Type 0 where
   pub refusal : Bool
   pub basis : Basis
 
--- an answer that is no refusal
+-- an answer that is not a refusal
 abbrev pub answer_on : Basis → Kind
 answer_on basis = record { refusal = false; basis = basis }
 
--- an answer that is one
+-- an answer that is a refusal
 abbrev pub refusal_on : Basis → Kind
 refusal_on basis = record { refusal = true; basis = basis }
 
--- The table of the answers. All else that tells them apart is a function of it.
+-- The table of the answers. Everything else about them follows from it.
 abbrev pub kind_of : Answer → Kind
 kind_of (Tex generation values) = answer_on (OnBytes generation)
 kind_of (Texd generation values) = answer_on (OnBytes generation)
@@ -62,11 +61,11 @@ kind_of (Again from to) = refusal_on (OnNewer from to)
 kind_of ReadFault = refusal_on OnFault
 kind_of NoMemory = refusal_on OnMemory
 
--- the answer is a refusal
+-- whether the answer is a refusal
 abbrev pub is_refusal : Answer → Bool
 is_refusal answer = (kind_of answer).refusal
 
--- what it rests on
+-- what the answer is based on
 abbrev pub basis_of : Answer → Basis
 basis_of answer = (kind_of answer).basis
 
@@ -86,12 +85,12 @@ latest (OnNewest generation) = Some generation
 latest (OnNewer from to) = Some to
 latest _ = None
 
--- it is a fault of the source
+-- whether it is an I/O error
 abbrev pub is_fault : Basis → Bool
 is_fault OnFault = true
 is_fault _ = false
 
--- it is a newer generation that was met
+-- whether it is a newer generation that was met
 abbrev pub is_move : Basis → Bool
 is_move (OnNewer from to) = true
 is_move _ = false

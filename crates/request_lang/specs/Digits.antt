@@ -5,7 +5,8 @@ use Rattle.std.specs.Char.{is_ascii_digit}
 use Rattle.std.specs.List.{list_all}
 use Rattle.request_lang.specs.LineField.{zero_digit, max_digits}
 
--- its first digits, of which `max_digits` are read at most: what they spell, and how many they are
+-- the number made of the leading digits, of which at most `max_digits` are read, and how many they
+-- are
 pub record LeadsWith (text : List ℕ) (number count : ℕ) : Type 0 where
   pub within : count ≤ length text
   pub few : count ≤ max_digits

@@ -23,21 +23,21 @@ use Rattle.request_lang.specs.declared.answer.Answer.TheVariants.{ReadFault, NoM
 
 -- ---- numbers
 
--- a number behind a byte, in decimal without leading zeros
+-- a byte and a number, in decimal without leading zeros
 abbrev pub number_behind : ℕ → ℕ → List ℕ
 number_behind byte n = byte ∷ decimal n
 
--- numbers, each behind the byte
+-- numbers, each after the byte
 abbrev pub numbers_behind : ℕ → List ℕ → List ℕ
 numbers_behind byte ns = flat_map (number_behind byte) ns
 
--- numbers, each behind a space
+-- numbers, each after a space
 abbrev pub fields : List ℕ → List ℕ
 fields ns = numbers_behind space ns
 
--- ---- what stands in a line
+-- ---- parts of a line
 
--- the numbers that a fault carries
+-- the numbers that belong to a fault
 abbrev pub own_numbers : TiffFault → List ℕ
 own_numbers (FieldMissing tag) = tag ∷ []
 own_numbers (FieldShape tag) = tag ∷ []
@@ -49,7 +49,7 @@ own_numbers _ = []
 abbrev pub fault_numbers : TiffFault → List ℕ
 fault_numbers fault = code_of fault ∷ own_numbers fault
 
--- the numbers of what a file is
+-- the numbers that describe a file
 abbrev pub info_numbers : layout.Info → List ℕ
 info_numbers i =
     i.generation ∷ i.width ∷ i.height ∷ i.channels ∷ i.depth ∷ i.stored ∷ i.levels ∷ []
@@ -62,14 +62,14 @@ rect_numbers rect = rect.x ∷ rect.y ∷ rect.w ∷ rect.h ∷ []
 abbrev pub comma : ℕ
 comma = 44
 
--- what a shard has: the first number behind a space, the others behind commas
+-- the counts of a shard: the first after a space, the others after commas
 abbrev pub shard_text : ShardCount → List ℕ
 shard_text shard =
     fields (shard.tiles ∷ []) ++ numbers_behind comma (shard.pins ∷ shard.loose ∷ shard.share ∷ [])
 
 -- ---- a line
 
--- the 16-bit values that end a line, if it has some
+-- the 16-bit values at the end of a line, if it has any
 abbrev pub values_in : Answer → List ℕ
 values_in (Tex generation values) = values
 values_in (Texd generation values) = values
@@ -110,7 +110,7 @@ text_of answer = head_of answer ++ fields (values_in answer)
 abbrev pub line_of : Answer → List ℕ
 line_of answer = text_of answer ++ line_feed ∷ []
 
--- The line that says at which line, or 0 for all of the list, and why a list is none, with its line
--- feed.
+-- The line that says why a list is invalid, with its line feed: the number of the line, or 0 for
+-- the whole list, and the cause.
 abbrev pub bad_list_line : BadList → List ℕ
 bad_list_line bad = codes "bad list" ++ fields (bad.line ∷ bad.why ∷ []) ++ line_feed ∷ []

@@ -1,4 +1,4 @@
--- What do the fields of a line spell? (docs/REQUESTS.md, "Fields")
+-- What do the fields of a line mean? (docs/REQUESTS.md, "Fields")
 use Rattle.std.specs.Prelude.{ℕ, ◌+◌, ◌-◌, ◌*◌, ◌^◌, ◌==◌}
 use Rattle.std.specs.Prelude.{◌&&◌, nat_le, nat_lt, ℤ, pos, neg_ℤ, codes}
 use Rattle.std.specs.Prelude.{List, [], ◌∷◌, length, take}
@@ -17,48 +17,48 @@ use Rattle.request_lang.specs.declared.cause.Cause.{Cause}
 use Rattle.request_lang.specs.declared.cause.Cause.TheVariants.{MissingField, NotANumber}
 use Rattle.request_lang.specs.declared.cause.Cause.TheVariants.{OutOfRange, UnknownChoice}
 
--- what is made of a value, where there is one
+-- applies a function to a value, if there is one
 abbrev pub mapped : {A B : Type 0} → (A → B) → Result A Cause → Result B Cause
 mapped f (Ok v) = Ok (f v)
 mapped f (Err cause) = Err cause
 
--- ---- where a field stands
+-- ---- where a field is
 
--- the byte in front of a field
+-- the byte before a field
 abbrev pub space : ℕ
 space = 32
 
--- how many bytes stand before the first space, all where there is none
+-- the number of bytes before the first space; all bytes if none exists
 abbrev pub space_at : List ℕ → ℕ
 space_at text = unwrap_or (position (λ b. b == space) text) (length text)
 
--- it holds no space
+-- whether the text has no space
 abbrev pub has_no_space : List ℕ → Bool
 has_no_space text = list_all (λ b. not (b == space)) text
 
--- what stands before the first space
+-- the text before the first space
 abbrev pub before_space : List ℕ → List ℕ
 before_space text = take (space_at text) text
 
--- what stands from the first space on
+-- the text from the first space on
 abbrev pub from_space : List ℕ → List ℕ
 from_space text = drop (space_at text) text
 
--- what stands behind the space that it begins with, if it does
+-- the text after its first byte, if that is a space
 abbrev pub behind_space : List ℕ → Option (List ℕ)
 behind_space rest = if slice_index rest 0 == space then Some (drop 1 rest) else None
 
--- a text that ends before the next space, and what stands from there on
+-- splits a text at its first space
 abbrev pub cut : List ℕ → List ℕ × List ℕ
 cut text = (before_space text, from_space text)
 
--- The next field and what stands behind it: it stands behind one space, and ends before the next.
+-- The next field, and what follows it: the field comes after one space, and ends before the next.
 unfoldable pub next_field : List ℕ → Result (List ℕ × List ℕ) Cause
 next_field rest = ok_or (option_map cut (behind_space rest)) MissingField
 
 -- ---- numbers
 
--- the byte in front of a number below 0
+-- the byte before a negative number
 abbrev pub minus : ℕ
 minus = 45
 
@@ -70,46 +70,46 @@ zero_digit = 48
 abbrev pub max_digits : ℕ
 max_digits = 10
 
--- the largest number that may have no `-`
+-- the greatest number in a field that allows no `-`
 abbrev pub max_unsigned : ℕ
 max_unsigned = 2 ^ 32 - 1
 
--- the largest one that may have a `-` and has none
+-- the greatest number without a `-`, in a field that allows one
 abbrev pub max_above : ℕ
 max_above = 2 ^ 31 - 1
 
--- the largest one behind a `-`
+-- the greatest number after a `-`
 abbrev pub max_below : ℕ
 max_below = 2 ^ 31
 
--- the largest number of a footprint that has no `-`
+-- the greatest number without a `-`, in a field of a footprint
 abbrev pub max_footprint_above : ℕ
 max_footprint_above = 2 ^ 30 - 1
 
--- the largest one behind a `-`
+-- the greatest number after a `-`, in a field of a footprint
 abbrev pub max_footprint_below : ℕ
 max_footprint_below = 2 ^ 30
 
--- the fewest channels that a lookup asks for
+-- the least number of channels of a lookup
 abbrev pub min_channels : ℕ
 min_channels = 1
 
--- the number that a text of 1 to `max_digits` decimal digits spells
+-- the number that 1 to `max_digits` decimal digits make
 unfoldable pub digits_number : List ℕ → Option ℕ
 digits_number text =
     if nat_lt 0 (length text) && (nat_le (length text) max_digits && list_all is_ascii_digit text)
     then Some (fold (λ n digit. n * 10 + (digit - zero_digit)) 0 text) else None
 
--- it is spelled, and it is in its range
+-- the number, if it is a number and in its range
 abbrev pub within : ℕ → ℕ → Option ℕ → Result ℕ Cause
 within least most None = Err NotANumber
 within least most (Some n) = if nat_le least n && nat_le n most then Ok n else Err OutOfRange
 
--- the number that a text spells, from the least to the most
+-- the number in a range that a text spells
 unfoldable pub number_within : ℕ → ℕ → List ℕ → Result ℕ Cause
 number_within least most text = within least most (digits_number text)
 
--- LOD, LEVEL, W, H, and X and Y of a hold: a number of 32 bits
+-- LOD, LEVEL, W, H, and X and Y of `hold`: a number of 32 bits
 abbrev pub unsigned : List ℕ → Result ℕ Cause
 unsigned text = number_within 0 max_unsigned text
 
@@ -117,24 +117,24 @@ unsigned text = number_within 0 max_unsigned text
 abbrev pub channel_count : List ℕ → Result ℕ Cause
 channel_count text = number_within min_channels max_channels text
 
--- a number where one `-` may stand first, with the largest one behind it and the largest without it
+-- a number that may begin with a `-`; the limits are those after a `-` and those without
 abbrev pub signed_within : ℕ → ℕ → List ℕ → Result ℤ Cause
 signed_within below above text =
     if slice_index text 0 == minus
     then mapped (λ n. neg_ℤ (pos n)) (number_within 0 below (drop 1 text))
     else mapped pos (number_within 0 above text)
 
--- S, T, and X and Y of a region: a number of 32 bits where one `-` may stand first
+-- S, T, and X and Y of a region: a signed number of 32 bits
 unfoldable pub signed : List ℕ → Result ℤ Cause
 signed text = signed_within max_below max_above text
 
--- S, T and the four derivatives of a footprint: the same of 31 bits
+-- S, T and the four derivatives of a footprint: a signed number of 31 bits
 unfoldable pub footprint_number : List ℕ → Result ℤ Cause
 footprint_number text = signed_within max_footprint_below max_footprint_above text
 
 -- ---- words
 
--- what a word means in a table, if it stands there
+-- what a word means, by a table of words
 abbrev pub meaning : {A : Type 0} → List (List ℕ × A) → List ℕ → Option A
 meaning [] text = None
 meaning (row ∷ rows) text = if bytes_eq text row.0 then Some row.1 else meaning rows text
@@ -162,23 +162,23 @@ wrap_mode text = ok_or (meaning wrap_words text) UnknownChoice
 unfoldable pub filter_mode : List ℕ → Result Filter Cause
 filter_mode text = ok_or (meaning filter_words text) UnknownChoice
 
--- ---- a field of a kind
+-- ---- fields in general
 
--- what the text of a field spells, and what stands behind it
+-- what the text of a field means, and what follows it
 abbrev pub spelled : {A : Type 0} → (List ℕ → Result A Cause) → Result (List ℕ × List ℕ) Cause
     → Result (A × List ℕ) Cause
 spelled kind (Err cause) = Err cause
 spelled kind (Ok f) = mapped (λ v. (v, f.1)) (kind f.0)
 
--- the next field as one of a kind, and what stands behind it
+-- the next field of a kind, and what follows it
 abbrev pub field : {A : Type 0} → (List ℕ → Result A Cause) → List ℕ → Result (A × List ℕ) Cause
 field kind rest = spelled kind (next_field rest)
 
--- it is not empty
+-- the text, if it is not empty
 abbrev pub filled : Option (List ℕ) → Result (List ℕ) Cause
 filled None = Err MissingField
 filled (Some text) = if length text == 0 then Err MissingField else Ok text
 
--- NAME: all behind one space, which is not empty
+-- NAME: everything after one space, which must not be empty
 unfoldable pub name_field : List ℕ → Result (List ℕ) Cause
 name_field rest = filled (behind_space rest)

@@ -1,4 +1,4 @@
--- What does the table of the texts of all values hold?
+-- What does the table with the texts of all values contain?
 use Rattle.std.specs.Prelude.{◌≡◌, ◌≤◌, ◌<◌, ℕ, List, [], length, take, slice_index, slice_index_or}
 use Rattle.request_lang.specs.LineField.{space}
 use Rattle.request_lang.specs.Line.{number_behind}
@@ -11,12 +11,12 @@ padded_bytes = 8
 abbrev pub max_value_bytes : ℕ
 max_value_bytes = 6
 
--- its last byte says how many of its bytes are the text of the value behind a space
+-- the last byte says how many of the bytes are the text: a space and the value
 pub record IsPaddedText (n : ℕ) (padded : List ℕ) : Type 0 where
   pub text : take (slice_index padded 7) padded ≡ number_behind space n
   pub few : slice_index padded 7 ≤ max_value_bytes
   pub whole : length padded ≡ padded_bytes
 
--- each padded text is that of its place
+-- each entry is the padded text of its index
 abbrev pub HoldsTexts : List (List ℕ) → Type 0
 HoldsTexts texts = (k : ℕ) → k < length texts → IsPaddedText k (slice_index_or texts k [])

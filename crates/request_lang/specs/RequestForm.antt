@@ -1,4 +1,4 @@
--- Which request is a line? (docs/REQUESTS.md, "The forms")
+-- Which request does a line make? (docs/REQUESTS.md, "The forms")
 use Rattle.std.specs.Prelude.{ℕ, ◌==◌, codes, List, [], ◌∷◌, length, Option, Some, None}
 use Rattle.std.specs.Prelude.{Result, Ok, Err, if◌then◌else◌, Bool, true, nat_le, ◌&&◌, ⊤}
 use Rattle.std.specs.Str.{is_utf8}
@@ -16,27 +16,26 @@ use Rattle.request_lang.specs.LineField.{footprint_number}
 use Rattle.tiff_format.specs.Limits.{max_channels}
 use Rattle.texel_filter.specs.Deriv.{IsDerivRequest}
 
--- a form: what the bytes behind the word of a line ask for, or the first cause for which they are
--- none of that form
+-- a form: which request the bytes after the first word make, or the first cause why they do not
 abbrev pub RequestForm : Type 0
 RequestForm = List ℕ → Result Request Cause
 
--- after a field: the value and what stands behind it go to the rest of the form
+-- the rest of a form, given a field's value and what follows it
 abbrev pub then_with : {A : Type 0} → Result (A × List ℕ) Cause → (A → RequestForm)
     → Result Request Cause
 then_with (Ok f) rest = rest f.0 f.1
 then_with (Err cause) rest = Err cause
 
--- one field of a kind, and then the rest of the form
+-- one field, and then the rest of the form
 infixl 10 ◌>>=◌
 abbrev pub ◌>>=◌ : {A : Type 0} → (List ℕ → Result A Cause) → (A → RequestForm) → RequestForm
 (kind >>= rest) text = then_with (field kind text) rest
 
--- the last field is the name
+-- the last field is the name of a file
 abbrev pub named : (List ℕ → Request) → RequestForm
 named request text = mapped request (name_field text)
 
--- there is no field, and nothing else, be it one space
+-- there are no fields; even one space is an error
 abbrev pub alone : Request → RequestForm
 alone request text = if length text == 0 then Ok request else Err TrailingText
 
@@ -104,20 +103,20 @@ hold = do
   y ← unsigned
   named (Hold level x y)
 
--- a lookup asks for a number of channels that it may ask for
+-- whether a lookup asks for an allowed number of channels
 abbrev pub has_channels : Request → Bool
 has_channels (Tex r name) = nat_le min_channels r.nch && nat_le r.nch max_channels
 has_channels (Texd r name) = nat_le min_channels r.nch && nat_le r.nch max_channels
 has_channels _ = true
 
--- a lookup along a footprint asks for numbers that it may ask for
+-- a lookup along a footprint has allowed numbers
 abbrev pub HasFootprint : Request → Type 0
 HasFootprint (Texd r name) = IsDerivRequest r
 HasFootprint _ = ⊤
 
 -- ---- the forms
 
--- the form that each word begins
+-- the form that each first word begins
 abbrev pub forms : List (List ℕ × RequestForm)
 forms =
     (codes "tex", tex)
@@ -132,13 +131,13 @@ forms =
     ∷ (codes "stat", alone Stat)
     ∷ (codes "sync", alone Sync) ∷ []
 
--- what the bytes behind a word ask for, if the word begins a form
+-- what the bytes after a first word make, if the word begins a form
 abbrev pub formed : Option RequestForm → RequestForm
 formed None text = Err UnknownWord
 formed (Some form) text = form text
 
--- The request that a line is, or the first cause from left to right for which it is none. Its word
--- ends before the first space.
+-- The request of a line, or the first cause from left to right why it has none. Its first word ends
+-- before the first space.
 unfoldable pub request_of : List ℕ → Result Request Cause
 request_of line =
     if is_utf8 line then formed (meaning forms (before_space line)) (from_space line)

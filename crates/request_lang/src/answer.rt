@@ -1,4 +1,4 @@
-//! What a request is answered.
+//! The answer to a request, from which its line is printed.
 
 ghost use Rattle.std.specs.Prelude.{◌≡◌, ◌≤◌, List, ℕ, length, take};
 ghost use Rattle.tiff_format.specs.Limits.{max_channels};
@@ -7,14 +7,14 @@ ghost use Rattle.request_lang.specs.Appending.{max_shards};
 use std::marker::Model;
 use tiff_format::{Info, MAX_CHANNELS, Rect, ShardCount, TiffFault};
 
-/// How the values are kept: a few of them in place, as those of a lookup are, and else as a vector.
+/// Where values are stored: a few of them in place, which suffices for lookups, others in a vector.
 #[derive(Drop)]
 enum Kept {
     Few([u16; MAX_CHANNELS], usize),
     Many(Vec<u16>),
 }
 
-/// 16-bit values. Contracts see them as a list. A few of them take no memory.
+/// 16-bit values. Clauses see them as a list. A few values are stored without allocating.
 #[derive(Drop)]
 pub struct Values {
     kept: Kept,
@@ -32,7 +32,7 @@ impl Model for Values {
 }
 
 impl Values {
-    /// Takes the values over.
+    /// The values in this vector.
     pub fn new(items: Vec<u16>) -> Values
         ensures { result ≡ items.items }
     {
@@ -41,7 +41,7 @@ impl Values {
         }
     }
 
-    /// The first of these places, so many of them. It takes no memory.
+    /// The first `count` of these values. Allocates nothing.
     pub fn few(places: [u16; MAX_CHANNELS], count: usize) -> Values
         requires { count ≤ max_channels }
         ensures { result ≡ take count places }
@@ -51,7 +51,7 @@ impl Values {
         }
     }
 
-    /// The values.
+    /// The values as a slice.
     pub fn as_slice(&self) -> &[u16]
         ensures { result.now ≡ self.now }
     {
@@ -62,7 +62,7 @@ impl Values {
     }
 }
 
-/// What each shard has, in their order. Contracts see it as a list.
+/// The counts of each shard, in order. Clauses see them as a list.
 #[derive(Drop)]
 pub struct Shards {
     counts: Vec<ShardCount>,
@@ -82,7 +82,7 @@ impl Model for Shards {
 }
 
 impl Shards {
-    /// Takes the counts over, of 64 shards at most.
+    /// The counts in this vector, at most 64.
     pub fn new(counts: Vec<ShardCount>) -> Shards
         requires { length counts.items ≤ max_shards }
         ensures { result ≡ counts.items }
@@ -90,7 +90,7 @@ impl Shards {
         Shards { counts }
     }
 
-    /// The counts.
+    /// The counts as a slice.
     pub fn as_slice(&self) -> &[ShardCount]
         ensures value { result.now ≡ self.now }
         ensures few { length result.now ≤ max_shards }
@@ -99,20 +99,21 @@ impl Shards {
     }
 }
 
-/// The answer to a request: one line. `generation`, `from` and `to` are generations of its file.
+/// The answer to a request: one line. `generation`, `from` and `to` are generations of the
+/// request's file.
 #[derive(Drop)]
 pub enum Answer {
-    /// The value of each channel that a lookup asked for.
+    /// One value per requested channel of a lookup.
     Tex {
         generation: u32,
         values: Values,
     },
-    /// The value of each channel that a lookup along a footprint asked for.
+    /// One value per requested channel of a lookup along a footprint.
     Texd {
         generation: u32,
         values: Values,
     },
-    /// The values of a region: row by row, channels side by side.
+    /// The values of a region, row by row, all channels of a texel together.
     Pixels {
         generation: u32,
         channels: u32,
@@ -120,63 +121,63 @@ pub enum Answer {
     },
     /// The size and the levels of a file.
     Info(Info),
-    /// The cell that the worker holds.
+    /// The worker now holds this cell.
     Held {
         generation: u32,
         rect: Rect,
     },
-    /// The worker has let go of its oldest hold.
+    /// The worker has released its oldest hold.
     Dropped,
-    /// What is kept of the file is no older than this generation.
+    /// Nothing older than this generation is kept of the file.
     Invalidated {
         generation: u32,
     },
-    /// What was kept of the file is given up, and this generation is read from now on.
+    /// What was kept of the file is dropped, and this generation is read from now on.
     Renewed {
         generation: u32,
     },
-    /// `Invalidated` for each file that was opened.
+    /// `Invalidated` for each file that was opened so far.
     InvalidatedAll,
-    /// What each shard has.
+    /// The counts of each shard.
     Stat {
         shards: Shards,
     },
     /// The round has ended.
     Synced,
-    /// No file has the name.
+    /// The folder has no file with this name.
     NoSuchFile,
-    /// The bytes of this generation show this fault.
+    /// The bytes of this generation have this fault.
     BadFile {
         generation: u32,
         fault: TiffFault,
     },
-    /// Some cell of the file would take too many bytes.
+    /// One of the file's cells would take too many bytes.
     TileTooLarge {
         generation: u32,
     },
-    /// The file has so many levels, and the level that was asked for is none of them.
+    /// The file has only this many levels.
     NoLevel {
         generation: u32,
         levels: u32,
     },
-    /// The texel that was asked for is none of the level.
+    /// The texel is outside the level.
     Outside {
         generation: u32,
     },
-    /// The region that was asked for has too many texels.
+    /// The region has too many texels.
     RegionTooLarge,
-    /// The worker has as many holds as it may have.
+    /// The worker already has as many holds as it may have.
     HoldsFull,
-    /// The worker has no hold.
+    /// The worker has nothing to release.
     NothingHeld,
-    /// The file was `from`, and `to` was met before it was read.
+    /// Generation `from` was used, and the newer `to` was met before everything was read.
     Again {
         from: u32,
         to: u32,
     },
-    /// The source failed.
+    /// An I/O error; printed as `read fault`.
     ReadFault,
-    /// No memory was found.
+    /// Out of memory.
     NoMemory,
 }
 
@@ -184,7 +185,7 @@ impl Answer {
     ghost use Rattle.request_lang.specs.Basis.{is_refusal};
     ghost use Rattle.request_lang.specs.Line.{values_in};
 
-    /// The 16-bit values that end its line, if it has some.
+    /// The 16-bit values at the end of its line, if there are any.
     pub fn values(&self) -> &[u16]
         ensures { result.now ≡ values_in self.now }
     {
@@ -196,7 +197,7 @@ impl Answer {
         }
     }
 
-    /// It is a refusal.
+    /// Whether the answer is a refusal.
     pub fn is_refusal(&self) -> bool
         ensures { result ≡ is_refusal self.now }
     {

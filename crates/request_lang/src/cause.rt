@@ -1,35 +1,35 @@
-//! Why bytes are no list of requests.
+//! Why bytes are not a valid list of requests.
 
 ghost use Rattle.std.specs.Prelude.{◌≡◌};
 ghost use Rattle.request_lang.specs.Cause.{cause_number};
 
 use std::alloc::{AllocError, AllocFailed};
 
-/// Why a line is no request, or a list is none.
+/// Why a line is not a valid request, or the whole list is not valid.
 #[derive(Clone, Copy, Debug, PartialEq, Eq)]
 pub(crate) enum Cause {
-    /// The word of the line is none of those that begin a form.
+    /// The line begins with a word that no request has.
     UnknownWord,
-    /// The line ended in front of a field, or its name is empty.
+    /// The line ends before a field, or its name is empty.
     MissingField,
-    /// A field that is a number is not spelled as one.
+    /// A field that must be a number is not written as one.
     NotANumber,
-    /// A number is spelled as one and out of its range.
+    /// A number is out of its range.
     OutOfRange,
-    /// A wrap or a filter is none of its words.
+    /// A wrap or a filter is not one of the known words.
     UnknownChoice,
-    /// Something stands behind a word that has no fields.
+    /// Something follows a word that has no fields.
     TrailingText,
     /// The line is not UTF-8.
     NotUtf8,
-    /// The line would be one request too many, and is otherwise right.
+    /// The line is valid, but would be one request too many.
     TooManyRequests,
     /// The list has too many bytes.
     TooLong,
 }
 
 impl Cause {
-    /// The number that is printed for it.
+    /// The number that is printed for this cause.
     pub(crate) fn number(self) -> u32
         ensures { result ≡ cause_number self }
     {
@@ -47,21 +47,21 @@ impl Cause {
     }
 }
 
-/// At which line bytes are no list, and why.
+/// The first invalid line of a list, and why it is invalid.
 #[derive(Clone, Copy, Debug, PartialEq, Eq)]
 pub struct BadList {
-    /// The first faulty line, counted from 1. 0 stands for all of the list.
+    /// The number of the line, counted from 1. 0 means the whole list.
     pub line: u32,
-    /// The number of its first cause from left to right, 1 to 9.
+    /// The number of the first cause from left to right, 1 to 9.
     pub why: u32,
 }
 
-/// Why there are no requests.
+/// Why a list could not be parsed.
 #[derive(Clone, Copy, Debug, PartialEq, Eq)]
 pub enum ParseError {
-    /// The bytes are no list: the first faulty line, and the number of its first cause.
+    /// The list is invalid: its first invalid line, and the number of the first cause there.
     Bad { line: u32, why: u32 },
-    /// No memory was found.
+    /// Out of memory.
     NoMemory,
 }
 
@@ -75,12 +75,12 @@ impl<T: Drop> From<AllocFailed<T>> for ParseError {
     }
 }
 
-/// Why a line gave no request.
+/// Why a line could not be parsed.
 #[derive(Clone, Copy, Debug, PartialEq, Eq)]
 pub(crate) enum Refusal {
-    /// It is none.
+    /// The line is invalid.
     Bad(Cause),
-    /// No memory was found.
+    /// Out of memory.
     NoMemory,
 }
 

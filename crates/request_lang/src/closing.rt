@@ -1,4 +1,4 @@
-//! The lines that close a run.
+//! Prints the closing lines of a run.
 
 ghost use Rattle.std.specs.Prelude.{◌≡◌, ◌++◌, ◌≤◌, OnOk, OnErr};
 ghost use Rattle.request_lang.specs.Appending.{Pushes, Fits, max_part_bytes, max_apart_bytes};
@@ -9,8 +9,7 @@ use crate::number::push_text;
 use std::alloc::AllocError;
 use tex_world::NoMemory;
 
-/// How many cells the answers of a worker needed, how many of these its microcache had, and for how
-/// many no tile was made.
+/// The counts of a worker: needs, hits and uncached needs.
 #[derive(Clone, Copy, Debug, PartialEq, Eq)]
 pub struct Counts {
     pub needs: u64,
@@ -18,7 +17,7 @@ pub struct Counts {
     pub apart: u64,
 }
 
-/// Appends how many cells were answered apart, where any was.
+/// Appends the number of uncached needs, if it is not 0.
 fn push_apart(out: &mut Vec<u8>, apart: u64) -> Result<(), AllocError>
     ensures text { Pushes (apart_field apart) out.old.items out.new.items result }
     ensures fits { Fits max_apart_bytes out.old out.new result }
@@ -42,7 +41,7 @@ fn push_worker(out: &mut Vec<u8>, worker: u32, counts: Counts) -> Result<(), All
     push_text(out, b"\n")
 }
 
-/// Appends the line of how many requests there were and how many were refused, with its line feed.
+/// Appends the line with the numbers of requests and refusals, with its line feed.
 #[tactic(auto, using(crate::proofs::AppendLemmas::kept))]
 fn push_total(out: &mut Vec<u8>, total: u64, refused: u64) -> Result<(), AllocError>
     ensures text { Pushes (total_line total refused) out.old.items out.new.items result }
@@ -53,9 +52,8 @@ fn push_total(out: &mut Vec<u8>, total: u64, refused: u64) -> Result<(), AllocEr
     push_text(out, b"\n")
 }
 
-/// Appends the line that says how many cells the answers of a worker needed, how many of these its
-/// microcache had, and, where that is more than 0, for how many no tile was made. Where there is room
-/// for `MAX_PART_BYTES` bytes it takes no memory.
+/// Appends the line of a worker: its needs, its hits and, if not 0, its uncached needs. Allocates
+/// nothing if `MAX_PART_BYTES` bytes are reserved.
 pub fn worker_text(worker: u32, counts: Counts, out: &mut Vec<u8>) -> Result<(), NoMemory>
     ensures ok { OnOk result (out.new.items ≡ out.old.items ++ worker_line worker counts) }
     ensures err { OnErr result (out.new.items ≡ out.old.items) }
@@ -71,8 +69,8 @@ pub fn worker_text(worker: u32, counts: Counts, out: &mut Vec<u8>) -> Result<(),
     }
 }
 
-/// Appends the line that says how many requests there were, and how many lines are refusals. Where
-/// there is room for `MAX_PART_BYTES` bytes it takes no memory.
+/// Appends the line with the numbers of requests and refusals. Allocates nothing if
+/// `MAX_PART_BYTES` bytes are reserved.
 pub fn total_text(total: u64, refused: u64, out: &mut Vec<u8>) -> Result<(), NoMemory>
     ensures ok { OnOk result (out.new.items ≡ out.old.items ++ total_line total refused) }
     ensures err { OnErr result (out.new.items ≡ out.old.items) }

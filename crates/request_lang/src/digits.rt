@@ -1,4 +1,4 @@
-//! Numbers as they are spelled.
+//! Reads decimal numbers.
 
 ghost use Rattle.std.specs.Prelude.{◌≡◌, ◌≤◌, ◌<◌, ◌^◌, IfOk};
 ghost use Rattle.request_lang.specs.LineField as spec;
@@ -9,7 +9,7 @@ use crate::cause::Cause;
 /// The most digits of a number.
 const MAX_DIGITS: usize = 10;
 
-/// The number that the first digits of a text spell, and how many they are: ten at most.
+/// The number made of a text's leading digits, at most ten, and how many they are.
 pub(crate) fn leading_digits(text: &[u8]) -> (u64, usize)
     ensures leads { LeadsWith text.now result.0 result.1 }
     ensures below { result.0 < 10 ^ result.1 }
@@ -27,7 +27,7 @@ pub(crate) fn leading_digits(text: &[u8]) -> (u64, usize)
     (number, count)
 }
 
-/// The number that 1 to ten decimal digits spell.
+/// The number that 1 to 10 decimal digits make.
 pub fn digits_number(text: &[u8]) -> Option<u64>
     ensures { result ≡ spec.digits_number text.now }
 {
@@ -41,7 +41,7 @@ pub fn digits_number(text: &[u8]) -> Option<u64>
     Some(number)
 }
 
-/// A number of the range.
+/// Checks that a number is in a range.
 pub(crate) fn within(least: u32, most: u32, number: Option<u64>) -> Result<u32, Cause>
     ensures value { result ≡ spec.within least most number }
     ensures high { IfOk result (λ n. n ≤ most) }

@@ -1,5 +1,5 @@
-//! The language of the requests and of their answers: what a list of requests says, and the line of
-//! each answer.
+//! The language of requests and answers: parses a list of requests, and prints the line of each
+//! answer.
 #![tactic(auto)]
 
 mod answer;

@@ -1,4 +1,4 @@
-//! The lines of the answers.
+//! Prints the lines of answers.
 
 ghost use Rattle.std.specs.Prelude.{◌≡◌, ◌≤◌, ◌+◌, ◌*◌, ◌++◌, ◌∷◌, [], codes, take, length};
 ghost use Rattle.std.specs.Prelude.{OnOk, OnErr, IsOk};
@@ -18,10 +18,10 @@ use std::alloc::AllocError;
 use tex_world::NoMemory;
 use tiff_format::{Info, ShardCount, TiffFault};
 
-/// The largest generation that is written as a value is.
+/// Generations up to this one are printed like 16-bit values, which is faster.
 const MAX_SHORT_GENERATION: u32 = u16::MAX as u32;
 
-/// Appends a word and numbers, each behind a space.
+/// Appends a word and numbers, each number after a space.
 #[tactic(auto, using(crate::proofs::AppendLemmas::kept))]
 pub(crate) fn push_line(out: &mut Vec<u8>, word: &str, numbers: &[u64]) -> Result<(), AllocError>
     ensures text { Pushes (word.now ++ spec.fields numbers.now) out.old.items out.new.items result }
@@ -32,7 +32,7 @@ pub(crate) fn push_line(out: &mut Vec<u8>, word: &str, numbers: &[u64]) -> Resul
     push_numbers(out, b' ', numbers)
 }
 
-/// Appends what a shard has.
+/// Appends the counts of a shard.
 #[tactic(auto, using(crate::proofs::AppendLemmas::kept))]
 fn push_shard(out: &mut Vec<u8>, shard: &ShardCount) -> Result<(), AllocError>
     ensures text { Pushes (spec.shard_text shard.now) out.old.items out.new.items result }
@@ -46,7 +46,7 @@ fn push_shard(out: &mut Vec<u8>, shard: &ShardCount) -> Result<(), AllocError>
     )
 }
 
-/// Appends what the shards have, in their order.
+/// Appends the counts of all shards, in order.
 #[tactic(auto, using(crate::proofs::AppendLemmas::kept))]
 fn push_shards(out: &mut Vec<u8>, shards: &[ShardCount]) -> Result<(), AllocError>
     ensures text { Pushes (flat_map spec.shard_text shards.now) out.old.items out.new.items result }
@@ -58,7 +58,7 @@ fn push_shards(out: &mut Vec<u8>, shards: &[ShardCount]) -> Result<(), AllocErro
     Ok(())
 }
 
-/// Appends a word and what the shards have.
+/// Appends a word and the counts of all shards.
 #[tactic(auto, using(crate::proofs::AppendLemmas::kept))]
 fn push_shards_line(out: &mut Vec<u8>, word: &str, shards: &[ShardCount]) -> Result<(), AllocError>
     ensures text { Pushes (word.now ++ flat_map spec.shard_text shards.now)
@@ -70,7 +70,7 @@ fn push_shards_line(out: &mut Vec<u8>, word: &str, shards: &[ShardCount]) -> Res
     push_shards(out, shards)
 }
 
-/// Appends what a file is.
+/// Appends the size and the levels of a file.
 #[tactic(auto, using(crate::proofs::AppendLemmas::kept))]
 fn push_info(out: &mut Vec<u8>, info: &Info) -> Result<(), AllocError>
     ensures text { Pushes (codes "info" ++ spec.fields (spec.info_numbers info.now))
@@ -89,7 +89,7 @@ fn push_info(out: &mut Vec<u8>, info: &Info) -> Result<(), AllocError>
     push_line(out, "info", &numbers)
 }
 
-/// Appends what a fault is: its place in the order of faults, and its own numbers.
+/// Appends a file fault: its number in the order of checks, and its own numbers.
 #[tactic(auto, using(crate::proofs::AppendLemmas::kept))]
 fn push_fault(out: &mut Vec<u8>, generation: u32, fault: &TiffFault) -> Result<(), AllocError>
     ensures text { Pushes
@@ -188,8 +188,8 @@ fn push_answer(texts: &ValueTexts, out: &mut Vec<u8>, answer: &Answer) -> Result
     push_values(texts, out, answer.values())
 }
 
-/// Ends a line: its text was appended behind the first `before` bytes, or not all of it was, and
-/// then it is taken away.
+/// Ends a line whose text was appended after the first `before` bytes. If that failed, the text is
+/// removed again.
 fn end_line(
     out: &mut Vec<u8>,
     before: usize,
@@ -206,8 +206,8 @@ fn end_line(
     Err(NoMemory)
 }
 
-/// Appends the line of an answer up to its 16-bit values, if it ends with some, and without its line
-/// feed. Where there is room for `MAX_PART_BYTES` bytes it takes no memory.
+/// Appends the line of an answer up to its 16-bit values, if it has any, without the line feed.
+/// Allocates nothing if `MAX_PART_BYTES` bytes are reserved.
 pub fn head_text(answer: &Answer, out: &mut Vec<u8>) -> Result<(), NoMemory>
     ensures ok { OnOk result (out.new.items ≡ out.old.items ++ spec.head_of answer.now) }
     ensures err { OnErr result (out.new.items ≡ out.old.items) }
@@ -223,8 +223,8 @@ pub fn head_text(answer: &Answer, out: &mut Vec<u8>) -> Result<(), NoMemory>
     }
 }
 
-/// Appends the line of an answer that ends with a few values at most, with its line feed. Where there
-/// is room for `MAX_PART_BYTES` bytes it takes no memory.
+/// Appends the line of an answer with at most a few values, with its line feed. Allocates nothing
+/// if `MAX_PART_BYTES` bytes are reserved.
 pub fn short_line_text(
     texts: &ValueTexts,
     answer: &Answer,
@@ -245,8 +245,8 @@ pub fn short_line_text(
     }
 }
 
-/// Appends it, or a first part of it. That of a lookup, whose generation most often has 16 bits, is made
-/// in few steps.
+/// Appends the line, or a first part of it if memory runs out. The line of a lookup, whose
+/// generation usually fits 16 bits, is made in few steps.
 #[inline(always)]
 #[tactic(auto, unfolding(crate::specs::Line::head_of), using(crate::proofs::AppendLemmas::kept))]
 fn push_short_line(texts: &ValueTexts, answer: &Answer, out: &mut Vec<u8>) -> Result<(), AllocError>
@@ -265,7 +265,7 @@ fn push_short_line(texts: &ValueTexts, answer: &Answer, out: &mut Vec<u8>) -> Re
     }
 }
 
-/// Appends the line of any answer that ends with a few values at most, or a first part of it.
+/// Appends the line of any answer with at most a few values, or a first part of it.
 #[tactic(auto, using(crate::proofs::AppendLemmas::kept))]
 fn push_other_line(texts: &ValueTexts, answer: &Answer, out: &mut Vec<u8>) -> Result<(), AllocError>
     requires { length (values_in answer.now) ≤ few_values }
@@ -286,7 +286,7 @@ pub fn line_text(texts: &ValueTexts, answer: &Answer, out: &mut Vec<u8>) -> Resu
     end_line(out, before, pushed)
 }
 
-/// Appends the line that says why a list is none, with its line feed.
+/// Appends the line that says why a list is invalid, with its line feed.
 pub fn bad_list_text(bad: BadList, out: &mut Vec<u8>) -> Result<(), NoMemory>
     ensures ok { OnOk result (out.new.items ≡ out.old.items ++ spec.bad_list_line bad) }
     ensures err { OnErr result (out.new.items ≡ out.old.items) }

@@ -1,4 +1,4 @@
-//! The fields of a line, each behind one space.
+//! Reads the fields of a line. Each field follows a single space.
 
 ghost use Rattle.std.specs.Prelude.{◌≡◌, ◌≤◌, ◌==◌, true, false, IfOk};
 ghost use Rattle.std.specs.Prelude.{pos, neg_ℤ, ℤ, ℕ, List, slice_index, IsTrue, length, take};
@@ -14,25 +14,26 @@ use std::alloc::Global;
 use texel_filter::{Filter, Wrap};
 use tiff_format::MAX_CHANNELS;
 
-/// The largest number that may have no `-`.
+/// The greatest number of a field that allows no `-`.
 const MAX_UNSIGNED: u32 = u32::MAX;
 
-/// The largest number that may have a `-` and has none.
+/// The greatest number without a `-`, in a field that allows one.
 const MAX_ABOVE: u32 = i32::MAX as u32;
 
-/// The largest number behind a `-`.
+/// The greatest number after a `-`.
 const MAX_BELOW: u32 = 1 << 31;
 
-/// The largest number of a footprint that has no `-`.
+/// The greatest number without a `-`, in a footprint's field.
 const MAX_FOOTPRINT_ABOVE: u32 = (1 << 30) - 1;
 
-/// The largest one behind a `-`.
+/// The greatest number after a `-`, in a footprint's field.
 const MAX_FOOTPRINT_BELOW: u32 = 1 << 30;
 
-/// The fewest channels that a lookup asks for.
+/// The least number of channels of a lookup.
 const MIN_CHANNELS: u32 = 1;
 
-/// The bytes begin with a word. Its bytes are known where it is called, so each is compared by itself.
+/// Whether the bytes begin with a word. The word is a constant at each call, so each of its bytes
+/// is compared directly.
 #[inline(always)]
 #[tactic(auto, using(crate::proofs::WordLemmas::beginnings))]
 fn begins_with(bytes: &[u8], word: &[u8]) -> bool
@@ -52,7 +53,7 @@ fn begins_with(bytes: &[u8], word: &[u8]) -> bool
     true
 }
 
-/// What stands behind a word, where the text is that word up to its first space.
+/// The rest of a line after a word. `None` if the line's first word is another one.
 #[inline(always)]
 #[tactic(auto, using(crate::proofs::WordLemmas::words))]
 pub(crate) fn behind_word<'a>(text: &'a str, word: &str) -> Option<&'a str>
@@ -75,7 +76,7 @@ pub(crate) fn behind_word<'a>(text: &'a str, word: &str) -> Option<&'a str>
     Some(&text[end..])
 }
 
-/// What stands behind the space that it begins with.
+/// The rest after the space with which it begins.
 fn behind_space(rest: &str) -> Option<&str>
     ensures { option_map (λ s. s.now) result ≡ spec.behind_space rest.now }
 {
@@ -87,7 +88,7 @@ fn behind_space(rest: &str) -> Option<&str>
     }
 }
 
-/// The number that a text spells before its first space, and what stands from there on.
+/// The number that a text spells before its first space, and the rest from there on.
 #[inline(always)]
 fn number_field(text: &str) -> Option<(u64, &str)>
     ensures number { option_map (λ f. f.0) result
@@ -108,7 +109,7 @@ fn number_field(text: &str) -> Option<(u64, &str)>
     Some((number, &text[count..]))
 }
 
-/// The number of a range that a text spells before its first space, and what stands from there on.
+/// The number in a range that a text spells before its first space, and the rest from there on.
 #[inline(always)]
 #[tactic(auto, unfolding(crate::specs::LineField::number_within))]
 fn number_within(least: u32, most: u32, text: &str) -> Result<(u32, &str), Cause>
@@ -122,7 +123,7 @@ fn number_within(least: u32, most: u32, text: &str) -> Result<(u32, &str), Cause
     }
 }
 
-/// The next field as a number of a range, and what stands behind it.
+/// The next field as a number in a range, and the rest after it.
 #[inline(always)]
 #[tactic(auto, unfolding(crate::specs::LineField::next_field))]
 fn number_between(least: u32, most: u32, rest: &str) -> Result<(u32, &str), Cause>
@@ -135,14 +136,14 @@ fn number_between(least: u32, most: u32, rest: &str) -> Result<(u32, &str), Caus
     }
 }
 
-/// The next field as a number, and what stands behind it.
+/// The next field as a number, and the rest after it.
 pub(crate) fn unsigned(rest: &str) -> Result<(u32, &str), Cause>
     ensures { spec.mapped (λ f. (f.0, f.1.now)) result ≡ spec.field spec.unsigned rest.now }
 {
     number_between(0, MAX_UNSIGNED, rest)
 }
 
-/// The next field as a number of channels, and what stands behind it.
+/// The next field as a number of channels, and the rest after it.
 #[inline(always)]
 pub(crate) fn channel_count(rest: &str) -> Result<(u32, &str), Cause>
     ensures { spec.mapped (λ f. (f.0, f.1.now)) result ≡ spec.field spec.channel_count rest.now }
@@ -150,7 +151,7 @@ pub(crate) fn channel_count(rest: &str) -> Result<(u32, &str), Cause>
     number_between(MIN_CHANNELS, MAX_CHANNELS as u32, rest)
 }
 
-/// A number behind a `-`.
+/// The negative number after a `-`.
 fn below_zero(number: u32) -> i32
     requires { number ≤ spec.max_below }
     ensures { result ≡ neg_ℤ (pos number) }
@@ -158,7 +159,7 @@ fn below_zero(number: u32) -> i32
     (-i64::from(number)) as i32
 }
 
-/// A number without one.
+/// The number without a `-`, as a signed one.
 fn above_zero(number: u32) -> i32
     requires { number ≤ spec.max_above }
     ensures { result ≡ pos number }
@@ -166,7 +167,7 @@ fn above_zero(number: u32) -> i32
     number as i32
 }
 
-/// The number that a text behind a `-` spells, and what stands from its first space on.
+/// The number that a text after a `-` spells, and the rest from its first space on.
 fn negative(most: u32, text: &str) -> Result<(i32, &str), Cause>
     requires { most ≤ spec.max_below }
     ensures { spec.mapped (λ f. (f.0, f.1.now)) result
@@ -179,7 +180,7 @@ fn negative(most: u32, text: &str) -> Result<(i32, &str), Cause>
     }
 }
 
-/// The number that a text without a `-` spells, and what stands from its first space on.
+/// The number that a text without a `-` spells, and the rest from its first space on.
 fn positive(most: u32, text: &str) -> Result<(i32, &str), Cause>
     requires { most ≤ spec.max_above }
     ensures { spec.mapped (λ f. (f.0, f.1.now)) result
@@ -192,7 +193,7 @@ fn positive(most: u32, text: &str) -> Result<(i32, &str), Cause>
     }
 }
 
-/// A `-` stands first.
+/// Whether the text begins with a `-`.
 fn begins_with_minus(text: &str) -> bool
     ensures { result ≡ (slice_index text.now 0 == spec.minus) }
 {
@@ -200,8 +201,8 @@ fn begins_with_minus(text: &str) -> bool
     0 < bytes.len() && bytes[0] == b'-'
 }
 
-/// The number that a text spells before its first space, where one `-` may stand first, with the
-/// largest one behind it and the largest without it, and what stands from there on.
+/// The number that a text spells before its first space, possibly with a `-`, and the rest from
+/// there on. `below` and `above` are the limits with and without a `-`.
 fn signed_field(below: u32, above: u32, text: &str) -> Result<(i32, &str), Cause>
     requires below { below ≤ spec.max_below }
     requires above { above ≤ spec.max_above }
@@ -214,7 +215,7 @@ fn signed_field(below: u32, above: u32, text: &str) -> Result<(i32, &str), Cause
     positive(above, text)
 }
 
-/// The next field as a number that may have a `-`, and what stands behind it.
+/// The next field as a signed number, and the rest after it.
 #[tactic(auto, unfolding(crate::specs::LineField::next_field, crate::specs::LineField::signed))]
 pub(crate) fn signed(rest: &str) -> Result<(i32, &str), Cause>
     ensures { spec.mapped (λ f. (f.0, f.1.now)) result ≡ spec.field spec.signed rest.now }
@@ -225,7 +226,7 @@ pub(crate) fn signed(rest: &str) -> Result<(i32, &str), Cause>
     }
 }
 
-/// The next field as a number of a footprint, and what stands behind it.
+/// The next field as a coordinate or derivative of a footprint, and the rest after it.
 #[tactic(auto, unfolding(crate::specs::LineField::next_field, crate::specs::LineField::footprint_number))]
 pub(crate) fn footprint_number(rest: &str) -> Result<(i32, &str), Cause>
     ensures { spec.mapped (λ f. (f.0, f.1.now)) result ≡ spec.field spec.footprint_number rest.now }
@@ -236,7 +237,7 @@ pub(crate) fn footprint_number(rest: &str) -> Result<(i32, &str), Cause>
     }
 }
 
-/// The wrap that a text spells before its first space, and what stands from there on.
+/// The wrap that a text names before its first space, and the rest from there on.
 #[inline(always)]
 #[tactic(auto, unfolding(crate::specs::LineField::wrap_mode))]
 fn wrap_of(text: &str) -> Result<(Wrap, &str), Cause>
@@ -258,7 +259,7 @@ fn wrap_of(text: &str) -> Result<(Wrap, &str), Cause>
     Err(Cause::UnknownChoice)
 }
 
-/// The filter that a text spells before its first space, and what stands from there on.
+/// The filter that a text names before its first space, and the rest from there on.
 #[inline(always)]
 #[tactic(auto, unfolding(crate::specs::LineField::filter_mode))]
 fn filter_of(text: &str) -> Result<(Filter, &str), Cause>
@@ -277,7 +278,7 @@ fn filter_of(text: &str) -> Result<(Filter, &str), Cause>
     Err(Cause::UnknownChoice)
 }
 
-/// The next field as a wrap, and what stands behind it.
+/// The next field as a wrap, and the rest after it.
 #[inline(always)]
 #[tactic(auto, unfolding(crate::specs::LineField::next_field))]
 pub(crate) fn wrap_mode(rest: &str) -> Result<(Wrap, &str), Cause>
@@ -289,7 +290,7 @@ pub(crate) fn wrap_mode(rest: &str) -> Result<(Wrap, &str), Cause>
     }
 }
 
-/// The next field as a filter, and what stands behind it.
+/// The next field as a filter, and the rest after it.
 #[inline(always)]
 #[tactic(auto, unfolding(crate::specs::LineField::next_field))]
 pub(crate) fn filter_mode(rest: &str) -> Result<(Filter, &str), Cause>
@@ -301,7 +302,7 @@ pub(crate) fn filter_mode(rest: &str) -> Result<(Filter, &str), Cause>
     }
 }
 
-/// The name that all behind one space is.
+/// The name of a file: everything after one space.
 #[inline(always)]
 #[tactic(auto, unfolding(crate::specs::LineField::name_field))]
 pub(crate) fn name(alloc: Global, rest: &str) -> Result<Name, Refusal>

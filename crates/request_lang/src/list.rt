@@ -1,4 +1,4 @@
-//! A list of requests: its lines, and what they say.
+//! Parses a list of requests, line by line.
 
 ghost use Rattle.std.specs.Prelude.{◌≡◌, ◌+◌, ◌<◌, ◌≤◌, length, IfOk, OnOk, [], ◌∷◌, true, IsTrue};
 ghost use Rattle.std.specs.Str.{IsAscii};
@@ -13,16 +13,16 @@ use crate::request::Request;
 use crate::request_form::request_of;
 use std::alloc::Global;
 
-/// The most bytes that a list has.
+/// The most bytes of a list.
 const MAX_LIST_BYTES: usize = 16777216;
 
-/// The most requests that it has.
+/// The most requests of a list.
 const MAX_REQUESTS: usize = 1048576;
 
-/// What stands for all of the list in place of a line.
+/// The line number that means the whole list.
 const WHOLE_LIST: u32 = 0;
 
-/// None of eight bytes is a line feed.
+/// Whether none of eight bytes is a line feed.
 #[inline(always)]
 fn has_no_feed(bytes: &[u8], at: usize) -> bool
     requires { at + 8 ≤ length bytes.now }
@@ -38,7 +38,7 @@ fn has_no_feed(bytes: &[u8], at: usize) -> bool
         & (bytes[at + 7] != b'\n')
 }
 
-/// How many bytes stand before the first line feed: all where there is none.
+/// The number of bytes before the first line feed; all bytes if none exists.
 fn line_bytes(bytes: &[u8]) -> usize
     ensures { IsLineEnd bytes.now result }
 {
@@ -52,7 +52,7 @@ fn line_bytes(bytes: &[u8]) -> usize
     end
 }
 
-/// The first line of what is left of a list, and what stands behind it.
+/// The next line, and the rest of the list after it.
 #[tactic(auto, using(crate::proofs::LineLemmas::first_line))]
 fn next_line(bytes: &[u8]) -> Option<(&[u8], &[u8])>
     ensures none { IfNone result (bytes.now ≡ []) }
@@ -70,7 +70,7 @@ fn next_line(bytes: &[u8]) -> Option<(&[u8], &[u8])>
     Some((&bytes[..end], &bytes[end + 1..]))
 }
 
-/// A line without the one carriage return that it may end with.
+/// A line without its carriage return, if it ends with one.
 #[tactic(auto, unfolding(crate::specs::Grammar::content))]
 fn content(line: &[u8]) -> &[u8]
     ensures value { result.now ≡ spec.content line.now }
@@ -82,14 +82,14 @@ fn content(line: &[u8]) -> &[u8]
     }
 }
 
-/// The line says nothing.
+/// Whether the line is empty or a comment, which is skipped.
 fn is_passed_over(line: &[u8]) -> bool
     ensures { result ≡ spec.is_passed_over line.now }
 {
     line.is_empty() || line[0] == b'#'
 }
 
-/// The request that a line is behind so many requests.
+/// The request of a line, after `count` requests.
 fn next_request(
     alloc: Global,
     count: usize,
@@ -107,7 +107,7 @@ fn next_request(
     Ok(request)
 }
 
-/// Why there are no requests where the line of this number was refused.
+/// The error for a list whose line of this number failed.
 fn at_line(number: u32, refusal: Refusal) -> ParseError
     ensures { result ≡ refused_at number refusal }
 {
@@ -120,7 +120,7 @@ fn at_line(number: u32, refusal: Refusal) -> ParseError
     }
 }
 
-/// The requests of the list that the bytes are.
+/// The requests of a list.
 #[tactic(auto, unfolding(crate::specs::Grammar::list_of), using(crate::proofs::LineLemmas::read_so_far))]
 pub fn parse(alloc: Global, bytes: &[u8]) -> Result<Vec<Request>, ParseError>
     ensures exact { Parses bytes.now result }

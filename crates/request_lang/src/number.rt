@@ -1,4 +1,4 @@
-//! Numbers as they are printed.
+//! Prints decimal numbers.
 
 ghost use Rattle.std.specs.Prelude.{◌≡◌, ◌≤◌, ◌*◌, drop, length};
 ghost use Rattle.request_lang.specs.Line.{number_behind, numbers_behind};
@@ -6,7 +6,7 @@ ghost use Rattle.request_lang.specs.Appending.{Pushes, Fits, max_number_bytes};
 
 use std::alloc::AllocError;
 
-/// The bytes of the largest number, and the one before it.
+/// The length of the longest number and the byte before it.
 const ROOM_BYTES: usize = 21;
 
 /// Appends a text.
@@ -18,7 +18,8 @@ pub(crate) fn push_text(out: &mut Vec<u8>, text: &[u8]) -> Result<(), AllocError
     out.extend_from_slice(text)
 }
 
-/// Writes a number in decimal behind a byte at the end of the room, and says where it begins.
+/// Writes a number in decimal, with a byte before it, to the end of the buffer. Returns where it
+/// begins.
 fn put_number(room: &mut [u8; ROOM_BYTES], byte: u8, number: u64) -> usize
     ensures written { drop result room.new ≡ number_behind byte number }
     ensures within { result ≤ ROOM_BYTES }
@@ -35,7 +36,7 @@ fn put_number(room: &mut [u8; ROOM_BYTES], byte: u8, number: u64) -> usize
     at - 2
 }
 
-/// Appends a number in decimal behind a byte.
+/// Appends a byte and a number in decimal.
 fn push_number(out: &mut Vec<u8>, byte: u8, number: u64) -> Result<(), AllocError>
     ensures text { Pushes (number_behind byte number) out.old.items out.new.items result }
     ensures fits { Fits max_number_bytes out.old out.new result }
@@ -45,7 +46,7 @@ fn push_number(out: &mut Vec<u8>, byte: u8, number: u64) -> Result<(), AllocErro
     push_text(out, &room[at..])
 }
 
-/// Appends numbers, each behind the byte.
+/// Appends numbers, each after the byte.
 #[tactic(auto, using(crate::proofs::AppendLemmas::kept))]
 pub(crate) fn push_numbers(out: &mut Vec<u8>, byte: u8, numbers: &[u64]) -> Result<(), AllocError>
     ensures text { Pushes (numbers_behind byte numbers.now) out.old.items out.new.items result }

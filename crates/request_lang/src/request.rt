@@ -1,4 +1,4 @@
-//! A request, as a line of the list says it.
+//! A request: what one line of the list asks for.
 
 ghost use Rattle.std.specs.Prelude.{◌≡◌, List, ℕ, IfOk};
 ghost use Rattle.std.specs.String.{string_bytes};
@@ -11,13 +11,13 @@ use texel_filter::{DerivRequest, TexRequest};
 /// The text of a name.
 #[derive(Drop)]
 pub(crate) enum NameText {
-    /// It is short, as most names are, and takes no memory of its own.
+    /// A short text, as most names are, stored in place without allocating.
     Short(ShortText),
-    /// It is any text.
+    /// A text of any length.
     Long(String),
 }
 
-/// The name of a file. Contracts see it as its bytes, which are UTF-8.
+/// The name of a file. Clauses see its bytes, which are UTF-8.
 #[derive(Drop)]
 pub struct Name {
     text: NameText,
@@ -33,7 +33,7 @@ impl Model for Name {
 }
 
 impl Name {
-    /// The name of this text.
+    /// A name with this text.
     pub fn new(text: String) -> Name
         ensures { result ≡ string_bytes text }
     {
@@ -42,7 +42,7 @@ impl Name {
         }
     }
 
-    /// The name of this text, which is copied.
+    /// A name with a copy of this text.
     #[inline(always)]
     pub(crate) fn copied(alloc: Global, text: &str) -> Result<Name, AllocError>
         ensures { IfOk result (λ name. name ≡ text.now) }
@@ -55,14 +55,14 @@ impl Name {
         Name::long(alloc, text)
     }
 
-    /// The same of a text that is long.
+    /// A name with a copy of a long text.
     fn long(alloc: Global, text: &str) -> Result<Name, AllocError>
         ensures { IfOk result (λ name. name ≡ text.now) }
     {
         Ok(Name::new(String::from_str(alloc, text)?))
     }
 
-    /// Its text.
+    /// The text of the name.
     pub fn as_str(&self) -> &str
         ensures { result.now ≡ self.now }
     {
@@ -99,26 +99,26 @@ pub enum Request {
     Info {
         name: Name,
     },
-    /// The worker holds the cell of the texel (x, y) of a level.
+    /// Hold the cell of the texel (x, y) of a level.
     Hold {
         level: u32,
         x: u32,
         y: u32,
         name: Name,
     },
-    /// The worker lets go of its oldest hold.
+    /// Release the worker's oldest hold.
     Drop,
-    /// What is kept of a file is looked at again, if the file has changed.
+    /// Check a file, and drop what is kept of it if it has changed.
     Invalidate {
         name: Name,
     },
-    /// What is kept of a file is read again.
+    /// Drop what is kept of a file, and read it again.
     Renew {
         name: Name,
     },
-    /// `Invalidate` for every file that was opened.
+    /// `Invalidate` for every file that was opened so far.
     InvalidateAll,
-    /// What each shard of the cache has.
+    /// The counts of each shard of the cache.
     Stat,
     /// The end of the round.
     Sync,

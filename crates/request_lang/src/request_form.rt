@@ -1,4 +1,4 @@
-//! The forms of a line.
+//! Parses a line by the form of its request.
 
 ghost use Rattle.std.specs.Prelude.{◌≡◌, true, false, drop};
 ghost use Rattle.std.specs.Option.{IfNone, IfSome};
@@ -16,7 +16,7 @@ use std::alloc::Global;
 use std::str::{from_utf8, from_utf8_unchecked};
 use texel_filter::{DerivRequest, TexRequest};
 
-/// `tex S T LOD SWRAP TWRAP FILTER NCH NAME`, behind its word.
+/// Parses `tex S T LOD SWRAP TWRAP FILTER NCH NAME` after its first word.
 #[tactic(auto, unfolding(crate::specs::RequestForm::tex))]
 fn tex(alloc: Global, rest: &str) -> Result<Request, Refusal>
     ensures { Gives result (spec.tex rest.now) }
@@ -41,7 +41,7 @@ fn tex(alloc: Global, rest: &str) -> Result<Request, Refusal>
     Ok(Request::Tex { request, name })
 }
 
-/// `texd S T DSDX DTDX DSDY DTDY SWRAP TWRAP NCH NAME`, behind its word.
+/// Parses `texd S T DSDX DTDX DSDY DTDY SWRAP TWRAP NCH NAME` after its first word.
 #[tactic(auto, unfolding(crate::specs::RequestForm::texd))]
 fn texd(alloc: Global, rest: &str) -> Result<Request, Refusal>
     ensures { Gives result (spec.texd rest.now) }
@@ -70,7 +70,7 @@ fn texd(alloc: Global, rest: &str) -> Result<Request, Refusal>
     Ok(Request::Texd { request, name })
 }
 
-/// `pixels LEVEL X Y W H NAME`, behind its word.
+/// Parses `pixels LEVEL X Y W H NAME` after its first word.
 #[tactic(auto, unfolding(crate::specs::RequestForm::pixels))]
 fn pixels(alloc: Global, rest: &str) -> Result<Request, Refusal>
     ensures { Gives result (spec.pixels rest.now) }
@@ -91,7 +91,7 @@ fn pixels(alloc: Global, rest: &str) -> Result<Request, Refusal>
     })
 }
 
-/// `hold LEVEL X Y NAME`, behind its word.
+/// Parses `hold LEVEL X Y NAME` after its first word.
 #[tactic(auto, unfolding(crate::specs::RequestForm::hold))]
 fn hold(alloc: Global, rest: &str) -> Result<Request, Refusal>
     ensures { Gives result (spec.hold rest.now) }
@@ -103,7 +103,7 @@ fn hold(alloc: Global, rest: &str) -> Result<Request, Refusal>
     Ok(Request::Hold { level, x, y, name })
 }
 
-/// A request whose word has no fields.
+/// A request without fields.
 fn alone(request: Request, rest: &str) -> Result<Request, Refusal>
     ensures { Gives result (spec.alone request rest.now) }
 {
@@ -113,7 +113,7 @@ fn alone(request: Request, rest: &str) -> Result<Request, Refusal>
     Ok(request)
 }
 
-/// The request of a text whose word is none of the first five.
+/// Parses a text whose word is not one of the first five.
 fn of_later_word(alloc: Global, text: &str) -> Result<Request, Refusal>
     ensures { Gives result
         (spec.formed (meaning (drop 5 spec.forms) (before_space text.now)) (from_space text.now)) }
@@ -141,7 +141,7 @@ fn of_later_word(alloc: Global, text: &str) -> Result<Request, Refusal>
     Err(Refusal::Bad(Cause::UnknownWord))
 }
 
-/// The request that a text is: its word, and what stands behind it.
+/// Parses a text: its word, and what follows it.
 fn of_text(alloc: Global, text: &str) -> Result<Request, Refusal>
     ensures { Gives result
         (spec.formed (meaning spec.forms (before_space text.now)) (from_space text.now)) }
@@ -165,7 +165,7 @@ fn of_text(alloc: Global, text: &str) -> Result<Request, Refusal>
     of_later_word(alloc, text)
 }
 
-/// A line as text, if it is UTF-8. A line that is known to be ASCII is not tested.
+/// A line as text, if it is UTF-8. A line that is known to be ASCII is not checked.
 #[tactic(auto, using(crate::proofs::TextLemmas::utf8_tests))]
 fn text_of(line: &[u8], is_ascii: bool) -> Option<&str>
     requires { is_ascii ≡ true → IsAscii line.now }
@@ -178,7 +178,7 @@ fn text_of(line: &[u8], is_ascii: bool) -> Option<&str>
     from_utf8(line).ok()
 }
 
-/// The request that a line is.
+/// Parses a line.
 #[tactic(auto, unfolding(crate::specs::RequestForm::request_of))]
 pub(crate) fn request_of(alloc: Global, line: &[u8], is_ascii: bool) -> Result<Request, Refusal>
     requires { is_ascii ≡ true → IsAscii line.now }

@@ -1,4 +1,4 @@
-//! Short texts, kept in place.
+//! Short texts that are stored without allocating.
 
 ghost use Rattle.std.specs.Prelude.{◌≡◌, ◌≤◌, length};
 
@@ -8,11 +8,11 @@ use std::str::from_utf8_unchecked;
 /// The most bytes of a short text.
 pub(crate) const MAX_SHORT: usize = 22;
 
-/// A text of at most 22 bytes. Contracts see it as its bytes, which are UTF-8.
+/// A text of at most 22 bytes. Clauses see its bytes, which are UTF-8.
 #[derive(Drop)]
 pub(crate) struct ShortText {
     bytes: [u8; MAX_SHORT],
-    // Of two bytes, so that the text begins at an even place and moves in few pieces.
+    // two bytes, so that the text begins at an even address and is moved in few pieces
     count: u16,
 }
 
@@ -29,7 +29,7 @@ impl Model for ShortText {
 }
 
 impl ShortText {
-    /// The text as a short one.
+    /// A copy of a text that is short enough.
     #[tactic(auto, using(crate::proofs::TextLemmas::utf8_tests))]
     pub(crate) fn of(text: &str) -> ShortText
         requires { length text.now ≤ MAX_SHORT }

@@ -1,4 +1,4 @@
-//! The texts of all 16-bit values, made once and copied from.
+//! A table with the text of every 16-bit value, so that printing one is a copy.
 
 ghost use Rattle.std.specs.Prelude.{◌≡◌, ◌+◌, ◌*◌, ◌/◌, ◌≤◌, ◌<◌, IfOk, length, List, ℕ};
 ghost use Rattle.request_lang.specs.PaddedText.{IsPaddedText, HoldsTexts};
@@ -6,17 +6,17 @@ ghost use Rattle.request_lang.specs.PaddedText.{IsPaddedText, HoldsTexts};
 use std::alloc::{AllocError, Global};
 use std::marker::Model;
 
-/// The bytes of a padded text: a space, the digits of a value, what does not count, and how many
-/// count.
+/// The bytes of a padded text: a space, the digits of a value, padding, and at the end the number
+/// of bytes that count.
 pub(crate) const PADDED_BYTES: usize = 8;
 
-/// Where a padded text says how many of its bytes count.
+/// The index of the number of bytes that count.
 pub(crate) const COUNT_AT: usize = 7;
 
-/// How many 16-bit values there are.
+/// The number of 16-bit values.
 const VALUES: u32 = 1 << 16;
 
-/// The text of each 16-bit value behind a space.
+/// The text of each 16-bit value, after a space.
 #[derive(Drop)]
 pub struct ValueTexts {
     padded: Vec<[u8; PADDED_BYTES]>,
@@ -34,7 +34,7 @@ impl Model for ValueTexts {
         (length texts.padded.items ≡ 2 ^ 16) × HoldsTexts texts.padded.items };
 }
 
-/// The padded text of a value of one digit.
+/// The padded text of a value with one digit.
 fn one_digit(value: u8) -> [u8; PADDED_BYTES]
     requires { value < 10 }
     ensures { IsPaddedText value result }
@@ -42,7 +42,7 @@ fn one_digit(value: u8) -> [u8; PADDED_BYTES]
     [b' ', b'0' + value, 0, 0, 0, 0, 0, 2]
 }
 
-/// The padded text of a value, by that of its tenth.
+/// The padded text of a value, made from that of a tenth of it.
 fn one_digit_more(tenth: [u8; PADDED_BYTES], value: u16) -> [u8; PADDED_BYTES]
     requires tenth { IsPaddedText (value / 10) tenth }
     requires long { 10 ≤ value }
@@ -55,7 +55,7 @@ fn one_digit_more(tenth: [u8; PADDED_BYTES], value: u16) -> [u8; PADDED_BYTES]
     padded
 }
 
-/// The padded text of a value, by those of the smaller ones.
+/// The padded text of a value, made from those of smaller ones.
 fn next_padded(smaller: &[[u8; PADDED_BYTES]], value: u16) -> [u8; PADDED_BYTES]
     requires told { HoldsTexts smaller.now }
     requires smaller { length smaller.now ≡ value }
@@ -70,7 +70,7 @@ fn next_padded(smaller: &[[u8; PADDED_BYTES]], value: u16) -> [u8; PADDED_BYTES]
 impl ValueTexts {
     ghost use Rattle.request_lang.specs.PaddedText.{IsPaddedText};
 
-    /// Makes the texts of all values.
+    /// Makes the texts of all values. Takes 512 KiB.
     pub fn new(alloc: Global) -> Result<ValueTexts, AllocError> {
         let mut padded = Vec::with_capacity(alloc, VALUES as usize)?;
         for value in 0..VALUES {

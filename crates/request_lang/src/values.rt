@@ -1,4 +1,4 @@
-//! 16-bit values as they are printed, many at a time.
+//! Prints many 16-bit values at a time.
 
 ghost use Rattle.std.specs.Prelude.{◌≡◌, ◌+◌, ◌*◌, ◌≤◌, ◌++◌, ◌∷◌, [], length, take, drop, OnOk};
 ghost use Rattle.request_lang.specs.Grammar.{line_feed};
@@ -11,25 +11,25 @@ use crate::value_texts::{COUNT_AT, PADDED_BYTES, ValueTexts};
 use std::alloc::AllocError;
 use tex_world::NoMemory;
 
-/// The most bytes of a value and its space.
+/// The most bytes of a value and the space before it.
 const MAX_VALUE_BYTES: usize = 6;
 
-/// How many values are made into text before they are appended.
+/// How many values are converted before their text is appended.
 pub const PART_VALUES: usize = 256;
 
-/// The most bytes of a part of a line: of one without its values, or of so many values.
+/// The most bytes of a part of a line: of its beginning without values, or of `PART_VALUES` values.
 pub const MAX_PART_BYTES: usize = 8192;
 
-/// The bytes that they take at most, and those that the last padded text has beyond its text.
+/// The most bytes of that many values. The last padded text may reach beyond its text.
 const ROOM_BYTES: usize = MAX_VALUE_BYTES * PART_VALUES + PADDED_BYTES;
 
-/// How many values are few: those of a lookup.
+/// How many values count as few: as many as a lookup can have.
 pub const FEW_VALUES: usize = 8;
 
-/// The bytes that they take at most.
+/// The most bytes of a few values.
 const FEW_BYTES: usize = MAX_VALUE_BYTES * FEW_VALUES + PADDED_BYTES;
 
-/// The same with a generation before them.
+/// The most bytes of a few values, with a generation before them.
 const LOOKUP_BYTES: usize = MAX_VALUE_BYTES + FEW_BYTES;
 
 /// Writes a padded text.
@@ -41,7 +41,7 @@ fn put_padded(room: &mut [u8], at: usize, padded: [u8; PADDED_BYTES])
     room[at..at + PADDED_BYTES].copy_from_slice(&padded);
 }
 
-/// Writes values, each behind a space, from a place of the room on, and says where they end.
+/// Writes values, each after a space, into the buffer from an index on. Returns where they end.
 #[inline(always)]
 fn put_values(texts: &ValueTexts, room: &mut [u8], from: usize, values: &[u16]) -> usize
     requires { from + max_value_bytes * length values.now + padded_bytes ≤ length room.old }
@@ -58,7 +58,7 @@ fn put_values(texts: &ValueTexts, room: &mut [u8], from: usize, values: &[u16]) 
     at
 }
 
-/// Appends a few values, each behind a space, and ends the line.
+/// Appends a few values, each after a space, and ends the line.
 #[inline(always)]
 #[tactic(auto, using(crate::proofs::AppendLemmas::kept))]
 pub(crate) fn push_last(
@@ -76,8 +76,7 @@ pub(crate) fn push_last(
     push_text(out, &room[..end + 1])
 }
 
-/// Appends a word, a generation of 16 bits, which is written as a value is, and a few values, each
-/// behind a space, and ends the line.
+/// Appends a word, a 16-bit generation and a few values, each after a space, and ends the line.
 #[inline(always)]
 #[tactic(auto, using(crate::proofs::AppendLemmas::kept))]
 pub(crate) fn push_lookup(
@@ -102,7 +101,7 @@ pub(crate) fn push_lookup(
     push_text(out, &room[..end + 1])
 }
 
-/// Appends values that the room has place for, each behind a space.
+/// Appends values that fit the buffer, each after a space.
 #[tactic(auto, using(crate::proofs::AppendLemmas::kept))]
 fn push_part(
     texts: &ValueTexts,
@@ -118,7 +117,7 @@ fn push_part(
     push_text(out, &room[..end])
 }
 
-/// Appends values, each behind a space, by way of the room.
+/// Appends values, each after a space, one buffer at a time.
 #[tactic(auto, using(crate::proofs::AppendLemmas::kept))]
 fn push_parts(
     texts: &ValueTexts,
@@ -138,8 +137,8 @@ fn push_parts(
     Ok(())
 }
 
-/// Appends some values of an answer, each behind a space. Where there is room for `MAX_PART_BYTES`
-/// bytes it takes no memory.
+/// Appends some values of an answer, each after a space. Allocates nothing if `MAX_PART_BYTES`
+/// bytes are reserved.
 #[tactic(auto, using(crate::proofs::AppendLemmas::kept))]
 pub fn values_text(texts: &ValueTexts, values: &[u16], out: &mut Vec<u8>) -> Result<(), NoMemory>
     requires { length values.now ≤ room_values }
@@ -157,7 +156,7 @@ pub fn values_text(texts: &ValueTexts, values: &[u16], out: &mut Vec<u8>) -> Res
     }
 }
 
-/// Appends values, each behind a space. Memory is asked for once, before the first.
+/// Appends values, each after a space. Memory is reserved once, before the first.
 #[tactic(auto, using(crate::proofs::AppendLemmas::kept))]
 pub(crate) fn push_values(
     texts: &ValueTexts,

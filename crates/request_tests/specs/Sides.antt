@@ -1,8 +1,8 @@
--- How large are the levels of a picture of the tests?
+-- How large are the levels of an image of the tests?
 use Rattle.std.specs.Prelude.{ℕ, ◌/◌, ◌^◌, max}
 use Rattle.texel_filter.specs.Image.{Sizes}
 
--- the sizes where each level is half of the one before
+-- the sizes if each level is half of the one before
 abbrev pub halving_sizes : ℕ → ℕ → ℕ → Sizes
 halving_sizes levels width height = record {
   levels = levels;

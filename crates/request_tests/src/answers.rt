@@ -1,4 +1,5 @@
-//! Lines of answers with numbers that no small run has: great generations, sides, counts and values.
+//! Lines of answers with large numbers, which no small run has: generations, sides, counts and
+//! values.
 
 use request_lang::{Answer, Shards, ValueTexts, Values, line_text};
 use std::alloc::{AllocError, Global};
@@ -6,7 +7,7 @@ use std::process::Abort;
 use std::test::Fail;
 use tiff_format::{Rect, ShardCount, TiffFault};
 
-// The line is appended behind what stands there.
+// the line is appended after what is there
 fn prints(
     alloc: Global,
     texts: &ValueTexts,
@@ -30,8 +31,8 @@ fn is_line(
     Ok(())
 }
 
-/// A word (a lookup, one along a footprint, a region of eight channels), its generation, its values, and
-/// its line.
+/// A word (a lookup, one along a footprint, or a region of eight channels), its generation, its
+/// values, and its line.
 static VALUES: &[(&str, u32, &[u16], &str)] = &[
     ("tex", 1048575, &[1, 22, 333], "tex 1048575 1 22 333"),
     ("tex", 2, &[], "tex 2"),

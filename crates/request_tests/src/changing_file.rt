@@ -10,8 +10,8 @@ use std::test::Fail;
 use std::thread::Threads;
 use std::{fs, io};
 
-// The header and the directory of 3 by 70 texels of one channel in one strip, at byte 122. They lie
-// in two cells, of which the second has 6 rows.
+// the header and the directory of 3 by 70 texels of one channel, in one strip at 122; they lie in
+// two cells, the second with 6 rows
 static TALL: [u8; 122] = [
     0x49, 0x49, 0x2a, 0x00, 0x08, 0x00, 0x00, 0x00, 0x09, 0x00, //
     0x00, 0x01, 0x03, 0x00, 0x01, 0x00, 0x00, 0x00, 0x03, 0x00, 0x00, 0x00, //
@@ -26,10 +26,10 @@ static TALL: [u8; 122] = [
     0x00, 0x00, 0x00, 0x00, //
 ];
 
-/// How many samples there are.
+/// The number of samples.
 const SAMPLES: u8 = 210;
 
-/// The file. Its k-th sample, row by row, is k and `shift` more; behind them stand `more` bytes.
+/// The file. Its k-th sample, row by row, is k plus `shift`, and `more` bytes follow them.
 fn tall(alloc: Global, shift: u8, more: usize) -> Result<Vec<u8>, AllocError> {
     let mut file = TALL.to_vec(alloc)?;
     for k in 0..SAMPLES {
@@ -41,16 +41,16 @@ fn tall(alloc: Global, shift: u8, more: usize) -> Result<Vec<u8>, AllocError> {
     Ok(file)
 }
 
-/// What becomes of the file.
+/// What happens to the file.
 #[derive(Drop)]
 enum Change {
-    /// Other bytes stand in it.
+    /// It gets other bytes.
     Painted(Vec<u8>),
     /// It is removed.
     Removed,
 }
 
-// A writer that changes a file before the first bytes that it takes.
+// a writer that changes a file before it takes its first bytes
 #[derive(Drop)]
 struct Painter<R> {
     rt: R,
@@ -75,8 +75,8 @@ impl<R: Files<File = File>> Write for Painter<R> {
     }
 }
 
-/// The first line of each list: of a region of the first cell alone, so wide that the line is longer
-/// than what waits before it is put. So the file changes before the second round.
+/// The first lines of each list: a region around the first cell only, so wide that its line is
+/// longer than a page. So it is written, and the file changes, before the second round.
 const WIDE: &str = "pixels 0 0 0 1024 64 tall.tif\nsync\n";
 
 /// The values of the first cell's rows, 1024 texels wide.
@@ -98,8 +98,8 @@ fn wide_text(alloc: Global) -> Result<String, AllocError> {
     Ok(text)
 }
 
-/// What is written for a list, whose file, in a folder of its own, changes so before its second
-/// round.
+/// What is written for a list whose file changes in this way before the second round. Each list has
+/// its own folder.
 fn written(
     rt: &HostRuntime,
     threads: &(impl Threads + Wait + Sync),
@@ -139,7 +139,7 @@ fn written(
     Ok((painter.taken, status))
 }
 
-// What is in the cache is answered in its generation; what has to be read is met in the next one.
+// What is in the cache is answered in its generation; what must be read is found in the next one.
 #[test]
 fn lines_name_the_generation_that_they_were_read_from(rt: HostRuntime) -> Result<(), Fail> {
     let alloc = rt.alloc();
@@ -189,11 +189,11 @@ fn what_is_read_of_a_removed_file_is_a_fault(rt: HostRuntime) -> Result<(), Fail
     Ok(())
 }
 
-/// A region of the largest size, beside the level.
+/// A region of the greatest size, outside the level.
 const BESIDE: &str = "pixels 0 2000 2000 1024 1024 tall.tif\n";
 
-// A round has four of the largest regions. The fourth lies on the first cell with its last rows; the
-// fifth lies on the second cell, and is answered when the file has changed.
+// A round has room for four of the largest regions. The fourth covers the first cell with its last
+// rows. The fifth covers the second cell, and is answered after the file has changed.
 #[test]
 fn a_round_has_four_large_regions(rt: HostRuntime) -> Result<(), Fail> {
     let alloc = rt.alloc();

@@ -1,5 +1,5 @@
-//! Whole runs of three requests for one file: each call of the tap, of the feed and of the sink fails
-//! in turn, and the file changes at each of its bytes in turn.
+//! Runs of three requests for one file. Each call of the tap, the feed and the sink fails in turn,
+//! and the file changes at each of its bytes in turn.
 
 use crate::ran::{Failing, run_list};
 use std::test::Fail;
@@ -8,7 +8,7 @@ const LIST: &str = "info A.tif\n\
      pixels 0 0 0 4 4 A.tif\n\
      tex 32768 32768 0 clamp clamp bilinear 1 A.tif\n";
 
-/// The samples are 16 y + x, and the four in the middle 17, 18, 33 and 34.
+/// The samples are 16 y + x, so the four in the middle are 17, 18, 33 and 34.
 const INFO: &str = "info 1 4 4 1 8 1 3";
 
 const PIXELS: &str = "pixels 1 1 0 257 514 771 4112 4369 4626 4883 \
@@ -16,33 +16,34 @@ const PIXELS: &str = "pixels 1 1 0 257 514 771 4112 4369 4626 4883 \
 
 const TEX: &str = "tex 1 6554";
 
-/// In the second generation they are greater by 100.
+/// In generation 2 they are greater by 100.
 const NEW_PIXELS: &str = "pixels 2 1 25700 25957 26214 26471 29812 30069 30326 30583 \
      33924 34181 34438 34695 38036 38293 38550 38807";
 
 const NEW_TEX: &str = "tex 2 32254";
 
-/// Behind what the worker counted, which a request that fails may have done.
+/// The last line. The line of the worker before it is not compared, because a failed request may
+/// have counted.
 const LAST: &str = "total 3 refused 1\n";
 
-/// The calls of the tap: two open the file and two read its directory; two more open it once more and
-/// read its one cell.
+/// The calls of the tap: two open the file, and two read its directory. Two more open it again and
+/// read its only cell.
 const OPENING: u64 = 4;
 
 const READING: u64 = 6;
 
-/// One read of the feed has all of the list, and one its end.
+/// One read of the feed gets the whole list, and one its end.
 const READS: u64 = 2;
 
-/// One put has all lines.
+/// One write gets all lines.
 const PUTS: u64 = 1;
 
-/// The bytes of the file, of which the samples are the last.
+/// The bytes of the file before its samples, and all its bytes.
 const SAMPLES: u64 = 122;
 
 const BYTES: u64 = 138;
 
-// The request that makes the call is refused, and the next one makes it again.
+// The request that makes the failing call is refused, and the next one repeats the call.
 #[test]
 fn each_call_of_the_tap_fails(rt: HostRuntime) -> Result<(), Fail> {
     let alloc = rt.alloc();
@@ -90,7 +91,7 @@ fn no_further_call_is_made(rt: HostRuntime) -> Result<(), Fail> {
     Ok(())
 }
 
-// `info` reads all bytes before the samples, and the region reads these.
+// `info` reads all bytes before the samples, and the region reads the samples.
 #[test]
 fn the_file_changes_at_each_byte(rt: HostRuntime) -> Result<(), Fail> {
     let alloc = rt.alloc();

@@ -1,4 +1,4 @@
-//! What a run does where the folder, its tap, the feed or the sink fails.
+//! What a run does if the folder, its tap, the feed or the sink fails.
 
 use crate::ran::{Failing, run_list};
 use std::alloc::{AllocError, Global};
@@ -7,11 +7,11 @@ use std::sync::Wait;
 use std::test::Fail;
 use std::thread::Threads;
 
-// Two requests for the same region.
+// two requests for the same region
 const LIST: &str = "pixels 0 1 0 2 2 A.tif\npixels 0 1 0 2 2 A.tif\n";
 
 /// What fails or is met and its name, the list, what is written, the status, and how many calls
-/// failed and met a newer generation.
+/// failed and how many met a newer generation.
 type Met = (
     &'static str,
     Failing,
@@ -48,14 +48,7 @@ static FAILURES: &[Met] = &[
         (0, 0),
     ),
     ("the first put", Failing::Sink(1), LIST, "", 5, (0, 0)),
-    (
-        "a list that is none",
-        Failing::Sink(1),
-        "foo\n",
-        "",
-        5,
-        (0, 0),
-    ),
+    ("a faulty list", Failing::Sink(1), "foo\n", "", 5, (0, 0)),
 ];
 
 #[test]
@@ -66,8 +59,8 @@ fn says_what_failed(rt: HostRuntime) -> Result<(), Fail> {
     Ok(())
 }
 
-// Lines are put many at a time: all of this one, of 256 by 128 zeros, with the one before it, but for
-// its end, and then the rest.
+// Lines are written many at a time: this one, of 256 by 128 zeros, together with the one before it,
+// except for its end, and then the rest.
 #[test]
 fn puts_lines_together(rt: HostRuntime) -> Result<(), Fail> {
     let alloc = rt.alloc();
@@ -85,7 +78,7 @@ fn puts_lines_together(rt: HostRuntime) -> Result<(), Fail> {
 }
 
 /// The file changes while it is read: at a byte of its directory, or of its samples. The request is
-/// answered `again`, and from then on the file is answered in its second generation.
+/// answered `again`, and later ones are answered from generation 2.
 static RISES: &[Met] = &[
     (
         "a rise at byte 8",
@@ -115,7 +108,7 @@ fn says_which_generation_was_met(rt: HostRuntime) -> Result<(), Fail> {
     Ok(())
 }
 
-/// The same where the region lies on two tiles, and the second is changed.
+/// The region lies in two tiles, and the second one changes.
 static TILE_RISE: Met = (
     "a tile that was changed",
     Failing::Rise(1, 12472),
@@ -126,7 +119,7 @@ static TILE_RISE: Met = (
     (0, 1),
 );
 
-/// A byte that cannot be read once; a lookup.
+/// A byte that cannot be read once, and a lookup.
 static BYTES: &[Met] = &[
     (
         "a byte",
@@ -169,39 +162,39 @@ fn two_lines(alloc: Global, first: &str, second: &str) -> Result<String, AllocEr
     format!(in alloc; "{first}\n{second}\n")
 }
 
-/// A request, its line, how many calls of the tap it takes, and the needs and the hits of it and of the
-/// same once more.
+/// A request, its line, how many calls of the tap it takes, and the needs and hits of it and of its
+/// repetition.
 type Reads = (&'static str, &'static str, u64, (u64, u64));
 
-/// How many calls, by what they are for: two open the file and read its header; two of each
-/// directory read its count, and its entries with the next offset; one is for each reading of
-/// values that stand apart; one opens the file for its cells; and the last ones read the cells that
-/// the request needs, rows of one strip or tile at once.
+/// The number of calls to the tap. Two open the file and read its header. For each directory, two
+/// read its number of entries, and its entries with the next offset. Each field whose values are
+/// elsewhere takes one more. One opens the file for its cells, and the last ones read the cells
+/// needed, all rows of a strip or tile at once.
 static READS: &[Reads] = &[
     (
-        // All rows of the cell lie in one strip.
+        // all rows of the cell are in one strip
         "pixels 0 1 0 2 2 A.tif",
         "pixels 1 1 257 514 4369 4626",
         2 + 2 + 1 + 1,
         (2, 1),
     ),
     (
-        // A lookup of four texels of that cell.
+        // a lookup of four texels of that cell
         "tex 32768 32768 0 clamp clamp bilinear 1 A.tif",
         "tex 1 6554",
         2 + 2 + 1 + 1,
         (8, 7),
     ),
     (
-        // The last of three rows lies in a strip that stands before that of the others.
+        // the last of three rows is in a strip that comes before that of the others
         "pixels 0 4 1 2 3 low.tif",
         "pixels 1 1 1407 0 2407 0 3407 0",
         2 + 2 + 1 + 2,
         (2, 1),
     ),
     (
-        // BitsPerSample stands apart, its first value and all three, and TileOffsets. The region
-        // lies on four tiles.
+        // BitsPerSample is elsewhere (its first value, then all three), and so is TileOffsets; the
+        // region lies in four tiles
         "pixels 0 63 30 2 4 B.tif",
         "pixels 1 3 3063 23063 43063 3064 23064 43064 3163 23163 43163 3164 23164 43164 \
          3263 23263 43263 3264 23264 43264 3363 23363 43363 3364 23364 43364",
@@ -209,7 +202,7 @@ static READS: &[Reads] = &[
         (8, 0),
     ),
     (
-        // TileOffsets stands apart. The region lies on four tiles.
+        // TileOffsets is elsewhere; the region lies in four tiles
         "pixels 0 15 12 2 6 seam.tif",
         "pixels 1 2 27756 32125 27499 31868 24929 30840 24672 30583 \
          22102 29555 21845 29298 19275 28270 19018 28013 \
@@ -218,8 +211,8 @@ static READS: &[Reads] = &[
         (8, 0),
     ),
     (
-        // Level 1, behind two directories. The strip of its second row stands before that of its
-        // first, and the second column lies beside it.
+        // level 1, after two directories; the strip of its second row comes before that of its
+        // first, and the second column is outside it
         "pixels 1 0 0 2 2 two.tif",
         "pixels 1 1 51400 0 25700 0",
         2 + 2 + 2 + 1 + 2,
@@ -241,8 +234,8 @@ fn call_fails<R: Abort + Threads + Wait + Sync>(
     Ok(())
 }
 
-// Of a request that is made twice: whichever call of the tap fails, the first is answered
-// `read fault`, and the second as ever. Where none fails, the second makes no call at all.
+// A request is made twice. Whichever call of the tap fails, the first answer is `read fault` and
+// the second is normal. If none fails, the second makes no call at all.
 fn each_call_fails<R: Abort + Threads + Wait + Sync>(
     rt: &R,
     alloc: Global,

@@ -1,5 +1,5 @@
-//! Lookups along a pixel's footprint: what is made of them, where their probes lie, their values,
-//! and the texels that they visit. Worked out by hand from docs/FILTERING.md.
+//! Lookups along a footprint: the plan, the places of the probes, the values, and the texels
+//! visited. Worked out by hand from docs/FILTERING.md.
 
 ghost use Rattle.std.specs.Prelude.{◌≡◌, IfSome};
 ghost use Rattle.std.specs.Bool.{OnTrue};
@@ -15,14 +15,14 @@ use tiff_format::MAX_SIDE;
 
 const MAX_PROBES: u32 = 8;
 
-/// Four derivatives (s and t to the right, s and t below), width and height, and the plan: number
-/// of probes, LOD, and the longer axis.
+/// Four derivatives (s and t to the right, s and t down), width and height, and the plan: number of
+/// probes, LOD, and the longer axis.
 type PlanRow = ((i32, i32, i32, i32), (u32, u32), (u32, u32, i32, i32));
 
-/// No footprint at all. Four texels by none. Two axes of one length: the one to the right. The one
-/// below. 3 texels by 2. 3 by 3. More than 8 times as long. A little longer than a texel. The longest
-/// by none, and by the longest. Down the image alone, and with a share of the next level. A rest that
-/// is too small to count.
+/// The cases in order. All derivatives 0. 4 texels by 0. Two axes of equal length, where the one to
+/// the right is chosen; then the one down. 3 texels by 2. 3 by 3. More than 8 times as long as
+/// wide. A little longer than a texel. The longest possible by 0, and by itself. Only down the
+/// image, and with a part of the next level. A rest that is too small to count.
 static PLANS: &[PlanRow] = &[
     ((0, 0, 0, 0), (4, 4), (1, 0, 0, 0)),
     ((65536, 0, 0, 0), (4, 4), (4, 0, 65536, 0)),
@@ -46,10 +46,10 @@ static PLANS: &[PlanRow] = &[
     ((131073, 0, 131073, 0), (1, 1), (1, 65536, 131073, 0)),
 ];
 
-/// A coordinate, the number of probes and how far the axis goes, and where each probe lies.
+/// A coordinate, the number of probes and the length of the axis, and the place of each probe.
 type ProbeRow = (i32, (u32, i32), &'static [i32]);
 
-/// The middles of equal parts, rounded down, also where the axis goes back.
+/// The middles of equal parts, rounded down, also if the axis goes backwards.
 static PROBES: &[ProbeRow] = &[
     (32768, (1, 1073741823), &[32768]),
     (32768, (4, 65536), &[8192, 24576, 40960, 57344]),
@@ -71,13 +71,14 @@ static PROBES: &[ProbeRow] = &[
     ),
 ];
 
-/// Coordinates, derivatives, wraps, value of the first channel, and the number of texels visited.
+/// Coordinates, derivatives, wraps, the value of the first channel, and the number of texels
+/// visited.
 type Row = ((i32, i32), (i32, i32, i32, i32), (Wrap, Wrap), u16, usize);
 
-/// A single probe is the trilinear lookup. Four probes, 0 and 257 and 514 and 771, whose mean is half
-/// a value more than 385. A single probe in level 1. Two probes of 128.5 and 385.5: to round each
-/// would make the mean 258. Two probes between two levels. A probe beside
-/// the image, by a black wrap and a periodic one.
+/// The cases in order. A single probe is the trilinear lookup. Four probes, 0, 257, 514 and 771,
+/// whose mean is half a value above 385. A single probe in level 1. Two probes of 128.5 and 385.5:
+/// rounding each first would make the mean 258. Two probes between two levels. A probe outside the
+/// image, with wrap `black` and with `periodic`.
 static ROWS: &[Row] = &[
     ((32768, 32768), (0, 0, 0, 0), (Clamp, Clamp), 6554, 4),
     ((32768, 8192), (65536, 0, 0, 0), (Clamp, Clamp), 386, 16),
@@ -100,14 +101,14 @@ static ROWS: &[Row] = &[
     ((65536, 8192), (32768, 0, 0, 0), (Periodic, Clamp), 386, 8),
 ];
 
-// A coordinate or a derivative may be this number.
+// Whether a coordinate or derivative may have this number.
 fn is_number(z: i32) -> bool
     ensures { OnTrue result (IsDerivNumber z) }
 {
     -1073741824 <= z && z < 1073741824
 }
 
-/// A lookup, where its numbers are in range.
+/// A lookup, if its numbers are in range.
 fn request(
     place: (i32, i32),
     steps: (i32, i32, i32, i32),
@@ -143,7 +144,7 @@ fn request(
     None
 }
 
-// What is made of the lookup of a row.
+// the plan for a case
 fn planned((steps, (w, h), _): &PlanRow) -> Option<ProbePlan> {
     let asked = request((0, 0), *steps, (Clamp, Clamp), 2)?;
     if *w < 1 || *w > MAX_SIDE || *h < 1 || *h > MAX_SIDE {
@@ -161,7 +162,7 @@ fn plans_probes(rt: HostRuntime) {
     }
 }
 
-// Probe j of a row, if it has one.
+// Probe j of a case, if it has one.
 fn placed((s, (n, ds), _): &ProbeRow, j: u32) -> Option<TexRequest> {
     let asked = request((*s, 3), (0, 0, 0, 0), (Black, Periodic), 2)?;
     if *n > MAX_PROBES || j >= *n || !is_number(*ds) {
@@ -194,13 +195,13 @@ fn places_probes(rt: HostRuntime) {
     }
 }
 
-// The lookup of a row, and what it answers.
+// Makes the lookup of a case.
 fn look_up(asked: &mut Asked, row: &Row, out: &mut [u16; 2]) -> Option<Result<(), Refused>> {
     let along = request(row.0, row.1, row.2, 2)?;
     Some(derivs(asked, &along, out))
 }
 
-// The lookup goes as its row says, also where visit `fails`, counted from 1, is refused.
+// Whether the lookup goes as its case says, also if visit number `fails`, counted from 1, fails.
 fn is_so(alloc: Global, row: &Row, fails: usize) -> bool {
     let mut asked = Asked::new(alloc, fails);
     let mut out = [7; 2];
@@ -246,7 +247,7 @@ fn visits_probes_in_turn(rt: HostRuntime) {
     );
 }
 
-// The sum of the middle at an LOD.
+// The sum for the middle at an LOD.
 fn middle_sum(asked: &mut Asked, lod: u32, out: &mut [u64; 2]) -> Result<(), Refused> {
     let middle = TexRequest {
         s: 32768,
@@ -260,7 +261,7 @@ fn middle_sum(asked: &mut Asked, lod: u32, out: &mut [u64; 2]) -> Result<(), Ref
     trisum(asked, &middle, out)
 }
 
-// 6553.5 and 6617.75, in 1/2^48.
+// 6553.5 and 6617.75, in units of 1/2^48
 #[test]
 fn sums_two_levels(rt: HostRuntime) {
     for (lod, sum) in [(0, 13107 << 47), (32768, 26471 << 46)] {

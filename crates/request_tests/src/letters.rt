@@ -1,4 +1,4 @@
-//! Two small files, of which the first has three generations.
+//! Two small files, the first with three generations.
 ghost use Rattle.std.specs.Prelude.{◌+◌, ◌*◌, ◌&&◌, ◌==◌, nat_le, [], ◌∷◌, Some, None, refl};
 ghost use Rattle.std.specs.Prelude.{if◌then◌else◌, codes};
 ghost use Rattle.std.proofs.Common.{arith, lit≤};
@@ -6,8 +6,8 @@ ghost use Rattle.tex_world.specs.Names.{name_at, distinct_names};
 
 use tex_world::FileTable;
 
-/// `A.tif` has 4 bytes in the generations 1, 2 and 3, and `short.tif` 3 bytes in one. The byte at a
-/// place is the place and ten times the generation.
+/// `A.tif` has 4 bytes in generations 1, 2 and 3, and `short.tif` has 3 bytes in one. The byte at a
+/// place is the place plus ten times the generation.
 #[derive(Drop)]
 pub(crate) struct Letters;
 

@@ -1,9 +1,8 @@
-//! Tests of what stands round a request: answer lines with numbers that no small run has; which texels a
-//! lookup visits, and what is made of a footprint; the world outside, a folder in memory with its plan
-//! and a real folder, with their taps, feeds and sinks; whole runs in which something fails or a file
-//! changes, several workers, and the bytes of the sample files. What a run answers where nothing
-//! fails, and what words and lists are none, is told by the stored run of the program and by lists that
-//! it is given behind the gate.
+//! Tests around requests. They cover lines with large numbers, the texels that lookups visit,
+//! footprints, folders in memory and real folders with their taps, feeds and sinks, and the sample
+//! files. They also cover whole runs in which something fails, a file changes or several workers
+//! answer. Runs without failures, and invalid arguments and lists, are tested by the program's
+//! stored run and by lists that CI gives to it.
 #![tactic(auto)]
 
 #[cfg(test)]
@@ -12,6 +11,8 @@ mod answers;
 mod changing_file;
 #[cfg(test)]
 mod each_in_turn;
+#[cfg(test)]
+mod ellipses;
 #[cfg(test)]
 mod failures;
 #[cfg(test)]

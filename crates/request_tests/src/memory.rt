@@ -1,4 +1,4 @@
-//! The folder in memory through the traits.
+//! The folder in memory, used through the traits.
 ghost use Rattle.tex_world.specs.World.{IsFile};
 
 use crate::letters::Letters;
@@ -8,7 +8,7 @@ use tex_world::{EnterError, Folder, MemFolder, Plan, Tap, TapHandle};
 
 type First = Result<(u32, [u8; 3]), &'static str>;
 
-// The generation of a file that was opened and its first three bytes.
+// The generation of an open file, and its first three bytes.
 fn first_in<T: Tap>(tap: &mut T, mut handle: T::Handle) -> First {
     let mut bytes = [0; 3];
     if handle.len() < 3 || tap.read_at(&mut handle, 0, &mut bytes).is_err() {
@@ -29,7 +29,7 @@ fn first<T: Tap>(tap: &mut T, alloc: Global, file: u32) -> First
     first_in(tap, handle)
 }
 
-// The same of the file of a name, or `none`.
+// The generation and first bytes of the file with a name, or `none`.
 fn first_of<F: Folder>(folder: &mut F, alloc: Global, name: &str) -> Result<String, Fail> {
     if folder.enter(alloc, "letters").is_err() {
         return Err("not entered".into());
@@ -46,7 +46,7 @@ fn first_of<F: Folder>(folder: &mut F, alloc: Global, name: &str) -> Result<Stri
     Ok(format!(in alloc; "{generation} {a} {b} {c}")?)
 }
 
-// Such a value may be sent to a thread, or lent to several.
+// a value of this type can be sent to a thread, or lent to several
 fn is_sent<T: Send>() {}
 
 fn is_shared<T: Send + Sync>() {}

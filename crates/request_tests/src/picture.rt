@@ -1,10 +1,10 @@
-//! A picture of 4 by 4 texels with three levels, whose fetch writes down what it is asked for.
+//! An image of 4 by 4 texels with three levels, whose fetch records which texels are asked for.
 
 use std::alloc::{AllocError, Global};
 use texel_filter::Fetch;
 
-/// The 16-bit value of a channel of a texel: 257 times 16 * y + x in the first channel of level 0, and
-/// the means in those behind it.
+/// The 16-bit value of a channel of a texel: 257 times 16 * y + x in the first channel of level 0,
+/// and the means of these in the levels after it.
 fn value((level, x, y): (u32, u32, u32), c: u32) -> u16 {
     match (level, x, y) {
         _ if c > 0 => 0,
@@ -17,12 +17,12 @@ fn value((level, x, y): (u32, u32, u32), c: u32) -> u16 {
     }
 }
 
-/// Why a texel was refused.
+/// Why a texel is not fetched.
 #[derive(Clone, Copy, Debug, PartialEq, Eq)]
 pub(crate) enum Refused {
-    /// It was its turn.
+    /// It was the one planned to fail.
     Here,
-    /// No memory to write it down.
+    /// Out of memory for the record.
     NoMemory,
 }
 
@@ -34,7 +34,7 @@ pub(crate) struct Asked {
 }
 
 impl Asked {
-    /// A fetch of which call `fails`, counted from 1, is refused.
+    /// A source of texels whose call number `fails`, counted from 1, fails.
     pub(crate) fn new(alloc: Global, fails: usize) -> Asked {
         Asked {
             visits: Vec::new(alloc),

@@ -10,15 +10,15 @@ use tex_world::{
     ReadError, Rise, Tap, TapHandle,
 };
 
-/// What it shows, the entries of the plan for the first tap, what is asked of that tap, and what it
-/// answers, with its counts after it.
+/// The name of a case, the plan's entries for the first tap, the calls of that tap, and its answers
+/// and counts.
 ///
-/// `call=5` fails the fifth call, `byte=0@3` the first read of the byte 3 of the file 0. For
-/// `A.tif`, `newest=2,3` are two newest generations, one behind the other, and `rise=2>3` is a rise
-/// to the generation 3 at the byte 2.
+/// `call=5` makes the fifth call fail, and `byte=0@3` the first read of byte 3 of file 0. For
+/// `A.tif`, `newest=2,3` are two entries for the newest generation, and `rise=2>3` makes generation
+/// 3 appear at byte 2.
 ///
-/// `open=1` opens `A.tif` at 1 at least, `read=2` reads the bytes 2 and 3 of what was opened last,
-/// and `ask=1` asks for the newest generation, which is 1 at least. Where nothing is asked it is
+/// `open=1` opens `A.tif` at generation 1 or newer, `read=2` reads bytes 2 and 3 of the file opened
+/// last, and `ask=1` asks for the newest generation, at least 1. If no calls are given they are
 /// `open=0 read=0 read=2 read=2 ask=0`.
 type Row = (&'static str, &'static str, &'static str, &'static str);
 
@@ -92,7 +92,7 @@ static ROWS: &[Row] = &[
         "",
         "1 gone=3 gone=2 12,13 3 faults 0 moves 2",
     ),
-    // what several entries name fails
+    // a read that several entries name fails
     (
         "a rise and a byte that fails",
         "byte=0@3 rise=2>2",
@@ -111,7 +111,7 @@ static ROWS: &[Row] = &[
         "",
         "1 10,11 failed 12,13 3 faults 1 moves 0",
     ),
-    // the generation that is asked for at least
+    // the least generation that is asked for
     (
         "each",
         "",
@@ -144,7 +144,7 @@ static ROWS: &[Row] = &[
     ),
 ];
 
-/// What is asked of a tap where a row does not say it, and what comes of it without entries.
+/// The calls of a case that gives none.
 const CALLS: &str = "open=0 read=0 read=2 read=2 ask=0";
 
 const CALM: &str = "1 10,11 12,13 12,13 1 faults 0 moves 0";
@@ -204,7 +204,7 @@ fn plan_of(alloc: Global, entries: &str) -> Result<Plan, Fail> {
     Ok(plan)
 }
 
-/// What a read of two bytes at a place answers.
+/// Appends what a read of two bytes at a place answers.
 fn push_read(
     text: &mut String,
     tap: &mut MemTap<Letters>,
@@ -235,7 +235,7 @@ fn open_at(alloc: Global, tap: &mut MemTap<Letters>, least: u64) -> Opened {
 
 type Opened = Result<MemHandle<Letters>, OpenError>;
 
-/// What opening `A.tif` answers: the handle, if there is one.
+/// Appends what opening `A.tif` answers, and returns the handle, if there is one.
 fn push_opened(text: &mut String, opened: Opened) -> Result<Option<MemHandle<Letters>>, Fail> {
     match opened {
         Ok(handle) => {
@@ -248,7 +248,7 @@ fn push_opened(text: &mut String, opened: Opened) -> Result<Option<MemHandle<Let
     Ok(None)
 }
 
-/// Asks for the newest generation, which is one that it has at least.
+/// Asks for the newest generation, at least one that the file has.
 fn ask_at(tap: &mut MemTap<Letters>, least: u64) -> Result<u32, Failed> {
     match least {
         0 => tap.newest(0, 0),
@@ -266,7 +266,7 @@ fn push_asked(text: &mut String, asked: Result<u32, Failed>) -> Result<(), Fail>
     Ok(())
 }
 
-/// A tap, and what was opened last.
+/// A tap, and the file that was opened last.
 #[derive(Drop)]
 struct Asked {
     tap: MemTap<Letters>,
@@ -290,7 +290,7 @@ impl Asked {
         Ok(())
     }
 
-    /// What the calls answer, and the counts after them.
+    /// The answers of the calls, and the counts afterwards.
     fn answers(&mut self, alloc: Global, calls: &str) -> Result<String, Fail> {
         let mut text = String::new(alloc);
         for call in calls.split_whitespace() {
@@ -302,15 +302,15 @@ impl Asked {
     }
 }
 
-/// A tap of a folder, asked so.
+/// Makes a tap of a folder for these calls.
 fn tap_of(alloc: Global, folder: &mut MemFolder<Letters>) -> Result<Asked, Fail> {
     let tap = folder.tap(alloc)?;
     Ok(Asked { tap, handle: None })
 }
 
-/// What the first tap of a folder with these entries answers, and what is wrong beside it: a second
-/// tap, which no entry names, is to answer as without a plan, and the folder to have the counts of
-/// the first.
+/// The answers of the first tap of a folder with these entries, and anything else that is wrong: a
+/// second tap, which no entry names, must answer as without a plan, and the folder must have the
+/// counts of the first.
 fn answers_of(alloc: Global, entries: &str, calls: &str) -> Result<String, Fail> {
     let mut folder: MemFolder<Letters> = MemFolder::new(plan_of(alloc, entries)?);
     let mut first = tap_of(alloc, &mut folder)?;
@@ -344,7 +344,7 @@ fn plans_fail_calls_and_change_files(rt: HostRuntime) -> Result<(), Fail> {
     Ok(())
 }
 
-// Four calls of the tap: two openings, a question for the newest generation and a read.
+// four calls of the tap: two opens, one question for the newest generation, and one read
 fn has_counts(tap: &MemTap<Letters>) -> bool {
     tap.calls() == 4 && tap.opens() == 2 && tap.asks() == 1
 }

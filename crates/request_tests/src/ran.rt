@@ -1,4 +1,4 @@
-//! A run of the top call over files in memory.
+//! Runs the top call over files in memory.
 
 use crate::small_files::SmallFiles;
 use render_run::{Hook, NoHook, run};
@@ -15,14 +15,13 @@ pub(crate) enum Failing {
     Nothing,
     /// The first `enter` of the folder.
     Enter,
-    /// The call of this number, counted from 1, of the folder's tap.
+    /// The call with this number, counted from 1, of the folder's tap.
     Tap(u64),
-    /// That of the feed.
+    /// The call with this number of the feed.
     Feed(u64),
-    /// That of the sink.
+    /// The call with this number of the sink.
     Sink(u64),
-    /// At its first read of this byte the file of this number is found to have its second
-    /// generation.
+    /// The file with this number turns out to have generation 2 at the first read of this byte.
     Rise(u32, u64),
     /// The first read of this byte of the folder's first file.
     Byte(u64),
@@ -47,22 +46,23 @@ impl Ran {
         assert!(rt; text == written, "in {message}: {text}");
     }
 
-    /// It wrote one of these and ended with this status, and each tap that was made was given back.
+    /// Checks that the run wrote one of these and ended with this status, and that each tap was
+    /// given back.
     pub(crate) fn is_one_of(&self, rt: &impl Abort, written: &[&str], status: u8, message: &str) {
         let text = from_utf8(self.written.bytes()).unwrap_or("no text");
         assert!(rt; written.contains(&text), "in {message}: {text}");
         self.is(rt, text, status, message);
     }
 
-    /// It wrote this and ended with this status, and each tap that was made was given back.
+    /// Checks that the run wrote this and ended with this status, and that each tap was given back.
     pub(crate) fn is(&self, rt: &impl Abort, written: &str, status: u8, message: &str) {
         self.wrote(rt, written, message);
         assert!(rt; self.status == status, "status in {message}");
         assert!(rt; self.made == self.returned, "taps in {message}");
     }
 
-    /// The same of a run of one worker, whatever it has counted before the last line: no hit that is no
-    /// need.
+    /// Checks the output and status of a run of one worker. The counts before the last line may be
+    /// anything, but with no more hits than needs.
     pub(crate) fn is_but_needs(
         &self,
         rt: &impl Abort,
@@ -83,20 +83,20 @@ impl Ran {
         self.is(rt, text, status, message);
     }
 
-    /// The same, and no call failed or met a newer generation.
+    /// Checks the output and status, and that no call failed or met a newer generation.
     pub(crate) fn is_calmly(&self, rt: &impl Abort, written: &str, status: u8, message: &str) {
         self.is(rt, written, status, message);
         self.counts(rt, 0, 0, message);
     }
 
-    /// So many calls failed, and so many met a newer generation.
+    /// Checks how many calls failed, and how many met a newer generation.
     pub(crate) fn counts(&self, rt: &impl Abort, faults: u64, moves: u64, message: &str) {
         assert!(rt; self.faults == faults, "faults in {message}");
         assert!(rt; self.moves == moves, "moves in {message}");
     }
 }
 
-/// What the line of the first worker says.
+/// The needs and hits in the line of the first worker.
 fn needs_and_hits(line: &str) -> Option<(u64, u64)> {
     let counts = line.strip_prefix("worker 0 needs ")?.strip_suffix("\n")?;
     let (needs, hits) = counts.split_once(" hits ")?;
@@ -149,7 +149,7 @@ fn failing_put(failing: Failing) -> Option<u64> {
     }
 }
 
-/// Runs a list under these words over the files of a table.
+/// Runs a list with these arguments over the files of a table.
 pub(crate) fn run_words<T: FileTable + Send + Sync>(
     rt: &(impl Threads + Wait + Sync),
     alloc: Global,
@@ -160,7 +160,7 @@ pub(crate) fn run_words<T: FileTable + Send + Sync>(
     run_hooked::<T>(rt, alloc, words, list, failing, &NoHook)
 }
 
-/// The same, and the hook is called round each request.
+/// Runs a list with these arguments, with a hook that is called before and after each request.
 pub(crate) fn run_hooked<T: FileTable + Send + Sync>(
     rt: &(impl Threads + Wait + Sync),
     alloc: Global,

@@ -29,7 +29,7 @@ fn make_ordered<R: Files<File = File>>(rt: &R) -> io::Result<()> {
     Ok(())
 }
 
-// All names are found in their order, and nothing else is.
+// All names are found in their order, and no other name is.
 fn finds_in_order<F: Folder>(folder: &F) -> bool {
     for (n, name) in NAMES.iter().enumerate() {
         if folder.find(name) != Some(n as u32) {
@@ -55,7 +55,7 @@ fn lists_the_plain_files_in_order(rt: HostRuntime) -> Result<(), Fail> {
     Ok(())
 }
 
-/// A tap that shows its failed calls.
+/// A tap that can tell its failed calls.
 trait ShowsFaults {
     fn shown(&self) -> u64;
 }
@@ -66,8 +66,8 @@ impl<R> ShowsFaults for RealTap<R> {
     }
 }
 
-// The file is read, then rewritten, and then another file takes its place. It answers the name of
-// the first step that goes otherwise.
+// The file is read, then rewritten, then replaced by another file. Returns the name of the first
+// step that goes wrong.
 fn wrong_change<T: Tap>(
     rt: &HostRuntime,
     alloc: Global,
@@ -97,7 +97,7 @@ fn wrong_change<T: Tap>(
     Ok(None)
 }
 
-// The file goes, and a folder takes its place.
+// The file disappears, and a folder takes its place.
 fn wrong_end<T: Tap>(
     rt: &HostRuntime,
     alloc: Global,
@@ -116,7 +116,7 @@ fn wrong_end<T: Tap>(
     }
 }
 
-// Both, with no failed call until the file goes and two then.
+// Both of these, with no failed call until the file disappears and two afterwards.
 fn wrong_step<T: Tap + ShowsFaults>(
     rt: &HostRuntime,
     alloc: Global,
@@ -168,7 +168,7 @@ fn a_changed_file_has_the_next_generation(rt: HostRuntime) -> Result<(), Fail> {
     Ok(())
 }
 
-// A stream that gives and takes some bytes and then fails.
+// a stream that gives and takes some bytes and then fails
 #[derive(Drop)]
 struct Broken(usize);
 

@@ -1,4 +1,4 @@
-//! The sample files: bytes that were worked out by hand, and a run over all of them.
+//! The sample files: bytes worked out by hand, and a run over all of them.
 ghost use Rattle.tex_world.specs.World.{IsFile};
 
 use render_run::{NoHook, run};
@@ -21,7 +21,7 @@ fn byte_at<T: Tap>(tap: &mut T, alloc: Global, file: u32, at: u64) -> Result<u8,
     Ok(byte[0])
 }
 
-// The same of the file of a name, through the tap of a new folder.
+// The byte at a place of the file with a name, through the tap of a new folder.
 fn byte_of(alloc: Global, name: &str, at: u64) -> Result<u8, &'static str> {
     let mut folder = SampleFolder::new();
     if folder.enter(alloc, ".").is_err() {
@@ -38,7 +38,7 @@ fn byte_of(alloc: Global, name: &str, at: u64) -> Result<u8, &'static str> {
     byte
 }
 
-/// What a row shows, a file, a place, and its byte.
+/// The name of a case, a file, a place, and its byte.
 static BYTES: &[(&str, &str, u64, u8)] = &[
     ("lowest byte first", "sample0.tif", 0, 0x49),
     ("width 256, its upper byte", "sample0.tif", 19, 1),

@@ -1,4 +1,4 @@
-//! The files of the tests: pictures in strips and in tiles, two of them in two generations.
+//! The files of the tests: images in strips and in tiles, two of them with two generations.
 ghost use Rattle.std.specs.Prelude.{◌≡◌, ◌<◌, ◌-◌, ◌&&◌, ◌||◌, ◌==◌, nat_lt, nat_le};
 ghost use Rattle.std.specs.Prelude.{slice_index, Some, None, refl, if◌then◌else◌};
 ghost use Rattle.std.proofs.Common.{arith, lit≤};
@@ -10,7 +10,7 @@ ghost use Rattle.request_tests.specs.declared.small_files.TheConstants.{B_START,
 
 use tex_world::FileTable;
 
-// 4 by 4 texels of one channel in one strip: the one in column x of row y is 16 * y + x.
+// 4 by 4 texels of one channel in one strip; texel (x, y) is 16 * y + x
 pub(crate) static A: [u8; 138] = [
     0x49, 0x49, 0x2a, 0x00, 0x08, 0x00, 0x00, 0x00, 0x09, 0x00, //
     0x00, 0x01, 0x03, 0x00, 0x01, 0x00, 0x00, 0x00, 0x04, 0x00, 0x00, 0x00, //
@@ -26,13 +26,13 @@ pub(crate) static A: [u8; 138] = [
     0x00, 0x01, 0x02, 0x03, 0x10, 0x11, 0x12, 0x13, 0x20, 0x21, 0x22, 0x23, 0x30, 0x31, 0x32, 0x33,
 ];
 
-// The samples of its second generation, each greater by 100.
+// the samples of generation 2, each greater by 100
 pub(crate) static LATER: [u8; 16] = [
     100, 101, 102, 103, 116, 117, 118, 119, 132, 133, 134, 135, 148, 149, 150, 151,
 ];
 
-// 5 by 4 texels of one channel of 16 bits, lowest byte first: the one in column x of row y is
-// 1000 * y + 100 * x + 7. The strip of the last row stands before that of the first three.
+// 5 by 4 texels of one 16-bit channel, lowest byte first; texel (x, y) is 1000 * y + 100 * x + 7.
+// The strip of the last row comes before that of the first three.
 static LOW: [u8; 162] = [
     0x49, 0x49, 0x2a, 0x00, 0x08, 0x00, 0x00, 0x00, 0x09, 0x00, //
     0x00, 0x01, 0x03, 0x00, 0x01, 0x00, 0x00, 0x00, 0x05, 0x00, 0x00, 0x00, //
@@ -51,9 +51,9 @@ static LOW: [u8; 162] = [
     0x03, 0x09, 0x67, 0x09,
 ];
 
-// Two levels of one channel, without the fields that have their defaults. Level 0 is 2 by 4 texels
-// in one strip, from 1 to 8. Level 1 is 1 by 2, of which each row is a strip: 200 above 100. The
-// strip of its last row stands before that of its first.
+// Two levels of one channel, without the fields that have defaults. Level 0 is 2 by 4 texels in one
+// strip, from 1 to 8. Level 1 is 1 by 2, with a strip for each row: 200 above 100. The strip of its
+// last row comes first.
 static TWO: [u8; 138] = [
     0x49, 0x49, 0x2a, 0x00, 0x08, 0x00, 0x00, 0x00, 0x04, 0x00, //
     0x00, 0x01, 0x03, 0x00, 0x01, 0x00, 0x00, 0x00, 0x02, 0x00, 0x00, 0x00, //
@@ -70,8 +70,8 @@ static TWO: [u8; 138] = [
     1, 2, 3, 4, 5, 6, 7, 8, 100, 200,
 ];
 
-// The header, the directory and its values of a picture in big-endian order: 80 by 48 texels of
-// three channels of 16 bits, in four tiles of 64 by 32.
+// The header, the directory and its values of a big-endian image: 80 by 48 texels of three 16-bit
+// channels, in four tiles of 64 by 32.
 static B_START: [u8; 184] = [
     0x4d, 0x4d, 0x00, 0x2a, 0x00, 0x00, 0x00, 0x08, 0x00, 0x0b, //
     0x01, 0x00, 0x00, 0x03, 0x00, 0x00, 0x00, 0x01, 0x00, 0x50, 0x00, 0x00, //
@@ -93,8 +93,8 @@ static B_START: [u8; 184] = [
     0x00, 0x00, 0x30, 0x00, 0x00, 0x00, 0x30, 0x00,
 ];
 
-// The same of 20 by 18 texels of two channels of 8 bits, in little-endian order, in four tiles of
-// 16 by 16, where 0 stands for white.
+// The header, the directory and its values of a little-endian WhiteIsZero image: 20 by 18 texels of
+// two 8-bit channels, in four tiles of 16 by 16.
 static SEAM_START: [u8; 138] = [
     0x49, 0x49, 0x2a, 0x00, 0x08, 0x00, 0x00, 0x00, 0x09, 0x00, //
     0x00, 0x01, 0x03, 0x00, 0x01, 0x00, 0x00, 0x00, 0x14, 0x00, 0x00, 0x00, //
@@ -111,8 +111,8 @@ static SEAM_START: [u8; 138] = [
     0x8a, 0x06, 0x00, 0x00,
 ];
 
-/// The sample of channel c of the texel in column x of row y of the first picture, in a generation
-/// of it, and what stands beside it.
+/// The sample of channel c of texel (x, y) of the first image in generation g; or the padding
+/// outside it.
 fn tiled_sample(g: u32, x: u64, y: u64, c: u64) -> u64
     requires { c < 3 }
     ensures value { result ≡ tiles.tiled_sample g x y c }
@@ -143,8 +143,7 @@ fn tiled_byte(g: u32, at: u64) -> u8
     }
 }
 
-/// The sample of channel c of the texel in column x of row y of the second picture, and what stands
-/// beside it.
+/// The sample of channel c of texel (x, y) of the second image; or the padding outside it.
 fn seam_sample(x: u64, y: u64, c: u64) -> u8
     ensures { result ≡ tiles.seam_sample x y c }
 {
@@ -170,7 +169,7 @@ fn seam_byte(at: u64) -> u8
     seam_sample(x, y, k % 2)
 }
 
-/// The byte at a place of the first picture.
+/// The byte at a place of the first image.
 fn byte_of_tiled(g: u32, at: u64) -> u8
     requires { at < 49336 }
     ensures { result ≡ (if nat_lt at 184 then slice_index B_START at else tiles.tiled_byte g (at - 184)) }
@@ -182,7 +181,7 @@ fn byte_of_tiled(g: u32, at: u64) -> u8
     }
 }
 
-/// The byte at a place of the second picture.
+/// The byte at a place of the second image.
 fn byte_of_seam(at: u64) -> u8
     requires { at < 2186 }
     ensures { result ≡ (if nat_lt at 138 then slice_index SEAM_START at else tiles.seam_byte (at - 138)) }
@@ -194,7 +193,7 @@ fn byte_of_seam(at: u64) -> u8
     }
 }
 
-/// `A.tif` and `B.tif`, each in two generations, `low.tif`, `seam.tif` and `two.tif`.
+/// `A.tif` and `B.tif` with two generations each, `low.tif`, `seam.tif` and `two.tif`.
 #[derive(Drop)]
 pub(crate) struct SmallFiles;
 

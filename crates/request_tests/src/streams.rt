@@ -3,7 +3,7 @@
 use std::test::Fail;
 use tex_world::{Failed, Feed, MemFeed, MemSink, Sink};
 
-// One read into a buffer of two bytes.
+// Reads once, into a buffer of two bytes.
 fn next_two<I: Feed>(feed: &mut I) -> (Result<usize, Failed>, [u8; 2]) {
     let mut bytes = [0; 2];
     (feed.read(&mut bytes), bytes)
@@ -26,7 +26,7 @@ fn feeds_in_pieces(rt: HostRuntime) -> Result<(), Fail> {
     Ok(())
 }
 
-// Whether the bytes were put.
+// Whether the bytes were written.
 fn takes<O: Sink>(sink: &mut O, bytes: &[u8]) -> bool {
     sink.put(bytes).is_ok()
 }

@@ -1,4 +1,4 @@
-//! A long list over a real folder whose file is replaced, cut short and removed all the while.
+//! A long list over a real folder whose file is replaced, truncated and removed again and again.
 
 use host_folder::{RealFeed, RealFolder, RealSink};
 use render_run::{Hook, run};
@@ -10,8 +10,8 @@ use std::sync::atomic::{AtomicBool, Ordering};
 use std::test::Fail;
 use std::thread::Threads;
 
-// The header and the directory of 3 by 70 texels of one channel in one strip, at byte 122. They lie
-// in two cells, of which the second has 6 rows.
+// the header and the directory of 3 by 70 texels of one channel, in one strip at 122; they lie in
+// two cells, the second with 6 rows
 static START: [u8; 122] = [
     0x49, 0x49, 0x2a, 0x00, 0x08, 0x00, 0x00, 0x00, 0x09, 0x00, //
     0x00, 0x01, 0x03, 0x00, 0x01, 0x00, 0x00, 0x00, 0x03, 0x00, 0x00, 0x00, //
@@ -26,11 +26,11 @@ static START: [u8; 122] = [
     0x00, 0x00, 0x00, 0x00, //
 ];
 
-/// How many samples a version has.
+/// The number of samples in a version.
 const SAMPLES: usize = 210;
 
-/// A version of the file: all of its samples are this. So many bytes stand behind them, since two
-/// versions of one length are told apart by their times alone, which the kernel counts in ticks.
+/// A version of the file: all its samples have this value. `behind` bytes follow them, because two
+/// versions of equal length differ only in their times, which the kernel counts in ticks.
 fn version(alloc: Global, sample: u8, behind: u32) -> Result<Vec<u8>, AllocError> {
     let mut file = START.to_vec(alloc)?;
     for _ in 0..SAMPLES {
@@ -42,13 +42,13 @@ fn version(alloc: Global, sample: u8, behind: u32) -> Result<Vec<u8>, AllocError
     Ok(file)
 }
 
-/// How many requests there are.
+/// The number of requests.
 const REQUESTS: u32 = 20_000;
 
-/// So many requests are a round: the last is a `sync`.
+/// The number of requests in a round; the last is a `sync`.
 const ROUND: u32 = 100;
 
-/// Before each so many-th request the file changes.
+/// The file changes before every 40th request.
 const CHANGE: u32 = 40;
 
 /// Changes the file of a folder while requests are answered.
@@ -61,8 +61,8 @@ struct Changing<'a> {
 }
 
 impl<'a> Changing<'a> {
-    /// The change of this number: every eighth is a removal, every fourth else cuts the file short,
-    /// and the others put a new version in its place at one stroke.
+    /// Makes the change with this number. Every eighth removes the file, every other fourth
+    /// truncates it, and the others replace it by a new version in one step.
     fn change(&self, number: u32) -> std::io::Result<()> {
         if number % 8 == 5 {
             return fs::remove_file(self.rt, self.path);
@@ -90,7 +90,7 @@ impl<'a> Hook for Changing<'a> {
     fn after<R: Wait>(&self, _rt: &R, _worker: u32, _index: u32) {}
 }
 
-/// The list: a region on both cells, the file made invalid now and then, and the ends of rounds.
+/// The list: a region of both cells, an invalidation now and then, and the ends of rounds.
 fn list(alloc: Global) -> Result<String, AllocError> {
     let mut text = String::new(alloc);
     for index in 0..REQUESTS {
@@ -105,25 +105,25 @@ fn list(alloc: Global) -> Result<String, AllocError> {
     Ok(text)
 }
 
-/// The last generation that a file can have.
+/// The greatest generation of a file.
 const LAST_GENERATION: usize = 1_048_575;
 
-/// What the lines so far have told.
+/// What the lines so far have said.
 #[derive(Drop)]
 struct Told {
-    /// The sample of each generation, where one was told.
+    /// The sample of each generation, if a line has named it.
     samples: Vec<Option<u32>>,
-    /// The newest generation that a line of an earlier round named, and one of this round.
+    /// The newest generation named in an earlier round, and one named in this round.
     before: usize,
     now: usize,
     answered: u32,
     refused: u32,
-    /// How many lines and refusals there are, as the last line says.
+    /// The numbers of lines and refusals, from the last line.
     closed: Option<(u32, u32)>,
 }
 
 impl Told {
-    /// A line that was read from a generation is not older than a line of an earlier round.
+    /// A line's generation must not be older than those of earlier rounds.
     fn names(&mut self, generation: &str) -> Result<usize, Fail> {
         let generation: usize = generation.parse()?;
         if generation > LAST_GENERATION {
@@ -136,7 +136,8 @@ impl Told {
         Ok(generation)
     }
 
-    /// The values of a line are those of one version, and a generation has one version.
+    /// The values of a line must be those of one version, and a generation must have only one
+    /// version.
     fn has_values(&mut self, generation: usize, values: &str) -> Result<(), Fail> {
         let mut values = values.split(' ');
         let first: u32 = values.next().ok_or("no value")?.parse()?;
@@ -162,13 +163,13 @@ impl Told {
         }
     }
 
-    /// One refusal more.
+    /// Counts one more refusal.
     fn refuses(&mut self) -> Result<(), Fail> {
         self.refused = self.refused.saturating_add(1);
         Ok(())
     }
 
-    /// One line more.
+    /// Checks one more line.
     fn line(&mut self, line: &str) -> Result<(), Fail> {
         let (word, rest) = line.split_once(' ').unwrap_or((line, ""));
         match word {
@@ -221,7 +222,7 @@ fn holds(so: bool, message: &'static str) -> Result<(), Fail> {
     if so { Ok(()) } else { Err(message.into()) }
 }
 
-/// So many workers answer the list over a folder of its own.
+/// Lets this many workers answer the list over a folder of its own.
 fn is_answered(
     rt: &HostRuntime,
     threads: &(impl Threads + Wait + Sync),
@@ -289,7 +290,7 @@ fn is_answered(
     Ok(())
 }
 
-/// A folder, its file, what stands beside it, and how many workers there are.
+/// A folder, its file, what is next to it, and the number of workers.
 static RUNS: [((&str, &str, &str), &str); 3] = [
     (("one", "one/a.tif", "one/new"), "1"),
     (("four", "four/a.tif", "four/new"), "4"),

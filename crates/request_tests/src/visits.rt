@@ -1,4 +1,4 @@
-//! Which texels a lookup visits, in which order, and what it leaves where one of them is refused.
+//! Which texels a lookup visits, in which order, and what it leaves if one of them fails.
 
 ghost use Rattle.std.specs.Prelude.{◌≡◌};
 
@@ -83,8 +83,8 @@ fn request(place: (i32, i32, u32), wraps: (Wrap, Wrap), filter: Filter) -> TexRe
     }
 }
 
-// The lookup goes as its row says where its visit `fails`, counted from 1, is refused: it stops
-// there, and the values that the caller had stay as they were. At 0 none is refused.
+// Whether the lookup goes as its case says if its visit number `fails`, counted from 1, fails. It
+// must stop there, and the caller's values must be unchanged. 0 means that none fails.
 fn is_so(alloc: Global, (place, wraps, filter, visits): &Row, fails: usize) -> bool {
     let request = request(*place, *wraps, *filter);
     let mut asked = Asked::new(alloc, fails);

@@ -1,4 +1,4 @@
-//! Runs of several workers, and requests that hold tiles or make files invalid.
+//! Runs with several workers, and requests that hold tiles or invalidate files.
 ghost use Rattle.std.specs.Prelude.{◌≡◌, ◌<◌, ◌-◌, ◌&&◌, ◌||◌, ◌==◌, nat_lt, nat_le, slice_index};
 ghost use Rattle.std.specs.Prelude.{Some, None, refl, if◌then◌else◌};
 ghost use Rattle.std.proofs.Common.{arith, lit≤};
@@ -16,7 +16,7 @@ use std::test::Fail;
 use std::thread::yield_now;
 use tex_world::{FileTable, Newest};
 
-// 3 by 1 texels of one channel in one strip: 10, 21 and 30.
+// 3 by 1 texels of one channel in one strip: 10, 21 and 30
 static THREE: [u8; 125] = [
     0x49, 0x49, 0x2a, 0x00, 0x08, 0x00, 0x00, 0x00, 0x09, 0x00, //
     0x00, 0x01, 0x03, 0x00, 0x01, 0x00, 0x00, 0x00, 0x03, 0x00, 0x00, 0x00, //
@@ -32,8 +32,8 @@ static THREE: [u8; 125] = [
     10, 21, 30,
 ];
 
-/// `A.tif` in its first two generations and in the last that there can be, which is the first again,
-/// and `three.tif`.
+/// `A.tif` in its first two generations and in the last possible one, which equals the first, and
+/// `three.tif`.
 #[derive(Drop)]
 struct TwoFiles;
 
@@ -86,7 +86,7 @@ impl FileTable for TwoFiles {
     ghost first = { λ n low. Prim.grind arith };
 }
 
-/// What it shows, the words, what is met, the list, what may be written, and the status.
+/// The name of a case, the arguments, what fails, the list, what may be written, and the status.
 type Run = (
     &'static str,
     &'static [&'static str],
@@ -96,7 +96,7 @@ type Run = (
     u8,
 );
 
-/// The second worker's tap finds the first file in its second generation.
+/// The second worker's tap finds the first file in generation 2.
 const NEWER: Failing = Failing::Newer(Newest {
     tap: 1,
     file: 0,
@@ -231,7 +231,7 @@ fn workers_answer_in_turn(rt: HostRuntime) -> Result<(), Fail> {
     Ok(())
 }
 
-/// The same over the two files.
+/// Runs over these two files.
 static RUNS_OF_TWO: &[Run] = &[
     (
         "what a worker has seen is carried to the others",
@@ -273,10 +273,10 @@ fn generations_are_carried(rt: HostRuntime) -> Result<(), Fail> {
     Ok(())
 }
 
-/// How often the hook looks before it gives up.
+/// How often the hook checks before it gives up.
 const TURNS: u32 = 10_000_000;
 
-/// Holds the first request until the second was answered.
+/// Holds back the first request until the second has been answered.
 #[derive(Drop)]
 struct Holding {
     answered: AtomicBool,
@@ -323,8 +323,7 @@ fn two_requests_run_beside_each_other(rt: HostRuntime) -> Result<(), Fail> {
     Ok(())
 }
 
-/// What the hook is told of the requests of a list: of each how often it is called, 16 for each time,
-/// and the worker.
+/// Records the calls of the hook for each request: 16 for each call, plus the worker.
 #[derive(Drop)]
 struct Noting {
     before: [AtomicU32; 5],
@@ -360,7 +359,8 @@ fn five() -> [AtomicU32; 5] {
     ]
 }
 
-/// Of three requests, the `sync` that ends their round, and one of the next round.
+/// The record of three requests, the `sync` that ends their round, and one request of the next
+/// round.
 static TOLD: [u32; 5] = [16, 17, 16, 0, 16];
 
 #[test]

@@ -1,4 +1,4 @@
--- What is read of a field that stands in a line?
+-- What is read of a field in a line?
 use Rattle.std.proofs.Common.{◌≡◌, ℕ, ◌<◌, ◌==◌}
 use Rattle.std.proofs.Common.{List, [], ◌∷◌, ◌++◌, length, take, drop, Ok, refl, ap, ◌∙◌, arith}
 use Rattle.std.proofs.Common.{length-append}
@@ -13,7 +13,7 @@ use Rattle.texel_filter.specs.declared.mode.Wrap.{Wrap}
 use Rattle.texel_filter.specs.declared.request.Filter.{Filter}
 use Rattle.sample_run.proofs.PlainLemmas.{ArePlain, is_plain, no_space}
 
--- the first space behind a word
+-- the first space after a word
 first_space : (word rest : List ℕ) → ArePlain word
     → position_or_len (λ b. b == 32) (word ++ 32 ∷ rest) ≡ length word
 first_space [] rest plain = refl
@@ -38,7 +38,7 @@ module _ (word rest : List ℕ) (plain : ArePlain word) where
   rest_from =
       ap (λ (n : ℕ). drop n (word ++ 32 ∷ rest)) space_is ∙ drop-append_seam word (32 ∷ rest)
 
-  -- a field behind a space, and what stands behind it
+  -- a field after a space, and what follows it
   next_is : next_field (32 ∷ (word ++ 32 ∷ rest)) ≡ Ok (word, 32 ∷ rest)
   unfolding next_field
   next_is =

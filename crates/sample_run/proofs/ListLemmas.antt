@@ -23,7 +23,7 @@ request_made number state =
     if spec.is_sync number then Sync
     else Tex (made.lookup state).request (made.file_name (made.lookup state).file)
 
--- so many, of which the first has this number and is made in this state
+-- this many requests; the first has this number and is made from this state
 abbrev pub requests_made : ℕ → ℕ → ℕ → List Request
 requests_made number state zero = []
 requests_made number state (suc count) =
@@ -40,7 +40,7 @@ lines_of_line (b ∷ line) rest printed =
     let parts = and_parts (is_printed b) (list_all is_printed line) printed in
     rw (no_control b 10 (omega arith) parts.0, lines_of_line line rest parts.1) refl
 
--- it ends with no carriage return
+-- a made line does not end with a carriage return
 content_is : (line : List ℕ) → ArePrinted line → content line ≡ line
 unfolding content
 content_is [] printed = refl
@@ -50,7 +50,7 @@ content_is (b ∷ line) printed =
 
 -- ---- the text of a request
 
--- it is not passed over
+-- the line of a lookup is not skipped
 lookup_not_passed : (l : Lookup) → is_passed_over (made.lookup_text l) ≡ false
 lookup_not_passed l =
     rw (ne_eqb (length (made.lookup_text l)) 0 (λ none. absurd (omega (arith, none)))) refl
@@ -92,7 +92,7 @@ module _ (number state : ℕ) where
 
 -- ---- the list
 
--- the lines of so many requests are these requests, behind so many others
+-- the lines of requests are read as these requests, after others
 lines_read : (number state count line before : ℕ) → before + count ≤ max_requests
     → requests_of line before (lines_of (spec.lines_from number state count))
     ≡ Ok (requests_made number state count)
@@ -113,7 +113,7 @@ lines_read number state (suc count) line before few =
           (omega (arith, few)),
     ) refl
 
--- the made list is a list, where it is not too long
+-- the made list is valid, if it is not too long
 pub list_reads : (count : ℕ) → count ≤ max_requests
     → length (spec.made_list count) ≤ max_list_bytes
     → list_of (spec.made_list count) ≡ Ok (requests_made 0 first_state count)

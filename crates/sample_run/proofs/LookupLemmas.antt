@@ -52,7 +52,7 @@ filter_reads Trilinear = refl
 
 -- ---- a lookup
 
--- its numbers are in the ranges of a list
+-- the lookup's numbers are in the ranges of a list
 pub record IsListed (l : Lookup) : Type 0 where
   pub s : IsSigned l.request.s
   pub t : IsSigned l.request.t
@@ -93,7 +93,7 @@ module _ (l : Lookup) (listed : IsListed l) where
       (one_field (decimal l.request.nch) _ (decimal_plain l.request.nch nch)
       (name_printed l.file listed.file)))))))
 
-  -- what stands behind its word is a form
+  -- what follows the first word of a lookup's line has its form
   tex_reads : tex (spec.behind_space (signed_decimal l.request.s)
       (spec.behind_space (signed_decimal l.request.t)
       (spec.behind_space (decimal l.request.lod)

@@ -26,7 +26,7 @@ digit n low =
     and_from (nat_le 48 (48 + n)) (nat_le (48 + n) 57) (le-leb 48 (48 + n) (omega arith))
     (le-leb (48 + n) 57 (omega arith))
 
--- they are digits, and they spell this number
+-- the bytes are digits that make this number
 abbrev Spells : ℕ → List ℕ → Type 0
 Spells n text = (list_all is_ascii_digit text ≡ true) × (spelled text ≡ n)
 
@@ -87,7 +87,7 @@ decimal_number n low =
     rw (lt-ltb 0 (length (decimal n)) some, le-leb (length (decimal n)) 10 few, spells.0)
     (ap (λ (m : ℕ). Some m) spells.1)
 
--- and it is taken where it is in the range
+-- the decimal text of a number is read as the number, if it is in the range
 pub decimal_within : (least most n : ℕ) → n < 10 ^ 10 → least ≤ n → n ≤ most
     → number_within least most (decimal n) ≡ Ok n
 unfolding number_within
@@ -99,7 +99,7 @@ abbrev pub IsSigned : ℤ → Type 0
 IsSigned (pos n) = n ≤ max_above
 IsSigned (negsuc n) = n < max_below
 
--- its text, where a `-` may stand first, spells it
+-- the text of a signed number spells it
 pub signed_number : (z : ℤ) → IsSigned z → signed (signed_decimal z) ≡ Ok z
 unfolding signed
 signed_number (pos n) range =
@@ -109,7 +109,7 @@ signed_number (negsuc n) range =
     let low : suc n < 10 ^ 10 = omega (arith, range) in
     rw (decimal_within 0 max_below (suc n) low (omega arith) (omega (arith, range))) refl
 
--- and has bytes of a word
+-- the text of a signed number has no space
 pub signed_plain : (z : ℤ) → IsSigned z → ArePlain (signed_decimal z)
 signed_plain (pos n) range = decimal_plain n (omega (arith, range))
 signed_plain (negsuc n) range = and_from _ _ refl (decimal_plain (suc n) (omega (arith, range)))

@@ -1,4 +1,4 @@
--- Which bytes stand in a word, and which in a line?
+-- Which bytes does a word have, and which a line?
 use Rattle.std.proofs.Common.{◌≡◌, ℕ, zero, suc, ◌<◌, ◌≤◌, ◌==◌, ◌&&◌, Bool, true, false}
 use Rattle.std.proofs.Common.{List, [], ◌∷◌, ◌++◌, length, get_or, nat_lt, nat_le, refl, ◌∙◌, arith}
 use Rattle.std.specs.List.{list_all}
@@ -12,11 +12,11 @@ use Rattle.std.proofs.lemmas.Str.{is_utf8-from_IsUtf8, IsUtf8-from_ascii}
 abbrev pub is_plain : ℕ → Bool
 is_plain b = nat_lt 32 b && nat_lt b 128
 
--- a byte of a line, where spaces stand too
+-- whether a line may have this byte; spaces are allowed
 abbrev pub is_printed : ℕ → Bool
 is_printed b = nat_le 32 b && nat_lt b 128
 
--- all of them are
+-- all bytes are those of a word
 abbrev pub ArePlain : List ℕ → Type 0
 ArePlain bytes = list_all is_plain bytes ≡ true
 
@@ -58,7 +58,7 @@ printed (b ∷ bytes) e =
     let parts = and_parts (is_plain b) (list_all is_plain bytes) e in
     and_from _ _ (plain_printed b parts.0) (printed bytes parts.1)
 
--- a space and a word, and what stands behind them
+-- a space and a word, and what follows them
 pub one_field : (word rest : List ℕ) → ArePlain word → ArePrinted rest
     → ArePrinted (32 ∷ (word ++ rest))
 one_field word rest plain more =
@@ -69,7 +69,7 @@ pub printed_at : (bytes : List ℕ) (i : ℕ) → ArePrinted bytes → i < lengt
     → is_printed (get_or bytes i 0) ≡ true
 printed_at bytes i e inside = AllPass-from_list_all is_printed bytes e i 0 inside
 
--- they are a text
+-- printed bytes are a text
 pub printed_text : (bytes : List ℕ) → ArePrinted bytes → is_utf8 bytes ≡ true
 printed_text bytes e = is_utf8-from_IsUtf8 bytes (IsUtf8-from_ascii bytes (ascii bytes e))
   where

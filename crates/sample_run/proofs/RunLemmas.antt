@@ -34,7 +34,7 @@ has_list s range short = record {
 
 -- ---- the run
 
--- a count of which nothing is counted
+-- a count of 0
 still : StaysAt 0 0
 still = record { same = refl; short = lit< tt }
 
@@ -42,7 +42,7 @@ still = record { same = refl; short = lit< tt }
 abbrev pub sink_of : ℕ → List ℕ → SinkState
 sink_of faults bytes = record { faults = faults; holds = Some bytes }
 
--- nothing fails where the sink does not
+-- nothing fails if the sink does not
 calm : (old new : SampleFolder) (list left bytes : List ℕ)
     → IsCalm (sample_around old list (sink_with [])) (sample_around new left (sink_with bytes))
 calm old new list left bytes =

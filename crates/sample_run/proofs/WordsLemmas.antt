@@ -9,7 +9,7 @@ use Rattle.command_line.specs.Invocation.{invocation_of}
 use Rattle.request_lang.specs.LineField.{digits_number}
 use Rattle.sample_run.specs.Size.{run_words, max_workers}
 
--- those for so many workers do, or there are none
+-- the arguments for this many workers are valid, or there are none
 asks : ℕ → Bool
 asks workers = (workers == 0) || is_some (invocation_of (run_words workers))
 

@@ -9,10 +9,10 @@ states = 2 ^ 31
 abbrev pub first_state : ℕ
 first_state = 1
 
--- the state after a draw in a state
+-- the state after a draw
 unfoldable pub next_state : ℕ → ℕ
 next_state state = (state * 1103515245 + 12345) % states
 
--- the number that a draw gives which leads to this state
+-- the number drawn in the draw that led to this state
 abbrev pub drawn : ℕ → ℕ
 drawn state = state / 256

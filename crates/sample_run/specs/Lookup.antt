@@ -29,7 +29,7 @@ filter n = if n % 3 == 0 then Closest else if n % 3 == 1 then Bilinear else Tril
 
 -- ---- a lookup
 
--- a lookup of eight drawn numbers, in the order of its fields
+-- a lookup made of eight drawn numbers, in the order of its fields
 abbrev pub lookup_of : ℕ → ℕ → ℕ → ℕ → ℕ → ℕ → ℕ → ℕ → Lookup
 lookup_of a b c d e f g h = record {
   request = record {
@@ -44,12 +44,12 @@ lookup_of a b c d e f g h = record {
   file = h % 8;
 }
 
--- the state after so many draws
+-- the state after this many draws
 abbrev pub state_behind : ℕ → ℕ → ℕ
 state_behind zero state = state
 state_behind (suc count) state = next_state (state_behind count state)
 
--- the number of the draw of this number, counted from 1
+-- the drawn number of the draw with this index, counted from 1
 abbrev pub draw_of : ℕ → ℕ → ℕ
 draw_of number state = drawn (state_behind number state)
 
@@ -59,20 +59,20 @@ lookup state =
     lookup_of (draw_of 1 state) (draw_of 2 state) (draw_of 3 state) (draw_of 4 state)
     (draw_of 5 state) (draw_of 6 state) (draw_of 7 state) (draw_of 8 state)
 
--- the state behind it
+-- the state after a lookup was made
 abbrev pub behind_lookup : ℕ → ℕ
 behind_lookup state = state_behind 8 state
 
 -- ---- its text
 
--- the word of a wrap
+-- the word for a wrap
 abbrev pub wrap_word : Wrap → List ℕ
 wrap_word Black = codes "black"
 wrap_word Clamp = codes "clamp"
 wrap_word Periodic = codes "periodic"
 wrap_word Mirror = codes "mirror"
 
--- the word of a filter
+-- the word for a filter
 abbrev pub filter_word : Filter → List ℕ
 filter_word Closest = codes "closest"
 filter_word Bilinear = codes "bilinear"
@@ -82,7 +82,7 @@ filter_word Trilinear = codes "trilinear"
 abbrev pub file_name : ℕ → List ℕ
 file_name file = codes "sample" ++ (decimal file ++ codes ".tif")
 
--- a field behind a space, and what stands behind it
+-- a field after a space, followed by the rest
 abbrev pub behind_space : List ℕ → List ℕ → List ℕ
 behind_space word rest = space ∷ (word ++ rest)
 

@@ -30,22 +30,22 @@ abbrev pub sample_files : Files
 sample_files =
     table_files sample_count (name_at sample_names) sample_len_of (λ n g at. sample_byte n at)
 
--- what the words of the run ask for
+-- what the arguments of the run ask for
 abbrev pub run_asked : ℕ → Option Asked
 run_asked workers = invocation_of (run_words workers)
 
--- what is around the run: a sample folder, what the feed has left, and the sink
+-- the surroundings of the run: a sample folder, what the feed has left, and the sink
 abbrev pub sample_around : SampleFolder → List ℕ → SinkState → Around
 sample_around folder left sink =
     around_of (sample_folder folder) (record { faults = 0; left = Some left }) sink
 
--- a sink that holds these bytes and has not failed
+-- a sink that has these bytes and has not failed
 abbrev pub sink_with : List ℕ → SinkState
 sink_with bytes = record { faults = 0; holds = Some bytes }
 
--- These bytes are what a run writes that ends with this status: one over a new folder of the sample
--- files, a feed of the made list, which never fails, and an empty sink, by the workers that were
--- asked for. It is answered whole, and none of its lines is of a failure.
+-- These bytes are what a run writes that ends with this status. It runs over a new folder of sample
+-- files, a feed of the made list that never fails, and an empty sink, with the workers that were
+-- asked for. It answers the whole list, and no line reports a failure.
 pub record RunsSample (s : Size) (bytes : List ℕ) (ends : ℕ) : Type 0 where
   pub old : SampleFolder
   pub fresh : IsNewFolder (sample_folder old)
@@ -64,8 +64,8 @@ pub record RunsSample (s : Size) (bytes : List ℕ) (ends : ℕ) : Type 0 where
 abbrev pub HasLongList : Size → Type 0
 HasLongList s = max_list_bytes < length (made_list s.requests)
 
--- The words ask for a list that is not too long, a run over it writes some bytes and ends with this
--- status, and the text is the line over these bytes.
+-- The arguments ask for a list that is not too long, a run over it writes some bytes and ends with
+-- this status, and the text is the line about these bytes.
 pub record IsLine (words : List (List ℕ)) (ends : ℕ) (text : List ℕ) : Type 0 where
   pub asked : Size
   pub asked_for : size_in words ≡ Some asked
@@ -74,11 +74,11 @@ pub record IsLine (words : List (List ℕ)) (ends : ℕ) (text : List ℕ) : Typ
   pub run : RunsSample asked bytes ends
   pub of_bytes : text ≡ summary bytes
 
--- the text of words that are not two such numbers
+-- the text for arguments that are not two valid numbers
 abbrev pub bad_words_text : List ℕ
 bad_words_text = codes "bad words" ++ line_feed ∷ []
 
--- The text is the one that a status wants: a line, or that of bad words.
+-- The text is the expected one: a line, or that for wrong arguments.
 abbrev pub IsWanted : List (List ℕ) → List ℕ → Type 0
 IsWanted words text =
     ((size_in words ≡ None) × (text ≡ bad_words_text))
@@ -92,18 +92,18 @@ pub record WritesLine (words : List (List ℕ)) (old new : SinkState) (ends : �
   pub line : IsLine words ends text
   pub written : Appends text old.holds new.holds
 
--- the sink failed: its faults rose, and a first part of the text was written
+-- the output failed after a first part of the text
 pub record CutsShort (text : List ℕ) (old new : SinkState) : Type 0 where
   pub failed : Rises old.faults new.faults
   pub part : AppendsPart text old.holds new.holds
 
--- the sink failed, and a first part of what was to be written was
+-- the output failed after a first part of what was to be written
 pub record BreaksOff (words : List (List ℕ)) (old new : SinkState) : Type 0 where
   pub text : List ℕ
   pub wanted : IsWanted words text
   pub cut : CutsShort text old new
 
--- A text was written and the status is the wanted one, or the sink failed.
+-- A text was written and the status is the expected one, or the output failed.
 abbrev pub Puts : List ℕ → ℕ → SinkState → SinkState → ℕ → Type 0
 Puts text wanted old new ends =
     ((ends ≡ wanted) × Appends text old.holds new.holds)
@@ -111,22 +111,22 @@ Puts text wanted old new ends =
 
 -- What the sample call has done, by the status that it ends with.
 pub record Samples (words : List (List ℕ)) (old new : SinkState) (ends : ℕ) : Type 0 where
-  -- the line was written over the bytes of a run that ended so
+  -- the line about the bytes of a run with this status was written
   pub answered : ends ≤ status.with_refusals → WritesLine words old new ends
-  -- the words are not two such numbers, which was written
+  -- the arguments are not two valid numbers, and the text says so
   pub refused : ends ≡ status.bad_words
       → (size_in words ≡ None) × Appends bad_words_text old.holds new.holds
   -- the made list is too long, and nothing was written
   pub long : ends ≡ status.bad_list
       → IsSomeAnd (size_in words) HasLongList × (new.holds ≡ old.holds)
-  -- the sink failed, and a first part of what was to be written was
+  -- the output failed after a first part of what was to be written
   pub cut : ends ≡ status.not_written → BreaksOff words old new
-  -- no memory was found, and nothing was written
+  -- out of memory, and nothing was written
   pub short : ends ≡ status.no_memory → new.holds ≡ old.holds
-  -- there is no other status, and the files and the list never fail
+  -- there is no other status, because the files and the list never fail
   pub statuses : (ends ≤ status.no_memory) × (ends ≢ status.input_fault)
-  -- where the words are not two such numbers there is no status but those
+  -- if the arguments are not two valid numbers, there are only these two statuses
   pub words_are : size_in words ≡ None → (ends ≡ status.bad_words) ⊎ (ends ≡ status.not_written)
-  -- and where the list is too long, want of memory aside
+  -- if the list is too long, this status follows, unless memory runs out
   pub list_is : IsSomeAnd (size_in words) HasLongList
       → (ends ≡ status.bad_list) ⊎ (ends ≡ status.no_memory)

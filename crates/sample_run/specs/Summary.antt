@@ -2,7 +2,7 @@
 use Rattle.std.specs.Prelude.{ℕ, ◌==◌, codes, decimal, List, [], ◌∷◌, ◌++◌, length, sum, count_by}
 use Rattle.request_lang.specs.Grammar.{line_feed}
 
--- how many of the bytes are line feeds
+-- the number of line feeds
 abbrev pub line_feeds : List ℕ → ℕ
 line_feeds bytes = count_by (λ b. b == line_feed) bytes
 

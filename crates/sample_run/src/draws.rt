@@ -1,23 +1,23 @@
-//! The numbers that the requests are made from.
+//! A random number generator, from which requests are made.
 
 ghost use Rattle.std.specs.Prelude.{◌≡◌};
 ghost use Rattle.sample_run.specs.Draw.{first_state, next_state, drawn};
 
 use std::marker::Model;
 
-/// What a state is multiplied by.
+/// The multiplier of the generator.
 const MULTIPLIER: u64 = 1103515245;
 
-/// What is added to it then.
+/// The increment of the generator.
 const INCREMENT: u64 = 12345;
 
-/// States are below this number.
+/// All states are below this number.
 const STATES: u64 = 2147483648;
 
-/// What a draw leaves out of a state: its lowest bits, which are less mixed.
+/// A drawn number is the state divided by this, because the lowest bits are less random.
 const LOWEST: u64 = 256;
 
-/// Numbers that are drawn one after the other. Contracts see their state.
+/// A sequence of drawn numbers. Clauses see its state.
 #[derive(Drop)]
 pub(crate) struct Draws {
     state: u64,
@@ -35,14 +35,14 @@ impl Model for Draws {
 }
 
 impl Draws {
-    /// Before the first draw.
+    /// The state before the first draw.
     pub(crate) fn new() -> Draws
         ensures { result ≡ first_state }
     {
         Draws { state: 1 }
     }
 
-    /// The next number.
+    /// Draws the next number.
     #[tactic(auto, unfolding(crate::specs::Draw::next_state))]
     pub(crate) fn draw(&mut self) -> u64
         ensures state { self.new ≡ next_state self.old }

@@ -1,5 +1,5 @@
-//! The sample call: requests made from a number, and the top call of the texture service over the
-//! sample files.
+//! Makes requests from a number and answers them from the sample files, by the top call of
+//! texcache.
 #![tactic(auto)]
 
 mod draws;

@@ -1,4 +1,4 @@
-//! A feed of a list that is in memory.
+//! A feed of a list in memory.
 
 ghost use Rattle.std.specs.Prelude.{◌≡◌, ◌<◌, ◌≤◌, length, Some, IfOk, OnErr};
 ghost use Rattle.tex_world.specs.Counts.{Rises};
@@ -7,7 +7,7 @@ ghost use Rattle.tex_world.specs.Stream.{Feeds};
 use std::marker::Model;
 use tex_world::{Failed, Feed};
 
-/// A list that is read from front to back. No call of it fails.
+/// A list that is read from front to back. No call fails.
 #[derive(Drop)]
 pub(crate) struct ListFeed {
     bytes: Vec<u8>,
@@ -38,7 +38,7 @@ impl Feed for ListFeed {
 
     ghost faults = { λ _. 0 };
 
-    /// It answers as many bytes as the buffer holds and are left.
+    /// Returns as many bytes as fit the buffer and are left.
     fn read(&mut self, buf: &mut [u8]) -> Result<usize, Failed>
         requires { 0 < length buf.old }
         ensures ok { IfOk result (λ n. Feeds n buf.new (Some self.old) (Some self.new)) }

@@ -1,4 +1,4 @@
-//! The lookups that are made from drawn numbers.
+//! Makes lookups from drawn numbers.
 
 ghost use Rattle.std.specs.Prelude.{◌≡◌, ◌++◌, ◌∷◌, [], string_bytes, OnOk};
 ghost use Rattle.request_lang.specs.Grammar.{line_feed};
@@ -16,7 +16,7 @@ pub(crate) struct Lookup {
     pub(crate) file: u64,
 }
 
-/// A coordinate: from half a picture before its edge to half a picture behind the other.
+/// A coordinate, from half an image before the edge to half an image after the other edge.
 fn coordinate(drawn: u64) -> i32
     ensures { result ≡ spec.coordinate drawn }
 {
@@ -46,7 +46,7 @@ fn filter(drawn: u64) -> Filter
     }
 }
 
-/// The next lookup, which takes eight draws.
+/// The next lookup. Draws eight numbers.
 pub(crate) fn next_lookup(draws: &mut Draws) -> Lookup
     ensures value { result ≡ spec.lookup draws.old }
     ensures state { draws.new ≡ spec.behind_lookup draws.old }
@@ -71,7 +71,7 @@ pub(crate) fn next_lookup(draws: &mut Draws) -> Lookup
     Lookup { request, file }
 }
 
-/// The word of a wrap.
+/// The word for a wrap.
 fn wrap_word(wrap: Wrap) -> &'static str
     ensures { result.now ≡ spec.wrap_word wrap }
 {
@@ -83,7 +83,7 @@ fn wrap_word(wrap: Wrap) -> &'static str
     }
 }
 
-/// The word of a filter.
+/// The word for a filter.
 fn filter_word(filter: Filter) -> &'static str
     ensures { result.now ≡ spec.filter_word filter }
 {

@@ -1,4 +1,4 @@
-//! The list of the requests that are made from a number.
+//! Makes a list of requests from a number.
 
 ghost use Rattle.std.specs.Prelude.{◌≡◌, ◌++◌, string_bytes, IfOk, OnOk};
 ghost use Rattle.sample_run.specs.MadeList as spec;
@@ -7,10 +7,10 @@ use crate::draws::Draws;
 use crate::lookup::{next_lookup, push_lookup};
 use std::alloc::{AllocError, Global};
 
-/// After so many requests a `sync` stands, which is counted as one.
+/// Every 4096th request is a `sync`.
 const ROUND: u32 = 4096;
 
-/// Appends the line of the request of this number.
+/// Appends the line of the request with this number.
 fn push_request(text: &mut String, draws: &mut Draws, number: u32) -> Result<(), AllocError>
     ensures line { OnOk result (string_bytes text.new
         ≡ string_bytes text.old ++ spec.request_line number draws.old) }
@@ -22,7 +22,7 @@ fn push_request(text: &mut String, draws: &mut Draws, number: u32) -> Result<(),
     push_lookup(text, &next_lookup(draws))
 }
 
-/// The list of so many requests.
+/// The list with this many requests.
 pub(crate) fn made_list(alloc: Global, count: u32) -> Result<Vec<u8>, AllocError>
     ensures { IfOk result (λ list. list.items ≡ spec.made_list count) }
 {

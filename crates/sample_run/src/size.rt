@@ -1,4 +1,4 @@
-//! What the words ask for.
+//! Reads the arguments of the command line.
 
 ghost use Rattle.std.specs.Prelude.{◌≡◌, ◌<◌, ◌^◌, map, IfSome};
 ghost use Rattle.std.specs.String.{string_bytes};
@@ -12,14 +12,14 @@ const MAX_REQUESTS: u64 = 1048576;
 /// The most workers.
 const MAX_WORKERS: u64 = 16;
 
-/// How many requests are made, and how many workers answer them.
+/// The number of requests, and the number of workers.
 #[derive(Clone, Copy, Debug, PartialEq, Eq)]
 pub(crate) struct Size {
     pub(crate) requests: u32,
     pub(crate) workers: u32,
 }
 
-/// The number that 1 to ten decimal digits spell, from the least to the most.
+/// The number that 1 to 10 decimal digits make, if it is in the range.
 fn number(word: &str, least: u64, most: u64) -> Option<u32>
     requires { most < 2 ^ 32 }
     ensures { result ≡ spec.number least most word.now }
@@ -31,7 +31,7 @@ fn number(word: &str, least: u64, most: u64) -> Option<u32>
     Some(number as u32)
 }
 
-/// What the words ask for, where they are two such numbers.
+/// What the arguments ask for, if they are two such numbers.
 pub(crate) fn size_in(words: &[String]) -> Option<Size>
     ensures value { result ≡ spec.size_in (map string_bytes words.now) }
     ensures in_range { IfSome result spec.IsInRange }

@@ -1,4 +1,4 @@
-//! The line about what a run wrote.
+//! The line that summarizes what a run wrote.
 
 ghost use Rattle.std.specs.Prelude.{◌≡◌, ◌==◌, ◌≤◌, ◌*◌, length, sum, count_by, string_bytes, IfOk};
 ghost use Rattle.request_lang.specs.Grammar.{line_feed};
@@ -6,7 +6,7 @@ ghost use Rattle.sample_run.specs.Summary as spec;
 
 use std::alloc::{AllocError, Global};
 
-/// How many bytes are line feeds.
+/// The number of line feeds.
 fn line_feeds(bytes: &[u8]) -> usize
     ensures { result ≡ spec.line_feeds bytes.now }
 {

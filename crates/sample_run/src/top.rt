@@ -1,4 +1,4 @@
-//! The top call.
+//! The top call `sample`, and its exit statuses.
 
 ghost use Rattle.std.specs.Prelude.{◌≡◌, ◌≤◌, map, length, string_bytes, Some, IfOk};
 ghost use Rattle.request_lang.specs.Grammar.{max_list_bytes};
@@ -21,29 +21,29 @@ use tex_world::{MemSink, NoMemory, SampleFolder, Sink};
 /// Some line of the run is a refusal.
 const WITH_REFUSALS: u8 = 1;
 
-/// The words are not two such numbers.
+/// The arguments are not two valid numbers.
 const BAD_WORDS: u8 = 2;
 
 /// The list has too many bytes.
 const LONG_LIST: u8 = 3;
 
-/// The sink failed.
+/// The output failed.
 pub const NOT_WRITTEN: u8 = 5;
 
-/// No memory was found.
+/// Out of memory.
 pub const NO_MEMORY: u8 = 6;
 
-/// The most bytes that a list has.
+/// The most bytes of a list.
 const MAX_LIST_BYTES: usize = 16777216;
 
-/// What a run over the sample files wrote, and the status that it ended with.
+/// What a run over the sample files wrote, and its status.
 #[derive(Drop)]
 pub(crate) struct Outcome {
     written: MemSink,
     status: u8,
 }
 
-/// Writes a text and gives the status, or that of a sink that fails.
+/// Writes a text and returns `status`, or the status of an output that failed.
 fn put_status<O: Sink>(out: &mut O, text: &[u8], status: u8) -> u8
     ensures { spec.Puts text.now status (sink_state O.faults O.holds out.old)
         (sink_state O.faults O.holds out.new) result }
@@ -54,7 +54,7 @@ fn put_status<O: Sink>(out: &mut O, text: &[u8], status: u8) -> u8
     }
 }
 
-/// The words of the run: its folder, and the option for its workers.
+/// The arguments of the run: its folder, and the number of workers.
 fn run_words(alloc: Global, workers: u32) -> Result<Vec<String>, AllocError>
     ensures { IfOk result (λ words. map string_bytes words.items ≡ run_words workers) }
 {
@@ -64,8 +64,8 @@ fn run_words(alloc: Global, workers: u32) -> Result<Vec<String>, AllocError>
     Ok(vec![in alloc; folder, option, workers]?)
 }
 
-/// Runs a list over the sample files. Where no put found memory wanting, that is such a run as is
-/// asked for.
+/// Runs a list over the sample files. If memory never ran out for the output, the outcome is that
+/// of such a run.
 fn run_outcome<R: Threads + Wait + Sync>(
     rt: &R,
     alloc: Global,
@@ -110,7 +110,7 @@ fn answered<R: Threads + Wait + Sync>(
 {
     let words = run_words(alloc, size.workers)?;
     let outcome = run_outcome(rt, alloc, &words, size, list);
-    // A put of the run found no memory.
+    // memory ran out for the output of the run
     if outcome.written.faults() > 0 {
         return Err(NoMemory);
     }
@@ -121,11 +121,10 @@ fn answered<R: Threads + Wait + Sync>(
     }
 }
 
-/// Makes so many requests as the words ask for, answers them over the sample files by so many
-/// workers, and writes how many lines and bytes the answers have, and the sum of the bytes. The
-/// status is that of the run where that was written, 2 where the words are not two such numbers, 3
-/// where the list of the requests has too many bytes, 5 where the sink failed, and 6 where no
-/// memory was found.
+/// Makes as many requests as the arguments say, answers them from the sample files with as many
+/// workers as they say, and prints the number of lines and bytes of the answers and the sum of the
+/// bytes. The status is that of the run if all this was printed. It is 2 for wrong arguments, 3 if
+/// the list has too many bytes, 5 if the output failed, and 6 if memory ran out.
 pub fn sample<R: Threads + Wait + Sync, O: Sink>(
     rt: &R,
     alloc: Global,

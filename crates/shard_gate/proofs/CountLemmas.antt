@@ -1,4 +1,4 @@
--- How do the pins that a seat has stand in the sum of the pins of a shard's entries?
+-- How are a seat's pins related to the sum of the pins of a shard's entries?
 use Rattle.std.proofs.Common.{◌≡◌, ℕ, ◌≤◌, true, false, cond, nat_eq, List, [], ◌∷◌, length}
 use Rattle.std.proofs.Common.{Some, refl, sym, ap, ◌∙◌, arith}
 use Rattle.std.specs.Prelude.{slice_index}
@@ -79,7 +79,7 @@ module _ (s : ShardState) (in_slots : AreInSlots s) where
       words_sum,
     )
 
-    -- and as many where it has all permits.
+    -- the seat's pins are all pins, if it has all permits
     pub all_in_sum : AreAmong (words_of s) v.pins → v.permits ≡ v.passes
         → pin_sum s.entries ≡ length v.pins
     all_in_sum among all = omega (

@@ -127,7 +127,7 @@ pins_more key k es e found =
       one_for_other key k ne,
     ))
 
--- It has one pin less.
+-- The entry of the key has one pin less.
 pub pins_less : (key k : ℕ) (es : Entries) (e : EntryState) → entry_at key es ≡ Some e
     → 1 ≤ e.pins → pins_at k (unpinned_once key es) + one_for key k ≡ pins_at k es
 pins_less key k es e found some =
@@ -168,9 +168,9 @@ keys_at key es (Some e) = keys_set_value key es (one_less e)
 pub keys_unpinned : (key : ℕ) (es : Entries) → keys_of (unpinned_once key es) ≡ keys_of es
 keys_unpinned key es = keys_at key es (entry_at key es)
 
--- ---- the pinned entries tell the pins of each key
+-- ---- the pinned entries determine the pins of each key
 
--- a key without an entry is none of their keys
+-- a key without an entry differs from all keys of entries
 pub apart_from : (key : ℕ) (es : Entries) → entry_at key es ≡ None
     → AllByRecursion (λ other. nat_eq key other ≡ false) (keys_of es)
 apart_from key [] absent = tt
@@ -181,7 +181,7 @@ apart_from key (e ∷ es) absent =
       | false ↦ λ other rest. (other, apart_from key es rest)
     ]) refl absent
 
--- a key that stands before is none of these
+-- a key that occurs earlier differs from all these keys
 pub apart_none : (key : ℕ) (es : Entries) → AllByRecursion (λ other. nat_eq key other ≡ false) (keys_of es)
     → entry_at key es ≡ None
 apart_none key [] apart = refl
@@ -213,7 +213,7 @@ pins_pinned k (e ∷ es) distinct =
           ]
     ]) refl
 
--- So entries with the same pinned ones have the same pins of each key.
+-- entries with the same pinned ones have the same pins for each key
 pub pins_same : (k : ℕ) (es fs : Entries) → IsDistinct nat_eq (keys_of es)
     → IsDistinct nat_eq (keys_of fs) → KeepsPinned es fs → pins_at k fs ≡ pins_at k es
 pins_same k es fs distinct other same =

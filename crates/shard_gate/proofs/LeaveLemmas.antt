@@ -74,7 +74,7 @@ module _ (s new : ShardState) (in_slots : AreInSlots s) where
     left_count : length (map key_number s.slots) ≡ length new.slots
     left_count = long_as key_number s.slots ∙ sym empties.count
 
-  -- The stale tiles have left.
+  -- The stale tiles were removed.
   pub behind_purge : AreInSlots new → s.left ≡ [] → EmptiesSlots s new
       → IsDistinct nat_eq (keys_of s.entries) → IsDistinct nat_eq (keys_of new.entries)
       → KeepsPinned s.entries new.entries → AreBehind (words_of s) new
@@ -90,7 +90,7 @@ module _ (s new : ShardState) (in_slots : AreInSlots s) where
     empty = left_empty s.entries new_slots none_left empties distinct new_distinct kept;
   }
 
-  -- A pin of a key is gone, and then some tiles have left.
+  -- A pin of a key was released, and then some tiles were removed.
   pub behind_release : (key slot : ℕ) (e : EntryState) → slot_of key s.slots ≡ Some slot
       → entry_at key s.entries ≡ Some e → 1 ≤ e.pins
       → AreInSlots new → s.left ≡ [] → EmptiesSlots s new
@@ -121,7 +121,7 @@ module _ (s new : ShardState) (in_slots : AreInSlots s) where
         empty = left_empty mid new_slots none_left empties apart new_distinct kept;
       }
 
--- ---- the slots that are told
+-- ---- the slots that are reported
 
 past_end : (xs : List ℕ) (k : ℕ) → length xs ≤ k → slice_index xs k ≡ 0
 past_end [] k past = refl
@@ -167,7 +167,7 @@ module _ (known : SlotWords) (s new : ShardState) (slot : ℕ) (entries : new.en
   keys_still k ne out = behind.keys k (ap (is_in k) left ∙ (tail_in k slot new.left ne ∙ out))
       ∙ ap (λ l. slice_index (map key_number l) k) (sym slots)
 
-  -- Its word is 0 now.
+  -- The key word of the reported slot is now 0.
   pub told_more : slot < length s.slots → AreBehind (keyed_words slot 0 known) new
   told_more low = record {
     count = length-set known.keys slot 0 ∙ (behind.count ∙ ap length (sym slots));
@@ -193,7 +193,7 @@ module _ (known : SlotWords) (s new : ShardState) (slot : ℕ) (entries : new.en
     empty = empty_still;
   }
 
--- Once each was told the words are those of the shard.
+-- after each slot was reported, the words are those of the shard
 pub all_told : (known : SlotWords) (s : ShardState) → AreBehind known s → s.left ≡ []
     → known ≡ words_of s
 all_told known s behind none =

@@ -1,4 +1,4 @@
--- Lists of which a loop has changed the elements so far, from the front or from the end.
+-- Lists that a loop has changed up to an index, from the front or from the end.
 use Rattle.std.proofs.Common.{◌≡◌, ℕ, zero, suc, ◌<◌, List, [], ◌∷◌, ◌++◌, map, length, take}
 use Rattle.std.proofs.Common.{drop, set, get_or, refl, ap, sym, subst, ◌∙◌, ◌≤◌, ◌≢◌, length-append, arith}
 use Rattle.std.proofs.lemmas.List.{get_or-take, get_or_push, take-take, take_at, length-take, get_or-set_same}
@@ -16,7 +16,7 @@ module _ {X : Type 0} where
   mapped_here f (x ∷ xs) zero d = refl
   mapped_here f (x ∷ xs) (suc k) d = mapped_here f xs k d
 
--- the seats, of which those from k on are joined
+-- the seats, joined from index k on
 abbrev pub joined_from : ℕ → List SeatAt → List SeatAt → List SeatAt
 joined_from k s o = take k s ++ joined_seats (drop k s) (drop k o)
 

@@ -41,7 +41,7 @@ module _ (f : ℕ → ℕ) where
     none_at seats (λ j key d low has. none (suc j) key d (omega arith) has),
   )
 
-  -- Where each pin at one shard counts as 1 and each other one as 0, the sum is their number there.
+  -- If a pin at one shard counts as 1 and every other as 0, the sum is the number of pins there.
   all_at : (seats : List SeatAt) (k : ℕ) (d : SeatAt) → k < length seats
       → ((key : ℕ) → Contains (get_or seats k d).pins key → f key ≡ 1)
       → ((j key : ℕ) (e : SeatAt) → j < length seats → j ≢ k → Contains (get_or seats j e).pins key

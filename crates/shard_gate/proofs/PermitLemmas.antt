@@ -26,7 +26,7 @@ no_visits [] k = refl
 no_visits (s ∷ seats) zero = refl
 no_visits (s ∷ seats) (suc k) = no_visits seats k
 
--- A change of permits alone leaves each pin where it is.
+-- A change of permits only leaves every pin where it is.
 kept_keys : (seats : List SeatAt) → keys_of_seats (map kept_seat seats) ≡ keys_of_seats seats
 kept_keys [] = refl
 kept_keys (s ∷ seats) = ap (λ l. s.pins ++ l) (kept_keys seats)
@@ -46,7 +46,7 @@ empty : {X : Type 0} (xs : List X) → length xs ≤ 0 → xs ≡ []
 empty [] low = refl
 empty (x ∷ xs) low = absurd (omega arith)
 
--- Where a seat has no pin, it has none at any shard.
+-- A seat without pins has none at any shard.
 pub none_held : (seats : List SeatAt) → keys_of_seats seats ≡ []
     → All (λ (s : SeatAt). s.pins ≡ []) seats
 none_held seats none k d low =

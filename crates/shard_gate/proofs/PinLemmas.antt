@@ -16,7 +16,7 @@ held_same words new [] same held = tt
 held_same words new (p ∷ ps) same held =
     (same p.0 ∙ held.0, held.1, held_same words new ps same held.2)
 
--- The key of a slot changes of which there is no pin.
+-- The key of a slot without pins changes.
 pub held_filled : (words : List ℕ) (slot n : ℕ) (pins : List (ℕ × ℕ)) → pins_on slot pins ≡ 0
     → AreHeld words pins → AreHeld (set words (key_word slot) n) pins
 held_filled words slot n [] none held = tt

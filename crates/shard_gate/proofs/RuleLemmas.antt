@@ -29,7 +29,7 @@ use Rattle.shard_gate.proofs.WordLemmas.{keys_stay, pins_stay, words_stay}
 abbrev pub Each : (Standing → Type 0) → List Standing → Type 0
 Each P views = (seat : ℕ) (v : Standing) → get_elem? views seat ≡ some v → P v
 
--- Where one seat's new view has it, and those of the others had it, each has it.
+-- If one seat's new view and the others' old views have a property, all views have it.
 pub one_view : (P Q : Standing → Type 0) (views : List Standing) (id : ℕ) (new : Standing)
     → ((seat : ℕ) (v : Standing) → seat ≢ id → get_elem? views seat ≡ some v → P v → Q v)
     → Each P views → Q new → Each Q (set views id new)
@@ -54,7 +54,7 @@ only_turn views id v at has most seat w apart there other =
       sum_has turn_of (set views id spent_standing) seat w still,
     )
 
--- Where a seat has all permits, no other has a pin.
+-- If a seat has all permits, no other seat has a pin.
 pins_alone : (views : List Standing) (id : ℕ) (v : Standing) → get_elem? views id ≡ some v
     → sum_by permits_of views ≤ v.permits
     → Each (λ w. length w.pins ≤ max_pins * w.permits) views
@@ -82,11 +82,11 @@ one_only P first is (suc seat) v at = absurd (some-ne-none v (sym at))
 
 module _ {S : Type 0} (lawful : Terms → S → Type 0) (shown : S → Entries)
     (words_in : S → SlotWords) (terms : Terms) where
-  -- what it knows with the turn is so
+  -- what the seat with the lock knows is right
   abbrev pub KnowsOf : List ℕ → Standing → Type 0
   KnowsOf words v = v.has_turn ≡ true → AreWords terms.passes words v.known
 
-  -- its last visit took the entries of a lawful body
+  -- the seat's last visit took the entries of a lawful body
   abbrev pub TakesOf : Standing → Type 0
   TakesOf v = v.has_turn ≡ true → TookLawful lawful shown terms v.visits
 
@@ -228,7 +228,7 @@ module _ {S : Type 0} (lawful : Terms → S → Type 0) (shown : S → Entries)
     (kept.views id v at).passes live,
   )
 
-  -- The pins of a seat stand in the words of the slots, and alone where it has all permits.
+  -- The words of the slots include a seat's pins, and no others if it has all permits.
   pub own_known : (s : State S Standing) (id : ℕ) (v : Standing) (known : SlotWords)
       → OneTurn lawful shown words_in terms s → get_elem? s.views id ≡ some v → v.live ≡ true
       → AreWords terms.passes s.words known → HasOwnPins v known

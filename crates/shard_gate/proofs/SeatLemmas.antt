@@ -145,7 +145,7 @@ module _ (seats : List SeatAt) (permits : ℕ) (k : ℕ) (new d : SeatAt) (low :
   some_set : 0 < length (set seats k new)
   some_set = omega (arith, kept.some, length-set seats k new)
 
-  -- It has the same pins,
+  -- the seats after a visit that changed no pin
   pub kept_same : new.pins ≡ (get_or seats k d).pins → IsPinSeat (set seats k new) permits
   kept_same same = record {
     parts = part_set;
@@ -156,7 +156,7 @@ module _ (seats : List SeatAt) (permits : ℕ) (k : ℕ) (new d : SeatAt) (low :
         (subst (λ (l : List ℕ). Contains l key) same has));
   }
 
-  -- one more, of a key of this shard, for which there was room,
+  -- one more pin, with a key of this shard; it was allowed
   pub kept_more : (key : ℕ) → shard_of (length seats) key ≡ k
       → new.pins ≡ key ∷ (get_or seats k d).pins
       → length (keys_of_seats seats) < max_pins * permits → IsPinSeat (set seats k new) permits
@@ -199,7 +199,7 @@ module _ (seats : List SeatAt) (permits : ℕ) (k : ℕ) (new d : SeatAt) (low :
 
 -- ---- the first seat
 
--- It has all permits at each shard.
+-- a first seat has all permits at each shard
 pub first_parts : (tables : List ShardId) (tag passes : ℕ) → All (IsMadeBy tag passes) tables
     → passes ≤ max_passes → All (IsPartOf passes) (map first_seat tables)
 first_parts tables tag passes made few = All-map (IsPartOf passes) first_seat tables
@@ -209,24 +209,24 @@ first_parts tables tag passes made few = All-map (IsPartOf passes) first_seat ta
       most = omega (arith, by.passes, few);
     })
 
--- It is a seat of these shards.
+-- a first seat belongs to these shards
 pub first_shards : (tables : List ShardId) → map shard_of_seat (map first_seat tables) ≡ tables
 first_shards [] = refl
 first_shards (t ∷ tables) = ap (λ (l : List ShardId). t ∷ l) (first_shards tables)
 
--- It has no pin
+-- a first seat has no pin
 pub first_keys : (tables : List ShardId) → keys_of_seats (map first_seat tables) ≡ []
 first_keys [] = refl
 first_keys (t ∷ tables) = first_keys tables
 
--- and has made no visit.
+-- the seats of a new gate have made no visit
 pub first_visits : (tables : List ShardId) (k : ℕ)
     → visits_at k (map visits_of_seat (map first_seat tables)) ≡ []
 first_visits [] k = refl
 first_visits (t ∷ tables) zero = refl
 first_visits (t ∷ tables) (suc k) = first_visits tables k
 
--- Where no key is pinned, each pin is at its shard.
+-- Without pins, each pin is trivially at its shard.
 pub none_placed : (seats : List SeatAt) → keys_of_seats seats ≡ [] → ArePlaced seats
 none_placed seats none k key d low has =
     let inside = has.1 in

@@ -10,7 +10,7 @@ use Rattle.shard_gate.specs.Gate.{shard_of, one_of_shard, own_pins}
 use Rattle.shard_gate.proofs.SumLemmas.{sum_plus, sum_none}
 
 module _ (shards : ℕ) where
-  -- 1 for a key of one of so many shards from this one on, else 0
+  -- 1 for a key of one of these shards, otherwise 0
   abbrev one_from : ℕ → ℕ → ℕ → ℕ
   one_from shard zero key = 0
   one_from shard (suc more) key = one_of_shard shards shard key + one_from (suc shard) more key
@@ -85,8 +85,8 @@ module _ (shards : ℕ) where
       as_many counts (suc shard) (λ k at d low is. each (suc k) at d (omega arith) (omega arith)),
     )
 
-    -- Where the number of each shard is at least that of its keys, all are at least as many as the
-    -- keys,
+    -- if the number of each shard is at least that of its keys, the sum is at least the number of
+    -- keys
     pub at_least : (counts : List X) → length counts ≡ shards → 0 < shards
         → ((k : ℕ) (d : X) → k < shards → own_pins shards k keys ≤ f (get_or counts k d))
         → length keys ≤ sum_by f counts
@@ -100,7 +100,7 @@ module _ (shards : ℕ) where
           (each k d (omega (arith, low, long)))),
     )
 
-    -- and where it is exactly that, they are as many.
+    -- if the number of each shard equals that of its keys, the sum is the number of keys
     pub exactly : (counts : List X) → length counts ≡ shards → 0 < shards
         → ((k : ℕ) (d : X) → k < shards → f (get_or counts k d) ≡ own_pins shards k keys)
         → sum_by f counts ≡ length keys

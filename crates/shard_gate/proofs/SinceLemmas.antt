@@ -77,13 +77,13 @@ module _ (gate : GateState) where
 
   -- ---- those of all shards
 
-  -- Where no visit was made, none purges.
+  -- If no visit was made, none purges.
   pub purges_none : (old new : PinSeatState) → new.visits ≡ old.visits → PurgesNone gate old new
   purges_none old new same = record {
     each = λ shard. none_more shard _ _ (ap (visits_at shard) same);
   }
 
-  -- What is so of two calls is so of both together.
+  -- What is true of two calls holds of both together.
   pub purges_none_chain : (old mid new : PinSeatState) → PurgesNone gate old mid
       → PurgesNone gate mid new → PurgesNone gate old new
   purges_none_chain old mid new first second = record {
@@ -112,7 +112,7 @@ module _ (gate : GateState) where
         at_one (shard_of (length gate.id) key) (λ a b. b ≡ a) old new
         (none_more (shard_of (length gate.id) key)) at
 
-    -- A `pin`, by its clauses `visits` and `refused`.
+    -- a `pin` purges nothing, by its clauses `visits` and `refused`
     pub purges_none_pin : (r : Result (Option PinState) (PinError B))
         → IfOk r (λ found. VisitsAt gate key (Finds key (option_map tile_of found)) old new)
         → IfErr r (λ e. VisitsAt gate key (IfNotPinned e) old new) → PurgesNone gate old new
@@ -129,7 +129,7 @@ module _ (gate : GateState) where
         at_one (shard_of (length gate.id) tile.key) (λ a b. b ≡ a) old new
         (none_more (shard_of (length gate.id) tile.key)) at
 
-    -- A `pin_new`, by its clauses `visits` and `refused`.
+    -- a `pin_new` purges nothing, by its clauses `visits` and `refused`
     pub purges_none_pin_new : (r : Result PinState (NotPinned W B))
         → IfOk r (λ pin. VisitsAt gate tile.key
         (Inserts (slots_of gate.passes) tile pin.tile) old new)
@@ -190,7 +190,7 @@ module _ (gate : GateState) where
     left = at.here.left;
   }
 
-  -- So it has, whatever was visited before
+  -- a miss is still one after earlier visits
   pub misses_after : (key : ℕ) (old mid new : PinSeatState) → PurgesNone gate old mid
       → Misses gate key mid new → Misses gate key old new
   misses_after key old mid new first second =
@@ -204,7 +204,7 @@ module _ (gate : GateState) where
             second.left;
       }
 
-  -- and afterwards.
+  -- a miss is still one after later visits
   pub misses_before : (key : ℕ) (old mid new : PinSeatState) → Misses gate key old mid
       → PurgesNone gate mid new → Misses gate key old new
   misses_before key old mid new first second =

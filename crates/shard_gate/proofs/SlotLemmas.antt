@@ -127,7 +127,7 @@ module _ (s new : ShardState) (in_slots : AreInSlots s) where
 
   -- ---- a tile is kept
 
-  -- Where its key was there, the slot has it.
+  -- If the key was there, the slot still has it.
   pub inserts_again : (key slot : ℕ) (e : EntryState) → slot_of key s.slots ≡ Some slot
       → new.slots ≡ s.slots → entry_at key s.entries ≡ Some e
       → new.entries ≡ pinned_first key s.entries → InsertsSlot key slot s new

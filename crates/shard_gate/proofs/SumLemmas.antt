@@ -1,4 +1,4 @@
--- Sums over a list of which one element is read, and how many pins the seats have of some slots.
+-- Sums over a list with one element singled out, and the number of pins of all seats on some slots.
 use Rattle.std.proofs.Common.{◌≡◌, ℕ, zero, suc, ◌+◌, ◌*◌, ◌≤◌, List, [], ◌∷◌, set, sym, ap, arith}
 use Rattle.std.proofs.Common.{true, false, cond, nat_eq, length, refl, subst}
 use Rattle.std.specs.List.{sum_by, IsDistinct, AllByRecursion}
@@ -40,7 +40,7 @@ module _ {X : Type 0} (f : X → ℕ) where
     sum_plus g h xs each,
   )
 
-  -- the same for each
+  -- sums of equal values are equal
   pub sum_same : (g : X → ℕ) (xs : List X) → ((x : X) → f x ≡ g x) → sum_by f xs ≡ sum_by g xs
   sum_same g [] each = refl
   sum_same g (x ∷ xs) each =
@@ -114,7 +114,7 @@ few_pins (v ∷ views) slots distinct each = omega (
   sum_by-cons permits_of v views,
 )
 
--- So it is of one slot.
+-- one slot has few enough pins
 pub few_pins_of : (views : List Standing) (slot : ℕ)
     → ((seat : ℕ) (v : Standing) → get_elem? views seat ≡ some v
     → length v.pins ≤ max_pins * v.permits)

@@ -1,4 +1,4 @@
--- What a seat keeps while it tells the slots that tiles left.
+-- What a seat keeps while it reports the slots that tiles left.
 use Rattle.std.proofs.Common.{◌≡◌, ℕ, ◌<◌, List, [], ◌∷◌}
 use Rattle.std.proofs.Common.{length, Some, IsSome, refl, sym, ap, subst, ◌∙◌, arith}
 use Rattle.atomic_table.specs.Table.{Me, rest}
@@ -18,7 +18,7 @@ use Rattle.shard_gate.specs.Home.{words_of, IsStored}
 use Rattle.shard_gate.specs.Work.{AreBehind, IsTellingOf, HasToldOf}
 use Rattle.shard_gate.proofs.LeaveLemmas.{told_free, told_more, all_told}
 
--- The shard is one, and stays so where its entries and its slots do.
+-- A shard stays stored properly if its entries and slots do not change.
 pub stored_same : (files : Files) (terms : Terms) (s new : ShardState) → new.entries ≡ s.entries
     → new.slots ≡ s.slots → IsStored files terms s → IsStored files terms new
 stored_same files terms s new entries slots is = record {
@@ -34,12 +34,12 @@ stored_same files terms s new entries slots is = record {
 }
 
 module _ {A : Type 0} (value : A → ShardState) where
-  -- the slots of the shard that a seat has which are to be told
+  -- the slots still to be reported, in the shard that a seat has
   abbrev pub left_in : List (ℕ × A) → List ℕ
   left_in [] = []
   left_in (x ∷ xs) = (value x.1).left
 
-  -- The seat has told some slots, and the shard has the same entries in the same slots.
+  -- The seat has reported some slots, and the shard has the same entries in the same slots.
   pub record ToldSoFar (old now : Me A Standing) : Type 0 where
     pub body : A
     pub before : A

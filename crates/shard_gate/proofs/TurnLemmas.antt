@@ -29,7 +29,7 @@ use Rattle.shard_gate.proofs.TellLemmas.{one_slot}
 
 -- ---- a seat that has taken the turn
 
--- It has this shard, knows its words, and they have its own pins.
+-- The seat has this shard and knows its words, which include its own pins.
 pub record InTurn (files : Files) {A : Type 0} (old : Standing) (me : Me A Standing) (s : ShardState)
     : Type 0 where
   pub view : me.0 ≡ with_turn s.entries (words_of s) old
@@ -69,15 +69,15 @@ module _ {A : Type 0} (value : A → ShardState) (files : Files) (old : Standing
     pins_high = few_pins_in s turn.home.stored.in_slots old.passes
         turn.home.stored.entries.distinct turn.few
 
-    -- There is room for one pin more,
+    -- one more pin is possible
     pub pins_low : old.passes ≤ max_passes → pin_sum s.entries + 1 < 2 ^ 32
     pins_low few = omega (arith, pins_high)
 
-    -- and there are more slots than pins.
+    -- there are more slots than pins
     pub slots_left : pin_sum s.entries < length s.slots
     slots_left = omega (arith, pins_high, turn.home.stored.count)
 
-    -- It has no more pins than the entries have,
+    -- the seat has no more pins than the entries
     pub own_counted : length (keys_of_pins old.pins) ≤ pin_sum s.entries
     own_counted = omega (
       arith,
@@ -85,7 +85,7 @@ module _ {A : Type 0} (value : A → ShardState) (files : Files) (old : Standing
       own_in_sum s turn.home.stored.in_slots old turn.home.stored.entries.distinct turn.own turn.among,
     )
 
-    -- and as many where it has all permits.
+    -- there are as many pins as the seat has, if it has all permits
     pub all_counted : old.permits ≡ old.passes → pin_sum s.entries ≡ length (keys_of_pins old.pins)
     all_counted all = omega (
       arith,
@@ -247,7 +247,7 @@ module _ {A : Type 0} (value : A → ShardState) (files : Files) (old : Standing
           (slot_word s s turn.home.stored.in_slots key slot is)
           (keys-without (words_of s) slot old.pins turn.among (own_slot key slot has is))
 
-    -- The seat gives back the shard of which each slot was told.
+    -- The seat gives back the shard after each slot was reported.
     module _ (slot : ℕ) (body : A) (new : ShardState) (put : value body ≡ new)
         (mid last : Me A Standing) (given : Standing)
         (unpinned : mid ≡ (without_pin slot me.0, (0, body) ∷ rest me.1))

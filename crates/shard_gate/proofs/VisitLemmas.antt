@@ -17,7 +17,7 @@ use Rattle.shard_gate.proofs.SeatLemmas.{same_keys, one_key_more, one_key_less, 
 use Rattle.shard_gate.proofs.SeatLemmas.{at_its_shard, kept_same, kept_more, kept_less}
 use Rattle.shard_gate.proofs.TagLemmas.{share_of-tag_of, cut_of-tag_of}
 
--- What is the same of one seat is the same of all, where the others stay.
+-- What is unchanged of one seat is unchanged of all, if the others are.
 pub map_set_same : {Y : Type 0} (f : SeatAt → Y) (seats : List SeatAt) (k : ℕ) (new d : SeatAt)
     → f new ≡ f (get_or seats k d) → map f (set seats k new) ≡ map f seats
 map_set_same f [] k new d same = refl
@@ -45,34 +45,34 @@ visits_else (x ∷ xs) zero (suc j) new apart = refl
 visits_else (x ∷ xs) (suc k) zero new apart = refl
 visits_else (x ∷ xs) (suc k) (suc j) new apart = visits_else xs k j new (λ e. apart (ap suc e))
 
--- What stands where the call came back well.
+-- A fact after success, from another one.
 pub on_ok : {A E : Type 0} (r : Result A E) (P Q : Type 0) → (P → Q) → OnOk r P → OnOk r Q
 on_ok (Ok a) P Q then holds = then holds
 on_ok (Err e) P Q then holds = tt
 
--- What stands where it was refused.
+-- A fact after an error, from another one.
 pub on_err : {A E : Type 0} (r : Result A E) (P Q : Type 0) → (P → Q) → OnErr r P → OnErr r Q
 on_err (Ok a) P Q then holds = tt
 on_err (Err e) P Q then holds = then holds
 
--- What stands of its answer.
+-- A fact of the answer, from another one.
 pub if_ok : {A E : Type 0} (r : Result A E) (P Q : A → Type 0) → ((a : A) → P a → Q a) → IfOk r P
     → IfOk r Q
 if_ok (Ok a) P Q then holds = then a holds
 if_ok (Err e) P Q then holds = tt
 
--- What stands of the reason.
+-- A fact of the error, from another one.
 pub if_err : {A E : Type 0} (r : Result A E) (P Q : E → Type 0) → ((e : E) → P e → Q e) → IfErr r P
     → IfErr r Q
 if_err (Ok a) P Q then holds = tt
 if_err (Err e) P Q then holds = then e holds
 
--- What stands where something was found.
+-- A fact if something was found, from another one.
 pub on_some : {A : Type 0} (o : Option A) (P Q : Type 0) → (P → Q) → OnSome o P → OnSome o Q
 on_some (Some a) P Q then holds = then holds
 on_some None P Q then holds = tt
 
--- What stands where nothing was.
+-- A fact if nothing was found, from another one.
 pub if_none : {A : Type 0} (o : Option A) (P Q : Type 0) → (P → Q) → IfNone o P → IfNone o Q
 if_none (Some a) P Q then holds = tt
 if_none None P Q then holds = then holds
@@ -89,7 +89,7 @@ module _ (seats : List SeatAt) (permits : ℕ) (p : PinSeatState)
     length-map {A = SeatAt} {B = ShardId},
   )
 
-  -- it is a seat at so many shards as the gate has
+  -- the caller has a seat at each shard of the gate
   pub as_long : length seats ≡ length id
   as_long = omega (
     arith,
@@ -132,7 +132,7 @@ module _ (seats : List SeatAt) (permits : ℕ) (p : PinSeatState)
         (subst (λ (s : SeatAt). IsPermutation s.pins (key ∷ new.pins)) here less));
   }
 
-  -- There is room for a pin at the shard where there is room for one of the seat.
+  -- A pin is allowed at the shard if one is allowed for the seat.
   pub room_here : IsPinSeat seats permits → length p.pins < max_pins * p.permits
       → length x.pins < max_pins * x.permits
   room_here kept room =
@@ -227,7 +227,7 @@ module _ (seats : List SeatAt) (permits : ℕ) (p : PinSeatState)
             ∙ ap (λ (q : PinSeatState). visits_at j q.visits) is;
       }
 
-  -- So it is where the shard is that of a key.
+  -- a change at the shard of a key
   pub at_key : (n : ℕ) → k ≡ n → (Changed : List Visit → List Visit → Type 0)
       → Changed x.visits new.visits
       → AtShard n Changed p.visits (map visits_of_seat (set seats k new))

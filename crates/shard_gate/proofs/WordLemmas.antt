@@ -13,7 +13,7 @@ use Rattle.shard_gate.specs.Words.{first_word, key_word, pin_word}
 use Rattle.shard_gate.specs.Words.{pins_on, without_pin_of}
 use Rattle.shard_gate.proofs.PinLemmas.{pins_on-without}
 
--- ---- the words of the slots, where another word changes
+-- ---- the words of the slots, when another word changes
 
 pub keys_stay : (words : List ℕ) (word n slot : ℕ) → word < first_word
     → slice_index (set words word n) (key_word slot) ≡ slice_index words (key_word slot)

@@ -13,19 +13,19 @@ use Rattle.shard_gate.specs.declared.error.NotPinned.TheVariants as turned_down
 abbrev pub tile_of : PinState → CachedTile
 tile_of pin = pin.tile
 
--- The visits of the key's shard changed so, and those of no other.
+-- The visits of the key's shard changed in this way, and those of no other shard.
 abbrev pub VisitsAt : GateState → ℕ → (List Visit → List Visit → Type 0) → PinSeatState
     → PinSeatState → Type 0
 VisitsAt gate key Changed old new =
     AtShard (shard_of (length gate.id) key) Changed old.visits new.visits
 
--- A pin that was refused for want of memory has left the entries as they were. One of which the
--- waiter gave up has made no visit.
+-- If memory ran out, the entries are unchanged. If the waiter gave up, there was no visit.
 abbrev pub IfNotPinned : {B : Type 0} → PinError B → List Visit → List Visit → Type 0
 IfNotPinned failed.NoMemory old new = GivesBack old new
 IfNotPinned (failed.Busy busy) old new = new ≡ old
 
--- so it is of a tile that was not inserted
+-- if a tile was not inserted: out of memory leaves the entries unchanged, and a waiter that gave up
+-- made no visit
 abbrev pub IfNotInserted : {W B : Type 0} → NotPinned W B → List Visit → List Visit → Type 0
 IfNotInserted turned_down.NoMemory old new = GivesBack old new
 IfNotInserted (turned_down.Busy tile busy) old new = new ≡ old

@@ -1,4 +1,4 @@
--- Which gate is it, what is known of a caller's seat at it, and what does each call leave of that?
+-- How do contracts see a gate and a caller's seat, and what does each call leave of the seat?
 use Rattle.std.specs.Prelude.{◌≡◌, ℕ, ◌+◌, ◌-◌, ◌*◌, ◌/◌, ◌%◌, ◌^◌, ◌≤◌, List, [], ◌∷◌}
 use Rattle.std.specs.Prelude.{cond, nat_eq, length, IsPermutation, Result, Option, IfOk, IfSome}
 use Rattle.std.specs.Prelude.{IfNone}
@@ -20,53 +20,53 @@ use Rattle.shard_gate.specs.Seated.{ShardId}
 use Rattle.shard_gate.specs.declared.error.NotPinned.{NotPinned}
 use Rattle.shard_gate.specs.declared.error.NotPinned.TheVariants.{NoMemory, Busy}
 
--- the bytes that a budget may have
+-- the greatest budget in bytes
 abbrev pub max_budget : ℕ
 max_budget = 2 ^ 32
 
--- the shards that a gate may have
+-- the greatest number of shards
 abbrev pub max_shards : ℕ
 max_shards = 64
 
--- the shard of a key, among so many
+-- the shard of a key
 abbrev pub shard_of : ℕ → ℕ → ℕ
 shard_of shards key =
     (index_of key + 7 * level_of key + 13 * file_of key + 31 * generation_of key) % shards
 
--- 1 for a key of this shard, among so many, else 0
+-- 1 for a key of this shard, otherwise 0
 abbrev pub one_of_shard : ℕ → ℕ → ℕ → ℕ
 one_of_shard shards shard key = cond (nat_eq (shard_of shards key) shard) 1 0
 
--- how many of these keys are of the shard
+-- how many of these keys belong to the shard
 abbrev pub own_pins : ℕ → ℕ → List ℕ → ℕ
 own_pins shards shard keys = sum_by (one_of_shard shards shard) keys
 
--- What is known of a gate.
+-- A gate, as contracts see it.
 pub record GateState : Type 0 where
-  -- its shards, by which it is told from others: no two gates have the same
+  -- its shards, which identify it: no two gates have the same
   pub id : List ShardId
   -- the bytes that the unpinned tiles of a shard may take
   pub share : ℕ
-  -- how the levels are cut whose cells are its tiles
+  -- the cut of the levels that its tiles belong to
   pub cut : Cut
   -- the permits of all its seats together
   pub passes : ℕ
 
--- What is known of a caller's seat.
+-- A caller's seat, as contracts see it.
 pub record PinSeatState : Type 0 where
   -- the gate that it belongs to
   pub gate : List ShardId
   pub permits : ℕ
-  -- the keys of the pins that it holds, each as often as it has pinned it
+  -- the keys of its pins, each as often as it was pinned
   pub pins : List ℕ
-  -- its visits to each shard, the last first
+  -- its visits to each shard, the last one first
   pub visits : List (List Visit)
 
--- What is known of a pin.
+-- A pin, as contracts see it.
 pub record PinState : Type 0 where
   pub tile : CachedTile
 
--- The numbers that a gate may be made with.
+-- The limits within which a gate can be made.
 pub record AreLimits (budget shards passes : ℕ) (cut : Cut) : Type 0 where
   pub budget_high : budget ≤ max_budget
   pub shards_low : 1 ≤ shards
@@ -75,7 +75,7 @@ pub record AreLimits (budget shards passes : ℕ) (cut : Cut) : Type 0 where
   pub passes_high : passes ≤ max_passes
   pub cut_is : IsCut cut
 
--- The budget is dealt out in equal shares, and the tag of each shard names its share and the cut.
+-- The budget is divided equally, and the tag of each shard encodes its share and the cut.
 pub record IsNewGate (budget shards passes : ℕ) (cut_given : Cut) (gate : GateState) : Type 0 where
   pub count : length gate.id ≡ shards
   pub share : gate.share ≡ budget / shards
@@ -83,28 +83,28 @@ pub record IsNewGate (budget shards passes : ℕ) (cut_given : Cut) (gate : Gate
   pub all_permits : gate.passes ≡ passes
   pub tags : All (λ id. id.tag ≡ tag_of (budget / shards) cut_given) gate.id
 
--- The seat of a new gate has all permits and no pin, and has made no visit.
+-- The first seat of a gate has all permits, no pin, and no visit.
 pub record IsFirstSeat (made : GateState) (seat : PinSeatState) : Type 0 where
   pub gate : seat.gate ≡ made.id
   pub permits : seat.permits ≡ made.passes
   pub pins : seat.pins ≡ []
   pub visits : (k : ℕ) → visits_at k seat.visits ≡ []
 
--- where the world tells, the key names a cell of its file under the cut, and the tile has the
--- rectangle of that cell
+-- in a modelled world, the key names a cell of its file under the cut, and the tile has the cell's
+-- rectangle
 abbrev pub HasCellRect : Files → Cut → CachedTile → Type 0
 HasCellRect files cut tile = ToldBy files tile.key (λ bytes. HasCell cut bytes tile)
 
--- The tile is that of the key, and where the world tells it is the cell under the cut.
+-- The tile has this key and, in a modelled world, is the cell under the cut.
 pub record IsTileOf (files : Files) (cut : Cut) (key : ℕ) (tile : CachedTile) : Type 0 where
   pub keyed : tile.key ≡ key
   pub fits : FitsCut files cut tile
 
--- what P says of an answer, where something was found
+-- `P` holds of what was found, if something was found
 abbrev pub IfFound : {A E : Type 0} → Result (Option A) E → (A → Type 0) → Type 0
 IfFound result P = IfOk result (λ found. IfSome found P)
 
--- what P says, where nothing was found
+-- `P` holds if nothing was found
 abbrev pub IfNotFound : {A E : Type 0} → Result (Option A) E → Type 0 → Type 0
 IfNotFound result P = IfOk result (λ found. IfNone found P)
 
@@ -114,51 +114,51 @@ pub record CountsLawful (files : Files) (tag : ℕ) (count : ShardCount) : Type 
   pub numbers : IsCountOf entries count
   pub lawful : Lawful files tag entries
 
--- The seat belongs to the same gate, with the same permits and the same pins.
+-- The seat belongs to the same gate, with the same permits and pins.
 pub record SamePins (old new : PinSeatState) : Type 0 where
   pub gate : new.gate ≡ old.gate
   pub permits : new.permits ≡ old.permits
   pub pins : new.pins ≡ old.pins
 
--- The seat has one pin more, of this key.
+-- The seat has one more pin, with this key.
 pub record OnePinMore (key : ℕ) (old new : PinSeatState) : Type 0 where
   pub gate : new.gate ≡ old.gate
   pub permits : new.permits ≡ old.permits
   pub pins : IsPermutation (key ∷ old.pins) new.pins
 
--- The seat has one pin less, of this key.
+-- The seat has one pin less, with this key.
 pub record OnePinLess (key : ℕ) (old new : PinSeatState) : Type 0 where
   pub gate : new.gate ≡ old.gate
   pub permits : new.permits ≡ old.permits
   pub pins : IsPermutation old.pins (key ∷ new.pins)
 
--- The seat is as it was.
+-- The seat is unchanged.
 pub record IsSameSeat (old new : PinSeatState) : Type 0 where
   pub gate : new.gate ≡ old.gate
   pub permits : new.permits ≡ old.permits
   pub pins : new.pins ≡ old.pins
   pub visits : new.visits ≡ old.visits
 
--- The tile comes back where the waiter gave up.
+-- The tile comes back if the waiter gave up.
 abbrev pub GivesBackIfBusy : {W B : Type 0} → CachedTile → NotPinned W B → Type 0
 GivesBackIfBusy tile NoMemory = Unit {0}
 GivesBackIfBusy tile (Busy back busy) = back ≡ tile
 
--- The new seat has one permit and no pin, and has made no visit.
+-- The new seat has one permit, no pin, and no visit.
 pub record IsSecondSeat (old seat : PinSeatState) : Type 0 where
   pub gate : seat.gate ≡ old.gate
   pub permits : seat.permits ≡ 1
   pub pins : seat.pins ≡ []
   pub visits : (k : ℕ) → visits_at k seat.visits ≡ []
 
--- A seat keeps all permits but one, and all its pins.
+-- The seat keeps all pins, and all permits but one.
 pub record AfterSplit (old new : PinSeatState) : Type 0 where
   pub gate : new.gate ≡ old.gate
   pub permits : new.permits ≡ old.permits - 1
   pub pins : new.pins ≡ old.pins
   pub visits : new.visits ≡ old.visits
 
--- A seat has the permits of both, and its own pins.
+-- The seat has the permits of both seats, and its own pins.
 pub record AfterJoin (other old new : PinSeatState) : Type 0 where
   pub gate : new.gate ≡ old.gate
   pub permits : new.permits ≡ old.permits + other.permits

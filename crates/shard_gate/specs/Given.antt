@@ -1,5 +1,5 @@
--- Which visits does each call make, and which entries does it give back?
--- The visits of a shard stand in a list, the last of them first.
+-- Which visits does each call make, and which entries does it leave? The visits of a shard are
+-- listed with the last one first.
 use Rattle.std.specs.Prelude.{◌≡◌, ◌≢◌, ℕ, ◌<◌, ◌≤◌, length, List, ◌∷◌, Option}
 use Rattle.tex_world.specs.World.{Files}
 use Rattle.tiff_format.specs.declared.shard_count.ShardCount.{ShardCount}
@@ -10,47 +10,48 @@ use Rattle.tile_store.specs.Changes.{without_stale}
 use Rattle.tile_store.specs.Lawful.{Lawful}
 use Rattle.shard_gate.specs.Visit.{Visit, visit, visits_at}
 
--- A pin is gone from the entry of the key, and the unpinned ones past the share have left.
+-- The entries after a pin of the key was given back, and the unpinned ones beyond the share have
+-- left.
 abbrev pub released : ℕ → ℕ → Entries → Entries
 released share key es = kept_within share (unpinned_once key es)
 
--- The numbers are those of these entries.
+-- The count has the numbers of these entries.
 pub record IsCountOf (es : Entries) (count : ShardCount) : Type 0 where
   pub tiles : count.tiles ≡ length es
   pub pins : count.pins ≡ pin_sum es
   pub loose : count.loose ≡ loose_bytes es
 
--- ---- what a call does, by the visits that it adds to those of a shard
+-- ---- what a call does, as visits added to those of one shard
 
--- The call looked for the tile of a key, which it pinned if it was there.
+-- The call looked for the tile of a key, and pinned it if it was there.
 pub record Finds (key : ℕ) (tile : Option CachedTile) (old new : List Visit) : Type 0 where
   pub taken : Entries
   pub found : tile ≡ tile_at key taken
   pub left : new ≡ visit taken (pinned_first key taken) ∷ old
 
--- It inserted a tile, with a pin.
+-- The call inserted a tile with a pin.
 pub record Inserts (slots : ℕ) (tile result : CachedTile) (old new : List Visit) : Type 0 where
   pub taken : Entries
   pub kept : result ≡ kept_tile tile taken
   pub left : new ≡ visit taken (inserted tile slots taken) ∷ old
 
--- It gave the entries back as it took them.
+-- The call left the entries as they were.
 pub record GivesBack (old new : List Visit) : Type 0 where
   pub taken : Entries
   pub left : new ≡ visit taken taken ∷ old
 
--- It took a pin from the entry of a key, which had one.
+-- The call took a pin from the entry of a key, which had one.
 pub record Releases (share key : ℕ) (old new : List Visit) : Type 0 where
   pub taken : Entries
   pub pin : HasPin key taken
   pub left : new ≡ visit taken (released share key taken) ∷ old
 
--- It took out the unpinned entries of a file below a generation.
+-- The call removed the unpinned entries of a file below a generation.
 pub record Purges (file below : ℕ) (old new : List Visit) : Type 0 where
   pub taken : Entries
   pub left : new ≡ visit taken (without_stale file below taken) ∷ old
 
--- It gave the entries back as it took them. They are lawful for the tag, and have these numbers.
+-- The call left the entries as they were. They are lawful for the tag, and have these numbers.
 pub record Counts (files : Files) (tag : ℕ) (count : ShardCount) (old new : List Visit)
     : Type 0 where
   pub taken : Entries
@@ -58,21 +59,21 @@ pub record Counts (files : Files) (tag : ℕ) (count : ShardCount) (old new : Li
   pub lawful : Lawful files tag taken
   pub left : new ≡ visit taken taken ∷ old
 
--- ---- the same of the visits of all shards
+-- ---- what a call does, as visits to all shards
 
--- The visits of this shard changed so, and those of no other.
+-- The visits of this shard changed in this way, and those of no other shard.
 pub record AtShard (shard : ℕ) (Changed : List Visit → List Visit → Type 0)
     (old new : List (List Visit)) : Type 0 where
   pub here : Changed (visits_at shard old) (visits_at shard new)
   pub others : (k : ℕ) → k ≢ shard → visits_at k new ≡ visits_at k old
 
--- The visits of each of the first shards changed so, and those of no other.
+-- The visits of each of the first shards changed in this way, and those of no other shard.
 pub record AtFirst (count : ℕ) (Changed : List Visit → List Visit → Type 0)
     (old new : List (List Visit)) : Type 0 where
   pub below : (k : ℕ) → k < count → Changed (visits_at k old) (visits_at k new)
   pub others : (k : ℕ) → count ≤ k → visits_at k new ≡ visits_at k old
 
--- Those of the first shards changed so, but not of all, and those of no other.
+-- The visits of some first shards, but not of all shards, changed in this way, and no others.
 abbrev pub AtSome : ℕ → (List Visit → List Visit → Type 0) → List (List Visit) → List (List Visit)
     → Type 0
 AtSome count Changed old new = (n : ℕ) × (n < count) × AtFirst n Changed old new

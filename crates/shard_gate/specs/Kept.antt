@@ -1,4 +1,4 @@
--- What does a gate keep of itself, and a seat?
+-- What is true of the fields of a gate and of a seat?
 use Rattle.std.specs.Prelude.{◌≡◌, ℕ, ◌*◌, ◌<◌, ◌≤◌, List, [], ◌∷◌, ◌++◌, map, length}
 use Rattle.std.specs.Prelude.{Contains, slice_index_or}
 use Rattle.std.specs.List.{All}
@@ -19,7 +19,7 @@ abbrev pub keys_of_seats : List SeatAt → List ℕ
 keys_of_seats [] = []
 keys_of_seats (s ∷ seats) = s.pins ++ keys_of_seats seats
 
--- what is known of the seat that has these at the shards
+-- a caller's seat, as contracts see it, made of its seats at the shards
 abbrev pub seat_state : List SeatAt → ℕ → PinSeatState
 seat_state seats permits = record {
   gate = map shard_of_seat seats;
@@ -28,7 +28,7 @@ seat_state seats permits = record {
   visits = map visits_of_seat seats;
 }
 
--- The seat at a shard has these permits, which are not more than the passes.
+-- The seat at a shard has these permits, and no more than there may be passes.
 pub record IsPartOf (permits : ℕ) (s : SeatAt) : Type 0 where
   pub same : s.permits ≡ permits
   pub few : permits ≤ s.shard.passes
@@ -39,7 +39,7 @@ abbrev pub ArePlaced : List SeatAt → Type 0
 ArePlaced seats = (k key : ℕ) (d : SeatAt) → k < length seats
     → Contains (slice_index_or seats k d).pins key → shard_of (length seats) key ≡ k
 
--- A seat has a part at each shard, one permit at least, and not too many pins.
+-- A caller has a seat at each shard, at least one permit, and not too many pins.
 pub record IsPinSeat (seats : List SeatAt) (permits : ℕ) : Type 0 where
   pub parts : All (IsPartOf permits) seats
   pub some : 0 < length seats
@@ -47,12 +47,12 @@ pub record IsPinSeat (seats : List SeatAt) (permits : ℕ) : Type 0 where
   pub few : length (keys_of_seats seats) ≤ max_pins * permits
   pub placed : ArePlaced seats
 
--- what is known of the gate that has these shards
+-- the gate with these shards, as contracts see it
 abbrev pub gate_state : List ShardId → ℕ → Cut → ℕ → GateState
 gate_state shards share cut passes =
     record { id = shards; share = share; cut = cut; passes = passes }
 
--- Each shard was made with the tag of the share and the cut, and with the passes.
+-- Each shard was made with the tag of the share and the cut, and for this number of passes.
 pub record IsGate (shards : List ShardId) (share : ℕ) (cut : Cut) (passes : ℕ) : Type 0 where
   pub made : All (IsMadeBy (tag_of share cut) passes) shards
   pub some : 0 < length shards

@@ -1,4 +1,4 @@
--- How a table is known, and a seat at it while it has no turn.
+-- How do contracts see a table, and a seat at it that does not have the lock?
 use Rattle.std.specs.Prelude.{◌≡◌, ℕ, ◌+◌, ◌-◌, ◌≤◌, true, false, List, [], ◌∷◌}
 use Rattle.atomic_table.specs.Table.{Me}
 use Rattle.atomic_table.specs.Seated.{TableId}
@@ -9,46 +9,46 @@ use Rattle.std.specs.List.{All}
 use Rattle.shard_gate.specs.declared.standing.Standing.{Standing}
 use Rattle.shard_gate.specs.declared.rule.Terms.{Terms}
 
--- Which shard it is. No two shards have the same.
+-- The identity of a shard. No two shards have the same.
 pub record ShardId : Type 0 where
-  -- it names the share and the cut
+  -- it encodes the share and the cut
   pub tag : ℕ
   -- the permits of all seats together
   pub passes : ℕ
-  -- the table that its words and its body lie in
+  -- the table with its words and its body
   pub table : TableId
 
--- the shard in this table, which was made with the terms
+-- the shard in this table, made with these terms
 abbrev pub shard_id : Terms → TableId → ShardId
 shard_id terms table = record { tag = terms.tag; passes = terms.passes; table = table }
 
--- It was made with this tag and so many permits.
+-- The shard was made with this tag and this number of permits.
 pub record IsMadeBy (lawful_tag all_permits : ℕ) (id : ShardId) : Type 0 where
   pub tag : id.tag ≡ lawful_tag
   pub passes : id.passes ≡ all_permits
 
--- Each was made with the terms.
+-- Each shard was made with these terms.
 abbrev pub AreMadeBy : Terms → List ShardId → Type 0
 AreMadeBy terms ids = All (IsMadeBy terms.tag terms.passes) ids
 
--- What is known of a seat at a shard.
+-- A seat at a shard, as contracts see it.
 pub record SeatAt : Type 0 where
   -- the shard that it belongs to
   pub shard : ShardId
   pub permits : ℕ
   -- the keys of its pins
   pub pins : List ℕ
-  -- its visits to the shard, the last first
+  -- its visits to the shard, the last one first
   pub visits : List Visit
 
--- The table has the words and the one slot.
+-- The table has all its words, and one place for the body.
 pub record IsLaid (passes : ℕ) (table : TableId) : Type 0 where
   pub words : table.words ≡ word_count passes
   pub slots : table.slots ≡ 1
   pub few : passes ≤ max_passes
 
 module _ {S : Type 0} where
-  -- what is known of this seat
+  -- this seat, as contracts see it
   abbrev pub seat_at : Seat S Standing → SeatAt
   seat_at seat = record {
     shard = record {
@@ -61,13 +61,13 @@ module _ {S : Type 0} where
     visits = seat.me.0.visits;
   }
 
-  -- The seat has no turn and no body.
+  -- The seat has neither the lock nor the body.
   pub record IsIdle (me : Me S Standing) : Type 0 where
     pub live : me.0.live ≡ true
     pub turn : me.0.has_turn ≡ false
     pub slots : me.1 ≡ []
 
-  -- The seat is idle, and has so many permits.
+  -- The seat is idle, and has this number of permits.
   pub record IsSeated (me : Me S Standing) (count : ℕ) : Type 0 where
     pub idle : IsIdle me
     pub permits : me.0.permits ≡ count
@@ -76,15 +76,15 @@ module _ {S : Type 0} where
 abbrev pub shard_of_seat : SeatAt → ShardId
 shard_of_seat s = s.shard
 
--- the first seat at a shard has all permits
+-- the first seat at a shard, which has all permits
 abbrev pub first_seat : ShardId → SeatAt
 first_seat id = record { shard = id; permits = id.passes; pins = []; visits = [] }
 
--- a seat keeps all permits but one
+-- the seat after it gave away one permit
 abbrev pub kept_seat : SeatAt → SeatAt
 kept_seat s = record s { permits = s.permits - 1 }
 
--- that one is the permit of a new seat, which has no pin, and has made no visit yet
+-- the new seat with that permit, without pins or visits
 abbrev pub new_seat : SeatAt → SeatAt
 new_seat s = record s { permits = 1; pins = []; visits = [] }
 
@@ -92,7 +92,7 @@ new_seat s = record s { permits = 1; pins = []; visits = [] }
 abbrev pub both_seats : SeatAt → SeatAt → SeatAt
 both_seats own other = record own { permits = own.permits + other.permits }
 
--- at each shard a seat with the permits of both
+-- at each shard, a seat with the permits of both
 abbrev pub joined_seats : List SeatAt → List SeatAt → List SeatAt
 joined_seats [] ys = []
 joined_seats (x ∷ xs) [] = x ∷ xs

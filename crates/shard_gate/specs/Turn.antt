@@ -1,4 +1,4 @@
--- What holds of a table between any two atomic steps, and what each kind of step tells its seat.
+-- What is true of a table between atomic steps, and what does each kind of step tell its seat?
 use Rattle.std.specs.Prelude.{◌≡◌, ℕ, ◌+◌, ◌-◌, ◌*◌, ◌≤◌, true, false, cond, List, [], ◌∷◌}
 use Rattle.std.specs.Prelude.{length, slice_index}
 use Rattle.std.specs.List.{sum_by}
@@ -14,7 +14,7 @@ use Rattle.shard_gate.specs.Words.{SlotWords, no_words, AreWords, pins_on, witho
 use Rattle.shard_gate.specs.Words.{AreHeld}
 use Rattle.shard_gate.specs.Words.{pinned_words, unpinned_words, keyed_words}
 
--- 1 for a seat that has the turn, else 0
+-- 1 for a seat that has the lock, otherwise 0
 abbrev pub turn_of : Standing → ℕ
 turn_of v = cond v.has_turn 1 0
 
@@ -22,15 +22,15 @@ turn_of v = cond v.has_turn 1 0
 abbrev pub permits_of : Standing → ℕ
 permits_of v = v.permits
 
--- the pins that all seats have of a slot
+-- the number of pins of all seats on a slot
 abbrev pub pinned : ℕ → List Standing → ℕ
 pinned slot views = sum_by (λ v. pins_on slot v.pins) views
 
--- the terms of the table that a seat names
+-- the terms of the table that a seat belongs to
 abbrev pub terms_of : Standing → Terms
 terms_of v = record { tag = v.tag; passes = v.passes }
 
--- the first seat of a table has all permits
+-- the first seat of a table, which has all permits
 abbrev pub first_standing : Terms → Standing
 first_standing terms = record {
   live = true;
@@ -43,8 +43,8 @@ first_standing terms = record {
   visits = [];
 }
 
--- A live seat names the table's tag and passes. A spent seat has no permit and no turn. A seat has
--- no more pins than its permits allow. Without the turn it knows no word of a slot.
+-- A live seat knows the table's tag and passes. A spent seat has no permit and no lock. A seat has
+-- no more pins than its permits allow. Without the lock it knows no word of a slot.
 pub record IsOf (terms : Terms) (v : Standing) : Type 0 where
   pub tag : v.live ≡ true → v.tag ≡ terms.tag
   pub passes : v.live ≡ true → v.passes ≡ terms.passes
@@ -53,46 +53,46 @@ pub record IsOf (terms : Terms) (v : Standing) : Type 0 where
   pub few : length v.pins ≤ max_pins * v.permits
   pub blind : v.has_turn ≡ false → v.known ≡ no_words
 
--- what the seat knows once it has the turn, and a body with these entries and words
+-- the seat after it took the lock and a body with these entries and words
 abbrev pub with_turn : Entries → SlotWords → Standing → Standing
 with_turn es words v =
     record v { has_turn = true; known = words; visits = begun es ∷ v.visits }
 
--- what it knows once it has given the turn back, with these
+-- the seat after it gave back the lock and a body with these entries
 abbrev pub without_turn : Entries → Standing → Standing
 without_turn es v = record v { has_turn = false; known = no_words; visits = ended es v.visits }
 
--- what it knows once it has a pin more, of this slot
+-- the seat with one more pin on this slot
 abbrev pub with_pin : ℕ → Standing → Standing
 with_pin slot v = record v {
   pins = (slot, slice_index v.known.keys slot) ∷ v.pins;
   known = pinned_words slot v.known;
 }
 
--- once it has a pin less of the slot
+-- the seat with one pin less on this slot
 abbrev pub without_pin : ℕ → Standing → Standing
 without_pin slot v = record v {
   pins = without_pin_of slot v.pins;
   known = unpinned_words slot v.known;
 }
 
--- once the slot has this key
+-- the seat after the slot got this key
 abbrev pub with_key : ℕ → ℕ → Standing → Standing
 with_key slot key v = record v { known = keyed_words slot key v.known }
 
--- a seat keeps all permits but one
+-- the seat after it gave away one permit
 abbrev pub kept_standing : Standing → Standing
 kept_standing v = record v { permits = v.permits - 1 }
 
--- that one is the permit of a new seat, which has no pin, and has made no visit yet
+-- the new seat with that permit, without pins or visits
 abbrev pub new_standing : Standing → Standing
 new_standing v = record v { permits = 1; pins = []; visits = [] }
 
--- the permits of both
+-- the seat with the permits of both
 abbrev pub both_standings : Standing → Standing → Standing
 both_standings own other = record own { permits = own.permits + other.permits }
 
--- a seat that was taken in
+-- a seat that another one has taken over
 abbrev pub spent_standing : Standing
 spent_standing = record {
   live = false;
@@ -114,12 +114,12 @@ module _ {S : Type 0} where
     pub right : lawful terms body
     pub last : visits ≡ begun (shown body) ∷ before
 
-  -- The rule. The turn word is 0 or 1, and it is the number of seats that have the turn. The tag
-  -- word is the tag of the table, which each live seat names. A pin word is the number of pins that
-  -- all seats have of the slot, and the key word of a pinned slot is the pin's key. What a seat that
-  -- has the turn knows of the slots' words is so, and its last visit took the entries of a lawful
-  -- body. While the turn word is 0 the body is at home: it is lawful for the terms, and the words of
-  -- the slots are its own. The permits of all seats are the passes.
+  -- The invariant. The lock word is 0 or 1, the number of seats that have the lock. The tag word is
+  -- the table's tag, which each live seat knows. A pin word is the number of pins of all seats on
+  -- the slot, and the key word of a pinned slot is the key of its pins. What the seat with the lock
+  -- knows of the slots' words is right, and its last visit took the entries of a lawful body. While
+  -- the lock word is 0, the table has the body: it is lawful for the terms, and the words of the
+  -- slots are its own. All seats together have as many permits as there may be passes.
   pub record OneTurn (lawful : Terms → S → Type 0) (shown : S → Entries)
       (words_in : S → SlotWords) (terms : Terms) (s : State S Standing) : Type 0 where
     pub count : length s.words ≡ word_count terms.passes

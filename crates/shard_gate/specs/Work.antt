@@ -23,24 +23,24 @@ pub record IsSeatOf (old new : SeatAt) : Type 0 where
   pub shard : new.shard ≡ old.shard
   pub permits : new.permits ≡ old.permits
 
--- A tile that was found is that of the key, and fits the cut that the tag names.
+-- A tile that was found has the key, and fits the cut in the tag.
 abbrev pub FoundUnder
     : {A E : Type 0} → (A → CachedTile) → Files → ℕ → ℕ → Result (Option A) E → Type 0
 FoundUnder value files tag key answer =
     IfFound answer (λ found. IsTileOf files (cut_of tag) key (value found))
 
--- The tile that is kept is one of the key, and fits the cut that the tag names.
+-- The tile that is kept has the key, and fits the cut in the tag.
 abbrev pub KeptUnder : {A E : Type 0} → (A → CachedTile) → Files → ℕ → ℕ → Result A E → Type 0
 KeptUnder value files tag key answer =
     IfOk answer (λ kept. IsTileOf files (cut_of tag) key (value kept))
 
--- so it is of lawful entries, for each tag for which they are
+-- what is true of a found tile, for each tag for which the entries are lawful
 abbrev pub FoundAmong
     : {A E : Type 0} → (A → CachedTile) → Files → Entries → ℕ → Result (Option A) E → Type 0
 FoundAmong value files es key answer =
     (tag : ℕ) → Lawful files tag es → FoundUnder value files tag key answer
 
--- so it is, for each such tag whose cut the new tile fits
+-- what is true of a kept tile, for each such tag whose cut the new tile fits
 abbrev pub KeptAmong
     : {A E : Type 0} → (A → CachedTile) → Files → Entries → CachedTile → Result A E → Type 0
 KeptAmong value files es tile answer = (tag : ℕ) → Lawful files tag es
@@ -48,20 +48,20 @@ KeptAmong value files es tile answer = (tag : ℕ) → Lawful files tag es
 
 -- ---- the words of the slots
 
--- The slot of this key has one pin more.
+-- The slot of this key has one more pin.
 pub record PinsSlot (key slot : ℕ) (old new : ShardState) : Type 0 where
   pub inside : slot < length old.slots
   pub key_is : slice_index (words_of old).keys slot ≡ key
   pub words : words_of new ≡ pinned_words slot (words_of old)
 
--- The slot has this key and one pin more. Where it had another key, or none, it had no pin.
+-- The slot has this key and one more pin. If it had another key or none before, it had no pin.
 pub record InsertsSlot (key slot : ℕ) (old new : ShardState) : Type 0 where
   pub inside : slot < length old.slots
   pub free : slice_index (words_of old).keys slot ≢ key → slice_index (words_of old).pins slot ≡ 0
   pub words : words_of new ≡ pinned_words slot (keyed_words slot key (words_of old))
 
--- These are the words of the shard but for the keys of the slots that are to be told, which are
--- empty.
+-- These are the words of the shard, except that emptied slots not yet reported still have their
+-- keys.
 pub record AreBehind (known : SlotWords) (s : ShardState) : Type 0 where
   pub count : length known.keys ≡ length s.slots
   pub pins : known.pins ≡ (words_of s).pins
@@ -69,9 +69,9 @@ pub record AreBehind (known : SlotWords) (s : ShardState) : Type 0 where
       → slice_index known.keys slot ≡ slice_index (words_of s).keys slot
   pub empty : (slot : ℕ) → is_in slot s.left ≡ true → key_in s.slots slot ≡ None
 
--- ---- a seat that has the turn
+-- ---- a seat that has the lock
 
--- It may write a key into the slot and pin it: the slot has the key, or it has no pin.
+-- The seat may write this key into the slot and pin it: the slot has the key, or it has no pin.
 pub record MayKeep (slot key : ℕ) (v : Standing) : Type 0 where
   pub inside : slot < slots_of v.passes
   pub live : v.live ≡ true
@@ -82,8 +82,8 @@ pub record MayKeep (slot key : ℕ) (v : Standing) : Type 0 where
   pub free : slice_index v.known.keys slot ≢ key → slice_index v.known.pins slot ≡ 0
 
 module _ {W : Type 0} (value : W → ShardState) (files : Files) where
-  -- The seat has the turn and the shard, and knows its words but for the keys of the slots that are
-  -- to be told.
+  -- The seat has the lock and the shard. It knows the shard's words, except for emptied slots that
+  -- are not yet reported.
   pub record IsTellingOf (me : Me W Standing) : Type 0 where
     pub body : W
     pub slots : me.1 ≡ (0, body) ∷ []
@@ -92,7 +92,8 @@ module _ {W : Type 0} (value : W → ShardState) (files : Files) where
     pub behind : AreBehind me.0.known (value body)
     pub stored : IsStored files (terms_of me.0) (value body)
 
-  -- Each slot was told. The seat knows the words of the shard, which has the same entries.
+  -- Every emptied slot was reported. The seat knows the words of the shard, whose entries are
+  -- unchanged.
   pub record HasToldOf (old new : Me W Standing) : Type 0 where
     pub body : W
     pub before : W

@@ -1,3 +1,4 @@
+//! The gate: all tiles in memory, in shards that threads share.
 ghost use Rattle.std.specs.Prelude.{◌≡◌, ◌-◌, ◌*◌, ◌<◌, ◌≤◌, [], length, Contains};
 ghost use Rattle.std.specs.Prelude.{IfOk, IfErr, OnOk, OnErr, OnSome, IsSome, option_map};
 ghost use Rattle.shard_gate.specs.Gate.{max_pins, shard_of, AreLimits, IsNewGate, IsFirstSeat};
@@ -29,8 +30,8 @@ use tile_layout::TileKey;
 use tile_store::Tile;
 use waiter::Waiter;
 
-/// The tiles in memory, in shards. In a clause it is which gate it is, with the share of each
-/// shard, the cut and the permits of all its seats.
+/// All tiles in memory, in shards. Clauses see which gate it is, the share of each shard, the cut,
+/// and the permits of all seats together.
 #[derive(Drop)]
 pub struct Gate<W: World> {
     alloc: Global,
@@ -52,7 +53,7 @@ impl<W: World> Model for Gate<W> {
 }
 
 impl<W: World> Gate<W> {
-    /// A gate with no tile, whose shards have equal shares of the budget, and its first seat.
+    /// A gate without tiles, whose shards share the budget equally, and its first seat.
     pub fn new(
         alloc: Global,
         budget: u64,
@@ -84,7 +85,7 @@ impl<W: World> Gate<W> {
         Ok((gate, seat))
     }
 
-    /// Pins the tile of a key. None where the shard had none when it was looked at.
+    /// Pins the tile of a key. `None` if the shard did not have it.
     pub fn pin<T: Waiter>(
         &self,
         waiter: &T,
@@ -94,13 +95,13 @@ impl<W: World> Gate<W> {
         requires gate { p.old.gate ≡ self.now.id }
         requires room { length p.old.pins < max_pins * p.old.permits }
         ensures some { IfFound result (λ pin. IsTileOf W.files self.now.cut key pin.tile) }
-        // What the seat has pinned is there.
+        // The shard has every tile that the seat has pinned.
         ensures held { IfOk result (λ found. Contains p.old.pins key → IsSome found) }
-        // What the call leaves of the seat.
+        // The seat after the call.
         ensures pinned { IfOk result (λ found. OnSome found (OnePinMore key p.old p.new)) }
         ensures none { IfNotFound result (SamePins p.old p.new) }
         ensures err { OnErr result (SamePins p.old p.new) }
-        // Which entries it found, and which it gave back.
+        // Which entries the visit found, and which it left.
         ensures visits { IfOk result (λ found.
             VisitsAt self.now key (Finds key (option_map tile_of found)) p.old p.new) }
         ensures refused { IfErr result (λ e. VisitsAt self.now key (IfNotPinned e) p.old p.new) }
@@ -112,8 +113,8 @@ impl<W: World> Gate<W> {
         }
     }
 
-    /// Keeps a tile and pins it. Where the shard has a tile of its key, that one is pinned, and the
-    /// new one is given up.
+    /// Puts a tile into its shard and pins it. If the shard already has a tile of the key, that one
+    /// is pinned and the new one is dropped.
     pub fn pin_new<T: Waiter>(
         &self,
         waiter: &T,
@@ -125,10 +126,10 @@ impl<W: World> Gate<W> {
         requires cell { HasCellRect W.files self.now.cut tile }
         ensures ok { IfOk result (λ pin. IsTileOf W.files self.now.cut tile.key pin.tile) }
         ensures back { IfErr result (GivesBackIfBusy tile) }
-        // What the call leaves of the seat.
+        // The seat after the call.
         ensures pinned { OnOk result (OnePinMore tile.key p.old p.new) }
         ensures err { OnErr result (SamePins p.old p.new) }
-        // Which entries it found, and which it gave back.
+        // Which entries the visit found, and which it left.
         ensures visits { IfOk result (λ pin. VisitsAt self.now tile.key
             (Inserts (slots_of self.now.passes) tile pin.tile) p.old p.new) }
         ensures refused { IfErr result (λ e.
@@ -141,8 +142,8 @@ impl<W: World> Gate<W> {
         }
     }
 
-    /// Gives a pin back. The tile stays while the shard's unpinned tiles fit its share. It takes no
-    /// memory.
+    /// Gives back a pin. The tile stays in its shard while the unpinned tiles fit its share.
+    /// Allocates nothing.
     pub fn unpin<T: Waiter>(
         &self,
         waiter: &T,
@@ -164,8 +165,8 @@ impl<W: World> Gate<W> {
         }
     }
 
-    /// The unpinned tiles of a file leave whose generation is below the bound, in each shard in
-    /// turn. It takes no memory.
+    /// Purges the file's unpinned tiles whose generation is below the bound, shard by shard.
+    /// Allocates nothing.
     pub fn purge<T: Waiter>(
         &self,
         waiter: &T,
@@ -188,7 +189,7 @@ impl<W: World> Gate<W> {
         Ok(())
     }
 
-    /// What a shard has. It takes no memory.
+    /// Counts the tiles and the pins of one shard. Allocates nothing.
     pub fn count<T: Waiter>(
         &self,
         waiter: &T,
@@ -197,17 +198,17 @@ impl<W: World> Gate<W> {
     ) -> Result<ShardCount, T::Busy>
         requires gate { p.old.gate ≡ self.now.id }
         requires shard { shard < length self.now.id }
-        // One record has the numbers, the entries that they are of, and the visit that found them.
+        // One record ties together the counts, the entries counted, and the visit that found them.
         ensures lawful { IfOk result (λ count. AtShard shard
             (Counts W.files (tag_of self.now.share self.now.cut) count) p.old.visits p.new.visits) }
         ensures share { IfOk result (λ count. count.share ≡ self.now.share) }
         ensures within { IfOk result (λ count. count.loose ≤ count.share) }
-        // The seat's own pins of the shard are counted, and no others where it has all permits.
+        // The seat's own pins are among them. If it has all permits, there are no others.
         ensures own { IfOk result (λ count.
             own_pins (length self.now.id) shard p.old.pins ≤ count.pins) }
         ensures alone { IfOk result (λ count. p.old.permits ≡ self.now.passes
             → count.pins ≡ own_pins (length self.now.id) shard p.old.pins) }
-        // What the call leaves of the seat.
+        // The seat after the call.
         ensures same { SamePins p.old p.new }
         ensures err { OnErr result (IsSameSeat p.old p.new) }
     {
@@ -215,7 +216,7 @@ impl<W: World> Gate<W> {
         self.tables[shard].count(waiter, &mut p.seats[shard], self.share)
     }
 
-    /// A second seat, which has one permit of the seat.
+    /// Makes a second seat, which gets one permit of this one.
     pub fn split(&self, p: &mut PinSeat<W>) -> Result<PinSeat<W>, NoMemory>
         requires gate { p.old.gate ≡ self.now.id }
         requires permits { 1 < p.old.permits }
@@ -232,7 +233,7 @@ impl<W: World> Gate<W> {
         Ok(PinSeat { seats, permits: 1 })
     }
 
-    /// The seat gets the permits of another one, which holds no pin and ends. It takes no memory.
+    /// Takes over the permits of another seat, which has no pin and ends. Allocates nothing.
     pub fn join(&self, p: &mut PinSeat<W>, other: PinSeat<W>)
         requires gate { p.old.gate ≡ self.now.id }
         requires other { other.gate ≡ self.now.id }
@@ -255,7 +256,7 @@ impl<W: World> Gate<W> {
         ((level + file) % self.tables.len() as u64) as usize
     }
 
-    /// The stale tiles of a shard leave.
+    /// Purges the stale tiles of one shard.
     fn purge_shard<T: Waiter>(
         &self,
         waiter: &T,
@@ -295,7 +296,7 @@ impl<W: World> Gate<W> {
         self.tables[shard].find(waiter, &mut p.seats[shard], key)
     }
 
-    /// Keeps a tile in its shard, with a pin.
+    /// Puts a tile into its shard, pinned.
     fn insert<T: Waiter>(
         &self,
         waiter: &T,

@@ -1,4 +1,4 @@
-//! The shards of a new gate.
+//! Makes the shards of a new gate.
 ghost use Rattle.std.specs.Prelude.{◌≡◌, ◌≤◌, length, map, IfOk};
 ghost use Rattle.tiff_format.specs.Cut.{IsCut};
 ghost use Rattle.tile_store.specs.Tag.{tag_of};
@@ -14,10 +14,10 @@ use tex_world::World;
 use tiff_format::{AUTOTILE_STEP, Cut};
 use tile_store::Shard;
 
-/// The tags of one share.
+/// The number of tags per share: a tag is the share times this, plus the cut.
 const SHARE_STEP: u64 = 1024;
 
-/// The tag of a shard, which names its share and its cut.
+/// The tag of a shard, which encodes its share and its cut.
 #[tactic(auto, unfolding(tile_store::specs::Tag::tag_of))]
 pub(crate) fn tag_for(share: u64, cut: Cut) -> u64
     requires share { share ≤ max_budget }
@@ -28,7 +28,7 @@ pub(crate) fn tag_for(share: u64, cut: Cut) -> u64
     SHARE_STEP * share + 2 * side + if cut.automip { 1 } else { 0 }
 }
 
-/// So many shards with no tile, and a seat at each, which has all permits.
+/// Makes `shards` empty shards, and a seat at each. The seat has all permits.
 pub(crate) fn laid<W: World>(
     alloc: Global,
     shards: usize,
@@ -45,7 +45,7 @@ pub(crate) fn laid<W: World>(
         let Ok(shard) = Shard::with_slots(alloc, terms.slots()) else {
             return Err(AllocError);
         };
-        // Each of its tiles is in a slot.
+        // needed by the proof: each tile is in a slot
         let _tiles = shard.tiles();
         let (table, seat) = TurnTable::new(alloc, terms, CachePadded::new(shard))?;
         tables.push_reserved(table);

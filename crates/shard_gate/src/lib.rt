@@ -1,6 +1,6 @@
-//! The tiles in memory, in shards that threads share. A caller pins a tile by its key, reads it as
-//! long as it holds the pin, and gives the pin back. A thread works on one shard at a time, in its
-//! turn, and for the time of a look-up alone.
+//! All tiles in memory, in shards that threads share. A caller pins a tile by its key, reads it
+//! while it has the pin, and gives the pin back. A thread locks one shard at a time, and only while
+//! it looks something up.
 #![tactic(auto)]
 
 mod error;

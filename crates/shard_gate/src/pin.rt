@@ -1,3 +1,4 @@
+//! A pin on a tile.
 ghost use Rattle.std.specs.Prelude.{◌≡◌};
 
 use std::marker::Model;
@@ -5,7 +6,7 @@ use std::sync::Arc;
 use tex_world::World;
 use tile_store::Tile;
 
-/// A tile that stays in its shard until the pin is given back. In a clause it is its tile.
+/// Keeps a tile in its shard until the pin is given back. Clauses see the tile.
 #[derive(Drop)]
 pub struct Pin<W: World> {
     pub(crate) tile: Arc<Tile<W>>,
@@ -21,7 +22,7 @@ impl<W: World> Model for Pin<W> {
 }
 
 impl<W: World> Pin<W> {
-    /// The tile.
+    /// The pinned tile.
     pub fn tile(&self) -> &Tile<W>
         ensures value { result.now ≡ self.now.tile }
     {

@@ -1,3 +1,4 @@
+//! What one caller has of a gate: permits and pins.
 ghost use Rattle.std.specs.Prelude.{◌≡◌, ◌*◌, ◌≤◌, length};
 ghost use Rattle.shard_gate.specs.Gate.{max_passes, max_pins};
 
@@ -5,9 +6,9 @@ use crate::shard_table::ShardSeat;
 use std::marker::Model;
 use tex_world::World;
 
-/// What one caller has of a gate: its permits, and at each shard a seat with its pins. In a clause
-/// it is its permits and the keys of its pins, with the gate that it belongs to and its visits to
-/// each shard. Pins and visits take no bytes.
+/// What one caller has of a gate: its permits, and a seat at each shard. Clauses see the permits,
+/// the keys of its pins, the gate, and its visits to each shard. Pins and visits exist only for the
+/// proof and take no memory.
 #[derive(Drop)]
 pub struct PinSeat<W: World> {
     pub(crate) seats: Vec<ShardSeat<W>>,
@@ -26,7 +27,7 @@ impl<W: World> Model for PinSeat<W> {
 }
 
 impl<W: World> PinSeat<W> {
-    /// Its permits. For each it may hold so many pins.
+    /// The number of permits. For each, seven pins are allowed.
     pub fn permits(&self) -> u32
         ensures value { result ≡ self.now.permits }
         ensures some { 1 ≤ result }

@@ -1,3 +1,4 @@
+//! The rule that a shard's lock guards, and the limits of a table.
 ghost use Rattle.std.specs.Prelude.{◌≡◌, ◌≤◌};
 ghost use Rattle.tile_store.specs.Entry.{Entries};
 ghost use Rattle.shard_gate.specs.Words.{SlotWords, max_passes, slots_of};
@@ -7,12 +8,12 @@ use crate::standing::Standing;
 use atomic_table::TableRule;
 use std::marker::PhantomData;
 
-/// Which bodies may lie in a table, what a visit shows of one, and what the words of its slots are.
-/// It is a name without data.
+/// Which bodies a table may have, what a visit sees of one, and what the words of its slots say. It
+/// is a type without data.
 pub(crate) trait BodyRule<S> {
     ghost use Rattle.shard_gate.specs.declared.rule.Terms.{Terms};
 
-    /// The body may lie in a table of these terms.
+    /// The table with these terms may have this body.
     ghost lawful: { Terms → S → Type 0 };
 
     /// The entries of the body.
@@ -22,23 +23,23 @@ pub(crate) trait BodyRule<S> {
     ghost words: { S → SlotWords };
 }
 
-/// The pins that a seat may hold for each of its permits.
+/// The number of pins that a seat may hold for each of its permits.
 const PINS: u32 = 7;
 
-/// The tiles that a shard keeps beside as many as all seats may pin.
+/// The number of slots of a shard in addition to those that all seats together may pin.
 const MORE_SLOTS: u32 = 1024;
 
-/// What a table is told when it is made.
+/// The parameters of a new table.
 #[derive(Drop)]
 pub(crate) struct Terms {
-    /// It names the bodies that may lie in the table.
+    /// It encodes which bodies the table may have.
     pub tag: u64,
-    /// The permits that its live seats have together.
+    /// The permits of all live seats together.
     pub passes: u32,
 }
 
 impl Terms {
-    /// The slots of the body in the table.
+    /// The number of slots of the body.
     pub(crate) fn slots(&self) -> u32
         requires { self.now.passes ≤ max_passes }
         ensures { result ≡ slots_of self.now.passes }
@@ -47,8 +48,8 @@ impl Terms {
     }
 }
 
-/// What holds between any two steps: one seat at most has the turn, while none has it a lawful body
-/// is at home, and the words of its slots say which keys and which pins they have.
+/// The invariant between atomic steps. At most one seat has the lock. While no seat has it, a
+/// lawful body is in the table. The words of the slots say which keys and pins they have.
 pub(crate) struct Turns<L> {
     rule: PhantomData<L>,
 }

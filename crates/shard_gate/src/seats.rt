@@ -1,4 +1,4 @@
-//! The seats of one caller, one at each table.
+//! The seats of one caller, one at each shard.
 ghost use Rattle.std.specs.Prelude.{◌≡◌, ◌-◌, ◌*◌, ◌<◌, ◌≤◌, [], length, map, All};
 ghost use Rattle.std.specs.Prelude.{vec_capacity};
 ghost use Rattle.shard_gate.specs.Words.{max_pins};
@@ -8,7 +8,7 @@ use crate::rule::BodyRule;
 use crate::turn_seat::TurnSeat;
 use crate::turn_table::TurnTable;
 
-/// One permit of each seat goes to a second seat at its table.
+/// Gives one permit of each seat to a second seat at the same shard.
 pub(crate) fn split_seats<S: Drop, L: BodyRule<S>>(
     tables: &[TurnTable<S, L>],
     seats: &mut [TurnSeat<S>],
@@ -27,7 +27,7 @@ pub(crate) fn split_seats<S: Drop, L: BodyRule<S>>(
     }
 }
 
-/// Each seat gets the permits of the other one at its table.
+/// Gives each seat the permits of the other seat at the same shard.
 pub(crate) fn join_seats<S: Drop, L: BodyRule<S>>(
     tables: &[TurnTable<S, L>],
     seats: &mut [TurnSeat<S>],

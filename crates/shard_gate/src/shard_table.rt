@@ -1,5 +1,5 @@
-//! Visits to one shard: the seat takes the turn, works on the tiles, writes what changed into the
-//! words of their slots, and gives the turn back.
+//! Visits to one shard: lock it, work on its tiles, write the changes into the words of the slots,
+//! and unlock it.
 ghost use Rattle.std.specs.Prelude.{◌≡◌, ◌≢◌, ◌*◌, ◌<◌, ◌≤◌, ◌∷◌, true, length, slice_index, map};
 ghost use Rattle.std.specs.Prelude.{IfOk, IfErr, IfNone, IfSome, IsSome, OnOk, OnErr, OnSome};
 ghost use Rattle.std.specs.Prelude.{option_map, Contains, IsPermutation};
@@ -32,14 +32,14 @@ use tile_layout::TileKey;
 use tile_store::{Shard, Tile};
 use waiter::Waiter;
 
-/// The tiles of a shard, with nothing else on their cache lines.
+/// The tiles of a shard, alone on their cache lines.
 pub(crate) type Slot<W> = CachePadded<Shard<W>>;
 
 pub(crate) type ShardTable<W> = TurnTable<Slot<W>, LawfulShards<W>>;
 
 pub(crate) type ShardSeat<W> = TurnSeat<Slot<W>>;
 
-/// The tiles of a shard are lawful for its tag, and its words say which slots have them.
+/// The rule of a shard: its tiles are lawful for its tag, and its words say which slots have them.
 pub(crate) struct LawfulShards<W> {
     world: PhantomData<W>,
 }
@@ -97,7 +97,7 @@ impl<W: World> ShardTable<W> {
         }
     }
 
-    /// Keeps a tile, with a pin.
+    /// Puts a tile into the shard, pinned.
     pub(crate) fn insert<T: Waiter>(
         &self,
         waiter: &T,
@@ -135,7 +135,7 @@ impl<W: World> ShardTable<W> {
         }
     }
 
-    /// The slot has this key, and a pin more. It had the key, or it had no pin.
+    /// Gives the slot this key and one more pin. Before, it must have had the key or no pin.
     fn keep_slot(&self, seat: &mut Seat<Slot<W>, Standing>, slot: u32, key: u64)
         requires table { (seat_at seat.old).shard ≡ self.now }
         requires may { MayKeep slot key seat.old.me.0 }
@@ -149,7 +149,7 @@ impl<W: World> ShardTable<W> {
         self.pin_slot(seat, slot);
     }
 
-    /// Takes a pin of the seat from the tile of a key.
+    /// Gives back a pin of the seat on the tile of a key.
     pub(crate) fn release<T: Waiter>(
         &self,
         waiter: &T,
@@ -176,7 +176,7 @@ impl<W: World> ShardTable<W> {
         Ok(())
     }
 
-    /// The slots that tiles left have no key any more.
+    /// Clears the key words of the slots whose tiles were removed.
     fn tell_left(&self, seat: &mut Seat<Slot<W>, Standing>)
         requires table { (seat_at seat.old).shard ≡ self.now }
         requires telling { IsTellingOf padded_value W.files seat.old.me }
@@ -191,7 +191,7 @@ impl<W: World> ShardTable<W> {
         }
     }
 
-    /// The stale tiles leave.
+    /// Purges the stale tiles.
     pub(crate) fn purge<T: Waiter>(
         &self,
         waiter: &T,
@@ -215,7 +215,7 @@ impl<W: World> ShardTable<W> {
         Ok(())
     }
 
-    /// What the shard has.
+    /// Counts the tiles and the pins of the shard.
     pub(crate) fn count<T: Waiter>(
         &self,
         waiter: &T,

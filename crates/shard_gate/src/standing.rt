@@ -1,7 +1,8 @@
+//! The proof's record of what a seat knows and may do. Nothing here takes memory.
 use std::marker::Model;
 
-/// The visits of a seat to its table, the last first. They are for contracts alone, and take no
-/// bytes.
+/// The visits of a seat to its table, the last one first. They exist only for contracts and take no
+/// memory.
 pub(crate) struct Visits {}
 
 impl Model for Visits {
@@ -13,7 +14,7 @@ impl Model for Visits {
     ghost view = { λ v. [] };
 }
 
-/// The pins of a seat at its table, each a slot and the key that it has. They take no bytes either.
+/// The pins of a seat at its table, each with its slot and key. They take no memory.
 pub(crate) struct Pins {}
 
 impl Model for Pins {
@@ -24,7 +25,7 @@ impl Model for Pins {
     ghost view = { λ p. [] };
 }
 
-/// What a seat that has the turn knows of the words of all slots. It takes no bytes either.
+/// What a seat that has the lock knows of the words of all slots. It takes no memory.
 pub(crate) struct Known {}
 
 impl Model for Known {
@@ -35,22 +36,22 @@ impl Model for Known {
     ghost view = { λ k. no_words };
 }
 
-/// What a seat at a table knows and may do. No value of it is made.
+/// What a seat at a table knows and may do. No value of it is ever made.
 pub(crate) struct Standing {
-    /// No other seat has taken it in.
+    /// Whether the seat exists, that is, no other seat has taken it over.
     pub live: bool,
     /// The tag of the table.
     pub tag: u64,
     /// The permits of all live seats together.
     pub passes: u32,
-    /// Its own permits.
+    /// The seat's own permits.
     pub permits: u32,
-    /// It has the turn, and the body with it.
+    /// Whether the seat has the lock, and so the body.
     pub has_turn: bool,
-    /// Its pins. No more than seven for each of its permits.
+    /// The seat's pins, at most seven for each permit.
     pub pins: Pins,
-    /// The words of the slots, as long as it has the turn, which no other seat changes then.
+    /// The words of the slots while the seat has the lock, when no other seat changes them.
     pub known: Known,
-    /// Its visits: a take begins one, and the give ends it.
+    /// The visits. A visit begins when the lock is taken, and ends when it is given back.
     pub visits: Visits,
 }

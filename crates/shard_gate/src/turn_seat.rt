@@ -1,13 +1,14 @@
+//! A seat at one shard, while it does not have the lock.
 use crate::standing::Standing;
 use atomic_table::Seat;
 use std::marker::Model;
 
-/// A seat at one table while it has no turn. In a clause it is which table it belongs to, with its
-/// permits and its visits to it.
+/// A seat at one table, while it does not have the lock. Clauses see the table, its permits and its
+/// visits.
 #[derive(Drop)]
 pub(crate) struct TurnSeat<S> {
     pub(crate) seat: Seat<S, Standing>,
-    /// Its permits.
+    /// The seat's permits.
     pub(crate) permits: u32,
 }
 

@@ -1,3 +1,4 @@
+//! The lock of a shard, and the words that describe its slots.
 ghost use Rattle.std.specs.Prelude.{◌≡◌, ℕ, ◌-◌, ◌*◌, ◌<◌, ◌≤◌, true, false, [], length, slice_index};
 ghost use Rattle.std.specs.Prelude.{◌∷◌, IfOk, OnOk, OnErr};
 ghost use Rattle.shard_gate.specs.Words.{turn_word, tag_word, first_word, word_count};
@@ -17,20 +18,20 @@ use std::alloc::{AllocError, Global};
 use std::marker::Model;
 use waiter::Waiter;
 
-/// The word that is 1 while a seat has the turn. Within 128 bytes of it, as much as a processor
-/// fetches at once, stands nothing that is written without the turn.
+/// The index of the lock word: 1 while a seat has the lock. The 128 bytes around it, which a
+/// processor fetches at once, contain nothing that is written without the lock.
 const TURN: usize = 16;
 
-/// The word that is the table's tag.
+/// The index of the table's tag.
 const TAG: usize = 17;
 
-/// The key of the first slot. Its pins follow, and then the next slot.
+/// The index of the first slot's key. Its pins follow, and then the next slot.
 const KEYS: usize = 32;
 
-/// The pins of the first slot.
+/// The index of the first slot's pins.
 const PINS: usize = 33;
 
-/// The words of a new table: the turn is free, the tag is told, and no slot has a key or a pin.
+/// The words of a new table: unlocked, with its tag, and no slot with a key or a pin.
 fn words_of(alloc: Global, terms: &Terms) -> Result<Vec<u64>, AllocError>
     requires { terms.now.passes ≤ max_passes }
     ensures count { IfOk result (λ words. length words.items ≡ word_count terms.now.passes) }
@@ -44,7 +45,7 @@ fn words_of(alloc: Global, terms: &Terms) -> Result<Vec<u64>, AllocError>
     Ok(words)
 }
 
-/// A body that threads work on one at a time. In a clause it is which table it is.
+/// A body that one thread at a time works on. Clauses see which table it is.
 #[derive(Drop)]
 pub(crate) struct TurnTable<S, L: BodyRule<S>> {
     pub(crate) table: Table<S, Standing, Terms, Turns<L>, Global>,
@@ -61,7 +62,7 @@ impl<S, L: BodyRule<S>> Model for TurnTable<S, L> {
 }
 
 impl<S: Drop, L: BodyRule<S>> TurnTable<S, L> {
-    /// A table with this body, and its first seat, which has all permits.
+    /// Makes a table with this body, and its first seat, which has all permits.
     pub(crate) fn new(
         alloc: Global,
         terms: &Terms,
@@ -85,7 +86,7 @@ impl<S: Drop, L: BodyRule<S>> TurnTable<S, L> {
         }
     }
 
-    /// Takes the turn, and tries again while another seat has it.
+    /// Takes the lock, and tries again while another seat has it.
     pub(crate) fn take<T: Waiter>(
         &self,
         waiter: &T,
@@ -106,7 +107,8 @@ impl<S: Drop, L: BodyRule<S>> TurnTable<S, L> {
         Err(waiter.busy())
     }
 
-    /// One try, which writes the word only where it has just read that the turn is free.
+    /// Tries once. It writes the lock word only if it has just read that it is free, so that
+    /// waiting threads do not fetch the cache line for writing.
     fn try_take(&self, seat: &mut Seat<S, Standing>) -> bool
         requires table { (seat_at seat.old).shard ≡ self.now }
         requires idle { IsIdle seat.old.me }
@@ -118,7 +120,7 @@ impl<S: Drop, L: BodyRule<S>> TurnTable<S, L> {
         shared.peek(TURN) == 0 && shared.compare_exchange::<Take<L>>(seat, TURN, 0, 1) == 0
     }
 
-    /// Gives the turn back, with a body that is lawful.
+    /// Gives back the lock. The body must be lawful.
     pub(crate) fn give(&self, seat: &mut Seat<S, Standing>)
         requires table { (seat_at seat.old).shard ≡ self.now }
         requires turn { (seat.old.me.0.live ≡ true) × (seat.old.me.0.has_turn ≡ true) }
@@ -131,7 +133,7 @@ impl<S: Drop, L: BodyRule<S>> TurnTable<S, L> {
         self.table.shared.store::<Give<L>>(seat, TURN, 0);
     }
 
-    /// The key that the seat knows a slot to have, or 0.
+    /// The key of a slot as the seat knows it, or 0.
     pub(crate) fn key_in(&self, seat: &mut Seat<S, Standing>, slot: u32) -> u64
         requires table { (seat_at seat.old).shard ≡ self.now }
         requires may { MayLook slot seat.old.me.0 }
@@ -144,7 +146,7 @@ impl<S: Drop, L: BodyRule<S>> TurnTable<S, L> {
             .load::<Look>(seat, KEYS + 2 * slot as usize)
     }
 
-    /// The seat has a pin more, of this slot.
+    /// Adds a pin of the seat to this slot.
     pub(crate) fn pin_slot(&self, seat: &mut Seat<S, Standing>, slot: u32)
         requires table { (seat_at seat.old).shard ≡ self.now }
         requires may { MayPin slot seat.old.me.0 }
@@ -156,7 +158,7 @@ impl<S: Drop, L: BodyRule<S>> TurnTable<S, L> {
             .fetch_add::<PinSlot>(seat, PINS + 2 * slot as usize, 1);
     }
 
-    /// The seat has a pin of the slot no more.
+    /// Takes a pin of the seat from this slot.
     pub(crate) fn unpin_slot(&self, seat: &mut Seat<S, Standing>, slot: u32)
         requires table { (seat_at seat.old).shard ≡ self.now }
         requires may { MayUnpin slot seat.old.me.0 }
@@ -168,7 +170,7 @@ impl<S: Drop, L: BodyRule<S>> TurnTable<S, L> {
             .fetch_sub::<UnpinSlot>(seat, PINS + 2 * slot as usize, 1);
     }
 
-    /// The slot, which no seat has pinned, has this key now, or none where it is 0.
+    /// Gives a slot without pins this key, or none if it is 0.
     pub(crate) fn fill_slot(&self, seat: &mut Seat<S, Standing>, slot: u32, key: u64)
         requires table { (seat_at seat.old).shard ≡ self.now }
         requires may { MayFill slot seat.old.me.0 }
@@ -180,7 +182,7 @@ impl<S: Drop, L: BodyRule<S>> TurnTable<S, L> {
             .store::<FillSlot>(seat, KEYS + 2 * slot as usize, key);
     }
 
-    /// One permit goes to a second seat.
+    /// Gives one permit to a second seat.
     pub(crate) fn split(&self, seat: &mut TurnSeat<S>) -> TurnSeat<S>
         requires shard { seat.old.shard ≡ self.now }
         requires permits { 1 < seat.old.permits }
@@ -196,8 +198,8 @@ impl<S: Drop, L: BodyRule<S>> TurnTable<S, L> {
         }
     }
 
-    /// The seat gets the permits of the other one, which ends. All seats together have no more
-    /// permits than the passes.
+    /// Takes over the permits of the other seat, which ends. All seats together have no more
+    /// permits than there may be passes.
     pub(crate) fn join(&self, seat: &mut TurnSeat<S>, other: TurnSeat<S>)
         requires shard { seat.old.shard ≡ self.now }
         requires other { other.shard ≡ self.now }

@@ -1,4 +1,4 @@
-//! What is done to the tiles of one shard while a seat has its turn.
+//! The work on the tiles of one shard while it is locked.
 ghost use Rattle.std.specs.Prelude.{◌≡◌, ◌+◌, ◌^◌, ◌<◌, [], length, option_map, Some, IsSome};
 ghost use Rattle.std.specs.Prelude.{IfOk, IfSome, IfNone, OnOk, OnErr, ⊤};
 ghost use Rattle.std.specs.Arc.{arc_value};
@@ -20,14 +20,14 @@ use tiff_format::ShardCount;
 use tile_layout::TileKey;
 use tile_store::{Shard, Tile};
 
-/// The unpinned tiles of a file whose generation is below the bound.
+/// The unpinned tiles of a file with a generation below the bound.
 #[derive(Clone, Copy)]
 pub(crate) struct Stale {
     pub file: u32,
     pub below: u32,
 }
 
-/// A tile that was pinned, and the slot that it is in.
+/// A pinned tile, and the slot that it is in.
 pub(crate) struct InSlot<W: World> {
     pub tile: Arc<Tile<W>>,
     pub slot: u32,
@@ -40,10 +40,10 @@ pub(crate) fn find_in<W: World>(
 ) -> Result<Option<InSlot<W>>, NoMemory>
     requires slots { AreInSlots shard.old }
     requires pins { pin_sum shard.old.entries + 1 < 2 ^ 32 }
-    // None comes exactly where no entry has the key.
+    // `None` if and only if no entry has the key.
     ensures found { IfOk result (λ found. option_map (λ f. arc_value f.tile) found ≡ tile_at key shard.old.entries) }
     ensures some { FoundAmong (λ f. arc_value f.tile) W.files shard.old.entries key result }
-    // What the call leaves.
+    // The state after the call.
     ensures entries { OnOk result (shard.new.entries ≡ pinned_first key shard.old.entries) }
     ensures words { IfOk result (λ found.
         IfSome found (λ f. PinsSlot key f.slot shard.old shard.new)) }
@@ -53,7 +53,7 @@ pub(crate) fn find_in<W: World>(
     ensures stored { KeepsStored W.files (λ terms. ⊤) shard.old shard.new }
 {
     let found = shard.find_pin(key)?;
-    // Each entry is in a slot.
+    // needed by the proof: each entry is in a slot
     let _tiles = shard.tiles();
     match found {
         Some(tile) => {
@@ -76,7 +76,7 @@ fn slot_in<W: World>(shard: &Shard<W>, key: TileKey) -> u32
     }
 }
 
-/// Keeps a tile, with a pin.
+/// Puts a tile into the shard, pinned.
 pub(crate) fn insert_in<W: World>(
     shard: &mut Shard<W>,
     tile: Tile<W>,
@@ -87,7 +87,7 @@ pub(crate) fn insert_in<W: World>(
     requires room { pin_sum shard.old.entries < length shard.old.slots }
     ensures kept { IfOk result (λ kept. arc_value kept.tile ≡ kept_tile tile shard.old.entries) }
     ensures ok { KeptAmong (λ f. arc_value f.tile) W.files shard.old.entries tile result }
-    // What the call leaves.
+    // The state after the call.
     ensures entries { OnOk result (shard.new.entries
         ≡ inserted tile (length shard.old.slots) shard.old.entries) }
     ensures words { IfOk result (λ kept. InsertsSlot tile.key kept.slot shard.old shard.new) }
@@ -97,7 +97,7 @@ pub(crate) fn insert_in<W: World>(
         shard.old shard.new }
 {
     let key = tile.key();
-    // No more entries are pinned than there are pins, and their keys are distinct.
+    // needed by the proof: no more entries are pinned than there are pins, and keys are distinct
     let _pins = shard.pins();
     let _tiles = shard.tiles();
     let slots = shard.slots() as usize;
@@ -107,7 +107,7 @@ pub(crate) fn insert_in<W: World>(
     Ok(InSlot { tile, slot })
 }
 
-/// Takes a pin from the tile of a key, and answers its slot.
+/// Takes a pin from the tile of a key, and returns the tile's slot.
 pub(crate) fn release_in<W: World>(shard: &mut Shard<W>, key: TileKey, share: u64) -> u32
     requires slots { AreInSlots shard.old }
     requires left { shard.old.left ≡ [] }
@@ -125,7 +125,7 @@ pub(crate) fn release_in<W: World>(shard: &mut Shard<W>, key: TileKey, share: u6
     slot
 }
 
-/// The stale tiles leave.
+/// Purges the stale tiles.
 pub(crate) fn purge_in<W: World>(shard: &mut Shard<W>, stale: Stale)
     requires slots { AreInSlots shard.old }
     requires left { shard.old.left ≡ [] }
@@ -138,7 +138,7 @@ pub(crate) fn purge_in<W: World>(shard: &mut Shard<W>, stale: Stale)
     let _tiles = shard.tiles();
 }
 
-/// What a shard has, whose unpinned tiles may take so many bytes.
+/// Counts the tiles and pins of a shard whose unpinned tiles may take `share` bytes.
 pub(crate) fn count_in<W: World>(shard: &Shard<W>, share: u64) -> ShardCount
     ensures value { IsCountOf shard.now.entries result }
     ensures share { result.share ≡ share }

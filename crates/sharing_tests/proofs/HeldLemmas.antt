@@ -28,7 +28,7 @@ no_keys : (keys : List ℕ) → length keys ≡ 0 → keys ≡ []
 no_keys [] e = refl
 no_keys (k ∷ keys) e = absurd (omega (arith, e))
 
--- A seat without a pin has room for one.
+-- A seat without a pin may have one.
 pub has_room : (seat : PinSeatState) → seat.pins ≡ [] → 1 ≤ seat.permits
     → length seat.pins < max_pins * seat.permits
 has_room seat none some = omega (arith, ap length none, some)
@@ -56,7 +56,7 @@ held_none key old new held less = no_keys new.pins (omega (
   length_permutation old.pins (key ∷ new.pins) less.pins,
 ))
 
--- So it does, and the pin is seen by the key of its tile.
+-- the seat has one pin, given by the key of its tile
 pub holds : (id : List ShardId) (key shown : ℕ) (old new : PinSeatState) → old.gate ≡ id
     → old.pins ≡ [] → shown ≡ key → OnePinMore key old new → HoldsAt id shown new
 holds id key shown old new here none keyed more = (
@@ -64,7 +64,7 @@ holds id key shown old new here none keyed more = (
   held_one key old new none more ∙ ap (λ (n : ℕ). n ∷ []) (sym keyed),
 )
 
--- So it is of an answer that may be none.
+-- the seat has one pin, if something was found
 pub any_holds : (files : Files) (cut : Cut) (id : List ShardId) (key : ℕ) (old new : PinSeatState)
     (found : Option PinState) → old.gate ≡ id → old.pins ≡ []
     → IfSome found (λ pin. IsTileOf files cut key pin.tile) → OnSome found (OnePinMore key old new)
@@ -96,7 +96,7 @@ counted_key key (k ∷ keys) some =
           behind key k keys (counted_key key keys (omega (arith, rest)))
     ]) refl (subst (λ (n : ℕ). 1 ≤ n) (sum_by-cons (λ (j : ℕ). cond (nat_eq j key) 1 0) k keys) some)
 
--- With one pin more there is room for one less.
+-- With one more pin, one fewer is allowed.
 pub room_inside : (key left : ℕ) (old new : PinSeatState) → OnePinMore key old new
     → length old.pins + left ≤ max_pins * old.permits → 1 ≤ left
     → length new.pins + (left - 1) ≤ max_pins * new.permits

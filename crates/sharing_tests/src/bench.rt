@@ -1,4 +1,4 @@
-//! A table over the files in memory, with five taps.
+//! A file table over files in memory, with five taps.
 ghost use Rattle.std.specs.Prelude.{◌≡◌, ◌<◌};
 
 use crate::pictures::Pictures;
@@ -45,8 +45,8 @@ fn taps_of(alloc: Global) -> Result<Vec<MemTap<Pictures>>, Fail> {
     Ok(taps)
 }
 
-/// Five taps. Of tap 1 the newest generation of `A.tif` is 2, the first call of tap 2 fails, and the
-/// first read of the byte 9 of `A.tif` by tap 3 meets generation 2.
+/// Makes five taps. For tap 1 the newest generation of `A.tif` is 2; the first call of tap 2 fails;
+/// and tap 3 meets generation 2 when it first reads byte 9 of `A.tif`.
 pub(crate) fn memory_bench(alloc: Global, cap: usize) -> Result<Bench<MemTap<Pictures>>, Fail>
     requires { 0 < cap }
 {
@@ -54,7 +54,7 @@ pub(crate) fn memory_bench(alloc: Global, cap: usize) -> Result<Bench<MemTap<Pic
 }
 
 impl<T: Tap + Drop> Bench<T> {
-    /// At most `cap` handles lie idle.
+    /// Makes the table, with at most `cap` idle handles.
     fn new(alloc: Global, cap: usize, taps: Vec<T>) -> Result<Bench<T>, Fail>
         requires { 0 < cap }
     {

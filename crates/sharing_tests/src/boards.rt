@@ -1,4 +1,4 @@
-//! A board of one file, which has the generations 1 and 2.
+//! A board of one file with generations 1 and 2.
 ghost use Rattle.std.specs.Prelude.{◌&&◌, ◌==◌, nat_le, Some, None, if◌then◌else◌};
 ghost use Rattle.std.specs.Prelude.{codes, [], ◌∷◌, refl};
 ghost use Rattle.std.proofs.Common.{arith, lit≤};
@@ -9,7 +9,7 @@ use std::alloc::Global;
 use std::test::Fail;
 use tex_world::{FileTable, NoMemory, TableWorld};
 
-// One file of one byte.
+// one file of one byte
 #[derive(Drop)]
 struct OneFile;
 
@@ -51,12 +51,12 @@ impl FileTable for OneFile {
 
 type OneBoard = Board<TableWorld<OneFile>>;
 
-// Boards and views may be sent to threads, and boards shared.
+// boards and views can be sent to threads, and boards shared
 fn is_shared<B: Send + Sync>(_board: &B) {}
 
 fn is_sent<V: Send>(_view: &V) {}
 
-// What each view answers, in the order of the calls.
+// the answers of each view, in the order of the calls
 fn answers(alloc: Global) -> Result<[u32; 8], NoMemory> {
     let (board, mut v) = OneBoard::new(alloc, OneFile::count())?;
     is_shared(&board);

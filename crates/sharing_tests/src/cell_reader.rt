@@ -1,5 +1,5 @@
-//! Cells of files in memory, loaded call by call, with what each call answers and how many calls of a tap it
-//! makes.
+//! Loads cells of files in memory, call by call, and checks each answer and the number of calls to
+//! the tap.
 ghost use Rattle.std.specs.Prelude.{ℕ, ◌^◌, ◌<◌, ◌≤◌};
 ghost use Rattle.tex_world.specs.World.{IsFile};
 
@@ -20,42 +20,42 @@ use waiter::Tries;
 /// A call, of a tap or of the table. Files are numbered from 0.
 #[derive(Clone, Copy)]
 pub(crate) enum Call {
-    /// Loads the cell of a texel of a file, by its column and row, through a tap, under a handle
-    /// that the table lends, and settles it unless the load failed.
+    /// Loads the cell of a texel of a file, given by column and row, through a tap and a handle
+    /// that the table lends. The handle is settled unless the load fails.
     Load(usize, u32, (u32, u32)),
-    /// Loads so many cells of a file in turn, of eight in a row, each of 16 by 16.
+    /// Loads this many cells of a file one after another, out of eight in a row, each 16 by 16.
     Scan(usize, u32, u32),
-    /// Lends a file through a tap, under the record of its newest known generation.
+    /// Lends a file through a tap, for the record of its newest known generation.
     Hold(usize, u32),
-    /// Settles the file that was lent so.
+    /// Settles the file that `Hold` lent.
     Settle,
     /// Drops what is idle of a file.
     Forget(u32),
-    /// Of how many files what was read ahead is kept.
+    /// The number of files whose read-ahead is kept.
     Aheads,
 }
 
 /// What a call answers.
 #[derive(Clone, Copy, Debug, PartialEq, Eq)]
 pub(crate) enum Answer {
-    /// The cell of this generation, with the texels of the file.
+    /// The cell in this generation, with the texels of the file.
     Cell(u32),
     Fault,
     /// A read met this generation.
     Gone(u32),
-    /// The file was opened in this generation, a newer one than its record's.
+    /// The file was opened in this generation, which is newer than its record.
     Again(u32),
-    /// Of so many files.
+    /// The number of files with read-ahead.
     Kept(usize),
     Done,
-    /// Something else.
+    /// Anything else.
     Wrong,
 }
 
-/// A call, its answer, and by how much the calls of its tap rise.
+/// A call, its answer, and how many calls its tap gets.
 pub(crate) type Step = (Call, Answer, u64);
 
-/// The place of sample c of a texel of the file of nine levels.
+/// The place of sample c of a texel in the file of nine levels.
 fn place_in_levels(x: u64, y: u64, c: u64) -> u64
     requires { (x ≤ 2 ^ 32) × (y ≤ 2 ^ 32) × (c ≤ 2 ^ 32) }
 {
@@ -63,7 +63,7 @@ fn place_in_levels(x: u64, y: u64, c: u64) -> u64
     1186 + tile * 12288 + (y % 64 * 64 + x % 64) * 3 + c
 }
 
-/// The place of a texel of the file of tiles.
+/// The place of a texel in the tiled file.
 fn place_in_tiles(x: u64, y: u64) -> u64
     requires { (x ≤ 2 ^ 32) × (y ≤ 2 ^ 32) }
 {
@@ -71,7 +71,7 @@ fn place_in_tiles(x: u64, y: u64) -> u64
     314 + tile * 256 + y % 16 * 16 + x % 16
 }
 
-/// The place of a texel of the file of four strips.
+/// The place of a texel in the file of four strips.
 fn place_in_strips(x: u64, y: u64) -> u64
     requires { (x ≤ 2 ^ 32) × (y ≤ 2 ^ 32) }
 {
@@ -98,7 +98,7 @@ fn sample_of(key: TileKey, x: u32, y: u32, c: u32) -> u16 {
     (at % modulus) as u16
 }
 
-/// The texels of the cell are those of its file, a byte each.
+/// Whether the texels of the cell are those of its file, one byte each.
 fn is_told<W: World>(tile: &Tile<W>) -> bool {
     let (key, rect, channels) = (tile.key(), tile.rect(), tile.channels());
     if !tile.has_bytes() || rect.x > 4200 || rect.y > 256 || rect.w > 64 || rect.h > 64 {
@@ -122,7 +122,7 @@ fn is_told<W: World>(tile: &Tile<W>) -> bool {
         }
 }
 
-/// A table with a view, some taps, and a file that is lent.
+/// A table with a view, some taps, and a lent file.
 #[derive(Drop)]
 pub(crate) struct Visitor<'a, T: Tap + Drop> {
     pub(crate) alloc: Global,
@@ -131,7 +131,7 @@ pub(crate) struct Visitor<'a, T: Tap + Drop> {
     pub(crate) held: Option<OpenFile<T>>,
 }
 
-/// Loads the cell of a texel of level 0 of a file that is open.
+/// Loads the cell of a texel of level 0 of an open file.
 fn load_cell<T: Tap>(
     alloc: Global,
     tap: &mut T,
@@ -149,7 +149,7 @@ fn load_cell<T: Tap>(
     if is_other || file > 4095 || cut.autotile != 16 || !known.fits() {
         return None;
     }
-    // level 0 is stored, and one of the levels
+    // needed by the proof: level 0 is stored, and one of the levels
     let _stored = layout.stored();
     let _levels = layout.levels(cut);
     let (width, height) = layout.size(0);
@@ -161,8 +161,8 @@ fn load_cell<T: Tap>(
 }
 
 impl<T: Tap + Drop + Shows> Visitor<'_, T> {
-    /// The place of the first call that answers something else, or whose tap has other calls, and
-    /// what it answers.
+    /// The first call with a wrong answer or a wrong number of calls to its tap, and what it
+    /// answered.
     pub(crate) fn first_wrong(&mut self, steps: &[Step]) -> Option<(usize, Answer, u64)>
         requires { (file : ℕ) → file < 9 → IsFile T.W.files file }
     {
@@ -177,7 +177,7 @@ impl<T: Tap + Drop + Shows> Visitor<'_, T> {
         None
     }
 
-    /// The calls of the tap of a call.
+    /// The number of calls of a call's tap so far.
     fn calls(&self, call: Call) -> u64 {
         let tap = match call {
             Load(tap, _, _) => tap,
@@ -211,7 +211,7 @@ impl<T: Tap + Drop + Shows> Visitor<'_, T> {
         }
     }
 
-    /// Lends a file under its record.
+    /// Lends a file for its record.
     fn lend(&mut self, tap: usize, file: u32) -> Result<(Arc<Record<T::W>>, OpenFile<T>), Answer>
         requires { IsFile T.W.files file }
     {
@@ -228,7 +228,7 @@ impl<T: Tap + Drop + Shows> Visitor<'_, T> {
         }
     }
 
-    /// The answer of the last of so many cells, or of the first that has another one.
+    /// The answer for the last of these cells, or for the first with another answer.
     fn scan(&mut self, tap: usize, file: u32, cells: u32) -> Answer
         requires { IsFile T.W.files file }
     {

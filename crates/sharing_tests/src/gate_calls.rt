@@ -1,4 +1,4 @@
-//! The calls of a gate as the tests make them, by a seat that holds at most one pin.
+//! The calls of a gate as the tests make them, with a seat that has at most one pin.
 ghost use Rattle.std.specs.Prelude.{◌≡◌, length, IfOk, OnOk, OnErr};
 ghost use Rattle.shard_gate.specs.Gate.{SamePins, IfFound, IfNotFound};
 ghost use Rattle.sharing_tests.specs.Held.{IsIdleAt, HoldsAt};
@@ -16,20 +16,20 @@ pub type OneSeat = PinSeat<Untold>;
 
 pub type OnePin = Pin<Untold>;
 
-// Tiles of a cut that no test looks at.
+// a cut; no test depends on it
 pub const CUT: Cut = Cut {
     autotile: 16,
     automip: false,
 };
 
-// Why a test ends before its end.
+// Why a test ends early.
 #[derive(Clone, Copy, Debug, PartialEq, Eq)]
 pub enum Stop {
     NoMemory,
     Busy,
 }
 
-// The pin of a key, where its tile is there.
+// Pins the tile of a key, if it is there.
 #[tactic(auto, using(crate::proofs::HeldLemmas::has_room, crate::proofs::HeldLemmas::held_one))]
 pub fn find<T: Waiter>(
     gate: &OneGate,
@@ -49,7 +49,7 @@ pub fn find<T: Waiter>(
     }
 }
 
-// Keeps a tile, with a pin.
+// Puts a tile into its shard, with a pin.
 #[tactic(auto, using(crate::proofs::HeldLemmas::has_room, crate::proofs::HeldLemmas::held_one))]
 pub fn keep<T: Waiter>(
     gate: &OneGate,
@@ -68,7 +68,7 @@ pub fn keep<T: Waiter>(
     }
 }
 
-// Gives the one pin back.
+// Gives back the only pin.
 #[tactic(auto, using(crate::proofs::HeldLemmas::held_key, crate::proofs::HeldLemmas::held_none))]
 pub fn unpin<T: Waiter>(
     gate: &OneGate,
@@ -85,7 +85,7 @@ pub fn unpin<T: Waiter>(
     }
 }
 
-// The tiles, the pins, the unpinned bytes and the shares of the shards, each added up.
+// The tiles, the pins, the unpinned bytes and the shares, each summed over all shards.
 pub fn counts<T: Waiter>(
     gate: &OneGate,
     waiter: &T,

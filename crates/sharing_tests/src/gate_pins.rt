@@ -1,4 +1,4 @@
-//! As many pins as a permit allows, and then none.
+//! As many pins as a permit allows, given back one after another.
 ghost use Rattle.std.specs.Prelude.{◌≡◌, ◌<◌, ◌≤◌, ◌+◌, ◌*◌, length, OnOk, IfOk};
 ghost use Rattle.shard_gate.specs.Gate.{max_pins, OnePinMore};
 ghost use Rattle.sharing_tests.specs.Held.{SameKeys};
@@ -10,7 +10,7 @@ use std::test::Fail;
 use tile_layout::TileKey;
 use waiter::Tries;
 
-// Keeps a cell of one level, with a pin.
+// Puts a cell of a level into its shard, with a pin.
 fn kept(gate: &OneGate, alloc: Global, seat: &mut OneSeat, index: u32) -> Result<OnePin, Stop>
     requires gate { seat.old.gate ≡ gate.now.id }
     requires room { length seat.old.pins < max_pins * seat.old.permits }
@@ -25,7 +25,7 @@ fn kept(gate: &OneGate, alloc: Global, seat: &mut OneSeat, index: u32) -> Result
 }
 
 #[tactic(auto, using(crate::proofs::HeldLemmas::same_keys))]
-// The counts while so many cells are pinned, one inside another.
+// The counts while this many cells are pinned, each call nested in another.
 fn counts_inside(
     gate: &OneGate,
     alloc: Global,

@@ -1,4 +1,4 @@
-//! One caller, step by step, and two callers of one tile.
+//! One caller step by step, and two callers of one tile.
 ghost use Rattle.std.specs.Prelude.{◌≡◌, [], length, OnOk, OnErr, IfOk, IfNone, IfSome};
 ghost use Rattle.shard_gate.specs.Gate.{IfFound, IfNotFound};
 ghost use Rattle.sharing_tests.specs.Held.{IsIdleAt, HoldsAt};
@@ -10,7 +10,7 @@ use std::test::Fail;
 use tile_layout::TileKey;
 use waiter::Tries;
 
-// A step with one of the cells, or a purge of a file's generations below one.
+// A step with one of the cells, or a purge of old generations of a file.
 #[derive(Clone, Copy)]
 enum Step {
     Find(u32),
@@ -18,7 +18,7 @@ enum Step {
     Purge(u32, u32),
 }
 
-// A step, whether it has a pin, the counts while the pin is held, and those after that.
+// A step, whether it gets a pin, the counts while it has the pin, and the counts afterwards.
 type Row = (Step, bool, [u64; 4], [u64; 4]);
 
 // A cell of generation 1 of file 1.
@@ -26,7 +26,7 @@ fn cell(index: u32) -> TileKey {
     TileKey::new(1, 1, 0, index % 100)
 }
 
-// Makes a step. One try is enough for one caller.
+// Makes a step. A single caller needs only one try.
 fn made(
     gate: &OneGate,
     alloc: Global,
@@ -51,7 +51,7 @@ fn made(
     }
 }
 
-// Gives a pin back, if there is one.
+// Gives back a pin, if there is one.
 fn put_back(gate: &OneGate, seat: &mut OneSeat, pin: Option<OnePin>) -> Result<(), Stop>
     requires one { IfSome pin (λ p. HoldsAt gate.now.id p.tile.key seat.old) }
     requires none { IfNone pin (IsIdleAt gate.now.id seat.old) }
@@ -63,7 +63,7 @@ fn put_back(gate: &OneGate, seat: &mut OneSeat, pin: Option<OnePin>) -> Result<(
     }
 }
 
-// Makes the step of a row, and tells whether all came as it says.
+// Makes the step of a case. True if everything is as the case says.
 fn is_so(
     gate: &OneGate,
     alloc: Global,
@@ -85,7 +85,7 @@ fn is_so(
     Ok(found == *is_pinned && held == *while_held && after == *afterwards)
 }
 
-// How many rows, from the first on, come as they say.
+// How many cases, from the first on, are right.
 fn walk(
     gate: &OneGate,
     alloc: Global,
@@ -104,7 +104,8 @@ fn walk(
     Ok(rows.len())
 }
 
-// Tiles of 1536 bytes in two shards of 4000: the cells 0, 2 and 4 in one, 1 in the other.
+// Tiles of 1536 bytes in two shards with shares of 4000: cells 0, 2 and 4 in one, cell 1 in the
+// other.
 static TWO_SHARES: &[Row] = &[
     (Step::Find(0), false, [0, 0, 0, 8000], [0, 0, 0, 8000]),
     (Step::Keep(0), true, [1, 1, 0, 8000], [1, 0, 1536, 8000]),
@@ -138,7 +139,7 @@ fn keeps_what_fits_each_share(rt: HostRuntime) -> Result<(), Fail> {
     Ok(())
 }
 
-// With no budget a tile leaves with its last pin.
+// With a budget of 0 a tile leaves with its last pin.
 static NO_BYTES: &[Row] = &[
     (Step::Keep(0), true, [1, 1, 0, 0], [0, 0, 0, 0]),
     (Step::Find(0), false, [0, 0, 0, 0], [0, 0, 0, 0]),
@@ -153,8 +154,8 @@ fn keeps_nothing_unpinned_in_no_bytes(rt: HostRuntime) -> Result<(), Fail> {
     Ok(())
 }
 
-// The counts while two seats pin one tile, after one pin came back and after both did; and the
-// permits of the seats while they are two and once they are one again.
+// The counts while two seats pin one tile, after one pin was given back, and after both were; and
+// the permits of the seats before and after they are joined.
 fn two_pins(
     gate: &OneGate,
     alloc: Global,

@@ -1,4 +1,4 @@
-//! Four threads that pin, keep, unpin, purge and count the tiles of one gate.
+//! Four threads that pin, insert, unpin, purge and count the tiles of one gate.
 ghost use Rattle.std.specs.Prelude.{◌≡◌, ◌≤◌, length, IfOk, OnOk};
 ghost use Rattle.std.specs.Thread.{IsSync};
 ghost use Rattle.shard_gate.specs.Gate.{SamePins};
@@ -22,10 +22,10 @@ struct Work {
     shards: u32,
 }
 
-// The keys of 24 tiles that all threads use, over two files and three generations.
+// the number of keys that all threads use, over two files and three generations
 const SHARED: u32 = 24;
 
-// One of the keys that all threads use, or a thread's own.
+// One of the keys that all threads use, or one of the thread's own.
 fn one_key(number: u32) -> TileKey {
     if number < SHARED {
         TileKey::new(1 + number % 3, number / 3 % 2, 0, number / 6 % 4)
@@ -34,7 +34,7 @@ fn one_key(number: u32) -> TileKey {
     }
 }
 
-// The next of a row of numbers that look random.
+// The next random number.
 fn next(seed: &mut u64) -> u32 {
     *seed = seed
         .wrapping_mul(6364136223846793005)
@@ -42,7 +42,7 @@ fn next(seed: &mut u64) -> u32 {
     (*seed >> 33) as u32
 }
 
-// The tile of a key, which is made where it is not there.
+// Pins the tile of a key, and makes it if it is not there.
 fn pinned<T: Waiter>(
     gate: &OneGate,
     waiter: &T,
@@ -60,7 +60,7 @@ fn pinned<T: Waiter>(
     }
 }
 
-// A purge or a look at each shard, now and then.
+// Purges a file, or counts each shard, now and then.
 fn look_over<T: Waiter>(
     gate: &OneGate,
     waiter: &T,
@@ -86,7 +86,7 @@ fn look_over<T: Waiter>(
     }
 }
 
-// A pin that is given back: two calls or more.
+// Pins a tile and unpins it: at least two calls.
 fn one_round<T: Waiter>(
     gate: &OneGate,
     waiter: &T,
@@ -123,14 +123,14 @@ fn many_rounds<T: Waiter>(
     Ok(())
 }
 
-// A seat and its one pin.
+// A seat and its only pin.
 #[derive(Drop)]
 struct Held {
     seat: OneSeat,
     pin: OnePin,
 }
 
-// The rounds of one thread, which at the end holds a pin of its own tile.
+// The rounds of one thread. At the end it has a pin on a tile of its own.
 fn rounds<R: Wait>(
     rt: &R,
     gate: &OneGate,
@@ -150,7 +150,7 @@ fn rounds<R: Wait>(
     Ok(Held { seat, pin })
 }
 
-// Two threads, each with a seat.
+// Runs two threads, each with a seat.
 fn two_threads<R: Threads + Wait + Sync>(
     rt: &R,
     gate: &OneGate,
@@ -175,7 +175,7 @@ fn two_threads<R: Threads + Wait + Sync>(
     Ok((a?, b?))
 }
 
-// The seat once a thread's pin is given back and its seat is joined to it.
+// The seat after a thread's pin was given back and its seat was joined.
 fn taken_in<T: Waiter>(
     gate: &OneGate,
     waiter: &T,
@@ -217,7 +217,7 @@ fn has<T: Waiter>(
     }
 }
 
-// How many keys have a tile.
+// The number of keys with a tile.
 fn found<T: Waiter>(gate: &OneGate, waiter: &T, seat: &mut OneSeat) -> Result<u64, Stop>
     requires { IsIdleAt gate.now.id seat.old }
 {
@@ -230,7 +230,7 @@ fn found<T: Waiter>(gate: &OneGate, waiter: &T, seat: &mut OneSeat) -> Result<u6
     Ok(found)
 }
 
-// No shard has a pin, and none has more unpinned bytes than its share.
+// Whether no shard has a pin, and none has more unpinned bytes than its share.
 fn is_settled<T: Waiter>(
     gate: &OneGate,
     waiter: &T,
@@ -252,8 +252,8 @@ fn is_settled<T: Waiter>(
     Ok(true)
 }
 
-// What the shards have while each thread holds a pin, and after that, whether each shard is then
-// settled, how many keys then have a tile, and the permits of the one seat that is left.
+// The counts of the shards while each thread has a pin, and afterwards; then whether each shard is
+// settled, how many keys have a tile, and the permits of the seat that is left.
 #[derive(Clone, Copy)]
 struct Left {
     held: [u64; 4],
@@ -263,7 +263,7 @@ struct Left {
     permits: u32,
 }
 
-// What is left once all threads have ended.
+// Collects this after all threads have ended.
 fn left_by<T: Waiter>(
     gate: &OneGate,
     waiter: &T,
@@ -297,7 +297,7 @@ fn left_by<T: Waiter>(
     })
 }
 
-// What four threads leave.
+// Runs four threads, and collects what they leave.
 fn four_threads<R: Threads + Wait + Sync>(
     rt: &R,
     gate: &OneGate,
@@ -346,7 +346,7 @@ fn four_threads<R: Threads + Wait + Sync>(
     left_by(gate, &Forever::new(rt), work.shards, left?, right?)
 }
 
-// What four threads leave of a new gate.
+// Runs four threads on a new gate.
 fn left_in<R: Threads + Wait + Sync>(
     rt: &R,
     alloc: Global,
@@ -361,7 +361,7 @@ fn left_in<R: Threads + Wait + Sync>(
     }
 }
 
-// What is left is what fits, and so many tiles at most.
+// Checks that what is left fits, with at most this many tiles.
 fn assert_left(rt: &impl Abort, left: Left, most: u64) {
     let [tiles_held, pins_held, loose_held, _] = left.held;
     let [tiles, pins, loose, _] = left.after;
@@ -379,7 +379,7 @@ fn assert_left(rt: &impl Abort, left: Left, most: u64) {
     assert!(rt; left.permits == 4, "one seat has all permits again");
 }
 
-// Each thread makes 3000 rounds, over so many shards.
+// 3000 rounds per thread, with this many shards.
 fn short(shards: u32) -> Work
     ensures { result.shards ≡ shards }
 {
@@ -389,7 +389,7 @@ fn short(shards: u32) -> Work
     }
 }
 
-// Of tiles of 1536 bytes four fit each share of 6666 bytes, and thirteen one of 20000.
+// A share of 6666 bytes fits four tiles of 1536 bytes, and a share of 20000 fits thirteen.
 #[test]
 fn four_threads_leave_what_fits_three_shards(rt: HostRuntime) -> Result<(), Fail> {
     assert_left(&rt, left_in(&rt, rt.alloc(), short(3), 20000)?, 12);
@@ -408,7 +408,7 @@ fn four_threads_leave_nothing_in_no_bytes(rt: HostRuntime) -> Result<(), Fail> {
     Ok(())
 }
 
-// Four threads of 250000 rounds, each of two calls or more.
+// Four threads of 250000 rounds, each of at least two calls.
 #[test]
 fn two_million_calls_leave_what_fits_two_shards(rt: HostRuntime) -> Result<(), Fail> {
     let work = Work {

@@ -1,7 +1,7 @@
-//! Tests of what threads share: a lock and the board of generations; tiles in their shards, step by
-//! step and by four threads; the table of files, its records and idle handles, over files in memory
-//! and over a real folder whose files change between two calls; two taps of one real folder; tiles
-//! loaded over records; what is read ahead of stripped files; and texels in fixed slots.
+//! Tests of what threads share: a lock, the board, shards with up to four threads, and the file
+//! table with records and idle handles. The files are in memory or in a real folder, and change
+//! between calls. Also tested: two taps of one folder, loading tiles, read-ahead, and texels in
+//! slots.
 #![tactic(auto)]
 
 #[cfg(test)]

@@ -1,4 +1,4 @@
-//! A lock round a count, whose tag is the most that it may come to.
+//! A lock around a count, whose tag is the greatest count allowed.
 ghost use Rattle.std.specs.Prelude.{◌≡◌, ◌≤◌};
 
 use std::convert::Infallible;
@@ -9,12 +9,12 @@ use std::thread::Threads;
 use tag_lock::{NotPut, TagLock, TagRule};
 use waiter::{Forever, GaveUp, Tries, Waiter};
 
-// What two threads add, each so often.
+// the number of times that each of two threads adds one
 const ROUNDS: u64 = 10_000;
 
 const TOTAL: u64 = 20_000;
 
-// A count fits a tag that it does not exceed.
+// a count fits a tag if it is not greater
 struct AtMost;
 
 impl TagRule<u64> for AtMost {
@@ -23,7 +23,7 @@ impl TagRule<u64> for AtMost {
 
 type CountLock = TagLock<u64, AtMost>;
 
-// Takes the count out and puts back one more, or 0 after the last one.
+// Takes the count out, and puts back one more, or 0 after the greatest.
 fn add_one<W: Waiter<Busy = Infallible>>(waiter: &W, lock: &CountLock) {
     let count = match lock.take(waiter) {
         Ok(count) => count,
@@ -56,7 +56,7 @@ fn counts_what_two_threads_add(rt: HostRuntime) -> Result<(), Fail> {
     Ok(())
 }
 
-// What comes back of a value that is put, after the tries.
+// What comes back of a value that is put, after the tries are used up.
 fn put_back(lock: &CountLock, waiter: &Tries, count: u64) -> Option<u64>
     requires { count ≤ lock.now }
 {

@@ -1,4 +1,4 @@
-//! Four files, of which the first and the last have two generations.
+//! Four files, two of them with two generations.
 ghost use Rattle.std.specs.Prelude.{◌≡◌, ◌%◌, ◌&&◌, ◌||◌, ◌==◌, nat_lt, slice_index};
 ghost use Rattle.std.specs.Prelude.{Some, None, refl, if◌then◌else◌};
 ghost use Rattle.std.proofs.Common.{arith, lit≤};
@@ -8,7 +8,7 @@ ghost use Rattle.sharing_tests.specs.Names.{file_names};
 
 use tex_world::FileTable;
 
-// 4 by 4 texels of one channel in one strip.
+// 4 by 4 texels of one channel, in one strip
 static FOUR: [u8; 138] = [
     0x49, 0x49, 0x2a, 0x00, 0x08, 0x00, 0x00, 0x00, 0x09, 0x00, //
     0x00, 0x01, 0x03, 0x00, 0x01, 0x00, 0x00, 0x00, 0x04, 0x00, 0x00, 0x00, //
@@ -24,7 +24,7 @@ static FOUR: [u8; 138] = [
     0x00, 0x01, 0x02, 0x03, 0x10, 0x11, 0x12, 0x13, 0x20, 0x21, 0x22, 0x23, 0x30, 0x31, 0x32, 0x33,
 ];
 
-/// 3 by 1 texels of one channel in one strip.
+/// 3 by 1 texels of one channel, in one strip.
 pub(crate) static THREE: [u8; 125] = [
     0x49, 0x49, 0x2a, 0x00, 0x08, 0x00, 0x00, 0x00, 0x09, 0x00, //
     0x00, 0x01, 0x03, 0x00, 0x01, 0x00, 0x00, 0x00, 0x03, 0x00, 0x00, 0x00, //
@@ -40,7 +40,7 @@ pub(crate) static THREE: [u8; 125] = [
     0x0a, 0x15, 0x1e,
 ];
 
-// 18 by 2 texels of one channel in two tiles of 16 by 16, which stand at 256 and at 512.
+// 18 by 2 texels of one channel, in two tiles of 16 by 16 at 256 and 512
 static TILED: [u8; 150] = [
     0x49, 0x49, 0x2a, 0x00, 0x08, 0x00, 0x00, 0x00, 0x0a, 0x00, //
     0x00, 0x01, 0x03, 0x00, 0x01, 0x00, 0x00, 0x00, 0x12, 0x00, 0x00, 0x00, //
@@ -68,9 +68,9 @@ fn byte_of_tiled(at: u64) -> u8
     }
 }
 
-/// `A.tif` has 4 by 4 texels, and in its second generation 3 by 1. `three.tif` has 3 by 1, and
-/// `short.tif` ends in its header. `B.tif` has two tiles, in which a byte is its place in the file,
-/// modulo 251; in its second generation it has 3 by 1 texels in a strip.
+/// `A.tif` has 4 by 4 texels, and 3 by 1 in generation 2. `three.tif` has 3 by 1, and `short.tif`
+/// ends in its header. `B.tif` has two tiles, in which each byte is its place in the file modulo
+/// 251; in generation 2 it has 3 by 1 texels in a strip.
 #[derive(Drop)]
 pub(crate) struct Pictures;
 

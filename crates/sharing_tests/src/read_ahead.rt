@@ -1,4 +1,4 @@
-//! What is read ahead of files in memory whose rows stand far apart, by the calls that their cells make.
+//! Read-ahead of files in memory whose rows are far apart, checked by counting calls to the tap.
 
 use crate::cell_reader::Answer::{self, Again, Cell, Done, Fault, Gone, Kept};
 use crate::cell_reader::Call::{Aheads, Forget, Hold, Load, Scan, Settle};
@@ -11,9 +11,10 @@ use std::test::Fail;
 use tex_world::{FailByte, FileTable, Folder, MemFolder, MemTap, Newest, Plan, Rise};
 use tiff_format::Cut;
 
-/// Four taps. For tap 1 a read of the byte 222 fails, column 100 of the first row; of the file of nine levels
-/// one of a byte between two directories, which nobody asks for, and of the file of tiles one of tile 33. At
-/// 67400, column 78 of row 16, tap 2 meets generation 2, and tap 3 knows it.
+/// Makes four taps. For tap 1 a read of byte 222 fails, which is column 100 of the first row. In
+/// the file of nine levels a byte between two directories fails, which nobody needs, and in the
+/// tiled file a byte of tile 33. At 67400, column 78 of row 16, tap 2 meets generation 2; tap 3
+/// knows it from the start.
 fn taps_of(alloc: Global) -> Result<Vec<MemTap<Strips>>, Fail> {
     let mut plan = Plan::new(alloc);
     plan.fail_bytes.push(FailByte {
@@ -50,9 +51,9 @@ fn taps_of(alloc: Global) -> Result<Vec<MemTap<Strips>>, Fail> {
     Ok(taps)
 }
 
-// A file that was not read yet is opened for its record, with three reads, or six where three of
-// its entries lead elsewhere, and once more to be lent. The 16 rows of a cell are one read, and so are
-// those of as many cells as are read with it.
+// A file that was not read yet is opened for its record, with three reads, or six if three of its
+// entries have their values elsewhere, and once more to be lent. The 16 rows of a cell are one
+// read, and so are those of all cells read with it.
 static ROWS: &[(&str, &[Step])] = &[
     (
         "in scan order twice as many cells are read each time, at most 32",
@@ -304,7 +305,7 @@ static ROWS: &[(&str, &[Step])] = &[
     ),
 ];
 
-/// What goes otherwise than the steps say, over a table of its own.
+/// What differs from the steps, with a new table.
 fn wrong_in(alloc: Global, steps: &[Step]) -> Result<Option<(usize, Answer, u64)>, Fail> {
     let cut = Cut {
         autotile: 16,

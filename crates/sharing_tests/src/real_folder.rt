@@ -1,4 +1,4 @@
-//! Files of a real folder.
+//! A file table over a real folder, whose files change.
 ghost use Rattle.std.specs.Prelude.{ℕ, ◌<◌};
 ghost use Rattle.tex_world.specs.World.{IsFile};
 
@@ -22,27 +22,27 @@ const CUT: Cut = Cut {
     automip: true,
 };
 
-/// What happens to the file after the calls of a row.
+/// What happens to the file after the calls of a case.
 #[derive(Clone, Copy)]
 enum Change {
-    /// Another file is put in its place.
+    /// Another file takes its place.
     Longer,
-    /// It is cut short in the middle of its directory.
+    /// It is truncated in the middle of its directory.
     Short,
     Gone,
 }
 
-// No newer generation was met, and no call failed.
+// no newer generation was met, and no call failed
 const NONE: Counts = [0, 0];
 
-// A newer generation was met.
+// a newer generation was met
 const MOVED: Counts = [1, 0];
 
-// A call failed.
+// a call failed
 const FAILED: Counts = [0, 1];
 
-/// The calls with their answers and their counts, and what happens to the file before those of the
-/// next row.
+/// The calls of a case with their answers and counts, and what happens to the file before the next
+/// case.
 static ROWS: &[(&[Step], Change)] = &[
     (
         &[
@@ -86,7 +86,7 @@ static ROWS: &[(&[Step], Change)] = &[
     ),
 ];
 
-// A tap of the folder at this path.
+// Makes a tap of the folder at this path.
 fn tap_of<F: Folder + Drop>(mut folder: F, alloc: Global, path: &str) -> Result<F::Tap, Fail> {
     match folder.enter(alloc, path) {
         Ok(()) => Ok(folder.tap(alloc)?),
@@ -110,7 +110,7 @@ fn make(rt: &HostRuntime, change: Change) -> Result<(), Fail> {
     Ok(())
 }
 
-// What goes otherwise than the rows say, and in which row.
+// The first case that goes wrong, and how.
 fn wrong_in<T: Tap + Drop + Shows>(rt: &HostRuntime, tap: T) -> Result<Option<(usize, Wrong)>, Fail>
     requires { (file : ℕ) → file < 3 → IsFile T.W.files file }
 {
@@ -149,7 +149,7 @@ fn numbered(alloc: Global, folder: &str, number: u32) -> Result<String, Fail> {
     Ok(format!(in alloc; "{folder}{number}")?)
 }
 
-// How many descriptors below 99 the process has open.
+// The number of open file descriptors below 99.
 fn open_descriptors(rt: &HostRuntime) -> Result<usize, Fail> {
     let mut count = 0usize;
     for descriptor in 0..99u32 {
@@ -161,7 +161,7 @@ fn open_descriptors(rt: &HostRuntime) -> Result<usize, Fail> {
     Ok(count)
 }
 
-// So many files, all alike.
+// Writes this many equal files.
 fn write_files(rt: &HostRuntime, alloc: Global, folder: &str, count: u32) -> Result<(), Fail> {
     for n in 0..count {
         let path = numbered(alloc, folder, n)?;
@@ -170,12 +170,12 @@ fn write_files(rt: &HostRuntime, alloc: Global, folder: &str, count: u32) -> Res
     Ok(())
 }
 
-// So many files are visited so often, of which ten may lie idle.
+// How many files are visited how often, with at most ten idle handles.
 #[derive(Clone, Copy)]
 struct Visited {
     well: u32,
     idle: usize,
-    // Descriptors that the process has open with the table, and those after its end.
+    // The descriptors that are open with the table, and after it has ended.
     opened: usize,
     left: usize,
 }

@@ -9,22 +9,22 @@ use std::thread::Threads;
 use std::{fs, thread};
 use tex_world::{Folder, Tap};
 
-/// What becomes of the file before a tap is asked.
+/// What happens to the file before a tap is asked.
 #[derive(Clone, Copy)]
 enum Change {
     Stays,
     Written(&'static str),
-    /// Another file is put in its place.
+    /// Another file takes its place.
     Replaced(&'static str),
     Removed,
 }
 
-// What becomes of the file, the tap that is then asked for its newest generation, and what it
-// answers, 0 where it fails.
+// What happens to the file, which tap is then asked for its newest generation, and what it answers;
+// 0 if it fails.
 static ROWS: &[(Change, usize, u32)] = &[
     (Change::Stays, 0, 1),
     (Change::Stays, 1, 1),
-    // the second tap sees the change, and the first one does not count it again
+    // the second tap sees the change, and the first does not count it again
     (Change::Written("second"), 1, 2),
     (Change::Stays, 0, 2),
     (Change::Stays, 1, 2),
@@ -52,7 +52,7 @@ fn make(rt: &HostRuntime, change: Change) -> Result<(), Fail> {
     Ok(())
 }
 
-// The newest generation of a file, 0 where the tap fails.
+// The newest generation of a file; 0 if the tap fails.
 fn newest<T: Tap>(tap: &mut T, file: u32) -> u32
     requires { IsFile T.W.files file }
 {
@@ -62,7 +62,7 @@ fn newest<T: Tap>(tap: &mut T, file: u32) -> u32
     }
 }
 
-// The first row that is answered otherwise, with its answer.
+// The first case with another answer, and that answer.
 fn wrong_row<T: Tap>(rt: &HostRuntime, mut taps: (T, T)) -> Result<Option<(usize, u32)>, Fail>
 where
     T: Drop,
@@ -82,7 +82,7 @@ where
     Ok(None)
 }
 
-// Two taps of the folder at this path.
+// Makes two taps of the folder at this path.
 fn taps_of<F: Folder + Drop>(
     mut folder: F,
     alloc: Global,
@@ -111,21 +111,21 @@ fn taps_of_a_folder_see_one_generation(rt: HostRuntime) -> Result<(), Fail> {
     Ok(())
 }
 
-/// One more than the greatest stamp: a word keeps a stamp in its lowest 44 bits.
+/// One more than the greatest stamp: a word has the stamp in its lowest 44 bits.
 const STAMPS: u64 = 1 << 44;
 
-// A word that keeps a generation beside its stamp.
+// A word with a generation and a stamp.
 fn word(generation: u64, stamp: u64) -> u64 {
     generation.wrapping_mul(STAMPS).wrapping_add(stamp)
 }
 
-// What another tap leaves in a word while one asks: the generation and the stamp of the word that was
-// looked at, those of the word that stood there in the exchange, the stamp of the file, and its
-// generation, 0 where the call fails.
+// What another tap does to a word during a freshness check: the generation and stamp that were
+// read, those found at the exchange, the stamp of the file, and the resulting generation; 0 if the
+// call fails.
 static EXCHANGES: &[((u64, u64), (u64, u64), u64, u32)] = &[
-    // the stamp is as it was
+    // the stamp is unchanged
     ((3, 7), (3, 7), 7, 3),
-    // the exchange is won
+    // this tap exchanges the word first
     ((0, 0), (0, 0), 5, 1),
     ((0, 0), (0, 0), 0, 1),
     ((3, 7), (3, 7), 8, 4),
@@ -136,7 +136,7 @@ static EXCHANGES: &[((u64, u64), (u64, u64), u64, u32)] = &[
     ((3, 7), (9, 8), 8, 9),
     ((0, 0), (1, 0), 0, 1),
     ((1048574, 7), (1048575, 8), 8, 1048575),
-    // another was, with another stamp
+    // another tap was first, with another stamp
     ((3, 7), (4, 9), 8, 0),
     ((0, 0), (1, 6), 5, 0),
     ((3, 7), (5, 7), 8, 0),
@@ -152,10 +152,10 @@ fn what_follows_an_exchange(rt: HostRuntime) -> Result<(), Fail> {
     Ok(())
 }
 
-/// So many files two threads ask for at once, each in the same order.
+/// The number of files that two threads ask for at once, both in the same order.
 const FILES: u32 = 300;
 
-// So many files are written anew, with so many bytes.
+// Writes this many files again, each with this many bytes.
 fn write_all(rt: &HostRuntime, files: u32, bytes: usize) -> Result<(), Fail> {
     let alloc = rt.alloc();
     let text = "a".repeat(alloc, bytes)?;
@@ -166,7 +166,7 @@ fn write_all(rt: &HostRuntime, files: u32, bytes: usize) -> Result<(), Fail> {
     Ok(())
 }
 
-// How many of the first so many files have this generation.
+// How many of the first files have this generation.
 fn count_of<T: Tap>(tap: &mut T, files: u32, generation: u32) -> u32
     requires { (file : ℕ) → file < files → IsFile T.W.files file }
 {
@@ -179,7 +179,7 @@ fn count_of<T: Tap>(tap: &mut T, files: u32, generation: u32) -> u32
     count
 }
 
-// The same by each of two taps in a thread of its own.
+// Lets each of two taps count in its own thread.
 fn counts_of<T: Tap + Send>(
     threads: &impl Threads,
     taps: &mut (T, T),
@@ -199,7 +199,7 @@ where
     )
 }
 
-// The counts, for each generation that the files then have.
+// The counts for each generation that the files get.
 fn raced<T: Tap + Send + Drop>(
     rt: &HostRuntime,
     threads: &impl Threads,
@@ -221,7 +221,7 @@ where
     Ok(None)
 }
 
-// Each file has the next generation for both taps, whichever of them was first to see it.
+// Each file has the next generation for both taps, whichever of them saw it first.
 #[test]
 fn an_exchange_that_is_lost_gives_the_same_generation(rt: HostRuntime) -> Result<(), Fail> {
     fs::create_dir(&rt, "raced")?;

@@ -9,27 +9,27 @@ use crate::seat::Seat;
 use std::alloc::Global;
 use std::test::Fail;
 
-// `A.tif` has two generations, of which tap 1 knows the newer one.
+// `A.tif`, which has two generations; tap 1 knows the newer one
 const A: u32 = 0;
 
-// `three.tif`.
+// `three.tif`
 const T: u32 = 1;
 
-// `short.tif`, a bad file.
+// `short.tif`, a file with a fault
 const S: u32 = 2;
 
-// No call.
+// no call
 const NONE: Counts = [0, 0];
 
-// A file is opened.
+// a file is opened
 const OPENED: Counts = [1, 0];
 
-// A file is opened and read: the header, the number of its directory's entries, and the entries.
+// a file is opened and read: its header, its number of entries, and the entries
 const READ: Counts = [4, 0];
 
-/// What each row shows, the most handles that lie idle, and the calls with their answers and by how
-/// much the calls and the faults of their tap rise. The first call of tap 2 fails, and the read of
-/// the number of entries by tap 3 meets the newer generation.
+/// The name of a case, the greatest number of idle handles, and the calls with their answers and
+/// the calls and I/O errors that their tap counts. The first call of tap 2 fails, and tap 3 meets
+/// the newer generation when it reads the number of entries.
 static ROWS: &[(&str, usize, &[Step])] = &[
     (
         "a record is read once",
@@ -134,7 +134,7 @@ static ROWS: &[(&str, usize, &[Step])] = &[
     ),
 ];
 
-// What goes otherwise than the row says, over a table of its own.
+// What differs from the case, with a new table.
 fn wrong_in(alloc: Global, cap: usize, steps: &[Step]) -> Result<String, Fail>
     requires { 0 < cap }
 {

@@ -1,4 +1,4 @@
-//! Calls of a table, and what each answers.
+//! Sequences of file table calls with their expected answers.
 ghost use Rattle.std.specs.Prelude.{ℕ, ◌<◌};
 ghost use Rattle.tex_world.specs.World.{IsFile};
 
@@ -12,51 +12,51 @@ use tap_reader::OpenFile;
 use tex_world::{FileTable, MemTap, ReadError, Tap, TapHandle};
 use waiter::{GaveUp, Tries};
 
-/// Two counts that a tap shows.
+/// Two counts of a tap.
 pub(crate) type Counts = [u64; 2];
 
-/// A tap that shows two counts.
+/// A tap that can tell two counts.
 pub(crate) trait Shows {
     fn shown(&self) -> Counts;
 }
 
-/// Its calls, and those of them that failed.
+/// Its calls, and its failed calls.
 impl<F: FileTable> Shows for MemTap<F> {
     fn shown(&self) -> Counts {
         [self.calls(), self.faults()]
     }
 }
 
-/// How often it met a newer generation, and its calls that failed.
+/// How often it met a newer generation, and its failed calls.
 impl<R> Shows for RealTap<R> {
     fn shown(&self) -> Counts {
         [self.moves(), self.faults()]
     }
 }
 
-/// A call of the table. The numbers are those of a tap and of a file below three.
+/// A call of the table. The numbers are a tap, and a file below three.
 #[derive(Clone, Copy)]
 pub(crate) enum Call {
-    /// The record of a file, which is then the latest record.
+    /// Gets the record of a file, which becomes the latest record.
     Record(usize, u32),
-    /// A handle of the latest record's generation, which is then the latest handle.
+    /// Lends a handle of the latest record's generation, which becomes the latest handle.
     Lend(usize, u32),
-    /// The first byte under the latest handle.
+    /// Reads the first byte through the latest handle.
     Read(usize),
     /// Settles the latest handle.
     Settle,
     /// Drops what is idle of a file.
     Forget(u32),
-    /// How many handles lie idle.
+    /// The number of idle handles.
     Idle,
-    /// Which generation was seen of a file.
+    /// The generation that was seen of a file.
     Seen(u32),
 }
 
 /// What a call answers.
 #[derive(Clone, Copy, Debug, PartialEq, Eq)]
 pub(crate) enum Answer {
-    /// The generation of a record without fault or of a handle, or a number.
+    /// The generation of a valid record or of a handle, or a number.
     Is(u32),
     /// The generation of a record with a fault.
     Bad(u32),
@@ -66,14 +66,14 @@ pub(crate) enum Answer {
     Gone(u32),
     NoMemory,
     Busy,
-    /// There is no such tap, or no record, or no handle.
+    /// There is no such tap, record or handle.
     Nothing,
 }
 
-/// A call, its answer, and by how much each count of its tap rises.
+/// A call, its answer, and how much each count of its tap rises.
 pub(crate) type Step = (Call, Answer, Counts);
 
-/// A step whose call answered something else than was wanted.
+/// A step whose call gave another answer than expected.
 #[derive(Clone, Copy, Debug)]
 pub(crate) struct Wrong {
     step: usize,
@@ -81,7 +81,7 @@ pub(crate) struct Wrong {
     rises: Counts,
 }
 
-/// What was wrong, and nothing where nothing was.
+/// A text of what was wrong; empty if nothing was.
 pub(crate) fn text_of(alloc: Global, wrong: Option<Wrong>) -> Result<String, Fail> {
     match wrong {
         Some(wrong) => Ok(format!(in alloc; "{wrong:?}")?),
@@ -89,7 +89,7 @@ pub(crate) fn text_of(alloc: Global, wrong: Option<Wrong>) -> Result<String, Fai
     }
 }
 
-/// A table with a view, some taps, the latest record and the handles that are lent.
+/// A table with a view, some taps, the latest record, and the lent handles.
 #[derive(Drop)]
 pub(crate) struct Script<'a, T: Tap + Drop> {
     seat: Seat<'a, T>,
@@ -109,7 +109,7 @@ impl<'a, T: Tap + Drop> Script<'a, T> {
     }
 }
 
-// The tap of a call, 0 where it has none.
+// The tap of a call; 0 if it has none.
 fn tap_of(call: Call) -> usize {
     match call {
         Call::Record(tap, _) => tap,
@@ -119,7 +119,7 @@ fn tap_of(call: Call) -> usize {
     }
 }
 
-// By how much each count rose.
+// How much each count rose.
 fn rises(before: Counts, after: Counts) -> Counts {
     [
         after[0].saturating_sub(before[0]),
@@ -137,7 +137,7 @@ fn why_refused(error: FileError<GaveUp>) -> Answer {
 }
 
 impl<T: Tap + Drop + Shows> Script<'_, T> {
-    /// Makes the calls as far as each answers what is wanted.
+    /// Makes the calls until one gives another answer than expected.
     pub(crate) fn first_wrong(&mut self, steps: &[Step]) -> Option<Wrong>
         requires { (file : ℕ) → file < 3 → IsFile T.W.files file }
     {
@@ -179,7 +179,7 @@ impl<T: Tap + Drop + Shows> Script<'_, T> {
         }
     }
 
-    /// The counts of a tap, 0 where there is no such tap.
+    /// The counts of a tap; 0 if there is no such tap.
     fn shown(&self, tap: usize) -> Counts {
         match self.taps.get(tap) {
             Some(tap) => tap.shown(),

@@ -1,4 +1,4 @@
-//! One caller of a table.
+//! One caller of a file table.
 ghost use Rattle.std.specs.Prelude.{◌≡◌, ℕ, ◌<◌};
 ghost use Rattle.tex_world.specs.World.{IsFile};
 
@@ -9,8 +9,8 @@ use tap_reader::OpenFile;
 use tex_world::Tap;
 use waiter::{GaveUp, Waiter};
 
-/// A table and a view of its board. A file that the table has not is answered as a lock that is
-/// busy.
+/// A table and a view of its board. For a file that the table does not have, the answer is that of
+/// a busy lock.
 #[derive(Drop)]
 pub(crate) struct Seat<'a, T: Tap> {
     pub(crate) files: &'a Files<T>,

@@ -1,4 +1,4 @@
-//! One table under two threads.
+//! One file table used by two threads.
 
 ghost use Rattle.std.specs.Prelude.{ℕ, ◌<◌};
 ghost use Rattle.tex_world.specs.World.{IsFile};

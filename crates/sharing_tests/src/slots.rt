@@ -1,4 +1,4 @@
-//! Texels in fixed slots: call by call over files in memory, and by two threads at the same slots.
+//! Texels in slots: call by call over files in memory, and with two threads on the same slots.
 ghost use Rattle.std.specs.Prelude.{◌≡◌, ◌/◌, ◌<◌};
 ghost use Rattle.std.specs.Option.{ForSome};
 ghost use Rattle.tile_load.specs.Load.{IsLayoutOf};
@@ -17,7 +17,7 @@ use tiff_dirs::read_dirs;
 use tile_layout::Layout;
 use tile_slots::{FillError, PartKey, Slots};
 
-/// A file in one generation.
+/// One generation of a file.
 #[derive(Drop)]
 struct Picture<W: World> {
     file: u32,
@@ -49,7 +49,7 @@ fn picture_of<T: Tap>(
 /// A texel of level 0.
 type Texel = (u32, u32);
 
-/// The part that has a texel.
+/// The part that holds a texel.
 fn key_of<W: World>(picture: &Picture<W>, texel: Texel) -> PartKey
     ensures file { result.file ≡ picture.now.file }
     ensures generation { result.generation ≡ picture.now.generation }
@@ -66,7 +66,7 @@ fn key_of<W: World>(picture: &Picture<W>, texel: Texel) -> PartKey
     }
 }
 
-/// What is shown of a texel: one sample for each place of `out`.
+/// Copies a texel from its slot, one sample for each element of `out`.
 fn show<W: World>(slots: &Slots<W>, picture: &Picture<W>, texel: Texel, out: &mut [u16]) -> bool {
     let _stored = picture.layout.stored();
     let (width, height) = picture.layout.size(0);
@@ -77,8 +77,8 @@ fn show<W: World>(slots: &Slots<W>, picture: &Picture<W>, texel: Texel, out: &mu
     slots.show(key_of(picture, texel), texel.0, out)
 }
 
-/// What filling the slot of a texel answers, none where the handle is that of another picture or
-/// the picture lacks the texel.
+/// What filling the slot of a texel answers. `None` if the handle is that of another image, or the
+/// image lacks the texel.
 fn fill<T: Tap>(
     slots: &Slots<T::W>,
     picture: &Picture<T::W>,
@@ -99,14 +99,15 @@ fn fill<T: Tap>(
     Some(slots.fill(tap, handle, &picture.layout, key, texel.0, out))
 }
 
-/// A call, and what it answers: the sample that is shown or read of a texel.
+/// A call and its answer: the sample that is shown or read of a texel.
 #[derive(Clone, Copy)]
 enum Call {
     Show(Texel, Option<u16>),
     Fill(Texel, Result<(bool, u16), FillError>),
 }
 
-/// The call answers so. A call that shows or reads nothing leaves what was there.
+/// Whether the call gives this answer. A call that shows or reads nothing must not change the
+/// output.
 fn is_answered<T: Tap>(
     slots: &Slots<T::W>,
     picture: &Picture<T::W>,
@@ -129,8 +130,8 @@ fn is_answered<T: Tap>(
     }
 }
 
-/// Calls in turn: the texel (x, y) of `A.tif` is 16 * y + x. Reading its row 1 fails the first time
-/// and its row 3 meets generation 2.
+/// Calls one after another. Texel (x, y) of `A.tif` is 16 * y + x. Reading its row 1 fails the
+/// first time, and its row 3 meets generation 2.
 static ONE_SLOT: &[(&str, Call)] = &[
     ("nothing is there yet", Call::Show((2, 0), None)),
     ("the first part", Call::Fill((2, 0), Ok((true, 2)))),
@@ -151,15 +152,15 @@ static ONE_SLOT: &[(&str, Call)] = &[
     ("the slot holds what it held", Call::Show((2, 1), Some(18))),
 ];
 
-/// The same over no slot at all.
+/// Calls on a cache without slots.
 static NO_SLOT: &[(&str, Call)] = &[
     ("no slot", Call::Show((2, 0), None)),
     ("read, and put nowhere", Call::Fill((2, 0), Ok((false, 2)))),
     ("no slot holds it", Call::Show((2, 0), None)),
 ];
 
-/// The texel (x, 0) of `B.tif` is x + 5, up to column 15, which stands in the first tile; column 16
-/// is the first byte of the second one.
+/// Texel (x, 0) of `B.tif` is x + 5 up to column 15, which is in the first tile. Column 16 is the
+/// first byte of the second tile.
 static TWO_TILES: &[(&str, Call)] = &[
     ("of the second tile", Call::Fill((17, 0), Ok((true, 11)))),
     ("of the first one", Call::Show((15, 0), Some(20))),
@@ -168,8 +169,8 @@ static TWO_TILES: &[(&str, Call)] = &[
     ("row 0 has a slot of its own", Call::Show((0, 0), Some(5))),
 ];
 
-/// A tap for which the first read of the byte 126 of `A.tif` fails, and which meets generation 2 at
-/// the byte 134; and another one.
+/// Makes a tap for which the first read of byte 126 of `A.tif` fails, and which meets generation 2
+/// at byte 134; and a second one.
 fn taps_of(alloc: Global) -> Result<(MemTap<Pictures>, MemTap<Pictures>), Fail> {
     let mut plan = Plan::new(alloc);
     plan.fail_bytes.push(FailByte {
@@ -189,8 +190,8 @@ fn taps_of(alloc: Global) -> Result<(MemTap<Pictures>, MemTap<Pictures>), Fail> 
     Ok((first, second))
 }
 
-/// The first call over so many slots that answers otherwise. The layout is read through a tap of its
-/// own.
+/// The first call that gives another answer, with this many slots. The layout is read through a
+/// separate tap.
 fn wrong_call(
     alloc: Global,
     count: u32,
@@ -225,10 +226,10 @@ fn shows_and_fills_as_each_row_says(rt: HostRuntime) -> Result<(), Fail> {
     Ok(())
 }
 
-/// The rounds of a thread, each of which makes a call or two.
+/// The rounds of a thread, each of which makes one or two calls.
 const ROUNDS: u64 = 1_000_000;
 
-/// The rounds that a thread stays at a part.
+/// The number of rounds that a thread stays in one part.
 const STAY: u64 = 8;
 
 /// Sample c of texel (x, y) of the first sample file.
@@ -240,7 +241,7 @@ fn sample_of(x: u64, y: u64, c: u64) -> u64
     (7 * x + 13 * y + 29 * c) % 256
 }
 
-/// The samples are those of a texel.
+/// Whether these are the samples of a texel.
 fn is_texel(out: [u16; 3], (x, y): Texel) -> bool {
     if x >= 256 || y >= 192 {
         return false;
@@ -260,8 +261,8 @@ fn texel_at(round: u64) -> Texel
     (x as u32, (part / 4 * 5 % 24) as u32)
 }
 
-/// Asks the slots for texels of the first sample file, and fills a slot where nothing is shown. How
-/// many were wrong.
+/// Asks the slots for texels of the first sample file, and fills a slot if it shows nothing.
+/// Returns the number of wrong texels.
 fn wrong_texels<T: Tap + Drop>(
     slots: &Slots<T::W>,
     picture: &Picture<T::W>,
@@ -288,7 +289,7 @@ fn wrong_texels<T: Tap + Drop>(
     wrong
 }
 
-/// How many texels two threads find wrong, the second of which is a row ahead.
+/// The number of wrong texels in two threads, the second of which is a row ahead.
 fn wrong_in_two_threads<R: Threads, T: Tap + Send + Drop>(
     rt: &R,
     slots: &Slots<T::W>,

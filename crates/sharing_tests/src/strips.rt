@@ -1,4 +1,4 @@
-//! Seven files of strips whose rows stand far apart, and two of tiles, one of them in nine levels.
+//! Seven stripped files whose rows are far apart, and two tiled ones, one of them with nine levels.
 ghost use Rattle.std.specs.Prelude.{◌&&◌, ◌||◌, ◌==◌, ◌%◌, nat_lt, slice_index};
 ghost use Rattle.std.specs.Prelude.{Some, None, refl, if◌then◌else◌};
 ghost use Rattle.std.proofs.Common.{arith, lit≤};
@@ -9,7 +9,7 @@ ghost use Rattle.sharing_tests.specs.Names.{strip_names};
 
 use tex_world::FileTable;
 
-// 4200 by 32 texels of one channel in one strip, which stands at 122.
+// 4200 by 32 texels of one channel, in one strip at 122
 static HEAD: [u8; 122] = [
     0x49, 0x49, 0x2a, 0x00, 0x08, 0x00, 0x00, 0x00, 0x09, 0x00, //
     0x00, 0x01, 0x03, 0x00, 0x01, 0x00, 0x00, 0x00, 0x68, 0x10, 0x00, 0x00, //
@@ -24,8 +24,7 @@ static HEAD: [u8; 122] = [
     0x00, 0x00, 0x00, 0x00,
 ];
 
-// The same with three channels, each with a plane and a strip of its own, at 164, 134564 and
-// 268964.
+// 4200 by 32 texels of three channels, each with its own plane and strip, at 164, 134564 and 268964
 static PLANES: [u8; 164] = [
     0x49, 0x49, 0x2a, 0x00, 0x08, 0x00, 0x00, 0x00, 0x0a, 0x00, //
     0x00, 0x01, 0x03, 0x00, 0x01, 0x00, 0x00, 0x00, 0x68, 0x10, 0x00, 0x00, //
@@ -44,8 +43,8 @@ static PLANES: [u8; 164] = [
     0x00, 0x0d, 0x02, 0x00, 0x00, 0x0d, 0x02, 0x00, 0x00, 0x0d, 0x02, 0x00,
 ];
 
-// 256 by 256 texels of three channels and eight levels more, in tiles of 64 by 64 that stand side by side
-// behind all directories: those of level 0 from 1186 on.
+// 256 by 256 texels of three channels and eight further levels, in tiles of 64 by 64 that follow
+// one another after all directories; those of level 0 begin at 1186
 static LEVELS: [u8; 1186] = [
     0x49, 0x49, 0x2a, 0x00, 0x08, 0x00, 0x00, 0x00, 0x09, 0x00, 0x00, 0x01, //
     0x03, 0x00, 0x01, 0x00, 0x00, 0x00, 0x00, 0x01, 0x00, 0x00, 0x01, 0x01, //
@@ -148,8 +147,8 @@ static LEVELS: [u8; 1186] = [
     0x00, 0x00, 0x08, 0x00, 0x08, 0x00, 0x08, 0x00, 0x00, 0x00, //
 ];
 
-// 4200 by 32 texels of one channel in four strips, the second of which stands behind the third: at 138,
-// 67338, 33738 and 100938.
+// 4200 by 32 texels of one channel in four strips at 138, 67338, 33738 and 100938, so the second
+// comes after the third
 static MIXED: [u8; 138] = [
     0x49, 0x49, 0x2a, 0x00, 0x08, 0x00, 0x00, 0x00, 0x09, 0x00, 0x00, 0x01, //
     0x03, 0x00, 0x01, 0x00, 0x00, 0x00, 0x68, 0x10, 0x00, 0x00, 0x01, 0x01, //
@@ -165,7 +164,7 @@ static MIXED: [u8; 138] = [
     0x00, 0x00, 0x4a, 0x8a, 0x01, 0x00, //
 ];
 
-// 128 by 96 texels of one channel in 48 tiles of 16 by 16 that stand side by side, from 314 on.
+// 128 by 96 texels of one channel in 48 tiles of 16 by 16 that follow one another from 314 on
 static TILES: [u8; 314] = [
     0x49, 0x49, 0x2a, 0x00, 0x08, 0x00, 0x00, 0x00, 0x09, 0x00, 0x00, 0x01, //
     0x03, 0x00, 0x01, 0x00, 0x00, 0x00, 0x80, 0x00, 0x00, 0x00, 0x01, 0x01, //
@@ -196,9 +195,9 @@ static TILES: [u8; 314] = [
     0x00, 0x00, //
 ];
 
-/// Five files of one strip, one of three planes, one of nine levels, one of four strips, and one of tiles. Each file
-/// has two generations. A byte behind what stands at the beginning is its place in the file, modulo 251,
-/// and in the second generation modulo 241.
+/// Five files of one strip, one of three planes, one of nine levels, one of four strips, and one of
+/// tiles. Each has two generations. A byte after the header and directories is its place in the
+/// file modulo 251, and modulo 241 in generation 2.
 #[derive(Drop)]
 pub(crate) struct Strips;
 

@@ -1,4 +1,4 @@
-//! Tiles loaded over records of a file in memory.
+//! Tiles loaded for records of a file in memory.
 
 use crate::pictures::Pictures;
 use crate::seat::Seat;
@@ -23,7 +23,7 @@ type Told = TableWorld<Pictures>;
 /// `B.tif`.
 const B: u32 = 3;
 
-/// Four taps: tap 1 knows generation 2, a read of the byte 272 fails for tap 2, and at the byte 512
+/// Makes four taps: tap 1 knows generation 2, a read of byte 272 fails for tap 2, and at byte 512
 /// tap 3 meets generation 2.
 fn taps_of(alloc: Global) -> Result<Vec<Source>, Fail> {
     let mut plan = Plan::new(alloc);
@@ -51,7 +51,7 @@ fn taps_of(alloc: Global) -> Result<Vec<Source>, Fail> {
     Ok(taps)
 }
 
-/// The tile of the cell at a column of the first row, or why it is not loaded.
+/// Loads the tile of the cell at a column of the first row.
 fn loaded<T: Tap>(
     alloc: Global,
     tap: &mut T,
@@ -70,7 +70,7 @@ fn loaded<T: Tap>(
     if cut.autotile != 16 || !known.fits() {
         return Err("another cut".into());
     }
-    // level 0 is stored, and one of the levels
+    // needed by the proof: level 0 is stored, and one of the levels
     let _stored = layout.stored();
     let _levels = layout.levels(cut);
     let (width, _height) = layout.size(0);
@@ -81,16 +81,16 @@ fn loaded<T: Tap>(
     Ok(load(alloc, tap, open, known, key, cut))
 }
 
-/// What loading is to answer.
+/// The expected result of loading.
 #[derive(Clone, Copy)]
 enum Wanted {
-    /// A tile of this generation and number, with its column, row, width and height.
+    /// A tile with this generation and index, its column, row, width and height, and its samples.
     Tile((u32, u32), (u32, u32, u32, u32), &'static [u16]),
     Fault,
     Gone(u32),
 }
 
-/// The samples of the row are these.
+/// Whether the row has these samples.
 fn is_row(row: &Row<'_>, samples: &[u16]) -> bool {
     if row.count() != samples.len() {
         return false;
@@ -103,7 +103,7 @@ fn is_row(row: &Row<'_>, samples: &[u16]) -> bool {
     true
 }
 
-/// The rows of a tile of one channel, one behind the other, are these samples.
+/// Whether the rows of a tile of one channel have these samples, one row after another.
 fn has_samples<W: World>(tile: &Tile<W>, samples: &[u16]) -> bool {
     let rect = tile.rect();
     if tile.channels() != 1 || rect.y > 99 || rect.h > 99 {
@@ -123,7 +123,7 @@ fn has_samples<W: World>(tile: &Tile<W>, samples: &[u16]) -> bool {
     rest.is_empty()
 }
 
-/// The tile is that of this generation and number, and has this rectangle.
+/// Whether the tile has this generation, index and rectangle.
 fn is_cell<W: World>(
     tile: &Tile<W>,
     (generation, index): (u32, u32),
@@ -150,7 +150,7 @@ fn is_wanted<W: World>(answer: Result<Tile<W>, LoadError>, wanted: Wanted) -> bo
     }
 }
 
-/// What loading answers over the record that a new table reads through this tap.
+/// What loading answers for the record that a new table reads through this tap.
 fn answer(alloc: Global, tap: &mut Source, x: u32) -> Result<Result<Tile<Told>, LoadError>, Fail> {
     let cut = Cut {
         autotile: 16,
@@ -171,7 +171,7 @@ fn answer(alloc: Global, tap: &mut Source, x: u32) -> Result<Result<Tile<Told>, 
     loaded(alloc, tap, &mut open, &known, x)
 }
 
-/// What a row shows, a tap, a column, and what loading the cell there answers.
+/// The name of a case, a tap, a column, and what loading the cell there answers.
 static ROWS: &[(&str, usize, u32, Wanted)] = &[
     (
         "a tile, without the rows below the level",

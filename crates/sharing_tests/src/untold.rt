@@ -1,4 +1,4 @@
-//! A world that tells nothing, and tiles of it.
+//! A world that is not modelled, and tiles of it.
 ghost use Rattle.sharing_tests.specs.Untold.{untold, untold_is_world};
 
 use crate::gate_calls::Stop;
@@ -17,7 +17,7 @@ impl World for Untold {
     ghost lawful = { untold_is_world };
 }
 
-// The bytes of each tile.
+// the bytes of each tile
 pub const TILE_BYTES: u64 = 1536;
 
 // A tile of 16 by 16 texels with three samples each, all 0.

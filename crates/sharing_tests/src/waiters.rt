@@ -1,4 +1,4 @@
-//! A waiter that calls the table in the middle of another call of it.
+//! A waiter that calls the table in the middle of another call.
 ghost use Rattle.std.specs.Prelude.{◌≡◌, ◌<◌};
 ghost use Rattle.tex_world.specs.World.{IsFile};
 
@@ -11,8 +11,8 @@ use std::test::Fail;
 use tex_world::Tap;
 use waiter::{GaveUp, Tries, Waiter};
 
-// Each time that it is asked for its tries it drops what is idle of the first file, with three
-// tries, and counts which way that went.
+// Each time it is asked for its tries, it drops what is idle of the first file, with three tries,
+// and counts whether that worked.
 #[derive(Drop)]
 struct Nosy<'a, T: Tap> {
     files: &'a Files<T>,
@@ -43,13 +43,13 @@ impl<T: Tap> Waiter for Nosy<'_, T> {
 }
 
 impl<T: Tap> Nosy<'_, T> {
-    /// How often it dropped what is idle, and how often it found a lock taken.
+    /// How often it dropped what is idle, and how often a lock was taken.
     fn counted(&self) -> (u32, u32) {
         (self.done.get(), self.busy.get())
     }
 }
 
-/// The generation of the record of the first file, 0 where none is answered.
+/// The generation of the record of the first file; 0 if none exists.
 fn generation<T: Tap>(files: &Files<T>, view: View<T::W>, tap: &mut T, nosy: &Nosy<'_, T>) -> u32
     requires board { view.board ≡ files.now.board }
     requires first { IsFile T.W.files 0 }
@@ -61,7 +61,7 @@ fn generation<T: Tap>(files: &Files<T>, view: View<T::W>, tap: &mut T, nosy: &No
     }
 }
 
-/// No handle is idle.
+/// Whether no handle is idle.
 fn is_idle<T: Tap>(files: &Files<T>, nosy: &Nosy<'_, T>) -> bool {
     match files.idle(nosy) {
         Ok(count) => count == 0,

@@ -1,4 +1,4 @@
-//! One caller of a table, with a view and a tap of its own.
+//! One caller of a file table, with its own view and tap.
 ghost use Rattle.std.specs.Prelude.{◌≡◌, ℕ, ◌<◌};
 ghost use Rattle.tex_world.specs.World.{IsFile};
 
@@ -16,8 +16,8 @@ pub(crate) struct Worker<'a, T: Tap> {
 }
 
 impl<T: Tap> Worker<'_, T> {
-    /// Takes the record of a file, and lends and settles a handle of its generation. It answers
-    /// whether all went well.
+    /// Gets the record of a file, and lends and settles a handle of its generation. True if all
+    /// went well.
     pub(crate) fn visit<V: Waiter>(&mut self, waiter: &V, file: u32) -> bool
         requires { IsFile T.W.files file }
     {
@@ -41,7 +41,7 @@ impl<T: Tap> Worker<'_, T> {
         self.files.settle(waiter, open).is_ok() && exact
     }
 
-    /// Visits all of so many files so often, and answers how many visits went well.
+    /// Visits all files this many times, and returns how many visits went well.
     pub(crate) fn work<V: Waiter>(&mut self, waiter: &V, files: u32, rounds: u32) -> u32
         requires { (file : ℕ) → file < files → IsFile T.W.files file }
     {

@@ -1,6 +1,6 @@
-//! A lock round a value. A tag that is fixed when the lock is made says, by a rule, which values
-//! fit, and what is taken out of the lock fits. Who takes the value owns it until it is put back.
-//! No clause says which of the values that fit a taker gets, nor that a try ever wins.
+//! A lock around a value. Whoever takes the value out owns it until it is put back. A tag, fixed
+//! when the lock is made, says by a rule which values fit, and every value taken out fits.
+//! Contracts do not say which of the fitting values a taker gets, nor that a try ever succeeds.
 #![tactic(auto)]
 
 mod lock;

@@ -1,3 +1,4 @@
+//! The lock.
 ghost use Rattle.std.specs.Prelude.{◌≡◌, ℕ, IfSome, IfOk, IfErr};
 
 use crate::place::Place;
@@ -6,22 +7,23 @@ use counted_slot::{Counted, FREE, TAKEN};
 use std::marker::Model;
 use waiter::Waiter;
 
-/// The word while the value is at home. A new slot has it.
+/// The lock word while the value is in the lock. A new lock has it.
 const HOME: u64 = FREE;
 
-/// The word while the value is out: free too, and told apart by the high half, so that a taker who
-/// waits only reads the word and leaves the value alone.
+/// The lock word while the value is out. It differs only in its high half, so a waiting taker reads
+/// the word and leaves the value alone.
 const OUT: u64 = 0x1_0000_0000;
 
-/// A value that threads take out and put back one at a time. In a clause it is its tag.
-/// No proof rests on the word telling whether the value is at home.
+/// A value that threads take out and put back, one at a time. Clauses see its tag. The proof does
+/// not depend on the word to know whether the value is in the lock.
 #[derive(Drop)]
 pub struct TagLock<T, F: TagRule<T>> {
     tag: u64,
     slot: Counted<Place<T, F>>,
 }
 
-/// A `put` gave up. The value comes back. It has no `Drop`, so that no caller loses it unseen.
+/// A `put` gave up, and returns the value. It has no `Drop`, so that no caller can lose the value
+/// unnoticed.
 pub struct NotPut<T, B> {
     pub value: T,
     pub busy: B,
@@ -36,7 +38,7 @@ impl<T, F: TagRule<T>> Model for TagLock<T, F> {
 }
 
 impl<T, F: TagRule<T>> TagLock<T, F> {
-    /// A lock that has the value. It takes no memory.
+    /// A lock with this value. Allocates nothing.
     pub fn new(tag: u64, value: T) -> TagLock<T, F>
         requires { F.fits tag value }
         ensures { result ≡ tag }
@@ -47,14 +49,14 @@ impl<T, F: TagRule<T>> TagLock<T, F> {
         }
     }
 
-    /// The tag that it was made with.
+    /// The tag that the lock was made with.
     pub fn tag(&self) -> u64
         ensures { result ≡ self.now }
     {
         self.tag
     }
 
-    /// Ends the lock. The value comes back if it is at home.
+    /// Ends the lock, and returns the value if it is in the lock.
     pub fn into_inner(self) -> Option<T>
         ensures some { IfSome result (F.fits self) }
     {
@@ -62,7 +64,8 @@ impl<T, F: TagRule<T>> TagLock<T, F> {
         slot.into_inner().into_value()
     }
 
-    /// Takes the value out, and tries again while another has it. Whoever took it puts one back.
+    /// Takes the value out, and tries again while another thread has it. The taker must put a value
+    /// back.
     pub fn take<W: Waiter>(&self, waiter: &W) -> Result<T, W::Busy>
         ensures ok { IfOk result (F.fits self.now) }
     {
@@ -75,9 +78,9 @@ impl<T, F: TagRule<T>> TagLock<T, F> {
         Err(waiter.busy())
     }
 
-    /// Puts a value back, and tries again while the lock holds one. That only a taker puts is the
-    /// users' convention: then the lock holds none, and the first try finds it so. `T` need not be
-    /// `Drop`, so no body can lose the value.
+    /// Puts a value back, and tries again while the lock has one. By convention only a taker puts a
+    /// value back, so the lock is empty and the first try succeeds. `T` need not be `Drop`, so that
+    /// no code can lose the value.
     pub fn put<W: Waiter>(&self, waiter: &W, value: T) -> Result<(), NotPut<T, W::Busy>>
         requires fits { F.fits self.now value }
         ensures err { IfErr result (λ e. F.fits self.now e.value) }
@@ -96,7 +99,7 @@ impl<T, F: TagRule<T>> TagLock<T, F> {
         })
     }
 
-    /// One try, which writes the word only where it has just read that the value is at home.
+    /// Tries once. It writes the word only if it has just read that the value is in the lock.
     fn try_take(&self) -> Option<T>
         ensures some { IfSome result (F.fits self.now) }
     {
@@ -111,7 +114,7 @@ impl<T, F: TagRule<T>> TagLock<T, F> {
         claim.put(Place::empty(), OUT).into_value()
     }
 
-    /// One try, which writes the word only where it has just read that the value is out.
+    /// Tries once. It writes the word only if it has just read that the value is out.
     fn try_put(&self, value: T) -> Result<(), T>
         requires fits { F.fits self.now value }
         ensures err { IfErr result (F.fits self.now) }
@@ -126,7 +129,7 @@ impl<T, F: TagRule<T>> TagLock<T, F> {
         }
         match claim.put(Place::of(value), HOME).into_value() {
             None => Ok(()),
-            // Under that word the place is empty, so this does not come.
+            // cannot happen: the lock is empty while it has that word
             Some(other) => Err(other),
         }
     }

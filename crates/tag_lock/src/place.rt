@@ -1,11 +1,11 @@
-//! What a lock keeps under its word: the value, or none while it is taken.
+//! The place inside a lock.
 ghost use Rattle.std.specs.Prelude.{◌≡◌, Some, None, IfSome};
 
 use crate::rule::TagRule;
 use counted_slot::Fits;
 use std::marker::PhantomData;
 
-/// The value that is at home in the lock, if it is.
+/// The value in the lock; `None` while it is taken out.
 #[derive(Drop)]
 pub(crate) struct Place<T, F: TagRule<T>> {
     value: Option<T>,

@@ -1,7 +1,8 @@
+//! The trait that ties a lock's tag to its value.
 ghost use Rattle.std.specs.Prelude.{ℕ};
 
-/// Which values fit a tag. It is a name without data.
+/// Which values fit a tag. It is a type without data.
 pub trait TagRule<T> {
-    /// The value fits the tag. It holds of every value that a lock of that tag has.
+    /// Whether the value fits the tag. It holds of every value in a lock with that tag.
     ghost fits: { ℕ → T → Type 0 };
 }

@@ -40,7 +40,7 @@ after_failed old new r is handle counts = record {
   moves = counts.failed Failed is tt;
 }
 
--- one that is answered behind others
+-- a successful read after others
 pub keeps_behind : (old mid new : Lent) (r : Result (Unit {0}) ReadError) → KeepsTap old mid
     → new.handle ≡ mid.handle → AfterRead mid.tap new.tap r → OnOk r (KeepsTap old new)
 keeps_behind old mid new (Ok tt) before handle counts = KeepsTap-chains old mid new before (record {
@@ -49,7 +49,7 @@ keeps_behind old mid new (Ok tt) before handle counts = KeepsTap-chains old mid 
 })
 keeps_behind old mid new (Err e) before handle counts = tt
 
--- the cause of a refusal is one from an earlier state on
+-- the cause of an error holds from an earlier state on
 cause_since : (files : Files) (old mid new : Lent) (e : ReadError) → KeepsTap old mid
     → ReadCause files mid.handle mid.tap new.tap e → ReadCause files old.handle old.tap new.tap e
 cause_since files old mid new Failed before cause =
@@ -63,7 +63,7 @@ cause_since files old mid new (Gone to) before cause =
       rises_since old.tap.lost mid.tap.lost new.tap.lost before.reads.lost same.3,
     )
 
--- the moves rise only with their refusal
+-- the moves rise only with their error
 moves_since : (old mid new : Lent) (e : ReadError) → KeepsTap old mid
     → AfterRead mid.tap new.tap (Err e) → old.tap.moves ≤ new.tap.moves
 moves_since old mid new Failed before counts =
@@ -72,7 +72,7 @@ moves_since old mid new (Gone to) before counts =
     let rose = counts.gone (Gone to) refl (λ no. no) in
     omega (arith, rose.later, before.moves)
 
--- one that is refused behind others
+-- a failed read after others
 pub refuses_behind : (files : Files) (old mid new : Lent) (r : Result (Unit {0}) ReadError)
     → KeepsTap old mid → new.handle ≡ mid.handle → AfterRead mid.tap new.tap r
     → IfErr r (ReadCause files mid.handle mid.tap new.tap) → IfErr r (RefusesTap files old new)
@@ -84,7 +84,7 @@ refuses_behind files old mid new (Err e) before handle counts cause = record {
   moves_later = moves_since old mid new e before counts;
 }
 
--- behind what stays
+-- a failed read, with facts that are unchanged
 pub with_names : {A B C : Type 0} (D : Type 0) (r : Result (Unit {0}) ReadError) → A → B → C → OnOk r D
     → OnOk r (A × B × C × D)
 with_names D (Ok x) a b c d = (a, b, c, d)
@@ -95,7 +95,7 @@ pub with_names_err : {A B C : Type 0} (D : ReadError → Type 0) (r : Result (Un
 with_names_err D (Ok x) a b c d = tt
 with_names_err D (Err e) a b c d = (a, b, c, d)
 
--- a read that is refused
+-- a read that fails
 pub refuses_at : (files : Files) (old new : Lent) (r : Result (Unit {0}) ReadError) (e : ReadError)
     → r ≡ Err e → new.handle ≡ old.handle → AfterRead old.tap new.tap r
     → IfErr r (ReadCause files old.handle old.tap new.tap) → RefusesTap files old new e

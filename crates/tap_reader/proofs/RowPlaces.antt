@@ -1,4 +1,4 @@
--- Where does a byte of rows stand, and which rows lie below a length?
+-- Where is a byte of rows in the file, and which rows lie below a length?
 use Rattle.std.proofs.Common.{◌≡◌, ℕ, ◌+◌, ◌-◌, ◌*◌, ◌/◌, ◌<◌, ◌≤◌, arith, ap, ◌∙◌}
 use Rattle.std.proofs.Math.Nat.{mul_comm, mul-le-mul_right, div-lt_iff_lt-mul, mul-mod_right}
 use Rattle.std.proofs.lemmas.Nat.{div-mul-add, mod-mul-add}
@@ -9,13 +9,13 @@ pub place_of_byte : (at stride row r i : ℕ) → i < row
     → place_in_rows at stride row (r * row + i) ≡ at + r * stride + i
 place_of_byte at stride row r i low = rw (div-mul-add r row i low, mod-mul-add r row i low)
 
--- and one of the first row
+-- the place of a byte of the first row
 pub place_of_first : (at stride row i : ℕ) → i < row → place_in_rows at stride row i ≡ at + i
 place_of_first at stride row i low =
     ap (λ n. place_in_rows at stride row n) (omega arith)
     ∙ place_of_byte at stride row 0 i low ∙ omega arith
 
--- So many whole rows whose last one ends below a length lie below it.
+-- Whole rows lie below a length if their last row ends below it.
 pub rows_lie_below : (at stride row count len : ℕ) → 1 ≤ row → row ≤ stride → 1 ≤ count
     → at + (count - 1) * stride + row ≤ len → AreRows at stride row (row * count) len
 rows_lie_below at stride row count len some apart one end = record {

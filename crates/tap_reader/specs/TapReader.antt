@@ -4,12 +4,12 @@ use Rattle.tex_world.specs.World.{Files}
 use Rattle.tex_world.specs.Tap.{Named, TapState, ReadCause, IsFault}
 use Rattle.tex_world.specs.declared.fault.ReadError.{ReadError}
 
--- what is known of a handle and of the tap that it is read through
+-- a handle, and the tap that it is read through
 pub record Lent : Type 0 where
   pub handle : Named
   pub tap : TapState
 
--- a handle that names this, and a tap in this state
+-- a handle with these names, and a tap in this state
 abbrev pub lent_of : Named → TapState → Lent
 lent_of handle tap = record { handle = handle; tap = tap }
 
@@ -23,12 +23,12 @@ pub record OnlyReads (old new : Lent) : Type 0 where
   pub lost : old.tap.lost ≤ new.tap.lost
   pub newest : new.tap.newest ≡ old.tap.newest
 
--- after answered reads: no newer generation was met
+-- after reads that succeeded: no newer generation was met
 pub record KeepsTap (old new : Lent) : Type 0 where
   pub reads : OnlyReads old new
   pub moves : new.tap.moves ≡ old.tap.moves
 
--- after a refused read: the refusal has its cause, and the moves rise only with it
+-- after a read that failed: the error has its cause, and the moves rise only with it
 pub record RefusesTap (files : Files) (old new : Lent) (e : ReadError) : Type 0 where
   pub reads : OnlyReads old new
   pub cause : ReadCause files old.handle old.tap new.tap e

@@ -1,11 +1,11 @@
--- Which laws hold of what reads through a tap leave?
+-- Which laws does the state after reads through a tap obey?
 use Rattle.std.specs.Prelude.{◌≡◌, refl}
 use Rattle.std.proofs.Common.{◌∙◌, ap, arith}
 use Rattle.tex_world.specs.World.{Files}
 use Rattle.tex_world.specs.Tap.{Named}
 use Rattle.tap_reader.specs.TapReader.{Lent, OnlyReads, KeepsTap}
 
--- without a read all stays
+-- without a read nothing changes
 pub KeepsTap-itself : (lent : Lent) → KeepsTap lent lent
 KeepsTap-itself lent = record {
   reads = record {
@@ -38,11 +38,11 @@ KeepsTap-chains a b c p q = record {
   moves = q.moves ∙ p.moves;
 }
 
--- a handle that names the same has the same length
+-- handles that name the same have the same length
 pub same_len : (h i : Named) → i ≡ h → i.len ≡ h.len
 same_len h i e = ap (λ (n : Named). n.len) e
 
--- and reads the same bytes
+-- handles that name the same read the same bytes
 pub same_held : (files : Files) (h i : Named) → i ≡ h
     → files.held i.file i.generation ≡ files.held h.file h.generation
 same_held files h i e = ap (λ (n : Named). files.held n.file n.generation) e

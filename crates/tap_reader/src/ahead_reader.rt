@@ -1,3 +1,4 @@
+//! Reads a file through its read-ahead, and through the tap for what is not there.
 ghost use Rattle.std.specs.Prelude.{◌≡◌, ◌≤◌, ℕ, List, refl, length};
 ghost use Rattle.tiff_format.specs.Bytes.{IsPartAt};
 ghost use Rattle.std.proofs.Common.{◌∙◌, sym};
@@ -12,8 +13,8 @@ use crate::rows::Rows;
 use tex_world::{ReadError, Tap, TapHandle};
 use tiff_dirs::ByteReader;
 
-/// A tap, a handle of its, and what was read ahead, lent for the reading of one file. What was read
-/// ahead is read without a call of the tap. What a read refuses is the tap's refusal.
+/// The reader of one file: a tap, a handle and the file's read-ahead, all borrowed. Bytes in the
+/// read-ahead cost no call to the tap. Read errors are those of the tap.
 #[derive(Drop)]
 pub struct AheadReader<'t, 'h, 'a, 'b, T: Tap> {
     pub tap: &'t mut T,
@@ -22,7 +23,7 @@ pub struct AheadReader<'t, 'h, 'a, 'b, T: Tap> {
     pub bands: &'b [Band],
 }
 
-/// The first bytes of rows.
+/// The first `size` bytes of a buffer of rows.
 fn first_of(bytes: &[u8], rows: Rows, size: usize) -> &[u8]
     requires row { size ≤ rows.row }
     requires there { size ≤ length bytes.now }

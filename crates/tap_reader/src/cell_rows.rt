@@ -1,3 +1,4 @@
+//! The bytes of a cell as rows in the file, and how many neighbours to read with it.
 use crate::course::Course;
 use crate::read_ahead::MAX_STRETCH_BYTES;
 use crate::rows::Rows;
@@ -5,27 +6,27 @@ use crate::rows::Rows;
 /// The most cells that are read at once.
 const MAX_CELLS: u64 = 32;
 
-/// How many readings go on from each other before more than one cell is read that is a single row: such
-/// a one costs no more than a read as it is.
+/// A cell that is a single row is read alone until this many reads have followed one another.
+/// Reading ahead saves little in that case.
 const FIRST_READINGS: u64 = 32;
 
-/// The rows of a cell, and how the cells beside it and below it stand in the file.
+/// The rows of a cell, and where the cells to its right and below begin in the file.
 #[derive(Clone, Copy, Debug)]
 pub struct CellRows {
     pub rows: Rows,
-    /// The bytes of a row from the cell's first one to the right edge of its level.
+    /// The bytes of a row, from the cell's left edge to the right edge of the level.
     pub rest: u64,
-    /// The place at which the cells below the cell's row of cells begin.
+    /// Where the next row of cells begins in the file.
     pub below: u64,
 }
 
 impl CellRows {
-    /// The place at which the cell's right neighbour begins.
+    /// Where the cell's right neighbour begins in the file.
     pub(crate) fn next(&self) -> u64 {
         self.rows.at.saturating_add(self.rows.row as u64)
     }
 
-    /// How many cells are read where the readings go on of a course: twice as many as before.
+    /// How many cells to read next in this course: twice as many as before.
     pub(crate) fn cells_after(&self, course: &Course) -> u64 {
         if self.rows.count == 1 && course.reads < FIRST_READINGS {
             return 1;
@@ -33,8 +34,9 @@ impl CellRows {
         course.cells.saturating_mul(2).min(MAX_CELLS).max(1)
     }
 
-    /// The rows of so many cells from this one on, as far as the right edge and no more than are kept
-    /// of one stretch. None where that is a single row of this cell alone: a read of it is as good.
+    /// The rows of `cells` cells from this one on, up to the right edge and to the size of a
+    /// stretch. `None` if that is a single row of this cell alone, which an ordinary read does as
+    /// well.
     pub(crate) fn with(&self, cells: u64) -> Option<Rows> {
         let size = (self.rows.size() as u64).max(1);
         let few = cells.min(MAX_STRETCH_BYTES as u64 / size).max(1);

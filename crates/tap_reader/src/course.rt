@@ -1,23 +1,25 @@
-/// The place of no byte: no reading goes on there.
+//! A course: how reads of neighbouring cells have gone on so far.
+/// A place that no byte has, so no read continues there.
 const NO_PLACE: u64 = u64::MAX;
 
-/// How readings of cells go on that follow each other in a file. No proof rests on it.
+/// How reads of neighbouring cells continue in a file. Only for speed: no proof depends on it.
 #[derive(Clone, Copy, Debug)]
 pub(crate) struct Course {
-    /// The place at which the latest cell's right neighbour begins.
+    /// Where the right neighbour of the last cell begins in the file.
     pub(crate) next: u64,
-    /// The place at which the cells below the latest one's row of cells begin.
+    /// Where the row of cells below the last cell begins in the file.
     pub(crate) below: u64,
     /// How many cells were read at once.
     pub(crate) cells: u64,
-    /// How many readings there were; of a window those that did not find their bytes in it.
+    /// The number of reads so far; for a window, of short reads that did not find their bytes in
+    /// it.
     pub(crate) reads: u64,
-    /// The greatest number among those of the same file was used last.
+    /// When the stretch was used: the greatest number of a file was used last.
     pub(crate) used: u64,
 }
 
 impl Course {
-    /// No reading.
+    /// A course without reads.
     pub(crate) fn none() -> Course {
         Course {
             next: NO_PLACE,

@@ -1,4 +1,4 @@
-//! The bytes of an open file, read through a lent tap and a lent handle.
+//! Reads the bytes of an open file through a borrowed tap and handle, with read-ahead.
 #![tactic(auto)]
 
 mod ahead_reader;

@@ -1,4 +1,5 @@
-//! Which rows are read with those of a cell. No proof rests on it.
+//! Decides which rows are read together with those of a cell. Only for speed: no proof depends on
+//! it.
 ghost use Rattle.std.specs.Prelude.{◌≡◌, ◌<◌, length, IfSome};
 
 use crate::cell_rows::CellRows;
@@ -8,27 +9,26 @@ use crate::rows::Rows;
 use crate::stretch::Stretch;
 use tex_world::World;
 
-/// The most stretches of a file.
+/// The greatest number of stretches per file.
 const MAX_STRETCHES: usize = 8;
 
-/// A stretch of what is read ahead of a file, from which the rows of a cell are cut, and the rows that
-/// are to be read into it first.
+/// A stretch from which the rows of a cell are cut, and the rows to read into it first.
 #[derive(Clone, Copy, Debug)]
 pub struct Band {
     pub slot: usize,
     pub rows: Option<Rows>,
-    /// Where a short read does not find its bytes, a window is read from its place on.
+    /// Whether a short read that misses reads a whole window from its place on.
     pub is_window: bool,
 }
 
-/// The stretch that has the bytes of rows.
+/// The stretch that has all bytes of these rows.
 fn slot_with(stretches: &[Stretch], rows: &Rows) -> Option<usize>
     ensures { IfSome result (λ k. k < length stretches.now) }
 {
     stretches.iter().position(|stretch| stretch.has(rows))
 }
 
-/// The stretch that a reading from this place on goes on from to the right.
+/// The stretch whose last cell has its right neighbour at this place.
 fn slot_left_of(stretches: &[Stretch], at: u64) -> Option<usize>
     ensures { IfSome result (λ k. k < length stretches.now) }
 {
@@ -37,7 +37,7 @@ fn slot_left_of(stretches: &[Stretch], at: u64) -> Option<usize>
         .position(|stretch| stretch.course.next == at)
 }
 
-/// The course that a reading from this place on goes on from below.
+/// The course whose last cell has the row of cells below it at this place.
 fn course_above(stretches: &[Stretch], at: u64) -> Course {
     match stretches.iter().find(|stretch| stretch.course.below == at) {
         Some(stretch) => stretch.course,
@@ -45,7 +45,7 @@ fn course_above(stretches: &[Stretch], at: u64) -> Course {
     }
 }
 
-/// The greatest number of a use.
+/// The number of the latest use.
 fn latest_use(stretches: &[Stretch]) -> u64 {
     let mut latest = 0;
     for stretch in stretches {
@@ -54,7 +54,7 @@ fn latest_use(stretches: &[Stretch]) -> u64 {
     latest
 }
 
-/// The stretch that was used longest ago.
+/// The stretch used longest ago.
 fn oldest(stretches: &[Stretch]) -> Option<usize> {
     let first = stretches.first()?;
     let (mut slot, mut used) = (0, first.course.used);
@@ -67,15 +67,15 @@ fn oldest(stretches: &[Stretch]) -> Option<usize> {
     Some(slot)
 }
 
-/// How many stretches may be kept where each has the rows of at least such a cell.
+/// How many stretches may be kept if each holds at least such a cell.
 fn stretches_for(rows: &Rows) -> usize {
     let size = rows.size().max(MAX_STRETCH_BYTES);
     (MAX_AHEAD_BYTES / size).max(1).min(MAX_STRETCHES)
 }
 
 impl<W: World> ReadAhead<W> {
-    /// A stretch for a reading that begins: a new one as long as there are few and memory is found,
-    /// else the one that was used longest ago.
+    /// A stretch for a new course: a new one while there are fewer than `most` and memory is found,
+    /// otherwise the one used longest ago.
     fn spare(&mut self, most: usize) -> Option<usize>
         ensures { self.new ≡ self.old }
     {
@@ -86,9 +86,9 @@ impl<W: World> ReadAhead<W> {
         oldest(&self.stretches)
     }
 
-    /// Where the rows of a cell are read to that are not there, with how many cells, and how many
-    /// readings there were: twice as many cells as by the reading that the cell goes on from, to the
-    /// right or below, and else it alone.
+    /// The stretch into which missing rows of a cell are read, the number of cells to read, and the
+    /// number of reads so far. It is twice as many cells as before if the cell continues a course
+    /// to the right or below, otherwise the cell alone.
     fn begin(&mut self, cell: &CellRows) -> Option<(usize, u64, u64)>
         ensures { self.new ≡ self.old }
     {
@@ -102,8 +102,8 @@ impl<W: World> ReadAhead<W> {
         Some((slot, cell.cells_after(&course), course.reads))
     }
 
-    /// Remembers that a cell was the latest of a stretch, which so many cells were read into at once,
-    /// behind so many readings.
+    /// Records that this cell was the last one of a stretch, read with `cells` cells at once after
+    /// `reads` reads.
     fn pass(&mut self, slot: usize, cell: &CellRows, cells: u64, reads: u64)
         ensures { self.new ≡ self.old }
     {
@@ -119,8 +119,8 @@ impl<W: World> ReadAhead<W> {
         }
     }
 
-    /// A stretch for windows, from which short reads of bytes that stand close together are cut, as
-    /// those of directories are. Where no memory is found there are no windows.
+    /// A stretch for windows, which serve short reads that lie close together, as those of
+    /// directories. If memory runs out, there are no windows.
     pub fn window(&mut self) -> Band
         ensures { self.new ≡ self.old }
     {
@@ -132,8 +132,8 @@ impl<W: World> ReadAhead<W> {
         }
     }
 
-    /// From which stretch the rows of a cell are to be cut, and what is to be read into it first. None
-    /// where no memory is found.
+    /// The stretch from which the rows of a cell are cut, and what to read into it first. `None` if
+    /// memory runs out.
     pub fn plan(&mut self, cell: &CellRows) -> Option<Band>
         ensures { self.new ≡ self.old }
     {

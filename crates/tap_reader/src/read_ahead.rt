@@ -1,3 +1,4 @@
+//! The read-ahead of a file: bytes that were read before they are needed.
 ghost use Rattle.std.specs.Prelude.{◌≡◌, ◌≤◌, ◌↔◌, ℕ, length, IsTrue, IfSome};
 ghost use Rattle.tex_world.specs.World.{Files};
 ghost use Rattle.tap_reader.specs.ReadAhead.{max_ahead_bytes, bytes_of, IsOf, StandAt, StandAsRows};
@@ -12,15 +13,15 @@ use std::mem;
 use std::sync::Arc;
 use tex_world::World;
 
-/// The most bytes that are kept of those that were read ahead of one file: 4 MiB.
+/// The most bytes of read-ahead that are kept for one file: 4 MiB.
 pub const MAX_AHEAD_BYTES: usize = 4194304;
 
-/// The most bytes that are read into one stretch where cells are read ahead.
+/// The most bytes that are read into one stretch for cells: 512 KiB.
 pub const MAX_STRETCH_BYTES: usize = 524288;
 
-/// Bytes of one generation of a file that were read ahead, in stretches: each of the cells that follow
-/// each other in a row of cells of a plane. Where the world tells they are those of the file. In a clause it is the generation of the
-/// file, and how many bytes there are.
+/// Read-ahead of one generation of a file, in stretches. A stretch has the rows of neighbouring
+/// cells of a row of cells. If the world is modelled, the bytes are those of the file. Clauses see
+/// the file's generation and the number of bytes.
 #[derive(Drop)]
 pub struct ReadAhead<W: World> {
     alloc: Global,
@@ -44,7 +45,7 @@ impl<W: World> Model for ReadAhead<W> {
     ghost invariant = { λ a. AreAhead W.files a.file a.generation a.stretches.items };
 }
 
-/// The stretches have no more bytes than may be kept.
+/// Whether the stretches have no more bytes than may be kept.
 fn are_few(stretches: &[Stretch]) -> bool
     ensures { IsTrue result → bytes_of stretches.now ≤ max_ahead_bytes }
 {
@@ -59,7 +60,7 @@ fn are_few(stretches: &[Stretch]) -> bool
     true
 }
 
-/// Exchanges two lists where the other one is longer.
+/// Exchanges two lists if the other one is longer.
 fn put_longer_first(own: &mut Vec<Stretch>, other: &mut Vec<Stretch>)
     ensures { (files : Files) → (file generation : ℕ)
         → AreStretchesOf files file generation own.old.items
@@ -72,7 +73,7 @@ fn put_longer_first(own: &mut Vec<Stretch>, other: &mut Vec<Stretch>)
     }
 }
 
-/// Exchanges each stretch for the one of the same number that was used later.
+/// Exchanges each stretch for the one with the same index, if that was used later.
 fn take_later(own: &mut Vec<Stretch>, other: &mut Vec<Stretch>)
     ensures { (files : Files) → (file generation : ℕ)
         → AreStretchesOf files file generation own.old.items
@@ -88,7 +89,7 @@ fn take_later(own: &mut Vec<Stretch>, other: &mut Vec<Stretch>)
 }
 
 impl<W: World> ReadAhead<W> {
-    /// Of this generation of a file nothing was read ahead. It takes no memory.
+    /// No read-ahead of this generation of a file. Allocates nothing.
     pub fn none(alloc: Global, file: u32, generation: u32) -> ReadAhead<W>
         ensures of { IsOf file generation result }
         ensures empty { result.count ≡ 0 }
@@ -102,7 +103,7 @@ impl<W: World> ReadAhead<W> {
         }
     }
 
-    /// The same bytes once more, unless no memory is found.
+    /// A second reference to the same bytes. `None` if memory runs out.
     pub fn share(&self) -> Option<ReadAhead<W>>
         ensures { IfSome result (IsOf self.now.file self.now.generation) }
     {
@@ -129,14 +130,14 @@ impl<W: World> ReadAhead<W> {
         self.file
     }
 
-    /// The bytes are those of this generation of this file.
+    /// Whether the bytes are of this generation of this file.
     pub fn is_of(&self, file: u32, generation: u32) -> bool
         ensures { IsTrue result ↔ IsOf file generation self.now }
     {
         self.file == file && self.generation == generation
     }
 
-    /// How many bytes there are.
+    /// The number of bytes.
     pub fn len(&self) -> usize
         ensures value { result ≡ self.now.count }
         ensures few { result ≤ max_ahead_bytes }
@@ -147,13 +148,14 @@ impl<W: World> ReadAhead<W> {
             .sum()
     }
 
-    /// No reading of the file goes on.
+    /// Whether there is no stretch, so that no course continues.
     pub fn is_blank(&self) -> bool {
         self.stretches.is_empty()
     }
 
-    /// Which of two of a file stays, and the other one: the one of the newer generation; of one
-    /// generation this one, with each stretch of the other one that was used later.
+    /// Merges two read-aheads of one file, and returns what stays and what leaves. The newer
+    /// generation stays. If both are of one generation, `self` stays, with those stretches of the
+    /// other that were used later.
     pub fn over(mut self, mut kept: ReadAhead<W>) -> (ReadAhead<W>, ReadAhead<W>) {
         if self.generation < kept.generation {
             return (kept, self);
@@ -164,7 +166,7 @@ impl<W: World> ReadAhead<W> {
         (self, kept)
     }
 
-    /// Takes each stretch of another one that was used later, for its own.
+    /// Takes those stretches of another read-ahead that were used later, in exchange for its own.
     fn gather(&mut self, other: &mut ReadAhead<W>)
         requires { IsOf self.old.file self.old.generation other.old }
         ensures own { IsOf self.old.file self.old.generation self.new }
@@ -178,7 +180,7 @@ impl<W: World> ReadAhead<W> {
         }
     }
 
-    /// So many bytes from a place on, where they are all there in one of the stretches of these bands.
+    /// The `size` bytes at a place, if a stretch of these bands has all of them.
     pub fn part(&self, bands: &[Band], at: u64, size: usize) -> Option<&[u8]>
         ensures long { IfSome result (λ part. length part.now ≡ size) }
         ensures told { IfSome result (λ part.
@@ -194,16 +196,15 @@ impl<W: World> ReadAhead<W> {
         None
     }
 
-    /// Room for so many bytes.
+    /// A buffer of `size` bytes. `None` if out of memory.
     pub fn room(&self, size: usize) -> Option<Vec<u8>>
         ensures { IfSome result (λ room. length room.items ≡ size) }
     {
         vec![in self.alloc; 0u8; size].ok()
     }
 
-    /// These bytes of rows were read into a stretch. They take the place of those that there were;
-    /// where all together are more than may be kept, none is. Where no memory is found it stays as it
-    /// was.
+    /// Puts the bytes of rows into a stretch, in place of those that were there. If the total would
+    /// be too large, no stretch is kept. If memory runs out, nothing changes.
     pub fn put(&mut self, slot: usize, rows: Rows, bytes: Vec<u8>)
         requires { StandAsRows W.files self.old.file self.old.generation rows bytes.items }
         ensures file { self.new.file ≡ self.old.file }

@@ -1,3 +1,4 @@
+//! Reads one file through a tap and a handle, without read-ahead.
 ghost use Rattle.std.specs.Prelude.{◌≡◌, refl};
 ghost use Rattle.std.proofs.Common.{◌∙◌, sym};
 ghost use Rattle.tap_reader.specs.TapReader.{lent_of, KeepsTap, RefusesTap};
@@ -7,8 +8,7 @@ ghost use Rattle.tap_reader.specs.TapReaderLaws.{same_len, same_held};
 use tex_world::{ReadError, Tap, TapHandle};
 use tiff_dirs::ByteReader;
 
-/// A tap and a handle of its, lent for the reading of one file.
-/// What a read refuses is the tap's refusal.
+/// The reader of one file: a borrowed tap and handle. Read errors are those of the tap.
 #[derive(Drop)]
 pub struct TapReader<'t, 'h, T: Tap> {
     pub tap: &'t mut T,

@@ -1,8 +1,9 @@
+//! Rows of bytes in a file, all the same distance apart.
 ghost use Rattle.std.specs.Prelude.{◌≡◌, ◌+◌, ◌-◌, ◌*◌, ◌^◌, ◌<◌, ◌≤◌, ℕ, IsTrue, IfSome};
 ghost use Rattle.tex_world.specs.Tap.{AreRows, place_in_rows};
 
-/// Rows of bytes of a file that do not overlap: `count` of `row` bytes, the first at the place `at`,
-/// each `stride` bytes behind the one before.
+/// Rows of bytes of a file that do not overlap: `count` rows of `row` bytes. The first is at `at`,
+/// and each begins `stride` bytes after the one before.
 #[derive(Clone, Copy, Debug)]
 pub struct Rows {
     pub at: u64,
@@ -14,7 +15,7 @@ pub struct Rows {
     ghost few: { row * count < 2 ^ 64 },
 }
 
-/// So many bytes and so many more behind a place end below a length.
+/// Whether the sum of `at`, `last` and `row` is at most `len`, without overflow.
 fn ends_below(at: u64, last: u64, row: u64, len: u64) -> bool
     ensures { IsTrue result → at + last + row ≤ len }
 {
@@ -22,7 +23,7 @@ fn ends_below(at: u64, last: u64, row: u64, len: u64) -> bool
 }
 
 impl Rows {
-    /// Such rows. None where a row has no byte, where they overlap, and where there are too many.
+    /// Makes such rows. `None` if a row is empty, if rows overlap, or if they are too many.
     pub fn new(at: u64, stride: u64, row: usize, count: usize) -> Option<Rows>
         ensures at { IfSome result (λ rows. rows.at ≡ at) }
         ensures row { IfSome result (λ rows. rows.row ≡ row) }
@@ -38,7 +39,7 @@ impl Rows {
         })
     }
 
-    /// No row.
+    /// No rows.
     pub(crate) fn none() -> Rows {
         Rows {
             at: 0,
@@ -48,14 +49,14 @@ impl Rows {
         }
     }
 
-    /// How many bytes they are.
+    /// The number of bytes in all rows.
     pub fn size(&self) -> usize
         ensures { result ≡ self.now.row * self.now.count }
     {
         self.row * self.count
     }
 
-    /// From the first row to the last one, so many bytes.
+    /// The distance from the first row to the last one, in bytes.
     fn last(&self) -> Option<u64>
         ensures some { IfSome result (λ n. 1 ≤ self.now.count) }
         ensures value { IfSome result (λ n. n ≡ (self.now.count - 1) * self.now.stride) }
@@ -64,7 +65,7 @@ impl Rows {
         before.checked_mul(self.stride)
     }
 
-    /// All of them lie below a length, and there is one.
+    /// Whether there is a row, and all rows lie below a length.
     pub fn lie_below(&self, len: u64) -> bool
         ensures { IsTrue result
             → AreRows self.now.at self.now.stride self.now.row (self.now.row * self.now.count) len }
@@ -75,8 +76,8 @@ impl Rows {
         }
     }
 
-    /// Where among their bytes so many stand that stand side by side from a place of the file on.
-    /// None where these are not of one row.
+    /// The index, among the bytes of the rows, of `size` bytes at a place of the file. `None`
+    /// unless one row has all of them.
     pub(crate) fn index(&self, at: u64, size: usize) -> Option<usize>
         ensures { IfSome result (λ k. (j : ℕ) → j < size
             → place_in_rows self.now.at self.now.stride self.now.row (k + j) ≡ at + j) }
@@ -92,7 +93,7 @@ impl Rows {
         Some(line as usize * self.row + column as usize)
     }
 
-    /// All bytes of rows are among theirs.
+    /// Whether these rows contain all bytes of the others.
     pub(crate) fn have(&self, other: &Rows) -> bool {
         let Some(last) = other.last() else {
             return false;

@@ -1,3 +1,4 @@
+//! A stretch: one piece of a file's read-ahead.
 ghost use Rattle.std.specs.Prelude.{◌≡◌, ℕ, List, [], length, IfOk, IfSome};
 ghost use Rattle.tiff_format.specs.Bytes.{IsPartAt};
 ghost use Rattle.tap_reader.specs.ReadAhead.{held_in, AreRowsOf};
@@ -7,8 +8,8 @@ use crate::rows::Rows;
 use std::alloc::AllocError;
 use std::sync::Arc;
 
-/// Rows of a file, the bytes of which others may share, and how the readings go on that they were read
-/// for. No proof rests on the latter.
+/// Rows of a file, their bytes, which may be shared, and the course that they were read for. The
+/// course is only for speed: no proof depends on it.
 #[derive(Drop)]
 pub(crate) struct Stretch {
     pub(crate) rows: Rows,
@@ -17,7 +18,7 @@ pub(crate) struct Stretch {
 }
 
 impl Stretch {
-    /// No byte, and nowhere to go on.
+    /// No bytes, and no course.
     pub(crate) fn blank() -> Stretch
         ensures { held_in result ≡ [] }
     {
@@ -28,7 +29,7 @@ impl Stretch {
         }
     }
 
-    /// The bytes.
+    /// The bytes of the rows.
     pub(crate) fn bytes(&self) -> &[u8]
         ensures { result.now ≡ held_in self.now }
     {
@@ -38,7 +39,7 @@ impl Stretch {
         }
     }
 
-    /// The same bytes once more.
+    /// A second reference to the same bytes.
     pub(crate) fn share(&self) -> Result<Stretch, AllocError>
         ensures rows { IfOk result (λ s. s.rows ≡ self.now.rows) }
         ensures bytes { IfOk result (λ s. held_in s ≡ held_in self.now) }
@@ -54,12 +55,12 @@ impl Stretch {
         })
     }
 
-    /// The bytes of rows are all there.
+    /// Whether all bytes of these rows are there.
     pub(crate) fn has(&self, rows: &Rows) -> bool {
         self.bytes.is_some() && self.rows.have(rows)
     }
 
-    /// So many bytes from a place on, where they are all there, in one row.
+    /// The `size` bytes at a place, if one row has all of them.
     pub(crate) fn part(&self, at: u64, size: usize) -> Option<&[u8]>
         ensures long { IfSome result (λ part. length part.now ≡ size) }
         ensures told { IfSome result (λ part. (bytes : List ℕ)

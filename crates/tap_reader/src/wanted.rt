@@ -1,4 +1,4 @@
-//! What is to be read into a stretch where bytes are wanted that are not there.
+//! Decides what to read into a stretch when wanted bytes are not there.
 ghost use Rattle.std.specs.Prelude.{◌≡◌, ◌*◌, ◌≤◌, IfSome};
 ghost use Rattle.tex_world.specs.Tap.{AreRows};
 
@@ -7,18 +7,18 @@ use crate::read_ahead::{MAX_AHEAD_BYTES, ReadAhead};
 use crate::rows::Rows;
 use tex_world::World;
 
-/// Rows that are to be read at once into a stretch, the first of which begins with the bytes that are
-/// wanted.
+/// Rows to read at once into a stretch. The first row begins with the wanted bytes.
 #[derive(Clone, Copy, Debug)]
 pub(crate) struct Wanted {
     pub(crate) slot: usize,
     pub(crate) rows: Rows,
-    /// Where their read fails, the bytes that are wanted are read by themselves.
+    /// Whether more than the wanted bytes is read. If that read fails, the wanted bytes are read
+    /// alone.
     pub(crate) is_more: bool,
 }
 
-/// The rows of a band that are to be read where a reading begins with so many bytes from a place on,
-/// where they lie below a length of the file.
+/// The rows of a band that begin with `size` bytes at `at`, if all rows lie below the file's
+/// length.
 fn rows_at(bands: &[Band], at: u64, size: usize, len: u64) -> Option<Wanted>
     ensures at { IfSome result (λ wanted. wanted.rows.at ≡ at) }
     ensures row { IfSome result (λ wanted. size ≤ wanted.rows.row) }
@@ -43,8 +43,7 @@ fn rows_at(bands: &[Band], at: u64, size: usize, len: u64) -> Option<Wanted>
 }
 
 impl<W: World> ReadAhead<W> {
-    /// The rows that are to be read where so many bytes from a place on are wanted that are not there:
-    /// those of a band, or a window.
+    /// The rows to read when `size` bytes at `at` are missing: those of a band, or a window.
     pub(crate) fn wanted(
         &mut self,
         bands: &[Band],

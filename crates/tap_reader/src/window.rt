@@ -1,5 +1,5 @@
-//! Windows: bytes that are read at once for short reads that stand close together, as those of
-//! directories. No proof rests on how many they are.
+//! Windows: larger reads that serve short reads close together, as those of directories. Only for
+//! speed: no proof depends on their size.
 ghost use Rattle.std.specs.Prelude.{◌≡◌, ◌*◌, ◌≤◌, IfSome};
 ghost use Rattle.tex_world.specs.Tap.{AreRows};
 
@@ -10,7 +10,8 @@ use crate::stretch::Stretch;
 use crate::wanted::Wanted;
 use tex_world::World;
 
-/// How many short reads are made one by one before a window is read: those of a file of one directory.
+/// The number of short reads before the first window: a file with one directory needs about that
+/// many.
 const FIRST_READS: u64 = 6;
 
 /// The bytes of the first window.
@@ -20,8 +21,8 @@ const FIRST_BYTES: u64 = 512;
 const MAX_BYTES: u64 = 8192;
 
 impl Stretch {
-    /// The bytes of the window that is read from a place on: twice those of the latest one, where it
-    /// begins no further behind that one than that one is long, and else as many.
+    /// The bytes of the next window: twice as many as those of the last one if it begins soon after
+    /// that one, otherwise as many.
     fn next_window(&self, at: u64) -> u64 {
         let last = self.rows.size() as u64;
         let reach = self.rows.at.saturating_add(last).saturating_add(last);
@@ -36,7 +37,7 @@ impl Stretch {
 }
 
 impl<W: World> ReadAhead<W> {
-    /// Remembers how many short reads did not find their bytes in a window.
+    /// Records how many short reads did not find their bytes in a window.
     fn miss(&mut self, slot: usize, reads: u64)
         ensures { self.new ≡ self.old }
     {
@@ -45,8 +46,8 @@ impl<W: World> ReadAhead<W> {
         }
     }
 
-    /// The bytes of the window that is read for a short read from a place on which its stretch does not
-    /// have: none for the first few reads.
+    /// The bytes of the window for a short read that its stretch does not have. `None` for the
+    /// first few reads.
     fn window_bytes(&mut self, slot: usize, at: u64) -> Option<u64>
         ensures { self.new ≡ self.old }
     {
@@ -59,8 +60,8 @@ impl<W: World> ReadAhead<W> {
         }
     }
 
-    /// The window that is to be read where so many bytes from a place on are wanted that are not there,
-    /// below a length of the file. None where they are many, and for the first few reads.
+    /// The window to read when `size` bytes at `at` are missing, below the file's length. `None` if
+    /// `size` is large, and for the first few reads.
     pub(crate) fn window_at(
         &mut self,
         bands: &[Band],

@@ -8,12 +8,12 @@ use Rattle.texel_filter.specs.Coordinate.{unit}
 use Rattle.tex_aniso.specs.Footprint.{greatest_level, lod_of}
 
 -- a number is below its power
-below_power : (k : ℕ) → k < 2 ^ k
+pub below_power : (k : ℕ) → k < 2 ^ k
 below_power zero = omega arith
 below_power (suc k) = omega (arith, below_power k, pow-suc 2 k)
 
 -- a power is at most a later one
-pow_upto : (i j : ℕ) → i ≤ j → 2 ^ i ≤ 2 ^ j
+pub pow_upto : (i j : ℕ) → i ≤ j → 2 ^ i ≤ 2 ^ j
 pow_upto i j below =
     elim (cases_lt i j) [
       | inl less ↦ (let h = pow_below i j less in omega arith)

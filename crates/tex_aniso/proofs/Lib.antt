@@ -3,3 +3,11 @@ pub mod NumberLemmas
 pub mod PlanLemmas
 pub mod PlaceLemmas
 pub mod MeanLemmas
+pub mod LineLemmas
+pub mod DigitLemmas
+pub mod BellLemmas
+pub mod AxisLemmas
+pub mod WeightLemmas
+pub mod EllipseLemmas
+pub mod BellWeights
+pub mod LineFacts

@@ -7,6 +7,7 @@ use Rattle.texel_filter.specs.declared.request.DerivRequest.{DerivRequest}
 use Rattle.texel_filter.specs.Image.{Sizes, Image, Texel}
 use Rattle.texel_filter.specs.Filter.{trilinear_sum, trilinear_value}
 use Rattle.texel_filter.specs.Visits.{trilinear_visits}
+use Rattle.texel_filter.specs.Fine.{fine_of}
 use Rattle.texel_filter.specs.Calls.{OneRefused}
 use Rattle.texel_filter.proofs.CallLemmas.{refused_before}
 use Rattle.tex_aniso.specs.declared.probe_plan.ProbePlan.{ProbePlan}
@@ -17,13 +18,13 @@ use Rattle.tex_aniso.proofs.PlaceLemmas.{offset_alone}
 
 pub sum_more : (image : Image) (r : DerivRequest) (p : ProbePlan) (c k : ℕ)
     → probes_sum image r p c (k + 1)
-    ≡ probes_sum image r p c k + trilinear_sum image (probe_at r p k) c
+    ≡ probes_sum image r p c k + trilinear_sum image (fine_of (probe_at r p k)) c
 unfolding probes_sum
 sum_more image r p c k = rw add-one refl
 
 pub visits_more : (sizes : Sizes) (r : DerivRequest) (p : ProbePlan) (k : ℕ)
     → probes_visits sizes r p (k + 1)
-    ≡ probes_visits sizes r p k ++ trilinear_visits sizes (probe_at r p k)
+    ≡ probes_visits sizes r p k ++ trilinear_visits sizes (fine_of (probe_at r p k))
 unfolding probes_visits
 visits_more sizes r p k = rw add-one refl
 
@@ -84,13 +85,13 @@ probe_alone r p one =
 
 mean_alone : (image : Image) (r : DerivRequest) (p : ProbePlan) (c : ℕ) → p.n ≡ 1
     → mean_of p.n (probes_sum image r p c p.n)
-    ≡ trilinear_value image (asked_at r r.s r.t p.lod) c
+    ≡ trilinear_value image (fine_of (asked_at r r.s r.t p.lod)) c
 unfolding probes_sum trilinear_value
 mean_alone image r p c one =
     ap (λ n. mean_of n (probes_sum image r p c n)) one
     ∙ rw (probe_alone r p one, zero-add) refl
 
 pub value_alone : (image : Image) (r : DerivRequest) (c : ℕ) → (plan_on image.sizes r).n ≡ 1
-    → derivs_value image r c ≡ trilinear_value image (middle_of image.sizes r) c
+    → derivs_value image r c ≡ trilinear_value image (fine_of (middle_of image.sizes r)) c
 unfolding derivs_value
 value_alone image r c one = mean_alone image r (plan_on image.sizes r) c one

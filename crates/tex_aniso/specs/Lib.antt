@@ -2,3 +2,11 @@ pub mod Footprint
 pub mod Probe
 pub mod Mean
 pub mod Sums
+pub mod Line
+pub mod Digits
+pub mod Shape
+pub mod ShapeSteps
+pub mod Bell
+pub mod Axis
+pub mod Ellipse
+pub mod Sides

@@ -6,6 +6,7 @@ use Rattle.texel_filter.specs.declared.request.TexRequest.{TexRequest}
 use Rattle.texel_filter.specs.Image.{Sizes, Image, Texel}
 use Rattle.texel_filter.specs.Filter.{trilinear_sum}
 use Rattle.texel_filter.specs.Visits.{trilinear_visits}
+use Rattle.texel_filter.specs.Fine.{fine_of}
 use Rattle.tex_aniso.specs.declared.probe_plan.ProbePlan.{ProbePlan}
 use Rattle.tex_aniso.specs.Probe.{plan_of, probe_at, asked_at}
 
@@ -19,7 +20,7 @@ plan_on sizes r = plan_of r (sizes.width 0) (sizes.height 0)
 unfoldable pub probes_sum : Image → DerivRequest → ProbePlan → ℕ → ℕ → ℕ
 probes_sum image r p c zero = 0
 probes_sum image r p c (suc k) =
-    probes_sum image r p c k + trilinear_sum image (probe_at r p k) c
+    probes_sum image r p c k + trilinear_sum image (fine_of (probe_at r p k)) c
 
 -- the mean of n sums as a value, rounded once, to the nearest, a half up
 abbrev pub mean_of : ℕ → ℕ → ℕ
@@ -40,7 +41,7 @@ middle_of sizes r = asked_at r r.s r.t ((plan_on sizes r).lod)
 unfoldable pub probes_visits : Sizes → DerivRequest → ProbePlan → ℕ → List Texel
 probes_visits sizes r p zero = []
 probes_visits sizes r p (suc k) =
-    probes_visits sizes r p k ++ trilinear_visits sizes (probe_at r p k)
+    probes_visits sizes r p k ++ trilinear_visits sizes (fine_of (probe_at r p k))
 
 -- those of the lookup
 unfoldable pub derivs_visits : Sizes → DerivRequest → List Texel

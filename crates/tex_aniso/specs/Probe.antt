@@ -23,7 +23,7 @@ plan_of r w h = record {
   dt = major_dt r w h;
 }
 
--- what holds of each such plan
+-- what is true of every such plan
 pub record IsPlan (p : ProbePlan) : Type 0 where
   pub some : 1 ≤ p.n
   pub few : p.n ≤ max_probes

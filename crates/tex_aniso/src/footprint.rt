@@ -1,3 +1,4 @@
+//! How many probes lie along the longer pixel step of a footprint, and at which LOD.
 ghost use Rattle.std.specs.Prelude.{◌≡◌, ◌^◌, ◌≤◌};
 ghost use Rattle.texel_filter.specs.Image.{IsSide};
 ghost use Rattle.texel_filter.specs.Coordinate.{unit};
@@ -78,10 +79,10 @@ fn probe_length(major: u64, n: u32) -> u64
     major.div_ceil(u64::from(n)).max(UNIT)
 }
 
-// Its LOD.
-fn lod_of(length: u64) -> u32
+/// The LOD of a length.
+pub(crate) fn lod_of(length: u64) -> u32
     requires low { unit ≤ length }
-    requires high { length ≤ 2 ^ 47 }
+    requires high { length ≤ 2 ^ 51 }
     ensures { result ≡ lod_of length }
 {
     let level = (length / UNIT).ilog2();

@@ -1,3 +1,4 @@
+//! Where each probe along the longer pixel step lies.
 ghost use Rattle.std.specs.Prelude.{◌≡◌, ◌*◌, ◌^◌, ◌<◌, ◌≤◌, pos, neg_ℤ, ◌≤ℤ◌};
 ghost use Rattle.texel_filter.specs.Coordinate.{rounded_down};
 ghost use Rattle.texel_filter.specs.Deriv.{IsDerivNumber, IsDerivRequest};

@@ -1,3 +1,4 @@
+//! The probes along the longer pixel step of a footprint.
 /// What is made of a lookup along a footprint on an image.
 #[derive(Clone, Copy, Debug, PartialEq, Eq)]
 pub struct ProbePlan {

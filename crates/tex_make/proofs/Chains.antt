@@ -60,7 +60,7 @@ module _ (file : Kept) (levels : List PlainLevel) (next : PlainLevel) where
       ap (level_at (levels ++ next ∷ [])) (sym same)
       ∙ get_or-append-add levels (next ∷ []) 0 no_level
 
-  -- what is so of each of the old levels and of the next is so of each
+  -- a fact of each old level and of the next is a fact of each level
   each_more : (P : ℕ → PlainLevel → Type 0)
       → ((l : ℕ) → l < length levels → P l (level_at levels l)) → P (length levels) next
       → (l : ℕ) → l < length (levels ++ next ∷ []) → P l (level_at (levels ++ next ∷ []) l)
@@ -130,7 +130,7 @@ module _ (file : Kept) (l : ℕ) (behind : stored_count file ≤ suc l) (last ha
           ap (λ (v : ℕ). average v b d e) one ∙ ap (λ (v : ℕ). average p v d e) two
           ∙ ap (λ (v : ℕ). average p q v e) three ∙ ap (λ (v : ℕ). average p q r v) last
 
--- ---- the first level, and where there is more than one texel
+-- ---- the first level, and the case of more than one texel
 
 pub first_are : (file : Kept) (first : PlainLevel) → HasShape file 0 first
     → AreLevelsOf file (first ∷ [])

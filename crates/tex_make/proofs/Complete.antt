@@ -1,4 +1,4 @@
--- Where nothing failed and the file is one of which a texture is made, it was made.
+-- If nothing failed and the file can be made into a texture, it was.
 use Rattle.std.proofs.Common.{◌≡◌, ℕ, List, IsSome, Option, Some, None}
 use Rattle.std.proofs.Common.{refl, sym, ◌∙◌, subst, arith}
 use Rattle.std.specs.Option.{ForSome}
@@ -38,7 +38,7 @@ module _ (files : Files) (world : IsWorld files) (asked : Wanted) (folder : Fold
       world.distinct source.tells reads.file source.file (omega (arith, low, size)) source.there
       (lawful.named source.tells asked.name reads.file reads.named ∙ sym source.named)
 
-  -- so what was read of it is not what no source is
+  -- what was read of the file excludes the other cases
   no_other : (fact : List ℕ → Type 0) → ((bytes : List ℕ) → IsSource bytes → fact bytes → ⊥)
       → Reads files asked folder fact → ⊥
   no_other fact never reads =
@@ -51,7 +51,7 @@ module _ (files : Files) (world : IsWorld files) (asked : Wanted) (folder : Fold
       with_bytes None some told good = absurd (cc some)
       with_bytes (Some bytes) some told good = never bytes (good bytes refl) (told bytes refl)
 
--- an ending is want of memory
+-- the ending is out of memory
 pub ending_is : (files : Files) → IsWorld files → (asked : Wanted) (old new : Around)
     → IsFolder files new.folder → HasSource files asked → IsCalm old new → (ending : Ending)
     → HasCause files asked old.folder new.folder ending → status_of ending ≡ 6

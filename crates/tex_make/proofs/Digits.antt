@@ -1,4 +1,4 @@
--- So many decimal digits spell a number of 64 bits.
+-- A number of 10 decimal digits fits 64 bits.
 use Rattle.std.proofs.Common.{ℕ, ◌+◌, ◌*◌, ◌^◌, ◌<◌, ◌≤◌, arith}
 use Rattle.std.proofs.lemmas.Grind.{pow_more}
 use Rattle.std.proofs.Math.Nat.{pow-le-pow_right}

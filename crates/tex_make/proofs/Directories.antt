@@ -1,4 +1,4 @@
--- Where the directories and the tiles of a texture stand: each behind the one before.
+-- Where the directories and the tiles of a texture are: each after the one before.
 use Rattle.std.proofs.Common.{◌≡◌, ℕ, zero, suc, ◌+◌, ◌-◌, ◌*◌, ◌^◌, ◌<◌, ◌≤◌, refl, ap, arith}
 use Rattle.std.proofs.Common.{add-one}
 use Rattle.tex_make.specs.Field.{directory_size}
@@ -43,7 +43,7 @@ module _ (p : Picture) (side : ℕ) where
   unfolding tiles_at
   tiles_rise l = omega arith
 
-  -- none stands behind the end
+  -- no tiles lie past the end
   pub tiles_below : (l : ℕ) → l ≤ p.levels → tiles_at p side l ≤ texture_size p side
   tiles_below l low =
       let all : l + (p.levels - l) ≡ p.levels = omega arith in
@@ -60,6 +60,6 @@ module _ (p : Picture) (side : ℕ) where
     pub directory_ends : directory_at p side l + directory_size (fields_of p side l 0) < 2 ^ 32
     directory_ends = omega (arith, short, next_directory l, directory_below (l + 1) (omega arith))
 
-    -- and so do the tiles of a level
+    -- the tiles of a level end below 2^32
     pub tiles_end : tiles_at p side l + tile_count p side l * tile_size p side < 2 ^ 32
     tiles_end = omega (arith, short, next_tiles l, tiles_below (l + 1) (omega arith))

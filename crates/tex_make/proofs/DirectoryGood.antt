@@ -38,8 +38,8 @@ use Rattle.tex_make.proofs.ReadBack.{little, values_of}
 abbrev pub tiled_shape : ℕ → ℕ → ℕ → ℕ → ℕ → ℕ → LevelShape
 tiled_shape w h n d colour side = shape_of w h n 1 d false (colour == 2) (Some (side, side)) all_rows
 
--- What is read of the directory at a place: a level of w by h texels of n samples of d bits, in tiles of
--- so many texels aside at these places.
+-- What is read of the directory at a place: a level of w by h texels, n samples of d bits, in
+-- square tiles at these places.
 pub record IsTiled (bytes : List ℕ) (at w h n d colour side : ℕ) (offsets : List ℕ) : Type 0 where
   pub inside : lies_inside little bytes at ≡ true
   pub shaped : (tag : ℕ) → is_misshapen little bytes at tag ≡ false

@@ -1,5 +1,4 @@
--- The fields of a directory fit their bytes, and how many bytes they take does not rest on where the
--- tiles stand.
+-- The fields of a directory fit their bytes, and their size does not depend on where the tiles are.
 use Rattle.std.proofs.Common.{◌≡◌, ℕ, zero, suc, ◌+◌, ◌*◌, ◌^◌, ◌<◌, ◌≤◌, []}
 use Rattle.std.proofs.Common.{length, refl, arith, Bool, true, false}
 use Rattle.std.specs.Prelude.{◌==◌, if◌then◌else◌}
@@ -143,12 +142,12 @@ module _ (p : Picture) (is : IsPicture p) (side l : ℕ) (side_is : IsMadeSide s
         ),
       )
 
-  -- they are few
+  -- a directory has at most 13 fields
   pub fields_few : (first : ℕ) → length (fields_of p side l first) ≤ 13
   unfolding fields_of
   fields_few first = let few = few_extra (extra_samples p) in omega (arith, few)
 
-  -- where the tiles stand does not change their bytes
+  -- the place of the tiles does not change the size of the fields
   pub size_same : (first : ℕ)
       → directory_size (fields_of p side l first) ≡ directory_size (fields_of p side l 0)
   unfolding fields_of

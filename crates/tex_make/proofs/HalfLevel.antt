@@ -27,7 +27,7 @@ clamped_in side place some = omega arith
 average_low : (a b c d m : ℕ) → a ≤ m → b ≤ m → c ≤ m → d ≤ m → average a b c d ≤ m
 average_low a b c d m la lb lc ld = omega arith
 
--- the same of four texels
+-- the average of four samples is in range, if they are
 pub quarter_low : (w h : ℕ) (sample : ℕ → ℕ → ℕ) (m i j : ℕ) → 1 ≤ w → 1 ≤ h
     → ((i j : ℕ) → i < w → j < h → sample i j ≤ m) → quarter sample w h i j ≤ m
 quarter_low w h sample m i j wide high low =
@@ -52,7 +52,7 @@ place_below w h n i j c across down channel =
     let texel : j * w + i < w * h = mul-add-lt j w i h down across in
     omega (arith, mul-add-lt (j * w + i) n c (w * h) texel channel)
 
--- what is so of each of them by its place is so of all
+-- a fact of each sample, given by its place, is a fact of all
 pub all_samples : (P : ℕ → Type 0) (w h n : ℕ) (samples : List ℕ) → length samples ≡ w * h * n
     → ((i j c : ℕ) → i < w → j < h → c < n → P (slice_index samples ((j * w + i) * n + c)))
     → (k : ℕ) → k < length samples → P (slice_index samples k)
@@ -96,7 +96,7 @@ module _ (level : PlainLevel) (is : IsPlainLevel level) where
         place_below level.width level.height level.channels x y c across down channel,
       )) is.low
 
-  -- nor of those of the level that is half of it
+  -- the samples of the next smaller level are in range
   module _ (out : List ℕ)
       (long : length out ≡ halved level.width * halved level.height * level.channels)
       (rows : AreHalfRows level (halved level.height) out) where
@@ -110,7 +110,7 @@ module _ (level : PlainLevel) (is : IsPlainLevel level) where
         (greatest_sample level.depth) i j is.wide.low is.high.low
         (λ x y right bottom. sample_low x y c right bottom channel))))
 
-    -- and so it is one
+    -- half of a level is a level
     pub half_is : IsPlainLevel (plain_level (halved level.width) (halved level.height)
         level.channels level.depth out)
     half_is = record {

@@ -1,4 +1,4 @@
--- Pieces one behind another.
+-- Pieces joined one after another.
 use Rattle.std.proofs.Common.{◌≡◌, ℕ, zero, suc, ◌+◌, ◌-◌, ◌≤◌, ◌<◌, List, ◌++◌}
 use Rattle.std.proofs.Common.{Option, Result, IsErr, sym, subst, arith, add-one}
 use Rattle.tex_world.specs.Stream.{Appends, AppendsPart}

@@ -1,4 +1,4 @@
--- What was made of a picture that was read.
+-- What was made from an image that was read.
 use Rattle.std.proofs.Common.{◌≡◌, ℕ, ◌<◌, ◌≤◌, List, IsTrue, sym, ap, ◌∙◌, subst, inl, inr, arith}
 use Rattle.tex_world.specs.World.{Files}
 use Rattle.tex_world.specs.Stream.{Appends, AppendsPart}
@@ -18,7 +18,7 @@ use Rattle.tex_make.proofs.Alike.{texture_alike}
 use Rattle.tex_make.proofs.Sizes.{short_texture}
 use Rattle.tex_make.proofs.TextureGood.{texture_is as good_texture}
 
--- a texture of a picture is one of a picture that is like it
+-- a texture of an image is one of every equal image
 of_alike : (p q : Picture) (texture : List ℕ) → AreAlike p q → IsTextureOf p texture
     → IsTextureOf q texture
 of_alike p q texture same is = record {
@@ -38,7 +38,7 @@ of_alike p q texture same is = record {
       is.samples l x y c low right under own ∙ same.samples l x y c low right under own;
 }
 
--- what is so of bytes that were read, by what is so of them
+-- a fact of the bytes that were read, from another fact
 reads_so : (files : Files) (asked : Wanted) (old new : Around) (P Q : List ℕ → Type 0)
     → ((bytes : List ℕ) → P bytes → Q bytes) → Reads files asked new.folder P
     → Reads files asked new.folder Q
@@ -58,7 +58,7 @@ module _ (picture : Pyramid) (bytes : List ℕ) (side : ℕ) (is : IsPictureOf b
   texture_is : texture_of (seen picture) side ≡ made_of bytes side
   texture_is = texture_alike (seen picture) (picture_of bytes) is.alike picture.known.channels.low side
 
-  -- and it is good, and stores its levels
+  -- the texture is valid, and stores its levels
   texture_good : IsMadeSide side → samples_of (seen picture) ≤ max_samples
       → IsTextureOf (picture_of bytes) (made_of bytes side)
   texture_good made small =

@@ -1,4 +1,4 @@
--- What stands at a place of the bytes of a file, part by part.
+-- What is at a place of the bytes of a file, part by part.
 use Rattle.std.proofs.Common.{◌≡◌, ℕ, zero, suc, ◌+◌, ◌*◌, ◌^◌, ◌<◌, ◌≤◌, List, ◌++◌, length, false}
 use Rattle.std.proofs.Common.{slice_index, refl, sym, ap, ◌∙◌, subst, arith, inl, inr}
 use Rattle.std.specs.Int.{w16, w32, to_le_bytes}
@@ -8,7 +8,7 @@ use Rattle.tiff_format.specs.Bytes.{number_at, IsPartAt}
 use Rattle.tiff_format.proofs.BytesOfParts.{number_of_part}
 use Rattle.tex_make.specs.Joined.{joined}
 
--- the part stands there
+-- the bytes at a place are this part
 pub record Holds (bytes : List ℕ) (at : ℕ) (part : List ℕ) : Type 0 where
   pub each : IsPartAt bytes at part
   pub ends : at + length part ≤ length bytes

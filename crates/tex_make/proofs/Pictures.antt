@@ -1,4 +1,4 @@
--- The picture of the levels of a file.
+-- The image made of the levels of a file.
 use Rattle.std.specs.Prelude.{◌==◌, ◌&&◌}
 use Rattle.std.proofs.Common.{◌≡◌, ℕ, zero, suc, ◌+◌, ◌-◌, ◌*◌, ◌^◌, ◌<◌, ◌≤◌, Bool, true, false, List}
 use Rattle.std.proofs.Common.{length, find, Option, Some, refl, sym, ap, ◌∙◌, subst, arith, inl, inr, add-one}
@@ -82,7 +82,7 @@ module _ (file : Kept) (chain : IsChain file.levels) (levels : List PlainLevel)
   single : (width_in file last ≡ 1) × (height_in file last ≡ 1)
   single = (sym (shape last below_last).width ∙ ends.width, sym (shape last below_last).height ∙ ends.height)
 
-  -- they are those down to one texel
+  -- the levels are those down to one texel
   pub down_is : levels_down file ≡ length levels
   unfolding levels_down
   down_is =
@@ -116,7 +116,7 @@ module _ (file : Kept) (chain : IsChain file.levels) (levels : List PlainLevel)
           by_sides (suc (suc w)) h more = and_left (suc (suc w) == 1) (h == 1)
               (ne_eqb (suc (suc w)) 1 (λ e. omega (arith, e)))
 
-  -- ---- the picture
+  -- ---- the image
 
   pub are_levels : AreLevels levels
   are_levels = record {
@@ -159,7 +159,7 @@ module _ (file : Kept) (chain : IsChain file.levels) (levels : List PlainLevel)
           ap (λ (w : ℕ). w * height_in file l) (sym (shape l below).width)
           ∙ ap (λ (h : ℕ). (level_at levels l).width * h) (sym (shape l below).height)
 
--- ---- the picture of bytes
+-- ---- the image in a file's bytes
 
 pub alike_bytes : (bytes : List ℕ) (levels : List PlainLevel) → IsChain (kept_of bytes).levels
     → AreLevelsOf (kept_of bytes) levels → (last : ℕ) → EndsSingle levels last

@@ -1,11 +1,11 @@
--- Where do the rows of a level stand among its samples?
+-- Where are the rows of a level among its samples?
 use Rattle.std.proofs.Common.{◌≡◌, ℕ, ◌+◌, ◌-◌, ◌*◌, ◌<◌, ◌≤◌, List, ◌++◌, length, slice_index}
 use Rattle.std.proofs.Common.{take, drop, ap, sym, ◌∙◌, arith}
 use Rattle.std.proofs.Math.Nat.{mul-le-mul_right}
 use Rattle.std.proofs.lemmas.List.{get_or_append_left, get_or-append-add, get_or-take, get_or-drop}
 use Rattle.std.proofs.lemmas.Nat.{mul-add-lt}
 
--- k texels of row y from column x on stand within the h rows
+-- k texels of row y from column x on lie within the h rows
 pub row_inside : (x y k w h n : ℕ) → y < h → x + k ≤ w → (y * w + x) * n + k * n ≤ w * h * n
 row_inside x y k w h n row fits =
     let rows : (y + 1) * w ≤ h * w = mul-le-mul_right w (omega arith) in
@@ -24,7 +24,7 @@ row_sample_is samples x y w n c across channel =
     ∙ get_or-drop (y * (w * n)) samples (x * n + c) 0
     ∙ ap (slice_index samples) at
 
--- what stands in the middle of a list
+-- an element in the middle of a list
 pub in_middle : (a b c : List ℕ) (start k : ℕ) → length a ≡ start → k < length b
     → slice_index (a ++ (b ++ c)) (start + k) ≡ slice_index b k
 in_middle a b c start k is below =

@@ -22,20 +22,20 @@ use Rattle.tex_make.specs.Field.{outside_bytes, all_outside, entries_of, IsField
 use Rattle.tex_make.proofs.Parts.{Holds, holds_left, holds_right, holds_equal, length_joined}
 use Rattle.tex_make.proofs.Parts.{two_bytes, four_bytes}
 
--- numbers stand lowest byte first, and offsets are not wide
+-- numbers have their lowest byte first, and the file is not BigTIFF
 abbrev pub little : Form
 little = record { big = false; wide = false }
 
 -- ---- a field
 
--- its numbers fit their bytes, its tag is one, and it has values
+-- the field's numbers fit their bytes, its tag is a tag, and it has values
 pub record IsWritten (f : Field) : Type 0 where
   pub is : IsField f
   pub tag : f.tag < 2 ^ 16
   pub some : 1 ≤ f.count
   pub few : f.count < 2 ^ 32
 
--- its values
+-- the values of a field
 abbrev pub values_of : Field → List ℕ
 values_of f = map (number_in f) (range_with_len 0 f.count)
 
@@ -197,7 +197,7 @@ abbrev pub AreWritten : List Field → Type 0
 AreWritten [] = ⊤
 AreWritten (f ∷ fs) = IsWritten f × AreWritten fs
 
--- the place is that of the entry of the field, or there is none of both
+-- the place is that of the field's entry, or neither exists
 abbrev pub Located : List ℕ → Option Field → Option ℕ → Type 0
 Located bytes None None = ⊤
 Located bytes None (Some place) = ⊥

@@ -65,7 +65,7 @@ pub puts_ok : {E : Type 0} (bytes : List ℕ) (s u : SinkState) → Appends byte
 puts_ok bytes s u written later =
     record { ok = written; part = tt; faults = later; cause = tt }
 
--- a call behind bytes that were written
+-- a call after bytes were written
 pub puts_then : {E : Type 0} (a b : List ℕ) (s t u : SinkState) (r : Result (Unit {0}) E)
     → Appends a s.holds t.holds → s.faults ≤ t.faults → Puts b t u r → Puts (a ++ b) s u r
 puts_then a b s t u (Ok x) first later puts = record {

@@ -15,7 +15,7 @@ use Rattle.tex_make.specs.Texture.{extra_field, directory_at, tiles_at, equal, p
 use Rattle.tex_make.proofs.Fields.{fields_few, sample_low}
 use Rattle.tex_make.proofs.Directories.{first_directory, first_tiles, next_directory, next_tiles}
 
--- ---- bounds on a level and those behind it
+-- ---- bounds on a level and the levels after it
 
 -- pieces of a side, each as long as a tile may be, are no longer than the side and a tile
 covered : (n side : ℕ) → IsMadeSide side → pieces_over n side * side ≤ n + 256
@@ -27,7 +27,7 @@ covered n side is =
 room : ℕ → ℕ → ℕ
 room w h = (w + 256) * (h + 256)
 
--- and those of a level and the n - 1 behind it than this
+-- a bound for a level and the n - 1 after it
 left_for : ℕ → ℕ → ℕ → ℕ
 left_for w h n = 2 * (w * h) + 512 * (w + h) + n * 66048
 
@@ -46,7 +46,7 @@ halves (suc zero) (suc zero) wide high more = absurd (omega (arith, more))
 halves zero h wide high more = absurd (omega (arith, wide))
 halves w zero wide high more = absurd (omega (arith, high))
 
--- so a level and those behind it stay within the bound
+-- a level and those after it stay within the bound
 step : (w h n : ℕ) → 1 ≤ w → 1 ≤ h → 2 ≤ w * h
     → room w h + left_for (halved w) (halved h) n ≤ left_for w h (n + 1)
 unfolding room left_for
@@ -66,10 +66,10 @@ more_left : (w h n m : ℕ) → n ≡ m → left_for w h n ≤ left_for w h m
 unfolding left_for
 more_left w h n m same = omega (arith, same)
 
--- ---- the levels of a picture
+-- ---- the levels of an image
 
 module _ (p : Picture) (is : IsPicture p) where
-  -- the same of the first levels
+  -- a bound for the first levels
   rooms : ℕ → ℕ
   rooms zero = 0
   rooms (suc l) = rooms l + room (p.width l) (p.height l)
@@ -220,7 +220,7 @@ module _ (p : Picture) (is : IsPicture p) where
             ≡ 2 * (m * a) + 512 * (m * b) + 66048 * (m * n)
         parts m a b n = omega arith
 
-    -- so a texture is short
+    -- a texture of an image with few enough samples is short
     pub short_texture : samples_of p ≤ max_samples → IsShort p side
     short_texture small =
         let some = is.some in

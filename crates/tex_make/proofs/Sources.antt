@@ -37,7 +37,7 @@ holds_good bytes file is good = λ l low.
     subst (λ (k : Kept). HoldsBlocks bytes (level_in k l)) (sym is)
     (holds_level bytes l good (subst (λ (k : Kept). l < stored_count k) is low))
 
--- no more than so many, where a test of more says no
+-- a number is not greater than a limit, if the test for greater is false
 pub no_more : (b : Bool) (m n : ℕ) → (m < n → IsTrue b) → b ≡ false → n ≤ m
 no_more b m n test fails = elim (cases_lt m n) [
   | inl more ↦ absurd (let yes = test more in cc)

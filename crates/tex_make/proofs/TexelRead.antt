@@ -48,7 +48,7 @@ byte_of f s q b low =
     let whole : (q * s + b) / s ≡ q = mul-add-div_right some q b ∙ omega (arith, none) in
     ap (λ (k : ℕ). byte_at k (f ((q * s + b) / s))) rest ∙ ap (λ (k : ℕ). byte_at b (f k)) whole
 
--- the number that value q is, where each of its bytes stands there
+-- the number of value q, if each of its bytes is at its place
 value_by : (b : Bool) (d : ℕ) → (d == 8) ≡ b → IsDepth d → (bytes : List ℕ) (f : ℕ → ℕ) (at q : ℕ)
     → ((k : ℕ) → k < (if b then 1 else 2) → slice_index bytes (at + (q * (if b then 1 else 2) + k))
     ≡ byte_at ((q * (if b then 1 else 2) + k) % (if b then 1 else 2))

@@ -1,4 +1,4 @@
--- The texture of a picture shows no fault, and stores each of its levels.
+-- The texture of an image is valid, and stores each of its levels.
 use Rattle.std.specs.Prelude.{◌==◌, ◌&&◌, not, if◌then◌else◌, is_none, find}
 use Rattle.std.proofs.Common.{◌≡◌, ℕ, zero, suc, ◌+◌, ◌-◌, ◌*◌, ◌<◌, ◌≤◌, Bool, true, false, List}
 use Rattle.std.proofs.Common.{[], ◌∷◌, length, map, slice_index, Option, Some, None, refl, sym, ap, ◌∙◌, arith}
@@ -302,7 +302,7 @@ module _ (p : Picture) (is : IsPicture p) (side : ℕ) (made : IsMadeSide side) 
         ∙ ap (λ (f : Option TiffFault). first_of (f ∷ data_faults bytes ∷ [])) (good_read 0 first)
         ∙ ap (λ (f : Option TiffFault). first_of (f ∷ [])) all_data
 
-    -- ---- its levels are those of the picture
+    -- ---- the texture's levels are those of the image
 
     stored_kept : stored_count (kept_of bytes) ≡ p.levels
     stored_kept = stored_told bytes ∙ all_stored

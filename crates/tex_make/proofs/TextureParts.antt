@@ -1,4 +1,4 @@
--- Where the parts of a texture stand in its bytes, and what is read of its directories.
+-- Where the parts of a texture are in its bytes, and what is read of its directories.
 use Rattle.std.specs.Prelude.{◌==◌, nat_lt, is_some, if◌then◌else◌}
 use Rattle.std.proofs.Common.{◌≡◌, ◌⊎◌, ℕ, zero, suc, ◌+◌, ◌-◌, ◌*◌, ◌^◌, ◌<◌, ◌≤◌, Bool, true, false, List}
 use Rattle.std.proofs.Common.{[], ◌∷◌, ◌++◌, length, slice_index, Option, Some, None, refl, sym, ap, ◌∙◌, subst, arith}
@@ -42,7 +42,7 @@ use Rattle.tex_make.proofs.ReadBack.{outside_long}
 
 -- ---- fields
 
--- their tags are numbers of two bytes, and each has values
+-- the fields' tags are two-byte numbers, and each field has values
 abbrev AreMarked : List Field → Type 0
 AreMarked [] = ⊤
 AreMarked (f ∷ fs) = ((f.tag < 2 ^ 16) × (1 ≤ f.count) × (f.count < 2 ^ 32)) × AreMarked fs

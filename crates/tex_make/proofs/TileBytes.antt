@@ -37,15 +37,15 @@ module _ (p : Picture) (l x y c : ℕ) where
 
 -- ---- a row of a tile
 
--- The samples of the texels of row y of a level from column x on, at most `side` of them, none where
--- there is no such row.
+-- The samples of row y of a level from column x on, at most `side` texels; none if the row does not
+-- exist.
 pub record IsPart (level : PlainLevel) (x y side : ℕ) (samples : List ℕ) : Type 0 where
   pub long : y < level.height → length samples ≡ min side (level.width - x) * level.channels
   pub each : y < level.height → (k : ℕ) → k < length samples
       → slice_index samples k ≡ slice_index level.samples (place_in level x y 0 + k)
   pub none : level.height ≤ y → samples ≡ []
 
--- level l of a picture is this one
+-- this is level l of an image
 pub record IsLevelOf (p : Picture) (l : ℕ) (level : PlainLevel) : Type 0 where
   pub width : p.width l ≡ level.width
   pub height : p.height l ≡ level.height

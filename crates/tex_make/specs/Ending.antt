@@ -1,4 +1,4 @@
--- Which status has an ending?
+-- Which exit status does each ending have?
 use Rattle.std.specs.Prelude.{ℕ}
 use Rattle.tex_make.specs.declared.ending.Ending.{Ending}
 use Rattle.tex_make.specs.declared.ending.Ending.TheVariants.{Failed, NoMemory, NoSuchFile}

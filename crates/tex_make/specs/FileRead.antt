@@ -1,4 +1,4 @@
--- What does reading a file through a tap say of it, and what does it leave of the tap?
+-- What does reading a file through a tap say about it, and what does it leave of the tap?
 use Rattle.std.specs.Prelude.{ℕ, ◌≤◌, List, Result, Ok, Err, ⊤}
 use Rattle.std.specs.Option.{ForSome}
 use Rattle.tex_world.specs.Counts.{Rises}
@@ -10,13 +10,13 @@ use Rattle.tex_make.specs.declared.ending.Ending.TheVariants.{BadFile, TooLarge,
 use Rattle.tex_make.specs.declared.picture.Pyramid.{Pyramid}
 use Rattle.tex_make.specs.Reading.{IsLargeSource, IsBadSource, IsPictureOf}
 
--- a real generation of the file was read, and where the world tells its bytes, they are so
+-- an existing generation of the file was read, and in a modelled world the fact holds of its bytes
 pub record IsReadOf (files : Files) (file : ℕ) (fact : List ℕ → Type 0) : Type 0 where
   pub generation : ℕ
   pub real : IsReal files file generation
   pub told : ForSome (files.held file generation) fact
 
--- a picture is that of the file, or there is a cause for none
+-- the image is that of the file, or the ending has its cause
 abbrev pub ReadsFile : Files → ℕ → TapState → TapState → Result Pyramid Ending → Type 0
 ReadsFile files file old new (Ok pyramid) = IsReadOf files file (λ bytes. IsPictureOf bytes pyramid)
 ReadsFile files file old new (Err Failed) = Rises old.faults new.faults
@@ -27,7 +27,7 @@ ReadsFile files file old new (Err Gone) = Rises old.moves new.moves
 ReadsFile files file old new (Err NoSuchFile) = ⊥
 ReadsFile files file old new (Err TooMany) = ⊥
 
--- none of its counts that a folder takes over has fallen
+-- no count of the tap that a folder takes over has fallen
 pub record LeavesTap (old new : TapState) : Type 0 where
   pub faults : old.faults ≤ new.faults
   pub moves : old.moves ≤ new.moves

@@ -1,7 +1,7 @@
--- Which list are pieces, one behind another?
+-- Which list do pieces make, one after another?
 use Rattle.std.specs.Prelude.{ℕ, zero, suc, List, [], ◌++◌}
 
--- the first n of them
+-- the first n pieces, joined
 abbrev pub joined : (ℕ → List ℕ) → ℕ → List ℕ
 joined piece zero = []
 joined piece (suc n) = joined piece n ++ piece n

@@ -1,4 +1,4 @@
--- What has the making of a texture done when it ends with a status?
+-- What has the program done when it ends with a status?
 use Rattle.std.specs.Prelude.{◌≡◌, ◌⊎◌, ◌↔◌, ℕ, ◌<◌, ◌≤◌, IsTrue, List, map}
 use Rattle.std.specs.Prelude.{Option, Some, None, Result, Ok, Err, ⊤, String}
 use Rattle.std.specs.Option.{ForSome, IsSomeAnd}
@@ -22,7 +22,7 @@ use Rattle.tex_make.specs.Sink.{SinkState}
 use Rattle.tex_make.specs.Reading.{IsSource, IsLargeSource, IsBadSource, IsPictureOf}
 use Rattle.tex_make.specs.Status as status
 
--- what is around a call: the folder and the sink
+-- the surroundings of a call: the folder and the sink
 pub record Around : Type 0 where
   pub folder : FolderState
   pub sink : SinkState
@@ -30,7 +30,7 @@ pub record Around : Type 0 where
 abbrev pub around_of : FolderState → SinkState → Around
 around_of folder sink = record { folder = folder; sink = sink }
 
--- what the words ask for, where they are of the form
+-- what the arguments ask for, if they have the right form
 abbrev pub asked_by : List (String Global) → Option Wanted
 asked_by words = wanted_in (map string_bytes words)
 
@@ -40,8 +40,8 @@ asked_by words = wanted_in (map string_bytes words)
 abbrev pub IsEntered : Wanted → FolderState → Type 0
 IsEntered asked folder = folder.entered ≡ Some asked.path
 
--- a real generation of the file that is asked for was read, and where the world tells its bytes,
--- they are so
+-- an existing generation of the requested file was read, and in a modelled world the fact holds of
+-- its bytes
 pub record Reads (files : Files) (asked : Wanted) (folder : FolderState) (fact : List ℕ → Type 0)
     : Type 0
   where
@@ -50,7 +50,7 @@ pub record Reads (files : Files) (asked : Wanted) (folder : FolderState) (fact :
     pub named : folder.number_of asked.name ≡ Some file
     pub read : IsReadOf files file fact
 
--- no file of the folder has the name
+-- the folder has no file with this name
 pub record LacksFile (asked : Wanted) (folder : FolderState) : Type 0 where
   pub entered : IsEntered asked folder
   pub none : folder.number_of asked.name ≡ None
@@ -60,7 +60,7 @@ pub record HasTooMany (files : Files) (folder : FolderState) : Type 0 where
   pub mark : IsTrue folder.over
   pub untold : IsTrue files.tells → ⊥
 
--- why nothing is written
+-- why nothing was written
 abbrev pub HasCause : Files → Wanted → FolderState → FolderState → Ending → Type 0
 HasCause files asked old new Failed = Rises old.faults new.faults
 HasCause files asked old new NoMemory = ⊤
@@ -70,14 +70,14 @@ HasCause files asked old new TooLarge = Reads files asked new IsLargeSource
 HasCause files asked old new Gone = Rises old.moves new.moves
 HasCause files asked old new TooMany = HasTooMany files new
 
--- a picture is that of the file that is asked for, or there is a cause for none
+-- the image is that of the requested file, or the ending has its cause
 abbrev pub ReadsPicture : Files → Wanted → FolderState → FolderState → Result Pyramid Ending
     → Type 0
 ReadsPicture files asked old new (Ok pyramid) =
     Reads files asked new (λ bytes. IsPictureOf bytes pyramid)
 ReadsPicture files asked old new (Err ending) = HasCause files asked old new ending
 
--- the same of the file of a number
+-- the image is that of the file with a number, or the ending has its cause
 abbrev pub ReadsOf : Files → ℕ → FolderState → FolderState → Result Pyramid Ending → Type 0
 ReadsOf files file old new (Ok pyramid) = IsReadOf files file (λ bytes. IsPictureOf bytes pyramid)
 ReadsOf files file old new (Err Failed) = Rises old.faults new.faults
@@ -94,7 +94,7 @@ GivesTapBack old new =
     ((new.made ≡ old.made) × (new.returned ≡ old.returned))
     ⊎ (RisesByOne old.made new.made × RisesByOne old.returned new.returned)
 
--- what the call leaves of the folder, whatever it answers
+-- what every call leaves of the folder, also one that fails
 pub record LeavesFolder (old new : FolderState) : Type 0 where
   pub faults : old.faults ≤ new.faults
   pub moves : old.moves ≤ new.moves
@@ -102,19 +102,19 @@ pub record LeavesFolder (old new : FolderState) : Type 0 where
 
 -- ---- how the call ends
 
--- The whole texture of the file was written: a file that shows no fault and stores each level of the
--- file down to one texel.
+-- The whole texture was written: a valid file that stores each level of the image down to one
+-- texel.
 abbrev pub WritesTexture : Wanted → Around → Around → List ℕ → Type 0
 WritesTexture asked old new bytes =
     IsSource bytes × IsTextureOf (picture_of bytes) (made_of bytes asked.side)
     × Appends (made_of bytes asked.side) old.sink.holds new.sink.holds
 
--- A first part of it was.
+-- A first part of the texture was written.
 abbrev pub WritesPart : Wanted → Around → Around → List ℕ → Type 0
 WritesPart asked old new bytes =
     IsSource bytes × AppendsPart (made_of bytes asked.side) old.sink.holds new.sink.holds
 
--- The sink failed, and a first part of the texture was written.
+-- The output failed after a first part of the texture.
 pub record BreaksOff (files : Files) (asked : Wanted) (old new : Around) : Type 0 where
   pub failed : Rises old.sink.faults new.sink.faults
   pub part : Reads files asked new.folder (WritesPart asked old new)
@@ -126,8 +126,8 @@ pub record Stops (files : Files) (asked : Wanted) (old new : Around) (ends : ℕ
   pub cause : HasCause files asked old.folder new.folder ending
   pub sink : new.sink ≡ old.sink
 
--- What the call has done where the words ask for something. No file has the name exactly where that is
--- the status, and so it is with the mark for too many files.
+-- What the call has done if the arguments ask for something. The status says that the file does not
+-- exist if and only if that is so, and likewise for too many files.
 pub record Makes (files : Files) (asked : Wanted) (old new : Around) (ends : ℕ) : Type 0 where
   pub ends_as : ((ends ≡ status.made) × Reads files asked new.folder (WritesTexture asked old new))
       ⊎ (((ends ≡ status.not_written) × BreaksOff files asked old new)
@@ -137,21 +137,21 @@ pub record Makes (files : Files) (asked : Wanted) (old new : Around) (ends : ℕ
   pub folder : LeavesFolder old.folder new.folder
   pub sink : old.sink.faults ≤ new.sink.faults
 
--- where they do not, nothing was done
+-- if the arguments ask for nothing, nothing was done
 pub record Refuses (old new : Around) (ends : ℕ) : Type 0 where
   pub status_is : ends ≡ status.bad_words
   pub same : new ≡ old
 
--- What the call has done, by what the words ask for: the status is that of bad words exactly where
--- they are not of the form.
+-- What the call has done, by what the arguments ask for. The status is that of bad arguments if and
+-- only if they do not have the right form.
 abbrev pub EndsAs : Files → Option Wanted → Around → Around → ℕ → Type 0
 EndsAs files None old new ends = Refuses old new ends
 EndsAs files (Some asked) old new ends = Makes files asked old new ends
 
 -- ---- when the texture is made
 
--- the world tells, it has a file of the name, and each generation of it is a picture of which a
--- texture is made
+-- the world is modelled and has a file with this name, and each generation of it is an image from
+-- which a texture can be made
 pub record HasSource (files : Files) (asked : Wanted) : Type 0 where
   pub tells : IsTrue files.tells
   pub file : ℕ
@@ -159,7 +159,7 @@ pub record HasSource (files : Files) (asked : Wanted) : Type 0 where
   pub named : files.name file ≡ asked.name
   pub each : (g : ℕ) → ForSome (files.held file g) IsSource
 
--- the count has not risen, and could have
+-- the count has not risen, and is not at its greatest value
 pub record StaysAt (old new : ℕ) : Type 0 where
   pub same : new ≡ old
   pub short : old < last_count
@@ -170,7 +170,7 @@ pub record IsCalm (old new : Around) : Type 0 where
   pub moves : StaysAt old.folder.moves new.folder.moves
   pub sink : StaysAt old.sink.faults new.sink.faults
 
--- then it was made, or no memory was found
+-- then the texture was made, or memory ran out
 abbrev pub Completes : Files → Option Wanted → Around → Around → ℕ → Type 0
 Completes files asked old new ends =
     IsSomeAnd asked (HasSource files) → IsCalm old new

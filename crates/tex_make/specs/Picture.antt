@@ -1,4 +1,4 @@
--- What is a picture, in all its levels down to one texel?
+-- What is an image with all its levels down to one texel?
 use Rattle.std.specs.Prelude.{◌≡◌, ℕ, ◌+◌, ◌-◌, ◌*◌, ◌<◌, ◌≤◌, ◌&&◌, Bool, nat_le, List}
 use Rattle.std.specs.Prelude.{if◌then◌else◌}
 use Rattle.tiff_format.specs.Facts.{IsSide, IsChannelCount, IsDepth}
@@ -9,8 +9,8 @@ use Rattle.tile_layout.specs.Level.{levels_down, width_of, height_of}
 use Rattle.tile_layout.specs.Cell.{channels_of, bit_depth_of}
 use Rattle.tile_layout.specs.Texel.{texel_at}
 
--- How many levels it has, their sides, the samples of a texel and the bits of each, whether they are
--- red, green and blue, and sample c of texel (x, y) of each level.
+-- The number of levels, their sides, the samples per texel and their bits, whether they are RGB,
+-- and sample c of texel (x, y) of each level.
 pub record Picture : Type 0 where
   pub levels : ℕ
   pub width : ℕ → ℕ
@@ -20,8 +20,7 @@ pub record Picture : Type 0 where
   pub rgb : Bool
   pub sample : ℕ → ℕ → ℕ → ℕ → ℕ
 
--- the picture that a file with these bytes holds: its stored levels, and behind them those that are
--- made by halving
+-- the image in a file with these bytes: the stored levels, and then levels made by halving
 abbrev pub picture_of : List ℕ → Picture
 picture_of bytes = record {
   levels = levels_down (kept_of bytes);
@@ -33,15 +32,15 @@ picture_of bytes = record {
   sample = texel_at bytes;
 }
 
--- how many of the samples of a texel are colours: red, green and blue, or one shade of grey
+-- the number of colour samples per texel: red, green and blue, or one grey
 abbrev pub colours : Picture → ℕ
 colours p = if p.rgb && nat_le 3 p.channels then 3 else 1
 
--- and how many are none
+-- the number of other samples per texel
 abbrev pub extra_samples : Picture → ℕ
 extra_samples p = p.channels - colours p
 
--- the two pictures have the same levels with the same samples
+-- the two images have the same levels with the same samples
 pub record AreAlike (p q : Picture) : Type 0 where
   pub levels : p.levels ≡ q.levels
   pub width : (l : ℕ) → l < p.levels → p.width l ≡ q.width l
@@ -52,8 +51,8 @@ pub record AreAlike (p q : Picture) : Type 0 where
   pub samples : (l x y c : ℕ) → l < p.levels → x < p.width l → y < p.height l → c < p.channels
       → p.sample l x y c ≡ q.sample l x y c
 
--- What is so of each picture of a file of the profile: sides and samples are within its limits, each
--- level is half of the one before it, and the last has one texel.
+-- True of the image of every valid file: sides and samples are within the limits, each level
+-- is half of the one before it, and the last has a single texel.
 pub record IsPicture (p : Picture) : Type 0 where
   pub some : 1 ≤ p.levels
   pub few : p.levels ≤ max_levels
@@ -69,10 +68,10 @@ pub record IsPicture (p : Picture) : Type 0 where
   pub low : (l x y c : ℕ) → l < p.levels → x < p.width l → y < p.height l → c < p.channels
       → p.sample l x y c ≤ greatest_sample p.depth
 
--- the most samples of level 0 of a picture of which a texture is made
+-- the most samples of level 0 that an image may have
 abbrev pub max_samples : ℕ
 max_samples = 67108864
 
--- level 0 has more
+-- the number of samples of level 0
 abbrev pub samples_of : Picture → ℕ
 samples_of p = p.width 0 * p.height 0 * p.channels

@@ -1,4 +1,4 @@
--- What is a level of a picture in memory, and which samples has it?
+-- What is a level of an image in memory, and which samples has it?
 use Rattle.std.specs.Prelude.{◌≡◌, ℕ, ◌+◌, ◌*◌, ◌<◌, Bool, List, [], length, slice_index}
 use Rattle.std.specs.Prelude.{slice_index_or}
 use Rattle.tiff_format.specs.Facts.{IsSide, IsChannelCount, IsDepth}
@@ -6,7 +6,7 @@ use Rattle.tiff_format.specs.Level.{halved}
 use Rattle.tile_layout.specs.Texel.{FitDepth, quarter}
 use Rattle.tex_make.specs.Picture.{Picture}
 
--- its sides, the samples of a texel and the bits of each, and the samples of all texels, row by row
+-- the sides, the samples per texel and their bits, and all samples, row by row
 pub record PlainLevel : Type 0 where
   pub width : ℕ
   pub height : ℕ
@@ -24,7 +24,7 @@ plain_level width height channels depth samples = record {
   samples = samples;
 }
 
--- the place of sample c of texel (x, y) among its samples
+-- the index of sample c of texel (x, y)
 abbrev pub place_in : PlainLevel → ℕ → ℕ → ℕ → ℕ
 place_in level x y c = (y * level.width + x) * level.channels + c
 
@@ -32,8 +32,8 @@ place_in level x y c = (y * level.width + x) * level.channels + c
 abbrev pub sample_in : PlainLevel → ℕ → ℕ → ℕ → ℕ
 sample_in level x y c = slice_index level.samples (place_in level x y c)
 
--- What is known of each level: its sides and samples are within the limits of the profile, and it
--- has as many samples as its texels have.
+-- True of each level: its sides and samples are within the limits, and the number of samples
+-- is right.
 pub record IsPlainLevel (level : PlainLevel) : Type 0 where
   pub wide : IsSide level.width
   pub high : IsSide level.height
@@ -52,15 +52,15 @@ pub record IsHalfOf (first second : PlainLevel) : Type 0 where
       → sample_in second x y c
       ≡ quarter (λ i j. sample_in first i j c) first.width first.height x y
 
--- stands where there is no level
+-- a level that stands for one that does not exist
 abbrev pub no_level : PlainLevel
 no_level = plain_level 0 0 0 0 []
 
--- level l of levels
+-- level l in a list of levels
 abbrev pub level_at : List PlainLevel → ℕ → PlainLevel
 level_at levels l = slice_index_or levels l no_level
 
--- the picture of levels, whose samples are red, green and blue or not
+-- the image with these levels, RGB or not
 abbrev pub picture_in : List PlainLevel → Bool → Picture
 picture_in levels rgb = record {
   levels = length levels;
@@ -72,7 +72,7 @@ picture_in levels rgb = record {
   sample = λ l. sample_in (level_at levels l);
 }
 
--- each of them is a level, and all have the same samples
+-- each of them is a level, and all have the same channels and depth
 pub record AreLevels (levels : List PlainLevel) : Type 0 where
   pub each : (l : ℕ) → l < length levels → IsPlainLevel (level_at levels l)
   pub channels : (l : ℕ) → l < length levels

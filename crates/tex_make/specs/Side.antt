@@ -1,4 +1,4 @@
--- Which tiles may a texture have, and how long may it be?
+-- Which tiles may a texture have, and how large may it be?
 use Rattle.std.specs.Prelude.{◌≡◌, ℕ, ◌%◌, ◌≤◌, ◌<◌, ◌^◌}
 use Rattle.tex_make.specs.Picture.{Picture}
 use Rattle.tex_make.specs.Texture.{tiles_at}
@@ -9,10 +9,10 @@ pub record IsMadeSide (side : ℕ) : Type 0 where
   pub high : side ≤ 256
   pub multiple : side % 16 ≡ 0
 
--- the bytes of a texture: its last tile ends with it
+-- the number of bytes of a texture, which ends with its last tile
 abbrev pub texture_size : Picture → ℕ → ℕ
 texture_size p side = tiles_at p side p.levels
 
--- each place in it is a number of four bytes
+-- each place in it fits four bytes
 abbrev pub IsShort : Picture → ℕ → Type 0
 IsShort p side = texture_size p side < 2 ^ 32

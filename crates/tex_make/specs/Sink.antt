@@ -3,16 +3,16 @@ use Rattle.std.specs.Prelude.{ℕ, ◌≤◌, List, Option, Result, OnOk, OnErr}
 use Rattle.tex_world.specs.Counts.{Rises}
 use Rattle.tex_world.specs.Stream.{Appends, AppendsPart}
 
--- how often a sink has failed, and what it holds, where it tells
+-- how often a sink has failed and, if it is modelled, the bytes that it has
 pub record SinkState : Type 0 where
   pub faults : ℕ
   pub holds : Option (List ℕ)
 
--- what is known of a sink by its ghost members
+-- a sink, as its ghost members describe it
 abbrev pub sink_state : {O : Type 0} → (O → ℕ) → (O → Option (List ℕ)) → O → SinkState
 sink_state faults holds sink = record { faults = faults sink; holds = holds sink }
 
--- the bytes were written, or the sink has failed and a first part of them was
+-- the bytes were written, or the sink failed after a first part of them
 pub record Puts {E : Type 0} (bytes : List ℕ) (old new : SinkState)
     (result : Result (Unit {0}) E) : Type 0 where
   pub ok : OnOk result (Appends bytes old.holds new.holds)

@@ -1,11 +1,11 @@
--- Which status says what?
+-- What does each exit status mean?
 use Rattle.std.specs.Prelude.{ℕ}
 
 -- the whole file was written
 abbrev pub made : ℕ
 made = 0
 
--- the words are not of the form
+-- the arguments are not of the right form
 abbrev pub bad_words : ℕ
 bad_words = 2
 
@@ -17,15 +17,15 @@ folder_fault = 4
 abbrev pub not_written : ℕ
 not_written = 5
 
--- no memory was found
+-- out of memory
 abbrev pub no_memory : ℕ
 no_memory = 6
 
--- no file has the name
+-- the folder has no file with this name
 abbrev pub no_such_file : ℕ
 no_such_file = 7
 
--- the bytes of the file show a fault
+-- the bytes of the file have a fault
 abbrev pub bad_file : ℕ
 bad_file = 8
 

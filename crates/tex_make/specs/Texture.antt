@@ -1,6 +1,7 @@
--- Which file is the texture of a picture? (docs/FORMAT.md, "Textures that are made")
--- It stands lowest byte first, and has a directory for each level, the largest first, and behind them
--- the tiles of each level.
+-- Which file is the texture of an image? (docs/FORMAT.md, "Textures that are made")
+--
+-- It is little-endian, and has a directory for each level, the largest first, and then the tiles of
+-- each level.
 use Rattle.std.specs.Prelude.{ℕ, zero, suc, ◌+◌, ◌*◌, ◌/◌, ◌%◌, ◌==◌, ◌&&◌, nat_lt, List, [], ◌∷◌}
 use Rattle.std.specs.Prelude.{◌++◌, map, if◌then◌else◌}
 use Rattle.std.specs.Int.{w16, w32, to_le_bytes, byte_at}
@@ -20,7 +21,7 @@ use Rattle.tex_make.specs.Picture.{Picture, picture_of, colours, extra_samples}
 
 -- ---- tags that are written and not read
 
--- 1 says that the image is a smaller one of another (TIFF 6.0, section 8, NewSubfileType)
+-- 1 means that the image is a reduced version of another (TIFF 6.0, section 8, NewSubfileType)
 abbrev pub new_subfile_type_tag : ℕ
 new_subfile_type_tag = 254
 
@@ -32,17 +33,17 @@ tile_byte_counts_tag = 325
 abbrev pub extra_samples_tag : ℕ
 extra_samples_tag = 338
 
--- ---- the tiles of a level, of so many texels aside
+-- ---- the tiles of a level
 
--- how many there are across
+-- the number of tiles across
 abbrev pub tiles_across : Picture → ℕ → ℕ → ℕ
 tiles_across p side l = pieces_over (p.width l) side
 
--- and down
+-- the number of tiles down
 abbrev pub tiles_down : Picture → ℕ → ℕ → ℕ
 tiles_down p side l = pieces_over (p.height l) side
 
--- and in all
+-- the number of tiles
 abbrev pub tile_count : Picture → ℕ → ℕ → ℕ
 tile_count p side l = tiles_across p side l * tiles_down p side l
 
@@ -50,12 +51,12 @@ tile_count p side l = tiles_across p side l * tiles_down p side l
 abbrev pub tile_size : Picture → ℕ → ℕ
 tile_size p side = side * side * (p.channels * sample_bytes p.depth)
 
--- sample c of texel (x, y), and 0 behind the level
+-- sample c of texel (x, y); 0 outside the level
 abbrev pub padded_sample : Picture → ℕ → ℕ → ℕ → ℕ → ℕ
 padded_sample p l x y c =
     if nat_lt x (p.width l) && nat_lt y (p.height l) then p.sample l x y c else 0
 
--- sample n of tile i: the samples of a texel stand side by side, and its texels row by row
+-- sample n of tile i: all samples of a texel together, row by row
 abbrev pub tile_sample : Picture → ℕ → ℕ → ℕ → ℕ → ℕ
 tile_sample p side l i n =
     padded_sample p l
@@ -85,7 +86,7 @@ single kind tag n = record { tag = tag; kind = kind; count = 1; first = n; step 
 abbrev pub equal : FieldKind → ℕ → ℕ → ℕ → Field
 equal kind tag count n = record { tag = tag; kind = kind; count = count; first = n; step = 0 }
 
--- the places of so many tiles, of which the first stands at a place
+-- the places of `count` tiles, which follow one another from a place on
 abbrev pub places : ℕ → ℕ → ℕ → Field
 places count first size =
     record { tag = tile_offsets_tag; kind = Long; count = count; first = first; step = size }
@@ -94,7 +95,7 @@ places count first size =
 abbrev pub photometric : Picture → ℕ
 photometric p = if colours p == 3 then 2 else 1
 
--- the samples that are no colours, where there are some
+-- the field for samples that are not colours, if there are any
 abbrev pub extra_field : ℕ → List Field
 extra_field zero = []
 extra_field (suc n) = equal Short extra_samples_tag (suc n) 0 ∷ []
@@ -114,7 +115,7 @@ own_fields p side l =
     ∷ single Long tile_length_tag side
     ∷ []
 
--- all of them, where its tiles stand from a place on
+-- all fields of the directory of level l, whose tiles begin at a place
 unfoldable pub fields_of : Picture → ℕ → ℕ → ℕ → List Field
 fields_of p side l first =
     own_fields p side l
@@ -122,23 +123,23 @@ fields_of p side l first =
     ∷ equal Long tile_byte_counts_tag (tile_count p side l) (tile_size p side)
     ∷ extra_field (extra_samples p))
 
--- ---- where they stand
+-- ---- where they are
 
 -- the bytes of the header
 abbrev pub header_size : ℕ
 header_size = 8
 
--- the place of the directory of level l: each stands behind the values of the one before
+-- the place of the directory of level l: after the values of the one before
 unfoldable pub directory_at : Picture → ℕ → ℕ → ℕ
 directory_at p side zero = header_size
 directory_at p side (suc l) = directory_at p side l + directory_size (fields_of p side l 0)
 
--- the place of the tiles of level l: behind all directories, in the order of the levels
+-- the place of the tiles of level l: after all directories, in the order of the levels
 unfoldable pub tiles_at : Picture → ℕ → ℕ → ℕ
 tiles_at p side zero = directory_at p side p.levels
 tiles_at p side (suc l) = tiles_at p side l + tile_count p side l * tile_size p side
 
--- the place that the directory of level l says of the next: 0 for none
+-- the place that the directory of level l names for the next; 0 for none
 abbrev pub next_at : Picture → ℕ → ℕ → ℕ
 next_at p side l = if nat_lt (suc l) p.levels then directory_at p side (suc l) else 0
 
@@ -158,10 +159,10 @@ directory_of p side l =
 unfoldable pub head_of : Picture → ℕ → List ℕ
 head_of p side = header ++ joined (directory_of p side) p.levels
 
--- The texture of a picture, in tiles of so many texels aside.
+-- The texture of an image, with tiles of this side.
 unfoldable pub texture_of : Picture → ℕ → List ℕ
 texture_of p side = head_of p side ++ joined (level_tiles p side) p.levels
 
--- The texture that is made of a file with these bytes.
+-- The texture made from a file with these bytes.
 abbrev pub made_of : List ℕ → ℕ → List ℕ
 made_of bytes side = texture_of (picture_of bytes) side

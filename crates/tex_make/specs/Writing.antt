@@ -1,4 +1,4 @@
--- What has the writing of a texture done when it gives a status?
+-- What has been written when a status is returned?
 use Rattle.std.specs.Prelude.{◌≡◌, ◌⊎◌, ℕ, ◌≤◌, List}
 use Rattle.tex_world.specs.Counts.{Rises}
 use Rattle.tex_world.specs.Stream.{Appends, AppendsPart}
@@ -10,12 +10,12 @@ pub record IsWritten (texture : List ℕ) (old new : SinkState) : Type 0 where
   pub written : Appends texture old.holds new.holds
   pub faults : old.faults ≤ new.faults
 
--- the sink has failed, and a first part of it was written
+-- the output failed after a first part of the texture
 pub record IsCut (texture : List ℕ) (old new : SinkState) : Type 0 where
   pub part : AppendsPart texture old.holds new.holds
   pub failed : Rises old.faults new.faults
 
--- one of the two, or no memory was found and nothing was written
+-- one of the two, or memory ran out and nothing was written
 abbrev pub PutsPicture : List ℕ → SinkState → SinkState → ℕ → Type 0
 PutsPicture texture old new ends =
     ((ends ≡ status.made) × IsWritten texture old new)

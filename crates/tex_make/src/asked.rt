@@ -1,8 +1,8 @@
-//! What is asked for.
+//! What the arguments ask for.
 
 ghost use Rattle.tex_make.specs.Side.{IsMadeSide};
 
-/// A texture of the file of a name in the folder of a path, in tiles of so many texels aside.
+/// Which file of which folder to convert, and the side of the tiles in texels.
 #[derive(Clone, Copy, Debug)]
 pub(crate) struct Asked<'a> {
     pub(crate) path: &'a str,

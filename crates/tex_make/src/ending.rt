@@ -1,17 +1,17 @@
-//! Why no texture was made, and the status that tells it.
+//! Why no texture was made, and the exit status for it.
 
 ghost use Rattle.std.specs.Prelude.{◌≡◌};
 
 /// The whole file was written.
 pub(crate) const MADE: u8 = 0;
 
-/// The words are not of the form.
+/// The arguments are not of the right form.
 pub(crate) const BAD_WORDS: u8 = 2;
 
-/// The sink failed.
+/// The output failed.
 pub const NOT_WRITTEN: u8 = 5;
 
-/// No memory was found, and nothing was written.
+/// Out of memory, and nothing was written.
 pub const NO_MEMORY: u8 = 6;
 
 /// Why nothing was written.
@@ -19,11 +19,11 @@ pub const NO_MEMORY: u8 = 6;
 pub(crate) enum Ending {
     /// The folder or its tap failed.
     Failed,
-    /// No memory was found.
+    /// Out of memory.
     NoMemory,
-    /// No file has the name.
+    /// The folder has no file with this name.
     NoSuchFile,
-    /// The bytes of the file show a fault.
+    /// The bytes of the file have a fault.
     BadFile,
     /// Level 0 has too many samples.
     TooLarge,
@@ -36,7 +36,7 @@ pub(crate) enum Ending {
 impl Ending {
     ghost use Rattle.tex_make.specs.Ending.{status_of};
 
-    /// Its status.
+    /// The exit status.
     pub(crate) fn status(self) -> u8
         ensures { result ≡ status_of self }
     {

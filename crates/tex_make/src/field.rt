@@ -1,4 +1,4 @@
-//! The fields of a directory that is written.
+//! Writes the directories of a TIFF file.
 
 ghost use Rattle.std.specs.Prelude.{◌≡◌, ◌+◌, ◌≤◌, ◌<◌, ◌^◌, ◌++◌, length, replicate, OnOk};
 ghost use Rattle.std.specs.Int.{w16, w32, to_le_bytes};
@@ -7,7 +7,7 @@ ghost use Rattle.tex_make.specs.Field as spec;
 
 use std::alloc::AllocError;
 
-/// The type of the values of a field (TIFF 6.0, section 2).
+/// The type of a field's values (TIFF 6.0, section 2).
 #[derive(Clone, Copy, Debug, PartialEq, Eq)]
 pub(crate) enum FieldKind {
     /// Two bytes each.
@@ -16,24 +16,24 @@ pub(crate) enum FieldKind {
     Long,
 }
 
-/// A field whose values go up by even steps, or are all the same.
+/// A field whose values rise in equal steps, or are all the same.
 #[derive(Clone, Copy, Debug, PartialEq, Eq)]
 pub(crate) struct Field {
     pub(crate) tag: u16,
     pub(crate) kind: FieldKind,
-    /// How many values it has.
+    /// The number of values.
     pub(crate) count: u32,
-    /// The first of them.
+    /// The first value.
     pub(crate) first: u32,
-    /// From each value to the next.
+    /// The difference from each value to the next.
     pub(crate) step: u32,
 }
 
-/// The bytes that fit in an entry.
+/// The bytes of values that fit in an entry.
 const ENTRY_ROOM: u32 = 4;
 
 impl FieldKind {
-    /// Its number in the file.
+    /// The number of the type in the file.
     fn number(self) -> u16
         ensures { result ≡ spec.type_number self }
     {
@@ -54,7 +54,7 @@ impl FieldKind {
     }
 }
 
-/// The bytes of its values.
+/// The bytes of a field's values.
 fn field_size(field: &Field) -> u32
     requires { spec.IsField field.now }
     ensures { result ≡ spec.field_size field.now }
@@ -62,7 +62,8 @@ fn field_size(field: &Field) -> u32
     field.count * field.kind.size()
 }
 
-/// How many bytes of its values stand behind the directory.
+/// The bytes of a field's values that come after the directory, because they do not fit in the
+/// entry.
 pub(crate) fn outside_size(field: &Field) -> u32
     requires { spec.IsField field.now }
     ensures { result ≡ spec.outside_size field.now }
@@ -71,14 +72,14 @@ pub(crate) fn outside_size(field: &Field) -> u32
     if size <= ENTRY_ROOM { 0 } else { size }
 }
 
-/// Appends a number of two bytes.
+/// Appends a two-byte number.
 fn push_short(bytes: &mut Vec<u8>, number: u16) -> Result<(), AllocError>
     ensures { OnOk result (bytes.new.items ≡ bytes.old.items ++ to_le_bytes w16 number) }
 {
     bytes.extend_from_slice(&number.to_le_bytes())
 }
 
-/// Appends a number of four bytes.
+/// Appends a four-byte number.
 fn push_long(bytes: &mut Vec<u8>, number: u32) -> Result<(), AllocError>
     ensures { OnOk result (bytes.new.items ≡ bytes.old.items ++ to_le_bytes w32 number) }
 {
@@ -114,7 +115,7 @@ fn push_zeros(bytes: &mut Vec<u8>, count: u32) -> Result<(), AllocError>
     bytes.resize(bytes.len() + count as usize, 0)
 }
 
-/// Appends the last four bytes of an entry: the values, where they fit, else their place.
+/// Appends the last four bytes of an entry: the values if they fit, otherwise their place.
 fn push_value_part(bytes: &mut Vec<u8>, field: &Field, place: u32) -> Result<(), AllocError>
     requires { spec.IsField field.now }
     ensures { OnOk result (bytes.new.items
@@ -128,7 +129,7 @@ fn push_value_part(bytes: &mut Vec<u8>, field: &Field, place: u32) -> Result<(),
     push_zeros(bytes, ENTRY_ROOM - size)
 }
 
-/// Appends the entry of a field. Its values stand at a place, where they do not fit.
+/// Appends the entry of a field. `place` is where its values are, if they do not fit.
 #[tactic(auto, unfolding(crate::specs::Field::entry_of))]
 fn push_entry(bytes: &mut Vec<u8>, field: &Field, place: u32) -> Result<(), AllocError>
     requires { spec.IsField field.now }
@@ -140,7 +141,7 @@ fn push_entry(bytes: &mut Vec<u8>, field: &Field, place: u32) -> Result<(), Allo
     push_value_part(bytes, field, place)
 }
 
-/// Appends the entries of fields. The first values that do not fit stand at a place.
+/// Appends the entries of fields. `place` is where the values that do not fit begin.
 fn push_entries(bytes: &mut Vec<u8>, place: u32, fields: &[Field]) -> Result<(), AllocError>
     requires fields { All spec.IsField fields.now }
     requires short { place + spec.all_outside fields.now < 2 ^ 32 }
@@ -155,7 +156,7 @@ fn push_entries(bytes: &mut Vec<u8>, place: u32, fields: &[Field]) -> Result<(),
     Ok(())
 }
 
-/// Appends the values of a field that do not fit.
+/// Appends the values of a field, if they do not fit in its entry.
 fn push_field_outside(bytes: &mut Vec<u8>, field: &Field) -> Result<(), AllocError>
     requires { spec.IsField field.now }
     ensures { OnOk result (bytes.new.items ≡ bytes.old.items ++ spec.outside_bytes field.now) }
@@ -166,7 +167,7 @@ fn push_field_outside(bytes: &mut Vec<u8>, field: &Field) -> Result<(), AllocErr
     push_values(bytes, field)
 }
 
-/// Appends the values of fields that do not fit.
+/// Appends the values of fields that do not fit in their entries.
 fn push_outside(bytes: &mut Vec<u8>, fields: &[Field]) -> Result<(), AllocError>
     requires { All spec.IsField fields.now }
     ensures { OnOk result (bytes.new.items
@@ -178,7 +179,7 @@ fn push_outside(bytes: &mut Vec<u8>, fields: &[Field]) -> Result<(), AllocError>
     Ok(())
 }
 
-/// The bytes of a directory of so many entries, without values that do not fit.
+/// The bytes of a directory with `count` entries, without values that do not fit.
 fn directory_part(count: u32) -> u32
     requires { count < 2 ^ 16 }
     ensures { result ≡ spec.directory_part count }
@@ -186,7 +187,7 @@ fn directory_part(count: u32) -> u32
     2 + 12 * count + 4
 }
 
-/// The bytes of a directory with the values that do not fit.
+/// The bytes of a directory, including the values that do not fit.
 pub(crate) fn directory_size(fields: &[Field]) -> u32
     requires fields { All spec.IsField fields.now }
     requires few { length fields.now < 2 ^ 16 }
@@ -200,7 +201,7 @@ pub(crate) fn directory_size(fields: &[Field]) -> u32
     size
 }
 
-/// Appends the directory of these fields, which stands at a place, with the values that do not fit.
+/// Appends the directory of these fields, which begins at `at`, and the values that do not fit.
 #[tactic(auto, unfolding(crate::specs::Field::directory_bytes))]
 pub(crate) fn push_directory(
     bytes: &mut Vec<u8>,

@@ -1,4 +1,4 @@
-//! The bytes of a texture that stand before its tiles.
+//! Writes the part of a texture before its tiles.
 
 ghost use Rattle.std.specs.Prelude.{◌≡◌, ◌+◌, ◌++◌, ◌<◌, IfOk, OnOk};
 ghost use Rattle.tex_make.specs.Pyramid.{seen};
@@ -14,7 +14,7 @@ const HEADER_BYTES: u32 = 8;
 /// `II`, 42, and the place of the first directory.
 const HEADER: [u8; 8] = [b'I', b'I', 42, 0, 8, 0, 0, 0];
 
-/// The place behind the directory of a level, which stands at a place.
+/// The place after the directory of a level, which begins at `place`.
 fn behind_directory(
     alloc: Global,
     texture: &Texture<'_>,
@@ -30,7 +30,7 @@ fn behind_directory(
     Ok(at + directory_size(&fields))
 }
 
-/// The place behind the last directory.
+/// The place after the last directory.
 fn directories_end(alloc: Global, texture: &Texture<'_>) -> Result<u32, AllocError>
     ensures { IfOk result (λ end. end
         ≡ spec.tiles_at (seen texture.now.picture.now) texture.now.side 0) }
@@ -42,8 +42,7 @@ fn directories_end(alloc: Global, texture: &Texture<'_>) -> Result<u32, AllocErr
     Ok(at)
 }
 
-/// The place that the directory of a level says of the next, where that one would stand behind it: 0
-/// where it is the last.
+/// What a level's directory names as the place of the next one: `behind`, or 0 for the last level.
 fn next_at(texture: &Texture<'_>, level: usize, behind: u32) -> u32
     requires level { level < (seen texture.now.picture.now).levels }
     requires behind { behind
@@ -57,8 +56,8 @@ fn next_at(texture: &Texture<'_>, level: usize, behind: u32) -> u32
     }
 }
 
-/// Appends the directory of a level, which stands at a place and whose tiles stand from another on.
-/// It answers the place behind it.
+/// Appends the directory of a level, whose tiles begin at a given place, and returns the place
+/// after the directory.
 #[tactic(auto, unfolding(crate::specs::Texture::directory_of))]
 fn push_level(
     alloc: Global,
@@ -83,7 +82,7 @@ fn push_level(
 }
 
 /// The bytes before the tiles: the header, and a directory for each level with the values that do
-/// not fit in it.
+/// not fit in its entries.
 pub(crate) fn head_of(alloc: Global, texture: &Texture<'_>) -> Result<Vec<u8>, AllocError>
     ensures { IfOk result (λ head. head.items
         ≡ spec.head_of (seen texture.now.picture.now) texture.now.side) }

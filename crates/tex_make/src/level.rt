@@ -1,4 +1,4 @@
-//! A level of a picture in memory.
+//! A level of an image in memory.
 
 ghost use Rattle.std.specs.Prelude.{◌≡◌};
 ghost use Rattle.tiff_format.specs.Level.{halved};
@@ -7,20 +7,20 @@ ghost use Rattle.tex_make.specs.PlainLevel.{IsPlainLevel, plain_level};
 use crate::quarters::{TwoRows, halve_row_at};
 use std::alloc::{AllocError, Global};
 
-/// The samples of a level, row by row, those of a texel side by side.
+/// The samples of a level, row by row, all samples of a texel together.
 #[derive(Debug, Drop)]
 pub(crate) struct Level {
     pub(crate) width: u32,
     pub(crate) height: u32,
-    /// The samples of a texel.
+    /// The number of samples per texel.
     pub(crate) channels: u32,
-    /// The bits of a sample.
+    /// The bits per sample, 8 or 16.
     pub(crate) depth: u32,
     pub(crate) samples: Vec<u16>,
     ghost known: { IsPlainLevel (plain_level width height channels depth samples.items) },
 }
 
-/// Half of a side, rounded down, and 1 at least.
+/// Half of a side, rounded down, and at least 1.
 fn half_side(side: u32) -> u32
     ensures { result ≡ halved side }
 {
@@ -35,14 +35,14 @@ impl Level {
     ghost use Rattle.tex_make.specs.Level.{shown};
     ghost use Rattle.tex_make.specs.HalfRows.{AreHalfRows, half_sample};
 
-    /// It has one texel.
+    /// Whether it has a single texel.
     pub(crate) fn is_single(&self) -> bool
         ensures { IsTrue result ↔ ((self.now.width ≡ 1) × (self.now.height ≡ 1)) }
     {
         self.width == 1 && self.height == 1
     }
 
-    /// The samples of row y, or of the last where it lies behind it.
+    /// The samples of row y; of the last row if y is greater.
     fn row(&self, y: u32) -> &[u16]
         ensures long { length result.now ≡ self.now.width * self.now.channels }
         ensures each { (x c : ℕ) → x < self.now.width → c < self.now.channels
@@ -54,8 +54,8 @@ impl Level {
         &self.samples[start..start + size]
     }
 
-    /// The samples of at most so many texels of a row, from column x on; none where there is no such
-    /// row.
+    /// The samples of at most `most` texels of a row, from column x on; none if the row does not
+    /// exist.
     pub(crate) fn part(&self, x: u32, y: u32, most: u32) -> &[u16]
         requires { x < self.now.width }
         ensures long { y < self.now.height
@@ -74,7 +74,7 @@ impl Level {
         &self.samples[start..start + size]
     }
 
-    /// Writes row y of the level that is half of it.
+    /// Writes row y of the next smaller level.
     fn halve_row_at(&self, y: u32, out: &mut [u16])
         requires row { y < halved self.now.height }
         requires size { length out.old
@@ -95,7 +95,7 @@ impl Level {
         halve_row_at(&rows, self.width as usize, channels, start, out);
     }
 
-    /// Writes the rows of the level that is half of it.
+    /// Writes the rows of the next smaller level.
     fn halve_rows(&self, out: &mut [u16])
         requires { length out.old
             ≡ halved self.now.width * halved self.now.height * self.now.channels }
@@ -107,7 +107,7 @@ impl Level {
         }
     }
 
-    /// The level that is half of it.
+    /// The next smaller level.
     pub(crate) fn halved(&self, alloc: Global) -> Result<Level, AllocError>
         ensures { IfOk result (λ half. IsHalfOf (shown self.now) (shown half)) }
     {

@@ -1,5 +1,5 @@
-//! The making of textures: a picture of a folder is read, halved down to one texel, and written as a
-//! file that stores all its levels in tiles.
+//! Makes textures: reads an image from a folder, halves it down to one texel, and writes a tiled
+//! file with all levels.
 #![tactic(auto)]
 
 mod asked;

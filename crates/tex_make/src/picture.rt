@@ -1,4 +1,4 @@
-//! A picture in all its levels, in memory.
+//! An image with all its levels, in memory.
 
 ghost use Rattle.std.specs.Prelude.{map};
 ghost use Rattle.tex_make.specs.Picture.{IsPicture};
@@ -8,17 +8,17 @@ ghost use Rattle.tex_make.specs.Level.{shown};
 use crate::level::Level;
 use crate::row::BYTE_BITS;
 
-/// The levels of a picture down to one texel, the largest first.
+/// The levels of an image down to one texel, the largest first.
 #[derive(Debug, Drop)]
 pub(crate) struct Pyramid {
     pub(crate) levels: Vec<Level>,
-    /// Where a texel has three or more samples, the first are red, green and blue.
+    /// Whether the first three samples of a texel are red, green and blue.
     pub(crate) rgb: bool,
     ghost levels_in: { AreLevels (map shown levels.items) },
     ghost known: { IsPicture (picture_in (map shown levels.items) rgb) },
 }
 
-/// How many samples are colours, where they are red, green and blue.
+/// The number of colour samples in an RGB image.
 pub(crate) const RGB_COLOURS: u32 = 3;
 
 impl Pyramid {
@@ -28,14 +28,14 @@ impl Pyramid {
     ghost use Rattle.tex_make.specs.Picture.{colours};
     ghost use Rattle.tex_make.specs.Pyramid.{seen};
 
-    /// How many levels it has.
+    /// The number of levels.
     pub(crate) fn len(&self) -> usize
         ensures { result ≡ (seen self.now).levels }
     {
         self.levels.len()
     }
 
-    /// The samples of a texel.
+    /// The number of samples per texel.
     pub(crate) fn channels(&self) -> u32
         ensures value { result ≡ (seen self.now).channels }
         ensures in_range { IsChannelCount result }
@@ -43,7 +43,7 @@ impl Pyramid {
         self.levels[0].channels
     }
 
-    /// The bits of a sample.
+    /// The bits per sample, 8 or 16.
     pub(crate) fn depth(&self) -> u32
         ensures value { result ≡ (seen self.now).depth }
         ensures in_range { IsDepth result }
@@ -51,7 +51,7 @@ impl Pyramid {
         self.levels[0].depth
     }
 
-    /// How many samples of a texel are colours.
+    /// The number of colour samples per texel.
     pub(crate) fn colours(&self) -> u32
         ensures value { result ≡ colours (seen self.now) }
         ensures few { result ≤ (seen self.now).channels }

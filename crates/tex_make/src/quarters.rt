@@ -1,4 +1,4 @@
-//! Rows of texels that are half of two rows: each sample is the average of four.
+//! Halves two rows of texels into one: each new sample is the average of four.
 
 ghost use Rattle.std.specs.Prelude.{◌≡◌, ◌+◌, ◌*◌, ◌<◌, ◌≤◌, ℕ, length, slice_index};
 ghost use Rattle.tiff_format.specs.Level.{halved};
@@ -12,7 +12,7 @@ pub(crate) struct TwoRows<'a> {
     pub(crate) bottom: &'a [u16],
 }
 
-/// The average of four samples, a half rounded up.
+/// The average of four samples, rounded to nearest with halves up.
 #[inline(always)]
 fn average(a: u16, b: u16, c: u16, d: u16) -> u16
     ensures { result ≡ average a b c d }
@@ -20,7 +20,7 @@ fn average(a: u16, b: u16, c: u16, d: u16) -> u16
     ((u32::from(a) + u32::from(b) + u32::from(c) + u32::from(d) + 2) / 4) as u16
 }
 
-/// Writes texel i, made of texels 2i and 2i + 1 of both rows.
+/// Writes texel i, made from texels 2i and 2i + 1 of both rows.
 #[inline(always)]
 fn halve_texel(rows: &TwoRows<'_>, channels: usize, i: usize, out: &mut [u16])
     requires out { (i + 1) * channels ≤ length out.old }
@@ -44,7 +44,7 @@ fn halve_texel(rows: &TwoRows<'_>, channels: usize, i: usize, out: &mut [u16])
     }
 }
 
-/// Writes so many texels, each made of two of both rows.
+/// Writes `count` texels, each made from two texels of both rows.
 #[inline(always)]
 fn halve_texels(rows: &TwoRows<'_>, count: usize, channels: usize, out: &mut [u16])
     requires out { length out.old ≡ count * channels }
@@ -59,7 +59,7 @@ fn halve_texels(rows: &TwoRows<'_>, count: usize, channels: usize, out: &mut [u1
     }
 }
 
-/// Writes the one texel that is made of rows of one texel.
+/// Writes the single texel that is made from two rows of one texel each.
 fn halve_single(rows: &TwoRows<'_>, channels: usize, out: &mut [u16])
     requires out { length out.old ≡ channels }
     requires top { channels ≤ length rows.now.top.now }
@@ -74,8 +74,8 @@ fn halve_single(rows: &TwoRows<'_>, channels: usize, out: &mut [u16])
     }
 }
 
-/// Writes a row that is half of two rows of so many texels. Numbers of channels that pictures often
-/// have are cases of their own, since their loops are unrolled.
+/// Writes one row made from two rows of `width` texels. Common numbers of channels are cases of
+/// their own, so that their loops are unrolled.
 fn halve_row(rows: &TwoRows<'_>, width: usize, channels: usize, out: &mut [u16])
     requires some { 1 ≤ width }
     requires out { length out.old ≡ halved width * channels }
@@ -98,7 +98,7 @@ fn halve_row(rows: &TwoRows<'_>, width: usize, channels: usize, out: &mut [u16])
     }
 }
 
-/// Writes such a row from a place on.
+/// Writes one row made from two rows, from index `start` on.
 pub(crate) fn halve_row_at(
     rows: &TwoRows<'_>,
     width: usize,

@@ -1,4 +1,4 @@
-//! The reading of a picture, and the making of the levels that its file does not store.
+//! Reads an image, and makes the levels that its file does not store.
 
 ghost use Rattle.std.specs.Prelude.{◌≡◌, ◌-◌, ◌*◌, ◌≤◌, ◌<◌, ◌++◌, ◌∷◌, ◌↔◌, [], length, map, IfOk, OnOk};
 ghost use Rattle.std.specs.Prelude.{IsTrue, List, ℕ};
@@ -30,20 +30,20 @@ use tile_layout::Layout;
 /// The most samples of level 0.
 const MAX_SAMPLES: u64 = 67108864;
 
-/// Why a picture was not read.
+/// Why an image could not be read.
 #[derive(Debug, Drop)]
 pub(crate) enum PictureError<E> {
-    /// The file shows a fault.
+    /// The file has a fault.
     Fault,
     /// Level 0 has too many samples.
     TooLarge,
-    /// The reader refused a read with this error.
+    /// The reader failed with this error.
     Reader(E),
-    /// No memory was found.
+    /// Out of memory.
     NoMemory,
 }
 
-/// The level has more samples than a picture may have of which a texture is made.
+/// Whether level 0 has more samples than are allowed.
 fn is_large(dir: &Dir) -> bool
     ensures { IsTrue result ↔ IsLarge (shown_dir dir.now) }
 {
@@ -104,7 +104,7 @@ fn last_of(levels: &[Level]) -> &Level
     &levels[levels.len() - 1]
 }
 
-/// The level behind these: read where it is stored, else half of the last.
+/// The level after these: read if it is stored, otherwise half of the last one.
 fn next_level<B: ByteReader>(
     alloc: Global,
     reader: &mut B,
@@ -129,7 +129,7 @@ fn next_level<B: ByteReader>(
     }
 }
 
-/// A level more.
+/// Appends a level.
 fn push(levels: &mut Vec<Level>, level: Level) -> Result<(), AllocError>
     ensures { OnOk result (levels.new.items ≡ levels.old.items ++ level ∷ []) }
 {
@@ -137,7 +137,7 @@ fn push(levels: &mut Vec<Level>, level: Level) -> Result<(), AllocError>
     Ok(())
 }
 
-/// The levels down to one texel.
+/// Reads or makes the levels down to one texel.
 fn read_levels<B: ByteReader>(
     alloc: Global,
     reader: &mut B,
@@ -161,7 +161,7 @@ fn read_levels<B: ByteReader>(
     Ok(levels)
 }
 
-/// The picture of these directories.
+/// Reads the image with these directories.
 fn read_pyramid<B: ByteReader>(
     alloc: Global,
     reader: &mut B,
@@ -180,8 +180,8 @@ fn read_pyramid<B: ByteReader>(
     Ok(Pyramid { levels, rgb })
 }
 
-/// Reads the picture of a file: its directories, then each stored level, and no byte of a strip or
-/// tile twice.
+/// Reads the image of a file: its directories, then each stored level. No byte of a strip or tile
+/// is read twice.
 pub(crate) fn read_picture<B: ByteReader>(
     alloc: Global,
     reader: &mut B,

@@ -1,4 +1,4 @@
-//! The bytes of samples, the lowest first.
+//! Converts samples to bytes, lowest byte first.
 
 ghost use Rattle.std.specs.Prelude.{◌≡◌, ◌+◌, ◌*◌, ◌/◌, ◌%◌, ◌≤◌, ◌<◌, ℕ, length, slice_index};
 ghost use Rattle.tiff_format.specs.Block.{sample_bytes};
@@ -6,10 +6,10 @@ ghost use Rattle.tiff_format.specs.Facts.{IsDepth};
 ghost use Rattle.tile_layout.specs.Texel.{FitDepth};
 ghost use Rattle.tex_make.specs.Row.{byte_of_samples};
 
-/// The bits of a sample that takes one byte.
+/// The bits of a sample that fits a byte.
 pub(crate) const BYTE_BITS: u32 = 8;
 
-/// Writes samples of 8 bits, and zeros behind them.
+/// Writes 8-bit samples, and fills the rest with zeros.
 fn fill_narrow(samples: &[u16], out: &mut [u8])
     requires fit { FitDepth 8 samples.now }
     requires room { length samples.now ≤ length out.old }
@@ -23,7 +23,7 @@ fn fill_narrow(samples: &[u16], out: &mut [u8])
     behind.fill(0);
 }
 
-/// Writes each sample as a byte.
+/// Writes each sample as one byte.
 fn narrow(samples: &[u16], out: &mut [u8])
     requires fit { FitDepth 8 samples.now }
     requires room { length out.old ≡ length samples.now }
@@ -35,7 +35,7 @@ fn narrow(samples: &[u16], out: &mut [u8])
     }
 }
 
-/// Writes samples of 16 bits, and zeros behind them.
+/// Writes 16-bit samples, and fills the rest with zeros.
 fn fill_wide(samples: &[u16], out: &mut [u8])
     requires { 2 * length samples.now ≤ length out.old }
     ensures long { length out.new ≡ length out.old }
@@ -65,7 +65,7 @@ fn split(samples: &[u16], out: &mut [u8])
     }
 }
 
-/// Writes the bytes of samples of so many bits, and zeros behind them.
+/// Writes samples of this depth, and fills the rest with zeros.
 fn fill_row(depth: u32, samples: &[u16], out: &mut [u8])
     requires bits { IsDepth depth }
     requires fit { FitDepth depth samples.now }
@@ -81,7 +81,8 @@ fn fill_row(depth: u32, samples: &[u16], out: &mut [u8])
     }
 }
 
-/// Writes such bytes from a place up to another.
+/// Writes samples of this depth to a range of the buffer, and fills the rest of the range with
+/// zeros.
 pub(crate) fn fill_row_at(depth: u32, samples: &[u16], start: usize, end: usize, out: &mut [u8])
     requires bits { IsDepth depth }
     requires fit { FitDepth depth samples.now }

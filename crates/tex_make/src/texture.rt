@@ -1,4 +1,4 @@
-//! The texture of a picture: its tiles, and the fields of its directories.
+//! The texture of an image: its tiles, and the fields of its directories.
 
 ghost use Rattle.std.specs.Prelude.{◌≡◌, ◌≤◌, ◌++◌, [], ◌∷◌, OnOk};
 ghost use Rattle.tiff_format.specs.Block.{pieces_over};
@@ -38,18 +38,18 @@ const TILE_BYTE_COUNTS: u16 = 325;
 
 const EXTRA_SAMPLES: u16 = 338;
 
-/// Compression: the samples stand as they are.
+/// Compression: none.
 const UNCOMPRESSED: u32 = 1;
 
-/// PhotometricInterpretation.
+/// PhotometricInterpretation: the values of BlackIsZero and RGB.
 const BLACK_IS_ZERO: u32 = 1;
 
 const RGB: u32 = 2;
 
-/// PlanarConfiguration: the samples of a pixel stand side by side.
+/// PlanarConfiguration: the samples of a pixel are stored together.
 const CHUNKY: u32 = 1;
 
-/// The texture of a picture, in tiles of so many texels aside.
+/// The texture of an image, with square tiles of a given side in texels.
 #[derive(Drop)]
 pub(crate) struct Texture<'a> {
     pub(crate) picture: &'a Pyramid,
@@ -64,7 +64,7 @@ impl<'a> Texture<'a> {
     ghost use Rattle.tex_make.specs.Level.{shown};
     ghost use Rattle.tex_make.specs.PlainLevel.{level_at};
 
-    /// A level of the picture.
+    /// A level of the image.
     pub(crate) fn level(&self, level: usize) -> &Level
         requires { level < (seen self.now.picture.now).levels }
         ensures value { shown result.now
@@ -75,7 +75,7 @@ impl<'a> Texture<'a> {
         &self.picture.levels[level]
     }
 
-    /// The tiles of a level across.
+    /// The number of tiles across a level.
     pub(crate) fn tiles_across(&self, level: usize) -> u32
         requires { level < (seen self.now.picture.now).levels }
         ensures value { result ≡ spec.tiles_across (seen self.now.picture.now) self.now.side level }
@@ -85,7 +85,7 @@ impl<'a> Texture<'a> {
         pieces(self.level(level).width, self.side)
     }
 
-    /// And down.
+    /// The number of tiles down a level.
     fn tiles_down(&self, level: usize) -> u32
         requires { level < (seen self.now.picture.now).levels }
         ensures value { result ≡ spec.tiles_down (seen self.now.picture.now) self.now.side level }
@@ -95,7 +95,7 @@ impl<'a> Texture<'a> {
         pieces(self.level(level).height, self.side)
     }
 
-    /// And in all.
+    /// The number of tiles of a level.
     pub(crate) fn tile_count(&self, level: usize) -> u32
         requires { level < (seen self.now.picture.now).levels }
         ensures value { result ≡ spec.tile_count (seen self.now.picture.now) self.now.side level }
@@ -123,7 +123,7 @@ impl<'a> Texture<'a> {
 impl<'a> Texture<'a> {
     ghost use Rattle.std.specs.Prelude.{◌<◌, IfOk};
 
-    /// PhotometricInterpretation.
+    /// The value of PhotometricInterpretation.
     fn photometric(&self) -> u32
         ensures { result ≡ spec.photometric (seen self.now.picture.now) }
     {
@@ -134,8 +134,7 @@ impl<'a> Texture<'a> {
         }
     }
 
-    /// The fields that say how the samples of a texel are stored, and the sides of the level and of
-    /// its tiles.
+    /// The fields for the form of the samples, and for the sides of the level and of its tiles.
     fn own_fields(&self, level: usize) -> [Field; 10]
         requires { level < (seen self.now.picture.now).levels }
         ensures { result ≡ spec.own_fields (seen self.now.picture.now) self.now.side level }
@@ -162,7 +161,7 @@ impl<'a> Texture<'a> {
         ]
     }
 
-    /// The fields of the directory of a level, whose tiles stand from a place on.
+    /// The fields of a level's directory. Its tiles begin at a given place.
     #[tactic(auto, unfolding(crate::specs::Texture::fields_of))]
     pub(crate) fn fields(
         &self,
@@ -190,7 +189,7 @@ impl<'a> Texture<'a> {
     }
 }
 
-/// As many as it takes to cover a side by tiles of so many texels aside.
+/// The number of tiles of this side that cover a side of the level.
 fn pieces(side: u32, tile: u32) -> u32
     requires side { IsSide side }
     requires tile { IsMadeSide tile }
@@ -201,7 +200,7 @@ fn pieces(side: u32, tile: u32) -> u32
     (side + tile - 1) / tile
 }
 
-/// A field more.
+/// Appends a field.
 fn push(fields: &mut Vec<Field>, field: Field) -> Result<(), AllocError>
     ensures { OnOk result (fields.new.items ≡ fields.old.items ++ field ∷ []) }
 {
@@ -209,7 +208,7 @@ fn push(fields: &mut Vec<Field>, field: Field) -> Result<(), AllocError>
     Ok(())
 }
 
-/// A field for so many samples that are no colours, where there are some.
+/// Appends the field for samples that are not colours, if there are any.
 fn push_extra(fields: &mut Vec<Field>, count: u32) -> Result<(), AllocError>
     ensures { OnOk result (fields.new.items ≡ fields.old.items ++ spec.extra_field count) }
 {
@@ -219,7 +218,7 @@ fn push_extra(fields: &mut Vec<Field>, count: u32) -> Result<(), AllocError>
     push(fields, equal(FieldKind::Short, EXTRA_SAMPLES, count, 0))
 }
 
-/// The places of so many tiles, of which the first stands at a place.
+/// The field with the places of tiles, which follow one another from `first` on.
 fn places(count: u32, first: u32, size: u32) -> Field
     ensures { result ≡ spec.places count first size }
 {

@@ -1,4 +1,4 @@
-//! The tiles of a texture, written to a sink.
+//! Writes the tiles of a texture.
 
 ghost use Rattle.std.specs.Prelude.{◌≡◌, ◌<◌, length};
 ghost use Rattle.tex_make.specs.Joined.{joined};
@@ -10,10 +10,10 @@ use crate::row::fill_row_at;
 use crate::texture::Texture;
 use tex_world::{Failed, Sink};
 
-/// The most bytes of a put.
+/// The most bytes written at once.
 const MAX_PUT: usize = 1048576;
 
-/// Writes the bytes of a tile of a level.
+/// Fills a buffer with the bytes of a tile.
 fn fill_tile(texture: &Texture<'_>, level: usize, index: u32, tile: &mut [u8])
     requires level { level < (seen texture.now.picture.now).levels }
     requires index { index < spec.tile_count (seen texture.now.picture.now) texture.now.side level }
@@ -35,7 +35,7 @@ fn fill_tile(texture: &Texture<'_>, level: usize, index: u32, tile: &mut [u8])
     }
 }
 
-/// Writes the tiles of a level, each in one put.
+/// Writes the tiles of a level, one at a time.
 fn put_level<O: Sink>(
     texture: &Texture<'_>,
     level: usize,
@@ -57,7 +57,7 @@ fn put_level<O: Sink>(
     Ok(())
 }
 
-/// Writes bytes, in puts of at most 1 MiB.
+/// Writes bytes, at most 1 MiB at a time.
 fn put_bytes<O: Sink>(bytes: &[u8], out: &mut O) -> Result<(), Failed>
     ensures { Puts bytes.now
         (sink_state O.faults O.holds out.old) (sink_state O.faults O.holds out.new) result }
@@ -71,7 +71,7 @@ fn put_bytes<O: Sink>(bytes: &[u8], out: &mut O) -> Result<(), Failed>
     Ok(())
 }
 
-/// Writes the tiles of all levels, through a buffer for one.
+/// Writes the tiles of all levels, through a buffer for one tile.
 fn put_levels<O: Sink>(texture: &Texture<'_>, tile: &mut [u8], out: &mut O) -> Result<(), Failed>
     requires { length tile.old
         ≡ spec.tile_size (seen texture.now.picture.now) texture.now.side }
@@ -86,7 +86,7 @@ fn put_levels<O: Sink>(texture: &Texture<'_>, tile: &mut [u8], out: &mut O) -> R
     Ok(())
 }
 
-/// Writes a texture: the bytes before its tiles, and its tiles, through a buffer for one.
+/// Writes a texture: the bytes before its tiles, then its tiles, through a buffer for one tile.
 pub(crate) fn put_texture<O: Sink>(
     texture: &Texture<'_>,
     head: &[u8],

@@ -1,4 +1,4 @@
-//! The top call.
+//! The top call `make`.
 
 ghost use Rattle.std.specs.Prelude.{◌≡◌, ◌≤◌, ◌↔◌, IsTrue, IfOk, Err};
 ghost use Rattle.tex_world.specs.World.{IsFile};
@@ -22,7 +22,7 @@ use std::alloc::Global;
 use tap_reader::TapReader;
 use tex_world::{EnterError, Folder, NoMemory, OpenError, ReadError, Sink, Tap};
 
-/// The picture of a file, read through a tap.
+/// Reads the image of a file through a tap.
 fn read_file<T: Tap>(alloc: Global, tap: &mut T, file: u32) -> Result<Pyramid, Ending>
     requires { IsFile T.W.files file }
     ensures reads { ReadsFile T.W.files file (T.state tap.old) (T.state tap.new) result }
@@ -48,7 +48,7 @@ fn read_file<T: Tap>(alloc: Global, tap: &mut T, file: u32) -> Result<Pyramid, E
     }
 }
 
-/// The picture of a file, read through a tap of the folder's, which it gets back.
+/// Reads the image of a file through a tap of the folder, and gives the tap back.
 fn picture_of<F: Folder>(alloc: Global, folder: &mut F, file: u32) -> Result<Pyramid, Ending>
     requires { IsFile F.W.files file }
     ensures reads { ReadsOf F.W.files file (F.state folder.old) (F.state folder.new) result }
@@ -65,7 +65,7 @@ fn picture_of<F: Folder>(alloc: Global, folder: &mut F, file: u32) -> Result<Pyr
     read
 }
 
-/// The picture that is asked for.
+/// Reads the image that is asked for.
 fn picture_asked<F: Folder>(
     alloc: Global,
     folder: &mut F,
@@ -91,8 +91,8 @@ fn picture_asked<F: Folder>(
     }
 }
 
-/// Makes a texture of a file of a folder, as the words ask for it, and writes it to a sink. All of the
-/// file is read before a byte is written.
+/// Makes the texture that the arguments ask for, and writes it to a sink. The whole image is read
+/// before anything is written.
 pub fn make<F: Folder, O: Sink>(alloc: Global, words: &[String], folder: &mut F, out: &mut O) -> u8
     ensures makes { EndsAs F.W.files (asked_by words.now)
         (around_of (F.state folder.old) (sink_state O.faults O.holds out.old))

@@ -1,4 +1,4 @@
-//! The words of the command line.
+//! Reads the arguments of the command line.
 
 ghost use Rattle.std.specs.Prelude.{◌≡◌, ◌<◌, ◌≤◌, true, [], map, length, option_map, IfSome};
 ghost use Rattle.std.specs.Prelude.{slice_index_or};
@@ -10,19 +10,19 @@ ghost use Rattle.tex_make.specs.Asked.{shown_asked};
 
 use crate::asked::Asked;
 
-/// The side of the tiles where no word says it.
+/// The side of the tiles if no argument gives it.
 const DEFAULT_SIDE: u32 = 64;
 
-/// The sides of tiles are multiples of it.
+/// The sides of tiles are multiples of this.
 const SIDE_STEP: u64 = 16;
 
-/// The longest side.
+/// The greatest side of a tile.
 const MAX_SIDE: u64 = 256;
 
 /// The most digits of a number.
 const MAX_DIGITS: usize = 10;
 
-/// The number that digits spell.
+/// The number that digits make.
 fn digits_number(digits: &[u8]) -> u64
     requires few { length digits.now ≤ MAX_DIGITS }
     requires digits { list_all spec.is_digit digits.now ≡ true }
@@ -35,21 +35,21 @@ fn digits_number(digits: &[u8]) -> u64
     number
 }
 
-/// All bytes are decimal digits.
+/// Whether all bytes are decimal digits.
 fn are_digits(word: &[u8]) -> bool
     ensures { result ≡ list_all spec.is_digit word.now }
 {
     word.iter().all(|byte| byte.is_ascii_digit())
 }
 
-/// The word is 1 to ten decimal digits.
+/// Whether the argument is 1 to 10 decimal digits.
 fn is_number(word: &[u8]) -> bool
     ensures { result ≡ spec.is_number word.now }
 {
     !word.is_empty() && word.len() <= MAX_DIGITS && are_digits(word)
 }
 
-/// The side that a word names.
+/// The side that an argument gives.
 fn side_of(word: &[u8]) -> Option<u32>
     ensures value { result ≡ spec.side_of word.now }
     ensures in_range { IfSome result IsMadeSide }
@@ -64,7 +64,7 @@ fn side_of(word: &[u8]) -> Option<u32>
     Some(side as u32)
 }
 
-/// The word begins as an option does.
+/// Whether the argument begins like an option.
 fn is_option(word: &[u8]) -> bool
     ensures { result ≡ spec.is_option word.now }
 {
@@ -74,7 +74,7 @@ fn is_option(word: &[u8]) -> bool
     }
 }
 
-/// What a path, a name and a side ask for, where neither word is an option.
+/// What a path, a name and a side ask for, if neither text looks like an option.
 fn asked_of<'a>(path: &'a str, name: &'a str, side: u32) -> Option<Asked<'a>>
     requires { IsMadeSide side }
     ensures { option_map shown_asked result ≡ spec.wanted path.now name.now side }
@@ -85,7 +85,7 @@ fn asked_of<'a>(path: &'a str, name: &'a str, side: u32) -> Option<Asked<'a>>
     Some(Asked { path, name, side })
 }
 
-/// A word.
+/// Argument i, which must exist.
 fn word(words: &[String], i: usize) -> &str
     requires { i < length words.now }
     ensures { result.now ≡ slice_index_or (map string_bytes words.now) i [] }
@@ -93,8 +93,8 @@ fn word(words: &[String], i: usize) -> &str
     words[i].as_str()
 }
 
-/// What the words ask for, where they are two or three, the third is a side, and no other is an
-/// option.
+/// What the arguments ask for: a path, a name and perhaps a side. `None` if they are of another
+/// form.
 pub(crate) fn asked_in(words: &[String]) -> Option<Asked<'_>>
     ensures { option_map shown_asked result ≡ spec.wanted_in (map string_bytes words.now) }
 {

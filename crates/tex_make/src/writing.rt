@@ -1,4 +1,4 @@
-//! The writing of a texture.
+//! Writes a texture, and returns the exit status.
 
 ghost use Rattle.std.specs.Prelude.{◌≤◌};
 ghost use Rattle.tex_make.specs.Picture.{samples_of, max_samples};
@@ -16,7 +16,7 @@ use crate::tiles::put_texture;
 use std::alloc::Global;
 use tex_world::Sink;
 
-/// Writes the texture of a picture, and gives the status.
+/// Writes the texture of an image, and returns the exit status.
 pub(crate) fn put_picture<O: Sink>(alloc: Global, picture: &Pyramid, side: u32, out: &mut O) -> u8
     requires side { IsMadeSide side }
     requires small { samples_of (seen picture.now) ≤ max_samples }

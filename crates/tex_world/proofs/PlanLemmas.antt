@@ -1,4 +1,4 @@
--- What follows where an entry of a plan passes a test, and where a read meets a newer generation?
+-- What follows if an entry of a plan passes a test, and if a read meets a newer generation?
 use Rattle.std.proofs.Common.{◌≡◌, ℕ, ◌+◌, ◌<◌, ◌≤◌, zero, suc, Bool, true, false, List, [], ◌∷◌}
 use Rattle.std.proofs.Common.{◌&&◌, nat_lt, length, get_or, take, filter, All, Result, Err}
 use Rattle.std.proofs.Common.{IsTrue, if◌then◌else◌, arith}
@@ -14,7 +14,7 @@ use Rattle.tex_world.specs.declared.fault.ReadError.{ReadError}
 use Rattle.tex_world.specs.declared.plan.Rise.{Rise}
 use Rattle.tex_world.specs.declared.reading.Reading.{Reading}
 
--- Where an element passes, some pass.
+-- If an element passes, some element passes.
 pub some_pass : {X : Type 0} (p : X → Bool) (xs : List X) (i : ℕ) (d : X) → i < length xs
     → p (get_or xs i d) ≡ true → filter p xs ≡ [] → ⊥
 some_pass p [] i d low here none = omega (arith, low)
@@ -23,7 +23,7 @@ some_pass p (x ∷ xs) (suc i) d low here none =
     let rest = some_pass p xs i d (omega (arith, low)) here in
     grind (arith, common_steps, rest, none)
 
--- So many of the first elements pass at most.
+-- At most i of the first i elements pass.
 pub passed_within : {X : Type 0} (p : X → Bool) (xs : List X) (i : ℕ) → i ≤ length xs
     → length (filter p (take i xs)) ≤ i
 passed_within p xs i low =

@@ -10,7 +10,7 @@ module _ (count : ℕ) (name : ℕ → List ℕ) (byte : ℕ → ℕ → ℕ →
   first_alone : IsReal (table_files count name sample_len_of byte) n g → g ≡ 1
   first_alone real = let held = real.held refl in grind (arith, nat_tests)
 
-  -- so none above it is asked for
+  -- no generation above 1 is asked for
   pub least_low : IsLeast (table_files count name sample_len_of byte) n g → g ≤ 1
   least_low least = elim least [
     | inl none ↦ omega arith

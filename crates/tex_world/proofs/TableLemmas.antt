@@ -27,7 +27,7 @@ module _ (count : ℕ) (name : ℕ → List ℕ) (len : ℕ → ℕ → Option �
       ∙ sym (get_or-bytes_below size (byte n g) (at + k) (omega (arith, h, within)))
       ∙ ap (λ (l : List ℕ). get_or l (at + k) 0) same
 
-  -- And one that was filled with rows of them has those rows.
+  -- a buffer that was filled with rows of a generation has those rows
   pub rows_where : (n g size : ℕ) → n < count → 1 ≤ g → g ≤ last_generation → len n g ≡ Some size
       → (at stride row : ℕ) (rows : List ℕ) → AreRows at stride row (length rows) size
       → ((k : ℕ) → k < length rows → get_or rows k 0 ≡ byte n g (place_in_rows at stride row k))
@@ -54,7 +54,7 @@ module _ (count : ℕ) (name : ℕ → List ℕ) (wanted : List ℕ) where
       (λ k h other. before k h
       (sym (get_or-table_names count name k (omega (arith, h, low))) ∙ other))
 
-  -- Where no file has a name it has no number.
+  -- If no file has a name, the name has no number.
   pub no_table_number_where : ((k : ℕ) → k < count → name k ≢ wanted)
       → number_in (table_names count name) wanted ≡ None
   no_table_number_where nowhere =

@@ -1,4 +1,4 @@
--- What do the calls of a folder give, when may each be refused, and which counts do they raise?
+-- What do a folder's calls answer, when may they fail, and which counts do they raise?
 use Rattle.std.specs.Prelude.{◌≡◌, ◌↔◌, ℕ, ◌+◌, ◌<◌, ◌≤◌, min, Bool, false, IsTrue, List}
 use Rattle.std.specs.Prelude.{Option, Some, None, IsSome, Result, Ok, Err, ⊤}
 use Rattle.std.specs.Option.{ForSome}
@@ -8,26 +8,26 @@ use Rattle.tex_world.specs.Tap.{TapState}
 use Rattle.tex_world.specs.declared.fault.EnterError.{EnterError}
 use Rattle.tex_world.specs.declared.fault.EnterError.TheVariants.{Failed, TooMany, NoMemory}
 
--- The counts of a folder, none of which falls, and what is known of it.
+-- The counts of a folder, none of which falls, and what is known of its files.
 pub record FolderState : Type 0 where
-  -- failed calls, those of the taps given back among them
+  -- failed calls, including those of taps given back
   pub faults : ℕ
-  -- meetings of the taps given back with a newer generation
+  -- how often taps given back met a newer generation
   pub moves : ℕ
   -- taps made
   pub made : ℕ
   -- taps given back
   pub returned : ℕ
-  -- the latest `enter` found more files than `max_files`
+  -- whether the last `enter` found more files than `max_files`
   pub over : Bool
   -- the path that was entered, if one was
   pub entered : Option (List ℕ)
-  -- the number of files once entered, and 0 before
+  -- the number of files; 0 before the folder is entered
   pub size : ℕ
-  -- the number of the file of a name, if there is one
+  -- the number of the file with a name, if there is one
   pub number_of : List ℕ → Option ℕ
 
--- It is not entered, and its counts are 0.
+-- The folder is not entered, and its counts are 0.
 pub record IsNewFolder (folder : FolderState) : Type 0 where
   pub faults : folder.faults ≡ 0
   pub moves : folder.moves ≡ 0
@@ -37,10 +37,10 @@ pub record IsNewFolder (folder : FolderState) : Type 0 where
   pub entered : folder.entered ≡ None
   pub size : folder.size ≡ 0
 
--- The laws of a folder: it has at most `max_files` files, none before it is entered, and once
--- entered those of a world that tells. A name's number is that of one of its files, and before it
--- is entered no name has one. Over a world that tells it is that of the file of this name, and once
--- entered a name has none only where no file is so called.
+-- The laws of a folder. It has at most `max_files` files, and none before it is entered. Once
+-- entered, it has all files of a modelled world. A name's number belongs to one of its files;
+-- before it is entered no name has one. In a modelled world the number belongs to the file with
+-- this name, and once the folder is entered a name without a number belongs to no file.
 pub record IsFolder (files : Files) (folder : FolderState) : Type 0 where
   pub few : folder.size ≤ max_files
   pub before : folder.entered ≡ None → folder.size ≡ 0
@@ -52,7 +52,7 @@ pub record IsFolder (files : Files) (folder : FolderState) : Type 0 where
   pub unnamed : IsSome folder.entered → IsTrue files.tells → (name : List ℕ)
       → folder.number_of name ≡ None → HasNoFile files name
 
--- which files there are stays, with their numbers, and whether there were too many
+-- the files, their numbers, and whether there were too many are unchanged
 pub record KeepsFiles (old new : FolderState) : Type 0 where
   pub over : new.over ≡ old.over
   pub entered : new.entered ≡ old.entered
@@ -61,14 +61,14 @@ pub record KeepsFiles (old new : FolderState) : Type 0 where
 
 -- ---- enter
 
--- why an `enter` is refused
+-- why `enter` fails
 abbrev pub EnterCause : Files → FolderState → FolderState → EnterError → Type 0
 EnterCause files old new Failed = Rises old.faults new.faults
 EnterCause files old new TooMany = IsTrue files.tells → ⊥
 EnterCause files old new NoMemory = ⊤
 
--- After an answered `enter` the folder is entered, after a refused one it is not. The mark is set
--- exactly after `TooMany`.
+-- After a successful `enter` the folder is entered; after a failed one it is not. `over` is set if
+-- and only if the error is `TooMany`.
 pub record AfterEnter (path : List ℕ) (old new : FolderState)
     (result : Result (Unit {0}) EnterError) : Type 0 where
   pub faults : old.faults ≤ new.faults
@@ -81,7 +81,7 @@ pub record AfterEnter (path : List ℕ) (old new : FolderState)
 
 -- ---- tap and back
 
--- An answered `tap` raises the count of taps made by one, and nothing else.
+-- A successful `tap` raises the count of taps made by one, and nothing else.
 pub record AfterTap {T E : Type 0} (old new : FolderState) (result : Result T E) : Type 0 where
   pub faults : old.faults ≤ new.faults
   pub moves : new.moves ≡ old.moves
@@ -90,8 +90,8 @@ pub record AfterTap {T E : Type 0} (old new : FolderState) (result : Result T E)
   pub returned : new.returned ≡ old.returned
   pub files : KeepsFiles old new
 
--- After a `back` the faults are at least those of the folder and of the tap together, and the moves
--- just these.
+-- After `back` the folder's I/O errors are at least those of folder and tap together, and its moves
+-- are exactly their sum.
 pub record AfterBack (tap : TapState) (old new : FolderState) : Type 0 where
   pub faults_later : old.faults ≤ new.faults
   pub faults : min (old.faults + tap.faults) last_count ≤ new.faults

@@ -1,4 +1,4 @@
--- Why has a folder in memory the files of its table once it is entered?
+-- Why does a folder in memory have the files of its table once it is entered?
 use Rattle.std.specs.Prelude.{◌≡◌, ◌≢◌, ℕ, ◌<◌, ◌≤◌, List, Option, Some, None, IsSome}
 use Rattle.std.specs.Option.{ForSome}
 use Rattle.std.proofs.Common.{refl, sym, ◌∙◌, arith}
@@ -17,7 +17,8 @@ module _ (count : ℕ) (name : ℕ → List ℕ) where
     few_files few None = omega arith
     few_files few (Some path) = few
 
-    -- The number of a name is that of a file with this name, and there is one only once entered.
+    -- The number of a name belongs to a file with this name, and exists only once the folder is
+    -- entered.
     pub numbered : (o : Option A) (wanted : List ℕ)
         → ForSome (number_in (names_once_entered count name o) wanted)
         (λ n. (n < size_once_entered count o) × (name n ≡ wanted))
@@ -27,13 +28,13 @@ module _ (count : ℕ) (name : ℕ → List ℕ) where
         let low : n < count = omega (arith, at.0, length-table_names count name) in
         (low, sym (get_or-table_names count name n low) ∙ at.1)
 
-    -- Before, no name has a number.
+    -- Before the folder is entered, no name has a number.
     pub unnumbered : (o : Option A) → o ≡ None → (wanted : List ℕ)
         → number_in (names_once_entered count name o) wanted ≡ None
     unnumbered None none wanted = refl
     unnumbered (Some path) none wanted = absurd (cc none)
 
-    -- Once entered, a name without a number is that of no file.
+    -- Once the folder is entered, a name without a number belongs to no file.
     pub unnamed : (o : Option A) → IsSome o → (wanted : List ℕ)
         → number_in (names_once_entered count name o) wanted ≡ None
         → (n : ℕ) → n < count → name n ≢ wanted
@@ -45,7 +46,7 @@ module _ (count : ℕ) (name : ℕ → List ℕ) where
 
 module _ {T : Type 0} (count : ℕ) (name : ℕ → List ℕ) (len : ℕ → ℕ → Option ℕ)
     (byte : ℕ → ℕ → ℕ → ℕ) where
-  -- Over a table of few files it meets the laws of a folder.
+  -- A folder over a table with few enough files obeys the laws of a folder.
   pub folder_is_lawful : count ≤ max_files → (folder : MemFolder T)
       → IsFolder (table_files count name len byte) (folder_state count name folder)
   folder_is_lawful few folder = record {

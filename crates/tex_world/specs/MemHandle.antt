@@ -2,7 +2,7 @@
 use Rattle.tex_world.specs.Tap.{Named}
 use Rattle.tex_world.specs.declared.mem_handle.MemHandle.{MemHandle}
 
--- its file, its generation and its length
+-- the file, the generation and the length
 abbrev pub handle_named : {T : Type 0} {table : _} → MemHandle T table → Named
 handle_named handle = record {
   file = handle.file;

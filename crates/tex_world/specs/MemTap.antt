@@ -1,4 +1,4 @@
--- What are the counts of a tap in memory, and which of its calls fail?
+-- What does a tap in memory count, and which of its calls fail?
 use Rattle.std.specs.Prelude.{◌≡◌, ℕ, ◌+◌, ◌/◌, IsTrue, length, List, Result, Err, IsOk, IsErr}
 use Rattle.tex_world.specs.Counts.{RisesByOne}
 use Rattle.tex_world.specs.Tap.{TapState, Named, IsMove}
@@ -9,7 +9,7 @@ use Rattle.tex_world.specs.declared.fault.ReadError.TheVariants.{Failed, Gone}
 use Rattle.tex_world.specs.declared.reading.Reading.{Reading}
 use Rattle.tex_world.specs.declared.mem_tap.MemTap.{MemTap}
 
--- the counts that its fields keep, and its latest answer of a newest generation
+-- the counts in its fields, and its last answer of a newest generation
 abbrev pub tap_state : {T : Type 0} → MemTap T → TapState
 tap_state tap = record {
   faults = tap.faults;
@@ -21,22 +21,23 @@ tap_state tap = record {
   newest = tap.newest;
 }
 
--- what is left of its share of the plan
+-- what is left of the tap's share of the plan
 abbrev pub tap_plan : {T : Type 0} → MemTap T → TapPlan
 tap_plan tap = share_plan tap.share
 
--- the next call is one of those that are planned to fail by their number
+-- the next call is planned to fail by its number
 abbrev pub IsPlannedCall : {T : Type 0} → MemTap T → Type 0
 IsPlannedCall tap = IsTrue (is_failing_call (tap_plan tap) ((tap_state tap).calls + 1))
 
--- A failed call is counted among the faults, an answered one is not. Its share of the plan stays.
+-- A failed call is counted as an I/O error, a successful one is not. The share of the plan is
+-- unchanged.
 pub record AfterTapCall {T R E : Type 0} (old new : MemTap T) (result : Result R E) : Type 0 where
   pub failed : IsErr result → RisesByOne (tap_state old).faults (tap_state new).faults
   pub answered : IsOk result → (tap_state new).faults ≡ (tap_state old).faults
   pub planned : tap_plan new ≡ tap_plan old
 
--- The call was counted. The counts of opens, asks, moves and lost generations stay, and the latest
--- newest.
+-- The call was counted. The counts of opens, asks, moves and lost generations are unchanged, and so
+-- is the last answer of `newest`.
 pub record CountsCall (old new : TapState) : Type 0 where
   pub calls : RisesByOne old.calls new.calls
   pub opens : new.opens ≡ old.opens
@@ -45,12 +46,12 @@ pub record CountsCall (old new : TapState) : Type 0 where
   pub lost : new.lost ≡ old.lost
   pub newest : new.newest ≡ old.newest
 
--- an `open` that gives a newer generation than it was asked for raises the moves by one
+-- an `open` of a newer generation than was asked for raises the moves by one
 abbrev pub CountsMove : ℕ → TapState → TapState → Named → Type 0
 CountsMove least old new handle =
     IsMove least handle.generation → RisesByOne old.moves new.moves
 
--- the read of rows under a handle, of so many bytes in all
+-- the read of rows through a handle, `size` bytes together
 abbrev pub rows_reading : Named → ℕ → ℕ → ℕ → ℕ → Reading
 rows_reading handle at stride row size = record {
   file = handle.file;
@@ -61,7 +62,7 @@ rows_reading handle at stride row size = record {
   count = size / row;
 }
 
--- the read of a buffer's length from a place on: rows of a byte, side by side
+-- the read of a buffer from a place on, as rows of one byte
 abbrev pub reading : Named → ℕ → List ℕ → Reading
 reading handle at buf = record {
   file = handle.file;
@@ -77,8 +78,8 @@ pub record IsReadOf (handle : Named) (read : Reading) : Type 0 where
   pub file : read.file ≡ handle.file
   pub generation : read.generation ≡ handle.generation
 
--- A failed read raises the faults by one, and one that meets a newer generation the moves. Else
--- the faults stay.
+-- A failed read raises the I/O errors by one; one that meets a newer generation raises the moves.
+-- Otherwise the I/O errors are unchanged.
 pub record CountsRead (old new : TapState) (result : Result (Unit {0}) ReadError) : Type 0 where
   pub failed : result ≡ Err Failed → RisesByOne old.faults new.faults
   pub others : (result ≡ Err Failed → ⊥) → new.faults ≡ old.faults

@@ -1,4 +1,4 @@
--- When does a list of names give each file of a table a name of its own?
+-- When does a list of names give each file of a table a different name?
 use Rattle.std.specs.Prelude.{◌≡◌, ℕ, ◌<◌, Bool, true, IsTrue, ◌&&◌, not, List, [], ◌∷◌}
 use Rattle.std.specs.Prelude.{length, slice_index_or}
 use Rattle.std.specs.List.{list_any}
@@ -8,16 +8,16 @@ use Rattle.std.proofs.Common.{suc, zero, refl, sym, ap, arith}
 use Rattle.std.proofs.lemmas.Bool.{and_parts, not-true, both_ways}
 use Rattle.std.proofs.lemmas.List.Folds.{list_any_at}
 
--- the name of a file, which is the name at its number
+-- the name of a file: the name at the file's number
 abbrev pub name_at : List (List ℕ) → ℕ → List ℕ
 name_at names n = slice_index_or names n []
 
--- no name is equal to one after it
+-- no name equals a later one
 abbrev pub are_distinct : List (List ℕ) → Bool
 are_distinct [] = true
 are_distinct (name ∷ names) = not (list_any (bytes_eq name) names) && are_distinct names
 
--- no later name is equal to the first
+-- no later name equals the first
 other_than_first : (name : List ℕ) (names : List (List ℕ)) (n : ℕ)
     → not (list_any (bytes_eq name) names) ≡ true → n < length names → name ≡ name_at names n → ⊥
 other_than_first name names n apart low same =
@@ -25,7 +25,7 @@ other_than_first name names n apart low same =
     both_ways (list_any (bytes_eq name) names) (not-true _ apart)
     (list_any_at (bytes_eq name) names n [] low here)
 
--- The files of distinct names have names of their own.
+-- Distinct names give different files different names.
 pub distinct_names : (names : List (List ℕ)) → IsTrue (are_distinct names)
     → (m n : ℕ) → m < length names → n < length names → name_at names m ≡ name_at names n → m ≡ n
 distinct_names [] apart m n low high same = absurd (omega (arith, low))

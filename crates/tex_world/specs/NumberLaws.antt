@@ -1,5 +1,5 @@
--- Why is a name's number the place where the name stands, and why does a name without one stand
--- nowhere?
+-- Why is a name's number the place of the name in the list, and why is a name without a number not
+-- in the list?
 use Rattle.std.specs.Prelude.{◌≡◌, ◌≢◌, ℕ, ◌<◌, ◌≤◌, List, [], Some, None}
 use Rattle.std.specs.Str.{bytes_eq}
 use Rattle.std.specs.Cmp.Lexicographic.{bytes_decides}
@@ -10,19 +10,19 @@ use Rattle.std.proofs.lemmas.List.Sums.{position_or_len_is, fails_before_first}
 use Rattle.std.specs.List.{position_or_len}
 use Rattle.tex_world.specs.Number.{number_in}
 
--- two texts that differ are told apart
+-- `bytes_eq` answers false for texts that differ
 told_apart : (xs ys : List ℕ) → xs ≢ ys → bytes_eq xs ys ≡ false
 told_apart xs ys other = let decides = bytes_decides xs ys in grind (arith, decides.0)
 
 module _ (names : List (List ℕ)) (name : List ℕ) where
-  -- A name's number is a place where it stands.
+  -- The name is in the list at its number.
   pub stands_at_number : (n : ℕ) → number_in names name ≡ Some n
       → (n < length names) × (get_or names n [] ≡ name)
   stands_at_number n found =
       let at = position-Some (bytes_eq name) names n [] found in
       (at.0, sym ((bytes_decides name (get_or names n [])).0 at.1))
 
-  -- A name without a number stands nowhere.
+  -- A name without a number is not in the list.
   pub stands_nowhere : number_in names name ≡ None
       → (n : ℕ) → n < length names → get_or names n [] ≢ name
   stands_nowhere none n low same =
@@ -32,7 +32,7 @@ module _ (names : List (List ℕ)) (name : List ℕ) where
       let other = fails_before_first (bytes_eq name) names n [] (omega (arith, low, past)) in
       cc
 
-  -- The first place where it stands is its number.
+  -- A name in the list has a number: its first place.
   pub number_where : (n : ℕ) → n < length names → get_or names n [] ≡ name
       → ((k : ℕ) → k < n → get_or names k [] ≢ name) → number_in names name ≡ Some n
   number_where n low same before =
@@ -41,7 +41,7 @@ module _ (names : List (List ℕ)) (name : List ℕ) where
       (λ _. (bytes_decides name (get_or names n [])).1 (sym same)) in
       grind (arith, common_steps, at)
 
-  -- Where it stands nowhere it has no number.
+  -- A name that is not in the list has no number.
   pub no_number_where : ((k : ℕ) → k < length names → get_or names k [] ≢ name)
       → number_in names name ≡ None
   no_number_where nowhere =

@@ -1,14 +1,14 @@
--- Which entries of a plan are for a tap?
+-- Which entries of a plan concern a tap?
 use Rattle.std.specs.Prelude.{◌≡◌, ℕ, ◌==◌, IsFalse, List, []}
 use Rattle.std.specs.List.{filter}
 use Rattle.tex_world.specs.TapPlan.{TapPlan}
 use Rattle.tex_world.specs.declared.plan.Plan.{Plan}
 
--- the entries that name the tap of a number
+-- the entries for the tap with this number
 abbrev pub entries_of : {E : Type 0} → (E → ℕ) → List E → ℕ → List E
 entries_of tap_of entries tap = filter (λ e. tap_of e == tap) entries
 
--- A new tap's share of a plan: the entries that name it. None of its rises has come.
+-- A new tap's share of a plan: the entries for it. None of its newer generations has appeared.
 abbrev pub share_of : Plan → ℕ → TapPlan
 share_of plan tap = record {
   fail_calls = entries_of (λ e. e.tap) plan.fail_calls.items tap;

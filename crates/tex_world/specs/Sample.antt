@@ -1,36 +1,37 @@
--- Which names and which bytes have the sample files? Each is a TIFF of one directory.
--- Files of an even number are little-endian: RGB of 8 bits in strips of 16 rows. Those of an odd
--- number are big-endian: one channel of 16 bits in tiles of 64 by 64. Their headers are given as
--- numbers of two bytes each, in the byte order of the file.
+-- Which names and which bytes have the sample files?
+--
+-- Each is a TIFF with one directory. Files with an even number are little-endian: 8-bit RGB in
+-- strips of 16 rows. Those with an odd number are big-endian: one 16-bit channel in tiles of 64 by
+-- 64. Their headers are given in units of two bytes, in the byte order of the file.
 use Rattle.std.specs.Prelude.{ℕ, ◌+◌, ◌-◌, ◌*◌, ◌/◌, ◌%◌, ◌==◌, ◌||◌, Bool, nat_lt, codes}
 use Rattle.std.specs.Prelude.{if◌then◌else◌, List, [], ◌∷◌, slice_index, Option, Some, None}
 
--- how many there are
+-- the number of sample files
 abbrev pub sample_count : ℕ
 sample_count = 8
 
--- in the order of their numbers
+-- the names, in the order of the files' numbers
 abbrev pub sample_names : List (List ℕ)
 sample_names =
     codes "sample0.tif" ∷ codes "sample1.tif" ∷ codes "sample2.tif" ∷ codes "sample3.tif"
     ∷ codes "sample4.tif" ∷ codes "sample5.tif" ∷ codes "sample6.tif" ∷ codes "sample7.tif" ∷ []
 
--- the texels of a row; there are 192 rows
+-- the texels in a row; there are 192 rows
 abbrev pub sample_width : ℕ → ℕ
 sample_width n = 256 + 32 * n
 
--- ---- files of strips
+-- ---- stripped files
 
--- the bytes of a strip: 16 rows of three samples a texel
+-- the bytes of a strip: 16 rows of three samples per texel
 abbrev pub strip_size : ℕ → ℕ
 strip_size n = 48 * sample_width n
 
--- two bytes of a number of four: its lower half, or its upper half
+-- the lower or the upper half of a four-byte number
 abbrev pub half_of : Bool → ℕ → ℕ
 half_of lower value = if lower then value % 65536 else value / 65536
 
--- The header of a file of strips and the entries of its directory (TIFF 6.0, section 2): tag, type,
--- count, then the value, lower half first. The width is 0 here.
+-- The header of a stripped file and its directory (TIFF 6.0, section 2): tag, type, count, then the
+-- value, lower half first. The width is computed and is 0 here.
 abbrev pub strips_header : List ℕ
 strips_header =
     18761 ∷ 42 ∷ 8 ∷ 0 ∷ 9  -- "II", nine entries
@@ -46,8 +47,8 @@ strips_header =
     ∷ 0 ∷ 0  -- no further directory
     ∷ []
 
--- number j of the header of a file of strips: its width, the other entries, three BitsPerSample,
--- twelve StripOffsets, lower half first, and twelve StripByteCounts
+-- unit j of a stripped file's header: its width, the other entries, three BitsPerSample, twelve
+-- StripOffsets, lower half first, and twelve StripByteCounts
 unfoldable pub strips_word : ℕ → ℕ → ℕ
 strips_word n j =
     if j == 9 then sample_width n
@@ -56,19 +57,19 @@ strips_word n j =
     else if nat_lt j 88 then half_of (j % 2 == 0) (200 + strip_size n * ((j - 64) / 2))
     else strip_size n
 
--- sample c of texel (x, y) of a file of strips
+-- sample c of texel (x, y) of a stripped file
 abbrev pub strips_sample : ℕ → ℕ → ℕ → ℕ → ℕ
 strips_sample n x y c = (7 * x + 13 * y + 29 * c + n) % 256
 
--- the byte at a place behind its header, where row stands behind row
+-- the byte at place k after a stripped file's header, row after row
 unfoldable pub strips_byte : ℕ → ℕ → ℕ
 strips_byte n k =
     let row = 3 * sample_width n in
     strips_sample n (k % row / 3) (k / row) (k % row % 3)
 
--- ---- files of tiles
+-- ---- tiled files
 
--- the tiles of a row of tiles; there are three rows
+-- the tiles in a row of tiles; there are three rows of tiles
 abbrev pub tiles_across : ℕ → ℕ
 tiles_across n = (sample_width n + 63) / 64
 
@@ -79,8 +80,8 @@ tile_count n = 3 * tiles_across n
 abbrev pub first_tile : ℕ → ℕ
 first_tile n = 146 + 6 * tile_count n
 
--- The same of a file of tiles, upper half first. The width, the two counts of tiles and the place of
--- TileByteCounts are 0 here.
+-- The header of a tiled file and its directory, upper half first. The width, the two counts of
+-- tiles and the place of TileByteCounts are computed and are 0 here.
 abbrev pub tiles_header : List ℕ
 tiles_header =
     19789 ∷ 42 ∷ 0 ∷ 8 ∷ 11  -- "MM", eleven entries
@@ -98,8 +99,8 @@ tiles_header =
     ∷ 0 ∷ 0  -- no further directory
     ∷ []
 
--- number j of the header of a file of tiles: its width, two counts, the place of TileByteCounts,
--- the other entries, the TileOffsets, upper half first, and the TileByteCounts
+-- unit j of a tiled file's header: its width, two counts, the place of TileByteCounts, the other
+-- entries, the TileOffsets, upper half first, and the TileByteCounts
 unfoldable pub tiles_word : ℕ → ℕ → ℕ
 tiles_word n j =
     if j == 9 then sample_width n
@@ -110,11 +111,11 @@ tiles_word n j =
     then half_of (j % 2 == 0) (first_tile n + 8192 * ((j - 73) / 2))
     else 8192
 
--- the sample of texel (x, y) of a file of tiles, 0 beside the picture
+-- the sample of texel (x, y) of a tiled file; 0 outside the image
 abbrev pub tiles_sample : ℕ → ℕ → ℕ → ℕ
 tiles_sample n x y = if nat_lt x (sample_width n) then (x * y + 257 * n) % 65536 else 0
 
--- sample k of its tiles, which are numbered row by row
+-- sample k of the tiles, which are numbered row by row
 unfoldable pub tiles_number : ℕ → ℕ → ℕ
 tiles_number n k =
     let tile = k / 4096 in
@@ -123,26 +124,26 @@ tiles_number n k =
 
 -- ---- the files
 
--- byte `at` of numbers of two bytes, lowest or highest byte first
+-- byte `at` in a list of two-byte units, lower or upper byte first
 abbrev pub byte_of_word : Bool → ℕ → ℕ
 byte_of_word lower word = if lower then word % 256 else word / 256
 
--- the bytes of a file
+-- the number of bytes of a file
 abbrev pub sample_len : ℕ → ℕ
 sample_len n =
     if n % 2 == 0 then 200 + 12 * strip_size n else first_tile n + 8192 * tile_count n
 
--- in generation 1 alone
+-- the length of a generation; only generation 1 exists
 abbrev pub sample_len_of : ℕ → ℕ → Option ℕ
 sample_len_of n g = if g == 1 then Some (sample_len n) else None
 
--- the byte at a place of a file of strips
+-- the byte at a place of a stripped file
 abbrev pub byte_of_strips : ℕ → ℕ → ℕ
 byte_of_strips n at =
     if nat_lt at 200 then byte_of_word (at % 2 == 0) (strips_word n (at / 2))
     else strips_byte n (at - 200)
 
--- and of a file of tiles
+-- the byte at a place of a tiled file
 abbrev pub byte_of_tiles : ℕ → ℕ → ℕ
 byte_of_tiles n at =
     byte_of_word (at % 2 == 1)

@@ -1,5 +1,5 @@
--- What are the counts of the folder of the sample files and of its taps? They never fail, and their
--- files never change, so their faults and moves are 0 whatever was called.
+-- What do the folder of the sample files and its taps count? They never fail and their files never
+-- change, so their I/O errors and moves are always 0.
 use Rattle.std.specs.Prelude.{false, string_bytes, option_map}
 use Rattle.tex_world.specs.Folder.{FolderState}
 use Rattle.tex_world.specs.MemFolder.{size_once_entered, names_once_entered}
@@ -10,7 +10,7 @@ use Rattle.tex_world.specs.Tap.{TapState}
 use Rattle.tex_world.specs.declared.sample_folder.SampleFolder.{SampleFolder}
 use Rattle.tex_world.specs.declared.sample_tap.SampleTap.{SampleTap}
 
--- those of a tap, and its latest answer of a newest generation
+-- the counts of a tap, and its last answer of a newest generation
 abbrev pub sample_tap : SampleTap → TapState
 sample_tap tap = record {
   faults = 0;
@@ -22,7 +22,7 @@ sample_tap tap = record {
   newest = tap.newest;
 }
 
--- those of the folder, which has all of the files once it is entered, and none before
+-- the counts of the folder, which has all files once it is entered and none before
 abbrev pub sample_folder : SampleFolder → FolderState
 sample_folder folder = record {
   faults = 0;

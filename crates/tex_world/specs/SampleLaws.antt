@@ -1,4 +1,4 @@
--- Why has the folder of the sample files just these once it is entered?
+-- Why does the folder of the sample files have exactly these once it is entered?
 use Rattle.std.proofs.Common.{arith, lit≤}
 use Rattle.tex_world.specs.Folder.{IsFolder}
 use Rattle.tex_world.specs.FolderLaws.{few_files, numbered, unnumbered, unnamed}
@@ -8,7 +8,7 @@ use Rattle.tex_world.specs.SampleFolder.{sample_folder}
 use Rattle.tex_world.specs.Table.{table_files}
 use Rattle.tex_world.specs.declared.sample_folder.SampleFolder.{SampleFolder}
 
--- it meets the laws of a folder
+-- it obeys the laws of a folder
 pub sample_is_lawful : (folder : SampleFolder) → IsFolder
     (table_files sample_count (name_at sample_names) sample_len_of (λ n g at. sample_byte n at))
     (sample_folder folder)

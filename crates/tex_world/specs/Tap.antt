@@ -1,4 +1,4 @@
--- What do the calls of a tap give, when may each be refused, and which counts do they raise?
+-- What do a tap's calls answer, when may they fail, and which counts do they raise?
 use Rattle.std.specs.Prelude.{◌≡◌, ◌⊎◌, ℕ, ◌+◌, ◌*◌, ◌/◌, ◌%◌, ◌<◌, ◌≤◌, List, length, slice_index}
 use Rattle.std.specs.Prelude.{Result, Ok, Err, ⊤}
 use Rattle.std.specs.Option.{ForSome}
@@ -15,16 +15,16 @@ pub record Named : Type 0 where
   pub generation : ℕ
   pub len : ℕ
 
--- A handle's generation is a real one of its file, and its length is that of those bytes.
+-- A handle's generation exists, and its length is that of the generation's bytes.
 pub record IsHandle (files : Files) (handle : Named) : Type 0 where
   pub real : IsReal files handle.file handle.generation
   pub len : ForSome (files.held handle.file handle.generation) (λ bytes. handle.len ≡ length bytes)
 
--- the least generation that a caller asks for: none, or a real one
+-- the least generation that a caller asks for: 0, or one that exists
 abbrev pub IsLeast : Files → ℕ → ℕ → Type 0
 IsLeast files file least = (least ≡ 0) ⊎ IsReal files file least
 
--- The counts of a tap, none of which falls, and its latest answer of a newest generation.
+-- The counts of a tap, none of which falls, and its last answer of a newest generation.
 pub record TapState : Type 0 where
   -- failed calls
   pub faults : ℕ
@@ -32,13 +32,13 @@ pub record TapState : Type 0 where
   pub calls : ℕ
   -- calls of `open`
   pub opens : ℕ
-  -- answered calls of `newest`
+  -- successful calls of `newest`
   pub asks : ℕ
-  -- meetings with a newer generation
+  -- how often a newer generation was met
   pub moves : ℕ
-  -- of those, the reads that answered `Gone`
+  -- reads that answered `Gone`; each is also a move
   pub lost : ℕ
-  -- the file and the generation that the latest answered `newest` gave
+  -- the file and the generation that the last successful `newest` answered
   pub newest : ℕ × ℕ
 
 -- the counts of a new tap
@@ -52,23 +52,23 @@ pub record IsNew (tap : TapState) : Type 0 where
 
 -- ---- open
 
--- The handle names this file and a generation that is at least `least`.
+-- The handle names this file and a generation of at least `least`.
 pub record Opens (files : Files) (file least : ℕ) (handle : Named) : Type 0 where
   pub of_file : handle.file ≡ file
   pub new_enough : least ≤ handle.generation
   pub honest : IsHandle files handle
 
--- why an `open` is refused
+-- why an `open` fails
 abbrev pub OpenCause : TapState → TapState → OpenError → Type 0
 OpenCause old new opening.Failed = Rises old.faults new.faults
 OpenCause old new opening.NoMemory = ⊤
 
--- the generation given is above a `least` that is not 0
+-- the opened generation is newer than a `least` that is not 0
 abbrev pub IsMove : ℕ → ℕ → Type 0
 IsMove least generation = (0 < least) × (least < generation)
 
--- An `open` is a call and an opening. The moves rise exactly where it gives a newer generation than
--- `least` asks for, and no read has lost its generation by it.
+-- An `open` counts as a call and an open. The moves rise if and only if it opens a newer generation
+-- than `least`; the count of lost generations is unchanged.
 pub record AfterOpen {H : Type 0} (named : H → Named) (least : ℕ) (old new : TapState)
     (result : Result H OpenError) : Type 0 where
   pub faults : old.faults ≤ new.faults
@@ -85,8 +85,8 @@ pub record AfterOpen {H : Type 0} (named : H → Named) (least : ℕ) (old new :
 
 -- ---- newest
 
--- An answered `newest` is a call and an ask, and its answer is then the latest. A refused one is
--- only a call.
+-- A successful `newest` counts as a call and an ask, and its answer is then the last one. A failed
+-- one counts only as a call.
 pub record AfterNewest {E : Type 0} (file : ℕ) (old new : TapState) (result : Result ℕ E)
     : Type 0 where
   pub faults : old.faults ≤ new.faults
@@ -101,20 +101,20 @@ pub record AfterNewest {E : Type 0} (file : ℕ) (old new : TapState) (result : 
 
 -- ---- read_at and read_rows
 
--- why a read is refused
+-- why a read fails
 abbrev pub ReadCause : Files → Named → TapState → TapState → ReadError → Type 0
 ReadCause files handle old new reading.Failed = Rises old.faults new.faults
 ReadCause files handle old new (reading.Gone to) =
     IsReal files handle.file to × (handle.generation < to) × Rises old.moves new.moves
     × Rises old.lost new.lost
 
--- the refusal is not that the generation is gone
+-- the error is not that the generation is gone
 abbrev pub IsFault : ReadError → Type 0
 IsFault reading.Failed = ⊤
 IsFault (reading.Gone to) = ⊥
 
--- A read is a call, of however many rows, and neither an opening nor an ask. The moves rise exactly where it answers
--- `Gone`, and so does the count of the reads that answered it.
+-- A read counts as one call, whatever its number of rows, and neither as an open nor as an ask. The
+-- moves and the lost generations rise if and only if it answers `Gone`.
 pub record AfterRead (old new : TapState) (result : Result (Unit {0}) ReadError) : Type 0 where
   pub faults : old.faults ≤ new.faults
   pub calls : RisesByOne old.calls new.calls
@@ -128,11 +128,12 @@ pub record AfterRead (old new : TapState) (result : Result (Unit {0}) ReadError)
   pub lost_answered : result ≡ Ok tt → new.lost ≡ old.lost
   pub lost_failed : (e : ReadError) → result ≡ Err e → IsFault e → new.lost ≡ old.lost
 
--- where byte k of rows of `row` bytes stands, of which each begins `stride` bytes behind the one before
+-- where byte k of rows of `row` bytes lies, each of which begins `stride` bytes after the one
+-- before
 abbrev pub place_in_rows : ℕ → ℕ → ℕ → ℕ → ℕ
 place_in_rows at stride row k = at + k / row * stride + k % row
 
--- So many bytes are whole rows that do not overlap, and each of them lies below a length.
+-- The bytes are whole rows that do not overlap, and each row lies below the length.
 pub record AreRows (at stride row count len : ℕ) : Type 0 where
   pub some : 1 ≤ row
   pub apart : row ≤ stride

@@ -1,4 +1,4 @@
--- What is left of a tap's share of a plan, and what does it say of a call?
+-- What is left of a tap's share of a plan, and what does it say about a call?
 use Rattle.std.specs.Prelude.{ℕ, ◌+◌, ◌-◌, ◌/◌, ◌%◌, max, Bool, ◌&&◌, ◌||◌, not, nat_lt, nat_le, ◌==◌}
 use Rattle.std.specs.Prelude.{List, [], ◌∷◌, ◌++◌, if◌then◌else◌, Result, Ok, Err}
 use Rattle.std.specs.List.{filter, fold, list_any}
@@ -15,61 +15,62 @@ use Rattle.tex_world.specs.declared.reading.Reading.{Reading}
 pub record TapPlan : Type 0 where
   -- the calls that fail
   pub fail_calls : List FailCall
-  -- the bytes at which a read is still to fail
+  -- the bytes at which a read will fail
   pub fail_bytes : List FailByte
-  -- the newest generations at first
+  -- the newest generations seen at first
   pub newest : List Newest
-  -- the rises that are still to come
+  -- the newer generations that will still appear
   pub rises : List Rise
-  -- the rises that have come
+  -- the newer generations that have appeared
   pub risen : List Rise
 
--- ---- which entries name a call
+-- ---- which entries concern a call
 
--- the call of this number, counted from 1, is to fail
+-- the call with this number, counted from 1, fails
 abbrev pub is_failing_call : TapPlan → ℕ → Bool
 is_failing_call plan call = list_any (λ e. e.call == call) plan.fail_calls
 
--- one of the rows has the byte so far behind the first one
+-- one of the rows has the byte that lies this many bytes after the first one
 abbrev pub is_in_rows : Reading → ℕ → Bool
 is_in_rows read behind =
     let stride = max read.stride 1 in
     nat_lt (behind / stride) read.count && nat_lt (behind % stride) read.row
 
--- the bytes that are read include that at a place of a file
+-- the read includes the byte at this place of a file
 abbrev pub covers : Reading → ℕ → ℕ → Bool
 covers read file at = (file == read.file) && (nat_le read.at at && is_in_rows read (at - read.at))
 
--- the read is to fail at this entry's byte
+-- the read fails at this entry's byte
 abbrev pub is_failing_byte : Reading → FailByte → Bool
 is_failing_byte read e = covers read e.file e.at
 
--- the read, which is the call of this number, is to fail by its number or at a byte
+-- the read, which is the call with this number, fails by its number or at a byte
 abbrev pub is_failing_read : TapPlan → ℕ → Reading → Bool
 is_failing_read plan call read =
     is_failing_call plan call || list_any (is_failing_byte read) plan.fail_bytes
 
--- This entry's generation is held and newer than the read's, and its byte is read.
+-- This entry's generation exists and is newer than the read's, and its byte is read.
 abbrev pub is_rising : Files → Reading → Rise → Bool
 is_rising files read e =
     is_held files e.file e.to && (nat_lt read.generation e.to && covers read e.file e.at)
 
--- ---- what a call gives
+-- ---- what a call answers
 
--- what a read answers that meets these rises alone: one is met as it says, several fail
+-- the answer of a read at which these generations appear: one is met, several make it fail
 abbrev pub met : List Rise → Result (Unit {0}) ReadError
 met [] = Ok tt
 met (e ∷ []) = Err (Gone e.to)
 met (e ∷ f ∷ es) = Err Failed
 
--- The answer to a read after so many calls: it fails where an entry says so, or several entries
--- name it, and one rise alone it meets.
+-- The answer of a read after `calls` calls. It fails if an entry says so, or if several newer
+-- generations appear; a single one is met.
 abbrev pub planned_read : Files → TapPlan → ℕ → Reading → Result (Unit {0}) ReadError
 planned_read files plan calls read =
     if is_failing_read plan (calls + 1) read then Err Failed
     else met (filter (is_rising files read) plan.rises)
 
--- What is left after a read: the entries that name it are spent, and its rises have come.
+-- What is left after a read: the entries that name it are used up, and its generations have
+-- appeared.
 abbrev pub after_read : Files → Reading → TapPlan → TapPlan
 after_read files read plan = record {
   fail_calls = plan.fail_calls;
@@ -79,20 +80,21 @@ after_read files read plan = record {
   risen = plan.risen ++ filter (is_rising files read) plan.rises;
 }
 
--- the generation of the first entry that names a file and a generation that is held, and else the
--- first generation
+-- the generation of the first entry with this file and an existing generation; otherwise generation
+-- 1
 abbrev pub newest_at_first : Files → List Newest → ℕ → ℕ
 newest_at_first files [] file = first_generation
 newest_at_first files (e ∷ entries) file =
     if (e.file == file) && is_held files file e.generation
     then e.generation else newest_at_first files entries file
 
--- a generation of a file after a rise has come
+-- a generation of a file after a newer one has appeared
 abbrev pub after_rise : Files → ℕ → ℕ → Rise → ℕ
 after_rise files file generation e =
     if (e.file == file) && is_held files file e.to then max generation e.to else generation
 
--- the tap's newest generation of a file: that at first, raised by all rises that have come
+-- the newest generation of a file that the tap sees: the first one, raised by all that have
+-- appeared
 abbrev pub newest_of : Files → TapPlan → ℕ → ℕ
 newest_of files plan file =
     fold (after_rise files file) (newest_at_first files plan.newest file) plan.risen

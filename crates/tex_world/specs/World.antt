@@ -1,17 +1,17 @@
--- What is a world? Which files there are, and the bytes of each version of a file.
+-- What is a world? The contracts' model of a folder: its files, and the bytes of each generation.
 use Rattle.std.specs.Prelude.{◌≡◌, ℕ, ◌<◌, ◌≤◌, Bool, IsTrue, IsFalse, List}
 use Rattle.std.specs.Prelude.{Option, None, IsSome, is_some}
 
--- The meaning of a world. A world that does not tell says nothing of its names and bytes, and
--- `held` is then none everywhere.
+-- The content of a world. If it is not modelled, nothing is said of names and bytes, and `held` is
+-- `None` everywhere.
 pub record Files : Type 0 where
-  -- whether it tells
+  -- whether the world is modelled
   pub tells : Bool
-  -- how many files there are, numbered from 0
+  -- the number of files, which are numbered from 0
   pub count : ℕ
-  -- the name of a file, as its bytes
+  -- the bytes of a file's name
   pub name : ℕ → List ℕ
-  -- the bytes of a generation of a file, if there is one
+  -- the bytes of a file's generation, if it exists
   pub held : ℕ → ℕ → Option (List ℕ)
 
 -- the first generation of a file
@@ -26,25 +26,25 @@ last_generation = 1048575
 abbrev pub max_files : ℕ
 max_files = 4096
 
--- The laws of a world: it has at most 4096 files, where it tells their names are distinct, and
--- where it does not `held` is none everywhere.
+-- The laws of a world. It has at most 4096 files. If it is modelled, their names are distinct;
+-- otherwise `held` is `None` everywhere.
 pub record IsWorld (files : Files) : Type 0 where
   pub few : files.count ≤ max_files
   pub distinct : IsTrue files.tells → (m n : ℕ) → m < files.count → n < files.count
       → files.name m ≡ files.name n → m ≡ n
   pub untold : IsFalse files.tells → (n g : ℕ) → files.held n g ≡ None
 
--- A generation is real where it is in range and the world, if it tells, holds bytes for it.
+-- A generation exists if it is in range and, in a modelled world, has bytes.
 pub record IsReal (files : Files) (file generation : ℕ) : Type 0 where
   pub low : 1 ≤ generation
   pub high : generation ≤ last_generation
   pub held : IsTrue files.tells → IsSome (files.held file generation)
 
--- the world holds bytes for this generation of a file
+-- the world has bytes for this generation of a file
 abbrev pub is_held : Files → ℕ → ℕ → Bool
 is_held files file generation = is_some (files.held file generation)
 
--- the file is one of the world's, where the world tells
+-- the file is one of the world's, if the world is modelled
 abbrev pub IsFile : Files → ℕ → Type 0
 IsFile files file = IsTrue files.tells → file < files.count
 

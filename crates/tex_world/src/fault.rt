@@ -1,12 +1,12 @@
-//! Why a call of the outside world is refused.
+//! The errors of the outside world.
 
 use std::alloc::AllocError;
 
-/// The source failed. Its count of faults has risen.
+/// An I/O error. The tap's count of faults has risen.
 #[derive(Clone, Copy, Debug, PartialEq, Eq)]
 pub struct Failed;
 
-/// No memory was found.
+/// Out of memory.
 #[derive(Clone, Copy, Debug, PartialEq, Eq)]
 pub struct NoMemory;
 
@@ -20,31 +20,31 @@ impl From<AllocError> for NoMemory {
     }
 }
 
-/// Why a folder was not entered.
+/// Why a folder could not be entered.
 #[derive(Clone, Copy, Debug, PartialEq, Eq)]
 pub enum EnterError {
-    /// The source failed.
+    /// An I/O error.
     Failed,
     /// The folder has more than 4096 files.
     TooMany,
-    /// No memory was found.
+    /// Out of memory.
     NoMemory,
 }
 
-/// Why a file was not opened.
+/// Why a file could not be opened.
 #[derive(Clone, Copy, Debug, PartialEq, Eq)]
 pub enum OpenError {
-    /// The source failed.
+    /// An I/O error.
     Failed,
-    /// No memory was found.
+    /// Out of memory.
     NoMemory,
 }
 
-/// Why bytes were not read.
+/// Why bytes could not be read.
 #[derive(Clone, Copy, Debug, PartialEq, Eq)]
 pub enum ReadError {
-    /// The source failed.
+    /// An I/O error.
     Failed,
-    /// The handle's generation is gone, and the file has this newer one.
+    /// The handle's generation is gone; the file has this newer one.
     Gone(u32),
 }

@@ -1,3 +1,4 @@
+//! The input of the program, as a trait.
 ghost use Rattle.std.specs.Prelude.{ℕ, ◌<◌, ◌≤◌, List, length, Option, IfOk, OnErr};
 ghost use Rattle.tex_world.specs.Counts.{Rises};
 ghost use Rattle.tex_world.specs.Stream.{Feeds};
@@ -6,14 +7,13 @@ use crate::fault::Failed;
 
 /// A source of bytes that ends.
 pub trait Feed {
-    /// The bytes that it has left, where it tells them.
+    /// The bytes that are left, if the feed is modelled.
     ghost left: { Self → Option (List ℕ) };
 
-    /// How often it has failed.
+    /// How many reads have failed.
     ghost faults: { Self → ℕ };
 
-    /// Moves bytes from its front into the front of the buffer, and answers how many. 0 means the
-    /// end.
+    /// Reads the next bytes into the front of the buffer and returns how many. 0 means the end.
     fn read(&mut self, buf: &mut [u8]) -> Result<usize, Failed>
         requires { 0 < length buf.old }
         ensures ok { IfOk result (λ n. Feeds n buf.new (left self.old) (left self.new)) }

@@ -1,6 +1,5 @@
-//! The world outside as the texture service sees it: folders of files in generations, taps that
-//! read them, a feed that gives the requests and a sink that takes the answers. And each of them in
-//! memory.
+//! The outside world as traits, each with an implementation in memory: folders, taps that read
+//! files, a feed for the requests and a sink for the answers.
 #![tactic(auto)]
 
 mod fault;

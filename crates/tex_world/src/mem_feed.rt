@@ -1,4 +1,4 @@
-//! A feed in memory.
+//! A feed in memory, for tests.
 ghost use Rattle.std.specs.Prelude.{◌≡◌, ◌↔◌, ℕ, ◌+◌, ◌<◌, ◌≤◌, min, List, length, drop};
 ghost use Rattle.std.specs.Prelude.{Option, Some, IfOk, OnErr, IsErr};
 ghost use Rattle.tex_world.specs.Counts.{Rises};
@@ -10,7 +10,7 @@ use crate::feed::Feed;
 use crate::planned::Planned;
 use std::marker::Model;
 
-/// Bytes in memory that are read from front to back. One of its calls may be planned to fail.
+/// Bytes in memory that are read from front to back. One of its calls can be planned to fail.
 #[derive(Drop)]
 pub struct MemFeed {
     bytes: Vec<u8>,
@@ -33,7 +33,7 @@ impl Model for MemFeed {
 }
 
 impl MemFeed {
-    /// A feed of these bytes. The call of the number `fail`, counted from 1, fails.
+    /// A feed with these bytes. Call number `fail`, counted from 1, fails.
     pub fn new(bytes: Vec<u8>, fail: Option<u64>) -> Self
         ensures left { result.left ≡ bytes.items }
         ensures fail { result.planned.fail ≡ fail }
@@ -47,7 +47,7 @@ impl MemFeed {
         }
     }
 
-    /// How often it has failed.
+    /// How many reads have failed.
     pub fn faults(&self) -> u64
         ensures { result ≡ self.now.planned.faults }
     {
@@ -60,14 +60,14 @@ impl Feed for MemFeed {
 
     ghost faults = { λ f. f.planned.faults };
 
-    /// It answers as many bytes as the buffer holds and are left. A refused call moves none.
+    /// Returns as many bytes as fit the buffer and are left. A failed call reads none.
     fn read(&mut self, buf: &mut [u8]) -> Result<usize, Failed>
         requires { 0 < length buf.old }
         ensures ok { IfOk result (λ n. Feeds n buf.new (Some self.old.left) (Some self.new.left)) }
         ensures faults { self.old.planned.faults ≤ self.new.planned.faults }
         ensures cause { OnErr result (Rises self.old.planned.faults self.new.planned.faults) }
 
-        // Only the planned call fails, and which one that is stays.
+        // Only the planned call fails, and the plan does not change.
         ensures planned { IsErr result ↔ IsPlanned self.old.planned }
         ensures value { IfOk result (λ n. n ≡ min (length buf.old) (length self.old.left)) }
         ensures same { OnErr result (self.new.left ≡ self.old.left) }

@@ -1,4 +1,4 @@
-//! A folder in memory.
+//! A folder in memory, for tests.
 ghost use Rattle.std.specs.Prelude.{◌≡◌, ◌↔◌, ◌⊎◌, ◌+◌, ◌-◌, ◌^◌, min, [], false};
 ghost use Rattle.std.specs.Prelude.{Err, IfOk, IfErr, IsOk};
 ghost use Rattle.tex_world.specs.Counts.{last_count};
@@ -19,8 +19,8 @@ use crate::world::World;
 use std::alloc::Global;
 use std::marker::PhantomData;
 
-/// A folder with the files of a table, under any path. Its plan says which of its calls and of
-/// those of its taps fail, and which files change under its taps.
+/// A folder with the files of a table, under any path. Its plan says which calls fail, its own and
+/// those of its taps, and which files change.
 #[derive(Drop)]
 pub struct MemFolder<T: FileTable> {
     plan: Plan,
@@ -35,7 +35,7 @@ pub struct MemFolder<T: FileTable> {
 }
 
 impl<T: FileTable> MemFolder<T> {
-    /// A folder that is not entered.
+    /// A folder that has not been entered.
     pub fn new(plan: Plan) -> Self
         ensures new { IsNewFolder (folder_state T.count_of T.name_of result) }
         ensures calls { calls_returned result ≡ 0 }
@@ -55,35 +55,35 @@ impl<T: FileTable> MemFolder<T> {
         }
     }
 
-    /// The failed calls, those of the taps given back among them.
+    /// The number of failed calls, including those of taps given back.
     pub fn faults(&self) -> u64
         ensures { result ≡ (folder_state T.count_of T.name_of self.now).faults }
     {
         self.faults
     }
 
-    /// How often the taps given back met a newer generation.
+    /// How often taps given back met a newer generation.
     pub fn moves(&self) -> u64
         ensures { result ≡ (folder_state T.count_of T.name_of self.now).moves }
     {
         self.moves
     }
 
-    /// How many taps it has made.
+    /// The number of taps made.
     pub fn made(&self) -> u64
         ensures { result ≡ (folder_state T.count_of T.name_of self.now).made }
     {
         self.made
     }
 
-    /// How many taps were given back.
+    /// The number of taps given back.
     pub fn returned(&self) -> u64
         ensures { result ≡ (folder_state T.count_of T.name_of self.now).returned }
     {
         self.returned
     }
 
-    /// The calls of the taps given back, all together.
+    /// The number of calls of all taps given back.
     pub fn calls(&self) -> u64
         ensures { result ≡ calls_returned self.now }
     {
@@ -98,7 +98,7 @@ impl<T: FileTable> Folder for MemFolder<T> {
 
     ghost state = { folder_state T.count_of T.name_of };
 
-    /// It keeps the path, which takes memory.
+    /// Keeps a copy of the path, which is allocated.
     fn enter(&mut self, alloc: Global, path: &str) -> Result<(), EnterError>
         ensures cause { let state = folder_state T.count_of T.name_of in
             IfErr result (EnterCause ⟦<TableWorld<T> as World>⟧.files
@@ -106,7 +106,8 @@ impl<T: FileTable> Folder for MemFolder<T> {
         ensures after { let state = folder_state T.count_of T.name_of in
             AfterEnter path.now (state self.old) (state self.new) result }
 
-        // It fails just where it is the first and planned to. Else only memory can be wanting.
+        // It fails if and only if it is the first and planned to fail. Otherwise only memory can
+        // run out.
         ensures planned { (result ≡ Err EnterError.Failed) ↔ IsPlannedEnter self.old }
         ensures err { IfErr result (λ e.
             (e ≡ EnterError.Failed) ⊎ (e ≡ EnterError.NoMemory)) }
@@ -142,13 +143,13 @@ impl<T: FileTable> Folder for MemFolder<T> {
         }
     }
 
-    /// It takes memory only for entries of the plan that name the tap.
+    /// Allocates only for entries of the plan that name the tap.
     fn tap(&mut self, alloc: Global) -> Result<MemTap<T>, NoMemory>
         ensures new { IfOk result (λ t. IsNew (tap_state t)) }
         ensures after { let state = folder_state T.count_of T.name_of in
             AfterTap (state self.old) (state self.new) result }
 
-        // The plan's entries for its number are the tap's. Where there are none it is answered.
+        // The tap gets the plan's entries for its number. If there are none, the call succeeds.
         ensures planned { IfOk result (λ t. tap_plan t ≡ next_share self.old) }
         ensures answers { IsNextUnnamed self.old → IsOk result }
         ensures steady { IsSteady self.old self.new }
@@ -163,7 +164,7 @@ impl<T: FileTable> Folder for MemFolder<T> {
         ensures after { let state = folder_state T.count_of T.name_of in
             AfterBack (tap_state tap) (state self.old) (state self.new) }
 
-        // Its faults and calls are just its own and the tap's together.
+        // Its counts are its own and the tap's together.
         ensures faults { let state = folder_state T.count_of T.name_of in
             (state self.new).faults
             ≡ min ((state self.old).faults + (tap_state tap).faults) last_count }

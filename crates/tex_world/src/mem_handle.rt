@@ -1,4 +1,4 @@
-//! A file of a table, open at one generation.
+//! A handle of a file in memory.
 ghost use Rattle.std.specs.Prelude.{◌≡◌, ◌<◌, ◌≤◌, Some};
 ghost use Rattle.std.proofs.Props.{props};
 ghost use Rattle.tex_world.specs.World.{last_generation};
@@ -8,7 +8,7 @@ use crate::table::{FileTable, TableWorld};
 use crate::tap::TapHandle;
 use std::marker::PhantomData;
 
-/// A file of a table at a generation that the table has.
+/// A file of a table, open at a generation that the table has.
 #[derive(Drop)]
 pub struct MemHandle<T: FileTable> {
     file: u32,

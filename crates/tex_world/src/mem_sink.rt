@@ -1,4 +1,4 @@
-//! A sink in memory.
+//! A sink in memory, for tests.
 ghost use Rattle.std.specs.Prelude.{◌≡◌, ◌⊎◌, ◌+◌, ◌<◌, ◌≤◌, [], length, Some, OnOk, OnErr, IsErr};
 ghost use Rattle.tex_world.specs.Counts.{Rises};
 ghost use Rattle.tex_world.specs.Memory.{IsPlanned, AfterCall};
@@ -10,7 +10,7 @@ use crate::sink::Sink;
 use std::alloc::Global;
 use std::marker::Model;
 
-/// Bytes in memory that grow at their end. One of its calls may be planned to fail.
+/// Bytes in memory that grow at the end. One of its calls can be planned to fail.
 #[derive(Drop)]
 pub struct MemSink {
     bytes: Vec<u8>,
@@ -29,7 +29,7 @@ impl Model for MemSink {
 }
 
 impl MemSink {
-    /// An empty sink. The call of the number `fail`, counted from 1, fails.
+    /// An empty sink. Call number `fail`, counted from 1, fails.
     pub fn new(alloc: Global, fail: Option<u64>) -> Self
         ensures holds { result.holds ≡ [] }
         ensures fail { result.planned.fail ≡ fail }
@@ -42,14 +42,14 @@ impl MemSink {
         }
     }
 
-    /// What it holds.
+    /// The bytes written so far.
     pub fn bytes(&self) -> &[u8]
         ensures { result.now ≡ self.now.holds }
     {
         &self.bytes
     }
 
-    /// How often it has failed.
+    /// How many writes have failed.
     pub fn faults(&self) -> u64
         ensures { result ≡ self.now.planned.faults }
     {
@@ -62,7 +62,8 @@ impl Sink for MemSink {
 
     ghost faults = { λ s. s.planned.faults };
 
-    /// It takes memory. Without, it fails as the planned call does. A refused call appends nothing.
+    /// Appends the bytes. Out of memory is reported like a planned failure. A failed call appends
+    /// nothing.
     fn put(&mut self, bytes: &[u8]) -> Result<(), Failed>
         ensures ok { OnOk result (Appends bytes.now (Some self.old.holds) (Some self.new.holds)) }
         ensures part { OnErr result
@@ -70,8 +71,8 @@ impl Sink for MemSink {
         ensures faults { self.old.planned.faults ≤ self.new.planned.faults }
         ensures cause { OnErr result (Rises self.old.planned.faults self.new.planned.faults) }
 
-        // The planned call fails, any other one only for want of memory. A put of nothing needs
-        // none.
+        // The planned call fails. Another call fails only if memory runs out, which writing nothing
+        // never does.
         ensures planned { IsPlanned self.old.planned → IsErr result }
         ensures only { IsErr result → IsPlanned self.old.planned ⊎ (0 < length bytes.now) }
         ensures same { OnErr result (self.new.holds ≡ self.old.holds) }

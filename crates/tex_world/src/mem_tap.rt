@@ -1,4 +1,4 @@
-//! A tap in memory.
+//! A tap of a folder in memory.
 ghost use Rattle.std.specs.Prelude.{◌≡◌, ◌↔◌, ℕ, ◌+◌, ◌<◌, ◌≤◌, max, slice_index, length};
 ghost use Rattle.std.specs.Prelude.{IfOk, IfErr, IsErr, OnOk};
 ghost use Rattle.std.specs.List.{EachIndex};
@@ -25,8 +25,8 @@ use crate::world::World;
 use std::alloc::Global;
 use std::marker::PhantomData;
 
-/// A source of the bytes of a table. Its calls fail where its share of the plan says so, and its
-/// reads meet the newer generations that are planned.
+/// Reads the bytes of a table. Its calls fail where its share of the plan says so, and its reads
+/// meet the newer generations that are planned.
 #[derive(Drop)]
 pub struct MemTap<T: FileTable> {
     share: Share,
@@ -41,7 +41,7 @@ pub struct MemTap<T: FileTable> {
 }
 
 impl<T: FileTable> MemTap<T> {
-    /// A tap that has had no call.
+    /// A tap without calls so far.
     pub(crate) fn new(share: Share) -> Self
         ensures new { IsNew (tap_state result) }
         ensures plan { tap_plan result ≡ share_plan share }
@@ -59,7 +59,7 @@ impl<T: FileTable> MemTap<T> {
         }
     }
 
-    // Counts a call, and refuses it where it is planned to fail.
+    // Counts a call, and fails if that is planned.
     fn call(&mut self) -> Result<(), Failed>
         ensures planned { IsErr result ↔ IsPlannedCall self.old }
         ensures after { AfterTapCall self.old self.new result }
@@ -74,7 +74,7 @@ impl<T: FileTable> MemTap<T> {
         Ok(())
     }
 
-    // Answers a read as is planned, and counts it.
+    // Answers a read as planned, and counts it.
     fn answer(&mut self, h: &MemHandle<T>, read: Reading) -> Result<(), ReadError>
         requires { IsReadOf (handle_named h.now) read }
         ensures cause { IfErr result
@@ -101,35 +101,35 @@ impl<T: FileTable> MemTap<T> {
         met
     }
 
-    /// How many of its calls failed.
+    /// How many calls failed.
     pub fn faults(&self) -> u64
         ensures { result ≡ (tap_state self.now).faults }
     {
         self.faults
     }
 
-    /// How often it met a newer generation.
+    /// How often the tap met a newer generation.
     pub fn moves(&self) -> u64
         ensures { result ≡ (tap_state self.now).moves }
     {
         self.moves
     }
 
-    /// How many calls it has had.
+    /// The number of calls.
     pub fn calls(&self) -> u64
         ensures { result ≡ (tap_state self.now).calls }
     {
         self.calls
     }
 
-    /// How many of its calls were openings.
+    /// The number of calls that opened a file.
     pub fn opens(&self) -> u64
         ensures { result ≡ (tap_state self.now).opens }
     {
         self.opens
     }
 
-    /// How many answered calls asked for the newest generation.
+    /// The number of successful calls that asked for a newest generation.
     pub fn asks(&self) -> u64
         ensures { result ≡ (tap_state self.now).asks }
     {
@@ -144,7 +144,7 @@ impl<T: FileTable> Tap for MemTap<T> {
 
     ghost state = { tap_state };
 
-    /// It takes no memory.
+    /// Allocates nothing.
     fn open(&mut self, _alloc: Global, file: u32, least: u32) -> Result<MemHandle<T>, OpenError>
         requires file { IsFile ⟦<TableWorld<T> as World>⟧.files file }
         requires least { IsLeast ⟦<TableWorld<T> as World>⟧.files file least }
@@ -154,7 +154,8 @@ impl<T: FileTable> Tap for MemTap<T> {
         ensures counts { AfterOpen handle_named least
             (tap_state self.old) (tap_state self.new) result }
 
-        // It fails just where it is planned to. It gives the greater of `least` and its newest.
+        // It fails if and only if that is planned. It opens the greater of `least` and its newest
+        // generation.
         ensures planned { IsErr result ↔ IsPlannedCall self.old }
         ensures after { AfterTapCall self.old self.new result }
         ensures err { IfErr result (λ e. e ≡ OpenError.Failed) }
@@ -186,7 +187,8 @@ impl<T: FileTable> Tap for MemTap<T> {
             (λ _. Rises (tap_state self.old).faults (tap_state self.new).faults) }
         ensures counts { AfterNewest file (tap_state self.old) (tap_state self.new) result }
 
-        // It fails just where it is planned to. It gives the greater of `least` and its newest.
+        // It fails if and only if that is planned. It returns the greater of `least` and its newest
+        // generation.
         ensures planned { IsErr result ↔ IsPlannedCall self.old }
         ensures after { AfterTapCall self.old self.new result }
         ensures newest { IfOk result (λ g. g
@@ -212,7 +214,7 @@ impl<T: FileTable> Tap for MemTap<T> {
             (tap_state self.old) (tap_state self.new)) }
         ensures counts { AfterRead (tap_state self.old) (tap_state self.new) result }
 
-        // It answers just what is planned, and what names this read is then spent.
+        // It answers exactly as planned. The entries that name this read are then used up.
         ensures planned { result
             ≡ planned_read ⟦<TableWorld<T> as World>⟧.files (tap_plan self.old)
             (tap_state self.old).calls (reading (handle_named h.old) at buf.old) }
@@ -253,7 +255,7 @@ impl<T: FileTable> Tap for MemTap<T> {
             (tap_state self.old) (tap_state self.new)) }
         ensures counts { AfterRead (tap_state self.old) (tap_state self.new) result }
 
-        // It answers just what is planned, and what names this read is then spent.
+        // It answers exactly as planned. The entries that name this read are then used up.
         ensures planned { result
             ≡ planned_read ⟦<TableWorld<T> as World>⟧.files (tap_plan self.old)
             (tap_state self.old).calls
@@ -278,7 +280,7 @@ impl<T: FileTable> Tap for MemTap<T> {
     }
 }
 
-// Fills the buffer with the bytes of the handle from a place on.
+// Fills the buffer with the bytes of the handle's generation at `at`.
 pub(crate) fn fill<T: FileTable>(h: &MemHandle<T>, at: u64, buf: &mut [u8])
     requires { at + length buf.old ≤ h.now.len }
     ensures { (k : ℕ) → k < length buf.new →
@@ -291,8 +293,8 @@ pub(crate) fn fill<T: FileTable>(h: &MemHandle<T>, at: u64, buf: &mut [u8])
     }
 }
 
-// Fills the buffer with rows of the bytes of the handle: the first from a place on, each `stride` bytes
-// behind the one before.
+// Fills the buffer with rows of the handle's generation. The first is at `at`, and each begins
+// `stride` bytes after the one before.
 pub(crate) fn fill_rows<T: FileTable>(
     h: &MemHandle<T>,
     at: u64,

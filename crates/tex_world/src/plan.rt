@@ -1,4 +1,4 @@
-//! What goes wrong in a folder in memory, and which files change.
+//! A test plan: which calls of a folder in memory fail, and which files change.
 ghost use Rattle.std.specs.Prelude.{◌≡◌, ◌≤◌, [], IfOk, IsOk, vec_capacity};
 
 use crate::fault::NoMemory;
@@ -9,64 +9,64 @@ use std::alloc::Global;
 /// A call of a tap that fails.
 #[derive(Clone, Copy, Debug, PartialEq, Eq)]
 pub struct FailCall {
-    /// The tap's number. Taps are numbered from 0 in the order in which they are made.
+    /// The number of the tap, counted from 0 in the order in which taps are made.
     pub tap: u32,
-    /// The call's number, counted from 1 over all calls of the tap.
+    /// The number of the call, counted from 1 over all calls of the tap.
     pub call: u64,
 }
 
-/// A byte at which a tap's read fails: its first read of bytes that include this one.
+/// A byte whose read fails: the tap's first read that includes this byte fails.
 #[derive(Clone, Copy, Debug, PartialEq, Eq)]
 pub struct FailByte {
-    /// The tap's number.
+    /// The number of the tap.
     pub tap: u32,
-    /// The file's number.
+    /// The number of the file.
     pub file: u32,
-    /// The byte's place in the file.
+    /// The place of the byte in the file.
     pub at: u64,
 }
 
-/// The newest generation that a file has for a tap at first. Where several entries name one tap and
-/// file the first of those counts whose generation the table holds. Without one it is generation 1.
+/// The newest generation that a tap sees of a file at first. If several entries name the same tap
+/// and file, the first whose generation exists counts. Without an entry it is generation 1.
 #[derive(Clone, Copy, Debug, PartialEq, Eq)]
 pub struct Newest {
-    /// The tap's number.
+    /// The number of the tap.
     pub tap: u32,
-    /// The file's number.
+    /// The number of the file.
     pub file: u32,
-    /// The generation. Where the table does not hold it the entry is without effect.
+    /// The generation. If the table does not have it, the entry has no effect.
     pub generation: u32,
 }
 
-/// A newer generation that a file comes to have for a tap: at its first read under a handle of an
-/// older one whose bytes include this byte. The read answers `Gone`, and from then on the tap's
-/// newest generation of the file is at least this one. It is so too where the read fails because
-/// another entry names it.
+/// A newer generation that appears while a tap reads. It appears at the tap's first read that
+/// includes this byte, through a handle of an older generation. The read answers `Gone`, and from
+/// then on the tap's newest generation of the file is at least this one. It appears even if another
+/// entry makes the read fail.
 #[derive(Clone, Copy, Debug, PartialEq, Eq)]
 pub struct Rise {
-    /// The tap's number.
+    /// The number of the tap.
     pub tap: u32,
-    /// The file's number.
+    /// The number of the file.
     pub file: u32,
-    /// The byte's place in the file.
+    /// The place of the byte in the file.
     pub at: u64,
-    /// The newer generation. Where the table does not hold it the entry is without effect.
+    /// The newer generation. If the table does not have it, the entry has no effect.
     pub to: u32,
 }
 
-/// Which calls of a folder in memory and of its taps fail, and which files change under them. What
-/// it says of one tap no other tap meets. A read that several entries name fails.
+/// Which calls of a folder in memory and of its taps fail, and which files change. Each entry
+/// concerns one tap only. A read that several entries name fails.
 #[derive(Debug, PartialEq, Eq, Drop)]
 pub struct Plan {
-    /// Whether the first `enter` fails. A later one goes through.
+    /// Whether the first `enter` fails. Later ones succeed.
     pub fail_enter: bool,
     /// The calls of taps that fail, in any order.
     pub fail_calls: Vec<FailCall>,
     /// The bytes at which reads of taps fail, in any order.
     pub fail_bytes: Vec<FailByte>,
-    /// The newest generations at first.
+    /// The newest generations that taps see at first.
     pub newest: Vec<Newest>,
-    /// The newer generations that reads of taps meet, in any order.
+    /// The newer generations that appear during reads, in any order.
     pub rises: Vec<Rise>,
 }
 
@@ -74,7 +74,7 @@ impl Plan {
     ghost use Rattle.tex_world.specs.Plan.{share_of, IsUnnamed, IsEmpty};
     ghost use Rattle.tex_world.specs.Share.{share_plan};
 
-    /// The plan by which no call fails and no file changes.
+    /// A plan in which nothing fails and no file changes.
     pub fn new(alloc: Global) -> Self
         ensures { IsEmpty result }
     {
@@ -87,7 +87,7 @@ impl Plan {
         }
     }
 
-    /// The share of the tap of this number. It takes memory only for entries that name it.
+    /// The share of the tap with this number. Allocates only for entries that name it.
     pub(crate) fn share(&self, alloc: Global, tap: u64) -> Result<Share, NoMemory>
         ensures value { IfOk result (λ s. share_plan s ≡ share_of self.now tap) }
         ensures answers { IsUnnamed self.now tap → IsOk result }
@@ -107,7 +107,7 @@ impl Plan {
     }
 }
 
-// No rise, and room for so many.
+// An empty list with memory for `count` entries.
 fn room_for(alloc: Global, count: usize) -> Result<Vec<Rise>, NoMemory>
     ensures value { IfOk result (λ v. v.items ≡ []) }
     ensures room { IfOk result (λ v. count ≤ vec_capacity v) }

@@ -1,4 +1,4 @@
-//! The entries of a plan that name one tap.
+//! The entries of a plan, sorted out by tap.
 ghost use Rattle.std.specs.Prelude.{◌≡◌, ℕ, [], IfOk, IsOk};
 ghost use Rattle.tex_world.specs.Plan.{entries_of};
 
@@ -6,12 +6,12 @@ use crate::fault::NoMemory;
 use crate::plan::{FailByte, FailCall, Newest, Rise};
 use std::alloc::Global;
 
-/// What a plan says of one tap.
+/// An entry of a plan, which concerns one tap.
 pub trait PlanEntry: Copy + Drop {
-    /// The tap's number.
+    /// The number of the tap.
     ghost tap_of: { Self → ℕ };
 
-    /// The tap's number.
+    /// The number of the tap.
     fn tap(&self) -> u32
         ensures { result ≡ tap_of self.now };
 }
@@ -48,7 +48,7 @@ impl PlanEntry for Rise {
     }
 }
 
-/// The entries that name the tap of a number, in their order. It takes memory only for these.
+/// The entries for the tap with this number, in order. Allocates only for these.
 pub fn entries_of<E: PlanEntry>(alloc: Global, entries: &[E], tap: u64) -> Result<Vec<E>, NoMemory>
     ensures value { IfOk result (λ v. v.items ≡ entries_of E.tap_of entries.now tap) }
     ensures answers { entries_of E.tap_of entries.now tap ≡ [] → IsOk result }

@@ -1,9 +1,9 @@
-//! A count of calls of which one may be planned to fail.
+//! Counts calls, of which one can be planned to fail.
 ghost use Rattle.std.specs.Prelude.{◌≡◌, ◌↔◌, ◌+◌, min, Option, Some, None, IsTrue};
 ghost use Rattle.tex_world.specs.Counts.{last_count, RisesByOne};
 
-/// The number of the call that is to fail, counted from 1, and how many calls there were and failed
-/// so far.
+/// The number of the call that will fail, counted from 1, and the numbers of calls and failures so
+/// far.
 #[derive(Drop)]
 pub struct Planned {
     pub fail: Option<u64>,
@@ -14,7 +14,7 @@ pub struct Planned {
 impl Planned {
     ghost use Rattle.tex_world.specs.Memory.{IsPlanned};
 
-    /// No call so far.
+    /// No calls so far.
     pub fn new(fail: Option<u64>) -> Self
         ensures fail { result.fail ≡ fail }
         ensures calls { result.calls ≡ 0 }
@@ -27,8 +27,8 @@ impl Planned {
         }
     }
 
-    /// Counts a call, and says whether it is the one that is to fail. The failure is not counted
-    /// yet.
+    /// Counts a call and says whether it is the one that fails. The failure itself is counted by
+    /// `failed`.
     pub fn fails(&mut self) -> bool
         ensures value { IsTrue result ↔ IsPlanned self.old }
         ensures calls { self.new.calls ≡ min (self.old.calls + 1) last_count }

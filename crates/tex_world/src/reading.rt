@@ -1,8 +1,8 @@
-//! A read of a file.
+//! Describes one read of a file, so that plan entries can be compared with it.
 ghost use Rattle.std.specs.Prelude.{◌≡◌};
 
-/// Rows of bytes of a generation of a file: so many of `row` bytes, the first at the place `at`, each
-/// `stride` bytes behind the one before.
+/// A read of `count` rows of `row` bytes from one generation of a file. The first row is at `at`,
+/// and each begins `stride` bytes after the one before.
 #[derive(Clone, Copy)]
 pub struct Reading {
     pub file: u32,
@@ -16,7 +16,7 @@ pub struct Reading {
 impl Reading {
     ghost use Rattle.tex_world.specs.TapPlan.{is_in_rows, covers};
 
-    /// Whether the byte so far behind the first one is among them.
+    /// Whether the byte that lies `behind` bytes after the first one is read.
     fn has(&self, behind: u64) -> bool
         ensures { result ≡ is_in_rows self.now behind }
     {
@@ -24,7 +24,7 @@ impl Reading {
         behind / stride < self.count && behind % stride < self.row
     }
 
-    /// Whether the byte at a place of a file is among them.
+    /// Whether the byte at `at` of a file is read.
     pub fn covers(&self, file: u32, at: u64) -> bool
         ensures { result ≡ covers self.now file at }
     {

@@ -1,4 +1,4 @@
-//! Generations of files in a tap's share of a plan.
+//! Which generations a tap sees, by its share of a plan.
 ghost use Rattle.std.specs.Prelude.{◌≡◌, ◌+◌, ◌≤◌, ◌<◌, ◌++◌, length, vec_capacity, not, IsTrue};
 ghost use Rattle.std.specs.List.{filter, fold};
 ghost use Rattle.tex_world.specs.World.{is_held};
@@ -11,8 +11,8 @@ use crate::plan::{FailByte, Newest, Rise};
 use crate::reading::Reading;
 use crate::table::{FIRST_GENERATION, FileTable, is_held};
 
-/// The generation of the first entry that names a file and a generation that the table holds, and
-/// else the first one.
+/// The generation of the first entry that names the file and an existing generation; otherwise
+/// generation 1.
 pub fn newest_at_first<T: FileTable>(entries: &[Newest], file: u32) -> u32
     requires { file < T.count_of }
     ensures value { result
@@ -28,7 +28,7 @@ pub fn newest_at_first<T: FileTable>(entries: &[Newest], file: u32) -> u32
     FIRST_GENERATION
 }
 
-/// A generation of a file after rises have come.
+/// The generation of a file after these newer ones have appeared.
 pub fn highest<T: FileTable>(risen: &[Rise], file: u32, first: u32) -> u32
     requires { IsTrue (is_held (table_files T.count_of T.name_of T.len_of T.byte_of) file first) }
     ensures value { result
@@ -46,7 +46,7 @@ pub fn highest<T: FileTable>(risen: &[Rise], file: u32, first: u32) -> u32
     newest
 }
 
-/// Whether a rise comes at a read.
+/// Whether this newer generation appears at a read.
 pub fn is_rising<T: FileTable>(read: Reading, e: &Rise) -> bool
     ensures { result
         ≡ is_rising (table_files T.count_of T.name_of T.len_of T.byte_of) read e.now }
@@ -54,7 +54,7 @@ pub fn is_rising<T: FileTable>(read: Reading, e: &Rise) -> bool
     is_held::<T>(e.file, e.to) && read.generation < e.to && read.covers(e.file, e.at)
 }
 
-/// Adds the rises that come at a read to those that have come.
+/// Adds the generations that appear at a read to those that have appeared.
 pub fn add_rising<T: FileTable>(risen: &mut Vec<Rise>, rises: &[Rise], read: Reading)
     requires { length rises.now + length risen.old.items ≤ vec_capacity risen.old }
     ensures value { risen.new.items ≡ risen.old.items ++
@@ -68,7 +68,7 @@ pub fn add_rising<T: FileTable>(risen: &mut Vec<Rise>, rises: &[Rise], read: Rea
     }
 }
 
-/// Drops the rises that come at a read.
+/// Removes the entries whose generation appears at a read.
 pub fn drop_rising<T: FileTable>(rises: &mut Vec<Rise>, read: Reading)
     ensures { rises.new.items ≡ filter (λ e. not
         (is_rising (table_files T.count_of T.name_of T.len_of T.byte_of) read e)) rises.old.items }
@@ -76,14 +76,14 @@ pub fn drop_rising<T: FileTable>(rises: &mut Vec<Rise>, read: Reading)
     rises.retain(|e| !is_rising::<T>(read, e));
 }
 
-/// Drops the bytes at which a read fails.
+/// Removes the bytes at which a read fails.
 pub fn drop_failing(bytes: &mut Vec<FailByte>, read: Reading)
     ensures { bytes.new.items ≡ filter (λ e. not (is_failing_byte read e)) bytes.old.items }
 {
     bytes.retain(|e| !read.covers(e.file, e.at));
 }
 
-/// The answer to a read that meets these rises alone.
+/// The answer to a read at which these generations appear.
 pub fn met(rises: &[Rise]) -> Result<(), ReadError>
     ensures { result ≡ met rises.now }
 {

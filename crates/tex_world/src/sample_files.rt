@@ -1,4 +1,4 @@
-//! Eight pictures whose bytes are computed.
+//! Eight textures whose bytes are computed.
 ghost use Rattle.std.specs.Prelude.{◌≡◌, ◌+◌, ◌*◌, ◌^◌, ◌<◌, ◌≤◌, refl};
 ghost use Rattle.std.proofs.Common.{arith, lit≤};
 ghost use Rattle.tex_world.specs.Names.{name_at, distinct_names};
@@ -10,8 +10,8 @@ ghost use Rattle.tex_world.specs.Sample.{sample_len_of, sample_byte};
 
 use crate::table::FileTable;
 
-/// The header of a file of strips and the entries of its directory, as numbers of two bytes. The
-/// width is computed, and what stands behind the directory.
+/// The header and the directory of a stripped file, in units of two bytes. The width, and what
+/// follows the directory, are computed.
 static STRIPS: [u16; 61] = [
     0x4949, 42, 8, 0, 9, // nine entries
     256, 3, 1, 0, 0, 0, // ImageWidth
@@ -26,8 +26,8 @@ static STRIPS: [u16; 61] = [
     0, 0, // no further directory
 ];
 
-/// The same of a file of tiles. The width, the two counts of tiles and the place of TileByteCounts
-/// are computed.
+/// The header and the directory of a tiled file, in units of two bytes. The width, the two counts
+/// of tiles and the place of TileByteCounts are computed.
 static TILES: [u16; 73] = [
     0x4d4d, 42, 0, 8, 11, // eleven entries
     256, 3, 0, 1, 0, 0, // ImageWidth
@@ -44,7 +44,7 @@ static TILES: [u16; 73] = [
     0, 0, // no further directory
 ];
 
-/// The texels of a row.
+/// The number of texels in a row.
 fn width(n: u64) -> u64
     requires { n < sample_count }
     ensures value { result ≡ sample_width n }
@@ -52,7 +52,7 @@ fn width(n: u64) -> u64
     256 + 32 * n
 }
 
-/// Half of a number of four bytes.
+/// The lower or the upper half of a four-byte number.
 fn half(lower: bool, value: u64) -> u64
     requires { value < 2 ^ 32 }
     ensures value { result ≡ half_of lower value }
@@ -61,7 +61,7 @@ fn half(lower: bool, value: u64) -> u64
     if lower { value % 65536 } else { value / 65536 }
 }
 
-/// Number j of the header of a file of strips.
+/// Unit j of a stripped file's header.
 #[tactic(auto, unfolding(crate::specs::Sample::strips_word))]
 fn strips_word(n: u64, j: u64) -> u64
     requires file { n < sample_count }
@@ -83,7 +83,7 @@ fn strips_word(n: u64, j: u64) -> u64
     }
 }
 
-/// The byte at a place behind it.
+/// The byte at place k after a stripped file's header.
 #[tactic(auto, unfolding(crate::specs::Sample::strips_byte))]
 fn strips_byte(n: u64, k: u64) -> u64
     requires file { n < sample_count }
@@ -96,7 +96,7 @@ fn strips_byte(n: u64, k: u64) -> u64
     (7 * x + 13 * y + 29 * c + n) % 256
 }
 
-/// The tiles of a row of tiles.
+/// The number of tiles in a row of tiles.
 fn tiles_across(n: u64) -> u64
     requires { n < sample_count }
     ensures value { result ≡ tiles_across n }
@@ -105,7 +105,7 @@ fn tiles_across(n: u64) -> u64
     (width(n) + 63) / 64
 }
 
-/// Number j of the header of a file of tiles.
+/// Unit j of a tiled file's header.
 #[tactic(auto, unfolding(crate::specs::Sample::tiles_word))]
 fn tiles_word(n: u64, j: u64) -> u64
     requires file { n < sample_count }
@@ -129,7 +129,7 @@ fn tiles_word(n: u64, j: u64) -> u64
     }
 }
 
-/// Sample k of the tiles.
+/// Sample k of the tiles, counted through all tiles.
 #[tactic(auto, unfolding(crate::specs::Sample::tiles_number))]
 fn tiles_number(n: u64, k: u64) -> u64
     requires file { n < sample_count }
@@ -147,7 +147,7 @@ fn tiles_number(n: u64, k: u64) -> u64
     }
 }
 
-/// A byte of a number of two.
+/// The lower or the upper byte of a two-byte unit.
 fn byte_of_word(lower: bool, word: u64) -> u8
     requires { word < 65536 }
     ensures { result ≡ byte_of_word lower word }
@@ -159,7 +159,7 @@ fn byte_of_word(lower: bool, word: u64) -> u8
     }
 }
 
-/// The byte of a file of strips.
+/// The byte at a place of a stripped file.
 fn byte_of_strips(n: u64, at: u64) -> u8
     requires file { n < sample_count }
     requires place { at < 200 + 12 * strip_size n }
@@ -172,7 +172,7 @@ fn byte_of_strips(n: u64, at: u64) -> u8
     }
 }
 
-/// The byte of a file of tiles.
+/// The byte at a place of a tiled file.
 fn byte_of_tiles(n: u64, at: u64) -> u8
     requires file { n < sample_count }
     requires place { at < first_tile n + 8192 * tile_count n }
@@ -187,9 +187,9 @@ fn byte_of_tiles(n: u64, at: u64) -> u8
     byte_of_word(at % 2 == 1, word)
 }
 
-/// `sample0.tif` to `sample7.tif`, each in generation 1 alone.
+/// `sample0.tif` to `sample7.tif`, each in generation 1 only.
 ///
-/// Those of an even number are RGB of 8 bits in strips, the others one channel of 16 bits in tiles.
+/// Even numbers are 8-bit RGB in strips, odd ones are one 16-bit channel in tiles.
 #[derive(Drop)]
 pub struct SampleFiles;
 

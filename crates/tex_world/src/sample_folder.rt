@@ -1,4 +1,4 @@
-//! A folder of sample files.
+//! A folder with the sample files.
 ghost use Rattle.std.specs.Prelude.{◌≡◌, IfOk, IfErr, IsOk};
 ghost use Rattle.tex_world.specs.Tap.{IsNew};
 ghost use Rattle.tex_world.specs.Folder.{IsNewFolder, EnterCause, AfterEnter, AfterTap, AfterBack};
@@ -13,8 +13,8 @@ use crate::table::{FileTable, TableWorld, number_of};
 use crate::world::World;
 use std::alloc::Global;
 
-/// A folder with the sample files, under any path. Its world tells their bytes. No call of it or of
-/// its taps fails, and none of its files changes; only memory for the path can be wanting.
+/// A folder with the sample files, under any path. The world is modelled. No call fails and no file
+/// changes; only memory for the path can run out.
 #[derive(Debug, Drop)]
 pub struct SampleFolder {
     entered: Option<String>,
@@ -23,7 +23,7 @@ pub struct SampleFolder {
 }
 
 impl SampleFolder {
-    /// A folder that is not entered.
+    /// A folder that has not been entered.
     pub fn new() -> SampleFolder
         ensures { IsNewFolder (sample_folder result) }
     {
@@ -42,7 +42,7 @@ impl Folder for SampleFolder {
 
     ghost state = { sample_folder };
 
-    /// It keeps the path, which takes memory.
+    /// Keeps a copy of the path, which is allocated.
     fn enter(&mut self, alloc: Global, path: &str) -> Result<(), EnterError>
         ensures cause { IfErr result (EnterCause ⟦<TableWorld<SampleFiles> as World>⟧.files
             (sample_folder self.old) (sample_folder self.new)) }
@@ -74,7 +74,7 @@ impl Folder for SampleFolder {
         }
     }
 
-    /// It takes no memory.
+    /// Allocates nothing.
     fn tap(&mut self, _alloc: Global) -> Result<SampleTap, NoMemory>
         ensures new { IfOk result (λ t. IsNew (sample_tap t)) }
         ensures after { AfterTap (sample_folder self.old) (sample_folder self.new) result }

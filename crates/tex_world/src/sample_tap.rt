@@ -18,7 +18,7 @@ use crate::tap::Tap;
 use crate::world::World;
 use std::alloc::Global;
 
-/// A source of the bytes of the sample files. No call of it fails, and it takes no memory.
+/// Reads the sample files. No call fails, and nothing is allocated.
 #[derive(Debug, Drop)]
 pub struct SampleTap {
     calls: u64,
@@ -28,7 +28,7 @@ pub struct SampleTap {
 }
 
 impl SampleTap {
-    /// A tap that has had no call.
+    /// A tap without calls so far.
     pub(crate) fn new() -> Self
         ensures { IsNew (sample_tap result) }
     {

@@ -1,4 +1,4 @@
-//! A tap's own share of a plan.
+//! The part of a plan that concerns one tap.
 ghost use Rattle.std.specs.Prelude.{◌≡◌, ◌+◌, ◌≤◌, ◌++◌, ◌<◌, length, vec_capacity, IsTrue};
 
 use crate::fault::ReadError;
@@ -7,7 +7,8 @@ use crate::reading::Reading;
 use crate::rises::{add_rising, drop_failing, drop_rising, highest, met, newest_at_first};
 use crate::table::FileTable;
 
-/// The entries of a plan that name one tap, as far as they are left, and the rises that have come.
+/// The entries of a plan for one tap that are not yet used up, and the newer generations that have
+/// appeared.
 #[derive(Drop)]
 pub struct Share {
     pub fail_calls: Vec<FailCall>,
@@ -26,7 +27,7 @@ impl Share {
     ghost use Rattle.tex_world.specs.TapPlan.{planned_read, newest_of};
     ghost use Rattle.tex_world.specs.Share.{share_plan};
 
-    /// Whether the call after so many fails.
+    /// Whether the call after `calls` calls fails.
     pub fn fails_after(&self, calls: u64) -> bool
         ensures { result ≡ is_failing_call (share_plan self.now) (calls + 1) }
     {
@@ -42,7 +43,7 @@ impl Share {
         self.fail_bytes.iter().any(|e| read.covers(e.file, e.at))
     }
 
-    /// The tap's newest generation of a file.
+    /// The newest generation of a file that the tap sees.
     pub fn newest_of<T: FileTable>(&self, file: u32) -> u32
         requires { file < T.count_of }
         ensures value { result
@@ -55,7 +56,8 @@ impl Share {
         highest::<T>(&self.risen, file, first)
     }
 
-    /// What is planned of a read after so many calls. What names the read is then spent.
+    /// The planned answer of a read after `calls` calls. The entries that name the read are then
+    /// used up.
     pub fn meet<T: FileTable>(&mut self, calls: u64, read: Reading) -> Result<(), ReadError>
         ensures value { result
             ≡ planned_read (table_files T.count_of T.name_of T.len_of T.byte_of)
@@ -73,7 +75,7 @@ impl Share {
         met(&self.risen[before..])
     }
 
-    // Spends what names the read.
+    // Removes the entries that name the read.
     fn spend<T: FileTable>(&mut self, read: Reading)
         ensures { share_plan self.new
             ≡ after_read (table_files T.count_of T.name_of T.len_of T.byte_of) read

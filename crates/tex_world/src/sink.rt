@@ -1,18 +1,19 @@
+//! The output of the program, as a trait.
 ghost use Rattle.std.specs.Prelude.{ℕ, ◌≤◌, List, Option, OnOk, OnErr};
 ghost use Rattle.tex_world.specs.Counts.{Rises};
 ghost use Rattle.tex_world.specs.Stream.{Appends, AppendsPart};
 
 use crate::fault::Failed;
 
-/// A place for bytes.
+/// A place to write bytes to.
 pub trait Sink {
-    /// The bytes that it holds, where it tells them.
+    /// The bytes written, if the sink is modelled.
     ghost holds: { Self → Option (List ℕ) };
 
-    /// How often it has failed.
+    /// How many writes have failed.
     ghost faults: { Self → ℕ };
 
-    /// Appends the bytes. After a refusal a first part of them was appended.
+    /// Appends the bytes. After an error, a first part of them may have been written.
     fn put(&mut self, bytes: &[u8]) -> Result<(), Failed>
         ensures ok { OnOk result (Appends bytes.now (holds self.old) (holds self.new)) }
         ensures part { OnErr result (AppendsPart bytes.now (holds self.old) (holds self.new)) }

@@ -1,4 +1,4 @@
-//! A world whose files are given by functions of numbers, as a test or a sample writes them down.
+//! A world whose files are given by functions, as tests and samples define them.
 ghost use Rattle.std.specs.Prelude.{◌≡◌, ℕ, ◌<◌, ◌≤◌, List, Option, IsSome, IsSomeAnd};
 ghost use Rattle.tex_world.specs.World.{max_files, is_held};
 ghost use Rattle.tex_world.specs.Number.{number_in};
@@ -8,32 +8,32 @@ ghost use Rattle.tex_world.specs.TableLaws.{table_is_world};
 use crate::world::World;
 use std::marker::PhantomData;
 
-/// The first generation of a file.
+/// The first generation of every file.
 pub const FIRST_GENERATION: u32 = 1;
 
-/// The last generation that a file can have.
+/// The greatest generation that a file can have.
 pub const LAST_GENERATION: u32 = 1048575;
 
-/// The files of a world that tells, in all their generations. It is a name without data.
-/// What it gives for a generation outside 1 to 1048575 counts as none.
+/// The files of a modelled world, in all their generations. It is a type without data. Generations
+/// outside 1 to 1048575 do not exist, whatever it gives for them.
 pub trait FileTable: Drop {
-    /// How many files there are.
+    /// The number of files.
     ghost count_of: { ℕ };
 
-    /// The name of a file, as its bytes.
+    /// The bytes of a file's name.
     ghost name_of: { ℕ → List ℕ };
 
-    /// The number of bytes of a generation of a file, if there is one.
+    /// The number of bytes of a file's generation, if it exists.
     ghost len_of: { ℕ → ℕ → Option ℕ };
 
-    /// The byte of a generation of a file at a place.
+    /// The byte at a place of a file's generation.
     ghost byte_of: { ℕ → ℕ → ℕ → ℕ };
 
     /// There are not too many files.
     ghost few: { count_of ≤ max_files };
 
-    /// No two files have the same name. `distinct_names` of `specs/Names.antt` gives it for a list
-    /// of names.
+    /// No two files have the same name. For a list of names, `distinct_names` in `specs/Names.antt`
+    /// proves this.
     ghost distinct: { (m n : ℕ) → m < count_of → n < count_of →
         name_of m ≡ name_of n → m ≡ n };
 
@@ -46,28 +46,28 @@ pub trait FileTable: Drop {
         requires { n < count_of }
         ensures { result.now ≡ name_of n };
 
-    /// The number of bytes of a generation of a file, if there is one.
+    /// The number of bytes of a file's generation, if it exists.
     fn len(n: u32, g: u32) -> Option<u64>
         requires { n < count_of }
         ensures { result ≡ len_of n g };
 
-    /// The byte of a generation of a file at a place below its length.
+    /// The byte at a place of a file's generation, below its length.
     fn byte(n: u32, g: u32, at: u64) -> u8
         requires file { n < count_of }
         requires place { IsSomeAnd (len_of n g) (λ len. at < len) }
         ensures { result ≡ byte_of n g at };
 
-    /// Each file has a first generation.
+    /// Each file has generation 1.
     ghost first: { (n : ℕ) → n < count_of → IsSome (len_of n 1) };
 }
 
-/// The world of a table. It tells.
+/// The world of a table. It is modelled.
 #[derive(Drop)]
 pub struct TableWorld<T: FileTable> {
     table: PhantomData<T>,
 }
 
-/// Whether the table holds a generation of a file.
+/// Whether the table has a generation of a file.
 pub(crate) fn is_held<T: FileTable>(file: u32, generation: u32) -> bool
     ensures { result
         ≡ is_held (table_files T.count_of T.name_of T.len_of T.byte_of) file generation }
@@ -78,7 +78,7 @@ pub(crate) fn is_held<T: FileTable>(file: u32, generation: u32) -> bool
         && T::len(file, generation).is_some()
 }
 
-/// The number of the file of a name.
+/// The number of the file with this name.
 pub(crate) fn number_of<T: FileTable>(name: &str) -> Option<u32>
     ensures { result ≡ number_in (table_names T.count_of T.name_of) name.now }
 {

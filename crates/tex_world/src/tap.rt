@@ -1,3 +1,4 @@
+//! A tap: how one thread opens and reads files, as a trait.
 ghost use Rattle.std.specs.Prelude.{◌≡◌, ◌+◌, ◌≤◌, length, slice_index, IfOk, IfErr, OnOk};
 ghost use Rattle.std.specs.List.{EachIndex};
 ghost use Rattle.std.specs.Option.{ForSome};
@@ -18,7 +19,7 @@ pub trait TapHandle {
     /// The file, the generation and the number of bytes.
     ghost named: { Self → Named };
 
-    /// The number of its file.
+    /// The number of the file.
     fn file(&self) -> u32
         ensures { result ≡ (named self.now).file };
 
@@ -30,22 +31,21 @@ pub trait TapHandle {
     fn len(&self) -> u64
         ensures { result ≡ (named self.now).len };
 
-    /// The generation is a real one, and the length is that of its bytes where the world tells
-    /// them.
+    /// The generation exists and, if the world is modelled, the length is that of its bytes.
     ghost honest: { (handle : Self) → IsHandle Self.W.files (named handle) };
 }
 
-/// A worker's own source of file bytes.
+/// The object through which one thread opens and reads files.
 pub trait Tap {
     type W: World;
 
     type Handle: TapHandle<W = Self::W> + Drop;
 
-    /// Its counts of faults, calls, opens, asks, moves and lost generations, and what `newest` last
-    /// answered.
+    /// Its counts of I/O errors, calls, opens, asks, moves and lost generations, and the last
+    /// answer of `newest`.
     ghost state: { Self → TapState };
 
-    /// Opens a file at a generation that is at least `least`, where 0 asks for any.
+    /// Opens a file at a generation of at least `least`; 0 allows any.
     fn open(&mut self, alloc: Global, file: u32, least: u32) -> Result<Self::Handle, OpenError>
         requires file { IsFile Self.W.files file }
         requires least { IsLeast Self.W.files file least }
@@ -63,8 +63,8 @@ pub trait Tap {
         ensures cause { IfErr result (λ _. Rises (state self.old).faults (state self.new).faults) }
         ensures counts { AfterNewest file (state self.old) (state self.new) result };
 
-    /// Fills all of the buffer with the bytes of the handle's generation from a place on. After a
-    /// refusal what the buffer holds is open.
+    /// Fills the whole buffer with bytes of the handle's generation at `at`. After an error the
+    /// buffer's content is undefined.
     fn read_at(&mut self, h: &mut Self::Handle, at: u64, buf: &mut [u8]) -> Result<(), ReadError>
         requires { at + length buf.old ≤ (Self.Handle.named h.old).len }
         ensures bytes { OnOk result (ForSome
@@ -76,9 +76,9 @@ pub trait Tap {
             (ReadCause Self.W.files (Self.Handle.named h.old) (state self.old) (state self.new)) }
         ensures counts { AfterRead (state self.old) (state self.new) result };
 
-    /// Fills all of the buffer with rows of so many bytes of the handle's generation: the first from
-    /// a place on, each `stride` bytes behind the one before. It is one call, and `read_at` is its
-    /// case of one row. After a refusal what the buffer holds is open.
+    /// Fills the whole buffer with rows of the handle's generation. The first is at `at`, and each
+    /// begins `stride` bytes after the one before. It counts as one call; `read_at` is the case of
+    /// a single row. After an error the buffer's content is undefined.
     fn read_rows(
         &mut self,
         h: &mut Self::Handle,

@@ -1,11 +1,13 @@
+//! The contracts' model of a folder.
 ghost use Rattle.tex_world.specs.World.{Files, IsWorld};
 
-/// The files of a folder in all their generations. It is a name without data.
+/// The files of a folder in all their generations, as the contracts model them. It is a type
+/// without data.
 pub trait World: Drop {
-    /// What it means: whether it tells, how many files there are, their names and their bytes.
+    /// The model: whether the files are modelled, how many there are, their names and their bytes.
     ghost files: { Files };
 
-    /// It has at most 4096 files. Where it tells their names are distinct, and where it does not it
-    /// holds no bytes.
+    /// At most 4096 files. In a modelled world their names are distinct; in any other, no bytes are
+    /// known.
     ghost lawful: { IsWorld files };
 }

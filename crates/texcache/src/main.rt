@@ -1,5 +1,5 @@
-//! The texture service over the files of one folder: it reads a list of requests from standard
-//! input and writes the answers to standard output.
+//! The program texcache: it reads a list of requests from standard input, and writes the answers
+//! from the files of a folder to standard output.
 #![tactic(auto)]
 
 use host_folder::{RealFeed, RealFolder, RealSink};
@@ -14,8 +14,8 @@ fn main(rt: HostRuntime) -> ExitCode {
     ExitCode::from(status(&rt, &rt))
 }
 
-/// Answers the list on standard input, and gives the status that the program ends with. What waits
-/// does so by `waits`, which is the runtime.
+/// Answers the list on standard input, and returns the exit status. `threads` is the runtime, which
+/// makes threads and waits.
 fn status(rt: &HostRuntime, threads: &(impl Threads + Wait + Sync)) -> u8 {
     let words = match words(rt) {
         Ok(words) => words,
@@ -36,15 +36,15 @@ fn status(rt: &HostRuntime, threads: &(impl Threads + Wait + Sync)) -> u8 {
         &mut out,
         &NoHook,
     );
-    // What the sink still holds back can fail as a line can.
+    // writing the buffered bytes can fail like writing a line
     match out.flush() {
         Ok(()) => status,
         Err(_failed) => NOT_WRITTEN,
     }
 }
 
-/// The words after the program's name. Where one is not UTF-8 there are none, which are not those
-/// of the command.
+/// The arguments after the program's name. If one is not UTF-8 there are none, which is not a valid
+/// command.
 fn words(rt: &HostRuntime) -> io::Result<Vec<String>> {
     let mut words = match env::args(rt) {
         Ok(words) => words,

@@ -1,10 +1,10 @@
 -- From a level's texels to the value of a lookup.
-use Rattle.std.proofs.Common.{◌≡◌, ℕ, ◌+◌, ◌-◌, ◌*◌, ◌/◌, ◌^◌, ◌<◌, ◌≢◌, pos, Option, Some}
+use Rattle.std.proofs.Common.{◌≡◌, ℕ, ◌+◌, ◌*◌, ◌/◌, ◌^◌, ◌<◌, ◌≢◌, pos, Option, Some}
 use Rattle.std.proofs.Common.{List, [], ◌∷◌}
 use Rattle.std.proofs.Common.{sym, ap, ◌∙◌, arith}
 use Rattle.std.proofs.Math.Nat.{mul-div-mul_left}
 use Rattle.std.proofs.lemmas.Bool.{ne_eqb}
-use Rattle.texel_filter.specs.declared.request.TexRequest.{TexRequest}
+use Rattle.texel_filter.specs.declared.request.FineRequest.{FineRequest}
 use Rattle.texel_filter.specs.declared.coordinate.LevelPair.{LevelPair}
 use Rattle.texel_filter.specs.Image.{Sizes, Values, Image, AreValues, image_of, texel_of}
 use Rattle.texel_filter.specs.Coordinate.{unit, index_at, level_before, fraction_of_next_level}
@@ -15,7 +15,7 @@ use Rattle.texel_filter.specs.Visits.{square_visits, trilinear_visits, texel_vis
 use Rattle.texel_filter.proofs.WrapLemmas.{wrapped_there}
 use Rattle.texel_filter.specs.LevelPair.{alone_sum, between_sum, between_value, between_visits}
 
-pub closest_at : (image : Image) (r : TexRequest) (l : ℕ) (x y : Option ℕ) (c : ℕ)
+pub closest_at : (image : Image) (r : FineRequest) (l : ℕ) (x y : Option ℕ) (c : ℕ)
     → x ≡ wrapped_index r.swrap (index_at r.s (image.sizes.width l)) (image.sizes.width l)
     → y ≡ wrapped_index r.twrap (index_at r.t (image.sizes.height l)) (image.sizes.height l)
     → value_in (image.values l) x y c ≡ closest_in_level image r l c
@@ -23,7 +23,7 @@ unfolding closest_in_level
 closest_at image r l x y c across down = rw (across, down)
 
 -- where the texel lies in the level, which no wrap changes
-module _ (sizes : Sizes) (r : TexRequest) (l x y : ℕ)
+module _ (sizes : Sizes) (r : FineRequest) (l x y : ℕ)
     (across : index_at r.s (sizes.width l) ≡ pos x) (fits : x < sizes.width l)
     (down : index_at r.t (sizes.height l) ≡ pos y) (gits : y < sizes.height l) where
   column : wrapped_index r.swrap (index_at r.s (sizes.width l)) (sizes.width l) ≡ Some x
@@ -49,7 +49,7 @@ rounded_alone sum =
     let e : 65536 * sum + 2 ^ 47 ≡ 65536 * (sum + 2 ^ 31) = omega arith in
     rw e (sym (mul-div-mul_left {m = 65536} (sum + 2 ^ 31) (2 ^ 32) (omega arith)))
 
-pub trisum_alone : (image : Image) (r : TexRequest) (l q c : ℕ)
+pub trisum_alone : (image : Image) (r : FineRequest) (l q c : ℕ)
     → l ≡ level_before r.lod image.sizes.levels
     → q ≡ fraction_of_next_level r.lod image.sizes.levels → q ≡ 0
     → alone_sum image r l c ≡ trilinear_sum image r c
@@ -57,7 +57,7 @@ unfolding trilinear_sum
 trisum_alone image r l q c first fraction none =
     rw (← fraction, none, ← first) (sum_alone _ _)
 
-pub trilinear_alone : (image : Image) (r : TexRequest) (l q c : ℕ)
+pub trilinear_alone : (image : Image) (r : FineRequest) (l q c : ℕ)
     → l ≡ level_before r.lod image.sizes.levels
     → q ≡ fraction_of_next_level r.lod image.sizes.levels → q ≡ 0
     → bilinear_in_level image r l c ≡ trilinear_value image r c
@@ -66,14 +66,14 @@ trilinear_alone image r l q c first fraction none =
     rounded_alone (bilinear_sum image r l c)
     ∙ ap rounded_sum (trisum_alone image r l q c first fraction none)
 
-pub trisum_between : (image : Image) (r : TexRequest) (levels : LevelPair) (c : ℕ)
+pub trisum_between : (image : Image) (r : FineRequest) (levels : LevelPair) (c : ℕ)
     → levels.first ≡ level_before r.lod image.sizes.levels
     → levels.fraction ≡ fraction_of_next_level r.lod image.sizes.levels
     → between_sum image r levels c ≡ trilinear_sum image r c
 unfolding trilinear_sum
 trisum_between image r levels c first fraction = rw (← fraction, ← first)
 
-pub trilinear_between : (image : Image) (r : TexRequest) (levels : LevelPair) (c : ℕ)
+pub trilinear_between : (image : Image) (r : FineRequest) (levels : LevelPair) (c : ℕ)
     → levels.first ≡ level_before r.lod image.sizes.levels
     → levels.fraction ≡ fraction_of_next_level r.lod image.sizes.levels
     → between_value image r levels c ≡ trilinear_value image r c
@@ -81,13 +81,13 @@ unfolding trilinear_value
 trilinear_between image r levels c first fraction =
     ap rounded_sum (trisum_between image r levels c first fraction)
 
-pub visits_alone : (sizes : Sizes) (r : TexRequest) (l q : ℕ) → l ≡ level_before r.lod sizes.levels
+pub visits_alone : (sizes : Sizes) (r : FineRequest) (l q : ℕ) → l ≡ level_before r.lod sizes.levels
     → q ≡ fraction_of_next_level r.lod sizes.levels → q ≡ 0
     → square_visits sizes r l ≡ trilinear_visits sizes r
 unfolding trilinear_visits
 visits_alone sizes r l q first fraction none = rw (← fraction, none, ← first)
 
-pub visits_between : (sizes : Sizes) (r : TexRequest) (levels : LevelPair)
+pub visits_between : (sizes : Sizes) (r : FineRequest) (levels : LevelPair)
     → levels.first ≡ level_before r.lod sizes.levels
     → levels.fraction ≡ fraction_of_next_level r.lod sizes.levels → levels.fraction ≢ 0
     → between_visits sizes r levels ≡ trilinear_visits sizes r

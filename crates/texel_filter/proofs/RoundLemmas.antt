@@ -3,7 +3,7 @@ use Rattle.std.proofs.Common.{◌≡◌, ℕ, ◌+◌, ◌-◌, ◌*◌, ◌<◌
 use Rattle.texel_filter.specs.declared.square.Square.{Square}
 use Rattle.texel_filter.specs.declared.square.Corners.{Corners}
 use Rattle.texel_filter.specs.declared.round.Round.{Round}
-use Rattle.texel_filter.specs.declared.request.TexRequest.{TexRequest}
+use Rattle.texel_filter.specs.declared.request.FineRequest.{FineRequest}
 use Rattle.texel_filter.specs.declared.weights.Weights.{Weights}
 use Rattle.texel_filter.specs.Image.{Sizes, Values, image_of}
 use Rattle.texel_filter.specs.WrapMode.{wrapped_index}
@@ -32,7 +32,7 @@ round_of_square values round left right top bottom n corners a b c d h = record 
 }
 
 -- ---- where they lie side by side in the level, from column x and row y on
-module _ (sizes : Sizes) (r : TexRequest) (l x y : ℕ)
+module _ (sizes : Sizes) (r : FineRequest) (l x y : ℕ)
     (across : index_before r.s (sizes.width l) ≡ pos x) (fits : x + 1 < sizes.width l)
     (down : index_before r.t (sizes.height l) ≡ pos y) (gits : y + 1 < sizes.height l) where
   square : Square
@@ -71,13 +71,13 @@ module _ (sizes : Sizes) (r : TexRequest) (l x y : ℕ)
 
 -- ---- as the wraps have it
 
-pub visits_at : (sizes : Sizes) (r : TexRequest) (l : ℕ) (round : Round)
+pub visits_at : (sizes : Sizes) (r : FineRequest) (l : ℕ) (round : Round)
     → IsRoundAt sizes r l round → visits_round round ≡ square_visits sizes r l
 unfolding square_visits
 visits_at sizes r l round is =
     rw (is.level, is.columns.first, is.columns.second, is.rows.first, is.rows.second)
 
-pub wrapped_of_round : (sizes : Sizes) (values : Values) (r : TexRequest) (l : ℕ) (round : Round)
+pub wrapped_of_round : (sizes : Sizes) (values : Values) (r : FineRequest) (l : ℕ) (round : Round)
     (n : ℕ) (corners : Corners) → IsRoundAt sizes r l round → AreRound values round n corners
     → AreWrapped (image_of sizes values) r l n corners
 wrapped_of_round sizes values r l round n corners is are = record {
@@ -93,7 +93,7 @@ wrapped_of_round sizes values r l round n corners is are = record {
 
 -- ---- their weighted sum
 
-pub sum_at : (sizes : Sizes) (values : Values) (r : TexRequest) (l f g n : ℕ) (corners : Corners)
+pub sum_at : (sizes : Sizes) (values : Values) (r : FineRequest) (l f g n : ℕ) (corners : Corners)
     (weights : Weights) → AreWrapped (image_of sizes values) r l n corners
     → f ≡ fraction_of_next r.s (sizes.width l) → g ≡ fraction_of_next r.t (sizes.height l)
     → weights.left_top ≡ (unit - f) * (unit - g) → weights.right_top ≡ f * (unit - g)

@@ -18,7 +18,7 @@ pub scaled_sum : (a b d e x y z w : ℕ)
     ≡ a * (257 * x) + b * (257 * y) + d * (257 * z) + e * (257 * w)
 scaled_sum a b d e x y z w = omega arith
 
--- what holds of the first n numbers and of one more holds of them with this at its place
+-- if P is true of the first n numbers and of v, it is true of the first n + 1 once v is at place n
 pub one_more : (P : ℕ → ℕ → Type 0) (n : ℕ) (listed : List ℕ) (v : ℕ) → n < length listed
     → ((k : ℕ) → k < n → P k (get_or listed k 0)) → P n v
     → (k : ℕ) → k < n + 1 → P k (get_or (set listed n v) k 0)

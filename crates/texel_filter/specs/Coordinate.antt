@@ -22,11 +22,12 @@ abbrev pub left_over : ℤ → ℕ → ℕ
 left_over (pos a) d = a % d
 left_over (negsuc a) d = d - 1 - a % d
 
--- how far coordinate s lies from the edge of texel 0, of n texels, in 1/65536 of a texel
+-- How far coordinate s, in 1/2^32 of the image, lies from the edge of texel 0, of n texels: in
+-- 1/65536 of a texel, rounded down.
 abbrev pub from_first_edge : ℤ → ℕ → ℤ
-from_first_edge s n = s *ℤ pos n
+from_first_edge s n = rounded_down (s *ℤ pos n) unit
 
--- the same from the middle of texel 0
+-- how far it lies from the middle of texel 0, in 1/65536 of a texel
 abbrev pub from_first_middle : ℤ → ℕ → ℤ
 from_first_middle s n = from_first_edge s n -ℤ pos half_unit
 
@@ -44,7 +45,7 @@ fraction_of_next s n = left_over (from_first_middle s n) unit
 
 -- ---- levels
 
--- the level nearest to an LOD, of so many levels
+-- the level nearest to an LOD
 abbrev pub nearest_level : ℕ → ℕ → ℕ
 nearest_level lod levels = min (levels - 1) ((lod + half_unit) / unit)
 

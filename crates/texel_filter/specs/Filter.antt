@@ -1,7 +1,7 @@
 -- Which value does a lookup have? (docs/FILTERING.md, "Filters")
 use Rattle.std.specs.Prelude.{ℕ, ◌+◌, ◌-◌, ◌*◌, ◌/◌, ◌^◌, ◌<◌, ◌≤◌, ℤ, pos, ◌+ℤ◌}
 use Rattle.std.specs.Prelude.{Option, Some, None, List, length, slice_index}
-use Rattle.texel_filter.specs.declared.request.TexRequest.{TexRequest}
+use Rattle.texel_filter.specs.declared.request.FineRequest.{FineRequest}
 use Rattle.texel_filter.specs.declared.request.Filter.{Filter}
 use Rattle.texel_filter.specs.declared.request.Filter.TheVariants.{Closest, Bilinear, Trilinear}
 use Rattle.texel_filter.specs.Image.{Image}
@@ -16,7 +16,7 @@ value_in values (Some x) None c = 0
 value_in values None y c = 0
 
 -- the value of channel c at indices i and j of a level, as the wraps of the request have it
-abbrev pub wrapped_value : Image → TexRequest → ℕ → ℤ → ℤ → ℕ → ℕ
+abbrev pub wrapped_value : Image → FineRequest → ℕ → ℤ → ℤ → ℕ → ℕ
 wrapped_value image r l i j c =
     value_in (image.values l) (wrapped_index r.swrap i (image.sizes.width l))
     (wrapped_index r.twrap j (image.sizes.height l)) c
@@ -24,13 +24,13 @@ wrapped_value image r l i j c =
 -- ---- closest
 
 -- the value of the texel in which the coordinates lie, in a level
-unfoldable pub closest_in_level : Image → TexRequest → ℕ → ℕ → ℕ
+unfoldable pub closest_in_level : Image → FineRequest → ℕ → ℕ → ℕ
 closest_in_level image r l c =
     wrapped_value image r l (index_at r.s (image.sizes.width l))
     (index_at r.t (image.sizes.height l)) c
 
--- the same in the level nearest to the LOD
-abbrev pub closest_value : Image → TexRequest → ℕ → ℕ
+-- the value in the level nearest to the LOD
+abbrev pub closest_value : Image → FineRequest → ℕ → ℕ
 closest_value image r c = closest_in_level image r (nearest_level r.lod image.sizes.levels) c
 
 -- ---- bilinear
@@ -42,7 +42,7 @@ weighted_sum f g a b c d =
     (unit - f) * (unit - g) * a + f * (unit - g) * b + (unit - f) * g * c + f * g * d
 
 -- the sum over the four texels whose middles lie round the coordinates in a level
-unfoldable pub bilinear_sum : Image → TexRequest → ℕ → ℕ → ℕ
+unfoldable pub bilinear_sum : Image → FineRequest → ℕ → ℕ → ℕ
 bilinear_sum image r l c =
     let i = index_before r.s (image.sizes.width l) in
     let j = index_before r.t (image.sizes.height l) in
@@ -54,11 +54,11 @@ bilinear_sum image r l c =
     (wrapped_value image r l (i +ℤ pos 1) (j +ℤ pos 1) c)
 
 -- the sum as a value, rounded to the nearest, a half up
-abbrev pub bilinear_in_level : Image → TexRequest → ℕ → ℕ → ℕ
+abbrev pub bilinear_in_level : Image → FineRequest → ℕ → ℕ → ℕ
 bilinear_in_level image r l c = (bilinear_sum image r l c + 2 ^ 31) / 2 ^ 32
 
--- the same in the level nearest to the LOD
-abbrev pub bilinear_value : Image → TexRequest → ℕ → ℕ
+-- the value in the level nearest to the LOD
+abbrev pub bilinear_value : Image → FineRequest → ℕ → ℕ
 bilinear_value image r c = bilinear_in_level image r (nearest_level r.lod image.sizes.levels) c
 
 -- ---- trilinear
@@ -72,7 +72,7 @@ abbrev pub rounded_sum : ℕ → ℕ
 rounded_sum sum = (sum + 2 ^ 47) / 2 ^ 48
 
 -- the sums of the two levels about the LOD, by their weights; where q is 0 the second has no part
-unfoldable pub trilinear_sum : Image → TexRequest → ℕ → ℕ
+unfoldable pub trilinear_sum : Image → FineRequest → ℕ → ℕ
 trilinear_sum image r c =
     let l = level_before r.lod image.sizes.levels in
     let q = fraction_of_next_level r.lod image.sizes.levels in
@@ -87,16 +87,16 @@ abbrev pub AreSums : List ℕ → Type 0
 AreSums listed = (c : ℕ) → c < length listed → slice_index listed c ≤ max_trilinear_sum
 
 -- the sum as a value
-unfoldable pub trilinear_value : Image → TexRequest → ℕ → ℕ
+unfoldable pub trilinear_value : Image → FineRequest → ℕ → ℕ
 trilinear_value image r c = rounded_sum (trilinear_sum image r c)
 
 -- ---- by the filter of the request
 
-abbrev pub value_by : Filter → Image → TexRequest → ℕ → ℕ
+abbrev pub value_by : Filter → Image → FineRequest → ℕ → ℕ
 value_by Closest image r c = closest_value image r c
 value_by Bilinear image r c = bilinear_value image r c
 value_by Trilinear image r c = trilinear_value image r c
 
 -- channel c of the lookup
-abbrev pub lookup_value : Image → TexRequest → ℕ → ℕ
+abbrev pub lookup_value : Image → FineRequest → ℕ → ℕ
 lookup_value image r c = value_by r.filter image r c

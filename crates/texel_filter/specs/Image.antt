@@ -47,7 +47,7 @@ pub record IsChannelCount (channels : ℕ) : Type 0 where
   pub low : 1 ≤ channels
   pub high : channels ≤ max_channels
 
--- the first so many channels, listed, have these values
+-- the first `channels` values of the list are these
 abbrev pub AreFirst : ℕ → (ℕ → ℕ) → List ℕ → Type 0
 AreFirst channels value listed = (c : ℕ) → c < channels → slice_index listed c ≡ value c
 

@@ -1,6 +1,7 @@
 pub mod Image
 pub mod WrapMode
 pub mod Coordinate
+pub mod Fine
 pub mod Filter
 pub mod Visits
 pub mod Square

@@ -1,7 +1,7 @@
 -- Which columns and rows lie round the coordinates of a lookup, and which values have they?
 use Rattle.std.specs.Prelude.{◌≡◌, ℕ, ◌<◌, ℤ, pos, ◌+ℤ◌, IfSome, List, ◌++◌}
 use Rattle.texel_filter.specs.declared.mode.Wrap.{Wrap}
-use Rattle.texel_filter.specs.declared.request.TexRequest.{TexRequest}
+use Rattle.texel_filter.specs.declared.request.FineRequest.{FineRequest}
 use Rattle.texel_filter.specs.declared.coordinate.Pair.{Pair}
 use Rattle.texel_filter.specs.declared.round.Round.{Round}
 use Rattle.texel_filter.specs.declared.square.Corners.{Corners}
@@ -20,7 +20,7 @@ pub record IsPairAt (mode : Wrap) (s : ℤ) (n : ℕ) (pair : Pair) : Type 0 whe
   pub second_inside : IfSome pair.second (λ x. x < n)
 
 -- the columns and rows round the coordinates of a request, in a level
-pub record IsRoundAt (sizes : Sizes) (r : TexRequest) (l : ℕ) (round : Round) : Type 0 where
+pub record IsRoundAt (sizes : Sizes) (r : FineRequest) (l : ℕ) (round : Round) : Type 0 where
   pub level : round.level ≡ l
   pub columns : IsPairAt r.swrap r.s (sizes.width l) round.columns
   pub rows : IsPairAt r.twrap r.t (sizes.height l) round.rows
@@ -41,7 +41,7 @@ visits_round round =
     ++ visit_in round.level round.columns.first round.rows.second
     ++ visit_in round.level round.columns.second round.rows.second
 
--- the corners have the values of these columns and rows in the first so many channels
+-- the corners have the values of these columns and rows in the first `channels` channels
 pub record AreRound (values : Values) (round : Round) (channels : ℕ) (corners : Corners)
     : Type 0 where
   pub left_top : AreNumbers corners.narrow channels
@@ -54,8 +54,8 @@ pub record AreRound (values : Values) (round : Round) (channels : ℕ) (corners 
       (value_in (values round.level) round.columns.second round.rows.second) corners.right_bottom
 
 -- the corners have the values round the coordinates in a level, as the wraps have it, in the first
--- so many channels
-pub record AreWrapped (image : Image) (r : TexRequest) (l channels : ℕ) (corners : Corners)
+-- `channels` channels
+pub record AreWrapped (image : Image) (r : FineRequest) (l channels : ℕ) (corners : Corners)
     : Type 0 where
   pub left_top : AreNumbers corners.narrow channels
       (wrapped_value image r l (index_before r.s (image.sizes.width l))

@@ -21,12 +21,12 @@ pub record HasSquare (sizes : Sizes) (square : Square) : Type 0 where
 abbrev pub number_value : Bool → ℕ → ℕ
 number_value narrow number = if narrow then 257 * (number % 256) else number
 
--- the numbers of the first so many channels, listed, are of these values
+-- the first `channels` numbers of the list are these values
 abbrev pub AreNumbers : Bool → ℕ → (ℕ → ℕ) → List ℕ → Type 0
 AreNumbers narrow channels value listed =
     (c : ℕ) → c < channels → number_value narrow (slice_index listed c) ≡ value c
 
--- the corners have the values of the square in the first so many channels
+-- the corners have the values of the square in the first `channels` channels
 pub record AreCorners (values : Values) (square : Square) (channels : ℕ) (corners : Corners)
     : Type 0 where
   pub left_top : AreNumbers corners.narrow channels (values square.level square.left square.top)

@@ -1,6 +1,6 @@
 -- Which sums have four values with their weights?
 use Rattle.std.specs.Prelude.{◌≡◌, ℕ, ◌+◌, ◌*◌, ◌^◌, ◌<◌, ◌≤◌, List, slice_index}
-use Rattle.texel_filter.specs.declared.request.TexRequest.{TexRequest}
+use Rattle.texel_filter.specs.declared.request.FineRequest.{FineRequest}
 use Rattle.texel_filter.specs.declared.weighted.Weighted.{Weighted}
 use Rattle.texel_filter.specs.Image.{Image}
 use Rattle.texel_filter.specs.Filter.{bilinear_sum}
@@ -19,11 +19,11 @@ sum_of four c =
     + four.weights.left_bottom * value (slice_index four.corners.left_bottom c)
     + four.weights.right_bottom * value (slice_index four.corners.right_bottom c)
 
--- the sums are those of a lookup in a level, in the first so many channels
-abbrev pub HasSums : Image → TexRequest → ℕ → ℕ → Weighted → Type 0
+-- the sums are those of a lookup in a level, in the first `channels` channels
+abbrev pub HasSums : Image → FineRequest → ℕ → ℕ → Weighted → Type 0
 HasSums image r l channels four =
     (c : ℕ) → c < channels → sum_of four c ≡ bilinear_sum image r l c
 
--- none of the first so many sums, listed, is above the greatest of a level
+-- none of the first `channels` sums of the list is above the greatest sum of a level
 abbrev pub AreLevelSums : ℕ → List ℕ → Type 0
 AreLevelSums channels listed = (c : ℕ) → c < channels → slice_index listed c ≤ max_sum

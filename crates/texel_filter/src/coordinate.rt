@@ -1,5 +1,7 @@
+//! Where coordinates lie in a level, and which levels an LOD means.
 ghost use Rattle.std.specs.Prelude.{◌≡◌, ℕ, ◌+◌, ◌^◌, ◌<◌, ◌≤◌, pos, neg_ℤ, ◌≤ℤ◌, IfSome};
 ghost use Rattle.texel_filter.specs.Image.{IsSide};
+ghost use Rattle.texel_filter.specs.Fine.{IsFineNumber};
 ghost use Rattle.texel_filter.specs.Coordinate.{unit, rounded_down, left_over};
 ghost use Rattle.texel_filter.specs.Coordinate.{from_first_edge, index_at, index_before};
 ghost use Rattle.texel_filter.specs.Coordinate.{fraction_of_next, nearest_level};
@@ -15,14 +17,14 @@ pub const UNIT: u64 = 65536;
 
 const HALF_UNIT: u64 = 32768;
 
-// The same beside signed numbers, and the bits below the unit.
+// UNIT and its half for signed numbers, and how many bits lie below the unit.
 const SIGNED_UNIT: i64 = 65536;
 
 const SIGNED_HALF_UNIT: i64 = 32768;
 
 const UNIT_BITS: u32 = 16;
 
-// A number of 1/65536: whole units, and what is left.
+// A number in 1/65536, split into whole units and the rest.
 #[derive(Drop)]
 struct Parts {
     whole: i64,
@@ -44,35 +46,45 @@ fn parts_of(z: i64) -> Parts
     }
 }
 
-// How far a coordinate lies from the edge of the first of so many texels, in 1/65536 of a texel.
+/// How far a coordinate lies from the edge of the first of `side` texels, in 1/65536 of a texel:
+/// rounded down.
 #[inline(always)]
-fn from_edge(coordinate: i32, side: u32) -> i64
-    requires { IsSide side }
+pub fn texels_from_edge(coordinate: i64, side: u32) -> i64
+    requires coordinate { IsFineNumber coordinate }
+    requires side { IsSide side }
     ensures value { result ≡ from_first_edge coordinate side }
     ensures low { neg_ℤ (pos (2 ^ 48)) ≤ℤ result }
     ensures high { result ≤ℤ pos (2 ^ 48) }
 {
-    i64::from(coordinate) * i64::from(side)
+    ((i128::from(coordinate) * i128::from(side)) >> UNIT_BITS) as i64
 }
 
-/// The column or row in which a coordinate lies, of so many, if the wrap leaves one.
+/// The column or row in which a coordinate lies, of `side` columns or rows. None if the wrap is
+/// black and the coordinate lies beside them.
 #[inline(always)]
-pub fn place_of(mode: Wrap, coordinate: i32, side: u32) -> Option<u32>
-    requires { IsSide side }
+pub fn place_of(mode: Wrap, coordinate: i64, side: u32) -> Option<u32>
+    requires coordinate { IsFineNumber coordinate }
+    requires side { IsSide side }
     ensures value { result ≡ wrapped_index mode (index_at coordinate side) side }
     ensures inside { IfSome result (λ x. x < side) }
 {
-    wrap(mode, parts_of(from_edge(coordinate, side)).whole, side)
+    wrap(
+        mode,
+        parts_of(texels_from_edge(coordinate, side)).whole,
+        side,
+    )
 }
 
-/// The same where it is one of so many, which no wrap changes.
+/// The column or row in which a coordinate lies, if it lies inside the level, where no wrap
+/// matters.
 #[inline(always)]
-pub fn place_inside(coordinate: i32, side: u32) -> Option<u32>
-    requires { IsSide side }
+pub fn place_inside(coordinate: i64, side: u32) -> Option<u32>
+    requires coordinate { IsFineNumber coordinate }
+    requires side { IsSide side }
     ensures value { IfSome result (λ x. index_at coordinate side ≡ pos x) }
     ensures inside { IfSome result (λ x. x < side) }
 {
-    let i = parts_of(from_edge(coordinate, side)).whole;
+    let i = parts_of(texels_from_edge(coordinate, side)).whole;
     if i >= 0 && i < i64::from(side) {
         Some(i as u32)
     } else {
@@ -91,20 +103,21 @@ pub struct Between {
 
 impl Between {
     #[inline(always)]
-    pub fn at(coordinate: i32, side: u32) -> Between
-        requires { IsSide side }
+    pub fn at(coordinate: i64, side: u32) -> Between
+        requires coordinate { IsFineNumber coordinate }
+        requires side { IsSide side }
         ensures before { result.before ≡ index_before coordinate side }
         ensures fraction { result.fraction ≡ fraction_of_next coordinate side }
         ensures high { result.before ≤ℤ pos (2 ^ 62) }
     {
-        let parts = parts_of(from_edge(coordinate, side) - SIGNED_HALF_UNIT);
+        let parts = parts_of(texels_from_edge(coordinate, side) - SIGNED_HALF_UNIT);
         Between {
             before: parts.whole,
             fraction: parts.rest,
         }
     }
 
-    /// The texel before, where it and the next one are two of so many.
+    /// The texel before the place, if it and the next one are both inside the level.
     #[inline(always)]
     pub fn first_inside(&self, side: u32) -> Option<u32>
         requires { self.now.before ≤ℤ pos (2 ^ 62) }
@@ -119,7 +132,7 @@ impl Between {
     }
 }
 
-/// The two columns or rows between whose middles a coordinate lies.
+/// The two columns or rows between whose middles a coordinate lies, as the wrap chooses them.
 #[derive(Drop)]
 pub struct Pair {
     pub first: Option<u32>,
@@ -127,8 +140,9 @@ pub struct Pair {
 }
 
 impl Pair {
-    pub fn at(mode: Wrap, coordinate: i32, side: u32) -> Pair
-        requires { IsSide side }
+    pub fn at(mode: Wrap, coordinate: i64, side: u32) -> Pair
+        requires coordinate { IsFineNumber coordinate }
+        requires side { IsSide side }
         ensures { IsPairAt mode coordinate side result }
     {
         let before = Between::at(coordinate, side).before;
@@ -139,7 +153,7 @@ impl Pair {
     }
 }
 
-/// The level nearest to an LOD, of so many levels.
+/// The level nearest to an LOD.
 #[inline(always)]
 pub fn level_near(lod: u32, levels: u32) -> u32
     requires { 1 ≤ levels }

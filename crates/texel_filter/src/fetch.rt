@@ -1,3 +1,4 @@
+//! The source of texels that a lookup reads from.
 ghost use Rattle.std.specs.Prelude.{◌≡◌, ℕ, ◌<◌, ◌≤◌, length, Option, OnOk, IfErr};
 ghost use Rattle.std.specs.Option.{ForSome};
 ghost use Rattle.texel_filter.specs.Image.{Sizes, Values, Texel, texel_of};

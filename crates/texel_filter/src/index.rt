@@ -1,3 +1,4 @@
+//! Wraps: which texel an index beside a row or column means.
 ghost use Rattle.std.specs.Prelude.{◌≡◌, ◌%◌, ◌<◌, ◌≤◌, pos, negsuc, IfSome};
 ghost use Rattle.texel_filter.specs.WrapMode.{wrapped_index, index_there_and_back};
 
@@ -19,7 +20,7 @@ pub fn wrap(mode: Wrap, i: i64, n: u32) -> Option<u32>
     }
 }
 
-// The same of index a, behind the row.
+// The texel that index a means, which lies behind the row's last texel.
 #[inline(never)]
 #[tactic(auto, unfolding(crate::specs::WrapMode::wrapped_index))]
 fn wrap_after(mode: Wrap, a: u64, n: u32) -> Option<u32>
@@ -36,7 +37,7 @@ fn wrap_after(mode: Wrap, a: u64, n: u32) -> Option<u32>
     }
 }
 
-// The same of index -(beyond + 1), before the row.
+// The texel that index -(beyond + 1) means, which lies before the row's first texel.
 #[inline(never)]
 #[tactic(auto, unfolding(crate::specs::WrapMode::wrapped_index))]
 fn wrap_before(mode: Wrap, beyond: u64, n: u32) -> Option<u32>
@@ -52,7 +53,7 @@ fn wrap_before(mode: Wrap, beyond: u64, n: u32) -> Option<u32>
     }
 }
 
-// Without a division where a lies in the row already.
+// a modulo n, without a division if a is below n.
 #[inline]
 fn remainder(a: u64, n: u32) -> u32
     requires { 1 ≤ n }
@@ -66,7 +67,7 @@ fn remainder(a: u64, n: u32) -> u32
     }
 }
 
-// Where place m of a row lies that is repeated, every second time from its end to its begin.
+// The texel at place m, if the row is repeated and every second copy runs backwards.
 #[inline]
 #[tactic(auto, using(crate::proofs::WrapLemmas::there_inside))]
 fn there_and_back(m: u64, n: u32) -> u32

@@ -1,3 +1,4 @@
+//! The four wraps.
 /// What an index beside the n texels of a row or column means.
 #[derive(Clone, Copy, Debug, PartialEq, Eq)]
 pub enum Wrap {

@@ -1,15 +1,17 @@
+//! The four texels around a place in a level, as the wraps choose them.
 ghost use Rattle.std.specs.Prelude.{◌<◌, IfSome, IfOk, length, OnOk};
 ghost use Rattle.std.specs.Option.{ForSome};
 ghost use Rattle.texel_filter.specs.Image.{IsChannelCount, AreValues, image_of};
 ghost use Rattle.texel_filter.specs.Filter.{value_in};
 ghost use Rattle.texel_filter.specs.Visits.{visit_in, square_visits};
 ghost use Rattle.texel_filter.specs.Calls.{LeftBy};
+ghost use Rattle.texel_filter.specs.Fine.{IsFinePlace};
 ghost use Rattle.texel_filter.specs.Round.{IsRoundAt, visits_round, AreRound, IsRoundInside};
 ghost use Rattle.texel_filter.specs.Round.{AreWrapped};
 
 use crate::coordinate::Pair;
 use crate::fetch::Fetch;
-use crate::request::TexRequest;
+use crate::request::FineRequest;
 use crate::square::{Corners, Square};
 
 /// The columns and rows round the coordinates of a lookup, in a level.
@@ -21,8 +23,9 @@ pub struct Round {
 }
 
 impl Round {
-    pub fn at<F: Fetch>(f: &F, r: &TexRequest, level: u32) -> Round
-        requires { level < (F.sizes f.now).levels }
+    pub fn at<F: Fetch>(f: &F, r: &FineRequest, level: u32) -> Round
+        requires place { IsFinePlace r.now }
+        requires level { level < (F.sizes f.now).levels }
         ensures { IsRoundAt (F.sizes f.now) r.now level result }
     {
         let (width, height) = f.size(level);
@@ -33,7 +36,7 @@ impl Round {
         }
     }
 
-    /// The texels in these columns and rows: at once, where no wrap leaves one out.
+    /// Reads the four texels, in one call if no wrap leaves one out.
     pub fn fetch<F: Fetch>(
         &self,
         f: &mut F,
@@ -66,7 +69,7 @@ impl Round {
         }
     }
 
-    // One after another.
+    // Reads the texels one after another; a texel that the wrap leaves out is 0.
     fn fetch_each<F: Fetch>(
         &self,
         f: &mut F,
@@ -105,10 +108,11 @@ impl Round {
 #[inline(never)]
 pub fn wrapped_corners<F: Fetch>(
     f: &mut F,
-    r: &TexRequest,
+    r: &FineRequest,
     level: u32,
     channels: usize,
 ) -> Result<Corners, F::Error>
+    requires place { IsFinePlace r.now }
     requires level { level < (F.sizes f.old).levels }
     requires channels { IsChannelCount channels }
     ensures told { ForSome (F.values f.old) (λ v. IfOk result

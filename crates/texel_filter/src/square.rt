@@ -1,9 +1,10 @@
+//! Four texels of a level, and their numbers.
 use tiff_format::MAX_CHANNELS;
 
-/// The numbers of 8 bits.
+/// How many values 8 bits have.
 pub const NARROW_NUMBERS: u16 = 256;
 
-/// A sample of 8 bits counts as so many times itself.
+/// An 8-bit sample is multiplied by this to become a 16-bit value.
 pub const NARROW_SCALE: u16 = 257;
 
 /// Four texels of a level, in two columns and two rows, which need not lie side by side.

@@ -7,22 +7,24 @@ ghost use Rattle.texel_filter.specs.Coordinate.{unit};
 ghost use Rattle.texel_filter.specs.Filter.{AreSums};
 ghost use Rattle.texel_filter.specs.Visits.{square_visits};
 ghost use Rattle.texel_filter.specs.Calls.{LeftBy};
+ghost use Rattle.texel_filter.specs.Fine.{IsFinePlace};
 ghost use Rattle.texel_filter.specs.LevelPair.{alone_sum, between_sum, between_visits};
 
 use crate::coordinate::LevelPair;
 use crate::fetch::Fetch;
-use crate::request::TexRequest;
+use crate::request::FineRequest;
 use crate::sums::{write_sums, write_whole};
 use crate::weighted::level_sums;
 
-/// Of a level alone, with the whole weight.
+/// Writes the sums of one level, as if it had the whole weight of two.
 #[inline]
 pub fn sum_level<F: Fetch>(
     f: &mut F,
-    r: &TexRequest,
+    r: &FineRequest,
     level: u32,
     out: &mut [u64],
 ) -> Result<(), F::Error>
+    requires place { IsFinePlace r.now }
     requires level { level < (F.sizes f.old).levels }
     requires channels { IsChannelCount (length out.old) }
     ensures told { ForSome (F.values f.old) (λ v. OnOk result
@@ -37,14 +39,15 @@ pub fn sum_level<F: Fetch>(
     Ok(())
 }
 
-/// Of two levels.
+/// Writes the sums of two levels, by the fraction of the second one.
 #[inline]
 pub fn sum_between<F: Fetch>(
     f: &mut F,
-    r: &TexRequest,
+    r: &FineRequest,
     levels: LevelPair,
     out: &mut [u64],
 ) -> Result<(), F::Error>
+    requires place { IsFinePlace r.now }
     requires room { levels.first + 1 < 2 ^ 32 }
     requires levels { levels.first + 1 < (F.sizes f.old).levels }
     requires fraction { levels.fraction < unit }

@@ -11,7 +11,8 @@ ghost use Rattle.texel_filter.specs.Weighted.{max_sum, AreLevelSums};
 use crate::coordinate::UNIT;
 use tiff_format::MAX_CHANNELS;
 
-// And a half of a value.
+// How many bits of a sum lie below the value, and a half of a value: in a level, and over two
+// levels.
 const SUM_BITS: u32 = 32;
 
 const HALF_SUM: u64 = 1 << 31;
@@ -34,7 +35,8 @@ pub fn write_means(sums: &[u64; MAX_CHANNELS], n: usize, out: &mut [u16])
     }
 }
 
-/// The same over two levels, by the fraction of the second one.
+/// Writes the weighted means over two levels, by the fraction of the second one, rounded to the
+/// nearest.
 #[inline(always)]
 pub fn write_blend(
     first: &[u64; MAX_CHANNELS],
@@ -57,7 +59,7 @@ pub fn write_blend(
     }
 }
 
-/// Writes those sums as they are.
+/// Writes the sums over two levels, by the fraction of the second one, without rounding.
 #[inline]
 pub fn write_sums(
     first: &[u64; MAX_CHANNELS],

@@ -1,3 +1,4 @@
+//! Four texels with their bilinear weights, and the sums of their channels.
 ghost use Rattle.std.specs.Prelude.{◌≡◌, ◌<◌, ◌≤◌, OnOk, IfOk, true, false};
 ghost use Rattle.std.specs.Option.{ForSome};
 ghost use Rattle.texel_filter.specs.Image.{IsChannelCount, AreFirst, image_of};
@@ -5,11 +6,12 @@ ghost use Rattle.texel_filter.specs.Filter.{bilinear_sum};
 ghost use Rattle.tiff_format.specs.Limits.{max_channels};
 ghost use Rattle.texel_filter.specs.Visits.{square_visits};
 ghost use Rattle.texel_filter.specs.Calls.{LeftBy};
+ghost use Rattle.texel_filter.specs.Fine.{IsFinePlace};
 ghost use Rattle.texel_filter.specs.Weighted.{sum_of, max_sum, HasSums, AreLevelSums};
 
 use crate::coordinate::Between;
 use crate::fetch::Fetch;
-use crate::request::TexRequest;
+use crate::request::FineRequest;
 use crate::round::wrapped_corners;
 use crate::square::{Corners, NARROW_NUMBERS, NARROW_SCALE, Square};
 use crate::weights::Weights;
@@ -37,10 +39,11 @@ impl Weighted {
     fn fetch<F: Fetch>(
         &mut self,
         f: &mut F,
-        r: &TexRequest,
+        r: &FineRequest,
         level: u32,
         channels: usize,
     ) -> Result<(), F::Error>
+        requires place { IsFinePlace r.now }
         requires level { level < (F.sizes f.old).levels }
         requires channels { IsChannelCount channels }
         ensures told { ForSome (F.values f.old) (λ v. OnOk result
@@ -92,7 +95,8 @@ impl Weighted {
         sums
     }
 
-    // Of a channel whose numbers are samples of 8 bits: their sum is multiplied, and not each.
+    // The sum of a channel of 8-bit samples: the sum is multiplied by 257 once, instead of each
+    // sample.
     #[inline(always)]
     fn narrow_sum(&self, c: usize) -> u64
         requires channel { c < max_channels }
@@ -107,7 +111,7 @@ impl Weighted {
         u64::from(NARROW_SCALE) * sum
     }
 
-    // Of a channel whose numbers are values.
+    // The sum of a channel of 16-bit values.
     #[inline(always)]
     fn wide_sum(&self, c: usize) -> u64
         requires channel { c < max_channels }
@@ -122,15 +126,16 @@ impl Weighted {
     }
 }
 
-/// The weighted sums of the first n channels of the four texels round the coordinates of a lookup, in
-/// a level.
+/// The weighted sums of the first n channels of the four texels round the coordinates of a lookup,
+/// in a level.
 #[inline(never)]
 pub fn level_sums<F: Fetch>(
     f: &mut F,
-    r: &TexRequest,
+    r: &FineRequest,
     level: u32,
     n: usize,
 ) -> Result<[u64; MAX_CHANNELS], F::Error>
+    requires place { IsFinePlace r.now }
     requires level { level < (F.sizes f.old).levels }
     requires channels { IsChannelCount n }
     ensures told { ForSome (F.values f.old) (λ v. IfOk result
@@ -148,14 +153,16 @@ pub fn level_sums<F: Fetch>(
     }
 }
 
-/// The same. Inlined where the compiler knows how many.
+/// The weighted sums of the first n channels in a level. It is inlined, for callers whose n is a
+/// constant.
 #[inline(always)]
 pub fn sums_upto<F: Fetch>(
     f: &mut F,
-    r: &TexRequest,
+    r: &FineRequest,
     level: u32,
     n: usize,
 ) -> Result<[u64; MAX_CHANNELS], F::Error>
+    requires place { IsFinePlace r.now }
     requires level { level < (F.sizes f.old).levels }
     requires channels { IsChannelCount n }
     ensures told { ForSome (F.values f.old) (λ v. IfOk result

@@ -1,3 +1,4 @@
+//! The bilinear weights of four texels.
 ghost use Rattle.std.specs.Prelude.{◌≡◌, ◌+◌, ◌-◌, ◌*◌, ◌^◌, ◌<◌};
 ghost use Rattle.texel_filter.specs.Coordinate.{unit};
 

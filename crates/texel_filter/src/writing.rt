@@ -9,17 +9,18 @@ ghost use Rattle.texel_filter.specs.Image.{IsInside, texel_of};
 ghost use Rattle.texel_filter.specs.Filter.{value_in, bilinear_in_level};
 ghost use Rattle.texel_filter.specs.Visits.{visit_in, square_visits};
 ghost use Rattle.texel_filter.specs.Calls.{LeftBy};
+ghost use Rattle.texel_filter.specs.Fine.{IsFinePlace};
 ghost use Rattle.texel_filter.specs.Coordinate.{unit};
 ghost use Rattle.texel_filter.specs.LevelPair.{between_value, between_visits};
 
 use crate::coordinate::LevelPair;
 use crate::fetch::Fetch;
-use crate::request::TexRequest;
+use crate::request::FineRequest;
 use crate::sums::{write_blend, write_means};
 use crate::weighted::{level_sums, sums_upto};
 use tiff_format::MAX_CHANNELS;
 
-/// The texel in a column and a row.
+/// Writes the texel in a column and a row.
 #[inline(always)]
 pub fn write_texel<F: Fetch>(
     f: &mut F,
@@ -65,7 +66,7 @@ fn texel_upto<F: Fetch>(
     Ok(())
 }
 
-/// The same, or 0 where there is no such column or row.
+/// Writes the texel in a column and a row, or 0 if the wrap leaves no such column or row.
 pub fn write_one<F: Fetch>(
     f: &mut F,
     level: u32,
@@ -94,10 +95,11 @@ pub fn write_one<F: Fetch>(
 #[inline(never)]
 pub fn write_level<F: Fetch>(
     f: &mut F,
-    r: &TexRequest,
+    r: &FineRequest,
     level: u32,
     out: &mut [u16],
 ) -> Result<(), F::Error>
+    requires place { IsFinePlace r.now }
     requires level { level < (F.sizes f.old).levels }
     requires channels { IsChannelCount (length out.old) }
     ensures told { ForSome (F.values f.old) (λ v. OnOk result
@@ -118,11 +120,12 @@ pub fn write_level<F: Fetch>(
 #[inline(always)]
 fn level_upto<F: Fetch>(
     f: &mut F,
-    r: &TexRequest,
+    r: &FineRequest,
     level: u32,
     n: usize,
     out: &mut [u16],
 ) -> Result<(), F::Error>
+    requires place { IsFinePlace r.now }
     requires level { level < (F.sizes f.old).levels }
     requires channels { IsChannelCount n }
     requires count { length out.old ≡ n }
@@ -141,10 +144,11 @@ fn level_upto<F: Fetch>(
 #[inline(never)]
 pub fn write_between<F: Fetch>(
     f: &mut F,
-    r: &TexRequest,
+    r: &FineRequest,
     levels: LevelPair,
     out: &mut [u16],
 ) -> Result<(), F::Error>
+    requires place { IsFinePlace r.now }
     requires room { levels.first + 1 < 2 ^ 32 }
     requires levels { levels.first + 1 < (F.sizes f.old).levels }
     requires fraction { levels.fraction < unit }
@@ -164,14 +168,15 @@ pub fn write_between<F: Fetch>(
     }
 }
 
-/// The same of N channels. The texels of two levels make it too large for `#[inline(always)]`, which the
-/// compiler then drops; a number that is a parameter of its own is known without that.
+/// Trilinear for exactly N channels. The body is too large for `#[inline(always)]`, which the
+/// compiler then ignores, so N is a const parameter.
 fn between_of<F: Fetch, const N: usize>(
     f: &mut F,
-    r: &TexRequest,
+    r: &FineRequest,
     levels: LevelPair,
     out: &mut [u16],
 ) -> Result<(), F::Error>
+    requires place { IsFinePlace r.now }
     requires room { levels.first + 1 < 2 ^ 32 }
     requires levels { levels.first + 1 < (F.sizes f.old).levels }
     requires fraction { levels.fraction < unit }
@@ -189,13 +194,14 @@ fn between_of<F: Fetch, const N: usize>(
     Ok(())
 }
 
-/// The same of any number of channels.
+/// Trilinear for any number of channels.
 fn between_any<F: Fetch>(
     f: &mut F,
-    r: &TexRequest,
+    r: &FineRequest,
     levels: LevelPair,
     out: &mut [u16],
 ) -> Result<(), F::Error>
+    requires place { IsFinePlace r.now }
     requires room { levels.first + 1 < 2 ^ 32 }
     requires levels { levels.first + 1 < (F.sizes f.old).levels }
     requires fraction { levels.fraction < unit }

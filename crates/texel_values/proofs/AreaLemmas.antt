@@ -32,7 +32,7 @@ div_later : (a b n : ℕ) → 1 ≤ n → a ≤ b → a / n ≤ b / n
 div_later a b n some later =
     le-div (a / n) b n some (omega (arith, later, div-mul-le_self a n))
 
--- of places that there are the first cells that they meet are cells of the side
+-- if the range has places, the cells that it meets exist on the side
 below_by : (cell first inside size n : ℕ) (none : Bool) → (inside == 0) ≡ none → 1 ≤ cell
     → first + inside ≤ size
     → n < (if none then 0 else (first + inside - 1) / cell - first / cell + 1)
@@ -75,7 +75,7 @@ met_some cell first inside x some low high =
 
 -- ---- cells
 
--- where there is a number below a product, the second is not 0
+-- if there is a number below a product, the second factor is not 0
 some_of : (k m n : ℕ) → k < m * n → 0 < n
 some_of k m n low = by (less_or_not 0 n)
   where
@@ -120,7 +120,7 @@ module _ (area : Area) where
       (columns.first / grid.across.cell + k % across) (cells_down (shown_grid grid))
       (row_low k low) (column_low k low)
 
-  -- where it meets a cell its first place on each side is one of the level
+  -- if the area meets a cell, its first place on each side lies on the level
   pub column_first : (k : ℕ) → k < area_cells area → columns.first < grid.across.size
   column_first k low =
       let some = some_inside grid.across.cell columns.first columns.inside (columns.inside == 0) refl
@@ -185,7 +185,7 @@ module _ (area : Area) where
         ),
       )
 
-  -- where the texels of all cells that are met are painted, all are
+  -- if the texels of all cells that are met are painted, all texels are
   pub painted_all : (bytes values : List ℕ)
       → ((m : ℕ) → m < area_cells area → HasValuesOn bytes area.level
       (cell_rect (shown_grid grid) (area_cell area m)) area.window area.height values)
@@ -195,7 +195,7 @@ module _ (area : Area) where
 
 -- ---- values
 
--- A place is before a side, on it, or behind it.
+-- A place is before a side, on it, or after it.
 record IsBeside (start : ℤ) (size : ℕ) (over : Overlap) (i : ℕ) : Type 0 where
   none : index_in (start +ℤ pos i) size ≡ None
   side : (i < over.before) ⊎ (over.before + over.inside ≤ i)
@@ -310,7 +310,7 @@ module _ (bytes : List ℕ) (cut : Cut) (region : Region) (area : Area) (values 
             (cut_level_of bytes cut region.level).height area.window.rows is.rows j
             (omega (arith, j_low, is.height)))
 
-  -- the values of a region of which all texels are painted
+  -- the values of a region, all of whose texels are painted
   pub region_values : IsPainted bytes area values → IsZeroBeside area values
       → length values ≡ area.height * (area.window.width * area.window.channels)
       → AreRegionValues bytes region values

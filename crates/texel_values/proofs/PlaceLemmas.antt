@@ -1,4 +1,4 @@
--- Where the values of a rectangle stand, and which of them a row of samples takes.
+-- Where the values of a rectangle are, and which of them a row of samples fills.
 use Rattle.std.proofs.Common.{◌≡◌, ℕ, ◌+◌, ◌-◌, ◌*◌, ◌<◌, ◌≤◌, ◌⊎◌, inl, inr, ap, arith, max, min}
 use Rattle.std.proofs.Common.{Bool, true, false, nat_lt, refl}
 use Rattle.std.proofs.Math.Nat.{mul-le-mul_left}
@@ -63,11 +63,11 @@ module _ (window : Window) (rect : Rect) (left right top bottom y : ℕ)
   abbrev pub from_place : ℕ
   from_place = row_j * (window.width * window.channels) + first_i * window.channels
 
-  -- it ends within its row
+  -- the row of samples ends within its row of the region
   pub ends : first_i + (right - left) ≤ window.width
   ends = omega (arith, is.left_is, is.right_is, is.some, is.across)
 
-  -- any other value stands before it or behind it
+  -- any other value comes before the row or after it
   pub elsewhere : (i j c : ℕ) → i < window.width → c < window.channels
       → ¬ (IsIn window rect i j × (row_of window j ≡ y))
       → (place_at window.width window.channels i j c < from_place)
@@ -149,7 +149,7 @@ module _ (window : Window) (rect : Rect) (left right top bottom y : ℕ)
         ap (λ (k : ℕ). k * window.channels) i_is,
       )
 
-  -- its values are among those of the region
+  -- the row's values are among those of the region
   pub ends_within : (height total : ℕ)
       → window.rows.before + window.rows.inside ≤ height
       → total ≡ height * (window.width * window.channels)

@@ -84,7 +84,7 @@ module _ (tile : CachedTile) (from y n x : ℕ) (samples : List ℕ) (left : fro
         ∙ ap (λ k. kept_sample tile k y c) on;
   }
 
--- where the world tells, the first n channels are those of the texel in the tile's file
+-- in a modelled world, the first n channels are those of the texel in the tile's file
 abbrev pub ToldFirst : Files → CachedTile → ℕ → TexelAt → Bool → ℕ → List ℕ → Type 0
 ToldFirst files tile depth at narrow n corner = ToldBy files tile.key (λ bytes.
     level_of tile.key ≡ at.level → depth ≡ bit_depth_of bytes

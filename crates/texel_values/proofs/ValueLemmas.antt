@@ -25,17 +25,17 @@ some_and : {A : Type 0} (o : Option A) (P Q R : A → Type 0) → ((x : A) → P
 some_and (Some x) P Q R f p q = f x p q
 some_and None P Q R f p q = absurd p
 
--- a number where a channel is one of so many, and else 0
+-- a number if the test passes, otherwise 0
 abbrev pub where_low : Bool → ℕ → ℕ
 where_low low value = if low then value else 0
 
--- It is the value where the channel is one.
+-- it is the value if the channel exists
 same_where_true : (low : Bool) (c n value : ℕ) → nat_lt c n ≡ low → c < n
     → value ≡ where_low low value
 same_where_true true c n value is less = refl
 same_where_true false c n value is less = absurd (omega (arith, less, ltb-false c n is))
 
--- Both are the same where they are for each channel that there is.
+-- both are equal if they are for each channel that exists
 same_where : (low : Bool) (c n a b : ℕ) → nat_lt c n ≡ low → (c < n → a ≡ b)
     → where_low low a ≡ where_low low b
 same_where true c n a b is same = same (ltb-true c n is)

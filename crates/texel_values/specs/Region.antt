@@ -1,4 +1,4 @@
--- Which values has a region of a level, and which cells does it meet? (docs/FORMAT.md, "Values")
+-- Which values has a region of a level? (docs/FORMAT.md, "Values")
 use Rattle.std.specs.Prelude.{◌≡◌, ℕ, ◌+◌, ◌*◌, ◌<◌, ◌++◌, pos, ◌+ℤ◌, List, length, slice_index}
 use Rattle.std.specs.Prelude.{Option, Some, None}
 use Rattle.tile_layout.specs.Cell.{channels_of}
@@ -9,19 +9,19 @@ use Rattle.texel_values.specs.Overlap.{index_in}
 
 -- ---- values
 
--- the value of a channel of the texel in a column and a row, 0 where there is no such one
+-- the value of a channel of a texel; 0 if the column or the row does not exist
 abbrev pub value_or_zero : (ℕ → ℕ → ℕ → ℕ) → Option ℕ → Option ℕ → ℕ → ℕ
 value_or_zero value (Some x) (Some y) c = value x y c
 value_or_zero value (Some x) None c = 0
 value_or_zero value None y c = 0
 
--- channel c of texel (i, j) of these values of a rectangle w texels wide, row by row, channels side
--- by side
+-- channel c of texel (i, j) in the values of a rectangle w texels wide, row by row, all channels of
+-- a texel together
 abbrev pub value_at : ℕ → ℕ → List ℕ → ℕ → ℕ → ℕ → ℕ
 value_at w channels values i j c = slice_index values (j * (w * channels) + (i * channels + c))
 
--- These are the values of a region of a level of a file with these bytes: row by row, channels side
--- by side, and 0 outside the level.
+-- These are the values of a region of a level in a file with these bytes: row by row, all channels
+-- of a texel together, and 0 outside the level.
 pub record AreRegionValues (bytes : List ℕ) (region : Region) (values : List ℕ) : Type 0 where
   pub count : length values ≡ region.h * (region.w * channels_of bytes)
   pub each : (i j c : ℕ) → i < region.w → j < region.h → c < channels_of bytes
@@ -30,7 +30,7 @@ pub record AreRegionValues (bytes : List ℕ) (region : Region) (values : List �
       (index_in (region.x +ℤ pos i) (width_of bytes region.level))
       (index_in (region.y +ℤ pos j) (height_of bytes region.level)) c
 
--- Values were appended, and P is so of them.
+-- Values were appended, and `P` holds of them.
 abbrev pub Appends : (List ℕ → Type 0) → List ℕ → List ℕ → Type 0
 Appends P old new = (values : List ℕ) × (new ≡ old ++ values) × P values
 

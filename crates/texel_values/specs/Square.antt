@@ -1,4 +1,4 @@
--- Which 16-bit values have the four texels of a square, all of one tile?
+-- Which values have the four texels of a square, if one tile has them all?
 use Rattle.std.specs.Prelude.{◌≡◌, ℕ, ◌+◌, ◌≤◌, List, length, take, drop}
 use Rattle.tex_world.specs.World.{Files}
 use Rattle.texel_filter.specs.declared.square.Square.{Square}
@@ -15,28 +15,28 @@ use Rattle.tile_store.specs.Tile.{CachedTile}
 use Rattle.tile_store.specs.Told.{ToldBy}
 use Rattle.texel_values.specs.Values.{sample_or_zero}
 
--- all four texels are in the rectangle
+-- all four texels lie in the rectangle
 pub record HoldsSquare (rect : Rect) (square : Square) : Type 0 where
   pub left_top : HoldsTexel rect square.left square.top
   pub right_bottom : HoldsTexel rect square.right square.bottom
 
--- Where the world tells, the corners have the values of the square in its file, if the level and
--- the depth are those of the file.
+-- In a modelled world, the corners have the values of the square in its file, if level and depth
+-- are right.
 abbrev pub AreToldCorners : Files → CachedTile → ℕ → Square → ℕ → Corners → Type 0
 AreToldCorners files tile depth square channels corners = ToldBy files tile.key (λ bytes.
     level_of tile.key ≡ square.level → depth ≡ bit_depth_of bytes
     → AreCorners (channel_value_of bytes) square channels corners)
 
--- samples of a row hold those of two texels, which begin at these places and have so many each
+-- the samples of a row include those of two texels, which begin at these places
 pub record HasEnds (samples : List ℕ) (places : ℕ × ℕ) (wide : ℕ) : Type 0 where
   pub left : places.0 + wide ≤ length samples
   pub right : places.1 + wide ≤ length samples
 
--- the channels of the texel that begins at a place among samples, 0 for those that it lacks
+-- the channels of the texel that begins at a place; 0 for those that it lacks
 abbrev pub texel_at : List ℕ → ℕ → ℕ → ℕ → ℕ
 texel_at samples from wide = sample_or_zero (take wide (drop from samples))
 
--- the numbers of the corners, in the first channels, are the samples of those two texels of each row
+-- the corners have, in their first channels, the samples of these two texels in each row
 pub record AreCornersOf (rows : TwoRows) (places : ℕ × ℕ) (wide channels : ℕ) (corners : Corners)
     : Type 0 where
   pub left_top : AreFirst channels (texel_at (top_of rows) places.0 wide) corners.left_top

@@ -1,16 +1,17 @@
+//! A region of a level, prepared for reading cell by cell.
 ghost use Rattle.texel_values.specs.Met.{IsMet};
 
 use crate::window::Window;
 use tile_layout::Grid;
 
-/// Where a region lies to its level, and which cells it meets.
+/// How a region lies on its level, and which cells it meets.
 #[derive(Clone, Copy, Debug, PartialEq, Eq)]
 pub struct Area {
     pub level: u32,
-    /// How its level is cut.
+    /// How the level is divided into cells.
     pub grid: Grid,
     pub window: Window,
-    /// The texels of one of its columns.
+    /// The height of the region, in texels.
     pub height: u32,
     pub(crate) across: u32,
     pub(crate) down: u32,

@@ -1,4 +1,4 @@
-//! The cells that a region meets.
+//! Lists the cells that a region meets.
 ghost use Rattle.std.specs.Prelude.{◌≡◌, ◌+◌, ◌*◌, ◌<◌, ◌≤◌};
 ghost use Rattle.tile_layout.specs.Cell.{cell_count, number_of};
 ghost use Rattle.tile_layout.specs.Grid.{shown_grid};
@@ -13,7 +13,7 @@ use crate::region::Region;
 use crate::window::Window;
 use tile_layout::{CutSide, Grid};
 
-/// How many cells of a side the places on it meet.
+/// How many cells along a side the places on it meet.
 fn met(side: &CutSide, over: &Overlap) -> u32
     requires { over.now.first + over.now.inside ≤ side.now.size }
     ensures { result ≡ cells_met side.now.cell over.now.first over.now.inside }
@@ -25,7 +25,7 @@ fn met(side: &CutSide, over: &Overlap) -> u32
 }
 
 impl Area {
-    /// The area of a region of a level, with so many values of a texel.
+    /// The area of a region on a level.
     pub fn new(grid: Grid, region: &Region, channels: u32) -> Area
         ensures { IsAreaOf (shown_grid grid) region.now channels result }
     {
@@ -45,7 +45,7 @@ impl Area {
         }
     }
 
-    /// The values of all its texels.
+    /// The number of values of all its texels.
     pub fn count(&self) -> usize
         requires few { self.now.window.width * self.now.height ≤ max_texels }
         requires channels { IsChannelCount self.now.window.channels }
@@ -54,14 +54,14 @@ impl Area {
         self.height as usize * (self.window.width as usize * self.window.channels as usize)
     }
 
-    /// How many cells it meets.
+    /// The number of cells that it meets.
     pub fn cells(&self) -> u64
         ensures { result ≡ area_cells self.now }
     {
         u64::from(self.down) * u64::from(self.across)
     }
 
-    /// The number of the k-th of them in its level, row by row.
+    /// The index, in the level, of the k-th of these cells, row by row.
     pub fn cell(&self, k: u64) -> u32
         requires { k < area_cells self.now }
         ensures value { result ≡ area_cell self.now k }
@@ -71,7 +71,7 @@ impl Area {
         self.grid.index(column, row)
     }
 
-    /// The column and the row of the k-th of them among the cells of its level.
+    /// The column and the row, among the level's cells, of the k-th of these cells.
     pub fn place(&self, k: u64) -> (u32, u32)
         requires { k < area_cells self.now }
         ensures value { number_of (shown_grid self.now.grid) result.0 result.1

@@ -1,5 +1,5 @@
-//! The 16-bit values of texels, by the tiles of their cells: those of one texel, those of four at
-//! once, and those of a region of a level, tile by tile.
+//! Converts samples in tiles to 16-bit values: of one texel, of four texels, or of a region cell by
+//! cell.
 #![tactic(auto)]
 
 mod area;

@@ -1,22 +1,22 @@
-//! Where places in a row meet a side of an image.
+//! How a range of places overlaps the side of a level.
 
 ghost use Rattle.texel_values.specs.Overlap.{IsOverlap};
 
-/// So many places before a side, so many on it from its place `first` on, and so many behind it.
+/// A range of places, split into those before the side, those on it, and those after it.
 #[derive(Clone, Copy, Debug, PartialEq, Eq)]
 pub struct Overlap {
-    /// The places before the side.
+    /// The number of places before the side.
     pub before: u32,
-    /// The place of the side at which the next one lies.
+    /// The place on the side where the overlap begins.
     pub first: u32,
-    /// The places on the side.
+    /// The number of places on the side.
     pub inside: u32,
-    /// The places behind it.
+    /// The number of places after the side.
     pub after: u32,
 }
 
 impl Overlap {
-    /// How `count` places from `start` on meet a side of `size` places.
+    /// How `count` places from `start` on overlap a side of `size` places.
     pub fn new(start: i32, count: u32, size: u32) -> Overlap
         ensures { IsOverlap start count size result }
     {

@@ -1,4 +1,4 @@
-//! The texels of a tile, written to the values of a region.
+//! Copies the texels of a tile to the values of a region.
 ghost use Rattle.std.specs.Prelude.{◌≡◌, ◌⊎◌, ℕ, ◌+◌, ◌*◌, ◌<◌, ◌≤◌, ◌^◌, length, slice_index};
 ghost use Rattle.tile_store.specs.Row.{samples_of};
 ghost use Rattle.tile_layout.specs.Pieces.{LiesOn};
@@ -10,8 +10,8 @@ use crate::window::Window;
 use tex_world::World;
 use tile_store::{Row, Tile};
 
-/// Writes those texels of a tile that a region has to their places among its values, row by row,
-/// channels side by side.
+/// Writes those texels of a tile that lie in the region to their places among its values: row by
+/// row, all channels of a texel together.
 pub fn paint<W: World>(tile: &Tile<W>, depth: u32, window: &Window, height: u32, values: &mut [u16])
     requires values { HasValues window.now height values.old }
     requires channels { tile.now.channels ≡ window.now.channels }
@@ -23,12 +23,12 @@ pub fn paint<W: World>(tile: &Tile<W>, depth: u32, window: &Window, height: u32,
     ensures paints { Paints tile.now depth window.now height values.old values.new }
     ensures told { PaintsTold W.files tile.now depth window.now height values.new }
 {
-    // its key tells that it has the samples of its file
+    // needed by the proof: ties the tile's samples to its file
     let _key = tile.key();
     paint_tile(tile, depth, window, height, values);
 }
 
-/// The same, of whatever the tile has.
+/// Does the work of `paint`, for any tile.
 fn paint_tile<W: World>(
     tile: &Tile<W>,
     depth: u32,
@@ -45,7 +45,7 @@ fn paint_tile<W: World>(
     ensures long { length values.new ≡ length values.old }
     ensures paints { Paints tile.now depth window.now height values.old values.new }
 {
-    // no place among them is beyond their number
+    // needed by the proof: bounds the places of the values
     let _count = values.len();
     let rect = tile.rect();
     let (columns, rows) = (&window.columns, &window.rows);
@@ -65,7 +65,7 @@ fn paint_tile<W: World>(
     }
 }
 
-/// Writes the values of samples to places side by side, from one on.
+/// Writes the values of a row of samples, from index `from` on.
 fn paint_row(samples: &Row<'_>, depth: u32, from: usize, values: &mut [u16])
     requires { from + length (samples_of samples.now) ≤ length values.old }
     ensures long { length values.new ≡ length values.old }
@@ -76,7 +76,7 @@ fn paint_row(samples: &Row<'_>, depth: u32, from: usize, values: &mut [u16])
         → slice_index values.new k ≡ slice_index values.old k }
 {
     let out = &mut values[from..from + samples.count()];
-    // a body for each of the four, so that none asks at each value
+    // one loop for each of the four cases, so that no loop tests for them
     match (samples.has_bytes(), depth == NARROW_DEPTH) {
         (true, true) => write_samples(samples, NARROW_DEPTH, out),
         (false, true) => write_samples(samples, NARROW_DEPTH, out),
@@ -85,7 +85,7 @@ fn paint_row(samples: &Row<'_>, depth: u32, from: usize, values: &mut [u16])
     }
 }
 
-/// Writes the values of as many samples.
+/// Writes one value for each sample.
 #[inline(always)]
 fn write_samples(samples: &Row<'_>, depth: u32, out: &mut [u16])
     requires { length (samples_of samples.now) ≡ length out.old }

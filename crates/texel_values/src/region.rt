@@ -1,8 +1,9 @@
-//! A region of a level, and where it lies to the level and its cells.
+//! A region of a level: the rectangle that a caller asks for.
 ghost use Rattle.std.specs.Prelude.{◌≡◌, ◌↔◌, ◌*◌, ◌<◌, IsTrue};
 ghost use Rattle.texel_values.specs.Region.{max_texels};
 
-/// A region of a level: w by h texels from (x, y) on. It may lie beside the level.
+/// A region of a level: w by h texels from (x, y) on. It may lie outside the level, partly or
+/// wholly.
 #[derive(Clone, Copy, Debug, PartialEq, Eq)]
 pub struct Region {
     pub level: u32,
@@ -12,11 +13,11 @@ pub struct Region {
     pub h: u32,
 }
 
-/// The most texels of a region.
+/// The most texels that a region may have.
 const MAX_TEXELS: u64 = 1048576;
 
 impl Region {
-    /// It has more than 1048576 texels.
+    /// Whether it has more than 1048576 texels.
     pub fn is_too_large(&self) -> bool
         ensures { IsTrue result ↔ max_texels < self.now.w * self.now.h }
     {

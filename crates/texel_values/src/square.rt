@@ -1,4 +1,4 @@
-//! The numbers of the four texels of a square.
+//! Reads the four texels of a square from one tile.
 ghost use Rattle.std.specs.Prelude.{◌≡◌, ◌+◌, ◌≤◌, length};
 ghost use Rattle.texel_filter.specs.Image.{IsChannelCount};
 ghost use Rattle.tile_store.specs.Row.{samples_of, top_of, bottom_of};
@@ -10,8 +10,8 @@ use tex_world::World;
 use texel_filter::{Corners, Square};
 use tile_store::{Row, Tile, TwoRows};
 
-/// Writes the samples of the first channels of the four texels of a square, all of one tile, and 0
-/// for those that it lacks, and notes whether they have 8 bits.
+/// Writes the first channels of the square's four texels, which all lie in this tile, with 0 for
+/// channels that it lacks. Records whether the samples have 8 bits.
 #[inline(always)]
 pub fn write_square<W: World>(
     tile: &Tile<W>,
@@ -24,7 +24,7 @@ pub fn write_square<W: World>(
     requires channels { IsChannelCount channels }
     ensures { AreToldCorners W.files tile.now depth square.now channels out.new }
 {
-    // its key tells that it has the samples of its file
+    // needed by the proof: ties the tile's samples to its file
     let _key = tile.key();
     let from = square.left.min(square.right);
     let texels = square.left.max(square.right) - from + 1;
@@ -36,8 +36,8 @@ pub fn write_square<W: World>(
     out.narrow = depth == NARROW_DEPTH;
 }
 
-/// Writes the samples of two texels of each of two rows, which begin at two places among its samples.
-/// It has a body for bytes and one for samples of two bytes, so that none asks for them at each sample.
+/// Writes the samples of two texels in each of two rows, which begin at the given places. It has
+/// one body for bytes and one for two-byte samples, so that the loops need no test.
 #[inline(always)]
 fn write_samples(
     rows: &TwoRows<'_>,
@@ -58,7 +58,7 @@ fn write_samples(
     }
 }
 
-/// The same, compiled where the compiler knows how many bytes a sample has.
+/// Does the work of `write_samples`; inlined where the size of a sample is known.
 #[inline(always)]
 fn write_corners(
     rows: &TwoRows<'_>,
@@ -82,13 +82,13 @@ fn write_corners(
     }
 }
 
-/// A channel of the texel that begins at a place among samples, 0 for one that it lacks.
+/// Channel c of the texel that begins at a place; 0 if the texel lacks it.
 #[inline(always)]
 fn channel_sample(samples: &Row<'_>, from: usize, wide: usize, c: usize) -> u16
     requires { from + wide ≤ length (samples_of samples.now) }
     ensures { result ≡ texel_at (samples_of samples.now) from wide c }
 {
-    // its result fits in a word, and so does the place below
+    // needed by the proof: the index below fits in a word
     let _count = samples.count();
     if c < wide {
         samples.sample(from + c)

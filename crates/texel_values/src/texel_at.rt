@@ -1,9 +1,10 @@
+//! A place in a file: a texel of a level.
 /// A texel of a level of a file.
 #[derive(Clone, Copy, Debug, PartialEq, Eq)]
 pub struct TexelAt {
     pub level: u32,
-    /// The column, from 0 on.
+    /// The column, counted from 0.
     pub x: u32,
-    /// The row, from 0 on.
+    /// The row, counted from 0.
     pub y: u32,
 }

@@ -1,4 +1,4 @@
-//! The 16-bit values of a texel.
+//! Converts the samples of a texel to 16-bit values.
 ghost use Rattle.std.specs.Prelude.{◌≡◌, ℕ, ◌<◌, length, slice_index};
 ghost use Rattle.tile_layout.specs.Cell.{HoldsTexel};
 ghost use Rattle.tile_store.specs.Row.{samples_of};
@@ -9,10 +9,10 @@ use tex_world::World;
 use texel_filter::{NARROW_NUMBERS, NARROW_SCALE};
 use tile_store::{Row, Tile};
 
-/// The bits of a narrow sample.
+/// The bits of a sample that fits a byte.
 pub(crate) const NARROW_DEPTH: u32 = 8;
 
-/// The 16-bit value of a sample of a file of this depth.
+/// The 16-bit value of a sample; 8-bit samples are scaled to 0 to 65535.
 #[inline(always)]
 pub(crate) fn value_of(depth: u32, sample: u16) -> u16
     ensures { result ≡ kept_value depth sample }
@@ -24,7 +24,7 @@ pub(crate) fn value_of(depth: u32, sample: u16) -> u16
     }
 }
 
-/// The value of a channel of these samples of a texel, 0 for one that they lack.
+/// The value of channel c; 0 if the texel lacks it.
 #[inline(always)]
 pub(crate) fn channel_value(samples: &Row<'_>, depth: u32, c: usize) -> u16
     ensures { result ≡ sample_value (samples_of samples.now) depth c }
@@ -36,8 +36,8 @@ pub(crate) fn channel_value(samples: &Row<'_>, depth: u32, c: usize) -> u16
     }
 }
 
-/// Writes the values of the first channels of these samples of a texel, and 0 for those that they
-/// lack, compiled where the compiler knows how the samples are kept.
+/// Writes the values of a texel's first channels, with 0 for those that it lacks. Inlined where the
+/// size of a sample is known.
 #[inline(always)]
 fn write_kept(samples: &Row<'_>, depth: u32, out: &mut [u16])
     ensures values { (c : ℕ) → c < length out.new
@@ -49,7 +49,8 @@ fn write_kept(samples: &Row<'_>, depth: u32, out: &mut [u16])
     }
 }
 
-/// The same: it has a body for each way in which they are kept, so that none asks at each value.
+/// Writes the values of a texel's first channels. It has one body for each size of sample, so that
+/// the loops need no test.
 #[inline(always)]
 fn write_texel(samples: &Row<'_>, depth: u32, out: &mut [u16])
     ensures values { (c : ℕ) → c < length out.new
@@ -64,8 +65,8 @@ fn write_texel(samples: &Row<'_>, depth: u32, out: &mut [u16])
     }
 }
 
-/// Writes the values of the first channels of these samples of a texel, and 0 for those that they
-/// lack.
+/// Writes the values of the first channels from a texel's samples, with 0 for channels that are not
+/// there.
 pub fn write_channels(samples: &[u16], depth: u32, out: &mut [u16])
     ensures values { (c : ℕ) → c < length out.new
         → slice_index out.new c ≡ sample_value samples.now depth c }
@@ -74,14 +75,14 @@ pub fn write_channels(samples: &[u16], depth: u32, out: &mut [u16])
     write_texel(&Row::Shorts(samples), depth, out);
 }
 
-/// Writes the values of the first channels of a texel of a tile, and 0 for those that it lacks.
+/// Writes the values of the first channels of a texel in a tile, with 0 for channels that it lacks.
 pub fn write_values<W: World>(tile: &Tile<W>, depth: u32, at: TexelAt, out: &mut [u16])
     requires inside { HoldsTexel tile.now.rect at.x at.y }
     ensures values { AreValuesIn tile.now depth at out.new }
     ensures told { AreToldValues W.files tile.now depth at out.new }
     ensures long { length out.new ≡ length out.old }
 {
-    // its key tells that it has the samples of its file
+    // needed by the proof: ties the tile's samples to its file
     let _key = tile.key();
     write_texel(&tile.row(at.x, at.y, 1), depth, out);
 }

@@ -1,14 +1,15 @@
+//! How a region lies on its level.
 use crate::overlap::Overlap;
 
-/// Where a region lies to its level, and the numbers of its values.
+/// How a region lies on its level, and how its values are arranged.
 #[derive(Clone, Copy, Debug, PartialEq, Eq)]
 pub struct Window {
-    /// Its columns, to those of the level.
+    /// Its columns, relative to the level.
     pub columns: Overlap,
-    /// Its rows, to those of the level.
+    /// Its rows, relative to the level.
     pub rows: Overlap,
-    /// The texels of one of its rows.
+    /// The width of the region, in texels.
     pub width: u32,
-    /// The values of a texel.
+    /// The number of values per texel.
     pub channels: u32,
 }

@@ -1,4 +1,4 @@
-//! What README shows of embedding, as a program: a lookup in the middle of a file of a folder.
+//! The example of README as a program: a lookup in the middle of a file.
 #![tactic(auto)]
 
 ghost use Rattle.std.specs.Prelude.{◌≡◌, length};
@@ -14,7 +14,7 @@ use texture_sys::texture;
 use tiff_format::Cut;
 use waiter::Tries;
 
-/// The program's defaults, for one pass.
+/// The program's default options, for one pass.
 const OPTIONS: Options = Options {
     budget: 268435456,
     shards: 8,
@@ -41,13 +41,13 @@ const MIDDLE: TexRequest = TexRequest {
 /// Why nothing is printed.
 #[derive(Clone, Copy, Debug, PartialEq, Eq)]
 enum LookError {
-    /// The words are not a folder and a name.
+    /// The arguments are not a folder and a name.
     BadWords,
-    /// The folder is not entered, or it has no file of the name.
+    /// The folder could not be entered, or has no file with this name.
     NoFile,
-    /// The cache refuses the file.
+    /// The cache does not accept the file.
     Refused,
-    /// No memory was found, or a line was not written.
+    /// Out of memory, or the output failed.
     Failed,
 }
 
@@ -72,7 +72,7 @@ fn look(rt: &HostRuntime) -> Result<(), LookError> {
     println!(rt; "{generation} {}", values[0]).map_err(|_| LookError::Failed)
 }
 
-/// Writes the values of a lookup in a file of a folder, and answers the generation.
+/// Looks up the values in a file of a folder, and returns the generation.
 fn values_of(
     rt: &HostRuntime,
     path: &str,

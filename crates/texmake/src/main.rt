@@ -1,5 +1,5 @@
-//! The texture maker: it writes a file of a folder to standard output as a texture, which stores all
-//! its levels in tiles.
+//! The program texmake: it converts an image of a folder to a texture, a tiled file with all
+//! levels, on standard output.
 #![tactic(auto)]
 
 use host_folder::{RealFolder, RealSink};
@@ -12,7 +12,7 @@ fn main(rt: HostRuntime) -> ExitCode {
     ExitCode::from(status(rt))
 }
 
-/// Makes what the words ask for, and gives the status that the program ends with.
+/// Makes what the arguments ask for, and returns the exit status.
 fn status(rt: HostRuntime) -> u8 {
     let words = match words(&rt) {
         Ok(words) => words,
@@ -25,15 +25,15 @@ fn status(rt: HostRuntime) -> u8 {
     let alloc = rt.alloc();
     let mut folder = RealFolder::new(&rt);
     let status = make(alloc, words.as_slice(), &mut folder, &mut out);
-    // What the sink still holds back can fail as a put can.
+    // writing the buffered bytes can fail like any write
     match out.flush() {
         Ok(()) => status,
         Err(_failed) => NOT_WRITTEN,
     }
 }
 
-/// The words after the program's name. Where one is not UTF-8 there are none, which are not those of
-/// the command.
+/// The arguments after the program's name. If one is not UTF-8 there are none, which is not a valid
+/// command.
 fn words(rt: &HostRuntime) -> io::Result<Vec<String>> {
     let mut words = match env::args(rt) {
         Ok(words) => words,

@@ -1,5 +1,5 @@
-//! The sample program: it makes requests from a number, answers them over the sample files, and
-//! writes a line about the answers to standard output.
+//! The program texsample: it makes requests from a number, answers them from the sample files, and
+//! prints a line about the answers.
 #![tactic(auto)]
 
 use host_folder::RealSink;
@@ -14,8 +14,8 @@ fn main(rt: HostRuntime) -> ExitCode {
     ExitCode::from(status(&rt, &rt))
 }
 
-/// Makes and answers what the words ask for, and gives the status that the program ends with. What
-/// waits does so by `waits`, which is the runtime.
+/// Makes and answers what the arguments ask for, and returns the exit status. `threads` is the
+/// runtime, which makes threads and waits.
 fn status(rt: &HostRuntime, threads: &(impl Threads + Wait + Sync)) -> u8 {
     let words = match words(rt) {
         Ok(words) => words,
@@ -26,14 +26,14 @@ fn status(rt: &HostRuntime, threads: &(impl Threads + Wait + Sync)) -> u8 {
         Err(_) => return NO_MEMORY,
     };
     let status = sample(threads, rt.alloc(), words.as_slice(), &mut out);
-    // What the sink still holds back can fail as a line can.
+    // writing the buffered bytes can fail like writing a line
     match out.flush() {
         Ok(()) => status,
         Err(_failed) => NOT_WRITTEN,
     }
 }
 
-/// The words after the program's name. Where one is not UTF-8 there are none, which are not two
+/// The arguments after the program's name. If one is not UTF-8 there are none, which are not two
 /// numbers.
 fn words(rt: &HostRuntime) -> io::Result<Vec<String>> {
     let mut words = match env::args(rt) {

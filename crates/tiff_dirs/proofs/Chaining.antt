@@ -126,7 +126,7 @@ module _ (levels : List Level) (next d0 : Level) (n : ℕ) (chain : IsChain leve
       larger = λ k d lt. all-larger k d (omega (arith, all-long));
     }
 
--- the same of what was read
+-- one more level that was read continues the chain
 pub chain_next : (dirs : List Dir) (n : ℕ) (first last next : Dir) → IsChain (map shown dirs)
     → length dirs ≡ n + 1 → n + 1 < max_levels
     → first ≡ get_or dirs 0 first → last ≡ get_or dirs n last
@@ -199,7 +199,7 @@ pub record IsSingle (dir : Dir) : Type 0 where
   pub width : dir.width ≡ 1
   pub height : dir.height ≡ 1
 
--- a chain of so many levels ends with one texel
+-- a chain of the greatest length ends with a single texel
 pub single_last : (dirs : List Dir) (last : Dir) → IsChain (map shown dirs)
     → length dirs ≡ max_levels → last ≡ get_or dirs last_number last → IsSingle last
 unfolding side_at

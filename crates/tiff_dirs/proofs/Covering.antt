@@ -73,7 +73,7 @@ covers_none form bytes first entries none t lt = rw (none t lt) tt
 
 -- ---- noting an entry, tag by tag
 
--- what is said of the tags below and from t on while an entry is noted
+-- what is true of the tags below t, and from t on, while an entry is noted
 pub record IsNoted (tag : ℕ) (entry : Entry) (t : ℕ) (old new : List (Option Entry)) : Type 0 where
   pub long : length new ≡ tag_count
   pub below : (u : ℕ) → u < t → get_or new u None ≡ noted tag entry u (get_or old u None)

@@ -11,7 +11,7 @@ use Rattle.tiff_format.specs.Field.{is_read, count_of, value_size, values_place}
 use Rattle.tiff_dirs.specs.declared.entry.Entry.{Entry}
 use Rattle.tiff_dirs.specs.Entries.{is_shaped, entry_size}
 
--- values that fit stand in the entry
+-- values that fit are in the entry itself
 pub place_inner : (form : Form) (bytes : List ℕ) (place : ℕ)
     → count_of form bytes place * value_size form bytes place ≤ offset_bytes form
     → values_place form bytes place ≡ place + value_field_at form
@@ -31,7 +31,7 @@ place_far form bytes place h =
     (offset_bytes form) h in
     rw fits refl
 
--- bytes among those that stand in an entry
+-- bytes of values in an entry
 pub inner_part : (bytes : List ℕ) (place : ℕ) (inner : List ℕ) (width at n : ℕ) → at + n ≤ width
     → ((k : ℕ) → k < width → get_or inner k 0 ≡ get_or bytes (place + k) 0)
     → IsPartAt bytes (place + at) (take n (drop at inner))

@@ -102,7 +102,7 @@ pub field_values_some : (form : Form) (bytes : List ℕ) (at tag place : ℕ)
 unfolding field_values
 field_values_some form bytes at tag place h = rw h refl
 
--- what is kept of a field tells its values: an absent one has its default,
+-- a missing field has its default values
 pub absent_values : (form : Form) (bytes : List ℕ) (at tag : ℕ)
     → IsKept form bytes None (field_place form bytes at tag)
     → field_values form bytes at tag ≡ default_of tag
@@ -119,7 +119,7 @@ misshapen_values form bytes at tag entry kept bad =
     let shape = sym (shape_is form bytes k.0 entry k.2 k.3) ∙ bad in
     field_values_some form bytes at tag k.0 k.1 ∙ entry_values_none form bytes k.0 shape
 
--- and another those of its entry
+-- a field with an entry has the entry's values
 pub record HasValues (form : Form) (bytes : List ℕ) (at tag : ℕ) (entry : Entry) : Type 0 where
   pub place : ℕ
   pub is : IsEntry bytes place entry
@@ -155,7 +155,7 @@ pub default_first : (o : Option ℕ) → unwrap_or o 0 ≡ get_or (option_to_lis
 default_first None = refl
 default_first (Some value) = refl
 
--- a field is misshapen where what is kept of its entry is
+-- a field cannot be read if the entry that is kept of it cannot
 pub misshapen_is : (form : Form) (bytes : List ℕ) (at tag : ℕ) (entry : Entry)
     → IsKept form bytes (Some entry) (field_place form bytes at tag)
     → not (is_shaped (length bytes) entry) ≡ is_misshapen form bytes at tag

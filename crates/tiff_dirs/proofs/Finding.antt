@@ -38,7 +38,7 @@ all_at test (x ∷ xs) h zero lt = (and_parts (test x) (list_all test xs) h).0
 all_at test (x ∷ xs) h (suc k) lt =
     all_at test xs (and_parts (test x) (list_all test xs) h).1 k (omega arith)
 
--- the first of so many values that fails a test is found among the first of a list
+-- the first value that fails a test is found among the first values of a list
 pub other_found : (test : ℕ → Bool) (value : ℕ → ℕ) (n count : ℕ) (all : List ℕ) (o : Option ℕ)
     → count ≡ min n (length all) → ((k : ℕ) → k < length all → get_or all k 0 ≡ value k)
     → IsFirstOther test value count o → o ≡ find (λ v. not (test v)) (take n all)
@@ -66,7 +66,7 @@ other_found test value n count all (Some v) is are other =
 
 -- ---- block by block
 
--- the first of the values behind those that pass
+-- the first failing value, after values that pass
 pub other_behind : (test : ℕ → Bool) (value : ℕ → ℕ) (done more n v : ℕ) → done + more ≤ n
     → ((k : ℕ) → k < done → test (value k) ≡ true)
     → IsFirstOther test (λ k. value (done + k)) more (Some v) → IsFirstOther test value n (Some v)

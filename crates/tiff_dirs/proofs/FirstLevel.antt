@@ -1,4 +1,4 @@
--- The first level of a file stands where the header says.
+-- The first level of a file is where the header says.
 use Rattle.std.proofs.Common.{◌≡◌, ℕ, List, [], ◌∷◌, refl, ap, ◌∙◌}
 use Rattle.std.specs.Option.{option_or}
 use Rattle.tiff_format.specs.declared.form.Form.{Form}

@@ -34,7 +34,7 @@ module _ (bytes : List ℕ) where
       ∙ level_of_all bytes n k (map shown dirs) (shown dir) are lt
       ∙ level_there k
 
-  -- ---- what was read behind level k
+  -- ---- what was read after level k
 
   module _ (k : ℕ) (next : ReadLevel)
       (follows : IsNext (form_of bytes) bytes (level_place bytes 0) (level_place bytes k)

@@ -6,7 +6,7 @@ use Rattle.std.proofs.lemmas.Grind.{same_number_lists}
 use Rattle.std.proofs.lemmas.List.{length-take, get_or-take}
 use Rattle.tiff_dirs.specs.Values.{AppendsNumbers, AreFirstValues}
 
--- what numbers that stand behind the old ones are
+-- the numbers that were appended
 at_behind : (n : ℕ) (number : ℕ → ℕ) (old new : List ℕ) → AppendsNumbers n number old new
     → (i : ℕ) → length old ≤ i
     → i < length new → (k : ℕ) × (k < n) × (i ≡ length old + k) × (get_or new i 0 ≡ number k)

@@ -66,7 +66,7 @@ module _ (bytes : List ℕ) where
       (stored_levels bytes) n f (omega arith)
       (λ j below. rw zero-add (are.blocks j below)) (rw zero-add there)
 
-  -- those of level 0
+  -- the faults of level 0's blocks
   pub faults_at_first : (f : TiffFault)
       → data_fault (form_of bytes) bytes 0 (directory_level bytes 0) ≡ Some f
       → data_faults bytes ≡ Some f
@@ -78,7 +78,7 @@ module _ (bytes : List ℕ) where
       (stored_levels bytes) 0 f (omega arith)
       (λ j below. absurd (omega arith)) there
 
-  -- those of all levels lie inside
+  -- the blocks of all levels lie inside the file
   pub no_faults : (n : ℕ) (levels : List Level) → AreLevels bytes n levels → AreAll bytes levels
       → data_faults bytes ≡ None
   unfolding data_faults

@@ -36,7 +36,7 @@ module _ (form : Form) (bytes : List ℕ) where
   unfolding level_at
   shape_of_level at level is = ap (λ (l : Level). l.shape) is
 
-  -- a shape is half of the last level where its directory is
+  -- a shape is half of the last level if its directory is
   pub half_by : (at : ℕ) (first last shape : LevelShape) → shape ≡ shape_at form bytes at
       → is_half_of first last shape ≡ is_half_of first last (shape_at form bytes at)
   half_by at first last shape is = ap (λ (s : LevelShape). is_half_of first last s) is
@@ -82,12 +82,12 @@ module _ (form : Form) (bytes : List ℕ) where
       && is_half_of (shape_at form bytes one) (shape_at form bytes at)
       (shape_at form bytes next))) there)
 
-  -- nor one whose next offset is 0,
+  -- a directory whose next offset is 0 has no next level
   pub end_is_last : (one at : ℕ) → next_directory form bytes at ≡ None
       → is_followed form bytes one at ≡ false
   end_is_last one at none = rw none refl
 
-  -- nor one whose next directory shows a fault,
+  -- a directory whose next one has a fault has no next level
   pub fault_is_last : (one at place : ℕ) (fault : TiffFault)
       → next_directory form bytes at ≡ Some place
       → directory_fault form bytes place ≡ Some fault → is_followed form bytes one at ≡ false
@@ -107,7 +107,7 @@ module _ (form : Form) (bytes : List ℕ) where
       ap (λ (s : LevelShape). is_half_of s last next) first-is
       ∙ ap (λ (s : LevelShape). is_half_of (shape_at form bytes one) s next) last-is
 
-  -- nor one whose next directory is not half of it; else that follows
+  -- the next directory is the next level if and only if it is half of this one
   pub next_of_half : (E : Type 0) (one at place : ℕ) (first last : LevelShape)
       (next : Option ReadLevel)
       → first ≡ shape_at form bytes one → last ≡ shape_at form bytes at → is_single last ≡ false

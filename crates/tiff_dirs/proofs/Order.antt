@@ -23,19 +23,19 @@ use Rattle.tiff_dirs.specs.Numbers.{numbers_fault, fields_fault, numbers_shape}
 use Rattle.tiff_format.proofs.FirstFault.{or_assoc, or_none, first_of_both}
 use Rattle.tiff_dirs.proofs.Finding.{find_same}
 
--- a number of rows is kept as 0 where it is 0
+-- a number of rows is kept as 0 if and only if it is 0
 rows_by : (rows : ℕ) → eqb (min all_rows rows) 0 ≡ eqb rows 0
 rows_by zero = refl
 rows_by (suc rows) = ne_eqb (min all_rows (suc rows)) 0 (λ is. omega arith)
     ∙ sym (ne_eqb (suc rows) 0 (λ is. omega arith))
 
 module _ (form : Form) (bytes : List ℕ) (at : ℕ) where
-  -- those of its fields
+  -- the faults of the directory's fields
   pub fields_are : fields_fault form bytes at
       ≡ option_or (entries_fault form bytes at) (numbers_fault form bytes at)
   fields_are = ap (option_or (entries_fault form bytes at)) (or_none (numbers_fault form bytes at))
 
-  -- all of them
+  -- all faults of the directory
   pub directory_is : directory_fault form bytes at
       ≡ option_or (outside_fault form bytes at)
       (option_or (fields_fault form bytes at) (count_fault form bytes at))
@@ -119,7 +119,7 @@ module _ (form : Form) (bytes : List ℕ) (at : ℕ) where
       twice true = refl
       twice false = refl
 
-  -- BitsPerSample, where it may be that of the first sample alone
+  -- BitsPerSample, which may be read for the first sample only
   pub bits_are : (n : Numbers) (field : SampleField) → AreNumbersAt form bytes at n
       → field.tag ≡ bits_per_sample_tag → field.one ≡ n.bits → field.other ≡ n.bits
       → (eqb n.bits 8 || eqb n.bits 16) ≡ true

@@ -1,4 +1,4 @@
--- So many pieces of a size, and one more of them.
+-- Multiples of a size, and one more of them.
 use Rattle.std.proofs.Common.{ℕ, ◌+◌, ◌*◌, ◌<◌, ◌≤◌, arith}
 use Rattle.std.proofs.Math.Nat.{mul-le-mul_left}
 

@@ -7,7 +7,7 @@ use Rattle.tiff_dirs.specs.Calls.{Finds}
 use Rattle.tiff_dirs.specs.Dirs.{Tells, Leaves}
 use Rattle.tiff_format.specs.Fault.{first_fault}
 
--- the same fault, of what is seen otherwise
+-- the same fault, with an answer seen in another way
 pub finds_so : {E T : Type 0} (p q : Option TiffFault) (seen wanted : T → Type 0)
     (r : Result T (DirsError E))
     → Finds p seen r → q ≡ p → ((x : T) → p ≡ None → seen x → wanted x) → Finds q wanted r
@@ -25,7 +25,7 @@ finds_err p q seen wanted (Fault fault) s on = on fault s
 finds_err p q seen wanted (Reader e) s on = tt
 finds_err p q seen wanted NoMemory s on = tt
 
--- the same of the call that reads the directories
+-- an error of the call that reads the directories
 pub tells_err : {E T : Type 0} (p : Option TiffFault) (bytes : List ℕ) (seen : T → Type 0)
     (e : DirsError E)
     → Finds p seen (Err e)

@@ -28,15 +28,14 @@ mark_of_part letter bytes head part le =
     let second : get_or head 1 0 ≡ get_or bytes 1 0 = part 1 (omega arith) in
     rw (first, second) refl
 
--- a file of fewer bytes than any header
--- the number behind the mark, in the bytes that every header has
+-- a file shorter than any header, and the version in the bytes that every header has
 pub version_of_part : (big : Bool) (bytes head : List ℕ) → IsPartAt bytes 0 head
     → least_bytes ≤ length head → big ≡ is_big bytes → number_at big 2 head 2 ≡ version bytes
 version_of_part big bytes head part le is =
     number_of_part big 2 2 0 bytes head part (omega arith)
     ∙ ap (λ (b : Bool). number_at b 2 bytes 2) is
 
--- the form of a file, by its mark and by the number behind it
+-- the form of a file, from its mark and its version
 pub form_is : (bytes : List ℕ) (big wide : Bool) → big ≡ is_big bytes
     → has_wide_offsets bytes ≡ wide
     → (let form : Form = record { big = big; wide = wide } in form) ≡ form_of bytes
@@ -78,7 +77,7 @@ module _ (bytes : List ℕ) (le : least_bytes ≤ length bytes) where
   unfolding faults_by
   mark_is none = fault_by bytes false (has_wide_offsets bytes) (has_version bytes) le none refl refl
 
-  -- with 42 behind the mark
+  -- the header of a TIFF file, with version 42
   pub narrow_is_good : is_marked bytes ≡ true → version bytes ≡ tiff_version
       → header_fault bytes ≡ None
   unfolding faults_by
@@ -88,7 +87,7 @@ module _ (bytes : List ℕ) (le : least_bytes ≤ length bytes) where
       fault_by bytes true false true le mark wide good
       ∙ rw (le-ltb (length bytes) least_bytes le) refl
 
-  -- with neither 42 nor 43
+  -- a header with another version than 42 and 43
   pub version_is : is_marked bytes ≡ true → (version bytes ≡ tiff_version → ⊥)
       → (version bytes ≡ wide_version → ⊥) → header_fault bytes ≡ Some BadVersion
   unfolding faults_by
@@ -99,7 +98,7 @@ module _ (bytes : List ℕ) (le : least_bytes ≤ length bytes) where
       fault_by bytes true false false le mark wide bad
       ∙ rw (le-ltb (length bytes) least_bytes le) refl
 
-  -- with 43, in a file that is too short for wide offsets
+  -- a header with version 43, in a file that is too short for BigTIFF
   pub wide_is_short : is_marked bytes ≡ true → version bytes ≡ wide_version → length bytes < 16
       → header_fault bytes ≡ Some Short
   unfolding faults_by
@@ -108,7 +107,7 @@ module _ (bytes : List ℕ) (le : least_bytes ≤ length bytes) where
       fault_by bytes true true (has_version bytes) le mark wide refl
       ∙ rw (lt-ltb (length bytes) 16 lt) refl
 
-  -- with 43, and as is said of wide offsets or not
+  -- the header of a BigTIFF file, with version 43, valid or not
   wide_by : (said : Bool) → is_marked bytes ≡ true → version bytes ≡ wide_version
       → 16 ≤ length bytes → says_wide bytes ≡ said
       → header_fault bytes ≡ then_some (not said) BadVersion

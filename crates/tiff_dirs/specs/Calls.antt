@@ -1,4 +1,4 @@
--- What does the result of a call say of the faults of a file?
+-- What does the result of a call say about the faults of a file?
 use Rattle.std.specs.Prelude.{◌≡◌, ℕ, List, Option, Some, None, Result, Ok, Err, ⊤}
 use Rattle.tiff_format.specs.declared.form.Form.{Form}
 use Rattle.tiff_dirs.specs.declared.entry.Entry.{Entry}
@@ -7,8 +7,8 @@ use Rattle.tiff_dirs.specs.declared.error.DirsError.{DirsError}
 use Rattle.tiff_dirs.specs.declared.error.DirsError.TheVariants.{Fault, Reader, NoMemory}
 use Rattle.tiff_dirs.specs.Entries.{HasEntries}
 
--- of a call that reads: an answer is so and comes where no fault is shown,
--- and a fault is the one that is shown
+-- for a call that reads: it succeeds if there is no fault, with a right answer; a fault that it
+-- reports is the right one
 abbrev pub Finds : {E T : Type 0} → Option TiffFault → (T → Type 0) → Result T (DirsError E)
     → Type 0
 Finds fault view (Ok x) = (fault ≡ None) × view x
@@ -16,16 +16,17 @@ Finds fault view (Err (Fault f)) = fault ≡ Some f
 Finds fault view (Err (Reader e)) = ⊤
 Finds fault view (Err NoMemory) = ⊤
 
--- the same of a test, which reads nothing
+-- for a check that reads nothing: it succeeds if there is no fault, and otherwise reports the right
+-- one
 abbrev pub Tests : {T : Type 0} → Option TiffFault → (T → Type 0) → Result T TiffFault → Type 0
 Tests fault view (Ok x) = (fault ≡ None) × view x
 Tests fault view (Err f) = fault ≡ Some f
 
--- of a call that reads and shows no fault
+-- for a call that reads and looks for no fault
 abbrev pub Reads : {E T : Type 0} → (T → Type 0) → Result T (DirsError E) → Type 0
 Reads view result = Finds None view result
 
--- a fact of each directory of these bytes that has these entries
+-- a fact about each directory of these bytes that has these entries
 abbrev pub OfEntries : List (Option Entry) → List ℕ → (Form → ℕ → Type 0) → Type 0
 OfEntries entries bytes fact =
     (form : Form) (at : ℕ) → HasEntries form bytes at entries → fact form at

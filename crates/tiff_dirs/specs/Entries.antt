@@ -17,7 +17,7 @@ use Rattle.tiff_format.specs.Field.{values_place, first_entry, field_place}
 
 -- ---- an entry
 
--- an entry as it is kept is the one at a place of a file of its form
+-- an entry as it is kept agrees with the one at its place in the file
 pub record IsEntry (bytes : List ℕ) (place : ℕ) (entry : Entry) : Type 0 where
   pub kind : entry.kind ≡ type_of entry.form bytes place
   pub count : entry.count ≡ count_of entry.form bytes place
@@ -25,7 +25,7 @@ pub record IsEntry (bytes : List ℕ) (place : ℕ) (entry : Entry) : Type 0 whe
   pub inner : (k : ℕ) → k < offset_bytes entry.form
       → slice_index entry.inner k ≡ slice_index bytes (place + value_field_at entry.form + k)
 
--- the bytes of one of its values
+-- the bytes per value
 abbrev pub value_bytes : Entry → ℕ
 value_bytes entry = type_size entry.form entry.kind
 
@@ -33,14 +33,14 @@ value_bytes entry = type_size entry.form entry.kind
 abbrev pub entry_size : Entry → ℕ
 entry_size entry = entry.count * value_bytes entry
 
--- its values are of a type that is read, there is one at least,
--- and they lie in a file of that length
+-- the type is one that is read, there is at least one value, and the values lie in a file of this
+-- length
 abbrev pub is_shaped : ℕ → Entry → Bool
 is_shaped file entry =
     is_read entry.form entry.kind
     && (nat_lt 0 entry.count && nat_le (entry.start + entry_size entry) file)
 
--- value k among the bytes of its values
+-- value k among the bytes of the values
 abbrev pub part_value : Entry → List ℕ → ℕ → ℕ
 part_value entry part k =
     number_at entry.form.big (value_bytes entry) part (value_bytes entry * k)
@@ -51,44 +51,44 @@ SpellValues entry part value =
     (k : ℕ) → value_bytes entry * k + value_bytes entry ≤ length part
     → part_value entry part k ≡ value k
 
--- ---- the entries that are found
+-- ---- the entries that were found
 
 -- the tags that are read
 abbrev pub tags : List ℕ
 tags = TAGS
 
--- how many they are
+-- the number of tags
 abbrev pub tag_count : ℕ
 tag_count = 13
 
--- the tag is one of them
+-- whether the tag is one of them
 abbrev pub is_known : ℕ → Bool
 is_known tag = list_any (λ t. tag == t) tags
 
--- an entry of a file of this form is kept where there is one
+-- an entry is kept if and only if there is one
 abbrev pub IsKept : Form → List ℕ → Option Entry → Option ℕ → Type 0
 IsKept form bytes None None = ⊤
 IsKept form bytes (Some entry) (Some place) = (entry.form ≡ form) × IsEntry bytes place entry
 IsKept form bytes None (Some place) = ⊥
 IsKept form bytes (Some entry) None = ⊥
 
--- of the first n entries behind a place, the first of each tag is kept at its tag's place
+-- of the first n entries after a place, the first with each tag is kept at the tag's index
 abbrev pub Covers : Form → List ℕ → ℕ → ℕ → List (Option Entry) → Type 0
 Covers form bytes first n entries =
     (t : ℕ) → t < tag_count → IsKept form bytes (slice_index_or entries t None)
     (first_entry form (slice_index_or tags t 0) bytes first n)
 
--- the same of all entries of the directory at a place
+-- of all entries of a directory, the first with each tag is kept at the tag's index
 abbrev pub HasEntries : Form → List ℕ → ℕ → List (Option Entry) → Type 0
 HasEntries form bytes at entries =
     (t : ℕ) → t < tag_count → IsKept form bytes (slice_index_or entries t None)
     (field_place form bytes at (slice_index_or tags t 0))
 
--- what is kept at a tag's place after one more entry
+-- what is kept at a tag's index after one more entry
 abbrev pub noted : ℕ → Entry → ℕ → Option Entry → Option Entry
 noted tag entry t old = if tag == slice_index_or tags t 0 then option_or old (Some entry) else old
 
--- more entries from a place on are covered, and this is the offset behind them
+-- `more` entries from a place on were added, and this is the offset after them
 pub record AddsBlock (place : Place) (bytes : List ℕ) (more : ℕ) (old new : List (Option Entry))
     (offset : ℕ) : Type 0
   where
@@ -98,13 +98,13 @@ pub record AddsBlock (place : Place) (bytes : List ℕ) (more : ℕ) (old new : 
 
 -- ---- the directory
 
--- the place is that of the next one, as the directory at a place says it: 0 for none
+-- the place is that of the next directory, as this one names it; 0 if none exists
 pub record IsLinkAt (form : Form) (bytes : List ℕ) (at : ℕ) (link : Place) : Type 0 where
   pub same : link.form ≡ form
   pub inside : lies_inside form bytes at ≡ true
   pub next : link.at ≡ offset_at form bytes (next_place form bytes at)
 
--- the first n entries behind a place are kept, and the place that the offset behind them says
+-- the first n entries after a place are kept, with the place that the offset after them names
 pub record AreEntriesAt (form : Form) (bytes : List ℕ) (first n : ℕ) (directory : Directory)
     : Type 0
   where
@@ -112,7 +112,7 @@ pub record AreEntriesAt (form : Form) (bytes : List ℕ) (first n : ℕ) (direct
     pub same : directory.next.form ≡ form
     pub next : directory.next.at ≡ offset_at form bytes (first + entry_bytes form * n)
 
--- what is kept of the directory at a place before its fields are read
+-- what is kept of a directory before its fields are read
 pub record IsDirectoryAt (form : Form) (bytes : List ℕ) (at : ℕ) (directory : Directory) : Type 0
   where
     pub link : IsLinkAt form bytes at directory.next

@@ -12,12 +12,12 @@ use Rattle.tiff_format.specs.DirectoryFault.{directory_fault}
 use Rattle.tiff_format.specs.Level.{has_half_size, has_samples_of, is_next_level}
 use Rattle.tiff_dirs.specs.ReadLevel.{IsLevelAt}
 
--- half the size of the last level, with the samples of the first
+-- whether a level has half the size of the last one, and the samples of the first
 abbrev pub is_half_of : LevelShape → LevelShape → LevelShape → Bool
 is_half_of first last next = has_half_size last next && has_samples_of first next
 
--- Of the directory at a place: the level that it holds where it shows no fault and is half of the
--- last one, none where it is not half of it, and its fault.
+-- For the directory at a place: its level if it is valid and half of the last one, `None` if it is
+-- not half of it, or its fault.
 abbrev pub FindsHalf : {E : Type 0} → Form → List ℕ → ℕ → LevelShape → LevelShape
     → Result (Option ReadLevel) (DirsError E) → Type 0
 FindsHalf form bytes at first last (Ok None) =
@@ -29,7 +29,7 @@ FindsHalf form bytes at first last (Err (Fault fault)) = directory_fault form by
 FindsHalf form bytes at first last (Err (Reader e)) = ⊤
 FindsHalf form bytes at first last (Err NoMemory) = ⊤
 
--- the directory at a place is followed by the next level
+-- whether the directory at a place is followed by the next level
 abbrev pub is_followed : Form → List ℕ → ℕ → ℕ → Bool
 is_followed form bytes first at =
     option_map_or (is_next_level form bytes first at) (next_directory form bytes at) false

@@ -1,4 +1,4 @@
--- What do the fields of a directory that hold one number say of its level?
+-- What do the fields with a single number say about the level of a directory?
 use Rattle.std.specs.Prelude.{◌≡◌, ℕ, Bool, false, ◌==◌, ◌&&◌, ◌||◌, not, nat_lt, List, [], ◌∷◌}
 use Rattle.std.specs.Prelude.{map, Option, Some, None}
 use Rattle.std.specs.Option.{option_map_or}
@@ -19,7 +19,7 @@ use Rattle.tiff_format.specs.Limits.{max_side, max_channels}
 use Rattle.tiff_format.specs.DirectoryFault.{missing_fault, shape_fault, unsupported_fault}
 use Rattle.tiff_format.specs.DirectoryFault.{zero_fault, large_fault, tile_fault}
 
--- the first values of the fields that every directory reads
+-- the first values of the fields that are read in every directory
 abbrev pub numbers_at : Form → List ℕ → ℕ → List ℕ
 numbers_at form bytes at = map (field_value form bytes at) NUMBERS
 
@@ -35,19 +35,19 @@ pub record AreNumbersAt (form : Form) (bytes : List ℕ) (at : ℕ) (n : Numbers
   pub tile : n.tile ≡ tile_of form bytes at
   pub rows : n.rows_per_strip ≡ strip_rows form bytes at
 
--- the shape that they say
+-- the shape given by these numbers
 abbrev pub numbers_shape : Numbers → LevelShape
 numbers_shape n = shape_of n.width n.height n.samples (planes_by n.planar n.samples) n.bits
     (n.photometric == 0) (n.photometric == 2) n.tile n.rows_per_strip
 
--- the field that holds the offsets of the blocks
+-- the tag of the field with the offsets of the blocks
 abbrev pub tag_of_offsets : Option (ℕ × ℕ) → ℕ
 tag_of_offsets None = strip_offsets_tag
 tag_of_offsets (Some tile) = tile_offsets_tag
 
 -- ---- the faults of these numbers
 
--- 7, but for the samples: Compression, PhotometricInterpretation, PlanarConfiguration
+-- 7, without the samples: Compression, PhotometricInterpretation, PlanarConfiguration
 abbrev pub value_fault : Numbers → Option TiffFault
 value_fault n = first_of
     (then_some (not (n.compression == 1)) (Unsupported compression_tag n.compression)
@@ -55,11 +55,11 @@ value_fault n = first_of
     ∷ then_some (not ((n.planar == 1) || (n.planar == 2)))
     (Unsupported planar_configuration_tag n.planar) ∷ [])
 
--- a tile has a side that it may not have
+-- whether a tile has a side that it may not have
 abbrev pub is_bad_tile : Option (ℕ × ℕ) → Bool
 is_bad_tile tile = option_map_or (λ t. not (is_tile_side t.0 && is_tile_side t.1)) tile false
 
--- a side or the samples of a pixel are above the limits
+-- whether a side or the samples per pixel exceed the limits
 abbrev pub is_large : Numbers → Bool
 is_large n =
     nat_lt max_side n.width || (nat_lt max_side n.height || nat_lt max_channels n.samples)
@@ -72,7 +72,7 @@ size_fault n = first_of
     ∷ then_some (is_large n) TooLarge
     ∷ then_some (is_bad_tile n.tile) TileShape ∷ [])
 
--- ---- those of the directory at a place
+-- ---- the faults of the directory at a place
 
 module _ (form : Form) (bytes : List ℕ) (at : ℕ) where
   -- 5 and 6
@@ -85,6 +85,6 @@ module _ (form : Form) (bytes : List ℕ) (at : ℕ) where
       (unsupported_fault form bytes at ∷ zero_fault form bytes at ∷ large_fault form bytes at
       ∷ tile_fault form bytes at ∷ [])
 
-  -- 5 to 10: those of its fields that do not rest on its offsets
+  -- 5 to 10: the faults of the fields, except too few offsets
   abbrev pub fields_fault : Option TiffFault
   fields_fault = first_of (entries_fault ∷ numbers_fault ∷ [])

@@ -1,10 +1,9 @@
--- What does a reader of bytes give?
+-- What must a reader of bytes obey?
 use Rattle.std.specs.Prelude.{◌≡◌, ℕ, List, length, Option}
 use Rattle.std.specs.Option.{ForSome}
 
--- The laws of a reader: what answered reads leave holds of a reader and itself, and chains; no
--- read, answered or refused, changes the length or the bytes; and where the bytes are told, the
--- length is theirs.
+-- The laws of a reader. `keeps` relates each state to itself, and chains. No read, successful or
+-- failed, changes the length or the bytes. If the bytes are modelled, the length is theirs.
 pub record IsReader {R E : Type 0} (size : R → ℕ) (bytes : R → Option (List ℕ))
     (keeps : R → R → Type 0) (refuses : R → E → R → Type 0) : Type 0 where
   pub itself : (r : R) → keeps r r

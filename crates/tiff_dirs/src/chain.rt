@@ -1,4 +1,4 @@
-//! The levels of a file: each directory leads to the next.
+//! Reads the levels of a file: each directory names the place of the next.
 
 ghost use Rattle.std.specs.Prelude.{◌≡◌, ℕ, length, map, IfOk, IfSome, IsTrue};
 ghost use Rattle.std.specs.Prelude.{OnOk, ◌++◌, None, List, [], ◌∷◌, false};
@@ -32,17 +32,17 @@ use crate::tag::SAMPLES_PER_PIXEL;
 use std::alloc::{AllocError, Global};
 use tiff_format::Dir;
 
-/// Sides go to 131072 and halve from level to level.
+/// Sides are at most 131072 and halve from level to level, so there are at most 18 levels.
 const MAX_LEVELS: usize = 18;
 
-/// Half of a side, rounded down, and 1 at least.
+/// Half of a side, rounded down, and at least 1.
 fn halved(side: u32) -> u32
     ensures { result ≡ spec_halved side }
 {
     (side / 2).max(1)
 }
 
-/// The shape is half the size of the last level, with the samples of the first.
+/// Whether the shape has half the size of the last level, and the samples of the first.
 fn is_half(shape: &ReadShape, first: &Dir, last: &Dir) -> bool
     ensures { result ≡ is_half_of (shown_shape first.now) (shown_shape last.now)
         (seen_shape shape.now) }
@@ -53,8 +53,8 @@ fn is_half(shape: &ReadShape, first: &Dir, last: &Dir) -> bool
         && shape.depth == first.depth
 }
 
-/// The directory at a place as a level, where it is half of the last one. Of one with other samples
-/// per pixel than the first no further field is read.
+/// Reads the directory at a place as a level, if it is half of the last one. If its samples per
+/// pixel differ from those of the first, no other field is read.
 fn half_at<B: ByteReader>(
     alloc: Global,
     b: &mut B,
@@ -81,8 +81,8 @@ fn half_at<B: ByteReader>(
     Ok(Some(next))
 }
 
-/// The level that follows the last one, if any, at the place that the last one's directory names.
-/// The first directory that is none ends the chain, whatever it holds.
+/// Reads the level after the last one, at the place that its directory names. The first directory
+/// that is not half of the one before ends the levels, whatever else it contains.
 fn next_level<B: ByteReader>(
     alloc: Global,
     b: &mut B,
@@ -115,7 +115,7 @@ fn next_level<B: ByteReader>(
     }
 }
 
-/// A level more.
+/// Appends a level.
 fn append(levels: &mut Vec<Dir>, dir: Dir) -> Result<(), AllocError>
     ensures ok { OnOk result (levels.new.items ≡ levels.old.items ++ dir ∷ []) }
 {
@@ -123,8 +123,8 @@ fn append(levels: &mut Vec<Dir>, dir: Dir) -> Result<(), AllocError>
     Ok(())
 }
 
-/// Appends the levels that follow the first. The blocks of each are tested before the next is
-/// looked for.
+/// Appends the levels after the first. The strips or tiles of each are checked before the next
+/// directory is read.
 fn follow<B: ByteReader>(
     alloc: Global,
     b: &mut B,
@@ -154,7 +154,7 @@ fn follow<B: ByteReader>(
     Ok(())
 }
 
-/// The level of the first directory.
+/// Reads the level of the first directory.
 fn first_level<B: ByteReader>(
     alloc: Global,
     b: &mut B,
@@ -170,8 +170,8 @@ fn first_level<B: ByteReader>(
     read_level(alloc, b, &directory, shape)
 }
 
-/// The levels of a file whose header names this place. Each directory is read once, and none behind
-/// the first that is no level.
+/// Reads the levels of a file whose header names this place. Each directory is read once, and none
+/// after the first that is not a level.
 pub fn read_levels<B: ByteReader>(
     alloc: Global,
     b: &mut B,

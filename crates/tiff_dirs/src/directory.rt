@@ -1,4 +1,4 @@
-//! The entries of a directory, read through a reader.
+//! Reads the entries of a directory.
 
 ghost use Rattle.std.specs.Prelude.{◌≡◌, ◌+◌, ◌*◌, ◌^◌, ◌<◌, ◌≤◌, length, nat_le, IfOk};
 ghost use Rattle.std.specs.Option.{ForSome};
@@ -17,7 +17,7 @@ use crate::reader::{ByteReader, MAX_READ_BYTES, read_at};
 use std::alloc::Global;
 use tiff_format::{Form, MAX_COUNT_BYTES, TiffFault};
 
-/// How many entries are read at once, with an offset behind them.
+/// The number of entries that are read at once, together with an offset after them.
 fn max_entries(form: Form) -> u64
     ensures some { 1 ≤ result }
     ensures few { result ≤ MAX_READ_BYTES }
@@ -25,15 +25,15 @@ fn max_entries(form: Form) -> u64
     (MAX_READ_BYTES as u64 - form.offset_bytes()) / form.entry_bytes()
 }
 
-/// The entries of a directory that are read, and the place of the next one.
+/// The entries of a directory that matter, and the place of the next directory.
 #[derive(Clone, Copy)]
 pub struct Directory {
     pub found: Found,
-    /// 0 where there is no next one.
+    /// 0 if there is no next directory.
     pub next: Place,
 }
 
-/// So many entries of a form and an offset take no more bytes than these.
+/// Whether `count` entries and an offset fit in `room` bytes.
 fn has_room(form: Form, count: u64, room: u64) -> bool
     ensures { result ≡ nat_le (entry_bytes form * count + offset_bytes form) room }
 {
@@ -43,7 +43,7 @@ fn has_room(form: Form, count: u64, room: u64) -> bool
     }
 }
 
-/// The count of entries at a place.
+/// Reads a directory's number of entries.
 fn read_count<B: ByteReader>(b: &mut B, place: Place) -> Result<u64, DirsError<B::Error>>
     requires { place.at + count_bytes place.form ≤ B.size b.old }
     ensures told { ForSome (B.bytes b.old) (λ bytes.
@@ -56,8 +56,8 @@ fn read_count<B: ByteReader>(b: &mut B, place: Place) -> Result<u64, DirsError<B
     Ok(place.form.count_at(head, 0))
 }
 
-/// How many entries the directory at a place has, where all of it lies in the file. What is left of
-/// the file is compared, since no sum of a place and a length need fit 64 bits.
+/// Reads a directory's number of entries, and checks that all of it lies in the file. It compares
+/// with the bytes left, because the sum of a place and a length may not fit 64 bits.
 fn count_of_entries<B: ByteReader>(b: &mut B, place: Place) -> Result<u64, DirsError<B::Error>>
     ensures told { ForSome (B.bytes b.old) (λ bytes.
         Finds (outside_fault place.form bytes place.at)
@@ -80,7 +80,7 @@ fn count_of_entries<B: ByteReader>(b: &mut B, place: Place) -> Result<u64, DirsE
     Ok(count)
 }
 
-/// The bytes of so many entries and an offset.
+/// The bytes of `more` entries and an offset.
 fn bytes_of_entries(form: Form, more: u64) -> u64
     requires { entry_bytes form * more + offset_bytes form < 2 ^ 64 }
     ensures { result ≡ entry_bytes form * more + offset_bytes form }
@@ -88,8 +88,8 @@ fn bytes_of_entries(form: Form, more: u64) -> u64
     form.entry_bytes() * more + form.offset_bytes()
 }
 
-/// Reads a block: so many entries from a place on, and an offset behind them. Keeps the first entry
-/// of each tag, and answers the offset.
+/// Reads a block of entries and the offset after them. Keeps the first entry of each tag, and
+/// returns the offset.
 fn read_block<B: ByteReader>(
     b: &mut B,
     place: Place,
@@ -112,7 +112,7 @@ fn read_block<B: ByteReader>(
     Ok(place.form.offset_at(block, end as usize))
 }
 
-/// The first entry of each tag among so many entries from a place on, and the offset behind them.
+/// The first entry of each tag, and the offset after the entries.
 fn read_entries<B: ByteReader>(
     alloc: Global,
     b: &mut B,

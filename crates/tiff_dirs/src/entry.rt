@@ -1,4 +1,4 @@
-//! An entry of a directory, as far as it is kept.
+//! An entry of a directory.
 
 ghost use Rattle.std.specs.Prelude.{◌≡◌, ℕ, ◌+◌, ◌*◌, ◌^◌, ◌<◌, ◌≤◌, List};
 ghost use Rattle.std.specs.Prelude.{length, nat_le, slice_index, IsTrue};
@@ -16,41 +16,41 @@ use crate::place::Place;
 use crate::reader::{ByteReader, read_at};
 use tiff_format::{Form, MAX_OFFSET_BYTES};
 
-/// The types that are read (TIFF 6.0, section 2, "Types").
+/// The field types that are read (TIFF 6.0, section 2, "Types").
 const SHORT: u16 = 3;
 
 const LONG: u16 = 4;
 
-/// It is read where offsets are wide.
+/// LONG8, 8 bytes. BigTIFF only.
 const LONG8: u16 = 16;
 
-/// The bytes of a value of each.
+/// The bytes per value of each type.
 const SHORT_BYTES: usize = 2;
 
 pub const LONG_BYTES: usize = 4;
 
 pub const LONG8_BYTES: usize = 8;
 
-/// Where in an entry its type stands, behind its tag.
+/// Where in an entry its type is, after its tag.
 const TYPE_AT: usize = 2;
 
-/// Where its count of values stands, behind its type.
+/// Where in an entry its number of values is, after its type.
 const VALUES_COUNT_AT: usize = TYPE_AT + 2;
 
-/// A field's type and count, and where its values stand.
+/// A field's type and number of values, and where its values are.
 #[derive(Clone, Copy)]
 pub struct Entry {
-    /// The form of its file.
+    /// The form of the file.
     pub form: Form,
     pub kind: u16,
     pub count: u64,
     /// The place of the first value in the file.
     pub start: u64,
-    /// The entry's last bytes, as many as an offset has: all values, where they fit.
+    /// The last bytes of the entry, as many as an offset has. They are the values, if these fit.
     pub inner: [u8; MAX_OFFSET_BYTES],
 }
 
-/// The bytes of a value of a type. 0 for a type that is not read.
+/// The bytes per value of a type; 0 for a type that is not read.
 pub fn size_of_kind(form: Form, kind: u16) -> u64
     ensures value { result ≡ type_size form kind }
     ensures few { result ≤ 8 }
@@ -63,7 +63,7 @@ pub fn size_of_kind(form: Form, kind: u16) -> u64
     }
 }
 
-/// So many values of that size take no more bytes than these.
+/// Whether `count` values of `size` bytes fit in `most` bytes.
 fn takes_at_most(count: u64, size: u64, most: u64) -> bool
     ensures { result ≡ nat_le (count * size) most }
 {
@@ -73,7 +73,7 @@ fn takes_at_most(count: u64, size: u64, most: u64) -> bool
     }
 }
 
-/// The last bytes of an entry, as many as an offset has, from its bytes.
+/// The last bytes of an entry, as many as an offset has.
 fn inner_of(form: Form, raw: &[u8]) -> [u8; MAX_OFFSET_BYTES]
     requires long { entry_bytes form ≤ length raw.now }
     ensures { (k : ℕ) → k < offset_bytes form
@@ -88,7 +88,7 @@ fn inner_of(form: Form, raw: &[u8]) -> [u8; MAX_OFFSET_BYTES]
 }
 
 impl Entry {
-    /// The entry at a place of a file of a form, from its bytes.
+    /// The entry at a place of a file, from its bytes.
     pub fn from_bytes(place: Place, raw: &[u8]) -> Entry
         requires long { entry_bytes place.form ≤ length raw.now }
         requires low { place.at + entry_bytes place.form < 2 ^ 64 }
@@ -116,7 +116,7 @@ impl Entry {
         }
     }
 
-    /// The bytes of one of its values.
+    /// The bytes per value.
     pub fn value_size(&self) -> u64
         ensures value { result ≡ type_size self.now.form self.now.kind }
         ensures few { result ≤ 8 }
@@ -124,15 +124,15 @@ impl Entry {
         size_of_kind(self.form, self.kind)
     }
 
-    /// The values fit in the entry.
+    /// Whether the values are in the entry itself.
     fn is_inner(&self) -> bool
         ensures { result ≡ nat_le (entry_size self.now) (offset_bytes self.now.form) }
     {
         takes_at_most(self.count, self.value_size(), self.form.offset_bytes())
     }
 
-    /// The values can be read in a file of that length. The sum of their place and their bytes is
-    /// not formed: it may be more than 64 bits hold.
+    /// Whether the values can be read in a file of this length. The sum of their place and their
+    /// length is not computed, because it may not fit 64 bits.
     pub fn has_shape(&self, file: u64) -> bool
         ensures { result ≡ is_shaped file self.now }
     {
@@ -143,7 +143,7 @@ impl Entry {
             && takes_at_most(self.count, size, file - self.start)
     }
 
-    /// Fills a part with the bytes of values, from one of them on. It reads once, or not at all.
+    /// Fills a buffer with the bytes of values, from one of them on. Reads at most once.
     pub fn read_part<B: ByteReader>(
         &self,
         b: &mut B,

@@ -1,4 +1,4 @@
-//! Why the directories of a file were not read.
+//! Why the directories of a file could not be read.
 
 ghost use Rattle.std.specs.Prelude.{◌≡◌};
 ghost use Rattle.tiff_dirs.specs.declared.error.DirsError.TheVariants.{Fault, NoMemory};
@@ -6,14 +6,14 @@ ghost use Rattle.tiff_dirs.specs.declared.error.DirsError.TheVariants.{Fault, No
 use std::alloc::AllocError;
 use tiff_format::TiffFault;
 
-/// Why the directories of a file were not read.
+/// Why the directories of a file could not be read.
 #[derive(Debug, Drop)]
 pub enum DirsError<E> {
-    /// The bytes show this fault.
+    /// The bytes have this fault.
     Fault(TiffFault),
-    /// The reader refused a read with this error.
+    /// The reader failed with this error.
     Reader(E),
-    /// No memory was found.
+    /// Out of memory.
     NoMemory,
 }
 

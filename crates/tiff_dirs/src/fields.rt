@@ -1,4 +1,4 @@
-//! The first values of fields.
+//! Reads fields that have a single number.
 
 ghost use Rattle.std.specs.Prelude.{◌≡◌, ℕ, ◌^◌, ◌<◌, ◌≤◌, List, IsTrue};
 ghost use Rattle.std.specs.Option.{ForSome};
@@ -18,7 +18,7 @@ use crate::tag::{
     ALL_ROWS, NUMBER_COUNT, NUMBERS, ROWS_PER_STRIP, TILE_LENGTH, TILE_WIDTH, default_value,
 };
 
-/// The first value of an entry. It reads once, or not at all.
+/// The first value of an entry. Reads at most once.
 fn value_of_entry<B: ByteReader>(b: &mut B, entry: &Entry) -> Result<u64, DirsError<B::Error>>
     requires low { B.size b.old < 2 ^ 64 }
     requires shape { IsTrue (is_shaped (B.size b.old) entry.now) }
@@ -32,7 +32,7 @@ fn value_of_entry<B: ByteReader>(b: &mut B, entry: &Entry) -> Result<u64, DirsEr
     Ok(entry.value_among(part, 0))
 }
 
-/// The first value of a field: that of its entry, or its default. 0 where there is none.
+/// The first value of a field: that of its entry, or its default, or 0 if it has none.
 pub fn first_value<B: ByteReader>(
     b: &mut B,
     found: &Found,
@@ -56,7 +56,7 @@ pub fn first_value<B: ByteReader>(
     }
 }
 
-/// The first values of the fields that every directory reads, in the order of `NUMBERS`.
+/// The first values of the fields that every directory has, in the order of `NUMBERS`.
 fn first_values<B: ByteReader>(
     b: &mut B,
     found: &Found,
@@ -73,7 +73,7 @@ fn first_values<B: ByteReader>(
     Ok(values)
 }
 
-/// Width and height of a tile, if the directory is tiled.
+/// The width and height of a tile, if the directory is tiled.
 fn read_tile<B: ByteReader>(
     b: &mut B,
     found: &Found,
@@ -91,8 +91,8 @@ fn read_tile<B: ByteReader>(
     Ok(Some((width, height)))
 }
 
-/// The rows of a strip: all rows where the file says more than 2^32 - 1. A tiled directory has none,
-/// and they are not read there.
+/// The rows per strip; 2^32 - 1, that is all rows, if the file says more. Not read in a tiled
+/// directory.
 fn read_rows<B: ByteReader>(b: &mut B, found: &Found) -> Result<u32, DirsError<B::Error>>
     ensures told { ForSome (B.bytes b.old) (λ bytes.
         OfEntries found.now.entries bytes (λ form at.
@@ -106,7 +106,7 @@ fn read_rows<B: ByteReader>(b: &mut B, found: &Found) -> Result<u32, DirsError<B
     Ok(rows.min(u64::from(ALL_ROWS)) as u32)
 }
 
-/// The numbers of a directory. Each that does not fit in its entry takes one read.
+/// The numbers of a directory. Each one that is not in its entry costs one read.
 pub fn read_numbers<B: ByteReader>(b: &mut B, found: &Found) -> Result<Numbers, DirsError<B::Error>>
     ensures told { ForSome (B.bytes b.old) (λ bytes.
         OfEntries found.now.entries bytes (λ form at.

@@ -1,4 +1,4 @@
-//! The entries of a directory that are read: the first of each tag.
+//! The entries of a directory that matter: the first of each known tag.
 
 ghost use Rattle.std.specs.Prelude.{◌≡◌, ℕ, ◌+◌, ◌*◌, ◌^◌, ◌<◌, ◌≤◌, List, length};
 ghost use Rattle.std.specs.Prelude.{slice_index_or, Option, IsTrue, if◌then◌else◌, ◌==◌, Bool};
@@ -23,14 +23,14 @@ use crate::tag::{
 };
 use tiff_format::TiffFault;
 
-/// The first entry of each tag, at the tag's place in `TAGS`.
+/// The first entry of each tag, at the tag's index in `TAGS`.
 #[derive(Clone, Copy)]
 pub struct Found {
     pub entries: [Option<Entry>; TAG_COUNT],
 }
 
 impl Found {
-    /// Nothing is found.
+    /// No entry found yet.
     pub fn nothing() -> Found
         ensures { (form : Form) (bytes : List ℕ) (first : ℕ)
             → Covers form bytes first 0 result.entries }
@@ -40,7 +40,7 @@ impl Found {
         }
     }
 
-    /// Keeps an entry where it is the first of its tag.
+    /// Keeps an entry if it is the first with its tag.
     fn note(&mut self, tag: u16, entry: Entry)
         ensures { (t : ℕ) → t < tag_count → slice_index_or self.new.entries t None
             ≡ noted tag entry t (slice_index_or self.old.entries t None) }
@@ -52,8 +52,8 @@ impl Found {
         }
     }
 
-    /// Keeps what the first so many entries in a part, which stands at a place of the file, are the
-    /// first of.
+    /// Keeps the first entry of each tag among the `more` entries in a buffer, which was read at
+    /// `place`.
     pub fn scan(&mut self, place: Place, part: &[u8], more: u64)
         requires long { entry_bytes place.form * more ≤ length part.now }
         requires low { place.at + length part.now < 2 ^ 64 }
@@ -70,7 +70,7 @@ impl Found {
         }
     }
 
-    /// The first entry of a tag.
+    /// The first entry with a tag.
     pub fn entry(&self, tag: u16) -> Option<Entry>
         requires { IsTrue (is_known tag) }
         ensures { (bytes : List ℕ) → OfEntries self.now.entries bytes (λ form at.
@@ -84,7 +84,7 @@ impl Found {
         None
     }
 
-    /// The directory has that tag.
+    /// Whether the directory has this tag.
     fn has(&self, tag: u16) -> bool
         requires { IsTrue (is_known tag) }
         ensures { (bytes : List ℕ) → OfEntries self.now.entries bytes (λ form at.
@@ -93,7 +93,7 @@ impl Found {
         self.entry(tag).is_some()
     }
 
-    /// The directory is tiled.
+    /// Whether the directory is tiled.
     pub fn is_tiled(&self) -> bool
         ensures { (bytes : List ℕ) → OfEntries self.now.entries bytes (λ form at.
             result ≡ is_tiled form bytes at) }
@@ -101,7 +101,7 @@ impl Found {
         self.has(TILE_WIDTH)
     }
 
-    /// The first tag of a list that the directory does not have.
+    /// The first tag of a list that the directory lacks.
     fn first_absent(&self, wanted: &[u16]) -> Option<u16>
         requires { IsTrue (list_all is_known wanted.now) }
         ensures { (bytes : List ℕ) → OfEntries self.now.entries bytes (λ form at.
@@ -115,7 +115,7 @@ impl Found {
         None
     }
 
-    /// The directory has that tag, and its values can not be read in a file of that length.
+    /// Whether the directory has this tag, but its values cannot be read in a file of this length.
     fn is_misshapen(&self, tag: u16, file: u64) -> bool
         requires { IsTrue (is_known tag) }
         ensures { (bytes : List ℕ) → OfEntries self.now.entries bytes (λ form at.
@@ -127,7 +127,7 @@ impl Found {
         }
     }
 
-    /// The first tag of a list whose values can not be read in a file of that length.
+    /// The first tag of a list whose values cannot be read in a file of this length.
     fn first_misshapen(&self, wanted: &[u16], file: u64) -> Option<u16>
         requires { IsTrue (list_all is_known wanted.now) }
         ensures { (bytes : List ℕ) → OfEntries self.now.entries bytes (λ form at.
@@ -141,7 +141,7 @@ impl Found {
         None
     }
 
-    /// Tests that the fields are there that the directory must have.
+    /// Checks that the directory has the fields that it must have.
     fn test_required(&self) -> Result<(), TiffFault>
         ensures { (bytes : List ℕ) → OfEntries self.now.entries bytes (λ form at.
             Tests (missing_fault form bytes at) (λ _. Unit {0}) result) }
@@ -159,7 +159,7 @@ impl Found {
         }
     }
 
-    /// Tests that the fields that the directory reads can be read in a file of that length.
+    /// Checks that the fields that are read have a readable form, in a file of this length.
     fn test_shapes(&self, file: u64) -> Result<(), TiffFault>
         ensures { (bytes : List ℕ) → OfEntries self.now.entries bytes (λ form at.
             length bytes ≡ file → Tests (shape_fault form bytes at) (λ _. Unit {0}) result) }
@@ -177,8 +177,8 @@ impl Found {
         }
     }
 
-    /// Tests that the fields are there that the directory must have, and then that those that it
-    /// reads can be read in a file of that length.
+    /// Checks that the directory has the fields that it must have, and then that those that are
+    /// read have a readable form.
     pub fn test_fields(&self, file: u64) -> Result<(), TiffFault>
         ensures { (bytes : List ℕ) → OfEntries self.now.entries bytes (λ form at.
             length bytes ≡ file → Tests (entries_fault form bytes at) (λ _. Unit {0}) result) }

@@ -1,5 +1,5 @@
-//! The header of a file: its form, and where its first directory stands
-//! (TIFF 6.0, section 2, "Image File Header").
+//! Reads the header of a file: its form, and the place of its first directory (TIFF 6.0, section 2,
+//! "Image File Header").
 
 ghost use Rattle.std.specs.Prelude.{◌≡◌, ℕ, ◌≤◌, true, false, List, length, IfOk};
 ghost use Rattle.std.specs.Prelude.{MatchOption};
@@ -18,20 +18,19 @@ use crate::place::Place;
 use crate::reader::{ByteReader, read_at};
 use tiff_format::{Form, HEADER_BYTES, MAX_OFFSET_BYTES, TiffFault};
 
-/// Where the number behind the mark stands.
+/// Where the version is, after the byte-order mark.
 const VERSION_AT: usize = 2;
 
-/// That number in a TIFF file.
+/// The version of a TIFF file.
 const TIFF_VERSION: u16 = 42;
 
-/// And in one with wide offsets.
+/// The version of a BigTIFF file.
 const WIDE_VERSION: u16 = 43;
 
-/// Where the offset of the first directory stands, or behind the number of wide offsets what has to
-/// follow it.
+/// Where the place of the first directory is; in BigTIFF, where the size of offsets is.
 const BEHIND_VERSION: usize = 4;
 
-/// The two bytes at the head of the file are this letter.
+/// Whether the first two bytes of the file are this letter.
 #[tactic(auto, unfolding(tiff_format::specs::Bytes::has_mark))]
 fn has_mark(letter: u8, head: &[u8]) -> bool
     requires { 2 ≤ length head.now }
@@ -40,7 +39,7 @@ fn has_mark(letter: u8, head: &[u8]) -> bool
     head[0] == letter && head[1] == letter
 }
 
-/// Numbers stand highest byte first, as the mark says, if there is one.
+/// Whether numbers have their highest byte first. `None` if the mark is not valid.
 fn is_big_by_mark(head: &[u8]) -> Option<bool>
     requires { 2 ≤ length head.now }
     ensures { (bytes : List ℕ) → IsPartAt bytes 0 head.now → MatchOption result
@@ -55,7 +54,7 @@ fn is_big_by_mark(head: &[u8]) -> Option<bool>
     }
 }
 
-/// The bytes of an offset, 8, and 0 follow the number of wide offsets.
+/// Whether the header says that offsets have 8 bytes, followed by 0, as in BigTIFF.
 fn says_wide(form: Form, head: &[u8]) -> bool
     requires { HEADER_BYTES ≤ length head.now }
     ensures { (bytes : List ℕ) → IsPartAt bytes 0 head.now → form.big ≡ is_big bytes
@@ -66,7 +65,7 @@ fn says_wide(form: Form, head: &[u8]) -> bool
     offset_bytes == MAX_OFFSET_BYTES as u16 && zero == 0
 }
 
-/// The form of a file of that length, from the bytes that every header has.
+/// The form of a file of this length, from the first bytes, which every header has.
 fn form_of_head(head: &[u8], file: u64) -> Result<Form, TiffFault>
     requires head { HEADER_BYTES ≤ length head.now }
     requires file { HEADER_BYTES ≤ file }
@@ -95,7 +94,7 @@ fn form_of_head(head: &[u8], file: u64) -> Result<Form, TiffFault>
     Ok(form)
 }
 
-/// The place of the first directory: a wide offset stands behind the bytes that every header has.
+/// The place of the first directory. In BigTIFF it comes after the bytes that every header has.
 fn read_first<B: ByteReader>(b: &mut B, form: Form, head: &[u8]) -> Result<u64, DirsError<B::Error>>
     requires head { HEADER_BYTES ≤ length head.now }
     requires long { header_bytes form ≤ B.size b.old }
@@ -111,8 +110,7 @@ fn read_first<B: ByteReader>(b: &mut B, form: Form, head: &[u8]) -> Result<u64, 
     Ok(form.offset_at(&rest, 0))
 }
 
-/// The place of the first directory of a file. The header is read in one read, or in two where its
-/// offsets are wide.
+/// The place of the first directory. Reads the header in one read, or in two for BigTIFF.
 pub fn read_header<B: ByteReader>(b: &mut B) -> Result<Place, DirsError<B::Error>>
     ensures told { ForSome (B.bytes b.old) (λ bytes.
         Finds (header_fault bytes) (IsHeader bytes) result) }

@@ -1,4 +1,4 @@
-//! The level that a directory holds.
+//! Reads the level that a directory describes.
 
 ghost use Rattle.std.specs.Prelude.{◌≡◌, ℕ, length, IfOk};
 ghost use Rattle.std.specs.Option.{ForSome};
@@ -23,7 +23,7 @@ use crate::sample_fields::{test_bits, test_formats};
 use crate::shape::ReadShape;
 use std::alloc::Global;
 
-/// The shape that the numbers of a directory say.
+/// The shape given by the numbers of a directory.
 fn shape_of_numbers<B: ByteReader>(
     alloc: Global,
     b: &mut B,
@@ -41,8 +41,8 @@ fn shape_of_numbers<B: ByteReader>(
     Ok(numbers.shape()?)
 }
 
-/// The shape of a directory.
-/// Here the faults of its fields stand in their order, but for the last of them.
+/// Reads the shape of a directory. Here the faults of its fields are looked for in order, except
+/// the last one.
 pub fn read_shape<B: ByteReader>(
     alloc: Global,
     b: &mut B,
@@ -57,7 +57,8 @@ pub fn read_shape<B: ByteReader>(
     shape_of_numbers(alloc, b, found)
 }
 
-/// The level of a directory of this shape: its offsets are read, and may be too few.
+/// Reads the level of a directory with this shape, with its offsets, which may turn out to be too
+/// few.
 pub fn read_level<B: ByteReader>(
     alloc: Global,
     b: &mut B,

@@ -1,4 +1,4 @@
-//! The directories of a TIFF file: its levels, or the first fault that its bytes show (TIFF 6.0).
+//! Reads the directories of a TIFF file: its levels, or the first fault of its bytes (TIFF 6.0).
 #![tactic(auto)]
 
 mod chain;

@@ -1,4 +1,4 @@
-//! The fields of a directory that hold one number, and the faults that they show.
+//! The fields with a single number, and their faults.
 
 ghost use Rattle.std.specs.Prelude.{◌≡◌, ◌||◌, ◌==◌, false, IsTrue};
 ghost use Rattle.tiff_format.specs.Facts.{IsDepth};
@@ -14,20 +14,20 @@ use crate::shape::ReadShape;
 use crate::tag::{COMPRESSION, PHOTOMETRIC, PLANAR_CONFIGURATION};
 use tiff_format::{MAX_CHANNELS, MAX_SIDE, TILE_STEP, TiffFault};
 
-/// Compression: the samples stand as they are.
+/// Compression: none.
 const UNCOMPRESSED: u64 = 1;
 
-/// PhotometricInterpretation: the greatest sample is black, white, and red, green and blue.
+/// PhotometricInterpretation: the values of WhiteIsZero and RGB.
 const WHITE_IS_ZERO: u64 = 0;
 
 const RGB: u64 = 2;
 
-/// PlanarConfiguration: the samples of a pixel stand side by side, or each for itself.
+/// PlanarConfiguration: the samples of a pixel are stored together, or in one plane each.
 const CHUNKY: u64 = 1;
 
 const PLANAR: u64 = 2;
 
-/// The first values of the fields that hold one number, as they stand in the file.
+/// The first values of the fields with a single number, as the file has them.
 #[derive(Clone, Copy)]
 pub struct Numbers {
     pub width: u64,
@@ -38,13 +38,13 @@ pub struct Numbers {
     pub photometric: u64,
     pub samples: u64,
     pub planar: u64,
-    /// TileWidth and TileLength, where the directory is tiled.
+    /// TileWidth and TileLength, if the directory is tiled.
     pub tile: Option<(u64, u64)>,
-    /// 2^32 - 1 where the file says more, and where it is tiled.
+    /// RowsPerStrip; 2^32 - 1 if the file says more, or if it is tiled.
     pub rows_per_strip: u32,
 }
 
-/// The fault of a value that is not read.
+/// The fault of a value that is not supported.
 pub fn unsupported(tag: u16, value: u64) -> TiffFault
     ensures { result ≡ Unsupported tag value }
 {
@@ -54,14 +54,14 @@ pub fn unsupported(tag: u16, value: u64) -> TiffFault
     }
 }
 
-/// A side that a tile may have.
+/// Whether a tile may have this side.
 fn is_tile_side(side: u64) -> bool
     ensures { result ≡ spec_tile_side side }
 {
     side != 0 && side <= u64::from(MAX_SIDE) && side % u64::from(TILE_STEP) == 0
 }
 
-/// A tile has a side that it may not have.
+/// Whether a tile has a side that it may not have.
 fn is_bad(tile: Option<(u64, u64)>) -> bool
     ensures { result ≡ is_bad_tile tile }
 {
@@ -71,7 +71,7 @@ fn is_bad(tile: Option<(u64, u64)>) -> bool
     }
 }
 
-/// The same sides in fewer bits.
+/// The sides in fewer bits.
 fn sides_of(tile: Option<(u64, u64)>) -> Option<(u32, u32)>
     requires { is_bad_tile tile ≡ false }
     ensures { result ≡ tile }
@@ -83,7 +83,7 @@ fn sides_of(tile: Option<(u64, u64)>) -> Option<(u32, u32)>
 }
 
 impl Numbers {
-    /// Tests the values that a level may not have, but for those of each sample.
+    /// Checks the values, except those that exist for each sample.
     pub fn test_values(&self) -> Result<(), TiffFault>
         ensures { Tests (value_fault self.now) (λ _. Unit {0}) result }
     {
@@ -99,7 +99,7 @@ impl Numbers {
         Ok(())
     }
 
-    /// How many planes there are: 1 where the samples of a pixel stand side by side.
+    /// The number of planes: 1 if the samples of a pixel are stored together.
     fn planes(&self) -> u64
         ensures { result ≡ planes_by self.now.planar self.now.samples }
     {
@@ -110,7 +110,7 @@ impl Numbers {
         }
     }
 
-    /// A side or the samples of a pixel are above the limits.
+    /// Whether a side or the samples per pixel exceed the limits.
     fn is_large(&self) -> bool
         ensures { result ≡ is_large self.now }
     {
@@ -118,7 +118,7 @@ impl Numbers {
         self.width > side || self.height > side || self.samples > MAX_CHANNELS as u64
     }
 
-    /// The shape of these sizes.
+    /// The shape given by these numbers.
     pub fn shape(&self) -> Result<ReadShape, TiffFault>
         requires { IsDepth self.now.bits }
         ensures { Tests (size_fault self.now)

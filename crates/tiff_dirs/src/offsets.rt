@@ -1,4 +1,4 @@
-//! The offsets of the strips or tiles of a directory.
+//! Reads the offsets of the strips or tiles of a directory.
 
 ghost use Rattle.std.specs.Prelude.{◌≡◌, ℕ, ◌+◌, ◌*◌, ◌^◌, ◌<◌, ◌≤◌, List, length, IsTrue, IfOk};
 ghost use Rattle.std.specs.Prelude.{OnOk, min, vec_len, vec_capacity, take};
@@ -20,7 +20,7 @@ use crate::shape::ReadShape;
 use std::alloc::Global;
 use tiff_format::{Form, TiffFault};
 
-/// How many values are read at once: of the widest as many as are read of bytes.
+/// The number of values read at once: as many of the widest type as fit one read.
 pub fn max_values(form: Form) -> u64
     ensures { result ≡ spec_values form }
 {
@@ -28,7 +28,7 @@ pub fn max_values(form: Form) -> u64
     (MAX_READ_BYTES / widest) as u64
 }
 
-/// Appends so many values that stand among bytes.
+/// Appends `more` values from their bytes.
 fn append_values(values: &mut Vec<u64>, entry: &Entry, part: &[u8], more: usize)
     requires kind { IsTrue (is_read entry.now.form entry.now.kind) }
     requires room { type_size entry.now.form entry.now.kind * more ≤ length part.now }
@@ -42,7 +42,7 @@ fn append_values(values: &mut Vec<u64>, entry: &Entry, part: &[u8], more: usize)
     }
 }
 
-/// Reads so many more values of an entry.
+/// Reads `more` further values of an entry.
 fn read_more<B: ByteReader>(
     values: &mut Vec<u64>,
     b: &mut B,
@@ -70,7 +70,7 @@ fn read_more<B: ByteReader>(
     Ok(())
 }
 
-/// Reads the first values of an entry, so many.
+/// Reads the first `count` values of an entry.
 fn read_all<B: ByteReader>(
     values: &mut Vec<u64>,
     b: &mut B,
@@ -100,7 +100,7 @@ fn read_all<B: ByteReader>(
     Ok(())
 }
 
-/// The first values of an entry, so many. Those beyond are not read.
+/// The first `count` values of an entry. Later ones are not read.
 fn first_of_entry<B: ByteReader>(
     alloc: Global,
     b: &mut B,
@@ -124,7 +124,7 @@ fn first_of_entry<B: ByteReader>(
     Ok(values)
 }
 
-/// The offset of each strip or tile of a level of this shape.
+/// The offset of each strip or tile in a level of this shape.
 pub fn read_offsets<B: ByteReader>(
     alloc: Global,
     b: &mut B,

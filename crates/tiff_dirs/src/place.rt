@@ -1,3 +1,4 @@
+//! A place in a file, with the form of the file's numbers.
 ghost use Rattle.std.specs.Prelude.{◌≡◌, ◌+◌, ◌<◌, ◌^◌};
 
 use tiff_format::Form;
@@ -10,7 +11,7 @@ pub struct Place {
 }
 
 impl Place {
-    /// The place so many bytes behind it.
+    /// The place `bytes` bytes further.
     pub fn behind(self, bytes: u64) -> Place
         requires { self.at + bytes < 2 ^ 64 }
         ensures form { result.form ≡ self.form }

@@ -1,4 +1,4 @@
-//! A level as it was read.
+//! A level as it was read, before its strips or tiles are checked.
 
 ghost use Rattle.std.specs.Prelude.{◌≡◌, length};
 ghost use Rattle.tiff_format.specs.Block.{blocks_of};
@@ -8,12 +8,12 @@ use crate::place::Place;
 use crate::shape::ReadShape;
 use tiff_format::{Dir, TiffFault};
 
-/// A level of which no block was tested yet.
+/// A level whose strips or tiles have not been checked yet.
 #[derive(Drop)]
 pub struct ReadLevel {
     pub shape: ReadShape,
     pub offsets: Vec<u64>,
-    /// The place of the next directory, 0 where its own directory names none.
+    /// The place of the next directory; 0 if none exists.
     pub next: Place,
     ghost count_in: { length offsets.items ≡ blocks_of (seen_shape shape) },
 }
@@ -24,8 +24,8 @@ impl ReadLevel {
     ghost use Rattle.tiff_format.specs.Shown.{shown};
     ghost use Rattle.tiff_dirs.specs.Calls.{Tests};
 
-    /// The directory of the level of that number, where its strips and tiles lie in a file of that
-    /// length.
+    /// The directory of this level, if all its strips and tiles lie in a file of this length.
+    /// `number` is the level's number, for the fault.
     pub fn tested(self, number: u32, file: u64) -> Result<Dir, TiffFault>
         ensures { Tests (blocks_fault self.next.form file number (seen_level self))
             (λ dir. shown dir ≡ seen_level self) result }

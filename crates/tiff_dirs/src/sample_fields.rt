@@ -1,4 +1,4 @@
-//! The fields that have a value for each sample of a pixel.
+//! Checks the fields that have a value for each sample of a pixel.
 
 ghost use Rattle.std.specs.Prelude.{◌≡◌, ℕ, ◌+◌, ◌*◌, ◌^◌, ◌<◌, ◌≤◌, List, length, IsTrue, OnOk};
 ghost use Rattle.std.specs.Prelude.{take, find, not};
@@ -24,15 +24,15 @@ use crate::shape::BYTE_BITS;
 use crate::tag::{BITS_PER_SAMPLE, SAMPLE_FORMAT, default_value};
 use std::alloc::Global;
 
-/// The bits of a sample that takes two.
+/// The bits of a sample that takes two bytes.
 const SHORT_BITS: u64 = 16;
 
-/// SampleFormat of the samples that are read.
+/// SampleFormat of unsigned samples, the only ones that are read.
 const UNSIGNED: u64 = 1;
 
 const UNDEFINED: u64 = 4;
 
-/// A field that has a value for each sample of a pixel, and the two numbers that it may be.
+/// A field with a value for each sample of a pixel, and the two values that are allowed.
 #[derive(Clone, Copy)]
 pub struct SampleField {
     pub tag: u16,
@@ -40,7 +40,7 @@ pub struct SampleField {
     pub other: u64,
 }
 
-/// Some values of an entry: so many, from one of them on.
+/// Some values of an entry: `count` of them, from one of them on.
 #[derive(Clone, Copy)]
 struct Stretch {
     from: u64,
@@ -48,14 +48,14 @@ struct Stretch {
 }
 
 impl SampleField {
-    /// The field may have that value.
+    /// Whether the field may have this value.
     fn allows(&self, value: u64) -> bool
         ensures { result ≡ is_allowed self.now value }
     {
         value == self.one || value == self.other
     }
 
-    /// The first of so many values among bytes that it may not have.
+    /// The first value among bytes that the field may not have.
     fn other_among(&self, entry: &Entry, part: &[u8], count: usize) -> Option<u64>
         requires kind { IsTrue (is_read entry.now.form entry.now.kind) }
         requires room { type_size entry.now.form entry.now.kind * count ≤ length part.now }
@@ -70,7 +70,7 @@ impl SampleField {
         None
     }
 
-    /// The first value of a stretch of an entry that it may not have.
+    /// The first value in a stretch of an entry that the field may not have.
     fn other_in_stretch<B: ByteReader>(
         &self,
         b: &mut B,
@@ -95,7 +95,7 @@ impl SampleField {
         Ok(self.other_among(entry, part, count))
     }
 
-    /// The first of the first values of an entry that it may not have.
+    /// The first value of an entry that the field may not have.
     fn other_of_entry<B: ByteReader>(
         &self,
         alloc: Global,
@@ -128,7 +128,7 @@ impl SampleField {
         Ok(None)
     }
 
-    /// The default of the field, where it may not have it and a pixel has samples.
+    /// The default of the field, if the field may not have it and a pixel has samples.
     fn other_default(&self, samples: u64) -> Option<u64>
         ensures { result
             ≡ find (λ v. not (is_allowed self.now v)) (take samples (default_of self.now.tag)) }
@@ -139,8 +139,7 @@ impl SampleField {
         }
     }
 
-    /// The first of the first values of the field, as many as a pixel has samples, that it may not
-    /// have.
+    /// The first value that the field may not have, among as many values as a pixel has samples.
     fn first_other<B: ByteReader>(
         &self,
         alloc: Global,
@@ -166,7 +165,7 @@ impl SampleField {
         }
     }
 
-    /// Tests that the field has a value that it may have for each sample.
+    /// Checks that the field has an allowed value for each sample.
     fn test<B: ByteReader>(
         &self,
         alloc: Global,
@@ -188,7 +187,7 @@ impl SampleField {
     }
 }
 
-/// Tests that each sample has the bits of the first, 8 or 16.
+/// Checks that every sample has as many bits as the first, 8 or 16.
 pub fn test_bits<B: ByteReader>(
     alloc: Global,
     b: &mut B,
@@ -213,7 +212,7 @@ pub fn test_bits<B: ByteReader>(
     field.test(alloc, b, found, numbers.samples)
 }
 
-/// Tests that each sample is unsigned.
+/// Checks that every sample is unsigned.
 pub fn test_formats<B: ByteReader>(
     alloc: Global,
     b: &mut B,

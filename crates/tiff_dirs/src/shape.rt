@@ -1,4 +1,4 @@
-//! How a level lies in a file, but for the offsets of its blocks.
+//! The shape of a level: everything except the offsets of its strips or tiles.
 
 ghost use Rattle.std.specs.Prelude.{◌≡◌, ◌≤◌};
 ghost use Rattle.tiff_format.specs.Block.{shape_of, pieces_over};
@@ -7,29 +7,29 @@ ghost use Rattle.tiff_format.specs.Facts.{IsLevelShape, IsSide};
 use crate::tag::{STRIP_OFFSETS, TILE_OFFSETS};
 use tiff_format::{Dir, Form};
 
-/// The numbers of a level that say where its samples stand in its strips or tiles.
+/// The numbers of a level that say where its samples are in its strips or tiles.
 #[derive(Clone, Copy)]
 pub struct ReadShape {
     pub width: u32,
     pub height: u32,
     pub channels: u32,
-    /// 1 where the samples of a pixel stand side by side, else one for each channel.
+    /// 1 if the samples of a pixel are stored together, otherwise one per channel.
     pub planes: u32,
-    /// Bits of a sample, 8 or 16.
+    /// The bits per sample, 8 or 16.
     pub depth: u32,
-    /// WhiteIsZero.
+    /// Whether the photometric interpretation is WhiteIsZero.
     pub white: bool,
-    /// RGB.
+    /// Whether the photometric interpretation is RGB.
     pub rgb: bool,
-    /// Width and height of a tile, if it is tiled.
+    /// The width and height of a tile, if it is tiled.
     pub tile: Option<(u32, u32)>,
-    /// 2^32 - 1 where it is tiled.
+    /// RowsPerStrip; 2^32 - 1 if it is tiled.
     pub rows_per_strip: u32,
     ghost shape_in: { IsLevelShape
         (shape_of width height channels planes depth white rgb tile rows_per_strip) },
 }
 
-/// The bits of a sample that takes one byte.
+/// The bits of a sample that fits a byte.
 pub const BYTE_BITS: u32 = 8;
 
 impl ReadShape {
@@ -63,7 +63,7 @@ impl ReadShape {
         u64::from(self.planes) * self.plane_blocks()
     }
 
-    /// The tag of the field that holds the offsets of its blocks.
+    /// The tag of the field with the offsets of the strips or tiles.
     pub fn offsets_tag(&self) -> u16
         ensures { result ≡ tag_of_offsets self.now.tile }
     {
@@ -73,7 +73,7 @@ impl ReadShape {
         }
     }
 
-    /// The bytes of a texel: of its samples that stand side by side.
+    /// The bytes of those samples of a texel that are stored together.
     fn texel_bytes(&self) -> u64
         ensures value { result ≡ texel_bytes (seen_shape self.now) }
         ensures few { result ≤ max_channels * 2 }
@@ -83,8 +83,8 @@ impl ReadShape {
         u64::from(samples) * sample
     }
 
-    /// How many texels strip or tile i has: the last strip of a plane may have fewer rows, a tile is
-    /// padded.
+    /// The number of texels in strip or tile i. The last strip of a plane may have fewer rows; a
+    /// tile is padded.
     fn block_texels(&self, i: u32) -> u64
         ensures value { result ≡ block_texels_by (seen_shape self.now) self.now.tile i }
         ensures few { result ≤ max_side * max_side }
@@ -107,7 +107,7 @@ impl ReadShape {
         self.block_texels(i) * self.texel_bytes()
     }
 
-    /// Block i lies in a file of that length, behind the header.
+    /// Whether strip or tile i lies in a file of this length, after the header.
     fn has_within(&self, form: Form, offsets: &[u64], i: u32, file: u64) -> bool
         requires { i < length offsets.now }
         ensures { result ≡ lies_within form file (level_with (seen_shape self.now) offsets.now) i }
@@ -117,7 +117,7 @@ impl ReadShape {
         form.header_bytes() <= offset && size <= file && offset <= file - size
     }
 
-    /// The first strip or tile that does not lie in a file of that length, behind the header.
+    /// The first strip or tile that does not lie in a file of this length, after the header.
     pub fn first_outside(&self, form: Form, offsets: &[u64], file: u64) -> Option<u32>
         requires { length offsets.now ≡ blocks_of (seen_shape self.now) }
         ensures { result ≡ first_outside form file (level_with (seen_shape self.now) offsets.now) }
@@ -150,7 +150,7 @@ impl ReadShape {
     }
 }
 
-/// As many as it takes to cover a side by pieces of that length.
+/// The number of pieces of this length that cover a side.
 fn pieces(side: u32, piece: u32) -> u64
     requires side { IsSide side }
     requires piece { 1 ≤ piece }

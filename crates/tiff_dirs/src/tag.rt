@@ -1,4 +1,4 @@
-//! The tags that are read, and their defaults (TIFF 6.0, section 8).
+//! The tags that are read, and the defaults of their fields (TIFF 6.0, section 8).
 
 ghost use Rattle.std.specs.Prelude.{◌≡◌};
 ghost use Rattle.std.specs.Option.{option_to_list};
@@ -30,10 +30,10 @@ pub const TILE_OFFSETS: u16 = 324;
 
 pub const SAMPLE_FORMAT: u16 = 339;
 
-/// How many they are.
+/// The number of tags.
 pub const TAG_COUNT: usize = 13;
 
-/// All of them.
+/// All tags that are read.
 pub const TAGS: [u16; TAG_COUNT] = [
     IMAGE_WIDTH,
     IMAGE_LENGTH,
@@ -50,13 +50,13 @@ pub const TAGS: [u16; TAG_COUNT] = [
     SAMPLE_FORMAT,
 ];
 
-/// Those that a stripped directory must have.
+/// The tags that a stripped directory must have.
 pub const STRIPPED_REQUIRED: [u16; 3] = [IMAGE_WIDTH, IMAGE_LENGTH, STRIP_OFFSETS];
 
-/// Those that a tiled directory must have, beside TileWidth.
+/// The tags that a tiled directory must have, besides TileWidth.
 pub const TILED_REQUIRED: [u16; 4] = [IMAGE_WIDTH, IMAGE_LENGTH, TILE_LENGTH, TILE_OFFSETS];
 
-/// Those that a stripped directory reads.
+/// The tags that are read in a stripped directory.
 pub const STRIPPED_READ: [u16; 10] = [
     IMAGE_WIDTH,
     IMAGE_LENGTH,
@@ -70,7 +70,7 @@ pub const STRIPPED_READ: [u16; 10] = [
     SAMPLE_FORMAT,
 ];
 
-/// Those that a tiled directory reads.
+/// The tags that are read in a tiled directory.
 pub const TILED_READ: [u16; 11] = [
     IMAGE_WIDTH,
     IMAGE_LENGTH,
@@ -85,10 +85,10 @@ pub const TILED_READ: [u16; 11] = [
     SAMPLE_FORMAT,
 ];
 
-/// How many of them are `NUMBERS`.
+/// The number of tags in `NUMBERS`.
 pub const NUMBER_COUNT: usize = 7;
 
-/// Those whose first value every directory reads.
+/// The tags whose first value is read in every directory.
 pub const NUMBERS: [u16; NUMBER_COUNT] = [
     IMAGE_WIDTH,
     IMAGE_LENGTH,
@@ -99,10 +99,10 @@ pub const NUMBERS: [u16; NUMBER_COUNT] = [
     PLANAR_CONFIGURATION,
 ];
 
-/// RowsPerStrip of a directory that does not say it: all rows are one strip.
+/// RowsPerStrip if the directory does not have it: all rows are one strip.
 pub const ALL_ROWS: u32 = u32::MAX;
 
-/// The value of a field that is absent, where it has a default.
+/// The value of a missing field, if it has a default.
 pub fn default_value(tag: u16) -> Option<u64>
     ensures { option_to_list result ≡ default_of tag }
 {

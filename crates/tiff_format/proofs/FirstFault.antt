@@ -1,4 +1,4 @@
--- The first fault of two lists of faults, and where there is none.
+-- The first fault of two lists of faults, and the case without faults.
 use Rattle.std.proofs.Common.{◌≡◌, List, [], ◌∷◌, ◌++◌, Option, Some, None, refl, sym, ap, ◌∙◌}
 use Rattle.std.specs.Option.{option_or}
 use Rattle.std.proofs.lemmas.Option.{none-some}
@@ -14,7 +14,7 @@ pub or_none : (a : Option TiffFault) → option_or a None ≡ a
 or_none None = refl
 or_none (Some x) = refl
 
--- one list behind the other
+-- one list after the other
 pub first_of_both : (xs ys : List (Option TiffFault))
     → first_of (xs ++ ys) ≡ option_or (first_of xs) (first_of ys)
 first_of_both [] ys = refl

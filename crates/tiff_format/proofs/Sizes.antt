@@ -49,7 +49,7 @@ pub record AreSizes (form : Form) : Type 0 where
   pub entry : entry_bytes form ≤ 20
   pub low_offset : 4 ≤ offset_bytes form
   pub offset : offset_bytes form ≤ 8
-  -- behind the count of values stand their bytes, and nothing behind these
+  -- the values come after their number, at the end of the entry
   pub value : value_field_at form + offset_bytes form ≡ entry_bytes form
 
 pub sizes : (form : Form) → AreSizes form

@@ -1,4 +1,4 @@
--- Which cuts of the levels of a file may be asked for?
+-- Which cuts are allowed?
 use Rattle.std.specs.Prelude.{◌≡◌, ℕ, ◌%◌, ◌≤◌}
 use Rattle.tiff_format.specs.declared.cut.Cut.{Cut}
 
@@ -6,11 +6,11 @@ use Rattle.tiff_format.specs.declared.cut.Cut.{Cut}
 abbrev pub autotile_step : ℕ
 autotile_step = 16
 
--- and no longer than this
+-- the greatest side of the cells of stripped levels
 abbrev pub max_autotile : ℕ
 max_autotile = 4096
 
--- a side of that kind, or 0
+-- the side is a multiple of the step up to the greatest side, or 0
 pub record IsCut (cut : Cut) : Type 0 where
   pub multiple : cut.autotile % autotile_step ≡ 0
   pub high : cut.autotile ≤ max_autotile

@@ -1,5 +1,5 @@
--- Which faults do a directory and the blocks of a level show, and in which order?
--- (the profile of docs/FORMAT.md, "Faults")
+-- Which faults can a directory and the blocks of a level have, and in which order? (docs/FORMAT.md,
+-- "Faults")
 use Rattle.std.specs.Prelude.{ℕ, ◌+◌, ◌%◌, Bool, false, ◌==◌, ◌&&◌, ◌||◌, not, nat_le, nat_lt, List}
 use Rattle.std.specs.Prelude.{[], ◌∷◌, length, take, slice_index, find, Option, Some, None}
 use Rattle.std.specs.Prelude.{if◌then◌else◌}
@@ -23,35 +23,35 @@ use Rattle.tiff_format.specs.Directory.{lies_inside}
 use Rattle.tiff_format.specs.Field.{field_place, has_field, has_shape, field_values, field_value}
 use Rattle.tiff_format.specs.Block.{Level, is_tiled, offsets_tag, shape_at, blocks_of, block_bytes}
 
--- the first of the faults that is shown
+-- the first fault in a list
 abbrev pub first_of : List (Option TiffFault) → Option TiffFault
 first_of [] = None
 first_of (fault ∷ faults) = option_or fault (first_of faults)
 
--- a side that a tile may have: such a multiple, and not 0
+-- whether a tile may have this side: a multiple of 16, and not 0
 abbrev pub is_tile_side : ℕ → Bool
 is_tile_side side = nat_lt 0 side && (nat_le side max_side && (side % tile_step == 0))
 
--- ---- the faults of the directory at a place, in their order
+-- ---- the faults of the directory at a place, in order
 
 module _ (form : Form) (bytes : List ℕ) (at : ℕ) where
   -- 4: it does not lie in the file
   unfoldable pub outside_fault : Option TiffFault
   outside_fault = then_some (not (lies_inside form bytes at)) DirOutside
 
-  -- the fields that it must have
+  -- the tags of the required fields
   abbrev pub required_tags : List ℕ
   required_tags =
       image_width_tag ∷ image_length_tag
       ∷ (if is_tiled form bytes at then tile_length_tag ∷ tile_offsets_tag ∷ []
       else strip_offsets_tag ∷ [])
 
-  -- 5: the first of them that is absent
+  -- 5: the first required field that is missing
   unfoldable pub missing_fault : Option TiffFault
   missing_fault = option_map FieldMissing
       (find (λ tag. not (has_field form bytes at tag)) required_tags)
 
-  -- the fields that it reads, by their tags
+  -- the tags of the fields that are read
   abbrev pub read_tags : List ℕ
   read_tags =
       if is_tiled form bytes at
@@ -62,21 +62,21 @@ module _ (form : Form) (bytes : List ℕ) (at : ℕ) where
       ∷ photometric_tag ∷ strip_offsets_tag ∷ samples_per_pixel_tag ∷ rows_per_strip_tag
       ∷ planar_configuration_tag ∷ sample_format_tag ∷ []
 
-  -- the field is there and has a bad shape
+  -- whether the field is there but cannot be read
   abbrev pub is_misshapen : ℕ → Bool
   is_misshapen tag =
       option_map_or (λ place. not (has_shape form bytes place)) (field_place form bytes at tag)
       false
 
-  -- 6: the lowest of them that is there and has a bad shape
+  -- 6: the field with the lowest tag that is there but cannot be read
   unfoldable pub shape_fault : Option TiffFault
   shape_fault = option_map FieldShape (find is_misshapen read_tags)
 
-  -- the samples of a pixel
+  -- the number of samples per pixel
   abbrev pub samples : ℕ
   samples = field_value form bytes at samples_per_pixel_tag
 
-  -- the first value of a field, among as many as a pixel has samples, that does not pass a test
+  -- the first value of a field that fails a test, among as many values as a pixel has samples
   abbrev pub other_sample : ℕ → (ℕ → Bool) → Option ℕ
   other_sample tag test = find (λ v. not (test v)) (take samples (field_values form bytes at tag))
 
@@ -107,7 +107,7 @@ module _ (form : Form) (bytes : List ℕ) (at : ℕ) where
       let v = field_value form bytes at planar_configuration_tag in
       then_some (not ((v == 1) || (v == 2))) (Unsupported planar_configuration_tag v)
 
-  -- 7, SampleFormat: 1 is unsigned, and 4, undefined, is read as 1
+  -- 7, SampleFormat: 1 is unsigned, and 4, undefined, counts as 1
   abbrev pub format_fault : Option TiffFault
   format_fault = option_map (Unsupported sample_format_tag)
       (other_sample sample_format_tag (λ v. (v == 1) || (v == 4)))
@@ -117,7 +117,7 @@ module _ (form : Form) (bytes : List ℕ) (at : ℕ) where
   unsupported_fault = first_of
       (bits_fault ∷ compression_fault ∷ photometric_fault ∷ planar_fault ∷ format_fault ∷ [])
 
-  -- 8: a side, the samples of a pixel or the rows of a strip are 0
+  -- 8: a side, the samples per pixel or the rows per strip are 0
   unfoldable pub zero_fault : Option TiffFault
   zero_fault = then_some
       ((field_value form bytes at image_width_tag == 0)
@@ -125,7 +125,7 @@ module _ (form : Form) (bytes : List ℕ) (at : ℕ) where
       || (not (is_tiled form bytes at) && (field_value form bytes at rows_per_strip_tag == 0)))))
       ZeroSize
 
-  -- 9: a side or the samples of a pixel are above the limits
+  -- 9: a side or the samples per pixel exceed the limits
   unfoldable pub large_fault : Option TiffFault
   large_fault = then_some
       (nat_lt max_side (field_value form bytes at image_width_tag)
@@ -145,7 +145,7 @@ module _ (form : Form) (bytes : List ℕ) (at : ℕ) where
       (nat_lt (length (field_values form bytes at (offsets_tag form bytes at)))
       (blocks_of (shape_at form bytes at))) OffsetCount
 
-  -- the first fault that the directory shows
+  -- the first fault of the directory
   unfoldable pub directory_fault : Option TiffFault
   directory_fault = first_of
       (outside_fault ∷ missing_fault ∷ shape_fault ∷ unsupported_fault
@@ -153,7 +153,7 @@ module _ (form : Form) (bytes : List ℕ) (at : ℕ) where
 
 -- ---- the blocks of a level
 
--- block i lies in the file, behind the header
+-- whether block i lies in the file, after the header
 abbrev pub block_inside : Form → List ℕ → Level → ℕ → Bool
 block_inside form bytes level i =
     nat_le (header_bytes form) (slice_index level.offsets i)

@@ -1,4 +1,4 @@
--- What is known of every directory that was read, whether or not its reader tells its bytes?
+-- What is true of every directory that was read, whether or not its bytes are modelled?
 use Rattle.std.specs.Prelude.{◌≡◌, ℕ, suc, ◌+◌, ◌^◌, ◌<◌, ◌≤◌, ◌%◌, IsTrue, ◌==◌, ◌||◌, List}
 use Rattle.std.specs.Prelude.{false, length, slice_index, slice_index_or, Option}
 use Rattle.std.specs.Option.{ForSome}
@@ -6,35 +6,35 @@ use Rattle.tiff_format.specs.Block.{LevelShape, Level, blocks_of, block_bytes}
 use Rattle.tiff_format.specs.Limits.{max_side, max_channels, tile_step}
 use Rattle.tiff_format.specs.Level.{max_levels, is_single, has_half_size, has_samples_of}
 
--- a side of an image
+-- a possible side of an image
 pub record IsSide (side : ℕ) : Type 0 where
   pub low : 1 ≤ side
   pub high : side ≤ max_side
 
--- a side of a tile: a multiple of 16 too
+-- a possible side of a tile, which is also a multiple of 16
 pub record IsTileSide (side : ℕ) : Type 0 where
   pub low : tile_step ≤ side
   pub high : side ≤ max_side
   pub multiple : side % tile_step ≡ 0
 
--- a number of channels
+-- a possible number of channels
 pub record IsChannelCount (channels : ℕ) : Type 0 where
   pub low : 1 ≤ channels
   pub high : channels ≤ max_channels
 
--- a number of planes: 1, or one for each channel
+-- a possible number of planes: 1, or one per channel
 abbrev pub IsPlaneCount : ℕ → ℕ → Type 0
 IsPlaneCount channels planes = IsTrue ((planes == 1) || (planes == channels))
 
--- the bits of a sample
+-- a possible number of bits per sample
 abbrev pub IsDepth : ℕ → Type 0
 IsDepth depth = IsTrue ((depth == 8) || (depth == 16))
 
--- the sides of a tile, if there is one
+-- the sides of a tile, if there is one, are possible
 abbrev pub HasTileSides : Option (ℕ × ℕ) → Type 0
 HasTileSides tile = ForSome tile (λ t. IsTileSide t.0 × IsTileSide t.1)
 
--- What is known of the shape of every level that was read.
+-- What is true of the shape of every level that was read.
 pub record IsLevelShape (shape : LevelShape) : Type 0 where
   pub width : IsSide shape.width
   pub height : IsSide shape.height
@@ -44,14 +44,15 @@ pub record IsLevelShape (shape : LevelShape) : Type 0 where
   pub tile : HasTileSides shape.tile
   pub rows : 1 ≤ shape.rows_per_strip
 
--- And of the level: there is one offset for each block, and no block ends past 2^64.
+-- What is true of every level that was read: there is one offset for each block, and no block ends
+-- past 2^64.
 pub record HasOffsets (level : Level) : Type 0 where
   pub count : length level.offsets ≡ blocks_of level.shape
   pub ends : (i : ℕ) → i < length level.offsets
       → slice_index level.offsets i + block_bytes level.shape i < 2 ^ 64
 
 -- The levels of a file: 1 to 18 of them, each half the size of the one before, all with the same
--- samples. None follows one of a single texel.
+-- channels and depth. No level follows one of a single texel.
 pub record IsChain (levels : List Level) : Type 0 where
   pub some : 1 ≤ length levels
   pub few : length levels ≤ max_levels

@@ -9,33 +9,33 @@ use Rattle.tiff_format.specs.Directory.{directory_place, next_directory}
 use Rattle.tiff_format.specs.Block.{LevelShape, Level, shape_at, level_at}
 use Rattle.tiff_format.specs.DirectoryFault.{directory_fault}
 
--- half of a side, rounded down, and 1 at least
+-- half of a side, rounded down, and at least 1
 abbrev pub halved : ℕ → ℕ
 halved side = max 1 (side / 2)
 
--- the place of directory k, 0 where there is none
+-- the place of directory k; 0 if none exists
 abbrev pub level_place : List ℕ → ℕ → ℕ
 level_place bytes k = unwrap_or (directory_place (form_of bytes) bytes k) 0
 
--- What is kept of directory k.
+-- The level of directory k.
 unfoldable pub directory_level : List ℕ → ℕ → Level
 directory_level bytes k = level_at (form_of bytes) bytes (level_place bytes k)
 
--- a level of one texel
+-- whether the level has a single texel
 abbrev pub is_single : LevelShape → Bool
 is_single shape = (shape.width == 1) && (shape.height == 1)
 
--- the second is half the size of the first
+-- whether the second level has half the size of the first
 abbrev pub has_half_size : LevelShape → LevelShape → Bool
 has_half_size last next =
     (next.width == halved last.width) && (next.height == halved last.height)
 
--- both have the same samples
+-- whether both levels have the same channels and depth
 abbrev pub has_samples_of : LevelShape → LevelShape → Bool
 has_samples_of first next = (next.channels == first.channels) && (next.depth == first.depth)
 
--- the directory at the second place is the half-size picture of the one at the first,
--- with the samples of the first of all
+-- whether the directory at the second place is the half-size image of the one at the first, with
+-- the samples of the very first level
 unfoldable pub is_next_level : Form → List ℕ → ℕ → ℕ → ℕ → Bool
 is_next_level form bytes first at next =
     not (is_single (shape_at form bytes at))
@@ -43,8 +43,8 @@ is_next_level form bytes first at next =
     && (has_half_size (shape_at form bytes at) (shape_at form bytes next)
     && has_samples_of (shape_at form bytes first) (shape_at form bytes next)))
 
--- Directory k is level k: the first is,
--- and a later one where the one before it is a level and it is the next level.
+-- Whether directory k is level k: the first is, and a later one is if it is the next level after
+-- one that is a level.
 unfoldable pub is_level : List ℕ → ℕ → Bool
 is_level bytes zero = true
 is_level bytes (suc k) =
@@ -53,13 +53,13 @@ is_level bytes (suc k) =
     (is_next_level (form_of bytes) bytes (level_place bytes 0) (level_place bytes k))
     (next_directory (form_of bytes) bytes (level_place bytes k)) false
 
--- The most levels that are looked for. Sides are 131072 at most and halve from level to level, so
--- the directory behind so many levels is none: `read_dirs` says of each file that it reads that
--- the directory behind its last level is no level.
+-- The most levels of a file. Sides are at most 131072 and halve from level to level, so a directory
+-- after this many levels is never a level. `read_dirs` shows for every file that it reads that the
+-- directory after the last level is not a level.
 abbrev pub max_levels : ℕ
 max_levels = 18
 
--- how many of the first n numbers pass a test before the first that does not
+-- how many of the first n numbers pass a test before the first that fails it
 abbrev pub leading : (ℕ → Bool) → ℕ → ℕ → ℕ
 leading test k zero = 0
 leading test k (suc n) = if test k then suc (leading test (suc k) n) else 0
@@ -72,6 +72,6 @@ stored_levels bytes = leading (is_level bytes) 0 max_levels
 abbrev pub levels_of : List ℕ → List Level
 levels_of bytes = map (directory_level bytes) (range_with_len 0 (stored_levels bytes))
 
--- the directory behind the last level is none, so no level was left out
+-- the directory after the last level is not a level, so no level was left out
 abbrev pub IsWholeChain : List ℕ → Type 0
 IsWholeChain bytes = is_level bytes (stored_levels bytes) ≡ false

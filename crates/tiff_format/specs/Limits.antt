@@ -1,7 +1,7 @@
--- How large may an image and a tile be? (the profile of docs/FORMAT.md, "Faults")
+-- How large may an image and a tile be? (docs/FORMAT.md, "Faults")
 use Rattle.std.specs.Prelude.{ℕ}
 
--- the largest side of an image and of a tile
+-- the greatest side of an image or a tile
 abbrev pub max_side : ℕ
 max_side = 131072
 

@@ -1,8 +1,8 @@
--- What does a directory that was read show?
+-- How do contracts see a directory that was read?
 use Rattle.tiff_format.specs.declared.dir.Dir.{Dir}
 use Rattle.tiff_format.specs.Block.{LevelShape, Level, shape_of, level_with}
 
--- its fields but for the offsets
+-- its fields, except the offsets
 abbrev pub shown_shape : Dir → LevelShape
 shown_shape dir = shape_of dir.width dir.height dir.channels dir.planes dir.depth dir.white
     dir.rgb dir.tile dir.rows_per_strip

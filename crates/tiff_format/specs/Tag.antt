@@ -1,4 +1,4 @@
--- Which number has a tag that is read? (TIFF 6.0, section 8, and section 15 for tiles)
+-- Which number has each tag that is read? (TIFF 6.0, section 8, and section 15 for tiles)
 use Rattle.std.specs.Prelude.{ℕ}
 
 abbrev pub image_width_tag : ℕ

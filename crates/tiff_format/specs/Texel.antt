@@ -1,5 +1,5 @@
--- Which sample stands in a level at a texel, and which value is it answered as? (TIFF 6.0, sections
--- 3 and 6 on PhotometricInterpretation, section 8 on PlanarConfiguration, section 15 on tiles)
+-- Which sample has a texel of a level, and what is its 16-bit value? (TIFF 6.0, sections 3 and 6 on
+-- PhotometricInterpretation, section 8 on PlanarConfiguration, section 15 on tiles)
 use Rattle.std.specs.Prelude.{ℕ, ◌+◌, ◌-◌, ◌*◌, ◌/◌, ◌%◌, ◌^◌, ◌==◌, ◌&&◌, Bool, List, slice_index}
 use Rattle.std.specs.Prelude.{Option, Some, None, if◌then◌else◌}
 use Rattle.tiff_format.specs.Bytes.{number_at, is_big}
@@ -7,7 +7,7 @@ use Rattle.tiff_format.specs.Block.{LevelShape, Level, pieces_over, sample_bytes
 use Rattle.tiff_format.specs.Block.{samples_aside}
 use Rattle.tiff_format.specs.Level.{directory_level}
 
--- ---- where a sample stands
+-- ---- where a sample is
 
 -- the strip, or the tile of this width and height, that holds texel (x, y)
 abbrev pub block_by : LevelShape → Option (ℕ × ℕ) → ℕ → ℕ → ℕ
@@ -18,8 +18,8 @@ block_by shape (Some tile) x y = y / tile.1 * pieces_over shape.width tile.0 + x
 abbrev pub block_index : LevelShape → ℕ → ℕ → ℕ
 block_index shape x y = block_by shape shape.tile x y
 
--- the number of texels before texel (x, y) in its block: row by row of the strip,
--- or of the padded tile
+-- the number of texels before texel (x, y) in its block, row by row of the strip or of the padded
+-- tile
 abbrev pub texels_before_by : LevelShape → Option (ℕ × ℕ) → ℕ → ℕ → ℕ
 texels_before_by shape None x y = y % shape.rows_per_strip * shape.width + x
 texels_before_by shape (Some tile) x y = y % tile.1 * tile.0 + x % tile.0
@@ -31,12 +31,12 @@ texels_before shape x y = texels_before_by shape shape.tile x y
 abbrev pub plane_of : LevelShape → ℕ → ℕ
 plane_of shape c = if shape.planes == 1 then 0 else c
 
--- the number of samples before that of channel c among those of a texel that stand side by side
+-- the number of samples before channel c among those of a texel that are stored together
 abbrev pub samples_before : LevelShape → ℕ → ℕ
 samples_before shape c = if shape.planes == 1 then c else 0
 
--- the place of the sample of channel c of texel (x, y): in the block of its plane,
--- behind the samples of the texels before it
+-- the place of the sample of channel c of texel (x, y): in the block of its plane, after the
+-- samples of the texels before it
 unfoldable pub sample_place : Level → ℕ → ℕ → ℕ → ℕ
 sample_place level x y c =
     slice_index level.offsets
@@ -46,23 +46,23 @@ sample_place level x y c =
 
 -- ---- which number it is
 
--- the greatest value of a sample of so many bits
--- (section 8, PhotometricInterpretation: 2**BitsPerSample-1)
+-- the greatest value of a sample with this many bits (section 8, PhotometricInterpretation:
+-- 2**BitsPerSample-1)
 abbrev pub greatest_sample : ℕ → ℕ
 greatest_sample depth = 2 ^ depth - 1
 
--- The white rule: channel 0 of a WhiteIsZero level is read as the greatest value of the depth minus
--- what is stored. Every other sample is what is stored.
+-- The sample for a stored number. Channel 0 of a WhiteIsZero level is the greatest value minus the
+-- stored number; every other sample is the stored number.
 abbrev pub unwhite : Bool → ℕ → ℕ → ℕ
 unwhite is_white depth stored = if is_white then greatest_sample depth - stored else stored
 
--- the sample of channel c of texel (x, y) of a level; its bytes stand highest first where `big`
+-- the sample of channel c of texel (x, y) of a level, highest byte first if `big`
 unfoldable pub sample_in : Bool → List ℕ → Level → ℕ → ℕ → ℕ → ℕ
 sample_in big bytes level x y c =
     unwhite (level.shape.white && (c == 0)) level.shape.depth
     (number_at big (sample_bytes level.shape.depth) bytes (sample_place level x y c))
 
--- a value is 16-bit: an 8-bit sample v counts as 257 * v
+-- the 16-bit value of a sample: an 8-bit sample v becomes 257 * v
 abbrev pub value_of : ℕ → ℕ → ℕ
 value_of depth sample = if depth == 8 then 257 * sample else sample
 

@@ -1,7 +1,8 @@
+//! A directory of a TIFF file.
 ghost use Rattle.tiff_format.specs.Block.{shape_of, level_with};
 ghost use Rattle.tiff_format.specs.Facts.{IsLevelShape, HasOffsets};
 
-/// A directory that shows no fault: one level of the file (TIFF 6.0, section 2).
+/// A valid directory: one level of the file (TIFF 6.0, section 2).
 #[derive(Debug, Drop)]
 pub struct Dir {
     /// ImageWidth, 1 to 131072.
@@ -10,23 +11,22 @@ pub struct Dir {
     pub height: u32,
     /// SamplesPerPixel, 1 to 8.
     pub channels: u32,
-    /// 1 where the samples of a pixel stand side by side, else as many as channels: each has a plane
-    /// of its own (section 8, PlanarConfiguration).
+    /// 1 if the samples of a pixel are stored together, otherwise one plane per channel (section 8,
+    /// PlanarConfiguration).
     pub planes: u32,
     /// BitsPerSample, 8 or 16, the same for all samples.
     pub depth: u32,
-    /// PhotometricInterpretation is 0, WhiteIsZero.
+    /// Whether PhotometricInterpretation is 0, WhiteIsZero.
     pub white: bool,
-    /// PhotometricInterpretation is 2, RGB.
+    /// Whether PhotometricInterpretation is 2, RGB.
     pub rgb: bool,
-    /// TileWidth and TileLength, multiples of 16 up to 131072,
-    /// where the directory is tiled (section 15).
+    /// TileWidth and TileLength, multiples of 16 up to 131072, if the directory is tiled (section
+    /// 15).
     pub tile: Option<(u32, u32)>,
-    /// RowsPerStrip, at least 1, where it is stripped: 2^32 - 1 where it says more.
-    /// 2^32 - 1 where it is tiled.
+    /// RowsPerStrip, at least 1, if it is stripped; 2^32 - 1 if the file says more, or if it is
+    /// tiled.
     pub rows_per_strip: u32,
-    /// The offset of each strip or tile, as many as there are: those of the first plane, then those
-    /// of the next.
+    /// The offset of each strip or tile: those of the first plane, then those of the next.
     pub offsets: Vec<u64>,
     ghost shape_in: { IsLevelShape
         (shape_of width height channels planes depth white rgb tile rows_per_strip) },

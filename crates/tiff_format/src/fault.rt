@@ -1,39 +1,39 @@
+//! The faults that the bytes of a file can have.
 ghost use Rattle.std.specs.Prelude.{◌≡◌};
 ghost use Rattle.tiff_format.specs.Fault.{code_of};
 
-/// The first fault that the bytes of a file show.
-/// The faults stand in the order in which they are looked for.
+/// The first fault of a file's bytes. The variants are in the order in which faults are looked for.
 #[derive(Clone, Copy, Debug, PartialEq, Eq)]
 pub enum TiffFault {
-    /// The file has fewer than 8 bytes, or its offsets are wide and it has fewer than 16.
+    /// The file has fewer than 8 bytes, or is BigTIFF and has fewer than 16.
     Short,
     /// The first two bytes are neither `II` nor `MM`.
     BadMark,
-    /// The number behind the mark is neither 42 nor 43, or it is 43 and 8 and 0 do not follow it.
+    /// The version is neither 42 nor 43, or it is 43 and not followed by 8 and 0.
     BadVersion,
-    /// A directory does not lie in the file behind the header.
+    /// A directory does not lie in the file, after the header.
     DirOutside,
-    /// A field that must be there is absent.
+    /// A required field is missing.
     FieldMissing { tag: u32 },
-    /// A field has a type other than SHORT, LONG and, where offsets are wide, LONG8, no value,
-    /// or values that do not lie in the file.
+    /// A field has a type other than SHORT, LONG and, in BigTIFF, LONG8; or it has no value; or its
+    /// values do not lie in the file.
     FieldShape { tag: u32 },
-    /// A field has a value that is not read.
+    /// A field has a value that is not supported.
     Unsupported { tag: u32, value: u64 },
-    /// A side, the samples of a pixel or the rows of a strip are 0.
+    /// A side, the samples per pixel or the rows per strip are 0.
     ZeroSize,
-    /// A side is above 131072, or a pixel has more than 8 samples.
+    /// A side is greater than 131072, or a pixel has more than 8 samples.
     TooLarge,
-    /// A side of a tile is 0, above 131072, or no multiple of 16.
+    /// A side of a tile is 0, greater than 131072, or not a multiple of 16.
     TileShape,
     /// There are fewer offsets than strips or tiles.
     OffsetCount,
-    /// A strip or tile does not lie in the file behind the header.
+    /// A strip or tile does not lie in the file, after the header.
     DataOutside { level: u32, index: u32 },
 }
 
 impl TiffFault {
-    /// The fault's number, 1 to 12, in the order in which the faults are looked for.
+    /// The number of the fault, 1 to 12, in the order in which faults are looked for.
     pub fn code(&self) -> u32
         ensures { result ≡ code_of self.now }
     {

@@ -1,4 +1,4 @@
-//! The form of a file, and its numbers among bytes.
+//! The form of a file's numbers, and how they are read from bytes.
 
 ghost use Rattle.std.specs.Prelude.{◌≡◌, ◌+◌, ◌≤◌, length};
 ghost use Rattle.tiff_format.specs.Bytes.{number_at};
@@ -7,21 +7,21 @@ ghost use Rattle.tiff_format.specs.Form.{offset_at};
 
 use byteorder::{BigEndian, ByteOrder, LittleEndian};
 
-/// The bytes of the shortest header. Those of one with wide offsets go on behind them.
+/// The bytes of the shortest header. In BigTIFF the header goes on after them.
 pub const HEADER_BYTES: usize = 8;
 
-/// The most bytes of a directory's count of entries.
+/// The most bytes of a directory's number of entries.
 pub const MAX_COUNT_BYTES: usize = 8;
 
 /// The most bytes of an offset.
 pub const MAX_OFFSET_BYTES: usize = 8;
 
-/// The form of a file: the order of its bytes, and the width of its offsets.
+/// The form of a file: its byte order, and the size of its offsets.
 #[derive(Clone, Copy, Debug, PartialEq, Eq)]
 pub struct Form {
-    /// Numbers stand highest byte first (`MM`).
+    /// Whether numbers have their highest byte first (`MM`).
     pub big: bool,
-    /// Offsets have 64 bits.
+    /// Whether offsets have 64 bits, as in BigTIFF.
     pub wide: bool,
 }
 
@@ -35,7 +35,7 @@ impl Form {
         if self.wide { 16 } else { 8 }
     }
 
-    /// The bytes of a directory's count of entries.
+    /// The bytes of a directory's number of entries.
     pub fn count_bytes(self) -> u64
         ensures value { result ≡ count_bytes self }
         ensures some { 2 ≤ result }
@@ -53,7 +53,7 @@ impl Form {
         if self.wide { 20 } else { 12 }
     }
 
-    /// The bytes of an offset, and of an entry's count of values.
+    /// The bytes of an offset, and of an entry's number of values.
     pub fn offset_bytes(self) -> u64
         ensures value { result ≡ offset_bytes self }
         ensures some { 4 ≤ result }
@@ -62,7 +62,7 @@ impl Form {
         if self.wide { 8 } else { 4 }
     }
 
-    /// The number in the two bytes from a place on.
+    /// The number in the two bytes at `at`.
     pub fn short_at(self, bytes: &[u8], at: usize) -> u16
         requires { at + 2 ≤ length bytes.now }
         ensures value { result ≡ number_at self.big 2 bytes.now at }
@@ -75,7 +75,7 @@ impl Form {
         }
     }
 
-    /// The number in the four bytes from a place on.
+    /// The number in the four bytes at `at`.
     pub fn long_at(self, bytes: &[u8], at: usize) -> u32
         requires { at + 4 ≤ length bytes.now }
         ensures value { result ≡ number_at self.big 4 bytes.now at }
@@ -88,7 +88,7 @@ impl Form {
         }
     }
 
-    /// The number in the eight bytes from a place on.
+    /// The number in the eight bytes at `at`.
     pub fn long8_at(self, bytes: &[u8], at: usize) -> u64
         requires { at + 8 ≤ length bytes.now }
         ensures value { result ≡ number_at self.big 8 bytes.now at }
@@ -101,7 +101,7 @@ impl Form {
         }
     }
 
-    /// The count of a directory's entries in the bytes from a place on.
+    /// A directory's number of entries, from the bytes at `at`.
     pub fn count_at(self, bytes: &[u8], at: usize) -> u64
         requires { at + count_bytes self ≤ length bytes.now }
         ensures value { result ≡ number_at self.big (count_bytes self) bytes.now at }
@@ -113,7 +113,7 @@ impl Form {
         }
     }
 
-    /// The offset in the bytes from a place on.
+    /// The offset in the bytes at `at`.
     pub fn offset_at(self, bytes: &[u8], at: usize) -> u64
         requires { at + offset_bytes self ≤ length bytes.now }
         ensures value { result ≡ offset_at self bytes.now at }

@@ -1,17 +1,18 @@
-/// What a file's image is in one generation: its size, its samples and its levels.
+//! A description of a file's image.
+/// A file's image in one generation: its size, its samples and its levels.
 #[derive(Clone, Copy, Debug, PartialEq, Eq)]
 pub struct Info {
     /// The generation of the file.
     pub generation: u32,
-    /// The sides of level 0 in texels.
+    /// The width and height of level 0, in texels.
     pub width: u32,
     pub height: u32,
-    /// The samples of a texel.
+    /// The number of samples per texel.
     pub channels: u32,
-    /// The bits of a sample, 8 or 16.
+    /// The bits per sample, 8 or 16.
     pub depth: u32,
-    /// How many levels the file stores.
+    /// The number of levels that the file stores.
     pub stored: u32,
-    /// How many levels it has with those that are generated.
+    /// The number of levels, generated ones included.
     pub levels: u32,
 }

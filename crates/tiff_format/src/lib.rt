@@ -1,5 +1,4 @@
-//! The format of a TIFF file (TIFF 6.0): its definitions, in `specs/`, and the plain data that speak
-//! of it.
+//! The TIFF format (TIFF 6.0): its definitions in `specs/`, and the plain data types that they use.
 #![tactic(auto)]
 
 mod cut;

@@ -1,10 +1,11 @@
+//! A rectangle of texels.
 /// A rectangle of texels of a level.
 #[derive(Clone, Copy, Debug, PartialEq, Eq)]
 pub struct Rect {
-    /// The texel at the top left.
+    /// The top left texel.
     pub x: u32,
     pub y: u32,
-    /// Width and height in texels. Either may be 0.
+    /// The width and height, in texels. Either may be 0.
     pub w: u32,
     pub h: u32,
 }

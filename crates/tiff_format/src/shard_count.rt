@@ -1,12 +1,13 @@
-/// What one shard of the cache has.
+//! The counts of a shard.
+/// The counts and the memory of one shard of the cache.
 #[derive(Clone, Copy, Debug, PartialEq, Eq)]
 pub struct ShardCount {
-    /// The tiles that it keeps.
+    /// The number of tiles.
     pub tiles: u32,
-    /// The pins on them.
+    /// The number of pins on them.
     pub pins: u32,
     /// The bytes of its unpinned tiles.
     pub loose: u64,
-    /// The bytes that its unpinned tiles may take.
+    /// The most bytes that its unpinned tiles may take.
     pub share: u64,
 }

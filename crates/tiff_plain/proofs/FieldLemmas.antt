@@ -9,7 +9,7 @@ use Rattle.tiff_format.specs.Bytes.{number_at}
 use Rattle.tiff_format.specs.Form.{entry_bytes, tag_bytes}
 use Rattle.tiff_format.specs.Field.{first_entry, count_of, has_shape, entry_value, entry_values}
 
--- where the first entry has the tag, it is found
+-- if the first entry has the tag, it is found
 pub first_entry_found : (form : Form) (tag : ℕ) (bytes : List ℕ) (place n : ℕ) → 0 < n
     → number_at form.big tag_bytes bytes place ≡ tag
     → first_entry form tag bytes place n ≡ Some place
@@ -17,7 +17,7 @@ unfolding first_entry
 first_entry_found form tag bytes place zero h e = absurd (omega (arith, h))
 first_entry_found form tag bytes place (suc n) h e = grind (arith, e)
 
--- where it has another tag, the others are looked through
+-- if the first entry has another tag, the others are searched
 pub first_entry_more : (form : Form) (tag : ℕ) (bytes : List ℕ) (place next n m : ℕ) → n ≡ m + 1
     → next ≡ place + entry_bytes form
     → eqb (number_at form.big tag_bytes bytes place) tag ≡ false
@@ -28,7 +28,7 @@ first_entry_more form tag bytes place next (suc n) m h e f =
     let same : n ≡ m = omega (arith, h) in
     rw f (rw (same, e) refl)
 
--- where there is none, none is found
+-- without entries, none is found
 pub first_entry_none : (form : Form) (tag : ℕ) (bytes : List ℕ) (place n : ℕ) → n ≡ 0
     → first_entry form tag bytes place n ≡ None
 unfolding first_entry
@@ -43,7 +43,7 @@ unfolding entry_values
 length-entry_values form bytes place h =
     rw h (length-map-range_with_len (entry_value form bytes place) 0 (count_of form bytes place))
 
--- and these are its values
+-- the values of an entry that can be read
 get_or-shaped_values : (form : Form) (bytes : List ℕ) (place i : ℕ)
     → has_shape form bytes place ≡ true → i < count_of form bytes place
     → get_or (entry_values form bytes place) i 0 ≡ entry_value form bytes place i

@@ -11,7 +11,7 @@ pub find_here : (p : ℕ → Bool) (i n : ℕ) → 0 < n → p i ≡ true → fi
 find_here p i zero l t = absurd (omega (arith, l))
 find_here p i (suc n) l t = rw t refl
 
--- it does not, and the search goes on
+-- if the first number fails the test, the search goes on
 pub find_on : (p : ℕ → Bool) (i n m : ℕ) → n ≡ m + 1 → p i ≡ false
     → find p (range_with_len i n) ≡ find p (range_with_len (i + 1) m)
 find_on p i zero m e f = absurd (omega (arith, e))

@@ -19,7 +19,7 @@ use Rattle.tiff_format.specs.Fault.{first_fault}
 use Rattle.tiff_format.specs.Level.{is_level, is_next_level, leading, stored_levels, level_place}
 use Rattle.tiff_format.specs.Level.{max_levels}
 
--- none is none
+-- `is_none` is true only of `None`
 none_of_is_none : {A : Type 0} (o : Option A) → is_none o ≡ true → o ≡ None
 none_of_is_none None h = refl
 none_of_is_none (Some x) h = cc
@@ -57,7 +57,7 @@ first_is_good bytes h =
     let rest = none_of_two _ _ h in
     (none_of_two _ _ rest.1).0
 
--- both parts of a test that passes do
+-- if a conjunction is true, both of its parts are
 and_left : (a b : Bool) → (a && b) ≡ true → a ≡ true
 and_left true b h = refl
 and_left false b h = h
@@ -74,7 +74,7 @@ unfolding is_next_level
 next_is_good form bytes first at next h =
     none_of_is_none (directory_fault form bytes next) (and_left _ _ (and_right _ _ h))
 
--- a directory stands at 0 only where there is none
+-- no directory is at place 0
 next_of_zero : (form : Form) (bytes : List ℕ) → next_directory form bytes 0 ≡ None
 unfolding next_directory lies_inside
 next_of_zero form bytes =
@@ -96,7 +96,7 @@ unfolding directory_place
 place_after bytes k next h =
     place_step (form_of bytes) bytes (directory_place (form_of bytes) bytes k) next h
 
--- where directory k + 1 is a level, it is the one that follows directory k
+-- if directory k + 1 is a level, it is the one that follows directory k
 next_of_level : (bytes : List ℕ) (k : ℕ) → is_level bytes (suc k) ≡ true
     → (next : ℕ) × (next_directory (form_of bytes) bytes (level_place bytes k) ≡ Some next)
     × (is_next_level (form_of bytes) bytes (level_place bytes 0) (level_place bytes k) next ≡ true)
@@ -107,7 +107,7 @@ next_of_level bytes k h =
     passing (next_directory form bytes at) (is_next_level form bytes (level_place bytes 0) at)
     (and_right (is_level bytes k) _ h)
 
--- no stored level shows a fault, where directory 0 shows none
+-- no stored level has a fault, if directory 0 has none
 pub stored_is_good : (bytes : List ℕ) (l : ℕ)
     → directory_fault (form_of bytes) bytes (level_place bytes 0) ≡ None → l < stored_levels bytes
     → directory_fault (form_of bytes) bytes (level_place bytes l) ≡ None
@@ -120,14 +120,14 @@ stored_is_good bytes (suc k) good l =
     rw (place_after bytes k next.0 next.1)
     (next_is_good (form_of bytes) bytes (level_place bytes 0) (level_place bytes k) next.0 next.2)
 
--- so it has the shape of a level
+-- a stored level has the shape of a level
 pub stored_has_shape : (bytes : List ℕ) (l : ℕ)
     → directory_fault (form_of bytes) bytes (level_place bytes 0) ≡ None → l < stored_levels bytes
     → IsLevelShape (shape_at (form_of bytes) bytes (level_place bytes l))
 stored_has_shape bytes l good lt =
     shape_of_good (form_of bytes) bytes (level_place bytes l) (stored_is_good bytes l good lt)
 
--- and in a good file
+-- a stored level of a valid file has the shape of a level
 pub level_has_shape : (bytes : List ℕ) (l : ℕ) → first_fault bytes ≡ None → l < stored_levels bytes
     → IsLevelShape (shape_at (form_of bytes) bytes (level_place bytes l))
 level_has_shape bytes l good lt = stored_has_shape bytes l (first_is_good bytes good) lt

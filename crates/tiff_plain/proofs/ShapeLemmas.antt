@@ -105,7 +105,7 @@ module _ (form : Form) (bytes : List ℕ) (at : ℕ) where
         tile = tile.0;
       }
 
-  -- its samples have 8 or 16 bits
+  -- the samples of a supported directory have 8 or 16 bits
   depth_is : unsupported_fault form bytes at ≡ None → IsDepth (shape_at form bytes at).depth
   unfolding unsupported_fault
   depth_is none =

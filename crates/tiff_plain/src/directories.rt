@@ -1,4 +1,4 @@
-//! Where the directories of a file stand.
+//! Finds the directories of a file.
 
 ghost use Rattle.std.specs.Prelude.{◌≡◌, ◌<◌, ◌^◌};
 ghost use Rattle.tiff_format.specs.Directory as spec;
@@ -7,7 +7,7 @@ use crate::form::{count_bytes, entry_bytes, first_place, header_bytes, offset_at
 use crate::numbers::number_at;
 use tiff_format::Form;
 
-/// How many entries the directory at a place has.
+/// The number of entries in the directory at a place.
 pub fn entry_count(form: Form, bytes: &[u8], at: u64) -> u64
     ensures { result ≡ spec.entry_count form bytes.now at }
 {
@@ -30,7 +30,7 @@ fn next_place(form: Form, bytes: &[u8], at: u64) -> u128
     entry_place(form, at, entry_count(form, bytes, at))
 }
 
-/// The directory lies in the file, behind the header.
+/// Whether the directory lies in the file, after the header.
 #[tactic(auto, unfolding(tiff_format::specs::Directory::lies_inside))]
 pub fn lies_inside(form: Form, bytes: &[u8], at: u64) -> bool
     ensures value { result ≡ spec.lies_inside form bytes.now at }

@@ -1,4 +1,5 @@
-//! Which fault a directory shows first, and which block of a level does not lie in the file.
+//! Finds the first fault of a directory, and the first block of a level that does not lie in the
+//! file.
 
 ghost use Rattle.std.specs.Prelude.{◌≡◌, ◌==◌, ◌||◌, not, take, find};
 ghost use Rattle.std.specs.List.{range_with_len};
@@ -21,16 +22,16 @@ use crate::tags::{
 };
 use tiff_format::{Form, TiffFault};
 
-/// The largest side of an image and of a tile.
+/// The greatest side of an image or a tile.
 const MAX_SIDE: u64 = 131_072;
 
-/// The most samples of a pixel.
+/// The most samples per pixel.
 const MAX_CHANNELS: u64 = 8;
 
 /// The sides of a tile are multiples of this.
 const TILE_STEP: u64 = 16;
 
-/// The first of the faults that is shown.
+/// The first fault in a list.
 pub fn first_of(faults: &[Option<TiffFault>]) -> Option<TiffFault>
     ensures { result ≡ spec.first_of faults.now }
 {
@@ -58,7 +59,7 @@ fn required_tags(form: Form, bytes: &[u8], at: u64) -> &'static [u32]
     }
 }
 
-/// The first of these fields that is absent.
+/// The first of these fields that is missing.
 fn first_absent(form: Form, bytes: &[u8], at: u64, tags: &[u32]) -> Option<u32>
     ensures { result ≡ find (λ tag. not (field.has_field form bytes.now at tag)) tags.now }
 {
@@ -77,7 +78,7 @@ fn missing_fault(form: Form, bytes: &[u8], at: u64) -> Option<TiffFault>
     }
 }
 
-/// The fields that a directory reads, by their tags.
+/// The fields that are read in a directory, by their tags.
 fn read_tags(form: Form, bytes: &[u8], at: u64) -> &'static [u32]
     ensures { result.now ≡ spec.read_tags form bytes.now at }
 {
@@ -111,7 +112,7 @@ fn read_tags(form: Form, bytes: &[u8], at: u64) -> &'static [u32]
     }
 }
 
-/// The field is there and has a bad shape.
+/// Whether the field is there but cannot be read.
 fn is_misshapen(form: Form, bytes: &[u8], at: u64, tag: u32) -> bool
     ensures { result ≡ spec.is_misshapen form bytes.now at tag }
 {
@@ -121,7 +122,7 @@ fn is_misshapen(form: Form, bytes: &[u8], at: u64, tag: u32) -> bool
     }
 }
 
-/// The first of these fields that is there and has a bad shape.
+/// The first of these fields that is there but cannot be read.
 fn first_misshapen(form: Form, bytes: &[u8], at: u64, tags: &[u32]) -> Option<u32>
     ensures { result ≡ find (spec.is_misshapen form bytes.now at) tags.now }
 {
@@ -140,7 +141,7 @@ fn shape_fault(form: Form, bytes: &[u8], at: u64) -> Option<TiffFault>
     }
 }
 
-/// The first BitsPerSample, of those of the samples of a pixel, that is another than these bits.
+/// The first BitsPerSample of a pixel's samples that differs from `bits`.
 fn first_other_bits(form: Form, bytes: &[u8], at: u64, bits: u64) -> Option<u64>
     ensures { result ≡ find (λ v. not (v == bits)) (take (spec.samples form bytes.now at)
         (field.field_values form bytes.now at bits_per_sample_tag)) }
@@ -204,7 +205,7 @@ fn planar_fault(form: Form, bytes: &[u8], at: u64) -> Option<TiffFault>
     })
 }
 
-/// The first SampleFormat, of those of the samples of a pixel, that is neither 1 nor 4.
+/// The first SampleFormat of a pixel's samples that is neither 1 nor 4.
 fn first_other_format(form: Form, bytes: &[u8], at: u64) -> Option<u64>
     ensures { result ≡ find (λ v. not ((v == 1) || (v == 4))) (take (spec.samples form bytes.now at)
         (field.field_values form bytes.now at sample_format_tag)) }
@@ -266,7 +267,7 @@ fn large_fault(form: Form, bytes: &[u8], at: u64) -> Option<TiffFault>
     is_large.then_some(TiffFault::TooLarge)
 }
 
-/// A side that a tile may have.
+/// Whether a tile may have this side.
 fn is_tile_side(side: u64) -> bool
     ensures { result ≡ spec.is_tile_side side }
 {
@@ -291,7 +292,7 @@ fn count_fault(form: Form, bytes: &[u8], at: u64) -> Option<TiffFault>
     (count < blocks_at(form, bytes, at)).then_some(TiffFault::OffsetCount)
 }
 
-/// The first fault of the fields of a directory, but for the number of its offsets.
+/// The first fault of a directory's fields, except too few offsets.
 fn fields_fault(form: Form, bytes: &[u8], at: u64) -> Option<TiffFault>
     ensures { result ≡ fields_fault form bytes.now at }
 {
@@ -305,8 +306,8 @@ fn fields_fault(form: Form, bytes: &[u8], at: u64) -> Option<TiffFault>
     ])
 }
 
-/// The first fault that the directory at a place shows. Nothing is looked up of one that does not
-/// lie in the file, and no blocks are counted of one whose fields show a fault.
+/// The first fault of the directory at a place. If it does not lie in the file, nothing else is
+/// checked; if its fields have a fault, its blocks are not counted.
 pub fn directory_fault(form: Form, bytes: &[u8], at: u64) -> Option<TiffFault>
     ensures value { result ≡ spec.directory_fault form bytes.now at }
 {
@@ -319,7 +320,7 @@ pub fn directory_fault(form: Form, bytes: &[u8], at: u64) -> Option<TiffFault>
     count_fault(form, bytes, at)
 }
 
-/// Block i of the level at a place lies in the file, behind the header.
+/// Whether block i of the level at a place lies in the file, after the header.
 #[tactic(auto, unfolding(tiff_format::specs::Block::level_at))]
 fn block_inside(form: Form, bytes: &[u8], at: u64, i: u64) -> bool
     requires { IsLevelShape (block.shape_at form bytes.now at) }
@@ -345,7 +346,7 @@ fn first_outside(form: Form, bytes: &[u8], at: u64) -> Option<u32>
     None
 }
 
-/// The first fault of the blocks of the level at a place, which has this number.
+/// The first fault of the blocks of level `number`, whose directory is at a place.
 #[tactic(auto, unfolding(tiff_format::specs::DirectoryFault::data_fault))]
 pub fn data_fault(form: Form, bytes: &[u8], number: u32, at: u64) -> Option<TiffFault>
     requires { IsLevelShape (block.shape_at form bytes.now at) }

@@ -1,4 +1,4 @@
-//! Which values the fields of a directory have. A place of an entry is below 2^101.
+//! Reads the values of a directory's fields. The place of an entry is below 2^101.
 
 ghost use Rattle.std.specs.Prelude.{◌≡◌, ◌<◌, ◌*◌, ◌^◌, ◌==◌, ◌||◌, nat_le, length, slice_index};
 ghost use Rattle.std.specs.Prelude.{IfSome, IfOk, IsTrue};
@@ -22,13 +22,13 @@ const SHORT: u64 = 3;
 
 const LONG: u64 = 4;
 
-/// It is read where offsets are wide.
+/// LONG8, 8 bytes. BigTIFF only.
 const LONG8: u64 = 16;
 
-/// RowsPerStrip of a directory that does not say it: all rows are one strip.
+/// RowsPerStrip if the directory does not have it: all rows are one strip.
 pub const ALL_ROWS: u64 = 0xffff_ffff;
 
-/// The place of the first entry of a tag among n entries.
+/// The place of the first entry with a tag, among n entries.
 fn first_entry(form: Form, tag: u32, bytes: &[u8], place: u128, n: u64) -> Option<u128>
     requires { place < 2 ^ 100 }
     ensures value { result ≡ spec.first_entry form tag bytes.now place n }
@@ -43,7 +43,7 @@ fn first_entry(form: Form, tag: u32, bytes: &[u8], place: u128, n: u64) -> Optio
     None
 }
 
-/// The place of the first entry of a tag in the directory at a place.
+/// The place of the first entry with a tag in the directory at a place.
 #[tactic(auto, unfolding(tiff_format::specs::Field::field_place))]
 pub fn field_place(form: Form, bytes: &[u8], at: u64, tag: u32) -> Option<u128>
     ensures value { result ≡ spec.field_place form bytes.now at tag }
@@ -58,7 +58,7 @@ pub fn field_place(form: Form, bytes: &[u8], at: u64, tag: u32) -> Option<u128>
     )
 }
 
-/// The directory has an entry of that tag.
+/// Whether the directory has an entry with this tag.
 pub fn has_field(form: Form, bytes: &[u8], at: u64, tag: u32) -> bool
     ensures value { result ≡ spec.has_field form bytes.now at tag }
 {
@@ -73,7 +73,7 @@ fn type_of(form: Form, bytes: &[u8], place: u128) -> u64
     number_at(form.big, TYPE_BYTES, bytes, place + u128::from(TAG_BYTES))
 }
 
-/// How many values it has.
+/// The number of values of the entry.
 fn count_of(form: Form, bytes: &[u8], place: u128) -> u64
     requires { place < 2 ^ 101 }
     ensures { result ≡ spec.count_of form bytes.now place }
@@ -81,7 +81,7 @@ fn count_of(form: Form, bytes: &[u8], place: u128) -> u64
     offset_at(form, bytes, place + u128::from(VALUES_COUNT_AT))
 }
 
-/// How many bytes one of its values takes, 0 where its type is not read.
+/// The bytes per value; 0 if the type is not read.
 fn value_size(form: Form, bytes: &[u8], place: u128) -> u32
     requires { place < 2 ^ 101 }
     ensures value { result ≡ spec.value_size form bytes.now place }
@@ -99,7 +99,7 @@ fn value_size(form: Form, bytes: &[u8], place: u128) -> u32
     }
 }
 
-/// How many bytes all of its values take.
+/// The bytes of all values.
 fn values_size(form: Form, bytes: &[u8], place: u128) -> u128
     requires { place < 2 ^ 101 }
     ensures value { result
@@ -109,7 +109,7 @@ fn values_size(form: Form, bytes: &[u8], place: u128) -> u128
     u128::from(count_of(form, bytes, place)) * u128::from(value_size(form, bytes, place))
 }
 
-/// Where its values stand.
+/// The place of the values.
 #[tactic(auto, unfolding(tiff_format::specs::Field::values_place))]
 fn values_place(form: Form, bytes: &[u8], place: u128) -> u128
     requires { place < 2 ^ 101 }
@@ -124,7 +124,7 @@ fn values_place(form: Form, bytes: &[u8], place: u128) -> u128
     }
 }
 
-/// Its value i.
+/// Value i of the entry.
 #[tactic(auto, unfolding(tiff_format::specs::Field::entry_value))]
 fn entry_value(form: Form, bytes: &[u8], place: u128, i: u64) -> u64
     requires { place < 2 ^ 101 }
@@ -140,7 +140,7 @@ fn entry_value(form: Form, bytes: &[u8], place: u128, i: u64) -> u64
     )
 }
 
-/// Its type is read, it has a value, and its values lie in the file.
+/// Whether the type is read, there is a value, and the values lie in the file.
 #[tactic(auto, unfolding(tiff_format::specs::Field::has_shape))]
 pub fn has_shape(form: Form, bytes: &[u8], place: u128) -> bool
     requires { place < 2 ^ 101 }
@@ -153,7 +153,7 @@ pub fn has_shape(form: Form, bytes: &[u8], place: u128) -> bool
         && end <= bytes.len() as u128
 }
 
-/// The number of its values, 0 where it has a bad shape.
+/// The number of values; 0 if the entry cannot be read.
 #[tactic(auto, using(crate::proofs::FieldLemmas::entry_lengths))]
 fn entry_length(form: Form, bytes: &[u8], place: u128) -> u64
     requires { place < 2 ^ 101 }
@@ -166,7 +166,7 @@ fn entry_length(form: Form, bytes: &[u8], place: u128) -> u64
     }
 }
 
-/// Its value i, 0 where it has a bad shape or no such value.
+/// Value i; 0 if the entry cannot be read or has no such value.
 #[tactic(auto, using(crate::proofs::FieldLemmas::entry_lists))]
 fn entry_number(form: Form, bytes: &[u8], place: u128, i: u128) -> u64
     requires { place < 2 ^ 101 }
@@ -195,7 +195,7 @@ fn default_of(tag: u32) -> Option<u64>
     }
 }
 
-/// The number of values of a field: those of its first entry, or its default.
+/// The number of values of a field: of its first entry, or of its default.
 #[tactic(auto, unfolding(tiff_format::specs::Field::field_values))]
 pub fn field_length(form: Form, bytes: &[u8], at: u64, tag: u32) -> u64
     ensures { result ≡ length (spec.field_values form bytes.now at tag) }
@@ -207,7 +207,7 @@ pub fn field_length(form: Form, bytes: &[u8], at: u64, tag: u32) -> u64
     }
 }
 
-/// Value i of a field, 0 where it has no such value.
+/// Value i of a field; 0 if it has no such value.
 #[tactic(auto, unfolding(tiff_format::specs::Field::field_values))]
 pub fn field_number(form: Form, bytes: &[u8], at: u64, tag: u32, i: u128) -> u64
     ensures { result ≡ slice_index (spec.field_values form bytes.now at tag) i }
@@ -219,7 +219,7 @@ pub fn field_number(form: Form, bytes: &[u8], at: u64, tag: u32, i: u128) -> u64
     }
 }
 
-/// The value of a field that holds one number, the first.
+/// The first value of a field.
 pub fn field_value(form: Form, bytes: &[u8], at: u64, tag: u32) -> u64
     ensures value { result ≡ spec.field_value form bytes.now at tag }
 {

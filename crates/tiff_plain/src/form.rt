@@ -1,4 +1,4 @@
-//! The form of a file, and how wide its parts are.
+//! The form of a file, and the sizes of its parts.
 
 ghost use Rattle.std.specs.Prelude.{◌≡◌, ◌<◌, ◌^◌};
 ghost use Rattle.tiff_format.specs.Form as spec;
@@ -12,7 +12,7 @@ pub const TAG_BYTES: u32 = 2;
 /// The bytes of an entry's type.
 pub const TYPE_BYTES: u32 = 2;
 
-/// Where in an entry its count of values stands.
+/// Where in an entry its number of values is.
 pub const VALUES_COUNT_AT: u32 = TAG_BYTES + TYPE_BYTES;
 
 /// The form of a file with these bytes.
@@ -32,7 +32,7 @@ pub fn header_bytes(form: Form) -> u32
     if form.wide { 16 } else { 8 }
 }
 
-/// The bytes of a directory's count of entries.
+/// The bytes of a directory's number of entries.
 pub fn count_bytes(form: Form) -> u32
     ensures { result ≡ spec.count_bytes form }
 {
@@ -46,21 +46,21 @@ pub fn entry_bytes(form: Form) -> u32
     if form.wide { 20 } else { 12 }
 }
 
-/// The bytes of an offset, and of an entry's count of values.
+/// The bytes of an offset, and of an entry's number of values.
 pub fn offset_bytes(form: Form) -> u32
     ensures { result ≡ spec.offset_bytes form }
 {
     if form.wide { 8 } else { 4 }
 }
 
-/// Where in an entry its values or their offset stand.
+/// Where in an entry its values, or their place, are.
 pub fn value_field_at(form: Form) -> u32
     ensures { result ≡ spec.value_field_at form }
 {
     VALUES_COUNT_AT + offset_bytes(form)
 }
 
-/// The number that the bytes of an offset spell.
+/// The offset at a place.
 pub fn offset_at(form: Form, bytes: &[u8], at: u128) -> u64
     requires { at < 2 ^ 110 }
     ensures { result ≡ spec.offset_at form bytes.now at }

@@ -1,4 +1,4 @@
-//! What is kept of a directory.
+//! What is known of one level.
 
 ghost use Rattle.std.specs.Prelude.{◌≡◌, ◌<◌, None, IfOk, slice_index, take};
 ghost use Rattle.tiff_format.specs.Block as spec;
@@ -15,14 +15,14 @@ use crate::shape::{PlainShape, blocks_at, offsets_tag, shape_at};
 use std::alloc::{AllocError, Global};
 use tiff_format::Form;
 
-/// What is known of a level: its shape, and the offset of each strip or tile.
+/// A level: its shape, and the offset of each strip or tile.
 #[derive(Debug, Drop)]
 pub struct PlainLevel {
     pub shape: PlainShape,
     pub offsets: Vec<u64>,
 }
 
-/// The offset of block i of the directory at a place, 0 where there is no such block.
+/// The offset of block i of the directory at a place; 0 if there is no such block.
 #[tactic(auto, unfolding(tiff_format::specs::Block::level_at))]
 pub fn offset_of(form: Form, bytes: &[u8], at: u64, i: u128) -> u64
     requires { IsLevelShape (spec.shape_at form bytes.now at) }
@@ -35,7 +35,7 @@ pub fn offset_of(form: Form, bytes: &[u8], at: u64, i: u128) -> u64
     }
 }
 
-/// The offsets of the blocks. Those beyond the number of blocks are passed over.
+/// The offsets of the blocks. Further offsets are ignored.
 fn block_offsets(alloc: Global, form: Form, bytes: &[u8], at: u64) -> Result<Vec<u64>, AllocError>
     requires { IsLevelShape (spec.shape_at form bytes.now at) }
     ensures { IfOk result (λ v. v.items
@@ -51,7 +51,7 @@ fn block_offsets(alloc: Global, form: Form, bytes: &[u8], at: u64) -> Result<Vec
     Ok(offsets)
 }
 
-/// What is kept of the directory at a place.
+/// The level of the directory at a place.
 #[tactic(auto, unfolding(tiff_format::specs::Block::level_at))]
 pub fn level_at(alloc: Global, form: Form, bytes: &[u8], at: u64) -> Result<PlainLevel, AllocError>
     requires { IsLevelShape (spec.shape_at form bytes.now at) }
@@ -63,7 +63,7 @@ pub fn level_at(alloc: Global, form: Form, bytes: &[u8], at: u64) -> Result<Plai
     })
 }
 
-/// What is kept of stored level k of a good file.
+/// Stored level k of a valid file.
 #[tactic(auto, unfolding(tiff_format::specs::Level::directory_level))]
 pub fn directory_level(alloc: Global, bytes: &[u8], k: u32) -> Result<PlainLevel, AllocError>
     requires good { fault.first_fault bytes.now ≡ None }

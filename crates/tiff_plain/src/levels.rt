@@ -1,4 +1,4 @@
-//! Which levels a file has, and its first fault.
+//! Finds the levels of a file, and its first fault.
 
 ghost use Rattle.std.specs.Prelude.{◌≡◌, ◌≤◌, ◌+◌, None, false, not, map};
 ghost use Rattle.std.specs.Option.{option_map_or};
@@ -16,24 +16,24 @@ use crate::numbers::{has_wide_offsets, is_big, is_marked, number_at, version};
 use crate::shape::{has_half_size, has_samples_of, is_single, shape_at};
 use tiff_format::{Form, TiffFault};
 
-/// The most levels that are looked for.
+/// The most levels of a file.
 const MAX_LEVELS: u32 = 18;
 
-/// The number behind the mark in a TIFF file.
+/// The version of a TIFF file.
 const TIFF_VERSION: u64 = 42;
 
 /// The bytes of the shortest header.
 const LEAST_BYTES: usize = 8;
 
-/// The place of directory k, 0 where there is none.
+/// The place of directory k; 0 if none exists.
 pub fn level_place(bytes: &[u8], k: u32) -> u64
     ensures value { result ≡ spec.level_place bytes.now k }
 {
     directory_place(form_of(bytes), bytes, k).unwrap_or(0)
 }
 
-/// The directory at `next` is the half-size picture of the one at `at`, with the samples of the one
-/// at `first`.
+/// Whether the directory at `next` is the half-size image of the one at `at`, with the same samples
+/// as the one at `first`.
 #[tactic(auto, unfolding(tiff_format::specs::Level::is_next_level))]
 fn is_next_level(form: Form, bytes: &[u8], first: u64, at: u64, next: u64) -> bool
     ensures { result ≡ spec.is_next_level form bytes.now first at next }
@@ -46,7 +46,7 @@ fn is_next_level(form: Form, bytes: &[u8], first: u64, at: u64, next: u64) -> bo
     has_half_size(last, shape) && has_samples_of(shape_at(form, bytes, first), shape)
 }
 
-/// A directory follows directory k, and it is the next level.
+/// Whether directory k is followed by one that is the next level.
 fn has_next_level(bytes: &[u8], k: u32) -> bool
     ensures { result ≡ (let form = form.form_of bytes.now in
         let at = spec.level_place bytes.now k in
@@ -61,7 +61,7 @@ fn has_next_level(bytes: &[u8], k: u32) -> bool
     }
 }
 
-/// Directory k is level k.
+/// Whether directory k is level k.
 #[tactic(auto, unfolding(tiff_format::specs::Level::is_level))]
 pub fn is_level(bytes: &[u8], k: u32) -> bool
     ensures value { result ≡ spec.is_level bytes.now k }
@@ -69,7 +69,7 @@ pub fn is_level(bytes: &[u8], k: u32) -> bool
     k == 0 || (is_level(bytes, k - 1) && has_next_level(bytes, k - 1))
 }
 
-/// How many directories of n, from directory k on, are levels before the first that is none.
+/// How many of n directories, from directory k on, are levels before the first that is not.
 fn leading_levels(bytes: &[u8], k: u32, n: u32) -> u32
     requires { k + n ≤ spec.max_levels }
     ensures value { result ≡ spec.leading (spec.is_level bytes.now) k n }
@@ -91,14 +91,14 @@ pub fn stored_levels(bytes: &[u8]) -> u32
     leading_levels(bytes, 0, MAX_LEVELS)
 }
 
-/// The directory behind the last level is no level.
+/// Whether the directory after the last level is not a level.
 pub fn is_whole_chain(bytes: &[u8]) -> bool
     ensures value { result ≡ not (spec.is_level bytes.now (spec.stored_levels bytes.now)) }
 {
     !is_level(bytes, stored_levels(bytes))
 }
 
-/// The header is cut short.
+/// Whether the header is incomplete.
 fn is_short(bytes: &[u8]) -> bool
     ensures { result ≡ file.is_short bytes.now }
 {
@@ -106,7 +106,7 @@ fn is_short(bytes: &[u8]) -> bool
         || (is_marked(bytes) && bytes.len() < header_bytes(form_of(bytes)) as usize)
 }
 
-/// The number behind the mark is one that is read.
+/// Whether the version is one that is read.
 fn has_version(bytes: &[u8]) -> bool
     ensures { result ≡ file.has_version bytes.now }
 {
@@ -117,7 +117,7 @@ fn has_version(bytes: &[u8]) -> bool
             && number_at(big, 2, bytes, 6) == 0)
 }
 
-/// The fault of the header: it is cut short, has neither mark, or another version.
+/// The fault of the header: incomplete, no valid mark, or another version.
 #[tactic(auto, unfolding(tiff_format::specs::Fault::header_fault))]
 pub fn header_fault(bytes: &[u8]) -> Option<TiffFault>
     ensures value { result ≡ file.header_fault bytes.now }
@@ -147,7 +147,7 @@ fn first_data_fault(bytes: &[u8], k: u32, n: u32) -> Option<TiffFault>
     }
 }
 
-/// The first block outside the file, level 0 first.
+/// The first block that does not lie in the file, level 0 first.
 #[tactic(auto, unfolding(tiff_format::specs::Fault::data_faults))]
 fn data_faults(bytes: &[u8]) -> Option<TiffFault>
     requires { fault.directory_fault (form.form_of bytes.now) bytes.now
@@ -157,8 +157,8 @@ fn data_faults(bytes: &[u8]) -> Option<TiffFault>
     first_data_fault(bytes, 0, stored_levels(bytes))
 }
 
-/// The first fault that a file shows, none where it is good. Of a file whose header or whose first
-/// directory shows a fault no level is looked for.
+/// The first fault of a file; `None` if it is valid. Levels are looked for only if the header and
+/// the first directory are valid.
 #[tactic(auto, unfolding(tiff_format::specs::Fault::first_fault))]
 pub fn first_fault(bytes: &[u8]) -> Option<TiffFault>
     ensures value { result ≡ file.first_fault bytes.now }

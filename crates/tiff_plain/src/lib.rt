@@ -1,6 +1,6 @@
-//! A plain, slow reader of a TIFF file in memory. Each answer is looked up anew in the bytes, and
-//! its contract is the definition of `tiff_dirs`. Values from outside show here whether the
-//! definitions say what they should, and faster readers can be compared with it.
+//! A simple, slow reader of TIFF files in memory, for tests. Each answer is looked up in the bytes
+//! again, and its contract is the definition that `tiff_dirs` uses. Expected values from outside
+//! show whether the definitions are right, and faster readers are compared with it.
 #![tactic(auto)]
 
 mod directories;

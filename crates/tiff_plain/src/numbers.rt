@@ -1,13 +1,13 @@
-//! Numbers in the bytes of a file.
+//! Reads numbers from the bytes of a file.
 
 ghost use Rattle.std.specs.Prelude.{◌≡◌, ◌≤◌, ◌<◌, ◌^◌, ◌==◌, ◌||◌, true, false, nat_le};
 ghost use Rattle.std.specs.Prelude.{slice_index, IsTrue};
 ghost use Rattle.tiff_format.specs.Bytes as spec;
 
-/// The number behind the mark of a file with wide offsets.
+/// The version of a BigTIFF file.
 const WIDE_VERSION: u64 = 43;
 
-/// The byte at a place, 0 past the end.
+/// The byte at a place; 0 past the end.
 fn byte_at(bytes: &[u8], at: u128) -> u64
     ensures value { result ≡ slice_index bytes.now at }
     ensures fits { result < 256 }
@@ -19,7 +19,7 @@ fn byte_at(bytes: &[u8], at: u128) -> u64
     }
 }
 
-/// The number that up to four bytes spell, the highest first.
+/// The number in up to four bytes, highest byte first.
 #[tactic(auto, unfolding(tiff_format::specs::Bytes::number_at))]
 fn big_number(n: u32, bytes: &[u8], at: u128) -> u64
     requires size { n ≤ 4 }
@@ -40,7 +40,7 @@ fn big_number(n: u32, bytes: &[u8], at: u128) -> u64
     }
 }
 
-/// The number that up to four bytes spell, the lowest first.
+/// The number in up to four bytes, lowest byte first.
 #[tactic(auto, unfolding(tiff_format::specs::Bytes::number_at))]
 fn little_number(n: u32, bytes: &[u8], at: u128) -> u64
     requires size { n ≤ 4 }
@@ -61,7 +61,7 @@ fn little_number(n: u32, bytes: &[u8], at: u128) -> u64
     }
 }
 
-/// The number that up to four bytes spell.
+/// The number in up to four bytes.
 #[tactic(auto, unfolding(tiff_format::specs::Bytes::number_at))]
 fn short_number(big: bool, n: u32, bytes: &[u8], at: u128) -> u64
     requires size { n ≤ 4 }
@@ -76,7 +76,7 @@ fn short_number(big: bool, n: u32, bytes: &[u8], at: u128) -> u64
     }
 }
 
-/// The number that eight bytes spell: two of four bytes.
+/// The number in eight bytes, made of two four-byte numbers.
 fn long8_number(big: bool, bytes: &[u8], at: u128) -> u64
     requires place { at < 2 ^ 110 }
     ensures value { result ≡ spec.number_at big 8 bytes.now at }
@@ -90,7 +90,7 @@ fn long8_number(big: bool, bytes: &[u8], at: u128) -> u64
     }
 }
 
-/// The number that n bytes from a place on spell. A byte past the end counts as 0.
+/// The number in the n bytes at a place. Bytes past the end count as 0.
 pub fn number_at(big: bool, n: u32, bytes: &[u8], at: u128) -> u64
     requires size { IsTrue (nat_le n 4 || (n == 8)) }
     requires place { at < 2 ^ 110 }
@@ -111,35 +111,35 @@ fn has_mark(letter: u8, bytes: &[u8]) -> bool
     byte_at(bytes, 0) == u64::from(letter) && byte_at(bytes, 1) == u64::from(letter)
 }
 
-/// The file begins with `II`.
+/// Whether the file begins with `II`.
 pub fn is_little(bytes: &[u8]) -> bool
     ensures value { result ≡ spec.is_little bytes.now }
 {
     has_mark(b'I', bytes)
 }
 
-/// The file begins with `MM`.
+/// Whether the file begins with `MM`.
 pub fn is_big(bytes: &[u8]) -> bool
     ensures value { result ≡ spec.is_big bytes.now }
 {
     has_mark(b'M', bytes)
 }
 
-/// The file begins with one of the two.
+/// Whether the file begins with `II` or `MM`.
 pub fn is_marked(bytes: &[u8]) -> bool
     ensures { result ≡ spec.is_marked bytes.now }
 {
     is_little(bytes) || is_big(bytes)
 }
 
-/// The number behind the mark.
+/// The version, after the mark.
 pub fn version(bytes: &[u8]) -> u64
     ensures { result ≡ spec.version bytes.now }
 {
     number_at(is_big(bytes), 2, bytes, 2)
 }
 
-/// The offsets of the file are wide.
+/// Whether the file is BigTIFF, with offsets of 64 bits.
 pub fn has_wide_offsets(bytes: &[u8]) -> bool
     ensures { result ≡ spec.has_wide_offsets bytes.now }
 {

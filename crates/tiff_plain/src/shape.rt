@@ -1,4 +1,4 @@
-//! What is known of a level without the offsets of its blocks.
+//! The shape of a level: everything except the offsets of its blocks.
 
 ghost use Rattle.std.specs.Prelude.{◌≡◌, ◌≤◌, ◌-◌, ◌*◌, ◌%◌, min};
 ghost use Rattle.tiff_format.specs.Block as spec;
@@ -14,36 +14,36 @@ use crate::tags::{
 };
 use tiff_format::Form;
 
-/// The fields of a directory that its samples are read by, but for the offsets.
+/// The fields that say where a level's samples are, except the offsets.
 #[derive(Clone, Copy, Debug, PartialEq, Eq)]
 pub struct PlainShape {
     pub width: u64,
     pub height: u64,
     pub channels: u64,
-    /// 1 where the samples of a pixel stand side by side, else one for each channel.
+    /// 1 if the samples of a pixel are stored together, otherwise one per channel.
     pub planes: u64,
-    /// Bits of a sample.
+    /// The bits per sample.
     pub depth: u64,
-    /// WhiteIsZero.
+    /// Whether the photometric interpretation is WhiteIsZero.
     pub white: bool,
-    /// RGB.
+    /// Whether the photometric interpretation is RGB.
     pub rgb: bool,
-    /// Width and height of a tile, if it is tiled.
+    /// The width and height of a tile, if it is tiled.
     pub tile: Option<(u64, u64)>,
-    /// 2^32 - 1 where it is tiled.
+    /// RowsPerStrip; 2^32 - 1 if it is tiled.
     pub rows_per_strip: u64,
 }
 
-// ---- of a directory
+// ---- directories
 
-/// The directory is tiled.
+/// Whether the directory is tiled.
 pub fn is_tiled(form: Form, bytes: &[u8], at: u64) -> bool
     ensures value { result ≡ spec.is_tiled form bytes.now at }
 {
     has_field(form, bytes, at, TILE_WIDTH)
 }
 
-/// Width and height of its tiles, if it is tiled.
+/// The width and height of its tiles, if it is tiled.
 fn tile_of(form: Form, bytes: &[u8], at: u64) -> Option<(u64, u64)>
     ensures { result ≡ spec.tile_of form bytes.now at }
 {
@@ -57,7 +57,7 @@ fn tile_of(form: Form, bytes: &[u8], at: u64) -> Option<(u64, u64)>
     }
 }
 
-/// The field that holds the offsets of its blocks.
+/// The tag of the field with the offsets of its blocks.
 pub fn offsets_tag(form: Form, bytes: &[u8], at: u64) -> u32
     ensures { result ≡ spec.offsets_tag form bytes.now at }
 {
@@ -68,7 +68,7 @@ pub fn offsets_tag(form: Form, bytes: &[u8], at: u64) -> u32
     }
 }
 
-/// The rows of a strip: all rows where the file says more.
+/// The rows per strip; all rows if the file says more.
 fn strip_rows(form: Form, bytes: &[u8], at: u64) -> u64
     ensures { result ≡ spec.strip_rows form bytes.now at }
 {
@@ -79,7 +79,7 @@ fn strip_rows(form: Form, bytes: &[u8], at: u64) -> u64
     }
 }
 
-/// Its planes.
+/// The number of its planes.
 fn planes_at(form: Form, bytes: &[u8], at: u64) -> u64
     ensures { result ≡ spec.planes_at form bytes.now at }
 {
@@ -90,7 +90,7 @@ fn planes_at(form: Form, bytes: &[u8], at: u64) -> u64
     }
 }
 
-/// What is known of the directory at a place without its offsets.
+/// The shape of the directory at a place.
 pub fn shape_at(form: Form, bytes: &[u8], at: u64) -> PlainShape
     ensures value { shown_shape result ≡ spec.shape_at form bytes.now at }
 {
@@ -107,9 +107,9 @@ pub fn shape_at(form: Form, bytes: &[u8], at: u64) -> PlainShape
     }
 }
 
-// ---- of its blocks
+// ---- blocks
 
-/// As many as it takes to cover a side by pieces of that many.
+/// The number of pieces of this length that cover a side.
 pub fn pieces_over(side: u64, piece: u64) -> u64
     requires side { IsSide side }
     requires piece { 1 ≤ piece }
@@ -121,7 +121,7 @@ pub fn pieces_over(side: u64, piece: u64) -> u64
     pieces as u64
 }
 
-/// How many blocks a level has.
+/// The number of blocks of a level.
 pub fn blocks_of(shape: PlainShape) -> u64
     requires { IsLevelShape (shown_shape shape) }
     ensures value { result ≡ spec.blocks_of (shown_shape shape) }
@@ -129,7 +129,7 @@ pub fn blocks_of(shape: PlainShape) -> u64
     shape.planes * plane_blocks(shape)
 }
 
-/// How many blocks a plane has.
+/// The number of blocks of a plane.
 pub fn plane_blocks(shape: PlainShape) -> u64
     requires { IsLevelShape (shown_shape shape) }
     ensures value { result ≡ spec.plane_blocks (shown_shape shape) }
@@ -143,7 +143,7 @@ pub fn plane_blocks(shape: PlainShape) -> u64
     }
 }
 
-/// How many blocks the directory at a place has.
+/// The number of blocks of the directory at a place.
 pub fn blocks_at(form: Form, bytes: &[u8], at: u64) -> u64
     requires { IsLevelShape (spec.shape_at form bytes.now at) }
     ensures { result ≡ spec.blocks_of (spec.shape_at form bytes.now at) }
@@ -159,7 +159,7 @@ pub fn sample_bytes(depth: u64) -> u32
     if depth == 8 { 1 } else { 2 }
 }
 
-/// How many samples of a texel stand side by side.
+/// The number of samples of a texel that are stored together.
 pub fn samples_aside(shape: PlainShape) -> u64
     requires { IsLevelShape (shown_shape shape) }
     ensures value { result ≡ spec.samples_aside (shown_shape shape) }
@@ -168,7 +168,7 @@ pub fn samples_aside(shape: PlainShape) -> u64
     if shape.planes == 1 { shape.channels } else { 1 }
 }
 
-/// The bytes of a texel.
+/// The bytes of those samples of a texel that are stored together.
 fn texel_bytes(shape: PlainShape) -> u64
     requires { IsLevelShape (shown_shape shape) }
     ensures value { result ≡ spec.texel_bytes (shown_shape shape) }
@@ -177,7 +177,7 @@ fn texel_bytes(shape: PlainShape) -> u64
     samples_aside(shape) * u64::from(sample_bytes(shape.depth))
 }
 
-/// The rows of strip i, of which the last of a plane may have fewer.
+/// The rows of strip i. The last strip of a plane may have fewer.
 fn rows_left(shape: PlainShape, i: u64) -> u64
     requires { IsLevelShape (shown_shape shape) }
     ensures value { result ≡ min shape.rows_per_strip (shape.height
@@ -190,7 +190,7 @@ fn rows_left(shape: PlainShape, i: u64) -> u64
     u128::from(shape.rows_per_strip).min(left) as u64
 }
 
-/// How many texels block i has.
+/// The number of texels of block i.
 fn block_texels(shape: PlainShape, i: u64) -> u64
     requires { IsLevelShape (shown_shape shape) }
     ensures value { result
@@ -211,30 +211,30 @@ pub fn block_bytes(shape: PlainShape, i: u64) -> u64
     block_texels(shape, i) * texel_bytes(shape)
 }
 
-// ---- beside another level
+// ---- two levels
 
-/// Half of a side, rounded down, and 1 at least.
+/// Half of a side, rounded down, and at least 1.
 fn halved(side: u64) -> u64
     ensures { result ≡ level.halved side }
 {
     (side / 2).max(1)
 }
 
-/// A level of one texel.
+/// Whether the level has a single texel.
 pub fn is_single(shape: PlainShape) -> bool
     ensures { result ≡ level.is_single (shown_shape shape) }
 {
     shape.width == 1 && shape.height == 1
 }
 
-/// The second is half the size of the first.
+/// Whether the second level has half the size of the first.
 pub fn has_half_size(last: PlainShape, next: PlainShape) -> bool
     ensures { result ≡ level.has_half_size (shown_shape last) (shown_shape next) }
 {
     next.width == halved(last.width) && next.height == halved(last.height)
 }
 
-/// Both have the same samples.
+/// Whether both levels have the same channels and depth.
 pub fn has_samples_of(first: PlainShape, next: PlainShape) -> bool
     ensures { result ≡ level.has_samples_of (shown_shape first) (shown_shape next) }
 {

@@ -1,4 +1,4 @@
-//! Which sample stands in a level at a texel, and which value it is answered as.
+//! Finds the sample of a texel, and its 16-bit value.
 
 ghost use Rattle.std.specs.Prelude.{◌≡◌, ◌≤◌, ◌<◌, ◌+◌, ◌*◌, ◌%◌, ◌^◌, None, slice_index};
 ghost use Rattle.tiff_format.specs.Block as block;
@@ -41,7 +41,7 @@ fn block_of_sample(shape: PlainShape, x: u32, y: u32, c: u32) -> u128
     u128::from(plane) * u128::from(plane_blocks(shape)) + u128::from(block_index(shape, x, y))
 }
 
-/// A place in rows of a width.
+/// The place of a column in a row, if rows have this width.
 fn place_in_rows(row: u32, width: u64, column: u32) -> u64
     requires { width ≤ max_side }
     ensures value { result ≡ row * width + column }
@@ -50,7 +50,7 @@ fn place_in_rows(row: u32, width: u64, column: u32) -> u64
     u64::from(row) * width + u64::from(column)
 }
 
-/// What is left of a number over another.
+/// The remainder of a number divided by another.
 fn remainder(a: u32, b: u64) -> u32
     requires { 1 ≤ b }
     ensures { result ≡ a % b }
@@ -76,7 +76,7 @@ fn texels_before(shape: PlainShape, x: u32, y: u32) -> u64
     }
 }
 
-/// The place in its block of the sample of channel c of texel (x, y).
+/// The place, in its block, of the sample of channel c of texel (x, y).
 fn place_in_block(shape: PlainShape, x: u32, y: u32, c: u32) -> u128
     requires { IsLevelShape (shown_shape shape) }
     ensures value { result ≡ (spec.texels_before (shown_shape shape) x y
@@ -101,7 +101,7 @@ fn greatest_sample(depth: u64) -> u32
     }
 }
 
-/// What is read where a number is stored: the white rule.
+/// The sample for a stored number: inverted if the level is WhiteIsZero.
 fn unwhite(is_white: bool, depth: u64, stored: u32) -> u32
     requires depth { IsDepth depth }
     requires stored { stored < 2 ^ depth }
@@ -115,7 +115,7 @@ fn unwhite(is_white: bool, depth: u64, stored: u32) -> u32
     }
 }
 
-/// What is known of stored level l of a good file without its offsets.
+/// The shape of stored level l of a valid file.
 #[tactic(auto, unfolding(tiff_format::specs::Level::directory_level, tiff_format::specs::Block::level_at))]
 fn stored_shape(bytes: &[u8], l: u32) -> PlainShape
     requires good { fault.first_fault bytes.now ≡ None }
@@ -136,7 +136,7 @@ fn stored_offset(bytes: &[u8], l: u32, i: u128) -> u64
     offset_of(form_of(bytes), bytes, level_place(bytes, l), i)
 }
 
-/// The place of the sample of channel c of texel (x, y) of stored level l of a good file.
+/// The place of the sample of channel c of texel (x, y) in stored level l of a valid file.
 #[tactic(auto, unfolding(tiff_format::specs::Texel::sample_place))]
 fn sample_place(bytes: &[u8], l: u32, x: u32, y: u32, c: u32) -> u128
     requires good { fault.first_fault bytes.now ≡ None }
@@ -149,7 +149,7 @@ fn sample_place(bytes: &[u8], l: u32, x: u32, y: u32, c: u32) -> u128
     u128::from(offset) + place_in_block(shape, x, y, c)
 }
 
-/// The sample that is stored at a place.
+/// The sample stored at a place.
 fn number_stored(big: bool, depth: u64, bytes: &[u8], place: u128) -> u32
     requires depth { IsDepth depth }
     requires place { place < 2 ^ 110 }
@@ -159,7 +159,7 @@ fn number_stored(big: bool, depth: u64, bytes: &[u8], place: u128) -> u32
     number_at(big, sample_bytes(depth), bytes, place) as u32
 }
 
-/// The sample of channel c of texel (x, y) of stored level l of a good file.
+/// The sample of channel c of texel (x, y) in stored level l of a valid file.
 #[tactic(auto, unfolding(tiff_format::specs::Texel::sample_in))]
 pub fn sample_at(bytes: &[u8], l: u32, x: u32, y: u32, c: u32) -> u32
     requires good { fault.first_fault bytes.now ≡ None }
@@ -173,7 +173,7 @@ pub fn sample_at(bytes: &[u8], l: u32, x: u32, y: u32, c: u32) -> u32
     unwhite(shape.white && c == 0, shape.depth, stored)
 }
 
-/// The value of a sample: it is 16-bit, and an 8-bit sample v counts as 257 * v.
+/// The 16-bit value of a sample. An 8-bit sample v becomes 257 * v.
 fn value_of(depth: u64, sample: u32) -> u16
     requires depth { IsDepth depth }
     requires sample { sample < 2 ^ depth }
@@ -186,7 +186,7 @@ fn value_of(depth: u64, sample: u32) -> u16
     }
 }
 
-/// The same as a 16-bit value.
+/// The 16-bit value of channel c of texel (x, y) in stored level l of a valid file.
 pub fn value_at(bytes: &[u8], l: u32, x: u32, y: u32, c: u32) -> u16
     requires good { fault.first_fault bytes.now ≡ None }
     requires stored { l < level.stored_levels bytes.now }

@@ -23,7 +23,7 @@ piece_below side piece y some below =
     omega (arith, div-mul-le_self y piece) in
     omega (arith, le-div (y / piece + 1) (side + piece - 1) piece some more)
 
--- and so it is the strip of its number, also where the planes before have as many
+-- a row lies in the strip with its number, also if the planes before it have as many strips
 strip_of : (side piece y : ℕ) → 1 ≤ piece → y < side
     → y / piece % pieces_over side piece ≡ y / piece
 strip_of side piece y some below = mod-eq_of_lt (piece_below side piece y some below)
@@ -44,7 +44,7 @@ block_below shape (Some tile) x y sides some across down =
 
 -- ---- they lie in the block
 
--- n texels of a row of a block, from column x of it on, in a block of so many rows
+-- n texels of a row of a block, from its column x on, fit in a block with this many rows
 row_fits : (width row rows unit x n : ℕ) → row < rows → x + n ≤ width
     → (row * width + x + n) * unit ≤ rows * width * unit
 row_fits width row rows unit x n below fits =
@@ -130,7 +130,7 @@ module _ (level : Level) (piece : Piece) (is : IsSound level) (across : piece.x 
     );
   }
 
-  -- no byte of it stands past 2^64
+  -- no byte of the piece lies past 2^64
   pub ends_below : piece.at + piece.n * texel_bytes level.shape < 2 ^ 64
   ends_below =
       omega (arith, lies_in_block.to, is.ends (block_of level.shape piece) lies_in_block.is)

@@ -4,7 +4,7 @@ use Rattle.std.proofs.Math.Nat.{mul-le-mul_left, mul-le-mul_right, lt_of_mul-lt-
 use Rattle.std.proofs.lemmas.Nat.{mod_below, div-add-mod', div_below, le-div}
 use Rattle.tile_layout.specs.CutSide.{factor_of}
 
--- x / d is x * (n / d + 1) / n, where x * d is below n
+-- x / d equals x * (n / d + 1) / n, if x * d is below n
 module _ (x d n : ℕ) (some : 1 ≤ d) (low : x * d < n) where
   -- 1 / d with the point at n, rounded up
   abbrev factor : ℕ
@@ -39,7 +39,7 @@ module _ (x d n : ℕ) (some : 1 ≤ d) (low : x * d < n) where
   same_quotient =
       omega (arith, at_most, le-div (x / d) (x * factor) n (omega (arith, low)) at_least)
 
--- so it is at a side's factor
+-- multiplying by a side's factor gives the exact quotient
 pub divides_exactly : (place cell : ℕ) → 1 ≤ cell → cell ≤ 131072 → place < 131072
     → place * factor_of cell / 2 ^ 40 ≡ place / cell
 divides_exactly place cell some high below =

@@ -8,13 +8,13 @@ use Rattle.tile_layout.specs.CutSide.{IsCellSide}
 use Rattle.tile_layout.specs.Halving.{HalvesWithinCells}
 use Rattle.tile_layout.specs.Texel.{clamped}
 
--- two places of which the first is even are in one piece of an even length
+-- two neighbouring places, the first one even, are in one piece of even length
 even_piece : (half x i : ℕ) → i ≤ 1 → (2 * x + i) / (2 * half) ≡ x / half
 even_piece half x i low =
     let down : (2 * x + i) / 2 ≡ x = omega arith in
     sym (div-div-eq-div-mul (2 * x + i) 2 half) ∙ ap (λ n. n / half) down
 
--- and so they are where the piece covers the side
+-- two places are in one piece if it covers the side
 in_first : (size cell place : ℕ) → 1 ≤ cell → size ≤ cell → clamped size place / cell ≡ 0
 in_first size cell place some covers = div-eq_of_lt (omega arith)
 

@@ -1,4 +1,4 @@
--- Where the texels of a row stand.
+-- Where the texels of a row are in the file.
 use Rattle.std.proofs.Common.{◌≡◌, ℕ, ◌+◌, ◌*◌, ◌/◌, ◌%◌, ◌<◌, Option, Some, None, get_or, refl}
 use Rattle.std.proofs.Common.{ap, ◌∙◌, arith}
 use Rattle.std.proofs.lemmas.Nat.{div-mul-add, mod-mul-add, div-add-mod'}
@@ -54,7 +54,7 @@ pub bytes_by : (shape : LevelShape) → shape.planes ≡ 1
     → texel_bytes shape ≡ shape.channels * sample_bytes shape.depth
 bytes_by shape one = rw one refl
 
--- and of the first sample of a texel
+-- the place of the first sample of a texel
 pub place_is : (level : Level) (x y : ℕ) → level.shape.planes ≡ 1 → sample_place level x y 0
     ≡ get_or level.offsets (block_index level.shape x y) 0
     + texels_before level.shape x y * texel_bytes level.shape

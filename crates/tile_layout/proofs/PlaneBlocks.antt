@@ -20,7 +20,7 @@ module _ (level : Level) (p : ℕ) where
   abbrev blocks : ℕ
   blocks = plane_blocks level.shape
 
-  -- offset i of the plane is that of the block behind the planes before it
+  -- offset i of the plane belongs to block i after the blocks of the planes before it
   pub plane_offset : (i : ℕ) → get_or (plane_level level p).offsets i 0
       ≡ get_or level.offsets (p * blocks + i) 0
   plane_offset i = get_or-drop (p * blocks) level.offsets i 0
@@ -38,31 +38,31 @@ module _ (level : Level) (p : ℕ) where
       ≡ block_bytes level.shape (p * blocks + i)
   plane_block i = ap (λ n. n * texel_bytes level.shape) (same_texels level.shape.tile i refl)
 
-  -- and is one of the level's
+  -- each block of the plane is one of the level
   pub block_there : (i : ℕ) → p < level.shape.planes → i < blocks
       → p * blocks + i < blocks_of level.shape
   block_there i is below = omega (arith, mul-add-lt p blocks i level.shape.planes is below)
 
-  -- so it lies in each file that holds the blocks of the level
+  -- the plane's blocks lie in every file that contains the blocks of the level
   pub plane_held : (bytes : List ℕ) → p < level.shape.planes → HoldsBlocks bytes level
       → HoldsBlocks bytes (plane_level level p)
   plane_held bytes is holds = λ i below.
       let lt : i < blocks = omega (arith, below) in
       rw (plane_offset i, plane_block i) (holds (p * blocks + i) (block_there i is lt))
 
--- its rows are those of the level
+-- whole rows of a plane are whole rows of the level
 pub each_of : (shape : LevelShape) (p : ℕ) (rect : Rect) → HasWholeRows shape rect
     → HasWholeRows (plane_shape shape p) rect
 each_of shape p rect each = record { left = each.left; width = each.width }
 
 -- ---- its samples
 
--- the blocks of the first plane stand first
+-- the blocks of the first plane come first
 none_before : (level : Level) (x y : ℕ)
     → 0 * plane_blocks level.shape + block_index level.shape x y ≡ block_index level.shape x y
 none_before level x y = omega arith
 
--- of the one plane of a level
+-- a sample's place in a level with one plane
 first_place : (level : Level) (x y c : ℕ) → eqb level.shape.planes 1 ≡ true
     → sample_place (plane_level level 0) x y c ≡ sample_place level x y c
 unfolding sample_place
@@ -73,7 +73,7 @@ first_place level x y c is =
     (ap (λ (m : ℕ). get_or (plane_level level 0).offsets m 0) (none_before level x y)
     ∙ plane_offset level 0 block))
 
--- and of one of several, each with one channel
+-- a sample's place in a level with several planes, each with one channel
 later_place : (level : Level) (p x y : ℕ) → eqb level.shape.planes 1 ≡ false
     → sample_place (plane_level level p) x y 0 ≡ sample_place level x y p
 unfolding sample_place
@@ -100,7 +100,7 @@ place_by false level p x y c is there some =
     (λ (d : ℕ). sample_place (plane_level level p) x y d ≡ sample_place level x y (p + d)) zero
     (later_place level p x y is ∙ ap (λ (n : ℕ). sample_place level x y n) own)
 
--- they stand where those of the plane's channels do
+-- the plane's samples are where those of its channels are
 pub plane_place : (level : Level) (p x y c : ℕ) → p < level.shape.planes
     → c < samples_aside level.shape
     → sample_place (plane_level level p) x y c ≡ sample_place level x y (p + c)
@@ -128,7 +128,7 @@ either_by : (one : Bool) (planes channels p c : ℕ) → eqb planes 1 ≡ one �
 either_by true planes channels p c is there some = inl (omega (arith, eqb-true planes 1 is))
 either_by false planes channels p c is there some = inr (omega arith)
 
--- and are those of these channels
+-- the plane's samples are those of its channels
 pub plane_sample : (big : Bool) (bytes : List ℕ) (level : Level) (p x y c : ℕ)
     → p < level.shape.planes → c < samples_aside level.shape
     → sample_in big bytes (plane_level level p) x y c ≡ sample_in big bytes level x y (p + c)

@@ -24,7 +24,7 @@ find_within test a (suc n) = elim (cases_Bool (test a)) [
   | inr fails ↦ rw fails (omega (arith, find_within test (a + 1) n))
 ]
 
--- it is found where it is the first that passes
+-- the first number that passes a test is found
 find_first : (test : ℕ → Bool) (a n k : ℕ) → k < n
     → ((j : ℕ) → j < k → test (a + j) ≡ false) → test (a + k) ≡ true
     → find test (range_with_len a n) ≡ Some (a + k)

@@ -1,4 +1,4 @@
--- The texels of stored levels are the samples that stand in the file.
+-- The texels of stored levels are the samples in the file.
 use Rattle.std.proofs.Common.{◌≡◌, ℕ, zero, suc, ◌<◌, List, refl, sym, subst}
 use Rattle.std.proofs.lemmas.Bool.{lt-ltb}
 use Rattle.tiff_format.specs.Block.{Level}

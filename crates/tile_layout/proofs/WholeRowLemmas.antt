@@ -1,4 +1,4 @@
--- The texels of whole rows that follow each other stand side by side.
+-- The texels of whole rows that follow each other are one run.
 use Rattle.std.proofs.Common.{◌≡◌, ℕ, zero, suc, ◌+◌, ◌-◌, ◌*◌, ◌/◌, ◌%◌, ◌^◌, ◌<◌, ◌≤◌}
 use Rattle.std.proofs.Common.{Option, Some, None, refl, ap, ◌∙◌, arith}
 use Rattle.std.proofs.lemmas.Nat.{div-add-mod', mod-mul-add, mod_below}
@@ -45,14 +45,14 @@ place_down level x y j one down =
 
 -- ---- the first row of a strip or tile
 
--- the next behind row y
+-- the first row of the next block after row y
 pub next_block : (y rows : ℕ) → 1 ≤ rows → (y + (rows - y % rows)) % rows ≡ 0
 next_block y rows some =
     let at : y + (rows - y % rows) ≡ (y / rows + 1) * rows + 0 =
     omega (arith, div-add-mod' y rows, mod_below y rows some) in
     rw at (mod-mul-add (y / rows + 1) rows 0 some)
 
--- and the next behind such a row
+-- the first row of the next block after such a row
 pub block_behind : (y rows : ℕ) → 1 ≤ rows → y % rows ≡ 0 → (y + rows) % rows ≡ 0
 block_behind y rows some first =
     let at : y + rows ≡ (y / rows + 1) * rows + 0 = omega (arith, div-add-mod' y rows, first) in
@@ -66,7 +66,7 @@ pub wide_by : (shape : LevelShape) (tile : Option (ℕ × ℕ)) → HasTileSides
 wide_by shape None sides wide = wide
 wide_by shape (Some tile) sides wide = let is = sides tile refl in omega (arith, is.0.low)
 
--- and is as long as its rest from its start on
+-- a whole row is as long as its rest from its start on
 whole_rest : (shape : LevelShape) (tile : Option (ℕ × ℕ)) (x w : ℕ)
     → x % block_width_by shape tile ≡ 0 → w ≡ block_width_by shape tile → x + w ≤ shape.width
     → w ≤ row_rest_by shape tile x
@@ -76,7 +76,7 @@ whole_rest shape (Some tile) x w left wide on = omega (arith, left)
 module _ (level : Level) (rect : Rect) (is : IsSound level)
     (on : LiesOn level.shape.width level.shape.height rect)
     (each : HasWholeRows level.shape rect) where
-  -- the row behind row j follows, where that is row k of the rows of a block from row `top` on
+  -- the row after row j follows it, if row j is row k of a block's rows from row `top` on
   pub follows_in_block : (top k j : ℕ) → rect.y + j ≡ top + k
       → top % block_rows level.shape + (k + 1) < block_rows level.shape → RowFollows level rect j
   follows_in_block top k j here down =

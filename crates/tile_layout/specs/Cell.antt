@@ -1,7 +1,7 @@
--- How is a level cut into cells, and which cell holds a texel? (docs/FORMAT.md, "Cells")
--- Cells are numbered row by row from 0, and end with the level.
--- The numbers are those of what is kept of the file, and those of bytes are those of what is kept
--- of them.
+-- How is a level divided into cells, and which cell holds a texel? (docs/FORMAT.md, "Cells")
+--
+-- Cells are numbered row by row from 0, and end with the level. Definitions that end in `_in` take
+-- what is kept of a file; those that end in `_of` take the file's bytes.
 use Rattle.std.specs.Prelude.{ℕ, ◌+◌, ◌-◌, ◌*◌, ◌/◌, ◌%◌, ◌<◌, ◌≤◌, ◌==◌, min, nat_lt, List}
 use Rattle.std.specs.Prelude.{Option, Some, None, if◌then◌else◌}
 use Rattle.tiff_format.specs.Block.{LevelShape, pieces_over}
@@ -10,35 +10,35 @@ use Rattle.tiff_format.specs.declared.rect.Rect.{Rect}
 use Rattle.tile_layout.specs.Kept.{Kept, kept_of, stored_count, level_in}
 use Rattle.tile_layout.specs.Level.{width_in, height_in, level_count_in}
 
--- A level that is cut: its sides, and those of its cells before they are clipped to it.
+-- A divided level: its sides, and those of its cells before they are clipped to the level.
 pub record CutLevel : Type 0 where
   pub width : ℕ
   pub height : ℕ
   pub cell_width : ℕ
   pub cell_height : ℕ
 
--- how many cells there are across
+-- the number of cells across
 abbrev pub cells_across : CutLevel → ℕ
 cells_across level = pieces_over level.width level.cell_width
 
--- and down
+-- the number of cells down
 abbrev pub cells_down : CutLevel → ℕ
 cells_down level = pieces_over level.height level.cell_height
 
--- and in all
+-- the number of cells
 abbrev pub cell_count : CutLevel → ℕ
 cell_count level = cells_across level * cells_down level
 
--- the number of the cell that holds texel (x, y)
+-- the index of the cell that holds texel (x, y)
 unfoldable pub cell_index : CutLevel → ℕ → ℕ → ℕ
 cell_index level x y =
     y / level.cell_height * cells_across level + x / level.cell_width
 
--- the number of the cell in a column and a row of cells
+-- the index of the cell in this column and row of cells
 abbrev pub number_of : CutLevel → ℕ → ℕ → ℕ
 number_of level column row = row * cells_across level + column
 
--- n places from one on, clipped to a side
+-- the length of n places from a place on, clipped to a side
 abbrev pub clipped : ℕ → ℕ → ℕ → ℕ
 clipped side from n = min n (side - from)
 
@@ -46,7 +46,7 @@ clipped side from n = min n (side - from)
 abbrev pub cell_left : CutLevel → ℕ → ℕ
 cell_left level i = i % cells_across level * level.cell_width
 
--- and its first row
+-- the first row of cell i
 abbrev pub cell_top : CutLevel → ℕ → ℕ
 cell_top level i = i / cells_across level * level.cell_height
 
@@ -59,7 +59,7 @@ cell_rect level i = record {
   h = clipped level.height (cell_top level i) level.cell_height;
 }
 
--- the texel is in the rectangle
+-- the texel lies in the rectangle
 pub record HoldsTexel (rect : Rect) (x y : ℕ) : Type 0 where
   pub left : rect.x ≤ x
   pub right : x < rect.x + rect.w
@@ -68,11 +68,11 @@ pub record HoldsTexel (rect : Rect) (x y : ℕ) : Type 0 where
 
 -- ---- the levels of a file
 
--- the side of the cells of a level of strips: that of the cut, or its own where that is 0
+-- the side of the cells of a stripped level: that of the cut, or the level's own if that is 0
 abbrev pub strip_cell_side : Cut → ℕ → ℕ
 strip_cell_side cut own = if cut.autotile == 0 then own else cut.autotile
 
--- width and height of the cells of a stored level: those of its tiles, where it has them
+-- the width of the cells of a stored level: that of its tiles, if it has tiles
 abbrev pub cell_width_by : Cut → LevelShape → Option (ℕ × ℕ) → ℕ
 cell_width_by cut shape None = strip_cell_side cut shape.width
 cell_width_by cut shape (Some tile) = tile.0
@@ -81,11 +81,11 @@ abbrev pub cell_height_by : Cut → LevelShape → Option (ℕ × ℕ) → ℕ
 cell_height_by cut shape None = strip_cell_side cut shape.height
 cell_height_by cut shape (Some tile) = tile.1
 
--- the stored level by which a level is cut: its own, and level 0 where it is generated
+-- the stored level that determines how a level is divided: itself, or level 0 for a generated level
 abbrev pub pattern_shape : Kept → ℕ → LevelShape
 pattern_shape file l = (level_in file (if nat_lt l (stored_count file) then l else 0)).shape
 
--- how level l is cut
+-- how level l is divided
 abbrev pub cut_level_in : Kept → Cut → ℕ → CutLevel
 cut_level_in file cut l = record {
   width = width_in file l;
@@ -94,27 +94,27 @@ cut_level_in file cut l = record {
   cell_height = cell_height_by cut (pattern_shape file l) (pattern_shape file l).tile;
 }
 
--- how level l of a file with these bytes is cut
+-- how level l of a file with these bytes is divided
 abbrev pub cut_level_of : List ℕ → Cut → ℕ → CutLevel
 cut_level_of bytes cut l = cut_level_in (kept_of bytes) cut l
 
 -- ---- the samples of texels, and the bytes of cells
 
--- the samples of a texel, the same in each level
+-- the number of samples per texel, the same in each level
 abbrev pub channels_in : Kept → ℕ
 channels_in file = (level_in file 0).shape.channels
 
 abbrev pub channels_of : List ℕ → ℕ
 channels_of bytes = channels_in (kept_of bytes)
 
--- the bits of a sample, the same in each level
+-- the bits per sample, the same in each level
 abbrev pub bit_depth_in : Kept → ℕ
 bit_depth_in file = (level_in file 0).shape.depth
 
 abbrev pub bit_depth_of : List ℕ → ℕ
 bit_depth_of bytes = bit_depth_in (kept_of bytes)
 
--- the bytes that a rectangle of texels takes in memory, with so many samples of 16 bits each
+-- the bytes of a rectangle of texels in memory, with 16 bits per sample
 abbrev pub rect_bytes : ℕ → Rect → ℕ
 rect_bytes channels rect = 2 * channels * rect.w * rect.h
 
@@ -122,12 +122,12 @@ rect_bytes channels rect = 2 * channels * rect.w * rect.h
 abbrev pub max_cell_bytes : ℕ
 max_cell_bytes = 33554432
 
--- no cell of the level takes more
+-- no cell of the level takes more bytes than a cell may
 abbrev pub CellsFitOn : ℕ → CutLevel → Type 0
 CellsFitOn channels level =
     (i : ℕ) → i < cell_count level → rect_bytes channels (cell_rect level i) ≤ max_cell_bytes
 
--- no cell of any level that the file has under the cut takes more
+-- no cell of any level under the cut takes more bytes than a cell may
 abbrev pub CellsFit : Kept → Cut → Type 0
 CellsFit file cut = (l : ℕ) → l < level_count_in file cut.automip
     → CellsFitOn (channels_in file) (cut_level_in file cut l)

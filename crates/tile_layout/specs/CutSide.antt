@@ -1,10 +1,10 @@
--- What is known of a side that is cut into cells?
+-- What is true of a side that is divided into cells?
 use Rattle.std.specs.Prelude.{◌≡◌, ℕ, ◌+◌, ◌/◌, ◌%◌, ◌^◌, ◌<◌, ◌≤◌}
 use Rattle.tiff_format.specs.Block.{pieces_over}
 use Rattle.tiff_format.specs.Limits.{max_side, tile_step}
 use Rattle.tiff_format.specs.Facts.{IsSide}
 
--- the most cells of a side
+-- the most cells along a side
 abbrev pub max_cells_aside : ℕ
 max_cells_aside = 8192
 
@@ -12,20 +12,21 @@ max_cells_aside = 8192
 abbrev pub max_cells : ℕ
 max_cells = 67108864
 
--- a cell is as long as a tile may be, or covers the side, and its length is even, or it covers it
+-- a cell is at most as long as a tile may be, or covers the side; its length is even, or it covers
+-- the side
 pub record IsCellSide (size cell : ℕ) : Type 0 where
   pub some : 1 ≤ cell
   pub high : cell ≤ max_side
   pub long : cell < tile_step → size ≤ cell
   pub even : cell < size → cell % 2 ≡ 0
 
--- what a place is multiplied by in place of a division by a length: 1 / cell, rounded up, with 40
--- bits behind the point
+-- the number by which a place is multiplied instead of being divided by a length: 1 / length,
+-- rounded up, with 40 binary digits after the point
 abbrev pub factor_of : ℕ → ℕ
 factor_of cell = 2 ^ 40 / cell + 1
 
--- the side is that of a level, so many cells of that length cover it, and its factor is that of the
--- length
+-- the side is that of a level, this many cells of this length cover it, and the factor belongs to
+-- the length
 pub record IsCutSide (size cell cells factor : ℕ) : Type 0 where
   pub side : IsSide size
   pub piece : IsCellSide size cell

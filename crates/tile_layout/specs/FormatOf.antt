@@ -3,7 +3,7 @@ use Rattle.std.specs.Prelude.{◌≡◌, Bool, if◌then◌else◌}
 use Rattle.tiff_format.specs.Block.{LevelShape}
 use Rattle.tile_layout.specs.declared.texel_format.TexelFormat.{TexelFormat}
 
--- the format is that of a plane of this shape, taken alone, in a file of this byte order
+-- the format belongs to a plane of this shape in a file with this byte order
 pub record IsFormatOf (big : Bool) (shape : LevelShape) (format : TexelFormat) : Type 0 where
   pub one : shape.planes ≡ 1
   pub depth : format.depth ≡ shape.depth

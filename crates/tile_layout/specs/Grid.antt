@@ -1,8 +1,8 @@
--- What does a grid show of its level?
+-- How do contracts see a grid?
 use Rattle.tile_layout.specs.declared.grid.Grid.{Grid}
 use Rattle.tile_layout.specs.Cell.{CutLevel}
 
--- the level as plain data
+-- the divided level as plain data
 abbrev pub shown_grid : Grid → CutLevel
 shown_grid grid = record {
   width = grid.across.size;

@@ -1,4 +1,4 @@
--- What is kept of a file?
+-- What does the cache keep of a file?
 use Rattle.std.specs.Prelude.{◌≡◌, ℕ, Bool, false, List, [], length, map, slice_index_or, None}
 use Rattle.tiff_format.specs.declared.dirs.Dirs.{Dirs}
 use Rattle.tiff_format.specs.Bytes.{is_big}
@@ -6,7 +6,7 @@ use Rattle.tiff_format.specs.Block.{LevelShape, Level}
 use Rattle.tiff_format.specs.Level.{levels_of}
 use Rattle.tiff_format.specs.Shown.{shown}
 
--- its byte order, and its stored levels, the largest first
+-- the byte order, and the stored levels, the largest first
 pub record Kept : Type 0 where
   pub big : Bool
   pub levels : List Level
@@ -15,7 +15,7 @@ pub record Kept : Type 0 where
 abbrev pub kept_of : List ℕ → Kept
 kept_of bytes = record { big = is_big bytes; levels = levels_of bytes }
 
--- what is kept of the directories that were read
+-- what is kept of directories that were read
 abbrev pub kept_in : Dirs → Kept
 kept_in dirs = record { big = dirs.big; levels = map shown dirs.levels.items }
 
@@ -24,11 +24,11 @@ pub record AreDirsOf (bytes : List ℕ) (dirs : Dirs) : Type 0 where
   pub order : dirs.big ≡ is_big bytes
   pub levels : map shown dirs.levels.items ≡ levels_of bytes
 
--- how many levels are stored
+-- the number of stored levels
 abbrev pub stored_count : Kept → ℕ
 stored_count file = length file.levels
 
--- the shape of no level
+-- a shape that stands for a level that does not exist
 abbrev pub no_shape : LevelShape
 no_shape = record {
   width = 0;
@@ -42,7 +42,7 @@ no_shape = record {
   rows_per_strip = 0;
 }
 
--- stands where a level is asked for that is not stored
+-- a level that stands for one that is not stored
 abbrev pub no_level : Level
 no_level = record { shape = no_shape; offsets = [] }
 

@@ -1,6 +1,7 @@
 -- Which cell does a key name?
--- A key is a number of 64 bits. The highest 20 are the generation, the next 12 the file, the next 5
--- the level, and the lowest 27 the cell's number in its level.
+--
+-- A key is a 64-bit number: 20 bits for the generation, 12 for the file, 5 for the level, and the
+-- lowest 27 for the cell's index in its level.
 use Rattle.std.specs.Prelude.{◌≡◌, ℕ, ◌+◌, ◌*◌, ◌/◌, ◌%◌, ◌^◌, ◌<◌, ◌≤◌}
 
 -- the bits of the generation
@@ -15,7 +16,7 @@ file_bits = 12
 abbrev pub level_bits : ℕ
 level_bits = 5
 
--- the bits of the cell's number
+-- the bits of the cell's index
 abbrev pub index_bits : ℕ
 index_bits = 27
 
@@ -36,7 +37,7 @@ file_of key = key / 2 ^ (level_bits + index_bits) % 2 ^ file_bits
 unfoldable pub level_of : ℕ → ℕ
 level_of key = key / 2 ^ index_bits % 2 ^ level_bits
 
--- the cell's number in its level
+-- the index of the cell in its level
 unfoldable pub index_of : ℕ → ℕ
 index_of key = key % 2 ^ index_bits
 
@@ -48,14 +49,14 @@ pub record FitsKey (generation file level index : ℕ) : Type 0 where
   pub level_high : level < 2 ^ level_bits
   pub index_high : index < 2 ^ index_bits
 
--- these are the four numbers of the key
+-- the key has these four numbers
 pub record HasParts (generation file level index key : ℕ) : Type 0 where
   pub generation_is : generation_of key ≡ generation
   pub file_is : file_of key ≡ file
   pub level_is : level_of key ≡ level
   pub index_is : index_of key ≡ index
 
--- it is a key: its generation is not 0, and so it is not 0
+-- the number is a key: its generation is not 0, and so it is not 0
 pub record IsKey (key : ℕ) : Type 0 where
   pub low : 1 ≤ generation_of key
   pub high : generation_of key < 2 ^ generation_bits

@@ -1,6 +1,6 @@
 -- Which levels does a file have, and how large are they? (docs/FORMAT.md, "Levels")
--- The numbers are those of what is kept of the file, and those of bytes are those of what is kept
--- of them.
+--
+-- Most definitions take what is kept of a file; the last ones take the file's bytes.
 use Rattle.std.specs.Prelude.{◌≡◌, ℕ, zero, suc, ◌<◌, ◌≤◌, max, Bool, ◌==◌, ◌&&◌, nat_lt, List}
 use Rattle.std.specs.Prelude.{find, if◌then◌else◌}
 use Rattle.std.specs.Option.{option_map_or}
@@ -9,7 +9,7 @@ use Rattle.tiff_format.specs.Block.{LevelShape}
 use Rattle.tiff_format.specs.Level.{halved, max_levels}
 use Rattle.tile_layout.specs.Kept.{Kept, kept_of, stored_count, level_in}
 
--- a side of a level: its own where it is stored, else half of that of the level before
+-- a side of a level: its own if the level is stored, otherwise half of the one before
 unfoldable pub side_in : (LevelShape → ℕ) → Kept → ℕ → ℕ
 side_in side file zero = side (level_in file 0).shape
 side_in side file (suc l) =
@@ -24,15 +24,15 @@ width_in file l = side_in (λ shape. shape.width) file l
 abbrev pub height_in : Kept → ℕ → ℕ
 height_in file l = side_in (λ shape. shape.height) file l
 
--- How many levels there are down to 1 by 1, the first of that size among them. Sides have a
--- greatest and halve, so there is one among as many levels as a file can store.
+-- The number of levels down to 1 by 1, counting the first of that size. Sides are limited and
+-- halve, so no more are needed than a file can store.
 unfoldable pub levels_down : Kept → ℕ
 levels_down file =
     option_map_or suc
     (find (λ l. (width_in file l == 1) && (height_in file l == 1)) (range_with_len 0 max_levels)) 0
 
--- The number of levels: a file that stores one has those down to 1 by 1 where `automip` is on,
--- every other file has those that it stores.
+-- The number of levels. A file with one stored level has those down to 1 by 1 if `automip` is on;
+-- every other file has the stored ones.
 unfoldable pub level_count_in : Kept → Bool → ℕ
 level_count_in file automip =
     if automip && (stored_count file == 1) then levels_down file else stored_count file
@@ -41,24 +41,24 @@ level_count_in file automip =
 abbrev pub HasLevel : Kept → ℕ → Type 0
 HasLevel file l = l < max (stored_count file) (levels_down file)
 
--- a number of levels
+-- a possible number of levels
 pub record IsLevelCount (n : ℕ) : Type 0 where
   pub low : 1 ≤ n
   pub high : n ≤ max_levels
 
--- each of the stored levels has this number
+-- each stored level has this number
 abbrev pub IsOfEach : Kept → (LevelShape → ℕ) → ℕ → Type 0
 IsOfEach file number n = (l : ℕ) → l < stored_count file → number (level_in file l).shape ≡ n
 
--- ---- of the bytes of a file
+-- ---- from the bytes of a file
 
--- width and height of a level
+-- the width of a level in a file with these bytes
 abbrev pub width_of : List ℕ → ℕ → ℕ
 width_of bytes l = width_in (kept_of bytes) l
 
 abbrev pub height_of : List ℕ → ℕ → ℕ
 height_of bytes l = height_in (kept_of bytes) l
 
--- the number of levels
+-- the number of levels of a file with these bytes
 abbrev pub level_count : List ℕ → Bool → ℕ
 level_count bytes automip = level_count_in (kept_of bytes) automip

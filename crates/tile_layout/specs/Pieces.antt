@@ -1,4 +1,4 @@
--- Where do the texels of a rectangle of a level stand in the file?
+-- Where are the texels of a rectangle of a level in the file?
 use Rattle.std.specs.Prelude.{◌≡◌, ℕ, ◌+◌, ◌-◌, ◌*◌, ◌%◌, ◌^◌, ◌<◌, ◌≤◌, min, List, [], ◌++◌}
 use Rattle.std.specs.Prelude.{map, slice_index, MatchOption, Option, Some, None}
 use Rattle.std.specs.List.{range_with_len, flat_map}
@@ -18,17 +18,17 @@ row_texels x y n = map (λ j. (x + j, y)) (range_with_len 0 n)
 abbrev pub rect_texels : Rect → List (ℕ × ℕ)
 rect_texels rect = flat_map (λ y. row_texels rect.x y rect.w) (range_with_len rect.y rect.h)
 
--- the rectangle lies on a level of this width and height
+-- the rectangle lies inside a level of this width and height
 pub record LiesOn (width height : ℕ) (rect : Rect) : Type 0 where
   pub across : rect.x + rect.w ≤ width
   pub down : rect.y + rect.h ≤ height
 
--- the rectangle lies on this level of the file
+-- the rectangle lies inside this level of the file
 abbrev pub LiesOnLevel : Kept → ℕ → Rect → Type 0
 LiesOnLevel file l rect = LiesOn (width_in file l) (height_in file l) rect
 
--- how many texels the row of a strip has from texel x of the level's row on, or the row of a tile:
--- the row of a strip is that of the level, the row of a tile is the tile's
+-- the number of texels from texel x of a row to the end of the row of its block: the row of a strip
+-- is that of the level, the row of a tile is the tile's
 abbrev pub row_rest_by : LevelShape → Option (ℕ × ℕ) → ℕ → ℕ
 row_rest_by shape None x = shape.width - x
 row_rest_by shape (Some tile) x = tile.0 - x % tile.0
@@ -48,9 +48,9 @@ pub record LiesInBlock (level : Level) (piece : Piece) : Type 0 where
       ≤ slice_index level.offsets (block_of level.shape piece)
       + block_bytes level.shape (block_of level.shape piece)
 
--- The level is a plane taken alone. The piece has a texel at least, and reaches as far as its row before `right` and the row of its
--- block allow. Its texels stand side by side in the file from `at` on, with their samples side by
--- side. Its bytes lie in its block, and none stands past 2^64.
+-- The level is one plane, taken alone. The piece has at least one texel, and reaches as far as
+-- `right` and the row of its block allow. Its texels follow one another in the file from `at` on.
+-- Its bytes lie in its block, and none lies past 2^64.
 pub record LiesSideBySide (level : Level) (right : ℕ) (piece : Piece) : Type 0 where
   pub some : 1 ≤ piece.n
   pub long : piece.n ≡ min (right - piece.x) (row_rest level.shape piece.x)
@@ -61,8 +61,8 @@ pub record LiesSideBySide (level : Level) (right : ℕ) (piece : Piece) : Type 0
   pub block : LiesInBlock level piece
   pub ends : piece.at + piece.n * texel_bytes level.shape < 2 ^ 64
 
--- What is left of a walk over a rectangle of a plane, taken alone as a level: the texels to come, in rows that end
--- before `right`.
+-- What is left of a walk over a rectangle of a plane: the texels to come, in rows that end before
+-- `right`.
 pub record Walk : Type 0 where
   pub level : Level
   pub right : ℕ
@@ -76,14 +76,14 @@ walk_over level rect = record {
   texels = rect_texels rect;
 }
 
--- the piece has the first texels that were left, and leaves the others
+-- the piece has the first texels that were left, and the others remain
 pub record Takes (old : Walk) (piece : Piece) (new : Walk) : Type 0 where
   pub texels : old.texels ≡ row_texels piece.x piece.y piece.n ++ new.texels
   pub lies : LiesSideBySide old.level old.right piece
   pub level : new.level ≡ old.level
   pub right : new.right ≡ old.right
 
--- none comes exactly where no texel is left, and nothing changes then
+-- there is no piece if and only if no texel is left, and then nothing changes
 abbrev pub GivesPiece : Walk → Option Piece → Walk → Type 0
 GivesPiece old result new =
     MatchOption result ((old.texels ≡ []) × (new ≡ old)) (λ piece. Takes old piece new)

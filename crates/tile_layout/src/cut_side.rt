@@ -1,21 +1,23 @@
+//! One side of a level, divided into cells.
 ghost use Rattle.std.specs.Prelude.{◌≡◌, ◌+◌, ◌*◌, ◌/◌, ◌<◌, ◌≤◌};
 ghost use Rattle.tiff_format.specs.Facts.{IsSide};
 ghost use Rattle.tile_layout.specs.Cell.{clipped};
 ghost use Rattle.tile_layout.specs.CutSide.{IsCellSide, IsCutSide};
 
-/// The bits behind the point of a factor.
+/// The number of binary digits after the point in `factor`.
 const FACTOR_BITS: u32 = 40;
 
-/// A side of a level, and the cells that it is cut into.
+/// A side of a level, and the cells that divide it.
 #[derive(Clone, Copy, Debug, PartialEq, Eq)]
 pub struct CutSide {
-    /// The texels of the side.
+    /// The length of the side, in texels.
     pub size: u32,
-    /// The texels of each cell. The last one ends with the side.
+    /// The length of each cell, in texels. The last one ends with the side.
     pub cell: u32,
-    /// How many cells cover the side.
+    /// The number of cells that cover the side.
     pub cells: u32,
-    /// Times a place of the side it gives the place's cell, with 40 bits behind the point.
+    /// 1 / `cell` as a fixed-point number with 40 binary digits, so that finding a cell needs no
+    /// division.
     pub(crate) factor: u64,
     ghost in_range: { IsCutSide size cell cells factor },
 }
@@ -35,7 +37,7 @@ impl CutSide {
         }
     }
 
-    /// The number of the cell that holds a place. It makes no division.
+    /// The index of the cell that holds a place. Costs one multiplication, no division.
     pub fn cell_of(&self, place: u32) -> u32
         requires { place < self.now.size }
         ensures value { result ≡ place / self.now.cell }
@@ -44,7 +46,7 @@ impl CutSide {
         ((u64::from(place) * self.factor) >> FACTOR_BITS) as u32
     }
 
-    /// The first place of cell k, and how many it has.
+    /// The first place of cell k, and its length.
     pub(crate) fn part(&self, k: u32) -> (u32, u32)
         requires { k < self.now.cells }
         ensures first { result.0 ≡ k * self.now.cell }

@@ -1,3 +1,4 @@
+//! A level, divided into cells.
 ghost use Rattle.std.specs.Prelude.{◌≡◌, ◌<◌, ◌≤◌, ◌↔◌, IsTrue};
 ghost use Rattle.tiff_format.specs.Facts.{IsChannelCount};
 ghost use Rattle.tile_layout.specs.Cell.{cell_count, cell_index, cell_rect, HoldsTexel};
@@ -11,15 +12,15 @@ use tiff_format::Rect;
 /// The most bytes of a cell in memory.
 pub const MAX_CELL_BYTES: u64 = 33_554_432;
 
-/// A level and the cells that it is cut into, which are numbered row by row from 0.
+/// A level and the cells that divide it, numbered row by row from 0.
 ///
-/// It is small and walks no chain of levels: what is asked for each texel is a field or a product,
-/// so it is worth keeping.
+/// It is small, and everything needed per texel is a field or a product, so it is worth keeping for
+/// each level.
 #[derive(Clone, Copy, Debug, PartialEq, Eq)]
 pub struct Grid {
     /// The width of the level and of its cells.
     pub across: CutSide,
-    /// The height of both.
+    /// The height of the level and of its cells.
     pub down: CutSide,
 }
 
@@ -38,7 +39,7 @@ impl Grid {
         self.index(self.across.cell_of(x), self.down.cell_of(y))
     }
 
-    /// The number of the cell in a column and a row of cells.
+    /// The index of the cell in this column and row of cells.
     pub fn index(&self, column: u32, row: u32) -> u32
         requires column { column < self.now.across.cells }
         requires row { row < self.now.down.cells }
@@ -49,7 +50,7 @@ impl Grid {
         row * self.across.cells + column
     }
 
-    /// Its texels.
+    /// The rectangle of the cell in this column and row of cells.
     pub fn rect(&self, column: u32, row: u32) -> Rect
         requires column { column < self.now.across.cells }
         requires row { row < self.now.down.cells }
@@ -63,18 +64,18 @@ impl Grid {
         Rect { x, y, w, h }
     }
 
-    /// No cell takes more than 33554432 bytes, with so many samples of a texel.
+    /// Whether no cell takes more than 33554432 bytes with this number of channels.
     pub fn fits(&self, channels: u32) -> bool
         requires { IsChannelCount channels }
         ensures { IsTrue result ↔ CellsFitOn channels (shown_grid self.now) }
     {
-        // the first is the largest
+        // the first cell is the largest
         let w = self.across.cell.min(self.across.size);
         let h = self.down.cell.min(self.down.size);
         2 * u64::from(channels) * u64::from(w) * u64::from(h) <= MAX_CELL_BYTES
     }
 
-    /// The texels of a cell.
+    /// The rectangle of a cell.
     pub fn cell_rect(&self, index: u32) -> Rect
         requires { index < cell_count (shown_grid self.now) }
         ensures value { result ≡ cell_rect (shown_grid self.now) index }

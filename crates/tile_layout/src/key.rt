@@ -1,25 +1,26 @@
+//! The key of a cell: a number that identifies it in the whole cache.
 ghost use Rattle.std.specs.Prelude.{◌≡◌, ℕ, ◌+◌, ◌^◌, ◌<◌, ◌≤◌};
 ghost use Rattle.tile_layout.specs.Key.{key_of, generation_of, file_of, level_of, index_of};
 ghost use Rattle.tile_layout.specs.Key.{FitsKey, HasParts, IsKey, index_bits};
 
 use std::marker::Model;
 
-/// The bits of the cell's number, of the level and of the file. The generation has the rest.
+/// The numbers of bits for the cell's index, the level and the file. The generation has the rest.
 const INDEX_BITS: u32 = 27;
 
 const LEVEL_BITS: u32 = 5;
 
 const FILE_BITS: u32 = 12;
 
-/// Where the level, the file and the generation begin.
+/// The lowest bits of the level, the file and the generation.
 const LEVEL_SHIFT: u32 = INDEX_BITS;
 
 const FILE_SHIFT: u32 = LEVEL_SHIFT + LEVEL_BITS;
 
 const GENERATION_SHIFT: u32 = FILE_SHIFT + FILE_BITS;
 
-/// A cell of a level of a generation of a file. In a clause it is its number, which is never 0 and
-/// has the four numbers as its parts.
+/// Identifies a cell: generation, file, level and index in one number. Clauses see this number,
+/// which is never 0.
 #[derive(Clone, Copy, Debug, PartialEq, Eq, Hash)]
 pub struct TileKey {
     number: u64,
@@ -39,7 +40,7 @@ impl Model for TileKey {
 }
 
 impl TileKey {
-    /// The key of a cell. No other key has these four numbers.
+    /// The key of a cell. Different cells have different keys.
     pub fn new(generation: u32, file: u32, level: u32, index: u32) -> TileKey
         requires { FitsKey generation file level index }
         ensures value { result ≡ key_of generation file level index }
@@ -54,7 +55,7 @@ impl TileKey {
         }
     }
 
-    /// The key of another cell of the level, by that of its first one.
+    /// The key of another cell of the same level. This key must be that of the level's first cell.
     pub fn with_index(&self, index: u32) -> TileKey
         requires first { index_of self.now ≡ 0 }
         requires index { index < 2 ^ index_bits }
@@ -101,7 +102,7 @@ impl TileKey {
         ((self.number >> LEVEL_SHIFT) % (1 << LEVEL_BITS)) as u32
     }
 
-    /// The cell's number in its level.
+    /// The index of the cell in its level.
     #[tactic(auto, unfolding(crate::specs::Key::index_of))]
     pub fn index(&self) -> u32
         ensures value { result ≡ index_of self.now }

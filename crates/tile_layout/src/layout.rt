@@ -1,3 +1,4 @@
+//! The levels of a file, and where their texels are.
 ghost use Rattle.std.specs.Prelude.{◌≡◌, ℕ, ◌/◌, ◌^◌, ◌<◌, ◌≤◌, ◌↔◌, max, List};
 ghost use Rattle.std.specs.Prelude.{IsTrue, IfSome, IsSome};
 ghost use Rattle.tiff_format.specs.Level.{max_levels};
@@ -28,9 +29,9 @@ use crate::texel_format::TexelFormat;
 use std::marker::Model;
 use tiff_format::{Cut, Dir, Dirs, Rect};
 
-/// The levels of a file that shows no fault, and where their texels stand in it.
+/// The levels of a valid file, and where their texels are in the file.
 ///
-/// Level 0 is the largest. Behind the stored levels each is half of the one before.
+/// Level 0 is the largest. After the stored levels, each level is half of the one before.
 #[derive(Debug, Drop)]
 pub struct Layout {
     dirs: Dirs,
@@ -45,8 +46,8 @@ impl Model for Layout {
 }
 
 impl Layout {
-    /// The layout of a file, by its directories. Over the directories of told bytes it is what is
-    /// kept of these bytes, and what each call below says of it, it says of them.
+    /// The layout of a file with these directories. For a modelled file it agrees with what
+    /// contracts derive from the file's bytes, and so do the answers of all calls below.
     pub fn of(dirs: Dirs) -> Layout
         ensures value { result ≡ kept_in dirs }
         ensures told { (bytes : List ℕ) → AreDirsOf bytes dirs → result ≡ kept_of bytes }
@@ -54,7 +55,7 @@ impl Layout {
         Layout { dirs }
     }
 
-    /// The numbers of the file stand highest byte first.
+    /// Whether the file's numbers have their highest byte first.
     pub fn big(&self) -> bool
         ensures value { result ≡ self.now.big }
     {
@@ -69,8 +70,8 @@ impl Layout {
         self.dirs.levels.len() as u32
     }
 
-    /// The number of levels: where one is stored and `automip` is on, those down to 1 by 1, else
-    /// those that are stored.
+    /// The number of levels. If only one is stored and `automip` is on, levels are generated down
+    /// to 1 by 1.
     pub fn levels(&self, cut: Cut) -> u32
         requires { IsCut cut }
         ensures value { result ≡ level_count_in self.now cut.automip }
@@ -86,7 +87,7 @@ impl Layout {
         }
     }
 
-    /// Width and height of a level.
+    /// The width and height of a level, in texels.
     pub fn size(&self, level: u32) -> (u32, u32)
         requires { HasLevel self.now level }
         ensures value { result ≡ (width_in self.now level, height_in self.now level) }
@@ -100,7 +101,7 @@ impl Layout {
         )
     }
 
-    /// The samples of a texel, the same in every level.
+    /// The number of samples per texel, the same in every level.
     pub fn channels(&self) -> u32
         ensures value { IsOfEach self.now (λ shape. shape.channels) result }
         ensures first { result ≡ channels_in self.now }
@@ -109,7 +110,7 @@ impl Layout {
         self.dirs.levels[0].channels
     }
 
-    /// The bits of a sample, the same in every level.
+    /// The bits per sample, the same in every level.
     pub fn depth(&self) -> u32
         ensures value { IsOfEach self.now (λ shape. shape.depth) result }
         ensures first { result ≡ bit_depth_in self.now }
@@ -118,7 +119,7 @@ impl Layout {
         self.dirs.levels[0].depth
     }
 
-    /// The stored level is WhiteIsZero.
+    /// Whether the stored level is WhiteIsZero.
     pub fn white(&self, level: u32) -> bool
         requires { level < stored_count self.now }
         ensures value { result ≡ (level_in self.now level).shape.white }
@@ -126,8 +127,8 @@ impl Layout {
         self.dir(level).white
     }
 
-    /// The planes of a stored level: 1 where the samples of a texel stand side by side, else one for
-    /// each channel. The levels of a file may differ in it.
+    /// The number of planes of a stored level: 1 if the samples of a texel are stored together,
+    /// otherwise one per channel. The levels of a file may differ in this.
     pub fn planes(&self, level: u32) -> u32
         requires { level < stored_count self.now }
         ensures value { result ≡ (level_in self.now level).shape.planes }
@@ -155,9 +156,9 @@ impl Layout {
         }
     }
 
-    /// How a level is cut into cells: a tiled one into its tiles, a stripped one into squares of
-    /// the cut or, where that is 0, into one cell, and a generated one as level 0 is. The four
-    /// texels from which one of the next level is made lie in one cell.
+    /// How a level is divided into cells. A tiled level has its tiles as cells. A stripped level
+    /// has squares of side `autotile`, or a single cell if that is 0. Generated levels are divided
+    /// like level 0. Each group of four texels that the next level averages lies in one cell.
     pub fn grid(&self, level: u32, cut: Cut) -> Grid
         requires level { HasLevel self.now level }
         requires cut { IsCut cut }
@@ -197,7 +198,7 @@ impl Layout {
         self.grid(level, cut).cell_at(x, y)
     }
 
-    /// The texels of a cell of a level.
+    /// The rectangle of a cell of a level.
     pub fn cell_rect(&self, level: u32, cut: Cut, index: u32) -> Rect
         requires level { HasLevel self.now level }
         requires cut { IsCut cut }
@@ -209,7 +210,7 @@ impl Layout {
         self.grid(level, cut).cell_rect(index)
     }
 
-    /// No cell of any level takes more than 33554432 bytes in memory.
+    /// Whether no cell of any level takes more than 33554432 bytes in memory.
     pub fn fits(&self, cut: Cut) -> bool
         requires { IsCut cut }
         ensures value { IsTrue result ↔ CellsFit self.now cut }
@@ -223,8 +224,8 @@ impl Layout {
         true
     }
 
-    /// The pieces of a rectangle of a stored level, row by row and in each row from left to right:
-    /// those of its first plane, which has channel 0.
+    /// The pieces of a rectangle in the first plane of a stored level, row by row, from left to
+    /// right.
     pub fn pieces(&self, level: u32, rect: Rect) -> Pieces<'_>
         requires stored { level < stored_count self.now }
         requires inside { LiesOnLevel self.now level rect }
@@ -235,7 +236,8 @@ impl Layout {
         Pieces::over(self.dir(level), 0, rect)
     }
 
-    /// The same of one of its planes, whose first channel has the plane's number.
+    /// The pieces of a rectangle in one plane of a stored level. Its first channel has the plane's
+    /// number.
     pub fn plane_pieces(&self, level: u32, rect: Rect, plane: u32) -> Pieces<'_>
         requires stored { level < stored_count self.now }
         requires inside { LiesOnLevel self.now level rect }
@@ -247,10 +249,9 @@ impl Layout {
         Pieces::over(self.dir(level), plane, rect)
     }
 
-    /// Where the texels of a rectangle of a plane of a stored level stand side by side in the file,
-    /// row behind row. They do exactly where it is whole rows of one strip or tile, or of several
-    /// that stand one directly behind the other. It looks at each strip or tile once, and at no row
-    /// of it.
+    /// Where the texels of a rectangle in one plane begin in the file, if they follow one another
+    /// row after row. That is so if and only if it is whole rows of one strip or tile, or of
+    /// several that follow one another directly. Looks at each strip or tile once, not at each row.
     pub fn whole_rows(&self, level: u32, plane: u32, rect: Rect) -> Option<u64>
         requires stored { level < stored_count self.now }
         requires plane { plane < (level_in self.now level).shape.planes }
@@ -262,7 +263,7 @@ impl Layout {
         whole_rows(self.dir(level), plane, rect)
     }
 
-    /// The rows of a strip or tile of a stored level. The last strip may have fewer.
+    /// The number of rows per strip or tile in a stored level. The last strip may have fewer.
     pub fn block_rows(&self, level: u32) -> u32
         requires { level < stored_count self.now }
         ensures value { result ≡ block_rows (level_in self.now level).shape }
@@ -271,7 +272,7 @@ impl Layout {
         block_rows(self.dir(level))
     }
 
-    /// The texels of a row of a strip or tile of a stored level, with the padding of a tile.
+    /// The texels per row of a strip or tile in a stored level, including the padding of a tile.
     pub fn block_width(&self, level: u32) -> u32
         requires { level < stored_count self.now }
         ensures value { result ≡ block_width (level_in self.now level).shape }
@@ -289,7 +290,7 @@ impl Layout {
         &self.dirs.levels[level as usize]
     }
 
-    /// The directory of the stored level by which a level is cut.
+    /// The directory of the stored level that determines how a level is divided.
     fn pattern(&self, level: u32) -> &Dir
         ensures shape { shown_shape result.now ≡ pattern_shape self.now level }
         ensures wide { width_in self.now level ≤ result.now.width }
@@ -302,7 +303,7 @@ impl Layout {
         }
     }
 
-    /// The directory of level 0, which is the largest.
+    /// The directory of level 0, the largest.
     fn first(&self) -> &Dir
         ensures value { shown result.now ≡ level_in self.now 0 }
         ensures largest { (l : ℕ) → (width_in self.now l ≤ result.now.width)
@@ -311,7 +312,7 @@ impl Layout {
         &self.dirs.levels[0]
     }
 
-    /// The number of levels down to 1 by 1.
+    /// The number of levels from level 0 down to 1 by 1.
     fn levels_down(&self) -> u32
         requires { stored_count self.now ≡ 1 }
         ensures value { result ≡ levels_down self.now }
@@ -322,7 +323,7 @@ impl Layout {
     }
 }
 
-/// The sides of the cells of a stored level.
+/// The width and height of the cells of a stored level.
 fn cell_sides(dir: &Dir, cut: Cut) -> (u32, u32)
     requires { IsCut cut }
     ensures width { result.0 ≡ cell_width_by cut (shown_shape dir.now) dir.now.tile }
@@ -337,7 +338,7 @@ fn cell_sides(dir: &Dir, cut: Cut) -> (u32, u32)
     }
 }
 
-/// A side, halved so many times.
+/// A side, halved this many times.
 fn halved(side: u32, times: u32) -> u32
     requires side { IsSide side }
     requires times { times < max_levels }

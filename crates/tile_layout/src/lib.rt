@@ -1,5 +1,5 @@
-//! How the levels of a TIFF file are laid out: how many there are, how large they are, and where in
-//! the file the texels of a rectangle stand.
+//! The layout of a TIFF file: how many levels it has, how large they are, how they are divided into
+//! cells, and where their texels are.
 #![tactic(auto)]
 
 mod cut_side;

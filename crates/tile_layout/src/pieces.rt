@@ -1,3 +1,4 @@
+//! Divides a rectangle into pieces.
 ghost use Rattle.std.specs.Prelude.{◌≡◌, ◌<◌};
 ghost use Rattle.tiff_format.specs.Shown.{shown};
 ghost use Rattle.tile_layout.specs.Pieces.{LiesOn, walk_over};
@@ -8,7 +9,7 @@ use crate::place::piece_at;
 use std::marker::Model;
 use tiff_format::{Dir, Rect};
 
-/// The pieces of a rectangle of a plane of a level, row by row and in each row from left to right.
+/// The pieces of a rectangle in a plane of a level, row by row, from left to right.
 ///
 /// A piece is as long as the rectangle and the row of its strip or tile allow. An empty rectangle
 /// has none.
@@ -16,9 +17,9 @@ use tiff_format::{Dir, Rect};
 pub struct Pieces<'a> {
     dir: &'a Dir,
     plane: u32,
-    /// The rectangle, of no rows where it has no columns.
+    /// The rectangle, with no rows if it has no columns.
     rect: Rect,
-    /// The texel that comes next. None does where y is the row behind the last.
+    /// The next texel. It does not exist if y is past the last row.
     x: u32,
     y: u32,
 }
@@ -42,7 +43,7 @@ impl<'a> Pieces<'a> {
         requires on { LiesOn dir.now.width dir.now.height rect }
         ensures { result ≡ walk_over (plane_level (shown dir.now) plane) rect }
     {
-        // a row without texels has no piece
+        // a rectangle without columns has no pieces
         let rows = if rect.w == 0 { 0 } else { rect.h };
         Pieces {
             dir,

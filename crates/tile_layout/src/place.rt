@@ -1,4 +1,4 @@
-//! Where the texels of a level stand in the file.
+//! Where the texels of a level are in the file.
 
 ghost use Rattle.std.specs.Prelude.{◌≡◌, ◌+◌, ◌*◌, ◌^◌, ◌<◌, ◌≤◌, ◌↔◌, length, IfSome, IsSome, IsTrue};
 ghost use Rattle.tiff_format.specs.Block.{pieces_over, plane_blocks, samples_aside, texel_bytes};
@@ -13,7 +13,7 @@ ghost use Rattle.tile_layout.specs.WholeRows.{RowsFollow, AreWholeRows, StandsWh
 use crate::piece::Piece;
 use tiff_format::{Dir, Rect};
 
-/// As many as it takes to cover a side by pieces of that length.
+/// The number of pieces of this length that cover a side.
 fn pieces_over(side: u32, piece: u32) -> u64
     requires side { IsSide side }
     requires piece { 1 ≤ piece }
@@ -34,7 +34,7 @@ fn plane_blocks(dir: &Dir) -> u64
     }
 }
 
-/// How many strips or tiles the planes before a plane have.
+/// The number of strips or tiles in the planes before this one.
 fn first_block(dir: &Dir, plane: u32) -> u64
     requires { plane < dir.now.planes }
     ensures value { result ≡ plane * plane_blocks (shown_shape dir.now) }
@@ -45,7 +45,7 @@ fn first_block(dir: &Dir, plane: u32) -> u64
     u64::from(plane) * plane_blocks(dir)
 }
 
-/// The strip or tile that holds texel (x, y) of a plane.
+/// The index of the strip or tile that holds texel (x, y) of a plane.
 fn block_index(dir: &Dir, plane: u32, x: u32, y: u32) -> u64
     requires plane { plane < dir.now.planes }
     requires across { x < dir.now.width }
@@ -57,7 +57,7 @@ fn block_index(dir: &Dir, plane: u32, x: u32, y: u32) -> u64
     first_block(dir, plane) + block_in_plane(dir, x, y)
 }
 
-/// How many strips or tiles of its plane stand before the one that holds texel (x, y).
+/// The number of strips or tiles of the plane before the one that holds texel (x, y).
 fn block_in_plane(dir: &Dir, x: u32, y: u32) -> u64
     requires across { x < dir.now.width }
     requires down { y < dir.now.height }
@@ -84,7 +84,7 @@ fn texels_before(dir: &Dir, x: u32, y: u32) -> u64
     }
 }
 
-/// How many samples of a texel stand side by side.
+/// The number of samples of a texel that are stored together.
 pub(crate) fn samples_aside(dir: &Dir) -> u32
     ensures value { result ≡ samples_aside (shown_shape dir.now) }
     ensures few { IsChannelCount result }
@@ -92,14 +92,14 @@ pub(crate) fn samples_aside(dir: &Dir) -> u32
     if dir.planes == 1 { dir.channels } else { 1 }
 }
 
-/// The white rule applies to the first channel of a plane.
+/// Whether the first channel of a plane is inverted, as WhiteIsZero asks.
 pub(crate) fn is_white(dir: &Dir, plane: u32) -> bool
     ensures { result ≡ (plane_shape (shown_shape dir.now) plane).white }
 {
     dir.white && plane == 0
 }
 
-/// The bytes of a texel: of its samples that stand side by side.
+/// The bytes of those samples of a texel that are stored together.
 pub(crate) fn texel_bytes(dir: &Dir) -> u64
     ensures { result ≡ texel_bytes (shown_shape dir.now) }
 {
@@ -107,7 +107,7 @@ pub(crate) fn texel_bytes(dir: &Dir) -> u64
     u64::from(samples_aside(dir)) * sample
 }
 
-/// How many texels the row of the strip or tile has from texel x of the level's row on.
+/// The number of texels from texel x to the end of the row in its strip or tile.
 fn row_rest(dir: &Dir, x: u32) -> u32
     requires { x < dir.now.width }
     ensures value { result ≡ row_rest (shown_shape dir.now) x }
@@ -130,7 +130,7 @@ fn place(dir: &Dir, plane: u32, x: u32, y: u32) -> u64
     offset + texels_before(dir, x, y) * texel_bytes(dir)
 }
 
-/// The piece from (x, y) on of a row of a plane that ends before `right`.
+/// The piece of a plane's row that begins at (x, y), and ends at or before column `right`.
 pub(crate) fn piece_at(dir: &Dir, plane: u32, x: u32, y: u32, right: u32) -> Piece
     requires plane { plane < dir.now.planes }
     requires across { x < right × right ≤ dir.now.width }
@@ -146,7 +146,7 @@ pub(crate) fn piece_at(dir: &Dir, plane: u32, x: u32, y: u32, right: u32) -> Pie
     }
 }
 
-/// The texels of a row of a strip or tile.
+/// The texels per row of a strip or tile.
 pub(crate) fn block_width(dir: &Dir) -> u32
     ensures value { result ≡ block_width (shown_shape dir.now) }
     ensures some { 1 ≤ result }
@@ -157,7 +157,7 @@ pub(crate) fn block_width(dir: &Dir) -> u32
     }
 }
 
-/// The rows of a strip or tile.
+/// The rows per strip or tile.
 pub(crate) fn block_rows(dir: &Dir) -> u32
     ensures value { result ≡ block_rows (shown_shape dir.now) }
     ensures some { 1 ≤ result }
@@ -168,7 +168,8 @@ pub(crate) fn block_rows(dir: &Dir) -> u32
     }
 }
 
-/// The row below row `above` of a rectangle of whole rows begins in the file where that one ends.
+/// Whether the row below row `above` begins in the file where that one ends. The rectangle must
+/// have whole rows.
 fn row_follows(dir: &Dir, plane: u32, rect: Rect, above: u32) -> bool
     requires plane { plane < dir.now.planes }
     requires on { LiesOn dir.now.width dir.now.height rect }
@@ -180,9 +181,9 @@ fn row_follows(dir: &Dir, plane: u32, rect: Rect, above: u32) -> bool
     place(dir, plane, rect.x, rect.y + (above + 1)) == end
 }
 
-/// Each row of a rectangle of whole rows but the first begins in the file where the one above ends.
+/// Whether each row of a rectangle of whole rows begins in the file where the one above ends.
 ///
-/// Inside a strip or tile they do, so only the first row of each strip or tile is looked at.
+/// Within a strip or tile this is always so. Only the first row of each strip or tile is checked.
 fn rows_follow(dir: &Dir, plane: u32, rect: Rect) -> bool
     requires plane { plane < dir.now.planes }
     requires on { LiesOn dir.now.width dir.now.height rect }
@@ -201,7 +202,7 @@ fn rows_follow(dir: &Dir, plane: u32, rect: Rect) -> bool
     true
 }
 
-/// Where the texels of a rectangle stand that is whole rows, one directly behind the other.
+/// Where a rectangle begins in the file, if it has whole rows that follow one another directly.
 pub(crate) fn whole_rows(dir: &Dir, plane: u32, rect: Rect) -> Option<u64>
     requires plane { plane < dir.now.planes }
     requires on { LiesOn dir.now.width dir.now.height rect }

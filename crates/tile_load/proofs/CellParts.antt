@@ -135,7 +135,7 @@ module _ (layout : Kept) (cut : Cut) (key : ℕ) (is : IsHalvedKey layout cut ke
       index = rw (parts_are.level_is, parts_are.index_is) index_is;
     }
 
-    -- its rectangle
+    -- the rectangle of the part
     abbrev pub part_rect : Rect
     part_rect = record {
       x = p * source.cell_width;
@@ -176,7 +176,7 @@ module _ (layout : Kept) (cut : Cut) (key : ℕ) (is : IsHalvedKey layout cut ke
           few = few;
         }
 
-    -- and so are the sources of its texels, in it
+    -- the sources of a part's texels lie in the part
     pub sources_across : (i x : ℕ) → i < halved part_rect.w → x ≡ part_rect.x / 2 + i
         → (clamped source.width (2 * x) ≡ part_rect.x + clamped part_rect.w (2 * i))
         × (clamped source.width (2 * x + 1) ≡ part_rect.x + clamped part_rect.w (2 * i + 1))
@@ -217,12 +217,12 @@ module _ (layout : Kept) (cut : Cut) (key : ℕ) (is : IsHalvedKey layout cut ke
         let low = row_low in
         omega arith
 
-    -- it is one of the parts
+    -- the index is that of one of the parts
     pub at_below : part_at layout cut key x y < part_count layout cut key
     at_below = mul-add-lt (row_of - first_row layout cut key) columns
         (column_of - first_column layout cut key) rows row_high column_high
 
-    -- and half of it holds the texel
+    -- half of the part contains the texel
     module _ (k : ℕ) (at : part_at layout cut key x y ≡ k) where
       p_is : first_column layout cut key + k % columns ≡ column_of
       p_is =

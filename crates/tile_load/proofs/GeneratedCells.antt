@@ -150,7 +150,7 @@ module _ (state : RecordState) (layout : Kept) (cut : Cut) (key : ℕ)
         few = sides.few;
       }
 
-  -- and its rectangle and the grid of the level before, as the code asks for them
+  -- the rectangle of the cell and the grid of the next larger level, as the code computes them
   pub begun : (grid : Grid) (rect : Rect) (level index : ℕ) → IsKey key → level ≡ level_of key
       → index ≡ index_of key → shown_grid grid ≡ cut_level_in layout cut (level - 1)
       → rect ≡ cell_rect (cut_level_in layout cut level) index → (1 ≤ rect.w) × (1 ≤ rect.h)
@@ -168,7 +168,7 @@ module _ (state : RecordState) (layout : Kept) (cut : Cut) (key : ℕ)
         source_is = source_is;
       }
 
-  -- ---- where the world tells, no sample has to be one of the level while no part was added
+  -- ---- while no part was added, nothing is required of the samples in a modelled world
 
   pub told_begun : (files : Files) (samples : List ℕ) → IsRecord files state
       → state.layout ≡ Ok layout → AreZeros samples

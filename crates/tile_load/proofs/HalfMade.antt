@@ -1,4 +1,4 @@
--- A cell of which some parts were added: one more, all, and none.
+-- A cell with some of its parts added: one more, all, and none.
 use Rattle.std.proofs.Common.{◌≡◌, ℕ, ◌+◌, ◌-◌, ◌*◌, ◌<◌, ◌≤◌, List, length}
 use Rattle.std.proofs.Common.{Option, None, Some, IsSomeAnd, sym, ap, ◌∙◌, subst, arith, inl, inr}
 use Rattle.std.proofs.lemmas.Bool.{cases_lt}
@@ -25,7 +25,7 @@ use Rattle.tile_load.proofs.CellParts.{held_bottom}
 use Rattle.tile_load.proofs.HalfTexels.{texel_generated, quarter_told, quarter_low, all_samples}
 use Rattle.tile_load.proofs.HalfTexels.{by_cases, part_low, place_below}
 
--- what is so of the bytes that are held by what two facts say of them
+-- a fact of a generation's bytes, from two other facts
 some_both : (held : Option (List ℕ)) (P Q R : List ℕ → Type 0)
     → ((bytes : List ℕ) → P bytes → Q bytes → R bytes)
     → IsSomeAnd held P → IsSomeAnd held Q → IsSomeAnd held R

@@ -24,7 +24,7 @@ below_of a b cell less = elim (cases_lt a b) [
   | inr le ↦ absurd (omega (arith, no_longer b a cell le))
 ]
 
--- the cell of a place begins at or before it, and ends behind it
+-- the cell of a place begins at or before it, and ends after it
 in_cell : (place cell : ℕ) → 1 ≤ cell
     → (place / cell * cell ≤ place) × (place < place / cell * cell + cell)
 in_cell place cell some =
@@ -37,7 +37,7 @@ in_cell place cell some =
 pub source_at : (side x : ℕ) → 1 ≤ side → x < halved side → clamped side (2 * x) ≡ 2 * x
 source_at side x some below = omega arith
 
--- where both sources are in a part of the side that begins at an even place
+-- if both sources are in a part of the side that begins at an even place
 source_in : (side m w i e x : ℕ) → 1 ≤ w → m + w ≤ side → m % 2 ≡ 0 → (w ≡ 1 → side ≡ 1)
     → i < halved w → e ≤ 1 → x ≡ m / 2 + i
     → clamped side (2 * x + e) ≡ m + clamped w (2 * i + e)

@@ -81,7 +81,7 @@ place_below w h n i j c across down channel =
     let texel : j * w + i < w * h = mul-add-lt j w i h down across in
     omega (arith, mul-add-lt (j * w + i) n c (w * h) texel channel)
 
--- what is so of each of them by its place is so of all
+-- a fact of each sample, given by its place, is a fact of all
 pub all_samples : (P : ℕ → Type 0) (w h n : ℕ) (samples : List ℕ) → length samples ≡ w * h * n
     → ((i j c : ℕ) → i < w → j < h → c < n → P (sample_on w n samples i j c))
     → (k : ℕ) → k < length samples → P (slice_index samples k)

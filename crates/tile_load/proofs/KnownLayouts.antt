@@ -1,4 +1,4 @@
--- What is so of the layout of a record: where it is what bytes give, they show no fault.
+-- A fact of a record's layout: if it comes from bytes, they have no fault.
 use Rattle.std.proofs.Common.{◌≡◌, ℕ, List, Option, None, Some, Result, Ok, Err, refl}
 use Rattle.std.proofs.Common.{IsOkAnd, IfOk, ap, ◌∙◌, subst, sym}
 use Rattle.std.specs.Option.{ForSome, option_map_or}
@@ -16,7 +16,7 @@ use Rattle.tile_load.specs.CellTile.{IsCellTile}
 use Rattle.tile_load.specs.Halving.{NamesGenerated}
 use Rattle.tile_load.specs.declared.load_error.LoadError.{LoadError}
 
--- where a fault, or none, gives a layout there is none, and the layout is the one that is kept
+-- if a layout exists there is no fault, and the layout is the one that is kept
 without_fault : (fault : Option TiffFault) (known : Result Kept TiffFault) (layout kept : Kept)
     → known ≡ Ok layout → known ≡ option_map_or Err fault (Ok kept)
     → (fault ≡ None) × (layout ≡ kept)
@@ -29,7 +29,7 @@ layout_given bytes known layout is same =
     let both = without_fault (first_fault bytes) known layout (kept_of bytes) is same in
     record { good = both.0; kept = both.1 }
 
--- no fault where something is so of the layout
+-- there is no fault if a fact holds of the layout
 pub no_fault : (known : Result Kept TiffFault) (fault : TiffFault) (P : Kept → Type 0)
     → known ≡ Err fault → IsOkAnd known P → ⊥
 no_fault known fault P is holds = subst (λ k. IsOkAnd k P) is holds

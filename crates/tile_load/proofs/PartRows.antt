@@ -11,7 +11,7 @@ use Rattle.tile_store.specs.Tile.{CachedTile, AreSamples}
 use Rattle.tile_load.specs.PartPlace.{IsPartPlace, HalvesRows, left_of, top_of, sample_on}
 use Rattle.tile_load.specs.Quarters.{row_sample, row_average}
 
--- what stands in the middle of a list
+-- an element in the middle of a list
 pub in_middle : (a b c : List ℕ) (start k : ℕ) → length a ≡ start → k < length b
     → slice_index (a ++ (b ++ c)) (start + k) ≡ slice_index b k
 in_middle a b c start k is below =
@@ -20,7 +20,7 @@ in_middle a b c start k is below =
 
 -- ---- places
 
--- row t of a cell of w columns, in which hw texels stand from column `left` on, n samples of each
+-- row t of a cell of w columns, with hw texels from column `left` on, n samples each
 module _ (t w left hw n : ℕ) (fits : left + hw ≤ w) where
   abbrev start : ℕ
   start = (t * w + left) * n
@@ -38,7 +38,7 @@ module _ (t w left hw n : ℕ) (fits : left + hw ≤ w) where
   place_in_row i c = omega arith
 
   module _ (i j c : ℕ) (across : i < w) (channel : c < n) where
-    -- the last sample of a texel stands before the first of the next
+    -- the last sample of a texel comes before the first of the next
     before_texel : (k : ℕ) → j * w + i < k → (j * w + i) * n + c < k * n
     before_texel k less =
         let more = mul-le (j * w + i + 1) n k n (omega arith) (let same : n ≤ n = omega arith in same) in
@@ -201,7 +201,7 @@ module _ (part cell : Rect) (n : ℕ) (is : IsPartPlace part cell n) where
       behind = λ i j c across down channel far. refl;
     }
 
-    -- and one more behind others
+    -- one more row after others
     pub row_more : (j : ℕ) (old mid new : List ℕ) → j < halved part.h
         → HalvesRows part cell n source 0 j old mid
         → HalvesRows part cell n source j (j + 1) mid new

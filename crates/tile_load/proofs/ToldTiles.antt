@@ -1,4 +1,4 @@
--- The tile of a cell is of its file's bytes, where the world tells them.
+-- In a modelled world, the tile of a cell belongs to its file's bytes.
 use Rattle.std.proofs.Common.{◌≡◌, ℕ, ◌<◌, List, Option, None, Some, IsSome, IsSomeAnd, refl, ap, ◌∙◌}
 use Rattle.std.proofs.Common.{subst}
 use Rattle.std.specs.Option.{ForSome}

@@ -19,7 +19,7 @@ use Rattle.tile_load.specs.Halving.{source_cut, rect_of, source_cell}
 use Rattle.tile_load.specs.Halving.{first_column, part_columns, first_row, part_rows, part_count}
 use Rattle.tile_load.specs.PartPlace.{sample_on}
 
--- the number of the part that holds the first texel from which texel (x, y) is made
+-- the index of the part that holds the first source texel of texel (x, y)
 abbrev pub part_at : Kept → Cut → ℕ → ℕ → ℕ → ℕ
 part_at layout cut key x y =
     (source_cell (source_cut layout cut key).height (source_cut layout cut key).cell_height y
@@ -27,7 +27,7 @@ part_at layout cut key x y =
     + (source_cell (source_cut layout cut key).width (source_cut layout cut key).cell_width x
     - first_column layout cut key)
 
--- the samples of a cell of which so many parts were added, of a file with these bytes
+-- the samples of a cell after its first `done` parts were added, for a file with these bytes
 pub record IsHalfMade (bytes : List ℕ) (layout : Kept) (cut : Cut) (key done : ℕ)
     (samples : List ℕ) : Type 0 where
   pub kept : layout ≡ kept_of bytes
@@ -40,7 +40,8 @@ pub record IsHalfMade (bytes : List ℕ) (layout : Kept) (cut : Cut) (key done :
       ((rect_of layout cut key).y + j) c
   pub low : FitDepth (bit_depth_of bytes) samples
 
--- n places from one on are those of a cell of the next level, of a side that is cut into cells
+-- the n places from `from` on are those of a cell of the next smaller level, along a side that is
+-- divided into cells of `cell` texels
 pub record IsHalfCell (side cell from n : ℕ) : Type 0 where
   pub some : 1 ≤ side
   pub high : side ≤ max_side
@@ -50,8 +51,8 @@ pub record IsHalfCell (side cell from n : ℕ) : Type 0 where
   pub some_n : 1 ≤ n
   pub long : n ≡ min cell (halved side - from)
 
--- the key is one of a cell of a generated level, of which each side is such a cell of that of the
--- level before
+-- the key belongs to a cell of a generated level, each side of which is made from the next larger
+-- level in this way
 pub record IsHalvedKey (layout : Kept) (cut : Cut) (key : ℕ) : Type 0 where
   pub is_key : IsKey key
   pub stored : 1 ≤ stored_count layout
@@ -69,7 +70,7 @@ pub record AreSpans (layout : Kept) (cut : Cut) (key : ℕ) (across down : PartS
   pub first_row : down.first ≡ first_row layout cut key
   pub rows : down.count ≡ part_rows layout cut key
 
--- what is known of the fields of a cell that is being made
+-- what is true of the fields of a cell that is being made
 pub record IsHalving (files : Files) (layout : Kept) (cut : Cut) (key done : ℕ) (source : Grid)
     (across down : PartSpan) (rect : Rect) (channels : ℕ) (samples : List ℕ) : Type 0 where
   pub cell : IsHalvedKey layout cut key

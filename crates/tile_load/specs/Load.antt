@@ -1,4 +1,4 @@
--- Which cell is loaded?
+-- Which cell is to be loaded?
 pub use Rattle.piece_samples.specs.LayoutOf.{IsLayoutOf}
 use Rattle.std.specs.Prelude.{◌≡◌, ℕ, ◌<◌}
 use Rattle.tex_world.specs.Tap.{Named}

@@ -1,16 +1,16 @@
--- Where do the texels that are made of a part of a cell stand in the cell?
+-- Where do the texels made from a part lie in the cell?
 use Rattle.std.specs.Prelude.{◌≡◌, ℕ, ◌+◌, ◌-◌, ◌*◌, ◌/◌, ◌<◌, ◌≤◌, List, length, slice_index}
 use Rattle.tiff_format.specs.Level.{halved}
 use Rattle.tiff_format.specs.Limits.{max_side}
 use Rattle.tiff_format.specs.declared.rect.Rect.{Rect}
 use Rattle.tile_layout.specs.Texel.{quarter}
 
--- the most samples of a cell
+-- the greatest number of samples in a cell
 abbrev pub max_cell_samples : ℕ
 max_cell_samples = 16777216
 
--- Half of the part, each side of it 1 at least, lies inside the cell, and each of them on its level.
--- Both have n samples of each texel, and the cell no more than a cell may.
+-- The halved part, with each side at least 1, lies inside the cell, and both lie on their levels.
+-- Both have n samples per texel, and the cell has no more samples than a cell may.
 pub record IsPartPlace (part cell : Rect) (n : ℕ) : Type 0 where
   pub wide : 1 ≤ part.w
   pub high : 1 ≤ part.h
@@ -24,19 +24,19 @@ pub record IsPartPlace (part cell : Rect) (n : ℕ) : Type 0 where
   pub part_down : part.y + part.h ≤ max_side
   pub few : cell.w * cell.h * n ≤ max_cell_samples
 
--- the column and the row of the cell in which half of the part begins
+-- the column and the row of the cell where the halved part begins
 abbrev pub left_of : Rect → Rect → ℕ
 left_of part cell = part.x / 2 - cell.x
 
 abbrev pub top_of : Rect → Rect → ℕ
 top_of part cell = part.y / 2 - cell.y
 
--- sample c of texel (i, j) of a rectangle of so many columns, with n samples of each texel
+-- sample c of texel (i, j) in a rectangle of this width, with n samples per texel
 abbrev pub sample_on : ℕ → ℕ → List ℕ → ℕ → ℕ → ℕ → ℕ
 sample_on w n samples i j c = slice_index samples ((j * w + i) * n + c)
 
--- Of the cell, rows `from` to `to` of half of the part are made of the part's samples, and all
--- other samples stay.
+-- Rows `from` to `to` of the halved part were made from the part's samples; all other samples of
+-- the cell are unchanged.
 pub record HalvesRows (part cell : Rect) (n : ℕ) (source : List ℕ) (from to : ℕ)
     (old new : List ℕ) : Type 0 where
   pub long : length new ≡ length old

@@ -1,4 +1,4 @@
-//! What is read ahead of the cells of a file whose rows stand far apart.
+//! Plans read-ahead for cells whose rows are far apart in the file.
 
 ghost use Rattle.std.specs.Prelude.{◌≡◌, ◌-◌, ◌<◌, ◌≤◌};
 
@@ -9,7 +9,7 @@ use tap_reader::{Band, CellRows, MAX_AHEAD_BYTES, MAX_STRETCH_BYTES, ReadAhead, 
 use tex_world::World;
 use tiff_format::Rect;
 
-/// The most parts in which the plane of a cell is read.
+/// The greatest number of parts in which a plane of a cell is read.
 const MAX_PARTS: u32 = 64;
 
 /// Where a row of a place begins in the file.
@@ -29,8 +29,8 @@ fn row_start(place: &Place<'_>, row: u32) -> Option<u64>
     Some(first.at)
 }
 
-/// Where the last row of a place begins, so many bytes behind the first one: none where the rows do not
-/// stand so far apart.
+/// Where the last row of a place begins, if the rows are `stride` bytes apart on average. Otherwise
+/// `None`.
 fn last_start(place: &Place<'_>, first: u64, stride: u64) -> Option<u64> {
     let rows = place.rect.h.checked_sub(1)?;
     let last = row_start(place, rows)?;
@@ -42,7 +42,7 @@ fn last_start(place: &Place<'_>, first: u64, stride: u64) -> Option<u64> {
     }
 }
 
-/// The rows of a place of a stripped level, where more lies between two of them than is read with
+/// The rows of a place in a stripped level, if more bytes lie between two rows than are read with
 /// them.
 fn cell_rows(place: &Place<'_>, texel_bytes: u64) -> Option<CellRows> {
     let rect = place.rect;
@@ -71,8 +71,8 @@ fn cell_rows(place: &Place<'_>, texel_bytes: u64) -> Option<CellRows> {
     })
 }
 
-/// From which stretches the rows of the planes of a place are to be cut, and what is to be read into
-/// them first. None for rows that stand close together, and for those that are read one by one.
+/// The stretches from which the rows of each plane are cut, and what to read into them first.
+/// Nothing is planned for rows that are close together, and for rows read one by one.
 pub(crate) fn next_bands<W: World>(
     alloc: Global,
     ahead: &mut ReadAhead<W>,
@@ -99,7 +99,7 @@ pub(crate) fn next_bands<W: World>(
     bands
 }
 
-/// The same for the plane of a place, where all of it is read at once.
+/// The stretch from which the rows of one plane are cut, if they are read all at once.
 fn next_band<W: World>(ahead: &mut ReadAhead<W>, place: &Place<'_>) -> Option<Band>
     ensures { ahead.new ≡ ahead.old }
 {
@@ -112,8 +112,8 @@ fn next_band<W: World>(ahead: &mut ReadAhead<W>, place: &Place<'_>) -> Option<Ba
     ahead.plan(&cell)
 }
 
-/// How many rows of a place are read at once from the one on that stands so many behind its first: as many
-/// as its strip has and as a stretch of several may keep. None where these are fewer than two.
+/// How many rows to read at once, after `done` rows: as many as are left in the strip and fit a
+/// stretch. 0 if that is less than two.
 fn rows_at_once(place: &Place<'_>, done: u32) -> u32
     ensures { result ≤ place.now.rect.h - done }
 {
@@ -128,7 +128,7 @@ fn rows_at_once(place: &Place<'_>, done: u32) -> u32
     most.min(left).min(place.rect.h.saturating_sub(done))
 }
 
-/// The part of a place that is read at once from such a row on.
+/// The part of a place that is read at once, after `done` rows.
 fn part_behind<'a>(place: &Place<'a>, done: u32) -> Option<Place<'a>> {
     let rows = rows_at_once(place, done);
     if rows == 0 {
@@ -148,8 +148,8 @@ fn part_behind<'a>(place: &Place<'a>, done: u32) -> Option<Place<'a>> {
     })
 }
 
-/// The same for the plane of a place that is read in parts: its rows in each strip, as many at once as
-/// a stretch may keep.
+/// Plans the stretches of a plane that is read in parts: in each strip, as many rows at once as fit
+/// a stretch.
 fn add_parts<W: World>(ahead: &mut ReadAhead<W>, place: &Place<'_>, bands: &mut Vec<Band>)
     ensures { ahead.new ≡ ahead.old }
 {

@@ -1,4 +1,4 @@
-//! Half of the tile of a part, written into the samples of its cell.
+//! Halves a source tile into the samples of a cell of a generated level.
 
 ghost use Rattle.std.specs.Prelude.{◌≡◌, ◌+◌, ◌*◌, ◌<◌, ◌≤◌, ℕ, length, slice_index};
 ghost use Rattle.tiff_format.specs.Level.{halved};
@@ -12,7 +12,7 @@ use crate::quarters::halve_row;
 use tex_world::World;
 use tile_store::{Tile, TwoRows};
 
-/// Writes a row that is half of two rows of a part, from a place of the cell's samples on.
+/// Writes one row, made from two rows of a source cell, into the cell's samples from `start` on.
 fn write_row(rows: &TwoRows<'_>, place: &PartPlace, start: usize, samples: &mut [u16])
     requires top { length (top_of rows.now) ≡ place.now.part.w * place.now.channels }
     requires bottom { length (bottom_of rows.now) ≡ place.now.part.w * place.now.channels }
@@ -36,7 +36,7 @@ fn write_row(rows: &TwoRows<'_>, place: &PartPlace, start: usize, samples: &mut 
     );
 }
 
-/// Writes row j of half of a part.
+/// Writes row j of a halved source cell.
 fn halve_row_of<W: World>(tile: &Tile<W>, place: &PartPlace, j: u32, samples: &mut [u16])
     requires part { tile.now.rect ≡ place.now.part }
     requires channels { tile.now.channels ≡ place.now.channels }
@@ -54,7 +54,7 @@ fn halve_row_of<W: World>(tile: &Tile<W>, place: &PartPlace, j: u32, samples: &m
     write_row(&rows, place, place.start(j), samples);
 }
 
-/// Writes half of the tile of a part to its place among the samples of the cell.
+/// Writes a halved source tile to its place in the cell's samples.
 pub(crate) fn halve_part<W: World>(tile: &Tile<W>, place: &PartPlace, samples: &mut [u16])
     requires part { tile.now.rect ≡ place.now.part }
     requires channels { tile.now.channels ≡ place.now.channels }

@@ -1,4 +1,4 @@
-//! A cell of a generated level, made of the cells of the level before.
+//! A cell of a generated level, made from cells of the next larger level.
 
 ghost use Rattle.std.specs.Prelude.{◌≡◌, ◌+◌, ◌*◌, ◌≤◌, ◌<◌, length, IfOk, IsOkAnd};
 ghost use Rattle.tile_layout.specs.Cell.{CellsFit};
@@ -23,20 +23,20 @@ use tiff_format::{Cut, Rect};
 use tile_layout::{Grid, Layout, TileKey};
 use tile_store::Tile;
 
-/// The tile of a cell of a generated level while it is made: of up to four cells of the level
-/// before, its parts, which are added one after another in their order.
+/// The tile of a generated level's cell while it is being made. Its parts, up to four cells of the
+/// next larger level, are added one after another in order.
 ///
-/// It borrows the layout of its file's record.
+/// It borrows the layout of the file's record.
 #[derive(Drop)]
 pub struct Halving<'a, W: World> {
     layout: &'a Layout,
     cut: Cut,
     key: TileKey,
-    /// How many parts were added.
+    /// The number of parts added so far.
     done: u32,
-    /// How the level before is cut.
+    /// How the next larger level is divided into cells.
     source: Grid,
-    /// The columns and the rows of cells of that level in which the parts are.
+    /// The columns and the rows of cells in which the parts lie.
     across: PartSpan,
     down: PartSpan,
     rect: Rect,
@@ -58,8 +58,7 @@ impl<'a, W: World> Model for Halving<'a, W> {
 }
 
 impl<'a, W: World> Halving<'a, W> {
-    /// The cell of a generated level of a record's file, of which no part was added. It takes the
-    /// memory of the whole tile.
+    /// Begins the cell of a generated level, without any part. Allocates the whole tile.
     pub fn new(
         alloc: Global,
         known: &'a Record<W>,
@@ -76,7 +75,7 @@ impl<'a, W: World> Halving<'a, W> {
         let Ok(layout) = known.layout() else {
             unreachable!();
         };
-        // a file stores a level, and a key is one of a generation
+        // needed by the proof: there is a stored level, and the key has a generation
         let _stored = layout.stored();
         let _levels = layout.levels(cut);
         let _generation = key.generation();
@@ -100,7 +99,7 @@ impl<'a, W: World> Halving<'a, W> {
         })
     }
 
-    /// How many parts the cell has.
+    /// The number of parts, 1 to 4.
     pub fn parts(&self) -> u32
         ensures value { result ≡ part_count self.now.layout self.now.cut self.now.key }
         ensures in_range { 1 ≤ result × result ≤ 4 }
@@ -108,7 +107,7 @@ impl<'a, W: World> Halving<'a, W> {
         self.across.count * self.down.count
     }
 
-    /// The key of part k. The parts are numbered row by row.
+    /// The key of part k. Parts are numbered row by row.
     pub fn part(&self, k: u32) -> TileKey
         requires { k < part_count self.now.layout self.now.cut self.now.key }
         ensures value { result ≡ part_key self.now.layout self.now.cut self.now.key k }
@@ -133,7 +132,7 @@ impl<'a, W: World> Halving<'a, W> {
         ensures added { self.new ≡ halving_state self.old.layout self.old.cut self.old.key
             (self.old.done + 1) }
     {
-        // where the world tells, the part's samples are those of its level
+        // needed by the proof: ties the part's samples to its level
         let _told = tile.key();
         let place = PartPlace {
             part: tile.rect(),
@@ -144,8 +143,8 @@ impl<'a, W: World> Halving<'a, W> {
         self.done += 1;
     }
 
-    /// The tile, once all parts were added. Of a file of 8 bits it keeps a byte a sample, where there is
-    /// memory for them.
+    /// The tile, after all parts were added. For an 8-bit file it keeps one byte per sample, if
+    /// memory for that is found.
     pub fn finish(self) -> Tile<W>
         requires done { self.done ≡ part_count self.layout self.cut self.key }
         ensures tile { IsCellTile self.entry.layout self.entry.cut self.entry.key result }
@@ -156,7 +155,7 @@ impl<'a, W: World> Halving<'a, W> {
     }
 }
 
-/// So many samples of 0 for each texel of a rectangle.
+/// A sample buffer for a rectangle, all 0.
 fn zeros(alloc: Global, rect: Rect, channels: u32) -> Result<Vec<u16>, AllocError>
     requires { rect.w * rect.h * channels ≤ max_cell_samples }
     ensures count { IfOk result (λ samples.

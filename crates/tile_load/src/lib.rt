@@ -1,5 +1,5 @@
-//! The tiles of cells: of a stored level from the bytes of its file, of a generated one from the
-//! tiles of the level before.
+//! Makes the tiles of cells: of stored levels from the file's bytes, of generated levels from tiles
+//! of the next larger level.
 #![tactic(auto)]
 
 mod bands;

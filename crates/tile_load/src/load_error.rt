@@ -1,21 +1,22 @@
+//! Why a cell could not be loaded.
 ghost use Rattle.std.specs.Prelude.{◌≡◌};
 ghost use Rattle.tile_load.specs.LoadError.{load_error_of};
 
 use rect_read::RectError;
 use tex_world::ReadError;
 
-/// Why a cell was not loaded.
+/// Why a cell could not be loaded.
 #[derive(Clone, Copy, Debug, PartialEq, Eq)]
 pub enum LoadError {
-    /// The source of bytes failed.
+    /// An I/O error.
     ReadFault,
     /// The generation is gone, and the file has this newer one.
     Gone(u32),
-    /// No memory was found.
+    /// Out of memory.
     NoMemory,
 }
 
-/// Why a cell was not loaded whose texels were not read.
+/// Converts the error of reading a rectangle.
 pub(crate) fn load_error(error: RectError<ReadError>) -> LoadError
     ensures { result ≡ load_error_of error }
 {

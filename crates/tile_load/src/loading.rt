@@ -1,4 +1,4 @@
-//! The texels of a cell of a stored level, through a tap.
+//! Loads the cells of stored levels through a tap.
 
 ghost use Rattle.std.specs.Prelude.{◌≡◌, ◌*◌, length, IfOk, IsOkAnd};
 ghost use Rattle.std.specs.Option.{ForSome};
@@ -26,12 +26,11 @@ use tiff_format::{Cut, Rect};
 use tile_layout::{Layout, TileKey};
 use tile_store::Tile;
 
-/// The tile of a cell of a stored level of a record, read through the tap under a handle of the
-/// record's file and generation.
+/// Loads the tile of a stored level's cell, through a handle of the record's file and generation.
 ///
-/// The record shows no fault, and all cells of its file fit the cut, which may be another one than
-/// the record's own. A piece of a row that does not lie below the handle's length, as comes only
-/// over a world that does not tell, is not read, and its samples count as 0.
+/// The file must be valid, and its cells small enough under `cut`, which may differ from the
+/// record's own cut. A piece of a row beyond the end of the file is not read, and its samples are
+/// 0. This can only happen if the world is not modelled.
 pub fn load<T: Tap>(
     alloc: Global,
     tap: &mut T,
@@ -63,14 +62,13 @@ pub fn load<T: Tap>(
     }
 }
 
-/// The tile of a cell of a stored level, read through the tap under a handle of its file and
-/// generation. The layout is that of the handle's bytes.
+/// Loads the tile of a stored level's cell, through a handle of its file and generation. The layout
+/// must be that of the handle's bytes.
 ///
-/// A cell that is whole rows of a strip or tile, as a stored tile is, or of several that follow
-/// each other directly in the file, takes a read for each 256 KiB. So do rows that stand close
-/// together. Besides the tile it takes the bytes of a row and at most 256 KiB that are read ahead. A
-/// tile of a file of 8 bits keeps a byte a sample.
-/// A piece that does not lie below the handle's length is not read, and its samples count as 0.
+/// A cell whose rows are close together in the file takes one read for each 256 KiB. That includes
+/// stored tiles, and whole rows of strips or tiles that follow each other. Besides the tile, memory
+/// is needed for a row and for at most 256 KiB that are read ahead. A tile of an 8-bit file keeps
+/// one byte per sample. A piece beyond the end of the file is not read, and its samples are 0.
 pub fn load_at<T: Tap>(
     alloc: Global,
     tap: &mut T,
@@ -93,11 +91,11 @@ pub fn load_at<T: Tap>(
         (lent_of (T.Handle.named file.old.handle) (T.state tap.old))
         (lent_of (T.Handle.named file.new.handle) (T.state tap.new)) result }
 {
-    // each stored level is one of the levels whose cells fit
+    // needed by the proof: the cells of every stored level are small enough
     let _levels = layout.levels(cut);
     let level = key.level();
     let rect = layout.cell_rect(level, cut, key.index());
-    // each stored level has a first plane
+    // needed by the proof: each stored level has a first plane
     let _planes = layout.planes(level);
     let place = Place {
         layout,
@@ -111,7 +109,7 @@ pub fn load_at<T: Tap>(
     }
 }
 
-/// The tile of these texels.
+/// The tile with this key, rectangle and texels.
 pub(crate) fn tile_of<W: World>(key: TileKey, rect: Rect, channels: u32, texels: Texels) -> Tile<W>
     requires tile { IsTile (cached_tile key rect channels (samples_of texels)) }
     requires told { IsTold W.files (cached_tile key rect channels (samples_of texels)) }
@@ -123,7 +121,7 @@ pub(crate) fn tile_of<W: World>(key: TileKey, rect: Rect, channels: u32, texels:
     }
 }
 
-/// The texels of a place, in the depth of the file.
+/// Reads the texels of a place, with the file's number of bits.
 fn read_place<T: Tap>(
     alloc: Global,
     tap: &mut T,

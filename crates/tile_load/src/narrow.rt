@@ -1,4 +1,4 @@
-//! Samples of a byte each.
+//! Keeps the samples of 8-bit files as one byte each.
 
 ghost use Rattle.std.specs.Prelude.{◌≡◌, ℕ, ◌<◌, ◌≤◌, length, slice_index, IfSome};
 ghost use Rattle.rect_read.specs.Texels.{samples_of};
@@ -6,10 +6,10 @@ ghost use Rattle.rect_read.specs.Texels.{samples_of};
 use rect_read::{Texels, narrowed};
 use std::alloc::Global;
 
-/// The bits of a sample that is a byte.
+/// The bits of a sample that fits a byte.
 const NARROW_DEPTH: u32 = 8;
 
-/// The greatest of the samples, 0 where there is none.
+/// The greatest sample; 0 if there are none.
 fn greatest(samples: &[u16]) -> u16
     ensures { (k : ℕ) → k < length samples.now → slice_index samples.now k ≤ result }
 {
@@ -20,7 +20,7 @@ fn greatest(samples: &[u16]) -> u16
     most
 }
 
-/// The samples as bytes, where each is one and there is memory for them.
+/// The samples as bytes. `None` if one does not fit or memory runs out.
 fn bytes_of(alloc: Global, samples: &[u16]) -> Option<Vec<u8>>
     ensures { IfSome result (λ bytes. bytes.items ≡ samples.now) }
 {
@@ -30,7 +30,7 @@ fn bytes_of(alloc: Global, samples: &[u16]) -> Option<Vec<u8>>
     narrowed(alloc, samples).ok()
 }
 
-/// The samples of a file of this depth, as a tile keeps them.
+/// The samples of a file with this number of bits, in the form that a tile keeps.
 pub(crate) fn kept_samples(depth: u32, samples: Vec<u16>) -> Texels
     ensures { samples_of result ≡ samples.items }
 {

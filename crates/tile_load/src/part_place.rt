@@ -1,4 +1,4 @@
-//! The texels that are made of a part of a cell of a generated level.
+//! Where the texels made from a source cell lie in a cell of a generated level.
 
 ghost use Rattle.std.specs.Prelude.{◌≡◌, ◌+◌, ◌*◌, ◌<◌, ◌≤◌, ℕ, length, slice_index};
 ghost use Rattle.tiff_format.specs.Level.{halved};
@@ -6,8 +6,7 @@ ghost use Rattle.tile_load.specs.PartPlace.{IsPartPlace, left_of, top_of};
 
 use tiff_format::Rect;
 
-/// A part of a cell of a generated level: its rectangle and that of the cell, with so many samples
-/// of each texel.
+/// A source cell and the cell made from it: their rectangles and the number of samples per texel.
 #[derive(Clone, Copy, Debug)]
 pub(crate) struct PartPlace {
     pub(crate) part: Rect,
@@ -17,21 +16,21 @@ pub(crate) struct PartPlace {
 }
 
 impl PartPlace {
-    /// The texels of a row that are made of it.
+    /// The number of columns that are made from the source cell.
     pub(crate) fn columns(&self) -> u32
         ensures { result ≡ halved self.now.part.w }
     {
         (self.part.w / 2).max(1)
     }
 
-    /// The rows of them.
+    /// The number of rows that are made from the source cell.
     pub(crate) fn rows(&self) -> u32
         ensures { result ≡ halved self.now.part.h }
     {
         (self.part.h / 2).max(1)
     }
 
-    /// Where the samples of row j of them begin among those of the cell.
+    /// Where row j of these begins among the cell's samples.
     pub(crate) fn start(&self, j: u32) -> usize
         requires { j < halved self.now.part.h }
         ensures value { result ≡ ((top_of self.now.part self.now.cell + j) * self.now.cell.w

@@ -1,18 +1,19 @@
+//! The range of source cells along one side of a generated cell.
 ghost use Rattle.std.specs.Prelude.{◌≡◌, ◌+◌, ◌<◌, ◌≤◌};
 ghost use Rattle.tile_load.specs.Halving.{source_cell, source_cells};
 
 use tile_layout::CutSide;
 
-/// The parts along a side: the cells of the level before that hold a texel from which one of a cell
-/// is made.
+/// The source cells along a side: those cells of the next larger level from which a texel of the
+/// cell is made.
 #[derive(Clone, Copy, Debug)]
 pub(crate) struct PartSpan {
-    /// The number of the first among the cells of the side.
+    /// The index, along the side, of the first source cell.
     pub(crate) first: u32,
     pub(crate) count: u32,
 }
 
-/// The cell that holds the first texel from which the one at a place is made.
+/// The index of the source cell that holds the first texel for the texel at `place`.
 fn source_cell(side: &CutSide, place: u32) -> u32
     requires { place < side.now.size }
     ensures value { result ≡ source_cell side.now.size side.now.cell place }
@@ -22,7 +23,7 @@ fn source_cell(side: &CutSide, place: u32) -> u32
 }
 
 impl PartSpan {
-    /// Those of a cell of n places from one on.
+    /// The source cells of a cell that covers `n` places from `from` on.
     pub(crate) fn of(side: &CutSide, from: u32, n: u32) -> PartSpan
         requires some { 1 ≤ n }
         requires inside { from + n ≤ side.now.size }

@@ -1,4 +1,4 @@
-//! Rows of texels that are half of two rows: each sample is the average of four.
+//! Halves two rows of texels into one: each new sample is the average of four.
 
 ghost use Rattle.std.specs.Prelude.{◌≡◌, ◌+◌, ◌*◌, ◌<◌, ◌≤◌, ℕ, length, slice_index};
 ghost use Rattle.tiff_format.specs.Level.{halved};
@@ -8,7 +8,7 @@ ghost use Rattle.tile_load.specs.Quarters.{row_sample, row_average, IsHalfAt};
 
 use tile_store::TwoRows;
 
-/// The average of four samples, a half rounded up.
+/// The average of four samples, rounded to nearest with halves up.
 #[inline(always)]
 fn average(a: u16, b: u16, c: u16, d: u16) -> u16
     ensures { result ≡ average a b c d }
@@ -16,7 +16,7 @@ fn average(a: u16, b: u16, c: u16, d: u16) -> u16
     ((u32::from(a) + u32::from(b) + u32::from(c) + u32::from(d) + 2) / 4) as u16
 }
 
-/// Writes texel i, made of texels 2i and 2i + 1 of both rows.
+/// Writes texel i, made from texels 2i and 2i + 1 of both rows.
 #[inline(always)]
 fn halve_texel(rows: &TwoRows<'_>, channels: usize, i: usize, out: &mut [u16])
     requires out { (i + 1) * channels ≤ length out.old }
@@ -41,7 +41,7 @@ fn halve_texel(rows: &TwoRows<'_>, channels: usize, i: usize, out: &mut [u16])
     }
 }
 
-/// Writes so many texels, each made of two of both rows.
+/// Writes `count` texels, each made from two texels of both rows.
 #[inline(always)]
 fn halve_texels(rows: &TwoRows<'_>, count: usize, channels: usize, out: &mut [u16])
     requires out { length out.old ≡ count * channels }
@@ -56,7 +56,7 @@ fn halve_texels(rows: &TwoRows<'_>, count: usize, channels: usize, out: &mut [u1
     }
 }
 
-/// Writes the one texel that is made of rows of one texel.
+/// Writes the single texel that is made from two rows of one texel each.
 fn halve_single(rows: &TwoRows<'_>, channels: usize, out: &mut [u16])
     requires out { length out.old ≡ channels }
     requires top { channels ≤ length (top_of rows.now) }
@@ -72,8 +72,8 @@ fn halve_single(rows: &TwoRows<'_>, channels: usize, out: &mut [u16])
     }
 }
 
-/// Writes a row that is half of two rows of so many texels. Rows of bytes are a case of their own,
-/// since the loops of each are compiled to vector code.
+/// Writes one row made from two rows of `width` texels. Rows of bytes are a case of their own, so
+/// that the loops of both cases are compiled to vector code.
 pub(crate) fn halve_row(rows: &TwoRows<'_>, width: usize, channels: usize, out: &mut [u16])
     requires some { 1 ≤ width }
     requires out { length out.old ≡ halved width * channels }
@@ -91,8 +91,8 @@ pub(crate) fn halve_row(rows: &TwoRows<'_>, width: usize, channels: usize, out: 
     }
 }
 
-/// The same. Numbers of channels that pictures often have are cases of their own, since their loops
-/// are unrolled.
+/// Writes one row made from two rows that have the same sample size. Common numbers of channels are
+/// cases of their own, so that their loops are unrolled.
 #[inline(always)]
 fn halve_kept(rows: &TwoRows<'_>, width: usize, channels: usize, out: &mut [u16])
     requires some { 1 ≤ width }

@@ -1,16 +1,16 @@
-//! What is read ahead of the tiles of a row of tiles that stand side by side in the file.
+//! Plans read-ahead for stored tiles that follow one another in the file.
 
 use rect_read::Place;
 use tap_reader::{CellRows, MAX_STRETCH_BYTES, Rows};
 use tiff_format::Rect;
 
-/// How many tiles at most are seen to stand side by side.
+/// The most tiles that are treated as one run.
 const MAX_TILES: u64 = 32;
 
-/// The place at which nothing begins.
+/// A place at which nothing begins.
 const NO_PLACE: u64 = u64::MAX;
 
-/// Where the piece of a texel begins in the file, of the level and the plane of a place.
+/// Where the bytes of a texel begin in the file.
 fn texel_start(place: &Place<'_>, x: u64, y: u64) -> Option<u64> {
     let (width, height) = place.layout.size(place.level);
     if x >= u64::from(width) || y >= u64::from(height) {
@@ -29,8 +29,8 @@ fn texel_start(place: &Place<'_>, x: u64, y: u64) -> Option<u64> {
     Some(first.at)
 }
 
-/// The bytes of the tile that a place is, where it is one, there is a tile to its right, and two are no
-/// more than are read at once.
+/// The bytes of the stored tile at a place. `None` if the place is not a whole stored tile, has no
+/// right neighbour, or if two of them are too large to read at once.
 fn tile_bytes(place: &Place<'_>, texel_bytes: u64) -> Option<u64> {
     let rect = place.rect;
     let (width, height) = place.layout.size(place.level);
@@ -51,8 +51,9 @@ fn tile_bytes(place: &Place<'_>, texel_bytes: u64) -> Option<u64> {
     }
 }
 
-/// How many bytes stand side by side from a tile on, in whole tiles of its row of tiles. Those between
-/// the first and the last are not looked at: no proof rests on it.
+/// How many bytes of whole tiles follow one another in the file, from this tile to the right. Only
+/// the first and the last tile are compared. That is enough, because no proof depends on the
+/// result.
 fn side_by_side(place: &Place<'_>, at: u64, bytes: u64) -> u64 {
     let (width, _) = place.layout.size(place.level);
     let wide = u64::from(place.layout.block_width(place.level));
@@ -67,7 +68,7 @@ fn side_by_side(place: &Place<'_>, at: u64, bytes: u64) -> u64 {
     }
 }
 
-/// The tile that is so many tiles to the right of a place stands so many tiles behind it in the file.
+/// Whether the tile `tiles` places to the right begins exactly that many tiles later in the file.
 fn stands_behind(place: &Place<'_>, at: u64, tiles: u64, bytes: u64) -> bool {
     let wide = u64::from(place.layout.block_width(place.level));
     let x = u64::from(place.rect.x).saturating_add(tiles.saturating_mul(wide));
@@ -75,8 +76,8 @@ fn stands_behind(place: &Place<'_>, at: u64, tiles: u64, bytes: u64) -> bool {
     start == at.checked_add(tiles.saturating_mul(bytes))
 }
 
-/// A tile of a level, as a row of bytes that goes on with the tiles to its right, as far as they stand
-/// side by side in the file.
+/// A stored tile as one row of bytes, which continues with the tiles to its right as far as they
+/// follow one another in the file.
 pub(crate) fn tile_row(place: &Place<'_>, texel_bytes: u64) -> Option<CellRows> {
     let bytes = tile_bytes(place, texel_bytes)?;
     let (x, y) = (u64::from(place.rect.x), u64::from(place.rect.y));

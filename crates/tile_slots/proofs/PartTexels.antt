@@ -19,7 +19,7 @@ use Rattle.piece_samples.proofs.LowSamples.{each_low}
 use Rattle.tile_slots.specs.Part.{IsTexelSample}
 use Rattle.tile_slots.specs.Slot.{AreRowZeros}
 
--- ---- a row that was read to the front of its room
+-- ---- a row that was read to the front of its buffer
 
 module _ (layout : Kept) (l x y n : ℕ) (samples rest : List ℕ)
     (long : length samples ≡ n * (level_in layout l).shape.channels) where
@@ -34,7 +34,7 @@ module _ (layout : Kept) (l x y n : ℕ) (samples rest : List ℕ)
       (omega (arith, long, mul-add-lt i channels c n column below))
       ∙ ap (λ (k : ℕ). get_or samples k 0) (sym index)
 
-  -- where the layout is that of the bytes
+  -- if the layout is that of the bytes
   pub row_told : (bytes : List ℕ) → IsLayoutOf bytes layout → l < stored_count layout
       → (HoldsBlocks bytes (level_in layout l) → AreTexelsOn
       (sample_in layout.big bytes (level_in layout l)) channels (row_rect x y n) samples)
@@ -60,7 +60,7 @@ module _ (layout : Kept) (l x y n : ℕ) (samples rest : List ℕ)
 
 -- ---- the depth of the file
 
--- what was read over so many zeros fits it
+-- what was read over zeros is in range
 pub low_told : (bytes : List ℕ) (layout : Kept) (n : ℕ) (samples : List ℕ) → IsLayoutOf bytes layout
     → (FitDepth (bit_depth_in layout) (replicate n 0) → FitDepth (bit_depth_in layout) samples)
     → FitDepth (bit_depth_of bytes) samples

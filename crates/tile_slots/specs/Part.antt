@@ -13,19 +13,19 @@ use Rattle.piece_samples.specs.Beyond.{IsAllBeyond, IsBeyond}
 use Rattle.piece_samples.specs.Row.{row_rect}
 use Rattle.tile_slots.specs.declared.part_key.PartKey.{PartKey}
 
--- the texels of a part, but for the last one of a row
+-- the texels of a part; only the last part of a row can have fewer
 abbrev pub part_texels : ℕ
 part_texels = 64
 
--- its first column
+-- the first column of a part
 abbrev pub part_left : PartKey → ℕ
 part_left key = key.part * part_texels
 
--- how many texels it has in a row of so many
+-- the number of texels in a part, for a row of this width
 abbrev pub texels_of : ℕ → PartKey → ℕ
 texels_of width key = min part_texels (width - part_left key)
 
--- the slot of a part among so many
+-- the slot of a part
 abbrev pub slot_of : PartKey → ℕ → ℕ
 slot_of key count =
     (key.part + 31 * key.row + 7 * key.level + 13 * key.file + 17 * key.generation) % count
@@ -35,43 +35,43 @@ pub record IsPartBy (handle : Named) (key : PartKey) : Type 0 where
   pub file : key.file ≡ handle.file
   pub generation : key.generation ≡ handle.generation
 
--- the texel in column x of the key's row is one of its level, which is stored, and it has n samples
+-- the texel in column x of the key's row lies in its level, which is stored, and has n samples
 pub record IsTexelOf (layout : Kept) (key : PartKey) (x n : ℕ) : Type 0 where
   pub stored : key.level < stored_count layout
   pub across : x < width_in layout key.level
   pub down : key.row < height_in layout key.level
   pub channels : n ≡ channels_in layout
 
--- it is sample c of texel (x, y) of a level of a file with these bytes, and no greater than a
--- sample of the file can be
+-- this is sample c of texel (x, y) of a level of a file with these bytes, within the file's number
+-- of bits
 pub record IsTexelSample (bytes : List ℕ) (level x y c sample : ℕ) : Type 0 where
   pub value : sample ≡ texel_at bytes level x y c
   pub low : sample ≤ greatest_sample (bit_depth_of bytes)
 
--- these are the samples of the texel in column x of the key's row in a file with these bytes
+-- these are the samples of the texel in column x of the key's row, in a file with these bytes
 abbrev pub AreTexelOf : List ℕ → PartKey → ℕ → List ℕ → Type 0
 AreTexelOf bytes key x samples = (c : ℕ) → c < length samples
     → IsTexelSample bytes key.level x key.row c (slice_index samples c)
 
--- where the world tells, it holds bytes for the key's generation of its file, and they are those of
+-- in a modelled world, the key's generation of its file has bytes, and these are the samples of
 -- that texel in them
 abbrev pub AreToldAt : Files → PartKey → ℕ → List ℕ → Type 0
 AreToldAt files key x samples = IsTrue files.tells
     → IsSomeAnd (files.held key.file key.generation) (λ bytes. AreTexelOf bytes key x samples)
 
--- the column behind the last one of the part
+-- the column after the last one of the part
 abbrev pub part_right : Kept → PartKey → ℕ
 part_right layout key =
     part_left key + texels_of (width_in layout key.level) key
 
--- each sample of the texel whose piece does not lie below this length of the file is 0
+-- each sample of the texel is 0 if its piece lies beyond this length of the file
 abbrev pub AreTexelZeros : Kept → PartKey → ℕ → ℕ → List ℕ → Type 0
 AreTexelZeros layout key len x samples = (c : ℕ) → c < length samples
     → IsBeyond (plane_level (level_in layout key.level)
     (plane_of (level_in layout key.level).shape c)) (part_right layout key) len x key.row
     → slice_index samples c ≡ 0
 
--- no piece of the part lies below it
+-- no piece of the part lies below this length of the file
 abbrev pub IsPartBeyond : Kept → PartKey → ℕ → Type 0
 IsPartBeyond layout key len = IsAllBeyond (level_in layout key.level) len
     (row_rect (part_left key) key.row (texels_of (width_in layout key.level) key))

@@ -1,11 +1,11 @@
-//! One try to claim a slot.
+//! Tries once to claim a slot.
 
 ghost use Rattle.std.specs.Prelude.{◌≡◌, IfSome};
 
 use counted_slot::{Claim, Counted, FREE, Fits, MOST_READERS, ONE_READER, PRESENT, TAKEN};
 
-/// A claim to read what a slot holds, where it holds something, no one writes it, and the word stays
-/// while it is looked at.
+/// Claims a slot for reading. `None` if it is empty or being written, or if its word changes
+/// meanwhile.
 pub(crate) fn claim_to_read<X: Fits>(slot: &Counted<X>) -> Option<Claim<'_, X>>
     ensures right { IfSome result (λ claim. claim.right ≡ 1) }
     ensures tag { IfSome result (λ claim. claim.tag ≡ slot.now) }
@@ -22,8 +22,8 @@ pub(crate) fn claim_to_read<X: Fits>(slot: &Counted<X>) -> Option<Claim<'_, X>>
     Some(claim)
 }
 
-/// A claim to write a slot, where no one reads or writes it, and the word stays while it is looked
-/// at.
+/// Claims a slot for writing. `None` if it is being read or written, or if its word changes
+/// meanwhile.
 pub(crate) fn claim_to_write<X: Fits>(slot: &Counted<X>) -> Option<Claim<'_, X>>
     ensures right { IfSome result (λ claim. claim.right ≡ 2) }
     ensures tag { IfSome result (λ claim. claim.tag ≡ slot.now) }

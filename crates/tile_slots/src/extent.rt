@@ -1,10 +1,11 @@
+//! Which texels the samples in a slot belong to.
 ghost use Rattle.std.specs.Prelude.{◌≤◌, ◌↔◌, IsTrue};
 ghost use Rattle.tiff_format.specs.Limits.{max_channels};
 ghost use Rattle.tile_slots.specs.Part.{part_texels};
 
 use crate::part_key::{PART_TEXELS, PartKey};
 
-/// Which part of a row samples are of, how many texels it has, and how many samples each.
+/// A part of a row: its key, its number of texels, and the samples per texel.
 #[derive(Clone, Copy, Debug)]
 pub(crate) struct Extent {
     pub(crate) key: PartKey,
@@ -17,7 +18,8 @@ pub(crate) struct Extent {
 impl Extent {
     ghost use Rattle.tile_slots.specs.Slot.{HasTexel};
 
-    /// The texel in column x of the row of a key is one of the part, and has so many samples.
+    /// Whether it is the part of this key, has the texel in column x, and this many samples per
+    /// texel.
     pub(crate) fn has(&self, key: PartKey, x: u32, channels: usize) -> bool
         ensures { IsTrue result ↔ HasTexel self.now key x channels }
     {

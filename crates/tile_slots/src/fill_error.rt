@@ -1,18 +1,19 @@
+//! Why a part could not be read.
 ghost use Rattle.std.specs.Prelude.{◌≡◌};
 ghost use Rattle.tile_slots.specs.FillError.{fill_error_of};
 
 use tex_world::ReadError;
 
-/// Why a part was not read.
+/// Why a part could not be read.
 #[derive(Clone, Copy, Debug, PartialEq, Eq)]
 pub enum FillError {
-    /// The source of bytes failed.
+    /// An I/O error.
     ReadFault,
-    /// The generation is gone, and the file has this newer one.
+    /// The generation is gone; the file has this newer one.
     Gone(u32),
 }
 
-/// Why a part was not read whose read was refused.
+/// Converts the error of a read.
 pub(crate) fn fill_error(error: ReadError) -> FillError
     ensures { result ≡ fill_error_of error }
 {

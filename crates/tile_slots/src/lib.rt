@@ -1,5 +1,5 @@
-//! Texels in fixed slots: parts of rows of stored levels, which callers share without a lock and
-//! without taking memory.
+//! Parts of rows of stored levels in fixed slots, which callers share without a lock and without
+//! allocating.
 #![tactic(auto)]
 
 mod claims;

@@ -1,4 +1,4 @@
-//! What a slot holds.
+//! The content of a slot: samples of a part of a row.
 
 ghost use Rattle.std.specs.Prelude.{◌≡◌, ◌+◌, ◌*◌, ◌/◌, ◌%◌, ◌<◌, ◌≤◌, ◌↔◌, ℕ, Some, None};
 ghost use Rattle.std.specs.Prelude.{length, slice_index, IsTrue, IsSomeAnd, IfSome, false};
@@ -14,11 +14,11 @@ use counted_slot::Fits;
 use std::marker::PhantomData;
 use tex_world::World;
 
-/// The most samples of a part: 64 texels of 8 samples.
+/// The greatest number of samples in a part: 64 texels of 8 samples.
 pub(crate) const PART_SAMPLES: usize = 512;
 
-/// The samples of a part of a row, those of a texel side by side, or none yet. Where the world
-/// tells, they are those of the level, and fit the depth of the file.
+/// The samples of a part of a row, all samples of a texel together, or none yet. In a modelled
+/// world they are those of the level, within the file's number of bits.
 #[derive(Drop)]
 pub(crate) struct Part<W: World> {
     extent: Option<Extent>,
@@ -32,7 +32,7 @@ impl<W: World> Fits for Part<W> {
     ghost fits = { λ _ part. IfSome part.extent (λ e. IsToldPart W.files e part.samples) };
 }
 
-/// Copies the samples of a texel of a row that has so many of each.
+/// Copies the samples of the texel in a column, `out.len()` per texel.
 pub(crate) fn copy_texel(samples: &[u16], column: usize, out: &mut [u16])
     requires { (column + 1) * length out.old ≤ length samples.now }
     ensures { (c : ℕ) → c < length out.old
@@ -54,7 +54,7 @@ impl<W: World> Part<W> {
         }
     }
 
-    /// Those of a part.
+    /// The samples of a part.
     pub(crate) fn of(extent: Extent, samples: [u16; PART_SAMPLES]) -> Part<W>
         ensures extent { result.extent ≡ Some extent }
         ensures samples { result.samples ≡ samples }
@@ -66,9 +66,9 @@ impl<W: World> Part<W> {
         }
     }
 
-    /// Shows the samples of the texel in column x of the row of a key, where the part is that one,
-    /// has the texel, and so many samples of each. Where the world tells, the part of the key has
-    /// them.
+    /// Copies the samples of the texel in column x of the key's row. False unless this is the part
+    /// of the key, with that texel and as many samples per texel. In a modelled world the right
+    /// part always has them.
     pub(crate) fn show(&self, key: PartKey, x: u32, out: &mut [u16]) -> bool
         requires part { x / PART_TEXELS ≡ key.part }
         requires fits { IfSome self.now.extent (λ e. IsToldPart W.files e self.now.samples) }

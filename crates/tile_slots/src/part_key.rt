@@ -1,11 +1,12 @@
+//! The name of a part of a row.
 ghost use Rattle.std.specs.Prelude.{◌≡◌, ◌<◌, ◌≢◌};
 ghost use Rattle.tile_slots.specs.Part.{slot_of};
 
-/// The texels of a part, but for the last one of a row, which ends with it.
+/// The texels of a part. Only the last part of a row can have fewer.
 pub const PART_TEXELS: u32 = 64;
 
-/// A part of a row of a level of a generation of a file: texels `64 * part` to `64 * part + 63`,
-/// as far as the level goes.
+/// A part of a row in a level of a file's generation: texels `64 * part` to `64 * part + 63`, as
+/// far as the level goes.
 #[derive(Clone, Copy, Debug, PartialEq, Eq)]
 pub struct PartKey {
     pub generation: u32,
@@ -16,7 +17,7 @@ pub struct PartKey {
 }
 
 impl PartKey {
-    /// Its slot among so many.
+    /// Its slot, if there are `count` slots.
     pub(crate) fn slot(&self, count: u64) -> u64
         requires { count ≢ 0 }
         ensures value { result ≡ slot_of self.now count }

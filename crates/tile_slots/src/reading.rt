@@ -1,4 +1,4 @@
-//! The samples of a part, read through a tap.
+//! Reads the samples of a part through a tap.
 
 ghost use Rattle.std.specs.Prelude.{◌≡◌, ◌+◌, ◌*◌, ◌<◌, ◌≤◌, ℕ, length, slice_index, OnOk};
 ghost use Rattle.std.specs.Option.{ForSome};
@@ -17,8 +17,8 @@ use piece_samples::{Row, read_row};
 use tap_reader::TapReader;
 use tex_world::Tap;
 
-/// Reads the samples of a row, those of a texel side by side, to the front of `samples`. After a
-/// refusal what these are is open.
+/// Reads the samples of a row, all samples of a texel together, to the front of `samples`. After an
+/// error their content is undefined.
 pub(crate) fn read_samples<T: Tap>(
     tap: &mut T,
     h: &mut T::Handle,

@@ -25,11 +25,11 @@ use std::marker::Model;
 use tex_world::{NoMemory, Tap, World};
 use tile_layout::Layout;
 
-/// The most slots.
+/// The greatest number of slots.
 pub const MAX_SLOTS: u32 = 65536;
 
-/// Slots for parts of rows, which threads share. In a clause they are how many there are. Which part
-/// a slot holds is said nowhere: another thread may fill it at any time.
+/// Slots for parts of rows, shared by threads. Clauses see only how many there are, because another
+/// thread may fill a slot at any time.
 #[derive(Drop)]
 pub struct Slots<W: World> {
     slots: Vec<Counted<Part<W>>>,
@@ -43,7 +43,7 @@ impl<W: World> Model for Slots<W> {
     ghost view = { λ s. length s.slots.items };
 }
 
-/// So many slots that hold nothing.
+/// `count` empty slots.
 fn empty_slots<W: World>(alloc: Global, count: u32) -> Result<Vec<Counted<Part<W>>>, AllocError>
     ensures { IfOk result (λ slots. length slots.items ≡ count) }
 {
@@ -55,7 +55,7 @@ fn empty_slots<W: World>(alloc: Global, count: u32) -> Result<Vec<Counted<Part<W
 }
 
 impl<W: World> Slots<W> {
-    /// So many slots, which hold nothing yet. Each takes some 1.1 KB.
+    /// Makes `count` empty slots. Each takes about 1.1 KB.
     pub fn new(alloc: Global, count: u32) -> Result<Slots<W>, NoMemory>
         requires { count ≤ MAX_SLOTS }
         ensures ok { IfOk result (λ slots. slots ≡ count) }
@@ -64,7 +64,7 @@ impl<W: World> Slots<W> {
         Ok(Slots { slots })
     }
 
-    /// The slot of a key, where there are any.
+    /// The slot of a key, if there are any slots.
     fn slot(&self, key: &PartKey) -> Option<&Counted<Part<W>>>
         ensures none { self.now ≡ 0 → result ≡ None }
     {
@@ -75,12 +75,12 @@ impl<W: World> Slots<W> {
         Some(&self.slots[key.slot(count) as usize])
     }
 
-    /// Shows the samples of the texel in column x of the key's row, in the depth of the file, where
-    /// its slot holds the part. It claims the slot once, waits for nobody and takes no memory. It
-    /// shows nothing where there is no slot, where the claim gave no right to read, since a thread
-    /// fills the slot or meets this one at its word, and where the slot holds another part or none;
-    /// over a world that does not tell also where the part has another number of samples or lacks
-    /// the texel.
+    /// Copies the samples of the texel in column x of the key's row, if its slot has the part. It
+    /// tries once to claim the slot, waits for nobody and allocates nothing.
+    ///
+    /// False if there are no slots, if another thread has the slot or changes its word, or if the
+    /// slot is empty or has another part. In a world that is not modelled, also if the part lacks
+    /// the texel or has another number of samples.
     pub fn show(&self, key: PartKey, x: u32, out: &mut [u16]) -> bool
         requires part { x / PART_TEXELS ≡ key.part }
         requires texel { ForSome (W.files.held key.file key.generation)
@@ -100,14 +100,13 @@ impl<W: World> Slots<W> {
         shown
     }
 
-    /// Reads the part that has the texel in column x of the key's row through the tap, under a
-    /// handle of the key's file and generation, and gives the samples of the texel, in the depth of
-    /// the file. The part is then put into its slot, which is claimed once: true where it was, false
-    /// where there is no slot or the claim gave no right to write. It waits for nobody and takes no
-    /// memory.
+    /// Reads the part with the texel in column x of the key's row through the tap, with a handle of
+    /// the key's file and generation, and copies the texel's samples. The part is then put into its
+    /// slot, which is claimed at most once. True if that worked; false if there are no slots or the
+    /// claim failed. It waits for nobody and allocates nothing.
     ///
-    /// A piece of the part that does not lie below the handle's length is not read, and its samples
-    /// count as 0: over told bytes there is none. After a refusal the slots hold what they held.
+    /// A piece of the part beyond the end of the file is not read, and its samples are 0; modelled
+    /// files have no such piece. After an error the slots are unchanged.
     pub fn fill<T: Tap<W = W>>(
         &self,
         tap: &mut T,
@@ -153,7 +152,7 @@ impl<W: World> Slots<W> {
         Ok(self.put(key, Part::of(extent, samples)))
     }
 
-    /// Puts a part into the slot of a key, which it claims once.
+    /// Puts a part into the slot of its key, if one claim succeeds.
     fn put(&self, key: PartKey, part: Part<W>) -> bool
         requires { IfSome part.extent (λ e. IsToldPart W.files e part.samples) }
         ensures none { self.now ≡ 0 → result ≡ false }

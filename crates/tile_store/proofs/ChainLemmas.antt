@@ -95,7 +95,7 @@ without-parts p (x ∷ front) back out =
     let parts = or_parts (nat_eq p x) (is_in p front) out in
     rw parts.0 (ap (λ l. x ∷ l) (without-parts p front back parts.1))
 
--- the node before a slot names the one behind it
+-- the node before a slot links to the one after it
 pub leads_over : (next : List ℕ) (end after at p : ℕ) (front back : List ℕ)
     → IsDistinct nat_eq (at ∷ front ++ p ∷ back) → after ≡ slice_index next p
     → last_node at front < length next → Leads next end at (front ++ p ∷ back)
@@ -164,7 +164,7 @@ module _ (slots_in : ℕ → List ℕ) (keys : List (Option ℕ)) (next : List �
 
 -- ---- a search for a key
 
--- so far it has gone by so many slots
+-- the search has passed this many slots
 pub record Along (keys : List (Option ℕ)) (next : List ℕ) (slots key at steps : ℕ) : Type 0 where
   pub come : HasCome keys next slots key at
   pub steps_are : length come.front ≡ steps
@@ -202,7 +202,7 @@ module _ (keys : List (Option ℕ)) (next : List ℕ) (slots : ℕ) (is : AreCha
     front_low p has = low_in (chain next slots) keys next slots is own p own_low
         (subst (λ l. is_in p l ≡ true) (sym h.parts) (in_fore p h.front h.back has))
 
-    -- it is the first node of the chain, or one of the slots that were gone by
+    -- the node is the first one of the chain, or a slot that was passed
     pub node_cases : (at ≡ slots + own) ⊎ (is_in at h.front ≡ true)
     node_cases = subst (λ n. (n ≡ slots + own) ⊎ (is_in n h.front ≡ true)) (sym h.at_is)
         (elim h.front as (λ ps. (last_node (slots + own) ps ≡ slots + own) ⊎ (is_in (last_node (slots + own) ps) ps ≡ true)) [
@@ -217,7 +217,7 @@ module _ (keys : List (Option ℕ)) (next : List ℕ) (slots : ℕ) (is : AreCha
         ⊎_elim (λ (e : at ≡ slots + own). omega arith)
         (λ (has : is_in at h.front ≡ true). let below : at < slots = front_low at has in omega arith) node_cases
 
-    -- where the node names the end nothing is left
+    -- if the node links to the end, nothing is left
     pub none_left : slice_index next at ≡ slots → h.back ≡ []
     none_left end =
         (elim h.back as (λ ps. Leads next slots at ps → ((p : ℕ) → is_in p ps ≡ true → p < slots) → ps ≡ []) [

@@ -1,4 +1,4 @@
--- Which entries stay where the last unpinned one leaves, and leaves again.
+-- Which entries stay when the last unpinned one leaves, once or repeatedly.
 use Rattle.std.proofs.Common.{◌≡◌, ℕ, ◌+◌, ◌<◌, ◌||◌, Bool, true, false, cond, nat_eq}
 use Rattle.std.proofs.Common.{[], ◌∷◌, ◌++◌, length, refl, sym, ap, ◌∙◌, subst, arith}
 use Rattle.std.specs.List.{All, AllByRecursion, IsDistinct, sum_by, list_any}
@@ -83,7 +83,7 @@ pub or_false : (a b : Bool) → (a || b) ≡ false → (a ≡ false) × (b ≡ f
 or_false true b h = absurd cc
 or_false false b h = (refl, h)
 
--- where each is pinned there are no unpinned bytes
+-- if every entry is pinned there are no unpinned bytes
 pub loose-all_pinned : (es : Entries) → list_any is_unpinned es ≡ false → loose_bytes es ≡ 0
 loose-all_pinned [] h = refl
 loose-all_pinned (e ∷ es) h =
@@ -152,7 +152,7 @@ All-without_last P (e ∷ es) all =
 
 -- ---- a walk from the back
 
--- those that the walk has passed are pinned
+-- the entries that the walk has passed are pinned
 pub record PinnedBehind (es left : Entries) : Type 0 where
   pub passed : Entries
   pub parts : es ≡ left ++ passed

@@ -1,4 +1,4 @@
--- What entries that leave and one that comes make of the slots, and of those that are to be told.
+-- How entries that leave, and one that comes, change the slots and those still to be reported.
 use Rattle.std.proofs.Common.{◌≡◌, ℕ, ◌<◌, ◌≤◌, true, false, nat_eq, List, [], ◌∷◌, ◌++◌, length, length-append}
 use Rattle.std.proofs.Common.{Option, Some, None, IfSome, IsSome, set, drop, append_assoc}
 use Rattle.std.proofs.Common.{refl, sym, ap, ◌∙◌, subst, ⊎_elim, arith}
@@ -141,7 +141,7 @@ pub after_pin : (key : ℕ) (a b : ShardState) → SameSlots a b → (entry_at k
     → SlotsAfterInsert key a b
 after_pin key a b same some = record { kept = λ _. same; filled = λ none. absurd (some none) }
 
--- ---- the free slots that were told
+-- ---- the free slots that were reported
 
 pub told_end : (told p : ℕ) (free : List ℕ) → told ≤ length free → drop told (free ++ p ∷ []) ≡ drop told free ++ p ∷ []
 told_end told p free low = drop-append-le told free (p ∷ []) low

@@ -143,7 +143,7 @@ pub distinct_first : (p : ℕ) (xs : List ℕ) → is_in p xs ≡ false → IsDi
 unfolding IsDistinct
 distinct_first p xs out distinct = (apart_as p xs out, distinct)
 
--- and where a place is not, fewer are
+-- if a place is not in the order, fewer than all places are
 pub fewer_in : (next prev : List ℕ) (root len p : ℕ) → AreLinks next prev root len → p < root
     → is_in p (walk next len root) ≡ false → len + 1 ≤ root
 fewer_in next prev root len p links low out =
@@ -195,7 +195,7 @@ module _ (next prev : List ℕ) (root len p after : ℕ) (links : AreLinks next 
 
 -- ---- the last place, and the one before a place
 
--- where a path through these numbers ends
+-- the last of these numbers
 abbrev pub end_of : ℕ → List ℕ → ℕ
 end_of at [] = at
 end_of at (x ∷ xs) = end_of x xs

@@ -53,7 +53,7 @@ module _ {K X : Type 0} (test : K → Bool) where
 
   -- ---- what a look-up finds
 
-  -- where it finds none, there is none to remove
+  -- if the search finds no entry, none exists to remove
   pub remove_entry-none : (es : List (K × X)) → lookup test es ≡ None → remove_entry test es ≡ es
   remove_entry-none [] h = refl
   remove_entry-none (e ∷ es) h =

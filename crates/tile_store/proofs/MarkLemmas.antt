@@ -12,7 +12,7 @@ use Rattle.tile_store.specs.Changes.{is_stale, without_stale}
 use Rattle.tile_store.specs.Order.{entry_in, in_front, entries_of}
 use Rattle.tile_store.specs.Marks.{is_marked, HasMark, IsOfOther, marked, unmarked}
 
--- what holds of each entry holds where it follows of each
+-- a fact of each entry, from another fact of each
 pub All_from : (P Q : ℕ × EntryState → Type 0) (es : Entries)
     → ((e : ℕ × EntryState) → P e → Q e) → All P es → All Q es
 All_from P Q [] from all = All-nil Q
@@ -21,13 +21,13 @@ All_from P Q (e ∷ es) from all =
 
 -- ---- marks
 
--- the number of a file has so many bits
+-- the file number of a key fits its bits
 pub file_low : (key : ℕ) → file_of key < 2 ^ file_bits
 unfolding file_of
 file_low key = omega arith
 
 module _ (file : ℕ) (marks : List Bool) where
-  -- a file that is marked stays so where another gets a mark
+  -- a marked file stays marked when another one is marked
   pub marked_more : (f : ℕ) → file < length marks → is_marked f marks ≡ true
       → is_marked f (marked file marks) ≡ true
   marked_more f low was =
@@ -59,7 +59,7 @@ both_hold file marks (e ∷ es) others all =
     (unmarked_other file marks (file_of e.0) (All-head (IsOfOther file) e es others) (All-head (HasMark marks) e es all))
     (both_hold file marks es (All-tail (IsOfOther file) e es others) (All-tail (HasMark marks) e es all))
 
--- where none of the file's stays, the others have theirs
+-- if no tile of the file stays, the other files keep their marks
 pub noted_kept : (file : ℕ) (marks : List Bool) (es : Entries) (stays : Bool)
     → (stays ≡ false → All (IsOfOther file) es) → All (HasMark marks) es
     → All (HasMark (cond stays marks (unmarked file marks))) es
@@ -104,14 +104,14 @@ front_other : (file : ℕ) (slot : Option EntryState) (es : Entries) → OtherIn
 front_other file None es other all = all
 front_other file (Some e) es other all = All-cons (IsOfOther file) (e.tile.key, e) es other all
 
--- where no slot has an entry of the file, none is in the order
+-- if no slot has an entry of the file, the order has none
 pub others_in : (file : ℕ) (slots : List (Option EntryState)) (order : List ℕ)
     → ((p : ℕ) → OtherIn file (entry_in slots p)) → All (IsOfOther file) (entries_of slots order)
 others_in file slots [] none = All-nil (IsOfOther file)
 others_in file slots (p ∷ ps) none =
     front_other file (entry_in slots p) (entries_of slots ps) (none p) (others_in file slots ps none)
 
--- so many of the slots have none
+-- the first n slots have no entry of the file
 abbrev pub OtherBelow : ℕ → List (Option EntryState) → ℕ → Type 0
 OtherBelow file slots n = (p : ℕ) → p < n → OtherIn file (entry_in slots p)
 
@@ -122,7 +122,7 @@ other_below file slots none p =
     ⊎_elim (none p) (λ past. subst (OtherIn file) (sym (get_or_past slots p None past)) tt)
     (cases_lt p (length slots))
 
--- and one more
+-- one more slot has no entry of the file
 pub one_other : (file : ℕ) (slots : List (Option EntryState)) (n : ℕ) → OtherBelow file slots n
     → OtherIn file (entry_in slots n) → OtherBelow file slots (n + 1)
 one_other file slots n none more p low =

@@ -1,4 +1,4 @@
--- What is done to slots and their order, said of the list of entries.
+-- Changes of slots and their order, in terms of the list of entries.
 use Rattle.std.proofs.Common.{◌≡◌, ℕ, suc, ◌<◌, ◌||◌, Bool, true, false, cond, nat_eq}
 use Rattle.std.proofs.Common.{List, [], ◌∷◌, ◌++◌, length, set, Option, Some, None, IsSomeAnd}
 use Rattle.std.proofs.Common.{refl, sym, ap, ◌∙◌, subst, ⊎_elim}
@@ -28,7 +28,7 @@ pub is_there : (o : Option EntryState) (P : EntryState → Type 0) (e : EntrySta
     → IsSomeAnd o P
 is_there o P e is so = subst (λ x. IsSomeAnd x P) (sym is) so
 
--- ---- the entries of slots in an order, where the test of their keys is a test of the slots
+-- ---- the entries of slots in an order; a test of their keys is a test of the slots
 
 abbrev pub Tested : ℕ → (ℕ → Bool) → List (Option EntryState) → List ℕ → Type 0
 Tested key test slots order =
@@ -127,7 +127,7 @@ module _ (key p : ℕ) (slots : List (Option EntryState)) where
       ((at.entry.tile.key, at.entry) ∷ set_value (nat_eq key) back w)) at.so
       ∙ step
 
--- where no slot passes, no entry does
+-- if no slot passes a test, no entry does
 pub none_in : (key : ℕ) (slots : List (Option EntryState)) (order : List ℕ)
     → Tested key (λ _. false) slots order → entry_at key (entries_of slots order) ≡ None
 none_in key slots [] tested = refl

@@ -11,7 +11,7 @@ use Rattle.tile_store.specs.Links.{is_in, without}
 pub differs : (a b : ℕ) → nat_eq a b ≡ false → a ≢ b
 differs a b h = eqb-false a b h
 
--- none of a list that is apart from a place is the place
+-- if all places of a list differ from a place, it is not in the list
 pub apart_from : (p : ℕ) (xs : List ℕ) → AllByRecursion (λ y. nat_eq p y ≡ false) xs → is_in p xs ≡ false
 apart_from p [] all = refl
 apart_from p (x ∷ xs) all = or_from (nat_eq p x) (is_in p xs) all.0 (apart_from p xs all.1)
@@ -22,7 +22,7 @@ apart_as p (x ∷ xs) out =
     let parts = or_parts (nat_eq p x) (is_in p xs) out in
     (parts.0, apart_as p xs parts.1)
 
--- a list before and behind one of its places
+-- a list before and after one of its places
 pub record Cut (p : ℕ) (xs : List ℕ) : Type 0 where
   pub front : List ℕ
   pub back : List ℕ
@@ -82,7 +82,7 @@ out-without q p (x ∷ xs) out =
       | false ↦ or_from (nat_eq q x) (is_in q (without p xs)) parts.0 (out-without q p xs parts.1)
     ]
 
--- and what stays of it was in it
+-- what stays in a list was in it
 pub in-without : (q p : ℕ) (xs : List ℕ) → is_in q (without p xs) ≡ true → is_in q xs ≡ true
 in-without q p xs has =
     (elim (is_in q xs) as (λ b. is_in q xs ≡ b → b ≡ true) [

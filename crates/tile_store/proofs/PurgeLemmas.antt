@@ -15,7 +15,7 @@ use Rattle.tile_store.proofs.MapLemmas.{cut_at, cut_end, last_of_push}
 use Rattle.tile_store.proofs.EvictLemmas.{sum_at, remove_at, key_at, apart}
 
 module _ (file below : ℕ) where
-  -- the first k entries are still to be turned, and the others stand before them
+  -- the first k entries are still to be checked, and the others come before them
   abbrev pub turned_to : ℕ → Entries → Entries
   turned_to k es = without_stale file below (drop k es) ++ take k es
 
@@ -111,7 +111,7 @@ turned-last file below e es h = rw h refl
 
 -- ---- the loop
 
--- so many entries are still to be turned, and the bytes of those that left are these
+-- k entries are still to be checked, and those that left had these bytes
 pub record Turning (file below k bytes : ℕ) (was now : Entries) : Type 0 where
   pub entries : now ≡ turned_to file below k was
   pub bytes_are : loose_bytes now + bytes ≡ loose_bytes was

@@ -61,7 +61,7 @@ module _ (next prev : List ℕ) (before after p : ℕ) (to : slice_index next be
         path_without x y front back in_next in_prev is_before is_after apart parts.1 out path.2,
       )
 
--- the one before a place names it, and the one behind is before it
+-- the place before a place links to it, and the place after it links back
 pub named_by : (next prev : List ℕ) (at p y : ℕ) (front back : List ℕ)
     → Path next prev at (front ++ p ∷ y ∷ back)
     → (slice_index next (slice_index prev p) ≡ p) × (slice_index prev (slice_index next p) ≡ p)

@@ -60,7 +60,7 @@ true_by : (b : Bool) → (b ≡ false → ⊥) → b ≡ true
 true_by true h = refl
 true_by false h = absurd (h refl)
 
--- where fewer are pinned than there are, some is unpinned
+-- if fewer entries are pinned than there are, some entry is unpinned
 pub any_by_count : (es : Entries) → pinned_count es < length es → list_any is_unpinned es ≡ true
 any_by_count es h =
     true_by (list_any is_unpinned es) (λ none. let all = pinned_all es none in omega arith)
@@ -95,7 +95,7 @@ pub inserted-new : (tile : CachedTile) (slots : ℕ) (es : Entries) → entry_at
     → inserted tile slots es ≡ with_first tile (with_room slots es)
 inserted-new tile slots es none = rw none refl
 
--- a key that has no entry has none where one has left
+-- a key without an entry still has none after an entry left
 absent_without_last : (key : ℕ) (es : Entries) → entry_at key es ≡ None
     → entry_at key (without_last_unpinned es) ≡ None
 absent_without_last key [] none = refl
@@ -122,7 +122,7 @@ absent_with_room key slots es none =
       | false ↦ none
     ]
 
--- there is room for one more
+-- one more entry fits
 record HasRoom (slots : ℕ) (es : Entries) : Type 0 where
   pins : pin_sum (with_room slots es) ≡ pin_sum es
   few : length (with_room slots es) + 1 < 2 ^ 32

@@ -68,7 +68,7 @@ module _ (slots : List (Option EntryState)) (free : List ℕ) (room : ℕ) (inde
             ap (λ x. x.tile.key) one ∙ here.so;
       }
 
-  -- where no entry has a key the index finds none
+  -- if no entry has a key, the index finds none
   pub missing_by : (key : ℕ) → entry_at key (entries_of slots order) ≡ None → slot_of key index ≡ None
   missing_by key none = none_of (slot_of key index) (λ p found.
       let here = there (entry_in slots p) (λ e. e.tile.key ≡ key) (is.keyed key p found) in
@@ -116,7 +116,7 @@ module _ (slots : List (Option EntryState)) (free : List ℕ) (room : ℕ) (inde
   to_front p has = moved (p ∷ without p order) (omega (arith, length-without p order has))
       (λ q h. in_moved q p order has h) (λ q h. moved_in q p order h)
 
-  -- said of the entries
+  -- moving a slot to the front, in terms of the entries
   pub first_promoted : (key p : ℕ) → slot_of key index ≡ Some p
       → entries_of slots (p ∷ without p order) ≡ promoted key (entries_of slots order)
   first_promoted key p found =
@@ -174,7 +174,7 @@ module _ (slots : List (Option EntryState)) (free : List ℕ) (room : ℕ) (inde
           (cases_eq q p);
     }
 
-    -- and goes first
+    -- an entry that is written goes to the front
     pub written_first : IsDistinct nat_eq order
         → entries_of (set slots p (Some w)) (p ∷ without p order)
         ≡ (key, w) ∷ remove_entry (nat_eq key) (entries_of slots order)
@@ -185,7 +185,7 @@ module _ (slots : List (Option EntryState)) (free : List ℕ) (room : ℕ) (inde
         ∙ ap (λ l. (key, w) ∷ l) (set_out key p slots (Some w) (without p order) (gone p order distinct)
         ∙ sym (remove_in key p slots order (tested_some slots free room index links is key p found)))
 
-    -- and stays in its place
+    -- an entry that is written keeps its place
     pub written_there : IsDistinct nat_eq order
         → entries_of (set slots p (Some w)) order ≡ set_value (nat_eq key) (entries_of slots order) w
     written_there distinct =
@@ -203,7 +203,7 @@ module _ (slots : List (Option EntryState)) (free : List ℕ) (room : ℕ) (inde
           | false ↦ λ other some. (other, some)
         ]) refl (sym (updates k) ∙ h)
 
-    -- and in another slot
+    -- a slot with another key is another slot
     pub other_slot : (k q : ℕ) → nat_eq key k ≡ false → slot_of k index ≡ Some q → q ≢ p
     other_slot k q differ h = λ (e : q ≡ p).
         let at = there (entry_in slots q) (λ e. e.tile.key ≡ k) (is.keyed k q h) in

@@ -74,6 +74,6 @@ none_yet slots free room told count index links slots_are free_are room_is told_
       told_low = omega (arith, length-below count, ap length free_are);
     }
 
--- all of the free slots were told
+-- all free slots were reported
 pub told_all : (count : ℕ) → drop count (below count) ≡ []
 told_all count = drop_all count (below count) (omega (arith, length-below count))

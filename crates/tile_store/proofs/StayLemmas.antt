@@ -22,7 +22,7 @@ pinned_twice (e ∷ es) =
       | false ↦ λ is. rw is (ap (λ l. e ∷ l) (pinned_twice es))
     ]) refl
 
--- Where the unpinned ones past a share leave, the pinned stay.
+-- when unpinned entries beyond a share leave, the pinned ones stay
 pub stay-kept_within : (share : ℕ) (es : Entries) → KeepsPinned es (kept_within share es)
 stay-kept_within share [] = refl
 stay-kept_within share (e ∷ es) =
@@ -41,7 +41,7 @@ stay-kept_within share (e ∷ es) =
           rw (unpinned_has e.1 (omega arith)) (pinned_twice es)
     ]) refl
 
--- Where the stale ones leave, the pinned stay.
+-- when stale entries leave, the pinned ones stay
 pub stay-without_stale : (file below : ℕ) (es : Entries)
     → KeepsPinned es (without_stale file below es)
 stay-without_stale file below [] = refl
@@ -59,7 +59,7 @@ stay-without_stale file below (e ∷ es) =
       | false ↦ λ is. rw is (ap (λ l. e ∷ l) (stay-without_stale file below es))
     ]) refl
 
--- Where one leaves for a new tile, the pinned stay.
+-- when an entry leaves for a new tile, the pinned ones stay
 stay-with_room : (tile : CachedTile) (slots : ℕ) (es : Entries)
     → KeepsPinned (with_first tile es) (with_first tile (with_room slots es))
 stay-with_room tile slots es =

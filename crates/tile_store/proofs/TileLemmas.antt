@@ -1,4 +1,4 @@
--- The samples of a tile: where they stand, and whose they are.
+-- The samples of a tile: where they are, and which texels they belong to.
 use Rattle.std.proofs.Common.{◌≡◌, ℕ, ◌+◌, ◌-◌, ◌*◌, ◌<◌, ◌≤◌, List, length, get_or, take, drop, Option, Some, None}
 use Rattle.std.proofs.Common.{ap, ◌∙◌, arith, IsSomeAnd, length-take, length-drop}
 use Rattle.std.proofs.lemmas.List.{get_or-take, get_or-drop}
@@ -83,7 +83,7 @@ module _ (parts tile : CachedTile) (view : parts ≡ tile) (is : IsTile tile) (x
       let wide : parts.channels ≡ tile.channels = ap (λ t. t.channels) view in
       rw (part, same, wide, from) (row_samples tile x y n is row)
 
--- a sample of a texel of the tile stands before the end
+-- a sample of a texel of the tile comes before the end
 pub sample_within : (tile : CachedTile) (x y c : ℕ) → IsTile tile → HoldsTexel tile.rect x y
     → c < tile.channels → place_in tile x y + c < length tile.texels
 sample_within tile x y c is inside channel =
@@ -142,7 +142,7 @@ module _ (files : Files) (tile : CachedTile) (is : IsTile tile) (told : IsTold f
       } in
       rw (are.each i c i_in c_in) (sample_of (x + i) y c inside c_in bytes h)
 
-  -- and the samples of a row are those of the level
+  -- the samples of a row are those of the level
   pub told_samples : (x y n : ℕ) (samples : List ℕ) → HoldsRow tile x y n
       → AreSamples tile x y n samples → AreToldSamples files tile x y n samples
   told_samples x y n samples row are = λ tells.

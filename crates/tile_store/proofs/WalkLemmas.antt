@@ -63,7 +63,7 @@ last_shown slots xs p (Some b) now h shown at = sym (some_last slots xs p (now b
 
 -- ---- a walk from the back
 
--- so many are passed, and none of them is unpinned; the walk is at the next
+-- this many places are passed, none of them unpinned, and the walk is at the next
 pub record Behind (slots : List (Option EntryState)) (order : List ℕ) (passed : ℕ) (at : Option ℕ) : Type 0 where
   pub at_is : at ≡ last_of (take (length order - passed) order)
   pub pinned : list_any is_unpinned (entries_of slots (drop (length order - passed) order)) ≡ false
@@ -77,7 +77,7 @@ behind_none slots order =
       pinned = ap (λ l. list_any is_unpinned (entries_of slots l)) rest;
     }
 
--- the places before the next, and those behind it
+-- the places before the next one, and those after it
 pub record Next (slots : List (Option EntryState)) (order : List ℕ) (passed p : ℕ) : Type 0 where
   pub front : List ℕ
   pub back : List ℕ

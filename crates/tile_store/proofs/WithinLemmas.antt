@@ -11,7 +11,7 @@ use Rattle.tile_store.specs.Entry.{EntryState, Entries, unpinned_bytes, pin_sum,
 use Rattle.tile_store.specs.Changes.{without_last_unpinned, kept_within}
 use Rattle.tile_store.proofs.EvictLemmas.{loose-all_pinned, or_false}
 
--- what has no pin does not count where the pins are summed
+-- what has no pin does not count in the sum of pins
 pub filter_pins : (p : ℕ × EntryState → Bool) → ((e : ℕ × EntryState) → p e ≡ false → e.1.pins ≡ 0)
     → (es : Entries) → pin_sum (filter p es) ≡ pin_sum es
 filter_pins p none [] = refl
@@ -38,7 +38,7 @@ not_false false h = absurd cc
 pub pin_sum-pinned : (es : Entries) → pin_sum (filter is_pinned es) ≡ pin_sum es
 pin_sum-pinned = filter_pins is_pinned (λ e h. eqb-true e.1.pins 0 (not_false (is_unpinned e) h))
 
--- ---- where all fit
+-- ---- if all entries fit
 
 pub kept_within-all : (share : ℕ) (es : Entries) → loose_bytes es ≤ share → kept_within share es ≡ es
 kept_within-all share [] h = refl
@@ -48,7 +48,7 @@ kept_within-all share (e ∷ es) h =
     let rest : loose_bytes es ≤ share - unpinned_bytes e.1 = omega arith in
     rw (le-leb (unpinned_bytes e.1) share fits) (ap (λ l. e ∷ l) (kept_within-all (share - unpinned_bytes e.1) es rest))
 
--- ---- where not all fit, the last unpinned one may leave first
+-- ---- if not all entries fit, the last unpinned one may leave first
 
 pub filter_without : (es : Entries) → filter is_pinned (without_last_unpinned es) ≡ filter is_pinned es
 filter_without [] = refl
@@ -143,7 +143,7 @@ All-kept_within P share (e ∷ es) all =
 
 -- ---- the last ones leave one after another
 
--- those that are to stay are still those that were
+-- the entries that must stay are still the same
 pub record Evicting (share loose : ℕ) (was now : Entries) : Type 0 where
   pub loose_is : loose ≡ loose_bytes now
   pub kept : kept_within share now ≡ kept_within share was

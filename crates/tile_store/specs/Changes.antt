@@ -1,4 +1,4 @@
--- What does each call leave of the entries of a shard?
+-- How does each call change the entries of a shard?
 use Rattle.std.specs.Prelude.{◌≡◌, ℕ, ◌+◌, ◌-◌, ◌&&◌, ◌==◌, Bool, not, nat_eq, nat_le, nat_lt, []}
 use Rattle.std.specs.Prelude.{◌∷◌, length, if◌then◌else◌}
 use Rattle.std.specs.List.{filter, list_any}
@@ -9,7 +9,7 @@ use Rattle.tile_store.specs.Tile.{CachedTile}
 use Rattle.tile_store.specs.Entry.{EntryState, Entries, is_unpinned, is_pinned, pinned_entries}
 use Rattle.tile_store.specs.Entry.{unpinned_bytes, entry_at}
 
--- the entry with one pin more
+-- the entry with one more pin
 abbrev pub one_more : EntryState → EntryState
 one_more entry = record entry { pins = entry.pins + 1 }
 
@@ -21,70 +21,70 @@ one_less entry = record entry { pins = entry.pins - 1 }
 abbrev pub new_entry : CachedTile → EntryState
 new_entry new_tile = record { tile = new_tile; pins = 1 }
 
--- The entry of the key has one pin more and stands first.
+-- The entry of the key has one more pin and is first.
 abbrev pub pinned_first : ℕ → Entries → Entries
 pinned_first key es =
     option_map_or (λ entry. (key, one_more entry) ∷ remove_entry (nat_eq key) es)
     (entry_at key es) es
 
--- The last unpinned entry has left: the first from the front behind which each is pinned.
+-- The last unpinned entry has left: the one behind which all entries are pinned.
 abbrev pub without_last_unpinned : Entries → Entries
 without_last_unpinned [] = []
 without_last_unpinned (e ∷ es) =
     if list_any is_unpinned es then e ∷ without_last_unpinned es
     else (if is_unpinned e then es else e ∷ es)
 
--- room for one more among so many slots: where all are taken the last unpinned entry has left
+-- the entries with a free slot: if all were taken, the last unpinned entry has left
 abbrev pub with_room : ℕ → Entries → Entries
 with_room slots es = if nat_le slots (length es) then without_last_unpinned es else es
 
--- the entry of a tile stands first, with one pin
+-- the entry of a tile is first, with one pin
 abbrev pub with_first : CachedTile → Entries → Entries
 with_first tile es = (tile.key, new_entry tile) ∷ es
 
--- so it stands in the new entries before the old
+-- the entry of the tile is first, and the old entries follow
 abbrev pub IsFirst : CachedTile → Entries → Entries → Type 0
 IsFirst tile old new = new ≡ with_first tile old
 
--- The tile is inserted with one pin: an entry that has its key is pinned instead, else the new
--- entry stands first, in a shard that had room or made it.
+-- The tile is inserted with one pin. If an entry has its key, that one is pinned instead. Otherwise
+-- the new entry is first, and if all slots were taken, an unpinned one has left.
 abbrev pub inserted : CachedTile → ℕ → Entries → Entries
 inserted tile slots es =
     option_map_or (λ _. pinned_first tile.key es) (entry_at tile.key es)
     (with_first tile (with_room slots es))
 
--- The tile is pinned, and nothing has left: an entry that has its key is pinned, else the new entry
--- stands first.
+-- The tile is pinned and nothing has left: an entry with its key has one more pin, or the new entry
+-- is first.
 abbrev pub with_pin : CachedTile → Entries → Entries
 with_pin tile es =
     option_map_or (λ _. pinned_first tile.key es) (entry_at tile.key es) (with_first tile es)
 
--- the tile that is then kept under its key
+-- the tile that is kept under the key
 abbrev pub kept_tile : CachedTile → Entries → CachedTile
 kept_tile tile es = option_map_or (λ entry. entry.tile) (entry_at tile.key es) tile
 
--- The entry of the key has one pin less, in its place.
+-- The entry of the key has one pin less, and keeps its place.
 abbrev pub unpinned_once : ℕ → Entries → Entries
 unpinned_once key es =
     option_map_or (λ entry. set_value (nat_eq key) es (one_less entry)) (entry_at key es) es
 
--- From the front unpinned entries stay while their bytes fit. From the first on that does not fit
--- all unpinned ones leave. Pinned ones stay, and take nothing.
+-- From the front, unpinned entries stay while their bytes fit. From the first one that does not
+-- fit, all unpinned entries leave. Pinned entries stay, and do not count.
 abbrev pub kept_within : ℕ → Entries → Entries
 kept_within share [] = []
 kept_within share (e ∷ es) =
     if nat_le (unpinned_bytes e.1) share then e ∷ kept_within (share - unpinned_bytes e.1) es
     else filter is_pinned es
 
--- the entry is unpinned, of this file, and of a generation below the bound
+-- whether the entry is unpinned, of this file, and of a generation below the bound
 abbrev pub is_stale : ℕ → ℕ → ℕ × EntryState → Bool
 is_stale file below e =
     is_unpinned e && (file_of e.0 == file) && nat_lt (generation_of e.0) below
 
--- These entries have left, and no others.
+-- the entries without the stale ones
 abbrev pub without_stale : ℕ → ℕ → Entries → Entries
 without_stale file below es = filter (λ e. not (is_stale file below e)) es
 
--- Only unpinned entries left: the pinned ones are the same, in the same order.
+-- Only unpinned entries were removed: the pinned ones are the same, in the same order.
 abbrev pub KeepsPinned : Entries → Entries → Type 0
 KeepsPinned old new = pinned_entries new ≡ pinned_entries old

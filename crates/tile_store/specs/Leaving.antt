@@ -1,4 +1,4 @@
--- Which entry is the next to leave?
+-- Which entry leaves next?
 use Rattle.std.specs.Prelude.{◌≡◌, ℕ, ◌-◌, nat_eq, false, Option, ◌∷◌, ◌++◌, length, take}
 use Rattle.std.specs.Prelude.{if◌then◌else◌}
 use Rattle.std.specs.List.{list_any}
@@ -9,7 +9,7 @@ use Rattle.tile_store.specs.Entry.{EntryState, Entries, is_unpinned}
 use Rattle.tile_store.specs.Changes.{is_stale}
 use Rattle.tile_store.specs.Links.{last_of}
 
--- the entry of this key is the last unpinned one, with so many bytes
+-- the entry of this key is the last unpinned one, and has this number of bytes
 pub record IsLastUnpinned (key bytes : ℕ) (es : Entries) : Type 0 where
   pub front : Entries
   pub entry : EntryState
@@ -23,16 +23,16 @@ pub record IsLastUnpinned (key bytes : ℕ) (es : Entries) : Type 0 where
 abbrev pub last_entry : Entries → Option (ℕ × EntryState)
 last_entry es = last_of es
 
--- the entry of a key goes first
+-- the entry of a key is moved to the front
 abbrev pub promoted : ℕ → Entries → Entries
 promoted key es =
     option_map_or (λ e. e ∷ remove_entry (nat_eq key) es) (lookup_entry (nat_eq key) es) es
 
--- the entries but for the last
+-- all entries but the last
 abbrev pub all_but_last : Entries → Entries
 all_but_last es = take (length es - 1) es
 
--- the last entry has left where it is stale, and else stands first
+-- the last entry has left if it is stale, and is first otherwise
 abbrev pub turned : ℕ → ℕ → Entries → Entries
 turned file below es =
     option_map_or

@@ -16,14 +16,14 @@ is_marked file marks = slice_index_or marks file false
 abbrev pub HasMark : List Bool → ℕ × EntryState → Type 0
 HasMark marks e = is_marked (file_of e.0) marks ≡ true
 
--- the file of an entry is another one
+-- the entry belongs to another file
 abbrev pub IsOfOther : ℕ → ℕ × EntryState → Type 0
 IsOfOther file e = (file_of e.0 == file) ≡ false
 
--- a file is marked now
+-- a file gets a mark
 abbrev pub marked : ℕ → List Bool → List Bool
 marked file marks = slice_set marks file true
 
--- a file is not marked any more
+-- a file loses its mark
 abbrev pub unmarked : ℕ → List Bool → List Bool
 unmarked file marks = slice_set marks file false

@@ -1,4 +1,4 @@
--- What is known of the entries of a shard in their slots?
+-- What is true of the entries of a shard in their slots?
 use Rattle.std.specs.Prelude.{◌≡◌, ℕ, zero, suc, ◌+◌, ◌<◌, ◌≤◌, true, nat_eq}
 use Rattle.std.specs.Prelude.{List, [], ◌∷◌, ◌++◌, length}
 use Rattle.std.specs.Prelude.{Option, Some, None, slice_index_or, IsSomeAnd}
@@ -13,7 +13,7 @@ use Rattle.tile_store.specs.Slots.{ShardState, SameSlots, LosesKey}
 abbrev pub entry_in : List (Option EntryState) → ℕ → Option EntryState
 entry_in slots slot = slice_index_or slots slot None
 
--- an entry before others, under the key of its tile
+-- an entry in front of others, under the key of its tile
 abbrev pub in_front : Option EntryState → Entries → Entries
 in_front entry es = option_map_or (λ e. (e.tile.key, e) ∷ es) entry es
 
@@ -22,8 +22,8 @@ abbrev pub entries_of : List (Option EntryState) → List ℕ → Entries
 entries_of slots [] = []
 entries_of slots (p ∷ ps) = in_front (entry_in slots p) (entries_of slots ps)
 
--- The slots in the order have entries, and the table finds each by its key and no others. The other
--- slots are free: they have no entry, and there is room to note each of them.
+-- The slots in the order have entries, and the table finds each by its key and nothing else. The
+-- other slots are free and empty, and there is memory to list each of them.
 pub record IsOrder (slots : List (Option EntryState)) (free : List ℕ) (room : ℕ)
     (index : List (Option ℕ)) (links : Linked) : Type 0 where
   pub places : length slots ≡ links.places
@@ -43,8 +43,7 @@ abbrev pub below : ℕ → List ℕ
 below zero = []
 below (suc n) = below n ++ n ∷ []
 
--- So it is, and as many slots are noted as there are. Those of the free ones that stand first were
--- told.
+-- The slots are in order, and all free slots are listed. The first `told` of them were reported.
 pub record IsOrdered (slots : List (Option EntryState)) (free : List ℕ) (room told : ℕ)
     (index : List (Option ℕ)) (links : Linked) : Type 0 where
   pub order : IsOrder slots free room index links

@@ -1,4 +1,4 @@
--- Which slot of a shard has which entry, and what does each call leave of that?
+-- Which slot of a shard has which entry, and how does each call change that?
 use Rattle.std.specs.Prelude.{◌≡◌, ℕ, true, false, List, [], ◌∷◌, ◌++◌, length, replicate}
 use Rattle.std.specs.Prelude.{Option, Some, None, IsSome}
 use Rattle.std.specs.Option.{option_map_or}
@@ -6,16 +6,16 @@ use Rattle.tile_store.specs.Entry.{Entries, entry_at}
 use Rattle.tile_store.specs.Links.{is_in}
 use Rattle.tile_store.specs.Keys.{key_in, slot_of, keyed_at, without_key, AreApart}
 
--- What is known of a shard.
+-- A shard, as contracts see it.
 pub record ShardState : Type 0 where
   -- its entries, the most recently used first
   pub entries : Entries
   -- the key in each of its slots
   pub slots : List (Option ℕ)
-  -- the slots whose entries left, and that were not told yet
+  -- the slots that were emptied and not yet reported
   pub left : List ℕ
 
--- a shard of so many slots, without an entry
+-- a shard with this many slots, without entries
 abbrev pub empty_shard : ℕ → ShardState
 empty_shard count = record { entries = []; slots = replicate count None; left = [] }
 
@@ -25,18 +25,18 @@ pub record AreInSlots (s : ShardState) : Type 0 where
   pub some : (key slot : ℕ) → slot_of key s.slots ≡ Some slot → IsSome (entry_at key s.entries)
   pub none : (key : ℕ) → slot_of key s.slots ≡ None → entry_at key s.entries ≡ None
 
--- Each entry has its slot, and no slot is told.
+-- Each entry keeps its slot, and no slot is reported.
 pub record SameSlots (old new : ShardState) : Type 0 where
   pub slots : new.slots ≡ old.slots
   pub left : new.left ≡ old.left
 
--- The slot that had the key has none, and is to be told.
+-- The slot that had the key is empty, and is still to be reported.
 pub record LosesKey (key : ℕ) (old new : ShardState) : Type 0 where
   pub slots : new.slots ≡ without_key key old.slots
   pub left : new.left
       ≡ old.left ++ option_map_or (λ slot. slot ∷ []) (slot_of key old.slots) []
 
--- Some slots have no key any more, and are to be told. The others have the key that they had.
+-- Some slots were emptied and are still to be reported. The others keep their keys.
 pub record EmptiesSlots (old new : ShardState) : Type 0 where
   pub emptied : List ℕ
   pub left : new.left ≡ old.left ++ emptied
@@ -44,18 +44,18 @@ pub record EmptiesSlots (old new : ShardState) : Type 0 where
   pub kept : (slot : ℕ) → is_in slot emptied ≡ false → key_in new.slots slot ≡ key_in old.slots slot
   pub count : length new.slots ≡ length old.slots
 
--- One slot has the key now. The others have the key that they had.
+-- One slot now has the key. The others keep their keys.
 pub record FillsSlot (key : ℕ) (old new : ShardState) : Type 0 where
   pub slot : ℕ
   pub slots : new.slots ≡ keyed_at slot key old.slots
   pub left : new.left ≡ []
 
--- Where an entry has the key each entry has its slot. Else one slot has the key now.
+-- If an entry had the key, each entry keeps its slot. Otherwise one slot now has the key.
 pub record SlotsAfterInsert (key : ℕ) (old new : ShardState) : Type 0 where
   pub kept : IsSome (entry_at key old.entries) → SameSlots old new
   pub filled : entry_at key old.entries ≡ None → FillsSlot key old new
 
--- The first of the slots that are to be told was told, if there was one.
+-- The first emptied slot that was not yet reported was reported, if there was one.
 pub record TellsSlot (told : Option ℕ) (old new : ShardState) : Type 0 where
   pub entries : new.entries ≡ old.entries
   pub slots : new.slots ≡ old.slots

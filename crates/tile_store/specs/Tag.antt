@@ -1,9 +1,9 @@
--- Which share and which cut does the tag of a shard name?
+-- Which share and which cut does the tag of a shard encode?
 use Rattle.std.specs.Prelude.{ℕ, ◌+◌, ◌*◌, ◌/◌, ◌%◌, ◌==◌, if◌then◌else◌}
 use Rattle.tiff_format.specs.declared.cut.Cut.{Cut}
 use Rattle.tiff_format.specs.Cut.{autotile_step}
 
--- the tags of one share
+-- the number of tags per share
 abbrev pub share_step : ℕ
 share_step = 1024
 
@@ -16,7 +16,7 @@ tag_of share cut =
 unfoldable pub share_in_tag : ℕ → ℕ
 share_in_tag tag = tag / share_step
 
--- how the levels are cut whose cells are its tiles
+-- the cut of the levels that its tiles belong to
 unfoldable pub cut_of : ℕ → Cut
 cut_of tag = record {
   autotile = autotile_step * (tag % share_step / 2);

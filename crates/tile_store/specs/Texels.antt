@@ -3,7 +3,7 @@ use Rattle.std.specs.Prelude.{ℕ, List}
 use Rattle.tile_store.specs.declared.texels.Texels.{Texels}
 use Rattle.tile_store.specs.declared.texels.Texels.TheVariants.{Bytes, Shorts}
 
--- these, whether a byte each or two
+-- the samples, whether of one or two bytes each
 abbrev pub kept_in : Texels → List ℕ
 kept_in (Bytes samples) = samples.items
 kept_in (Shorts samples) = samples.items

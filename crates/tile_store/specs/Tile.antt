@@ -4,7 +4,7 @@ use Rattle.tiff_format.specs.Facts.{IsChannelCount}
 use Rattle.tiff_format.specs.declared.rect.Rect.{Rect}
 use Rattle.tile_layout.specs.Cell.{max_cell_bytes}
 
--- the texels of a rectangle of a level, row by row, with so many samples each
+-- the texels of a rectangle of a level, row by row, with this number of samples each
 pub record CachedTile : Type 0 where
   pub key : ℕ
   pub rect : Rect
@@ -16,18 +16,18 @@ abbrev pub cached_tile : ℕ → Rect → ℕ → List ℕ → CachedTile
 cached_tile key rect channels texels =
     record { key = key; rect = rect; channels = channels; texels = texels }
 
--- the bytes that it takes: a sample has two
+-- the bytes that the budget charges: two per sample
 abbrev pub tile_bytes : CachedTile → ℕ
 tile_bytes tile = 2 * length tile.texels
 
--- It has a number of samples that a file can have, these for each texel of its rectangle, and takes
--- no more bytes than a cell may.
+-- It has a possible number of channels, samples for each texel of its rectangle, and no more bytes
+-- than a cell may have.
 pub record IsTile (tile : CachedTile) : Type 0 where
   pub channels : IsChannelCount tile.channels
   pub texels : length tile.texels ≡ tile.rect.w * tile.rect.h * tile.channels
   pub bytes : tile_bytes tile ≤ max_cell_bytes
 
--- where the samples of texel (x, y) of the level begin among those of the tile
+-- the index of the first sample of texel (x, y) of the level
 abbrev pub place_in : CachedTile → ℕ → ℕ → ℕ
 place_in tile x y = ((y - tile.rect.y) * tile.rect.w + (x - tile.rect.x)) * tile.channels
 
@@ -35,14 +35,14 @@ place_in tile x y = ((y - tile.rect.y) * tile.rect.w + (x - tile.rect.x)) * tile
 abbrev pub kept_sample : CachedTile → ℕ → ℕ → ℕ → ℕ
 kept_sample tile x y c = slice_index tile.texels (place_in tile x y + c)
 
--- these are n texels side by side from (x, y) on, inside the tile
+-- the tile contains the n texels from (x, y) on, side by side
 pub record HoldsRow (tile : CachedTile) (x y n : ℕ) : Type 0 where
   pub left : tile.rect.x ≤ x
   pub right : x + n ≤ tile.rect.x + tile.rect.w
   pub top : tile.rect.y ≤ y
   pub bottom : y < tile.rect.y + tile.rect.h
 
--- these are their samples
+-- these are the samples of those texels
 pub record AreSamples (tile : CachedTile) (x y n : ℕ) (samples : List ℕ) : Type 0 where
   pub count : length samples ≡ n * tile.channels
   pub each : (i c : ℕ) → i < n → c < tile.channels

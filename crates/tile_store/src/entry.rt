@@ -1,3 +1,4 @@
+//! An entry of a shard: a tile and its pins.
 ghost use Rattle.std.specs.Prelude.{◌≡◌, ◌+◌, ◌≤◌, ◌<◌, ◌^◌, ◌==◌, ◌↔◌, IsTrue, IfOk};
 ghost use Rattle.std.specs.Arc.{arc_value};
 ghost use Rattle.tile_layout.specs.Cell.{max_cell_bytes};
@@ -11,7 +12,7 @@ use std::sync::Arc;
 use tex_world::{NoMemory, World};
 use tile_layout::TileKey;
 
-/// A tile of a shard, and how often it is pinned.
+/// A tile of a shard, and its number of pins.
 #[derive(Drop)]
 pub struct Entry<W: World> {
     tile: Arc<Tile<W>>,
@@ -35,14 +36,14 @@ impl<W: World> Entry<W> {
         Entry { tile, pins: 1 }
     }
 
-    /// The tile, for a pin.
+    /// A reference to the tile, for a pin.
     pub(crate) fn shared(&self) -> Result<Arc<Tile<W>>, NoMemory>
         ensures { IfOk result (λ tile. arc_value tile ≡ self.now.tile) }
     {
         another(&self.tile)
     }
 
-    /// The key of its tile.
+    /// The key of the tile.
     pub(crate) fn key(&self) -> TileKey
         ensures { result ≡ self.now.tile.key }
     {
@@ -61,7 +62,7 @@ impl<W: World> Entry<W> {
         self.pins > 0
     }
 
-    /// The bytes of its tile, or 0 where it is pinned.
+    /// The bytes of the tile; 0 if it is pinned.
     pub(crate) fn unpinned_bytes(&self) -> u64
         ensures value { result ≡ unpinned_bytes self.now }
         ensures in_range { result ≤ max_cell_bytes }
@@ -69,7 +70,7 @@ impl<W: World> Entry<W> {
         if self.pins == 0 { self.tile.bytes() } else { 0 }
     }
 
-    /// It is unpinned, and of a generation of the file below the bound.
+    /// Whether it is unpinned, and of a generation of the file below the bound.
     pub(crate) fn is_stale(&self, file: u32, below: u32) -> bool
         ensures { result ≡ is_stale file below (self.now.tile.key, self.now) }
     {
@@ -92,14 +93,14 @@ impl<W: World> Entry<W> {
     }
 }
 
-/// One more owner of a tile.
+/// A further reference to a tile.
 pub(crate) fn another<W: World>(tile: &Arc<Tile<W>>) -> Result<Arc<Tile<W>>, NoMemory>
     ensures { IfOk result (λ other. arc_value other ≡ arc_value tile.now) }
 {
     Arc::try_clone(tile).map_err(|_| NoMemory)
 }
 
-/// The first owner of a tile.
+/// The first reference to a tile.
 pub(crate) fn owned<W: World>(alloc: Global, tile: Tile<W>) -> Result<Arc<Tile<W>>, NoMemory>
     ensures { IfOk result (λ owner. arc_value owner ≡ tile) }
 {

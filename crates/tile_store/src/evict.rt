@@ -1,4 +1,4 @@
-//! The unpinned entries that leave a shard, the last first.
+//! Evicts unpinned entries, the least recently used first.
 ghost use Rattle.std.specs.Prelude.{◌≡◌, ◌+◌, ◌<◌, ◌≤◌, length, IsTrue};
 ghost use Rattle.std.specs.List.{list_any};
 ghost use Rattle.tile_store.specs.Entry.{is_unpinned, pinned_count, loose_bytes};
@@ -9,14 +9,14 @@ ghost use Rattle.tile_store.specs.Order.{Evicts, MakesRoom};
 use crate::order::Order;
 use tex_world::World;
 
-/// The last unpinned entry leaves. The answer is its bytes.
+/// Evicts the least recently used unpinned entry. Returns its bytes.
 fn evict<W: World>(order: &mut Order<W>) -> u64
     requires { IsTrue (list_any is_unpinned order.old.entries) }
     ensures entries { order.new.entries ≡ without_last_unpinned order.old.entries }
     ensures slots { Evicts order.old order.new }
     ensures bytes { loose_bytes order.new.entries + result ≡ loose_bytes order.old.entries }
 {
-    // Its keys are distinct, so one entry leaves with the key.
+    // needed by the proof: keys are distinct, so exactly one entry leaves
     let _count = order.len();
     match order.last_unpinned() {
         Some(last) => {
@@ -27,8 +27,8 @@ fn evict<W: World>(order: &mut Order<W>) -> u64
     }
 }
 
-/// Makes room for one entry more: where all slots are taken the last unpinned one leaves. The
-/// answer is its bytes.
+/// Makes a slot free: if all are taken, the least recently used unpinned entry leaves. Returns its
+/// bytes.
 pub(crate) fn make_room<W: World>(order: &mut Order<W>) -> u64
     requires { pinned_count order.old.entries < length order.old.slots }
     ensures entries { order.new.entries
@@ -44,8 +44,8 @@ pub(crate) fn make_room<W: World>(order: &mut Order<W>) -> u64
     }
 }
 
-/// Unpinned entries leave, the last first, until those that stay fit the share. The answer is their
-/// bytes.
+/// Evicts unpinned entries, the least recently used first, until the others fit the share. Returns
+/// the bytes of the unpinned entries that stay.
 pub(crate) fn evict_past<W: World>(order: &mut Order<W>, loose: u64, share: u64) -> u64
     requires { loose ≡ loose_bytes order.old.entries }
     ensures entries { order.new.entries ≡ kept_within share order.old.entries }

@@ -1,4 +1,4 @@
-//! The key of each slot, and the slot of each key.
+//! A hash table from keys to slots.
 ghost use Rattle.std.specs.Prelude.{◌≡◌, ℕ, ◌+◌, ◌<◌, ◌^◌, length, replicate, nat_eq, cond};
 ghost use Rattle.std.specs.Prelude.{IfOk, IfSome, Some, None};
 ghost use Rattle.tile_store.specs.Keys.{key_in, slot_of, keyed_at, without_key, is_key, AreApart};
@@ -10,12 +10,12 @@ use std::marker::Model;
 use tex_world::NoMemory;
 use tile_layout::TileKey;
 
-/// The keys of so many slots, some of which have none. In a clause it is the list of them.
+/// The keys of a fixed number of slots, some of which have none. Clauses see the list of keys.
 #[derive(Drop)]
 pub struct Keys {
     keys: Vec<Option<TileKey>>,
-    // Behind each slot the next one of its chain, and then the first slot of each chain. A chain
-    // ends with the number of the slots.
+    // For each slot, the next slot of its chain; after these, the first slot of each chain. A chain
+    // ends with the number of slots.
     next: Vec<u32>,
     slots: u32,
 }
@@ -32,7 +32,7 @@ impl Model for Keys {
 }
 
 impl Keys {
-    /// So many slots without a key.
+    /// A table of `slots` slots without keys.
     pub(crate) fn new(alloc: Global, slots: u32) -> Result<Keys, NoMemory>
         ensures { IfOk result (λ keys. keys ≡ replicate slots None) }
     {
@@ -52,7 +52,7 @@ impl Keys {
         if slot == self.slots { None } else { Some(slot) }
     }
 
-    /// A slot gets a key.
+    /// Gives a slot a key.
     pub(crate) fn put(&mut self, key: TileKey, slot: u32)
         requires missing { slot_of key self.old ≡ None }
         requires low { slot < length self.old }
@@ -68,7 +68,7 @@ impl Keys {
         self.keys[slot as usize] = Some(key);
     }
 
-    /// The slot of a key loses it. The answer is the slot.
+    /// Takes the key from its slot, and returns the slot.
     pub(crate) fn take(&mut self, key: TileKey) -> Option<u32>
         ensures value { result ≡ slot_of key self.old }
         ensures low { IfSome result (λ slot. slot < length self.old) }
@@ -88,17 +88,18 @@ impl Keys {
     }
 }
 
-/// The number of chains for so many slots.
+/// The number of chains for this number of slots.
 fn chains_for(slots: u32) -> usize
     ensures { result ≡ chains_for slots }
 {
     2 * slots as usize + 1
 }
 
-/// An odd number near 2^64 over the golden ratio, which spreads keys that are near to each other.
+/// An odd number near 2^64 divided by the golden ratio. It spreads neighbouring keys over the
+/// chains.
 const SPREAD: u64 = 0x9e37_79b9_7f4a_7c15;
 
-/// The chain of a key, among so many.
+/// The chain of a key.
 #[tactic(auto, unfolding(crate::specs::Keys::chain_of))]
 fn chain_of(key: TileKey, chains: usize) -> usize
     requires some { 0 < chains }
@@ -110,7 +111,7 @@ fn chain_of(key: TileKey, chains: usize) -> usize
     (spread as usize * chains) >> 31
 }
 
-/// The node of a key's chain that stands before the key's slot, or the last one of the chain.
+/// The node before the key's slot in the key's chain, or the last node if the key is not there.
 fn before(keys: &[Option<TileKey>], next: &[u32], slots: u32, key: TileKey) -> usize
     requires { AreChains keys.now next.now slots }
     ensures before { IsBefore keys.now next.now slots key result }
@@ -127,7 +128,7 @@ fn before(keys: &[Option<TileKey>], next: &[u32], slots: u32, key: TileKey) -> u
     node
 }
 
-/// So many slots without anything.
+/// A list of `slots` empty places.
 pub(crate) fn none_yet<X: Drop>(alloc: Global, slots: u32) -> Result<Vec<Option<X>>, NoMemory>
     ensures { IfOk result (λ made. made.items ≡ replicate slots None) }
 {
@@ -138,7 +139,7 @@ pub(crate) fn none_yet<X: Drop>(alloc: Global, slots: u32) -> Result<Vec<Option<
     Ok(made)
 }
 
-/// It is this key.
+/// Whether a slot has this key.
 fn is_key(of_slot: Option<TileKey>, key: TileKey) -> bool
     ensures { result ≡ is_key key of_slot }
 {

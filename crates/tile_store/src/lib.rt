@@ -1,5 +1,5 @@
-//! The texels of cells in memory: tiles, and shards of tiles in the order of their last use, with a
-//! count of pins for each.
+//! The tiles in memory: tiles, and shards that keep them in the order of their last use, each with
+//! a count of pins.
 #![tactic(auto)]
 
 mod entry;
@@ -15,7 +15,7 @@ mod texels;
 mod tile;
 mod two_rows;
 
-// A clause can name a shard only if the types of its fields are exported.
+// clauses can name a shard only if the types of its fields are exported
 #[doc(hidden)]
 pub use entry::Entry;
 #[doc(hidden)]

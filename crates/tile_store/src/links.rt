@@ -1,4 +1,4 @@
-//! Places in an order: each is linked to the next and to the one before.
+//! A doubly linked list of places, in arrays.
 ghost use Rattle.std.specs.Prelude.{◌≡◌, ℕ, ◌+◌, ◌<◌, ◌^◌, ◌≤◌, [], ◌∷◌, ◌++◌, List};
 ghost use Rattle.std.specs.Prelude.{length, replicate, nat_eq, IfOk, IsTrue, IsFalse};
 ghost use Rattle.std.specs.List.{IsDistinct};
@@ -8,12 +8,12 @@ use std::alloc::Global;
 use std::marker::Model;
 use tex_world::NoMemory;
 
-/// Some of so many places, in an order. In a clause it is the list of those, and how many there
-/// are.
+/// Some of a fixed number of places, in an order. Clauses see the list of these places, and the
+/// number of all places.
 #[derive(Drop)]
 pub struct Links {
-    // The next of each place and the one before it. The root stands before the first and behind the
-    // last, and has the number of the places.
+    // The next and the previous place of each. The root, whose index is the number of places,
+    // closes the ring.
     next: Vec<u32>,
     prev: Vec<u32>,
     root: u32,
@@ -31,7 +31,7 @@ impl Model for Links {
 }
 
 impl Links {
-    /// So many places, of which none is in the order.
+    /// `places` places, none of which is in the order.
     pub(crate) fn new(alloc: Global, places: u32) -> Result<Links, NoMemory>
         ensures { IfOk result (λ links. links ≡ linked [] places) }
     {
@@ -50,7 +50,7 @@ impl Links {
         self.root
     }
 
-    /// The number of places that are in the order.
+    /// The number of places in the order.
     pub(crate) fn len(&self) -> u32
         ensures len { result ≡ length self.now.order }
         ensures most { length self.now.order ≤ self.now.places }
@@ -61,7 +61,7 @@ impl Links {
         self.len
     }
 
-    /// The last place.
+    /// The last place of the order.
     pub(crate) fn last(&self) -> Option<u32>
         ensures { result ≡ last_of self.now.order }
     {
@@ -73,7 +73,7 @@ impl Links {
         }
     }
 
-    /// The place before a place.
+    /// The place before another one.
     pub(crate) fn before(&self, place: u32) -> Option<u32>
         requires { IsTrue (is_in place self.now.order) }
         ensures { (front back : List ℕ) → self.now.order ≡ front ++ place ∷ back
@@ -87,7 +87,7 @@ impl Links {
         }
     }
 
-    /// A place leaves the order.
+    /// Removes a place from the order.
     pub(crate) fn remove(&mut self, place: u32)
         requires { IsTrue (is_in place self.old.order) }
         ensures { self.new ≡ linked (without place self.old.order) self.old.places }
@@ -99,7 +99,7 @@ impl Links {
         self.len -= 1;
     }
 
-    /// A place becomes the first.
+    /// Adds a place at the front.
     pub(crate) fn push_front(&mut self, place: u32)
         requires free { IsFalse (is_in place self.old.order) }
         requires place { place < self.old.places }
@@ -113,19 +113,19 @@ impl Links {
         self.len += 1;
     }
 
-    /// A place of the order becomes the first.
+    /// Moves a place of the order to the front.
     pub(crate) fn to_front(&mut self, place: u32)
         requires { IsTrue (is_in place self.old.order) }
         ensures { self.new ≡ linked (place ∷ without place self.old.order) self.old.places }
     {
-        // Its places are distinct.
+        // needed by the proof: no place is in the order twice
         let _count = self.len();
         self.remove(place);
         self.push_front(place);
     }
 }
 
-/// So many links, each to one place.
+/// A list of `count` links, all to one place.
 pub(crate) fn all_at(alloc: Global, place: u32, count: usize) -> Result<Vec<u32>, NoMemory>
     ensures { IfOk result (λ links. links.items ≡ replicate count place) }
 {

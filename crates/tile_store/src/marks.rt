@@ -1,4 +1,5 @@
-//! The files that may have tiles in a shard, so that a purge of another one looks at no tile.
+//! Marks the files that may have tiles in a shard, so that a purge of another file looks at no
+//! tile.
 ghost use Rattle.std.specs.Prelude.{◌≡◌, ◌<◌, IfOk, false, length, replicate, if◌then◌else◌};
 ghost use Rattle.tile_layout.specs.Key.{file_of};
 ghost use Rattle.tile_store.specs.Marks.{is_marked, marked, unmarked};
@@ -8,10 +9,10 @@ use std::marker::Model;
 use tex_world::NoMemory;
 use tile_layout::TileKey;
 
-/// The files that a key can name: its number of a file has 12 bits.
+/// The number of files that a key can name: its file number has 12 bits.
 const FILES: usize = 1 << 12;
 
-/// A mark for each file that a key can name. In a clause it is the list of them.
+/// A mark for each file that a key can name. Clauses see the list of marks.
 #[derive(Drop)]
 pub struct Marks {
     marks: Vec<bool>,
@@ -36,7 +37,7 @@ impl Marks {
         })
     }
 
-    /// A file is marked.
+    /// Whether a file is marked.
     pub(crate) fn has(&self, file: u32) -> bool
         ensures { result ≡ is_marked file self.now }
     {
@@ -55,7 +56,7 @@ impl Marks {
         self.marks[key.file() as usize] = true;
     }
 
-    /// Takes the mark of a file, where none of its tiles stays.
+    /// Clears the mark of a file if none of its tiles stays.
     pub(crate) fn keep(&mut self, file: u32, stays: bool)
         ensures { self.new ≡ if stays then self.old else unmarked file self.old }
     {

@@ -1,4 +1,4 @@
-//! The entries of a shard in fixed slots, by their keys, in the order of their last use.
+//! The entries of a shard in fixed slots, found by key, in the order of their last use.
 ghost use Rattle.std.specs.Prelude.{◌≡◌, ℕ, ◌+◌, ◌<◌, ◌≤◌, ◌^◌, ◌++◌, ◌==◌, [], length, nat_eq};
 ghost use Rattle.std.specs.Prelude.{◌∷◌, IfOk, IfSome, None, IsNone, IsFalse, false, option_map};
 ghost use Rattle.std.specs.Option.{option_copied};
@@ -25,13 +25,12 @@ use std::marker::Model;
 use tex_world::{NoMemory, World};
 use tile_layout::TileKey;
 
-/// Entries in fixed slots, by their keys. In a clause it is the list of them, the most recently
-/// used first, with the key of each slot, and the slots whose entries left and that were not told
-/// yet.
+/// Entries in fixed slots, found by key. Clauses see the entries, the most recently used first, the
+/// key of each slot, and the slots that were emptied and not yet reported.
 #[derive(Drop)]
 pub struct Order<W: World> {
     slots: Vec<Option<Entry<W>>>,
-    // The slots without an entry. The first of them were told.
+    // The slots without an entry. The first `told` of them have been reported.
     free: Vec<u32>,
     told: usize,
     keys: Keys,
@@ -57,7 +56,7 @@ impl<W: World> Model for Order<W> {
 }
 
 impl<W: World> Order<W> {
-    /// So many slots without an entry.
+    /// `slots` slots without an entry.
     pub(crate) fn with_slots(alloc: Global, slots: u32) -> Result<Order<W>, NoMemory>
         ensures { IfOk result (λ order. order ≡ empty_shard slots) }
     {
@@ -95,7 +94,7 @@ impl<W: World> Order<W> {
         self.keys.find(key)
     }
 
-    /// The next of the slots that are to be told.
+    /// Reports the next slot that was emptied. Each is reported once.
     pub(crate) fn tell(&mut self) -> Option<u32>
         ensures { TellsSlot result self.old self.new }
     {
@@ -117,7 +116,7 @@ impl<W: World> Order<W> {
         }
     }
 
-    /// Whether an entry is of this file.
+    /// Whether an entry belongs to this file.
     pub(crate) fn has_file(&self, file: u32) -> bool
         ensures { IsFalse result → All (IsOfOther file) self.now.entries }
     {
@@ -129,7 +128,7 @@ impl<W: World> Order<W> {
         false
     }
 
-    /// Pins the entry of a key, which then stands first. The answer is its bytes where it had no
+    /// Adds a pin to the entry of a key, and moves it to the front. Returns its bytes if it had no
     /// pin.
     pub(crate) fn pin(&mut self, key: TileKey) -> u64
         requires { CanPin key self.old.entries }
@@ -140,7 +139,7 @@ impl<W: World> Order<W> {
         let Some(slot) = self.keys.find(key) else {
             return 0;
         };
-        // No slot comes twice.
+        // needed by the proof: no slot is in the order twice
         let _count = self.links.len();
         let Some(entry) = &mut self.slots[slot as usize] else {
             return 0;
@@ -151,7 +150,7 @@ impl<W: World> Order<W> {
         bytes
     }
 
-    /// Takes a pin from the entry of a key. The answer is its bytes where it then has none.
+    /// Takes a pin from the entry of a key. Returns its bytes if it has no pin left.
     pub(crate) fn unpin(&mut self, key: TileKey) -> u64
         requires { HasPin key self.old.entries }
         ensures entries { self.new.entries ≡ unpinned_once key self.old.entries }
@@ -161,7 +160,7 @@ impl<W: World> Order<W> {
         let Some(slot) = self.keys.find(key) else {
             return 0;
         };
-        // No slot comes twice.
+        // needed by the proof: no slot is in the order twice
         let _count = self.links.len();
         let Some(entry) = &mut self.slots[slot as usize] else {
             return 0;
@@ -170,8 +169,8 @@ impl<W: World> Order<W> {
         entry.unpinned_bytes()
     }
 
-    /// Puts an entry first, in a free slot: in the one that an entry left last. All of them count
-    /// as told then. The answer is the slot.
+    /// Adds an entry at the front, in the slot that was emptied last. All free slots then count as
+    /// reported. Returns the slot.
     pub(crate) fn put(&mut self, entry: Entry<W>) -> u32
         requires absent { entry_at entry.tile.key self.old.entries ≡ None }
         requires free { length self.old.entries < length self.old.slots }
@@ -190,7 +189,7 @@ impl<W: World> Order<W> {
         slot
     }
 
-    /// The entry of a key leaves, if there is one.
+    /// Removes the entry of a key, if there is one.
     pub(crate) fn pop(&mut self, key: TileKey)
         ensures entries { self.new.entries ≡ remove_entry (nat_eq key) self.old.entries }
         ensures slots { LosesKey key self.old self.new }
@@ -198,20 +197,20 @@ impl<W: World> Order<W> {
         let Some(slot) = self.keys.take(key) else {
             return;
         };
-        // No slot comes twice.
+        // needed by the proof: no slot is in the order twice
         let _count = self.links.len();
         self.slots[slot as usize] = None;
         self.free.push_reserved(slot);
         self.links.remove(slot);
     }
 
-    /// The entry of a key goes first, if there is one.
+    /// Moves the entry of a key to the front, if there is one.
     pub(crate) fn promote(&mut self, key: TileKey)
         ensures entries { self.new.entries ≡ promoted key self.old.entries }
         ensures slots { SameSlots self.old self.new }
     {
         if let Some(slot) = self.keys.find(key) {
-            // No slot comes twice.
+            // needed by the proof: no slot is in the order twice
             let _count = self.links.len();
             self.links.to_front(slot);
         }
@@ -267,7 +266,7 @@ impl Last {
     }
 }
 
-/// An entry of this file.
+/// Whether a slot has an entry of this file.
 fn is_of<W: World>(slot: &Option<Entry<W>>, file: u32) -> bool
     ensures { IsFalse result → IfSome slot.now (λ e. (file_of e.tile.key == file) ≡ false) }
 {
@@ -277,7 +276,7 @@ fn is_of<W: World>(slot: &Option<Entry<W>>, file: u32) -> bool
     }
 }
 
-/// The numbers of so many slots.
+/// The numbers of all slots.
 fn all_free(alloc: Global, slots: u32) -> Result<Vec<u32>, NoMemory>
     ensures items { IfOk result (λ made. made.items ≡ below slots) }
     ensures room { IfOk result (λ made. vec_capacity made ≡ slots) }

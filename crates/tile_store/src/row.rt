@@ -1,9 +1,9 @@
-//! Samples of a tile that stand side by side.
+//! Samples of a tile that lie side by side.
 
 ghost use Rattle.std.specs.Prelude.{◌≡◌, ℕ, ◌+◌, ◌<◌, ◌≤◌, length, take, drop, slice_index};
 ghost use Rattle.tile_store.specs.Row.{samples_of};
 
-/// Samples side by side: a byte each, or two.
+/// Samples side by side, of one or two bytes each.
 #[derive(Clone, Copy, Debug)]
 pub enum Row<'a> {
     Bytes(&'a [u8]),
@@ -19,7 +19,7 @@ fn short_at(samples: &[u16], at: usize) -> u16
     samples[at]
 }
 
-/// Writes each byte as a sample of two.
+/// Copies bytes into samples of two bytes.
 fn widen(bytes: &[u8], out: &mut [u16])
     requires { length out.old ≡ length bytes.now }
     ensures long { length out.new ≡ length out.old }
@@ -32,7 +32,7 @@ fn widen(bytes: &[u8], out: &mut [u16])
 }
 
 impl<'a> Row<'a> {
-    /// How many samples there are.
+    /// The number of samples.
     #[inline(always)]
     pub fn count(&self) -> usize
         ensures { result ≡ length (samples_of self.now) }
@@ -43,8 +43,8 @@ impl<'a> Row<'a> {
         }
     }
 
-    /// Whether a sample is a byte. Code that asks once, and then has a body for each answer, is
-    /// compiled to loops that do not ask again.
+    /// Whether a sample is one byte. Code that tests this once, and then has a loop for each case,
+    /// is compiled to loops without the test.
     #[inline(always)]
     pub fn has_bytes(&self) -> bool {
         match self {
@@ -65,7 +65,7 @@ impl<'a> Row<'a> {
         }
     }
 
-    /// So many of the samples, from a place on.
+    /// The `count` samples from a place on.
     #[inline(always)]
     pub fn part(&self, from: usize, count: usize) -> Row<'a>
         requires { from + count ≤ length (samples_of self.now) }
@@ -77,7 +77,7 @@ impl<'a> Row<'a> {
         }
     }
 
-    /// Writes the samples to as many places.
+    /// Copies the samples to a slice of the same length.
     pub fn copy_to(&self, out: &mut [u16])
         requires { length out.old ≡ length (samples_of self.now) }
         ensures { out.new ≡ samples_of self.now }

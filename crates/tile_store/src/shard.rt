@@ -1,3 +1,4 @@
+//! A shard: the tiles that one lock guards.
 ghost use Rattle.std.specs.Prelude.{◌≡◌, ℕ, ◌+◌, ◌<◌, ◌≤◌, ◌^◌, [], length, option_map, None};
 ghost use Rattle.std.specs.Prelude.{OnOk, OnErr, IfOk, IfSome, IsTrue, ◌↔◌};
 ghost use Rattle.std.specs.Arc.{arc_value};
@@ -23,11 +24,11 @@ use std::sync::Arc;
 use tex_world::{NoMemory, World};
 use tile_layout::TileKey;
 
-/// Tiles in the order of their last use, each with its pins, in fixed slots. In a clause it is the
-/// list of its entries by their keys, the most recently used first, with the key of each slot, and
-/// the slots whose entries left and that were not told yet.
+/// Tiles in the order of their last use, each with its pins, in fixed slots. Clauses see the
+/// entries by key, the most recently used first, the key of each slot, and the slots that were
+/// emptied and not yet reported.
 ///
-/// A pinned tile stays. Which of the others stay, the bytes that they may take decide.
+/// A pinned tile stays. Which others stay depends on the bytes that unpinned tiles may take.
 #[derive(Drop)]
 pub struct Shard<W: World> {
     alloc: Global,
@@ -49,7 +50,7 @@ impl<W: World> Model for Shard<W> {
 }
 
 impl<W: World> Shard<W> {
-    /// A shard with no tile and so many slots. It takes the memory for all of its entries.
+    /// A shard without tiles and with `slots` slots. Allocates the memory for all its entries.
     pub fn with_slots(alloc: Global, slots: u32) -> Result<Shard<W>, NoMemory>
         ensures value { IfOk result (λ shard. shard ≡ empty_shard slots) }
         ensures lawful { IfOk result (λ shard. (tag : ℕ) → Lawful W.files tag shard.entries) }
@@ -63,15 +64,14 @@ impl<W: World> Shard<W> {
         })
     }
 
-    /// The tile of a key, with a pin more on its entry, which then stands first. Else None, and
-    /// nothing changes.
+    /// Pins the tile of a key and moves it to the front. `None`, and no change, if it is not there.
     pub fn find_pin(&mut self, key: TileKey) -> Result<Option<Arc<Tile<W>>>, NoMemory>
         requires { pin_sum self.old.entries + 1 < 2 ^ 32 }
-        // None comes exactly where no entry has the key; a tile that comes is its entry's.
+        // `None` if and only if no entry has the key; otherwise the entry's tile.
         ensures found { IfOk result (λ tile.
             option_map arc_value tile ≡ tile_at key self.old.entries) }
         ensures keyed { IfOk result (λ tile. IfSome tile (λ t. (arc_value t).key ≡ key)) }
-        // What the call leaves.
+        // The state after the call.
         ensures entries { OnOk result (self.new.entries ≡ pinned_first key self.old.entries) }
         ensures slots { SameSlots self.old self.new }
         ensures err { OnErr result (self.new ≡ self.old) }
@@ -83,13 +83,13 @@ impl<W: World> Shard<W> {
         let tile = entry.shared()?;
         self.loose -= self.order.pin(key);
         self.pins += 1;
-        // The order's keys are distinct.
+        // needed by the proof: keys are distinct
         let _count = self.order.len();
         Ok(Some(tile))
     }
 
-    /// Keeps a tile with one pin. An entry that has its key is pinned instead, and the new tile is
-    /// given up. Where all of the shard's slots are taken, the last unpinned tile leaves for it.
+    /// Adds a tile with one pin. If an entry has its key already, that one is pinned and the new
+    /// tile is dropped. If all slots are taken, the least recently used unpinned tile leaves.
     pub fn insert_pin(&mut self, tile: Tile<W>, slots: usize) -> Result<Arc<Tile<W>>, NoMemory>
         requires slots { slots ≡ length self.old.slots }
         requires left { self.old.left ≡ [] }
@@ -97,7 +97,7 @@ impl<W: World> Shard<W> {
         requires pins { pin_sum self.old.entries + 1 < 2 ^ 32 }
         ensures kept { IfOk result (λ kept. arc_value kept ≡ kept_tile tile self.old.entries) }
         ensures keyed { IfOk result (λ kept. (arc_value kept).key ≡ tile.key) }
-        // What the call leaves.
+        // The state after the call.
         ensures entries { OnOk result (self.new.entries ≡ inserted tile slots self.old.entries) }
         ensures pinned { OnOk result
             (KeepsPinned (with_pin tile self.old.entries) self.new.entries) }
@@ -112,7 +112,7 @@ impl<W: World> Shard<W> {
         }
     }
 
-    /// The same for a tile whose key has no entry.
+    /// Adds a tile whose key has no entry, with one pin.
     fn insert_new(&mut self, tile: Tile<W>) -> Result<Arc<Tile<W>>, NoMemory>
         requires absent { entry_at tile.key self.old.entries ≡ None }
         requires left { self.old.left ≡ [] }
@@ -128,7 +128,7 @@ impl<W: World> Shard<W> {
         ensures lawful { KeepsLawfulFor W.files (FitsTag W.files tile)
             self.old.entries self.new.entries }
     {
-        // Its bytes are few.
+        // needed by the proof: bounds the bytes of the tile
         let key = tile.key();
         let kept = owned(self.alloc, tile)?;
         let entry = Entry::pinned(another(&kept)?);
@@ -136,13 +136,13 @@ impl<W: World> Shard<W> {
         let _slot = self.order.put(entry);
         self.marks.mark(key);
         self.pins += 1;
-        // The order's keys are distinct.
+        // needed by the proof: keys are distinct
         let _count = self.order.len();
         Ok(kept)
     }
 
-    /// Takes a pin from the entry of a key. Then, while the unpinned tiles take more bytes than the
-    /// share, the last of them leaves.
+    /// Takes a pin from the tile of a key. Then unpinned tiles leave, the least recently used
+    /// first, until the others fit the share.
     pub fn release(&mut self, key: TileKey, share: u64)
         requires { HasPin key self.old.entries }
         ensures entries { self.new.entries
@@ -156,24 +156,24 @@ impl<W: World> Shard<W> {
         let loose = self.loose + self.order.unpin(key);
         self.pins -= 1;
         self.loose = evict_past(&mut self.order, loose, share);
-        // The order's keys are distinct.
+        // needed by the proof: keys are distinct
         let _count = self.order.len();
     }
 
-    /// The unpinned tiles of a file leave whose generation is below the bound, and no others.
+    /// Removes the file's unpinned tiles whose generation is below the bound, and no others.
     pub fn purge(&mut self, file: u32, below: u32)
         ensures entries { self.new.entries ≡ without_stale file below self.old.entries }
         ensures pinned { KeepsPinned self.old.entries self.new.entries }
         ensures slots { EmptiesSlots self.old self.new }
         ensures lawful { KeepsLawful W.files self.old.entries self.new.entries }
     {
-        // A file without a mark has no tile.
+        // a file without a mark has no tile here
         if self.marks.has(file) {
             self.purge_marked(file, below);
         }
     }
 
-    /// The same of a file that may have tiles. It keeps its mark where one of them stays.
+    /// Purges a file that may have tiles. It keeps its mark if one of them stays.
     fn purge_marked(&mut self, file: u32, below: u32)
         ensures entries { self.new.entries ≡ without_stale file below self.old.entries }
         ensures pinned { KeepsPinned self.old.entries self.new.entries }
@@ -183,11 +183,11 @@ impl<W: World> Shard<W> {
         self.loose -= purge(&mut self.order, file, below);
         let stays = self.order.has_file(file);
         self.marks.keep(file, stays);
-        // The order's keys are distinct.
+        // needed by the proof: keys are distinct
         let _count = self.order.len();
     }
 
-    /// The tile of a key is there and pinned.
+    /// Whether the tile of a key is there and pinned.
     pub fn is_pinned(&self, key: TileKey) -> bool
         ensures value { IsTrue result ↔ HasPin key self.now.entries }
     {
@@ -204,7 +204,7 @@ impl<W: World> Shard<W> {
         self.order.slot(key)
     }
 
-    /// The next of the slots that entries left in `release` and `purge`, until each was told once.
+    /// Reports the next slot that `release` or `purge` emptied. Each is reported once.
     pub fn left(&mut self) -> Option<u32>
         ensures told { TellsSlot result self.old self.new }
     {
@@ -227,7 +227,7 @@ impl<W: World> Shard<W> {
         self.order.len() as u32
     }
 
-    /// The sum of the pins. No more tiles than that are pinned.
+    /// The sum of all pins, which is at least the number of pinned tiles.
     pub fn pins(&self) -> u32
         ensures value { result ≡ pin_sum self.now.entries }
         ensures pinned { pinned_count self.now.entries ≤ result }

@@ -7,8 +7,8 @@ ghost use Rattle.tile_store.specs.Texels.{kept_in};
 use crate::row::Row;
 use crate::two_rows::TwoRows;
 
-/// The samples of texels, row by row with those of a texel side by side: a byte each, as a file of 8
-/// bits has them, or two.
+/// The samples of texels, row by row, all samples of a texel together: one byte each for an 8-bit
+/// file, otherwise two.
 #[derive(Drop)]
 pub enum Texels {
     Bytes(Vec<u8>),
@@ -16,7 +16,7 @@ pub enum Texels {
 }
 
 impl Texels {
-    /// All of them.
+    /// All samples.
     #[inline(always)]
     pub(crate) fn all(&self) -> Row<'_>
         ensures { samples_of result ≡ kept_in self.now }
@@ -27,7 +27,7 @@ impl Texels {
         }
     }
 
-    /// So many of them from one place on, and as many from another.
+    /// The `count` samples from one place on, and as many from another.
     #[inline(always)]
     pub(crate) fn two_parts(&self, top: usize, bottom: usize, count: usize) -> TwoRows<'_>
         requires top { top + count ≤ length (kept_in self.now) }

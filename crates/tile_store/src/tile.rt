@@ -1,3 +1,4 @@
+//! A cached tile: the texels of one cell.
 ghost use Rattle.std.specs.Prelude.{◌≡◌, ◌≤◌, ◌<◌};
 ghost use Rattle.tile_layout.specs.Cell.{HoldsTexel, max_cell_bytes};
 ghost use Rattle.tile_store.specs.Tile.{cached_tile, tile_bytes, IsTile, place_in, kept_sample};
@@ -13,8 +14,8 @@ use tex_world::World;
 use tiff_format::Rect;
 use tile_layout::TileKey;
 
-/// The texels of a cell, in the depth of its file. Where the world tells they are those of the
-/// level, in the generation of the file, that the key names.
+/// The texels of a cell, with the file's number of bits. In a modelled world they are those of the
+/// level, file and generation that the key names.
 #[derive(Drop)]
 pub struct Tile<W: World> {
     key: TileKey,
@@ -39,7 +40,7 @@ impl<W: World> Model for Tile<W> {
 }
 
 impl<W: World> Tile<W> {
-    /// A tile of these texels, row by row with the samples of a texel side by side.
+    /// A tile with these samples, row by row, all samples of a texel together.
     pub fn new(key: TileKey, rect: Rect, channels: u32, texels: Vec<u16>) -> Tile<W>
         requires tile { IsTile (cached_tile key rect channels texels.items) }
         requires told { IsTold W.files (cached_tile key rect channels texels.items) }
@@ -54,7 +55,7 @@ impl<W: World> Tile<W> {
         }
     }
 
-    /// The same of samples that are a byte each. It takes half the memory that it counts.
+    /// A tile with one byte per sample. It takes half the memory that the budget charges.
     pub fn of_bytes(key: TileKey, rect: Rect, channels: u32, texels: Vec<u8>) -> Tile<W>
         requires tile { IsTile (cached_tile key rect channels texels.items) }
         requires told { IsTold W.files (cached_tile key rect channels texels.items) }
@@ -78,27 +79,27 @@ impl<W: World> Tile<W> {
         self.key
     }
 
-    /// The rectangle of the level that it holds.
+    /// The rectangle of the level that it covers.
     pub fn rect(&self) -> Rect
         ensures value { result ≡ self.now.rect }
     {
         self.rect
     }
 
-    /// The samples of a texel.
+    /// The number of samples per texel.
     pub fn channels(&self) -> u32
         ensures value { result ≡ self.now.channels }
     {
         self.channels
     }
 
-    /// Whether it keeps a byte a sample.
+    /// Whether it has one byte per sample.
     #[inline(always)]
     pub fn has_bytes(&self) -> bool {
         self.texels.all().has_bytes()
     }
 
-    /// The bytes of its texels, two a sample.
+    /// The bytes that the budget charges: two per sample.
     pub fn bytes(&self) -> u64
         ensures value { result ≡ tile_bytes self.now }
         ensures in_range { result ≤ max_cell_bytes }
@@ -116,7 +117,7 @@ impl<W: World> Tile<W> {
         self.texels.all().sample(self.place(x, y) + c as usize)
     }
 
-    /// The samples of n texels of a row of the level, side by side from (x, y) on.
+    /// The samples of n texels of the level, side by side from (x, y) on.
     #[inline(always)]
     pub fn row(&self, x: u32, y: u32, n: u32) -> Row<'_>
         requires { HoldsRow self.now x y n }
@@ -128,7 +129,7 @@ impl<W: World> Tile<W> {
         samples.part(from, n as usize * self.channels as usize)
     }
 
-    /// The samples of n texels of two rows of the level, side by side from one column on.
+    /// The samples of n texels of two rows of the level, side by side from column x on.
     #[inline(always)]
     pub fn two_rows(&self, x: u32, top: u32, bottom: u32, n: u32) -> TwoRows<'_>
         requires top { HoldsRow self.now x top n }
@@ -143,7 +144,7 @@ impl<W: World> Tile<W> {
             .two_parts(top, bottom, n as usize * self.channels as usize)
     }
 
-    /// Where the samples of texel (x, y) begin.
+    /// The index of the first sample of texel (x, y).
     #[inline(always)]
     fn place(&self, x: u32, y: u32) -> usize
         requires { HoldsRow self.now x y 0 }

@@ -5,16 +5,16 @@ ghost use Rattle.tile_store.specs.Row.{samples_of, top_of, bottom_of};
 
 use crate::row::Row;
 
-/// The samples of texels of two rows of a tile, in the same columns: a byte each in both rows, or two.
+/// The samples of two rows of a tile in the same columns, of one or two bytes each.
 #[derive(Clone, Copy, Debug)]
 pub enum TwoRows<'a> {
-    /// Of the upper row, and of the lower one.
+    /// The upper row, then the lower one.
     Bytes(&'a [u8], &'a [u8]),
     Shorts(&'a [u16], &'a [u16]),
 }
 
 impl<'a> TwoRows<'a> {
-    /// Whether a sample is a byte.
+    /// Whether a sample is one byte.
     #[inline(always)]
     pub fn has_bytes(&self) -> bool {
         match self {
@@ -23,7 +23,7 @@ impl<'a> TwoRows<'a> {
         }
     }
 
-    /// Those of the upper row.
+    /// The samples of the upper row.
     #[inline(always)]
     pub fn top(&self) -> Row<'a>
         ensures { samples_of result ≡ top_of self.now }
@@ -34,7 +34,7 @@ impl<'a> TwoRows<'a> {
         }
     }
 
-    /// Those of the lower row.
+    /// The samples of the lower row.
     #[inline(always)]
     pub fn bottom(&self) -> Row<'a>
         ensures { samples_of result ≡ bottom_of self.now }

@@ -1,4 +1,4 @@
--- Where does the first mark of a name stand?
+-- Where is the first mark of a name?
 use Rattle.std.proofs.Common.{◌≡◌, ℕ, zero, suc, ◌+◌, ◌<◌, ◌≤◌, Bool, true, false, refl, sym, ap, ◌∙◌}
 use Rattle.std.proofs.Common.{List, [], ◌∷◌, ◌++◌, length, take, drop, arith}
 use denote.Ref.{Bor}
@@ -40,7 +40,7 @@ mark_lacking (byte ∷ name) lacks =
     rw (begins_not (byte ∷ name) (lacks 0 (omega arith)))
     (ap (option_map suc) (mark_lacking name (λ i le. lacks (suc i) (omega arith))))
 
--- a mark behind places that lack it is the first one
+-- a mark after places without one is the first
 mark_found : (name : List ℕ) (i : ℕ) → ((k : ℕ) → k < i → LacksTextAt mark name k)
     → (rest : List ℕ) → drop i name ≡ mark ++ rest → mark_at name ≡ Some i
 unfolding mark_at

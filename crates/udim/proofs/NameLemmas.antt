@@ -18,7 +18,7 @@ module _ (name before behind : List ℕ) (round : AreRoundMark name before behin
   unfolding udim_of
   means_none outside = rw (round.at, outside) refl
 
-  -- the number stands between the two parts
+  -- the number is between the two parts
   pub means_tile : (number : ℕ) (named : List ℕ) → tile_number s t ≡ Some number
       → named ≡ before ++ (decimal number ++ behind)
       → Tile named (within_tile s) (within_tile t) ≡ udim_of name s t

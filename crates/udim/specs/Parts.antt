@@ -1,8 +1,8 @@
--- Which parts of a name stand round its first mark?
+-- Which parts of a name surround its first mark?
 use Rattle.std.specs.Prelude.{◌≡◌, ℕ, ◌+◌, List, length, take, drop, Some}
 use Rattle.udim.specs.Udim.{mark, mark_at}
 
--- what stands before the mark, and what stands behind it
+-- the parts before and after the mark
 pub record AreRoundMark (name before behind : List ℕ) : Type 0 where
   pub at : mark_at name ≡ Some (length before)
   pub front : before ≡ take (length before) name

@@ -1,12 +1,13 @@
+//! The file that a name with a UDIM mark means.
 use request_lang::Name;
 
 /// Which file a name means for a lookup.
 #[derive(Drop)]
 pub enum Udim {
-    /// That of the name, which holds no mark.
+    /// The file with this name, which has no mark.
     Plain,
-    /// None: the lookup lies in no tile.
+    /// No file: the lookup is outside all tiles.
     Outside,
-    /// That of this name, which is the tile in which the lookup lies, at s and t.
+    /// The file with this name: the tile that contains the lookup, which is at s and t there.
     Tile { name: Name, s: i32, t: i32 },
 }

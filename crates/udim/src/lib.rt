@@ -1,4 +1,4 @@
-//! Names of textures in tiles: the file of the tile in which a lookup lies.
+//! UDIM textures: the file of the tile that contains a lookup.
 #![tactic(auto)]
 
 mod file;

@@ -1,4 +1,4 @@
-//! Names that hold the mark of a tile.
+//! Replaces the UDIM mark in a name by the number of a tile.
 
 ghost use Rattle.std.specs.Prelude.{◌≡◌, ◌++◌, None, IfOk, OnErr, IfNone, IfSome, true};
 ghost use Rattle.std.specs.Fmt.{decimal};
@@ -11,10 +11,10 @@ use request_lang::Name;
 use std::alloc::{AllocError, Global};
 use tex_world::NoMemory;
 
-/// What stands in a name in place of the number of a tile.
+/// The mark: what a name has in place of a tile's number.
 const MARK: &str = "<UDIM>";
 
-/// What stands before the first mark of a name, and behind it.
+/// The parts of a name before and after its first mark.
 #[tactic(auto, using(crate::proofs::MarkLemmas::mark_lacking))]
 fn round_mark(name: &str) -> Option<(&str, &str)>
     ensures none { IfNone result (spec.mark_at name.now ≡ None) }
@@ -23,15 +23,14 @@ fn round_mark(name: &str) -> Option<(&str, &str)>
     name.split_once(MARK)
 }
 
-/// The name that a number is between two texts.
+/// The name with a number between two texts.
 fn numbered(alloc: Global, before: &str, number: u32, behind: &str) -> Result<Name, AllocError>
     ensures { IfOk result (λ name. name ≡ before.now ++ (decimal number ++ behind.now)) }
 {
     Ok(Name::new(format!(in alloc; "{before}{number}{behind}")?))
 }
 
-/// Which file a name means for a lookup at s and t, in 1/65536. Memory is taken for the name of a
-/// tile alone.
+/// Which file a name means for a lookup at s and t, in 1/65536. Allocates only the name of a tile.
 #[tactic(auto, using(crate::proofs::NameLemmas::meanings))]
 pub fn udim(alloc: Global, name: &str, s: i32, t: i32) -> Result<Udim, NoMemory>
     ensures value { IfOk result (λ u. u ≡ spec.udim_of name.now s t) }

@@ -25,7 +25,7 @@ blank_low wide n xs blank k lt =
     get_or-take n xs k 0 (omega (arith, front)) ∙ blank k (omega (arith, front)) in
     omega (arith, zero)
 
--- and by the white rule it becomes a mask
+-- inverting white turns zeros into a mask
 pub mask_made : (wide : Bool) (channels n : ℕ) (xs new rest : List ℕ)
     → n ≤ length xs → length new ≡ length (take n xs)
     → ((k : ℕ) → k < length xs → get_or xs k 0 ≡ 0)
@@ -75,7 +75,7 @@ in_block wide channels pixels n j k x mask low is_mask lt place =
     ∙ flip_white wide (is_white channels j) x low
     ∙ sym (ap (λ w. unwhite w (depth_of wide) x) white)
 
--- a sample behind the blocks before: which of the next block it is
+-- a sample after earlier blocks: which one of the next block it is
 next_sample : (wide : Bool) (channels pixels n end k : ℕ) (old new next mask : List ℕ)
     → AreLow wide old → IsWhiteMask wide channels (pixels * channels) mask
     → k < length old → k < end → n * (pixels * channels) ≤ k

@@ -8,7 +8,7 @@ use Rattle.std.proofs.Math.Nat.{mul-mod_left}
 use Rattle.tiff_format.specs.Texel.{greatest_sample, unwhite}
 use Rattle.unpack.specs.Sample.{is_white}
 
--- the samples before a place follow the rule, and those behind it are as they were
+-- the samples before a place are inverted as they must be, and those after it are unchanged
 pub record FollowTo (depth channels place : ℕ) (old new : List ℕ) : Type 0 where
   pub below : (k : ℕ) → k < length old → k < place
       → get_or new k 0 ≡ unwhite (is_white channels k) depth (get_or old k 0)
@@ -20,7 +20,7 @@ white_first channels n some =
     and_from _ _ (not_from_false _ (ne_eqb channels 0 (λ e. omega arith)))
     (eq-eqb _ 0 (mul-mod_left n channels))
 
--- and the others are not
+-- the samples of other channels are not inverted
 white_other : (channels n k : ℕ) → n * channels < k → k < n * channels + channels
     → is_white channels k ≡ false
 white_other channels n k low high =

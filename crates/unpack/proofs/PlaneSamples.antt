@@ -6,8 +6,8 @@ use Rattle.std.proofs.lemmas.List.{get_or-set_other, get_or-set_same}
 use Rattle.std.proofs.lemmas.Nat.{div-mul-add, mod-mul-add, le-div}
 use Rattle.std.proofs.Math.Nat.{mul-le-mul_right, mul-div-le}
 
--- the first n samples stand at their places, none is above the greatest, and all other places are as
--- they were
+-- the first n samples are at their places, none exceeds the greatest value, and all other places
+-- are unchanged
 pub record StandTo (value : ℕ → ℕ) (most first step n : ℕ) (old new : List ℕ) : Type 0 where
   pub samples : (k : ℕ) → k < n → get_or new (k * step + first) 0 ≡ value k
   pub range : (k : ℕ) → k < n → get_or new (k * step + first) 0 ≤ most
@@ -59,7 +59,7 @@ sample_there k step first places samples some room inside = elim (cases_lt k sam
   | inr past ↦ absurd (omega (arith, mul-le-mul_right step past, room))
 ]
 
--- and a sample has its place and its bytes
+-- a sample's place and its bytes exist
 pub place_there : (k step first places : ℕ) → first < step → k < places / step
     → k * step + first < places
 place_there k step first places low below =

@@ -21,7 +21,7 @@ stored_behind big bytes k =
     number_same big 2 0 (2 * k) (drop (2 * k) bytes) bytes
     (λ j lt. rw zero-add (get_or-drop (2 * k) bytes j 0))
 
--- the same in byteorder's words, for each order
+-- stored samples in terms of `byteorder`, for each byte order
 pub stored_big : (wide big : Bool) (bytes : List ℕ) (k : ℕ) → wide ≡ true → big ≡ true
     → big_number 2 (drop (2 * k) bytes) ≡ stored_sample wide big bytes k
 unfolding number_at

@@ -3,23 +3,23 @@ use Rattle.std.specs.Prelude.{◌≡◌, ℕ, ◌<◌, ◌≤◌, Bool, List, le
 use Rattle.tiff_format.specs.Texel.{greatest_sample, unwhite}
 use Rattle.unpack.specs.Sample.{depth_of, is_white, stored_sample}
 
--- they are the stored samples of these bytes
+-- these are the stored samples of the bytes
 abbrev pub AreStored : Bool → Bool → List ℕ → List ℕ → Type 0
 AreStored wide big bytes samples =
     (k : ℕ) → k < length samples → slice_index samples k ≡ stored_sample wide big bytes k
 
--- none is above the greatest of their depth
+-- no sample is greater than its depth allows
 abbrev pub AreLow : Bool → List ℕ → Type 0
 AreLow wide samples =
     (k : ℕ) → k < length samples → slice_index samples k ≤ greatest_sample (depth_of wide)
 
--- the white rule was applied to each
+-- white was inverted in each of these samples
 abbrev pub AreUnwhite : Bool → ℕ → List ℕ → List ℕ → Type 0
 AreUnwhite wide channels old new =
     (k : ℕ) → k < length old
     → slice_index new k ≡ unwhite (is_white channels k) (depth_of wide) (slice_index old k)
 
--- of each of so many samples it has the bits that the white rule flips: all of its depth, or none
+-- for each sample, the mask has the bits to flip: all bits of the depth, or none
 abbrev pub IsWhiteMask : Bool → ℕ → ℕ → List ℕ → Type 0
 IsWhiteMask wide channels size mask =
     (k : ℕ) → k < size

@@ -4,7 +4,7 @@ use Rattle.std.specs.Prelude.{ℕ, Bool, List}
 use Rattle.tiff_format.specs.Texel.{unwhite}
 use Rattle.unpack.specs.Sample.{depth_of, stored_sample}
 
--- sample k: of the plane of channel 0 of a WhiteIsZero picture it is flipped
+-- sample k, which is inverted in the plane of channel 0 of a WhiteIsZero image
 abbrev pub plane_sample : Bool → Bool → Bool → List ℕ → ℕ → ℕ
 plane_sample wide big flip bytes k =
     unwhite flip (depth_of wide) (stored_sample wide big bytes k)

@@ -1,4 +1,4 @@
-//! The samples of a strip or a tile, from its bytes (TIFF 6.0).
+//! Converts the bytes of a strip or tile to samples (TIFF 6.0).
 #![tactic(auto)]
 
 mod passes;

@@ -1,4 +1,4 @@
-//! The two passes over the samples of a block: the stored numbers, and the white rule.
+//! The two passes over the samples of a block: reading the stored numbers, and inverting white.
 
 ghost use Rattle.std.specs.Prelude.{◌≡◌, ◌+◌, ◌*◌, ◌<◌, ◌≤◌, ℕ, length, slice_index, bit_xor};
 ghost use Rattle.tiff_format.specs.Texel.{greatest_sample};
@@ -7,16 +7,17 @@ ghost use Rattle.unpack.specs.Passes.{AreLow, AreStored, AreUnwhite, IsWhiteMask
 
 use byteorder::{BigEndian, ByteOrder, LittleEndian};
 
-/// The most channels that a mask serves: of more, writing the first of each pixel is as fast.
+/// The most channels for which a mask is used. With more, writing the first sample of each pixel is
+/// as fast.
 const MASK_CHANNELS: usize = 4;
-/// The pixels of a mask: a multiple of the lanes of any vector.
+/// The number of pixels in a mask: a multiple of the lanes of any vector unit.
 const MASK_PIXELS: usize = 32;
-/// The samples of a mask of the most channels.
+/// The number of samples in a mask with the most channels.
 const MASK_SAMPLES: usize = 128;
-/// The fewest samples for which a mask is made: for fewer it costs more than it saves.
+/// The least number of samples for which a mask pays off.
 const MASK_WORTH: usize = 1024;
 
-/// Writes the number that each sample is stored as.
+/// Writes the stored number of each sample.
 pub fn read_stored(wide: bool, big: bool, src: &[u8], dst: &mut [u16])
     requires { length src.now ≡ sample_size wide * length dst.old }
     ensures stored { AreStored wide big src.now dst.new }
@@ -31,7 +32,7 @@ pub fn read_stored(wide: bool, big: bool, src: &[u8], dst: &mut [u16])
     }
 }
 
-/// Writes each byte as a number of 16 bits.
+/// Writes each byte as a 16-bit number.
 fn widen(src: &[u8], dst: &mut [u16])
     requires { length src.now ≡ length dst.old }
     ensures { (k : ℕ) → k < length dst.new → slice_index dst.new k ≡ slice_index src.now k }
@@ -41,8 +42,8 @@ fn widen(src: &[u8], dst: &mut [u16])
     }
 }
 
-/// Applies the white rule to the samples of channel 0 of so many channels,
-/// or to none where that is 0.
+/// Inverts the samples of channel 0 out of `channels`, as WhiteIsZero asks; none if `channels` is
+/// 0.
 pub fn invert_white(wide: bool, channels: usize, dst: &mut [u16])
     requires { AreLow wide dst.old }
     ensures { AreUnwhite wide channels dst.old dst.new }
@@ -62,7 +63,7 @@ pub fn greatest(wide: bool) -> u16
     if wide { u16::MAX } else { u16::from(u8::MAX) }
 }
 
-/// Inverts every sample. It is a case of its own since its loop becomes vector code.
+/// Inverts every sample. A separate function, so that its loop becomes vector code.
 fn invert_all(wide: bool, dst: &mut [u16])
     requires { AreLow wide dst.old }
     ensures { AreUnwhite wide 1 dst.old dst.new }
@@ -86,8 +87,8 @@ fn invert_first(wide: bool, channels: usize, dst: &mut [u16])
     }
 }
 
-/// Inverts the first sample of each pixel, block by block, with no test of a sample's channel: so
-/// its loops become vector code.
+/// Inverts the first sample of each pixel, block by block. It never tests a sample's channel, so
+/// that its loops become vector code.
 fn invert_blocks(wide: bool, channels: usize, dst: &mut [u16])
     requires some { 0 < channels }
     requires few { channels ≤ MASK_CHANNELS }
@@ -103,7 +104,7 @@ fn invert_blocks(wide: bool, channels: usize, dst: &mut [u16])
     }
 }
 
-/// The bits that the white rule flips in the samples of so many pixels.
+/// The bits to flip in the samples of the pixels of a mask.
 fn white_mask(wide: bool, channels: usize) -> [u16; MASK_SAMPLES]
     requires some { 0 < channels }
     requires few { channels ≤ MASK_CHANNELS }
@@ -114,7 +115,7 @@ fn white_mask(wide: bool, channels: usize) -> [u16; MASK_SAMPLES]
     mask
 }
 
-/// Makes such a mask of zeros.
+/// Sets these bits in a mask of zeros.
 fn mark_white(wide: bool, channels: usize, mask: &mut [u16])
     requires some { 0 < channels }
     requires few { channels ≤ MASK_CHANNELS }
@@ -125,7 +126,7 @@ fn mark_white(wide: bool, channels: usize, mask: &mut [u16])
     invert_first(wide, channels, &mut mask[..MASK_PIXELS * channels]);
 }
 
-/// Flips the bits of a mask in the samples of a range.
+/// Flips the bits of a mask in a range of samples.
 fn flip_range(mask: &[u16], start: usize, end: usize, dst: &mut [u16])
     requires order { start ≤ end }
     requires inside { end ≤ length dst.old }

@@ -1,4 +1,4 @@
-//! The samples of a block of one plane, written among those of the other planes.
+//! Converts a block of one plane, writing its samples between those of the other planes.
 
 ghost use Rattle.std.specs.Prelude.{◌≡◌, ◌≢◌, ◌+◌, ◌*◌, ◌/◌, ◌%◌, ◌<◌, ◌≤◌, ℕ, length, slice_index};
 ghost use Rattle.tiff_format.specs.Limits.{max_channels};
@@ -9,7 +9,7 @@ ghost use Rattle.unpack.specs.Plane.{plane_sample};
 use crate::passes::greatest;
 use tiff_format::Form;
 
-/// The number that sample k is stored as.
+/// The stored number of sample k.
 fn stored<const WIDE: bool, const BIG: bool>(src: &[u8], k: usize) -> u16
     requires { sample_size WIDE * k + sample_size WIDE ≤ length src.now }
     ensures value { result ≡ stored_sample WIDE BIG src.now k }
@@ -26,7 +26,7 @@ fn stored<const WIDE: bool, const BIG: bool>(src: &[u8], k: usize) -> u16
     }
 }
 
-/// Sample k, where `flip` the greatest value minus what is stored.
+/// Sample k; if `flip`, the greatest value minus the stored number.
 fn sample<const WIDE: bool, const BIG: bool>(src: &[u8], flip: bool, k: usize) -> u16
     requires { sample_size WIDE * k + sample_size WIDE ≤ length src.now }
     ensures value { result ≡ plane_sample WIDE BIG flip src.now k }
@@ -40,10 +40,10 @@ fn sample<const WIDE: bool, const BIG: bool>(src: &[u8], flip: bool, k: usize) -
     }
 }
 
-/// Writes sample k of `src` to place `k * STEP + first` of `dst`, which has STEP places for each: 0
-/// to 65535 where `WIDE`, from two bytes, the highest first where `BIG`, and else 0 to 255, from one.
-/// Where `flip`, it is the greatest value minus what is stored. All other places stay.
-/// (TIFF 6.0, section 8 on PlanarConfiguration)
+/// Writes sample k of `src` to `dst[k * STEP + first]`; all other places are unchanged. If `WIDE`,
+/// samples are 0 to 65535 and have two bytes, the highest first if `BIG`; otherwise they are 0 to
+/// 255 and have one. If `flip`, the sample is the greatest value minus the stored number. (TIFF
+/// 6.0, section 8 on PlanarConfiguration)
 pub fn unpack_plane<const WIDE: bool, const BIG: bool, const STEP: usize>(
     src: &[u8],
     flip: bool,
@@ -67,7 +67,7 @@ pub fn unpack_plane<const WIDE: bool, const BIG: bool, const STEP: usize>(
     }
 }
 
-/// Calls the function of the case that two flags and a step choose.
+/// Calls the function instance for two flags and a step.
 macro_rules! in_case {
     ($wide:ident, $big:ident, $step:ident, $function:ident $arguments:tt: $($s:literal),*) => {
         match ($wide, $big, $step) {
@@ -82,7 +82,7 @@ macro_rules! in_case {
     };
 }
 
-/// The same, where the depth, the byte order and the step are known only as it runs.
+/// Calls [unpack_plane] for a depth, byte order and step that are known only at run time.
 pub fn unpack_plane_as(
     wide: bool,
     big: bool,

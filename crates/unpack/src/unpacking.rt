@@ -1,4 +1,4 @@
-//! The samples of a block, for each depth and byte order.
+//! Converts a block of samples, for each depth and byte order.
 
 ghost use Rattle.std.specs.Prelude.{◌≡◌, ◌*◌, ◌<◌, ◌≤◌, ℕ, length, slice_index};
 ghost use Rattle.tiff_format.specs.Texel.{greatest_sample};
@@ -6,11 +6,11 @@ ghost use Rattle.unpack.specs.Sample.{depth_of, sample_of, sample_size};
 
 use crate::passes::{invert_white, read_stored};
 
-/// Writes each sample of `src` to its place in `dst`: 0 to 65535 where `WIDE`, from two bytes, the
-/// highest first where `BIG`, and else 0 to 255, from one. `invert` is the number of channels of a
-/// WhiteIsZero picture, where channel 0 is the greatest value minus what is stored; it is 0 for
-/// any other picture. `src` has to hold as many samples as `dst`.
-/// (TIFF 6.0, section 2 on the byte order, section 8 on PhotometricInterpretation)
+/// Writes each sample of `src` to its place in `dst`. If `WIDE`, samples are 0 to 65535 and have
+/// two bytes, the highest first if `BIG`; otherwise they are 0 to 255 and have one. `invert` is the
+/// number of channels of a WhiteIsZero image, whose channel 0 is the greatest value minus the
+/// stored number; otherwise it is 0. `src` must hold as many samples as `dst`. (TIFF 6.0, section 2
+/// on the byte order, section 8 on PhotometricInterpretation)
 pub fn unpack<const WIDE: bool, const BIG: bool>(src: &[u8], invert: usize, dst: &mut [u16])
     requires size { length src.now ≡ sample_size WIDE * length dst.old }
     ensures long { length dst.new ≡ length dst.old }
@@ -23,7 +23,7 @@ pub fn unpack<const WIDE: bool, const BIG: bool>(src: &[u8], invert: usize, dst:
     invert_white(WIDE, invert, dst);
 }
 
-/// Calls the function of the case that two flags choose.
+/// Calls the function instance for two flags.
 macro_rules! in_case {
     ($wide:ident, $big:ident, $function:ident $arguments:tt: $(($w:literal, $b:literal)),*) => {
         match ($wide, $big) {
@@ -32,7 +32,7 @@ macro_rules! in_case {
     };
 }
 
-/// The same, where the depth and the byte order are known only as it runs.
+/// Calls [unpack] for a depth and byte order that are known only at run time.
 pub fn unpack_as(wide: bool, big: bool, src: &[u8], invert: usize, dst: &mut [u16])
     requires size { length src.now ≡ sample_size wide * length dst.old }
     ensures long { length dst.new ≡ length dst.old }

@@ -1,6 +1,6 @@
--- How often a call tries that waits for ever.
+-- How often does a call try that waits for ever?
 use Rattle.std.specs.Prelude.{ℕ, ◌-◌, ◌^◌}
 
--- the last value of a u64, which no run uses up
+-- the greatest value of a u64: more tries than any program makes
 abbrev pub max_tries : ℕ
 max_tries = 2 ^ 64 - 1

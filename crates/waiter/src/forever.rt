@@ -1,3 +1,4 @@
+//! A waiter that never gives up.
 ghost use Rattle.waiter.specs.Tries.{max_tries};
 
 use crate::waiting::Waiter;
@@ -6,13 +7,13 @@ use std::hint::spin_loop;
 use std::sync::{Wait, WaitMethods};
 use std::thread::yield_now;
 
-/// Which no run uses up.
+/// A number of tries that no program uses up.
 const MAX_TRIES: u64 = u64::MAX;
 
-/// After so many failed tries a pause gives the processor to another thread.
+/// After this many failed tries, a pause gives the processor to another thread.
 const MAX_SPINS: u64 = 64;
 
-/// Waits for ever: a call answers once it has what it waits for, and else it does not return.
+/// Waits for ever: a call returns only when it has what it waits for.
 #[derive(Drop)]
 pub struct Forever<R: Wait> {
     rt: R,

@@ -1,12 +1,12 @@
-//! How a call waits for another thread. A call that may find a lock empty is generic over a
-//! `Waiter`, and one body with one proof serves two kinds of callers:
+//! How a call waits for a lock. A call that may find a lock taken is generic over a `Waiter`, so
+//! that one body with one proof serves two kinds of callers.
 //!
-//! - a program has the runtime and makes a `Forever` of it: the call waits until it has what it
-//!   waits for, and its busy answer is of an empty type, so that no caller has to handle it;
-//! - a renderer in C or C++ that embeds the cache has no runtime, and what it calls may not wait:
-//!   it makes a `Tries` of a number, and after so many tries the call gives up.
+//! - A program has the runtime and makes a `Forever` from it. The call waits until it gets the
+//! lock, and its busy answer has an empty type, so callers need not handle it.
+//! - A renderer in C or C++ has no runtime, and its calls may not wait. It makes a `Tries`, and the
+//! call gives up after that many tries.
 //!
-//! Generic code has no handle and cannot wait. Only the methods of `Forever` may.
+//! Generic code has no handle to the runtime and cannot wait; only the methods of `Forever` can.
 #![tactic(auto)]
 
 mod forever;

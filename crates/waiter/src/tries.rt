@@ -1,10 +1,11 @@
+//! A waiter that gives up.
 ghost use Rattle.std.specs.Prelude.{◌≡◌, ℕ, ◌<◌};
 
 use crate::waiting::Waiter;
 use std::hint::spin_loop;
 use std::marker::Model;
 
-/// Gives up after so many tries. It never waits, so code without the runtime can have it.
+/// Gives up after `count` tries. It never waits, so code without the runtime can use it.
 #[derive(Drop)]
 pub struct Tries {
     count: u64,
@@ -23,7 +24,7 @@ impl Model for Tries {
 }
 
 impl Tries {
-    /// So many tries, the first one among them.
+    /// Allows `count` tries, the first one included.
     pub fn new(count: u64) -> Tries
         requires { 0 < count }
         ensures { result ≡ count }

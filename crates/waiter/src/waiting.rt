@@ -1,7 +1,8 @@
+//! The trait for how a call waits for a lock.
 ghost use Rattle.std.specs.Prelude.{◌≡◌, ℕ, ◌<◌};
 
-/// The kind of thing that waits. A call that uses it tries, pauses while it fails, and when its
-/// tries are used up it answers `busy`:
+/// How a call waits. A call tries, pauses after each failed try, and answers `busy` when its tries
+/// are used up:
 ///
 /// ```text
 /// for failed in 0..waiter.tries() {
@@ -13,18 +14,18 @@ ghost use Rattle.std.specs.Prelude.{◌≡◌, ℕ, ◌<◌};
 /// Err(waiter.busy())
 /// ```
 pub trait Waiter {
-    /// What a call answers that gives up.
+    /// What a call answers if it gives up.
     type Busy: Drop;
 
-    /// How often a call tries, the first time among them.
+    /// The number of tries, the first one included.
     ghost tries_of: { Self → ℕ };
 
-    /// How often a call tries, the first time among them.
+    /// The number of tries, the first one included.
     fn tries(&self) -> u64
         ensures value { result ≡ tries_of self.now }
         ensures some { 0 < result };
 
-    /// Lets other threads go on after a try that failed, before which `failed` tries had failed.
+    /// Lets other threads run after a failed try. `failed` tries had failed before it.
     fn pause(&self, failed: u64);
 
     /// What a call answers when its tries are used up.

@@ -1,4 +1,4 @@
--- So far each file has a lock whose tag is its number.
+-- Each file so far has a lock whose tag is its number.
 use Rattle.std.proofs.Common.{◌≡◌, ℕ, ◌<◌, length}
 use Rattle.std.specs.Prelude.{slice_index}
 use Rattle.file_table.proofs.files.record_locks.Given as goal

@@ -1,4 +1,4 @@
--- So far each level is known.
+-- Each level so far is known.
 use Rattle.std.proofs.Common.{◌≡◌, ℕ, ◌<◌, length}
 use Rattle.std.specs.Prelude.{slice_index_or}
 use Rattle.file_table.specs.declared.known_level.KnownLevel.{KnownLevel}

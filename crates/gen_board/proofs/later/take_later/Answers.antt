@@ -1,4 +1,4 @@
--- Two lists of one length are one where their numbers are.
+-- Two lists of equal length with equal numbers are equal.
 use Rattle.std.proofs.Common.{sym, ◌∙◌, arith}
 use Rattle.std.proofs.lemmas.List.{ext_get_or}
 use Rattle.gen_board.specs.Rule.{later_of}

@@ -1,4 +1,4 @@
--- So far as the loop has come each number is the greater of both, and from there on the old one.
+-- Before the loop's index each number is the greater of both; from there on it is the old one.
 use Rattle.std.proofs.Common.{◌≡◌, ℕ, ◌<◌, ◌≤◌, length, max}
 use Rattle.std.specs.Prelude.{slice_index}
 use Rattle.gen_board.proofs.later.take_later.Given as goal

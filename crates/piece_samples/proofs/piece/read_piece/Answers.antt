@@ -18,7 +18,7 @@ returns-then-not-lies_below-clause-read g c = λ level right is lies i d column 
     (piece_unread len (g.B.ByteReader.bytes c.args.reader.now) level format is right piece lies i d
     column beyond (g.met.B.ByteReader.lawful.told c.args.reader.now))
 
--- the bytes of a piece of so many texels have room
+-- the bytes of a piece with few enough texels fit the buffer
 unit_low : (depth channels : ℕ) → channels ≤ 8 → channels * sample_bytes depth ≤ 16
 unit_low depth channels few = by (eqb depth 8) refl
   where

@@ -11,7 +11,7 @@ use Rattle.piece_samples.proofs.RowWalk.{takes_from_row, same_read, own_order}
 use Rattle.piece_samples.proofs.RowWalk.{piece_beyond, row_ends}
 use Rattle.piece_samples.proofs.row.read_plane.Goals as goal
 
--- so many texels more have room
+-- the samples of more texels fit the buffer
 more_room : (done more n channels planes unit step room : ℕ) → more ≤ n - done → done ≤ n
     → unit ≡ channels → step ≡ planes → n * channels * planes ≤ room
     → (done * unit + more * unit) * step ≤ room

@@ -1,4 +1,4 @@
--- So many places have a 0, and all others are as they were.
+-- The places so far have a 0, and all others are unchanged.
 use Rattle.std.proofs.Common.{◌≡◌, ◌≢◌, ℕ, ◌+◌, ◌*◌, ◌<◌, get_or}
 use Rattle.tile_layout.specs.Texel.{FitDepth}
 use Rattle.piece_samples.proofs.samples.clear_to.Given as goal

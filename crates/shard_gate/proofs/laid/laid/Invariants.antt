@@ -1,4 +1,4 @@
--- So many shards are made, each with a seat.
+-- The shards so far are made, each with a seat.
 use Rattle.std.proofs.Common.{◌≡◌, ◌≤◌, length, map}
 use Rattle.std.specs.Prelude.{vec_capacity}
 use Rattle.std.specs.List.{All}

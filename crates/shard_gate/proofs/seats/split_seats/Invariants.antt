@@ -1,4 +1,4 @@
--- So far as the loop has come each seat has given up a permit, and a second seat has it.
+-- Each seat so far has given one permit to a second seat.
 use Rattle.std.proofs.Common.{◌≡◌, ◌++◌, ◌≤◌, length, map, take, drop}
 use Rattle.std.specs.Prelude.{vec_capacity}
 use Rattle.shard_gate.specs.Seated.{kept_seat, new_seat}

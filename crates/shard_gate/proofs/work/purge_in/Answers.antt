@@ -1,4 +1,4 @@
--- Only tiles without a pin have left.
+-- Only unpinned tiles were removed.
 use Rattle.shard_gate.proofs.LeaveLemmas.{behind_purge}
 use Rattle.shard_gate.proofs.work.purge_in.Goals as goal
 

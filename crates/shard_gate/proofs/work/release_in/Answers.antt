@@ -1,4 +1,4 @@
--- The slot has one pin less, and only tiles without a pin have left.
+-- The slot has one pin less, and only unpinned tiles were removed.
 use Rattle.std.proofs.Common.{◌≤◌}
 use Rattle.tile_store.specs.Entry.{EntryState, entry_at}
 use Rattle.tile_store.proofs.PinLemmas.{some_entry}

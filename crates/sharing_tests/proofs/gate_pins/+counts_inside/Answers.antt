@@ -1,4 +1,4 @@
--- A pin more leaves room for one less, and a pin is there as long as the keys stay.
+-- With one more pin one fewer is allowed, and a pin is there as long as its key is.
 use Rattle.std.proofs.Common.{rules, arith, ◌∙◌, ◌≤◌, ℕ}
 use Rattle.sharing_tests.proofs.HeldLemmas.{room_inside, still_there}
 use Rattle.sharing_tests.proofs.gate_pins.+counts_inside.Goals as goal

@@ -1,6 +1,7 @@
 use Rattle.std.proofs.Common.{◌≡◌, ◌+◌, ◌-◌, refl, ap, ◌∙◌, arith, rules}
 use Rattle.texel_filter.specs.Image.{image_of}
 use Rattle.texel_filter.specs.Visits.{trilinear_visits}
+use Rattle.texel_filter.specs.Fine.{fine_of}
 use Rattle.texel_filter.proofs.CallLemmas.{refused_append, each_append, sizes_after, values_after}
 use Rattle.tex_aniso.specs.Probe.{probe_at}
 use Rattle.tex_aniso.specs.Mean.{probes_sum, probes_visits}
@@ -17,8 +18,8 @@ loop-j-init g c = record {
 
 pub add_probe-requires-clause-channels : goal.add_probe-requires-clause-channels
 add_probe-requires-clause-channels g c =
-    let same = ap (λ q. q.nch) c.probe-request.ensures.value
-    ∙ channels_at c.args.r.now c.args.p.now _ in
+    let asked = c.fine-request.ensures.value ∙ ap fine_of c.probe.ensures.value in
+    let same = ap (λ q. q.nch) asked ∙ channels_at c.args.r.now c.args.p.now _ in
     rw same c.requires.request.channels
 
 pub returns-in_err-add_probe-clause-left : goal.returns-in_err-add_probe-clause-left
@@ -30,9 +31,10 @@ returns-in_err-add_probe-clause-left g c =
     let before = c.loop-j.invariant.left in
     let same = sizes_after g.met.F.Fetch.lawful c.args.f.now c.loop-j.f
     (probes_visits sizes r p j) before in
-    let here = rw (same, c.probe-request.ensures.value) at c.in_err-add_probe.ensures.left in
+    let asked = c.fine-request.ensures.value ∙ ap fine_of c.probe.ensures.value in
+    let here = rw (same, asked) at c.in_err-add_probe.ensures.left in
     let among = refused_append g.F.Fetch.leaves g.F.Fetch.refuses c.args.f.now c.loop-j.f
-    c.add_probe.new.f (probes_visits sizes r p j) (trilinear_visits sizes (probe_at r p j))
+    c.add_probe.new.f (probes_visits sizes r p j) (trilinear_visits sizes (fine_of (probe_at r p j)))
     c.in_err-add_probe.field-0.0 before here in
     let upto = rw (← visits_more sizes r p j) at among in
     let all = refused_among g.F.Fetch.leaves g.F.Fetch.refuses c.args.f.now c.add_probe.new.f sizes
@@ -51,15 +53,15 @@ loop-j-preserved g c =
     (probes_visits sizes r p j) before in
     let still = values_after g.met.F.Fetch.lawful c.args.f.now c.loop-j.f
     (probes_visits sizes r p j) before in
-    let asked = c.probe-request.ensures.value in
+    let asked = c.fine-request.ensures.value ∙ ap fine_of c.probe.ensures.value in
     record {
       told = λ v is k below.
           let grown = rw (same, asked) at (c.in_ok-add_probe.ensures.told v (still ∙ is)) in
-          rw (sum_more (image_of sizes v) r p k j, ← c.loop-j.invariant.told v is k below)
-          (grown k (rw (channels_at r p j) below));
+          let more = grown k (rw (channels_at r p j) below) in
+          omega (arith, sum_more (image_of sizes v) r p k j, c.loop-j.invariant.told v is k below, more);
       high = λ k. omega (arith, c.in_ok-add_probe.ensures.high k, c.loop-j.invariant.high k);
       left = rw (visits_more sizes r p j)
           (each_append g.F.Fetch.leaves c.args.f.now c.loop-j.f c.add_probe.new.f
-          (probes_visits sizes r p j) (trilinear_visits sizes (probe_at r p j)) before
+          (probes_visits sizes r p j) (trilinear_visits sizes (fine_of (probe_at r p j))) before
           (rw (same, asked) at c.in_ok-add_probe.ensures.left));
     }

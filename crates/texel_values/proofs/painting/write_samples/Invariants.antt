@@ -1,4 +1,4 @@
--- The values so far stand at their places.
+-- The values so far are at their places.
 use Rattle.std.proofs.Common.{◌≡◌, ℕ, ◌<◌, length, slice_index}
 use Rattle.tile_store.specs.Row.{samples_of}
 use Rattle.texel_values.specs.Values.{kept_value}

@@ -1,4 +1,4 @@
--- The channels so far stand in the four corners.
+-- The channels so far are in the four corners.
 use Rattle.std.proofs.Common.{◌≡◌}
 use Rattle.tile_store.specs.Row.{samples_of, top_of, bottom_of}
 use Rattle.texel_values.specs.Square.{AreCornersOf}

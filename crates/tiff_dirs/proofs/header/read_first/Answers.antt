@@ -4,7 +4,7 @@ use Rattle.tiff_format.specs.Form.{header_bytes, offset_bytes, offset_at}
 use Rattle.tiff_format.proofs.BytesOfParts.{number_of_part}
 use Rattle.tiff_dirs.proofs.header.read_first.Goals as goal
 
--- The offset stands behind the number in the header,
+-- in TIFF the offset is in the bytes that every header has
 pub returns-then-not-form-clause-told : goal.returns-then-not-form-clause-told
 returns-then-not-form-clause-told g c = λ bytes is part.
     let form = c.args.form in
@@ -16,7 +16,7 @@ returns-then-not-form-clause-told g c = λ bytes is part.
     (omega (arith, size, c.requires.head)) in
     (refl, c.offset_at.ensures.value ∙ there ∙ sym (ap (offset_at form bytes) place))
 
--- or behind the first half of the header.
+-- in BigTIFF the offset comes after them
 pub returns-clause-told : goal.returns-clause-told
 returns-clause-told g c = λ bytes is part.
     let form = c.args.form in

@@ -26,7 +26,7 @@ same c =
       ← plane_offset (shown dir) c.args.plane (block_index (shown_shape dir) c.args.x c.args.y),
     ) (sym (place_is level c.args.x c.args.y refl))
 
--- it is a byte of the file's first 2^64
+-- the place is below 2^64
 low : (c : goal.After-texel_bytes)
     → c.index-offset.result.now + c.texels_before.result * c.texel_bytes.result < 2 ^ 64
 low c =

@@ -1,4 +1,4 @@
--- The record's layout is that of the handle's bytes, and what is so of it is so of the one loaded.
+-- The record's layout is that of the handle's bytes, so its facts hold of the loaded one.
 use Rattle.tile_layout.specs.Cell.{CellsFit}
 use Rattle.tile_load.proofs.KnownLayouts.{layout_told, names_cell, cells_fit, is_cell_tile}
 use Rattle.tile_load.proofs.KnownLayouts.{no_fault}

@@ -1,4 +1,4 @@
--- So many slots were made.
+-- The slots so far were made.
 use Rattle.std.proofs.Common.{◌≡◌, length}
 use Rattle.tile_slots.proofs.slots.empty_slots.Given as goal
 

@@ -5,7 +5,7 @@ use Rattle.unpack.specs.Sample.{depth_of}
 use Rattle.unpack.proofs.PlaneSamples.{StandTo}
 use Rattle.unpack.proofs.plane.unpack_plane.Given as goal
 
--- the samples so far stand at their places
+-- the samples so far are at their places
 abbrev pub invariant-loop-k : goal.invariant-loop-k
 invariant-loop-k g l =
     StandTo (plane_sample (not (nat_eq g.row.WIDE 0)) (not (nat_eq g.row.BIG 0)) l.flip l.src)

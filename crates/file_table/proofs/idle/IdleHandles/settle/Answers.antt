@@ -1,4 +1,4 @@
--- The handle that is settled stands under the number of its file.
+-- The settled handle is filed under the number of its file.
 use Rattle.file_table.proofs.IdleLemmas.{AreOwn-push}
 use Rattle.file_table.proofs.idle.IdleHandles.settle.Goals as goal
 

@@ -1,4 +1,4 @@
--- The handles that are left stand under the numbers of their files.
+-- The remaining handles are filed under the numbers of their files.
 use Rattle.file_table.proofs.IdleLemmas.{AreOwn-pop}
 use Rattle.file_table.proofs.idle.IdleHandles.take.Goals as goal
 

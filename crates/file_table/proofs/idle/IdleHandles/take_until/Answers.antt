@@ -1,5 +1,4 @@
--- The handles that are left stand under the numbers of their files, and the one that is taken out
--- stood under its own.
+-- The remaining handles are filed under the numbers of their files, and so was the one taken out.
 use Rattle.std.proofs.Common.{rules}
 use Rattle.file_table.proofs.IdleLemmas.{AreOwn-pop, taken_is_own}
 use Rattle.file_table.proofs.idle.IdleHandles.take_until.Goals as goal

@@ -1,4 +1,4 @@
--- The microcache is turned to the cell of all four, of which the first was read.
+-- The cell of all four texels is already first, because the first texel was read from it.
 use Rattle.std.proofs.Common.{◌≡◌, true, refl, sym, subst, ◌∙◌, rules}
 use Rattle.micro.specs.Runs.{IsAsked}
 use Rattle.pinned_tiles.specs.Pinned.{key_in, PinnedState, AsksFor, StaysAskedFor}

@@ -1,4 +1,4 @@
--- A generated cell that the pass does not hold is refused.
+-- A generated cell that the pass does not hold cannot be answered.
 use Rattle.image_cache.proofs.ReadingLemmas.{no_reads}
 use Rattle.image_cache.proofs.reading.Reading.fetch_apart.Goals as goal
 

@@ -1,4 +1,4 @@
--- The values are those that `fetch` tells.
+-- The values are those that `fetch` promises.
 use Rattle.std.proofs.Common.{subst}
 use Rattle.std.specs.Prelude.{OnOk}
 use Rattle.std.specs.Option.{ForSome}

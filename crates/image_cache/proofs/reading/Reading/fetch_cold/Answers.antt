@@ -1,5 +1,4 @@
--- The tile stands first in the microcache, or was made for this need alone, or the need is answered
--- apart.
+-- The tile is first in the microcache, or was made for this need only, or the need is uncached.
 use Rattle.std.proofs.Common.{◌≡◌, ◌∙◌, sym, ap, subst, List}
 use Rattle.micro.specs.Items.{HasKey}
 use Rattle.pinned_tiles.specs.Pinned.{key_in}

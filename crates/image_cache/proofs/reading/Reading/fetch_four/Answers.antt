@@ -1,4 +1,4 @@
--- What the slow way leaves, where it is refused.
+-- What the slow path leaves if it fails.
 use Rattle.std.proofs.lemmas.Result.{err_from_is_err_and}
 use Rattle.image_cache.proofs.reading.Reading.fetch_four.Goals as goal
 

@@ -1,4 +1,4 @@
--- The first of four texels, and those behind it.
+-- The first of four texels, and then the others.
 use Rattle.std.proofs.Common.{arith, ap, ◌∙◌}
 use Rattle.texel_filter.specs.Image.{texel_of}
 use Rattle.texel_filter.proofs.CallLemmas.{left_after, first_of_part}

@@ -1,4 +1,4 @@
--- The three behind the first at once, or three calls of `texel`, one after another.
+-- The three texels after the first: all at once, or by three calls of `texel`.
 use Rattle.std.proofs.Common.{◌≡◌, refl, subst, [], ◌∷◌}
 use Rattle.std.specs.Option.{ForSome}
 use Rattle.file_table.specs.Record.{RecordState}

@@ -1,4 +1,4 @@
--- What the four leave, where one is refused.
+-- What fetching four texels leaves if one of them fails.
 use Rattle.std.proofs.lemmas.Result.{err_from_is_err_and}
 use Rattle.image_cache.proofs.reading.Reading.four_corners.Goals as goal
 

@@ -1,4 +1,4 @@
--- A told tile of the key is that of the cell.
+-- In a modelled world, a tile with the key belongs to the cell.
 use Rattle.std.proofs.Common.{◌≡◌, ◌∙◌, sym, ap, subst}
 use Rattle.std.specs.List.{All}
 use Rattle.tiff_format.specs.declared.cut.Cut.{Cut}

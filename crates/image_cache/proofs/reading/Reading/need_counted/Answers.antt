@@ -1,4 +1,4 @@
--- The key alone decides a hit, where the world tells.
+-- In a modelled world, the key alone decides whether it is a hit.
 use Rattle.std.proofs.Common.{◌≡◌, ◌∷◌, [], ◌∙◌, sym, subst, refl}
 use Rattle.std.specs.List.{All}
 use Rattle.tiff_format.specs.declared.cut.Cut.{Cut}

@@ -1,4 +1,4 @@
--- Where the world tells, the tile that stands first is that of the cell.
+-- In a modelled world, the first tile of the microcache belongs to the cell.
 use Rattle.image_cache.proofs.ReadingLemmas.{brings_by, brings_refused, brings_made}
 use Rattle.image_cache.proofs.reading.Reading.need_tile.Goals as goal
 

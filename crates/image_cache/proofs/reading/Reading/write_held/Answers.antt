@@ -1,4 +1,4 @@
--- Where the world tells a hold of the key is that of the cell.
+-- In a modelled world, a held tile with the key belongs to the cell.
 use Rattle.std.proofs.Common.{subst, sym, refl, ◌∙◌}
 use Rattle.std.specs.List.{All}
 use Rattle.tiff_format.specs.declared.cut.Cut.{Cut}

@@ -1,4 +1,4 @@
--- It has no item.
+-- A new microcache has no item.
 use Rattle.micro.proofs.ItemLemmas.{recent_none}
 use Rattle.micro.proofs.PlaceLemmas.{micro_none}
 use Rattle.micro.proofs.micro.Micro.new.Goals as goal

@@ -1,4 +1,4 @@
--- The tile behind the first is the only other one.
+-- The second tile is the only other one.
 use Rattle.std.proofs.Common.{◌≡◌, ◌&&◌, true, false, nat_eq, Some, None, IsTrue, sym, ap, subst}
 use Rattle.std.proofs.Common.{◌∙◌}
 use Rattle.std.specs.Prelude.{slice_get}

@@ -1,4 +1,4 @@
--- Its pins are those of its tiles.
+-- The pins are those of the tiles.
 use Rattle.std.proofs.Common.{◌∙◌, ap, map, sym}
 use Rattle.std.specs.Option.{option_map}
 use Rattle.pinned_tiles.specs.Pinned.{PinnedState}

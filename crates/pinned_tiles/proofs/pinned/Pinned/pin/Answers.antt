@@ -1,4 +1,4 @@
--- There was room for one pin more.
+-- One more pin was allowed.
 use Rattle.std.proofs.Common.{◌∙◌, ap, sym, subst, map, Option, OnSome, IfSome, IsSome}
 use Rattle.std.specs.List.{Contains}
 use Rattle.micro.specs.Items.{HasKey}

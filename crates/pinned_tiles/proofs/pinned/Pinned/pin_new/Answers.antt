@@ -1,4 +1,4 @@
--- There was room for the new pin.
+-- The new pin was allowed.
 use Rattle.std.proofs.Common.{◌∙◌, ap, map}
 use Rattle.std.specs.Option.{option_map}
 use Rattle.pinned_tiles.specs.Pinned.{PinnedState}

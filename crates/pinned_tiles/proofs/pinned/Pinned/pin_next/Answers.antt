@@ -1,4 +1,4 @@
--- Its steps, one after another.
+-- The steps of the call, one after another.
 use Rattle.shard_gate.proofs.SinceLemmas.{purges_none_chain}
 use Rattle.pinned_tiles.proofs.VisitLemmas.{if_missed}
 use Rattle.pinned_tiles.proofs.pinned.Pinned.pin_next.Goals as goal

@@ -1,4 +1,4 @@
--- Its steps, one after another.
+-- The steps of the call, one after another.
 use Rattle.pinned_tiles.proofs.VisitLemmas.{visits_round}
 use Rattle.pinned_tiles.proofs.pinned.Pinned.release_hold.Goals as goal
 

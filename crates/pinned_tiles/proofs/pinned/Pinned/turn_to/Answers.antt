@@ -1,4 +1,4 @@
--- Its steps, one after another.
+-- The steps of the call, one after another.
 use Rattle.std.proofs.Common.{◌≡◌, true, sym, subst, rules}
 use Rattle.micro.specs.Items.{AreItems}
 use Rattle.micro.specs.Runs.{IsAsked}

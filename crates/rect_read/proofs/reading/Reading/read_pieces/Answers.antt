@@ -17,7 +17,7 @@ use Rattle.rect_read.specs.Samples.{samples_at}
 use Rattle.rect_read.proofs.Leaves.{leaves_after}
 use Rattle.rect_read.proofs.reading.Reading.read_pieces.Goals as goal
 
--- the values of the texels that were taken stand behind those so far
+-- the values of the texels taken follow those so far
 values_taken : (values : ℕ × ℕ → List ℕ) (old mid new : List ℕ)
     (all left row rest : List (ℕ × ℕ)) → left ≡ row ++ rest
     → mid ++ flat_map values left ≡ old ++ flat_map values all

@@ -4,7 +4,7 @@ use Rattle.rect_read.specs.Taken.{taken, KeepsOthers}
 use Rattle.rect_read.specs.Texels.{samples_of}
 use Rattle.rect_read.proofs.samples.Samples.push_zeros.Given as goal
 
--- so many zeros stand behind the samples that were taken
+-- this many zeros follow the samples already taken
 abbrev pub invariant-loop : goal.invariant-loop
 invariant-loop l = record {
   values : taken l.self ≡ taken l.initial.self ++ replicate l.counter 0;

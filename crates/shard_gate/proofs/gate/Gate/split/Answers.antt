@@ -1,4 +1,4 @@
--- Both seats are seats of the gate.
+-- The old and the new seat both belong to the gate.
 use Rattle.std.proofs.Common.{◌≡◌, ◌-◌, ◌*◌, ◌≤◌, List, map, drop, length, subst, ap, sym, ◌∙◌, arith}
 use Rattle.std.specs.List.{All}
 use Rattle.std.proofs.lemmas.List.{take_at, length-map}

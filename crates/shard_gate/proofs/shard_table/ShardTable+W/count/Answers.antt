@@ -1,4 +1,4 @@
--- The pins of the seat are among those of the entries, and are all of them where it has all permits.
+-- The seat's pins are among those of the entries, and are all of them if it has all permits.
 use Rattle.std.proofs.Common.{ap, arith}
 use Rattle.std.specs.Prelude.{length}
 use Rattle.atomic_table.specs.Table.{rest}

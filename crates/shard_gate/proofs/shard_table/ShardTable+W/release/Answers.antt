@@ -1,4 +1,4 @@
--- The pin is one of the seat, and each slot that a tile left is told.
+-- The pin belongs to the seat, and each slot that a tile left is reported.
 use Rattle.std.proofs.Common.{◌≡◌, ◌∷◌, ℕ, List, ap, subst, sym, ◌∙◌, refl}
 use Rattle.std.specs.Prelude.{Contains, IsPermutation}
 use Rattle.atomic_table.specs.Table.{rest}

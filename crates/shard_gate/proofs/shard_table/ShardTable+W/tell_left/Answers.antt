@@ -1,4 +1,4 @@
--- One more slot was told, or none is left.
+-- One more slot was reported, or none is left.
 use Rattle.std.proofs.Common.{length, ap, ◌∙◌, refl}
 use Rattle.atomic_table.specs.Table.{rest}
 use Rattle.crossbeam_utils.specs.Padded.{padded_value, padded_with_value}

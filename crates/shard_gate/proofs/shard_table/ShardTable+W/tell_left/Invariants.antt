@@ -1,4 +1,4 @@
--- Some slots were told, and the shard has the same entries in the same slots.
+-- Some slots were reported, and the shard has the same entries in the same slots.
 use Rattle.std.proofs.Common.{◌≡◌, length}
 use Rattle.crossbeam_utils.specs.Padded.{padded_value}
 use Rattle.shard_gate.proofs.TellLemmas.{ToldSoFar, left_in}

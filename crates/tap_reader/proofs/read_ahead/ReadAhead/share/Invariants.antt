@@ -1,4 +1,4 @@
--- What is shared so far stands in the file.
+-- The stretches shared so far have bytes of the file.
 use Rattle.std.specs.List.{All}
 use Rattle.tap_reader.specs.ReadAhead.{held_in, StandAsRows}
 use Rattle.tap_reader.proofs.read_ahead.ReadAhead.share.Given as goal

@@ -1,9 +1,0 @@
-use Rattle.std.proofs.Common.{◌≡◌, ℕ, ◌+◌, ◌<◌, ◌≤◌, slice_index}
-use Rattle.tex_aniso.proofs.averaging.add_each.Given as goal
-
-abbrev pub invariant-loop-c : goal.invariant-loop-c
-invariant-loop-c l = record {
-  value : (k : ℕ) → k < l.c
-      → slice_index l.sums k ≡ slice_index l.initial.sums k + slice_index l.more k;
-  rest : (k : ℕ) → l.c ≤ k → slice_index l.sums k ≡ slice_index l.initial.sums k;
-}
