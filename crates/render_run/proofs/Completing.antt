@@ -1,4 +1,4 @@
--- A list is answered whole where nothing fails.
+-- A list is answered completely if nothing fails.
 use Rattle.std.proofs.Common.{◌≡◌, inl, inr, ℕ, ◌≤◌, List, length, ◌∙◌}
 use Rattle.std.proofs.Common.{Option, Some, None, Ok, Err, arith, nat_le, Bool, true, false, refl, ap}
 use Rattle.std.proofs.lemmas.Bool.{cases_lt, lt-leb}
@@ -35,7 +35,7 @@ if_ok : (b : Bool) (first : Parsed) (bad : BadList) (all : List Request)
 if_ok true first bad all is = refl
 if_ok false first bad all is = absurd cc
 
--- and has no more bytes than a list may have
+-- a valid list has no more bytes than a list may have
 is_short : (bytes : List ℕ) (all : List Request) → list_of bytes ≡ Ok all
     → nat_le (length bytes) max_list_bytes ≡ true
 unfolding list_of

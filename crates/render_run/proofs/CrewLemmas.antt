@@ -13,12 +13,12 @@ use Rattle.render_run.proofs.Sums.{at_same, at_other}
 use mathlib.Core.Logic.{dite}
 use native.Mathlib.Decide.{ℕ_discrete}
 
--- what is so of each place is so of all
+-- a fact of each place is a fact of all workers
 pub all_at : (P : Sight → Type 0) (crew : List Sight)
     → ((w : ℕ) → w < length crew → P (sight_at crew w)) → All P crew
 all_at P crew at = λ k d lt. subst P (get_or_default crew k no_sight d lt) (at k lt)
 
--- and what is so of all is so of each place
+-- a fact of all workers is a fact of each place
 pub at_all : (P : Sight → Type 0) (crew : List Sight) → All P crew
     → (w : ℕ) → w < length crew → P (sight_at crew w)
 at_all P crew all w low = all w no_sight low
@@ -199,17 +199,17 @@ module _ (whole : List Sight) (f0 f1 : Sight) (o0 mid o1 : List Sight) (seen : L
 -- ---- what stays of each
 
 module _ {A W : Type 0} (part : A → W) where
-  -- what is told by a part
+  -- a list of facts that depend on a part only
   by_part : {B : Type 0} (f : W → B) (xs : List A) → map (λ (x : A). f (part x)) xs ≡ map f (map part xs)
   by_part f [] = refl
   by_part {B = B} f (x ∷ xs) = ap (λ (l : List B). f (part x) ∷ l) (by_part f xs)
 
   module _ (xs ys : List A) (same : map part xs ≡ map part ys) where
-    -- the part is the same, and so is what it tells
+    -- if the part is the same, so are these facts
     pub told_same : {B : Type 0} (f : W → B) → map (λ (x : A). f (part x)) xs ≡ map (λ (x : A). f (part x)) ys
     told_same f = by_part f xs ∙ ap (map f) same ∙ sym (by_part f ys)
 
-    -- and so is what is so of it
+    -- a predicate of the part carries over
     pub all_same : (P : W → Type 0) → All (λ (x : A). P (part x)) ys → All (λ (x : A). P (part x)) xs
     all_same P all k d lt =
         let long : length xs ≡ length ys =

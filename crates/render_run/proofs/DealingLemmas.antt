@@ -13,7 +13,7 @@ use Rattle.render_run.specs.Dealing.{Place, Dealt, place, fresh_round, max_round
 use Rattle.render_run.specs.Dealing.{texels_asked, is_sync, round_for, dealt_with, place_in}
 use Rattle.render_run.specs.Dealing.{places_from, round_places, IsRound}
 
--- so far is a round dealt
+-- how far a round has been dealt
 abbrev pub at : ℕ → ℕ → ℕ → Dealt
 at round requests texels = record { round = round; requests = requests; texels = texels }
 
@@ -41,7 +41,7 @@ round_push workers round n =
 
 -- ---- one request
 
--- of a round that has it
+-- the next request stays in this round
 cons_same : (workers : ℕ) (d : Dealt) (r : Request) (rest : List Request)
     → ltb max_round_texels (d.texels + texels_asked r) ≡ false
     → places_from workers d (r ∷ rest)
@@ -49,7 +49,7 @@ cons_same : (workers : ℕ) (d : Dealt) (r : Request) (rest : List Request)
 unfolding places_from
 cons_same workers d r rest few = rw few refl
 
--- of the next round
+-- the next request begins a new round
 cons_next : (workers : ℕ) (d : Dealt) (r : Request) (rest : List Request)
     → ltb max_round_texels (d.texels + texels_asked r) ≡ true → texels_asked r ≤ max_texels
     → places_from workers d (r ∷ rest)
@@ -60,19 +60,19 @@ cons_next workers d r rest many few =
     le-ltb max_round_texels (0 + texels_asked r) (omega arith) in
     rw (many, fits) refl
 
--- it does not end its round
+-- the request does not end its round
 dealt_more : (round n texels : ℕ) (r : Request) → is_sync r ≡ false
     → dealt_with (at round n texels) r ≡ at round (n + 1) (texels + texels_asked r)
 dealt_more round n texels r stays = rw stays refl
 
--- it ends it
+-- the request ends its round
 dealt_sync : (d : Dealt) (r : Request) → is_sync r ≡ true
     → dealt_with d r ≡ fresh_round (d.round + 1)
 dealt_sync d r ends = rw ends refl
 
 -- ---- a round so far
 
--- the first n requests are dealt in one round, and their regions have so many texels
+-- the first n requests are dealt in one round, and their regions have this many texels
 abbrev pub DealtTo : List Request → ℕ → ℕ → Type 0
 DealtTo requests n texels = (workers round : ℕ) → places_from workers (fresh_round round) requests
     ≡ round_places workers round n ++ places_from workers (at round n texels) (drop n requests)
@@ -84,7 +84,7 @@ module _ (requests : List Request) (n texels : ℕ) (d : Request) (lt : n < leng
   next = get_or requests n d
 
   module _ (few : texels + texels_asked (get_or requests n d) ≤ max_round_texels) where
-    -- what is left behind it, wherever it leads
+    -- the places of the requests that follow, wherever the dealing is
     behind : (workers round : ℕ) (to : Dealt)
         → dealt_with (at round n texels) (get_or requests n d) ≡ to
         → places_from workers (fresh_round round) requests ≡ round_places workers round (n + 1)
@@ -113,13 +113,13 @@ module _ (requests : List Request) (n texels : ℕ) (d : Request) (lt : n < leng
         behind workers round (at round (n + 1) (texels + texels_asked (get_or requests n d)))
         (dealt_more round n texels (get_or requests n d) stays)
 
-    -- it ends the round
+    -- a `sync` ends the round
     pub round_by_sync : is_sync (get_or requests n d) ≡ true → IsRound requests (n + 1)
     round_by_sync ends workers round =
         behind workers round (fresh_round (round + 1))
         (dealt_sync (at round n texels) (get_or requests n d) ends)
 
-  -- it begins another one
+  -- too many texels begin another round
   pub round_by_next : max_round_texels < texels + texels_asked (get_or requests n d)
       → texels_asked (get_or requests n d) ≤ max_texels → IsRound requests n
   round_by_next many few workers round =

@@ -45,7 +45,7 @@ module _ (files : Files) (asked : Option Asked) (old new : Around) (ends : ℕ)
     taps = taps;
   }
 
-  -- no memory was found, and nothing was written
+  -- out of memory, and nothing was written
   lacking : (IsTrue new.folder.over → IsTrue old.folder.over) → LacksMemory old.sink new.sink ends
       → Runs files asked old new ends
   lacking mark lacks = record {

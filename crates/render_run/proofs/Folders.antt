@@ -1,4 +1,4 @@
--- What was answered through taps, said of the folder that the taps came back to.
+-- What was answered through taps, in terms of the folder that they were given back to.
 use Rattle.std.proofs.Common.{◌≡◌, ℕ, ◌+◌, ◌<◌, ◌≤◌, inr, Bool, true, false, List, Option}
 use Rattle.std.proofs.Common.{[], Some, Result, Ok, Err, OnOk, length, refl, sym, ap, subst, ◌∙◌, arith}
 use Rattle.std.specs.Prelude.{min, if◌then◌else◌}
@@ -38,7 +38,7 @@ rises_over n t1 f0 f1 later over rises = record {
       let risen = rises.by_n short in omega (arith, risen, over);
 }
 
--- ---- what was written, said of another source
+-- ---- what was written, in terms of another source
 
 module _ (setup : Setup) (requests : List Request) (c0 c1 d0 d1 : SourceState)
     (faults : (n : ℕ) → RisesByAtLeast n c0.faults c1.faults
@@ -145,7 +145,7 @@ no_rounds setup requests f0 f1 s faults moves = record {
   written = λ held is. is ∙ ap Some (sym (append-nil held));
 }
 
--- a folder of which no tap was made
+-- a folder that made no tap
 pub no_taps : (folder : FolderState) → LeavesTaps folder folder
 no_taps folder = record {
   folder = record { entered = refl; mark = refl; faults = omega arith; moves = omega arith };
@@ -163,7 +163,7 @@ module _ (files : Files) (asked : Option Asked) (options : Options) (f0 f1 f2 : 
     (has : HasOptions asked options)
     (prepared : IsPrepared (path_in asked) (inputs_of f0 i0) (inputs_of f1 i1) requests)
     (kept : KeepsTaps f0 f1) (taps : LeavesTaps f1 f2) where
-  -- it was prepared over the whole call
+  -- the list was prepared within the whole call
   abbrev listed : IsListed asked (around_of f0 i0 s0) (around_of f2 i1 s1)
   listed = record {
     options = options;

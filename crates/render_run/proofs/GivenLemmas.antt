@@ -17,7 +17,7 @@ use Rattle.request_lang.specs.declared.answer.Answer.TheVariants as line
 use Rattle.render_run.specs.declared.question.Question.{Question}
 use Rattle.render_run.specs.Reply.{IsReplyOf, IsReplyOn, HasForm, HasLargeCell, LacksLevelOn}
 
--- what is so of a record that was given and that the pass keeps
+-- a fact of a record that was given and that the pass keeps
 pub by_given : {G : Type 0} (files : Files) (file : ℕ) (cut : Cut) (old new : ViewState)
     (kept : Option RecordState) (P : RecordState → Type 0)
     → IsSomeAnd kept (λ r. GivesRecord files file cut old new r × P r)
@@ -30,17 +30,17 @@ by_given files file cut old new (Some r) P given use_of = use_of r given.0 given
 module _ (files : Files) (file : ℕ) (cut : Cut) (old new : ViewState) (r : RecordState)
     (generation : ℕ) (of_generation : generation ≡ r.generation)
     (given : GivesRecord files file cut old new r) where
-  -- its generation is a real one of the file
+  -- the record's generation exists
   pub given_real : IsReal files file generation
   given_real = rw (of_generation, ← given.of_file) given.honest.real
 
-  -- its layout is that of the bytes of the generation
+  -- the record's layout is that of the generation's bytes
   given_layout : (bytes : List ℕ) → files.held file generation ≡ Some bytes
       → r.layout ≡ layout_of bytes
   given_layout bytes is =
       given.honest.layout bytes (rw (given.of_file, ← of_generation) is)
 
-  -- what is so of its layout is so of what is kept of the bytes, which show no fault
+  -- a fact of the record's layout is a fact of what is kept of the bytes, which are valid
   pub kept_told : (P : Kept → Type 0) → IsOkAnd r.layout P → (bytes : List ℕ)
       → files.held file generation ≡ Some bytes
       → (first_fault bytes ≡ None) × P (kept_of bytes)
@@ -75,7 +75,7 @@ module _ (files : Files) (file : ℕ) (cut : Cut) (old new : ViewState) (r : Rec
           reply bytes (record { good = large.0; too_large = rw (← given.under) large.1 });
     }
 
-    -- a level that is none
+    -- a level that does not exist
     pub level_reply : (level levels : ℕ) → LacksLevel level r generation levels
         → HasForm q (line.NoLevel generation levels)
         → ((bytes : List ℕ) → LacksLevelOn cut bytes level levels
@@ -95,10 +95,10 @@ module _ (files : Files) (file : ℕ) (cut : Cut) (old new : ViewState) (r : Rec
           });
     }
 
--- ---- what a call is not refused for
+-- ---- errors that a call cannot have
 
 module _ (a : Around) where
-  -- what no region is refused for
+  -- an error that reading a region cannot have
   pub never : {G : Type 0} → IsSomeAnd a.new.latest (λ r.
       GivesRecord a.files a.file a.cut a.old.view a.new.view r × ⊥) → G
   never given =

@@ -63,7 +63,7 @@ module _ (files : Files) (folder : FolderState) (number : ℕ) where
         file = may.file number refl;
       }
 
-  -- whatever is given, where it asks the file of the name itself
+  -- any task for a lookup, if it asks the file with the request's own name
   known_given : (r : LookupRequest) (name : List ℕ) (s t : ℤ) (given : Task)
       → own_file_in given ≡ Some number
       → IsLookupOf folder.number_of r name (udim_of name s t) given

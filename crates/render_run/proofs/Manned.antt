@@ -25,7 +25,7 @@ module _ {T W H : Type 0} (state : T → TapState) (cache : CacheState) where
     pub posts_longer : length new ≡ length posts + 1
     posts_longer = ap length adds.all ∙ length-append posts (adds.post ∷ [])
 
-    -- it is new as the others are
+    -- one more new worker
     pub posts_more : IsPassOf cache pass → IsFresh pass → AreNew state cache posts
         → AreNew state cache new
     posts_more of fresh all =
@@ -90,7 +90,7 @@ same_tally : (pass : PassState) → IsFresh pass → tally_of pass ≡ no_tally
 same_tally pass fresh = rw (fresh.recent, fresh.needs, fresh.hits, fresh.apart) refl
 
 module _ {T W H : Type 0} (state : T → TapState) (cache : CacheState) where
-  -- their taps have done nothing
+  -- the taps of new workers have done nothing
   pub crew_none : (posts : List (Post T W H)) → AreNew state cache posts
       → source_of_crew (sights_of state posts) ≡ no_sight.source
   crew_none posts all =
@@ -103,7 +103,7 @@ module _ {T W H : Type 0} (state : T → TapState) (cache : CacheState) where
             (λ k d lt. (all k d lt).unused.moves)),
       ) refl
 
-  -- they hold nothing and have counted nothing
+  -- new workers hold nothing and have counted nothing
   pub crew_idle : (posts : List (Post T W H)) → AreNew state cache posts
       → AreIdle (sights_of state posts)
   crew_idle [] all w = record { holds = refl; tally = refl }
@@ -128,7 +128,7 @@ module _ {T W H : Type 0} (state : T → TapState) (cache : CacheState) where
       → ArePassesOf cache posts
   crew_passes posts all = λ k d lt. (all k d lt).of
 
--- what is written back behind so many is not kept
+-- what is written back past the end is dropped
 pub written_back : {A : Type 0} (m : ℕ) (new old : List A) → m ≡ length new
     → take m (new ++ drop (length new) old) ≡ new
 written_back m new old is =
@@ -183,7 +183,7 @@ module _ {A : Type 0} (sight : A → Sight) (all : ℕ) (whole : SourceState) (b
         files = files_kept f0 f1 f2 so_far.files one.files;
       }
 
--- as many taps came back as were made, and what else is told of the folder stays
+-- as many taps came back as were made, and the rest of the folder is unchanged
 pub taps_back : (n : ℕ) (source : SourceState) (f0 f1 f2 : FolderState) → MakesMore n f0 f1
     → TakesBack n source f1 f2 → LeavesTaps f0 f2
 taps_back n source f0 f1 f2 makes back = record {

@@ -27,7 +27,7 @@ use Rattle.render_run.specs.Answering.{AnswersTask, AnswersInTurn}
 
 -- ---- what is given of requests
 
--- of one request more
+-- one more request and its task
 pub given_push : (number_of : List ℕ → Option ℕ) (requests : List Request) (tasks : List Task)
     (r : Request) (t : Task) → AreGivenOf number_of requests tasks → IsGivenOf number_of r t
     → AreGivenOf number_of (requests ++ r ∷ []) (tasks ++ t ∷ [])
@@ -85,7 +85,7 @@ tile_may r means own s t is lies may =
 -- ---- what was answered
 
 module _ (files : Files) (terms : Terms) (old new : Sight) where
-  -- that no memory was found meets a lookup in the file of a tile
+  -- the line for out of memory answers a lookup in a UDIM tile
   meets_none : (file : Option ℕ) (r : LookupRequest)
       → MeetsTask files terms old.holds (Tile file (Lookup r)) NoMemory
   meets_none None r = inr refl
@@ -95,7 +95,7 @@ module _ (files : Files) (terms : Terms) (old new : Sight) where
     of_file = λ small few. tt;
   }
 
-  -- and needs nothing
+  -- the line for out of memory needs no cell
   needs_none : (file : Option ℕ) (r : LookupRequest) (keys : List ℕ) → keys ≡ []
       → AreNeeded files terms.cut (Tile file (Lookup r)) NoMemory keys
   needs_none None r keys none = none

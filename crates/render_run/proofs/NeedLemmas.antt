@@ -20,6 +20,8 @@ use Rattle.tile_layout.specs.Grid.{shown_grid}
 use Rattle.file_table.specs.Record.{RecordState}
 use Rattle.file_table.specs.Calls.{GivesRecord}
 use Rattle.texture_sys.specs.declared.lookup_request.LookupRequest.{LookupRequest}
+use Rattle.texture_sys.specs.declared.lookup.Lookup.TheVariants.{Coarse}
+use Rattle.texture_sys.specs.declared.lookup.Lookups.TheVariants.{One}
 use Rattle.texture_sys.specs.Asked.{asked_visits}
 use Rattle.texel_values.specs.declared.overlap.Overlap.{Overlap}
 use Rattle.texel_values.specs.declared.region.Region.{Region}
@@ -73,7 +75,7 @@ module _ (files : Files) (cut : Cut) (task : Task) (old new : Tally) (line : Ans
         });
   }
 
-  -- it failed
+  -- the answer reports a failure
   pub fails_tally : old.needs ≤ new.needs → old.apart ≤ new.apart
       → is_calm (basis_of line) ≡ false → TalliesAnswer files cut task old new line
   fails_tally needs apart fails = record {
@@ -98,7 +100,7 @@ tile_tally files cut n q old new line t = record {
   counts = t.counts;
 }
 
--- a refusal empties nothing
+-- an error does not empty the microcache
 pub refusal_keeps : {B : Type 0} → (e : CacheError B) → empties (refusal_of e) ≡ false
 refusal_keeps (refused.BadFile generation fault) = refl
 refusal_keeps (refused.TileTooLarge generation) = refl
@@ -112,7 +114,7 @@ refusal_keeps refused.NoMemory = refl
 refusal_keeps (refused.Busy b) = refl
 
 module _ (files : Files) (cut : Cut) (file : ℕ) (old new : PassState) where
-  -- a refused lookup needs nothing that is counted in its line
+  -- a failed lookup needs nothing that is counted in its line
   lookup_refused : {B : Type 0} → (r : LookupRequest) (e : CacheError B)
       → AreNeeded files cut (Ask (Some file) (Lookup r)) (refusal_of e) []
   lookup_refused r (refused.BadFile generation fault) = refl
@@ -139,7 +141,7 @@ module _ (files : Files) (cut : Cut) (file : ℕ) (old new : PassState) where
   region_refused r refused.NoMemory = refl
   region_refused r (refused.Busy b) = refl
 
-  -- a refusal that has its cause in the words or the bytes leaves all as it was
+  -- an error caused by the words or the bytes leaves the counts unchanged
   refused_kept : {B : Type 0} → (task : Task) (e : CacheError B)
       → AreNeeded files cut task (refusal_of e) [] → KeepsRecent old new
       → TalliesAnswer files cut task (tally_of old) (tally_of new) (refusal_of e)
@@ -187,7 +189,7 @@ module _ (files : Files) (cut : Cut) (file : ℕ) (old new : PassState) where
 
 -- ---- cells were needed
 
--- of the keys of several cells, of which none was answered apart or some were
+-- the keys of several cells, with or without uncached needs
 pub needs_tally : (files : Files) (cut : Cut) (task : Task) (line : Answer) (keys : List ℕ)
     (old new : PassState) → AreNeeded files cut task line keys → length keys ≤ max_texels
     → new.needs ≡ counted_together old.needs (length keys) → old.apart ≤ new.apart
@@ -208,7 +210,7 @@ needs_tally files cut task line keys old new are few count later needs kept = re
       });
 }
 
--- a pass that has answered nothing apart has not done so in a call
+-- a pass without uncached needs has none in a single call either
 none_apart : (old new : PassState) → old.apart ≤ new.apart → new.apart ≡ 0 → NoneApart old new
 none_apart old new later none = record {
   same = omega (arith, later, none);
@@ -248,7 +250,7 @@ met_by cell first inside false is =
 met_few : (cell first inside : ℕ) → cells_met cell first inside ≤ inside
 met_few cell first inside = met_by cell first inside (inside == 0) refl
 
--- of a region of no more texels than one may have
+-- a region with no more texels than are allowed meets few enough cells
 region_few : (level : CutLevel) (columns rows : Overlap) (w h : ℕ) → columns.inside ≤ w
     → rows.inside ≤ h → w * h ≤ max_texels → count_met level columns rows ≤ max_texels
 region_few level columns rows w h across down few =
@@ -341,13 +343,13 @@ module _ (files : Files) (cut : Cut) (file generation : ℕ) (old new : PassStat
 
     look_at : (state : RecordState) → GivesRecord files file cut old.view new.view state
         → state.generation ≡ generation
-        → new.needs ≡ counted_together old.needs (length (visits_on state r))
-        → (NoneApart old new → NeedsCells files state (visits_on state r) old new)
+        → new.needs ≡ counted_together old.needs (length (visits_on state (One (Coarse r))))
+        → (NoneApart old new → NeedsCells files state (visits_on state (One (Coarse r))) old new)
         → (layout : Result Kept TiffFault) → state.layout ≡ layout
         → TalliesAnswer files cut (Ask (Some file) (Lookup r)) (tally_of old) (tally_of new)
         answer
     look_at state gives of count needs (Ok kept) is =
-        let visits = visits_on state r in
+        let visits = visits_on state (One (Coarse r)) in
         needs_tally files cut (Ask (Some file) (Lookup r)) answer
         (lookup_keys_on state.generation state.file state.cut kept visits) old new
         (told (lookup_keys_on state.generation state.file state.cut kept visits) (λ bytes held.
@@ -377,14 +379,14 @@ module _ (files : Files) (cut : Cut) (file generation : ℕ) (old new : PassStat
     }
 
     look_by : (kept : Option RecordState)
-        → IsSomeAnd kept (IsLookedUp files file cut r old new generation)
+        → IsSomeAnd kept (IsLookedUp files file cut (One (Coarse r)) old new generation)
         → TalliesAnswer files cut (Ask (Some file) (Lookup r)) (tally_of old) (tally_of new)
         answer
     look_by None looked = absurd looked
     look_by (Some state) looked =
         look_at state looked.given looked.of looked.asks.needs looked.needs state.layout refl
 
-    pub lookup_tally : IsSomeAnd new.latest (IsLookedUp files file cut r old new generation)
+    pub lookup_tally : IsSomeAnd new.latest (IsLookedUp files file cut (One (Coarse r)) old new generation)
         → TalliesAnswer files cut (Ask (Some file) (Lookup r)) (tally_of old) (tally_of new)
         answer
     lookup_tally looked = look_by new.latest looked

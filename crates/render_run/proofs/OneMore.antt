@@ -51,7 +51,7 @@ meets_push setup (s ∷ rs) [] r line met meets = absurd met
 meets_push setup (s ∷ rs) (l ∷ lines) r line met meets =
     (met.0, meets_push setup rs lines r line met.1 meets)
 
--- ---- what is told of each line by those before it
+-- ---- what earlier lines say about each line
 
 -- one line more is counted
 counted_push : (before lines : List Line) (line : Line) → AreCounted before lines
@@ -63,9 +63,9 @@ counted_push before (l ∷ lines) line counted here = (
       (subst (λ (ls : List Line). IsCounted ls line) (sym (append_assoc before (l ∷ []) lines)) here),
 )
 
--- ---- the pins that lines tell
+-- ---- the pins in lines
 
--- the pins of as many tiles, of a worker that is alone where the other is
+-- the pins of equally many tiles, for a worker that is alone if the other is
 pins_as : (a b : ℕ) (P Q : Type 0) (line : Answer) → a ≡ b → (Q → P) → TellsPins a P line
     → TellsPins b Q line
 pins_as a b P Q line same alone tells shards is = record {
@@ -73,7 +73,7 @@ pins_as a b P Q line same alone tells shards is = record {
   alone = λ q. (tells shards is).alone (alone q) ∙ same;
 }
 
--- one line more tells them
+-- one more line about pins
 pins_push : (workers w : ℕ) (before lines : List Line) (line : Line)
     → TellTheirPins workers w before lines → TellsItsPins workers w (before ++ lines) line
     → TellTheirPins workers w before (lines ++ line ∷ [])
@@ -97,7 +97,7 @@ module _ (w : ℕ) (lines : List Line) (line : Line) where
       ∙ ap (λ (b : Bool). count_by (λ (l : Line). eqb l.place.worker w && p l.answer) lines
       + one_if (b && p line.answer)) (eq-eqb line.place.worker w own)
 
-  -- and with one of another
+  -- one more line of another worker
   other_more : (p : Answer → Bool) → line.place.worker ≢ w
       → count_by (λ (l : Line). eqb l.place.worker w && p l.answer) (lines ++ line ∷ [])
       ≡ count_by (λ (l : Line). eqb l.place.worker w && p l.answer) lines
@@ -123,7 +123,7 @@ module _ (w : ℕ) (lines : List Line) (line : Line) where
 -- ---- one line more
 
 module _ (setup : Setup) (old : SourceState) (round : ℕ) where
-  -- what the lines tell, with one more, of worker w
+  -- what the lines say, with one more line of worker w
   module _ (front : List Request) (lines : List Line) (r : Request) (w : ℕ) (answer : Answer)
       (crew : List Sight) (after : Sight)
       (told : AreLinesSoFar setup front old round crew lines) (low : w < setup.workers)
@@ -268,7 +268,7 @@ module _ (setup : Setup) (round : ℕ) where
   Turns i rs answers before after = AnswersInTurn setup.files setup.terms setup.workers i
       (map (task_of setup.number_of) rs) answers before after
 
-  -- the lines of answers of a round, the first of which is its i-th
+  -- the lines of the answers of a round, the first of which is its i-th
   unfoldable pub placed : (i : ℕ) (rs : List Request) (answers : List Answer)
       (before after : List Sight) → Turns i rs answers before after → List Line
   placed i [] [] before after turns = []
@@ -282,7 +282,7 @@ module _ (setup : Setup) (round : ℕ) where
     answer = a;
   } ∷ placed (i + 1) rs answers (set before (i % setup.workers) turns.0) after turns.2
 
-  -- what the lines tell, with those of a round more
+  -- what the lines say, with those of one more round
   pub round_more : (old : SourceState) (front : List Request) (lines : List Line) (i : ℕ)
       (rs : List Request) (answers : List Answer) (before after : List Sight)
       → 0 < setup.workers → AreLinesSoFar setup front old round before lines
@@ -314,7 +314,7 @@ module _ (setup : Setup) (round : ℕ) where
       AreLinesSoFar setup ((front ++ r ∷ []) ++ rs) old round after all)
       (append_assoc lines (one ∷ []) later) rest)
 
-  -- where they lie
+  -- the places of these lines
   pub placed_places : (i : ℕ) (rs : List Request) (answers : List Answer)
       (before after : List Sight) (turns : Turns i rs answers before after)
       → map (λ (l : Line). l.place) (placed i rs answers before after turns)
@@ -327,7 +327,7 @@ module _ (setup : Setup) (round : ℕ) where
       ap (λ (rest : List Place). place round (i % setup.workers) ∷ rest)
       (placed_places (i + 1) rs answers (set before (i % setup.workers) turns.0) after turns.2)
 
-  -- their answers
+  -- the answers in these lines
   pub placed_answers : (i : ℕ) (rs : List Request) (answers : List Answer)
       (before after : List Sight) (turns : Turns i rs answers before after)
       → map (λ (l : Line). l.answer) (placed i rs answers before after turns) ≡ answers
@@ -339,7 +339,7 @@ module _ (setup : Setup) (round : ℕ) where
       ap (λ (rest : List Answer). a ∷ rest)
       (placed_answers (i + 1) rs answers (set before (i % setup.workers) turns.0) after turns.2)
 
-  -- they are in the round
+  -- these lines belong to the round
   pub placed_rounds : (i : ℕ) (rs : List Request) (answers : List Answer)
       (before after : List Sight) (turns : Turns i rs answers before after)
       → All (λ l. l.place.round < round + 1) (placed i rs answers before after turns)

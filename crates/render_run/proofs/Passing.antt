@@ -27,13 +27,13 @@ rises_from a b c low rises = record {
 
 -- ---- what was put
 
--- what was put, put behind what was put before
+-- what was written, after what was written before
 appends_more : (a b : List ℕ) (old mid new : Option (List ℕ)) → Appends a old mid
     → Appends b mid new → Appends (a ++ b) old new
 appends_more a b old mid new first second = λ held is.
     second (held ++ a) (first held is) ∙ ap Some (append_assoc held a b)
 
--- the same of a first part
+-- what was written, followed by a first part of a text
 part_more : (a b : List ℕ) (old mid new : Option (List ℕ)) → Appends a old mid
     → AppendsPart b mid new → AppendsPart (a ++ b) old new
 part_more a b old mid new first second = λ held is.
@@ -77,7 +77,7 @@ none_passed o = record {
   faults = omega arith;
 }
 
--- one text behind another
+-- one text after another
 pub passes_more : (a b : List ℕ) (old mid new : Outgoing) → Passes a old mid → Passes b mid new
     → Passes (a ++ b) old new
 passes_more a b old mid new first second = record {
@@ -101,7 +101,7 @@ rest_part text old mid new passes part =
     rw (← passes.all)
     (puts_more passes.put mid.waits old.sink mid.sink new passes.appended passes.faults part)
 
--- one text behind another, of which only a first part was put
+-- one text after another, of which only a first part was written
 pub passes_part : (a b : List ℕ) (old mid : Outgoing) (new : SinkState) → Passes a old mid
     → PutsPart (mid.waits ++ b) mid.sink new → PutsPart (old.waits ++ (a ++ b)) old.sink new
 passes_part a b old mid new first second =
@@ -113,20 +113,20 @@ passes_part a b old mid new first second =
     (puts_more first.put (mid.waits ++ b) old.sink mid.sink new first.appended first.faults
     second)
 
--- of a longer text no more was put
+-- a longer text was not written further
 pub passes_longer : (a b text : List ℕ) (old : Outgoing) (new : SinkState) → a ++ b ≡ text
     → PutsPart (old.waits ++ a) old.sink new → PutsPart (old.waits ++ text) old.sink new
 passes_longer a b text old new whole part =
     rw (← whole, ← append_assoc old.waits a b) (puts_longer (old.waits ++ a) b old.sink new part)
 
--- of a longer text no more was put than what waited behind its front
+-- of a longer text, no more was written than what was on the page after its front
 pub rest_longer : (front behind text : List ℕ) (old mid : Outgoing) (new : SinkState)
     → front ++ behind ≡ text → Passes front old mid → PutsPart mid.waits mid.sink new
     → PutsPart (old.waits ++ text) old.sink new
 rest_longer front behind text old mid new whole passes part =
     passes_longer front behind text old new whole (rest_part front old mid new passes part)
 
--- a text behind one that was passed on
+-- a text added after one that was passed on
 pub then_adds : {A E : Type 0} (a b : List ℕ) (old mid new : Outgoing) (r : Result A E)
     → Passes a old mid → AddsOn b mid new r → PassesOn (a ++ b) old new r
 then_adds a b old mid new (Ok done) first second = passes_more a b old mid new first second

@@ -1,4 +1,4 @@
--- What do the counts of all shards say of the pins of a worker, and what does a refusal?
+-- What do the counts of all shards say about a worker's pins, and what does an error?
 use Rattle.std.proofs.Common.{◌≡◌, ℕ, ◌+◌, ◌<◌, ◌≤◌, List, ◌++◌, Option, None, length, get_or}
 use Rattle.std.proofs.Common.{ap, ◌∙◌, arith}
 use Rattle.std.specs.Option.{option_to_list}
@@ -12,7 +12,7 @@ use Rattle.image_cache.specs.declared.error.CacheError.TheVariants as refused
 use Rattle.render_run.specs.Pins.{HavePins, TellsPins}
 use Rattle.render_run.specs.Refusal.{refusal_of}
 
--- a refusal tells of no shards
+-- an error lists no shards
 pub refusal_tells : {B : Type 0} (tiles : ℕ) (Alone : Type 0) (e : CacheError B)
     → TellsPins tiles Alone (refusal_of e)
 refusal_tells tiles Alone (refused.BadFile generation fault) = λ shards is. absurd cc

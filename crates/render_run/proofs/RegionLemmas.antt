@@ -1,4 +1,4 @@
--- What does a region that was read, or refused, say of the line that it is answered with?
+-- What does reading a region, or failing to, say about the line that answers it?
 use Rattle.std.proofs.Common.{◌≡◌, ◌*◌, ◌≤◌, ℕ, List, [], length, Option, Some, None}
 use Rattle.std.proofs.Common.{inl, inr, refl, sym, arith}
 use Rattle.std.specs.Prelude.{IsSomeAnd}
@@ -25,7 +25,7 @@ use Rattle.render_run.specs.Reply.{RestsOn, IsReplyOf}
 use Rattle.render_run.proofs.GivenLemmas.{by_given, given_real, kept_told, fault_reply, large_reply}
 use Rattle.render_run.proofs.GivenLemmas.{level_reply, never}
 
--- ---- a region that was refused
+-- ---- a region that could not be read
 
 module _ {B : Type 0} (a : Around) (q : Region) where
   -- a region of few texels
@@ -95,7 +95,7 @@ module _ (files : Files) (file : ℕ) (cut : Cut) (old new : PassState) (q : Reg
         };
   }
 
-  -- its values
+  -- the answer with a region's values
   pub region_reply : KeepsGiven files file cut old new generation
       (ReadsRegion files q channels old new)
       → IsReplyOf files cut file (Values q) generation (line.Pixels generation channels values)

@@ -89,7 +89,7 @@ text_more front a =
     flat_map-append line_of front (a ∷ [])
     ∙ ap (λ (t : List ℕ). answers_text front ++ t) (append-nil (line_of a))
 
--- how many answers are refusals, with one more
+-- the number of refusals, with one more answer
 pub count_more : (front : List Answer) (a : Answer)
     → count_by is_refusal (front ++ a ∷ []) ≡ count_by is_refusal front + one_if (is_refusal a)
 count_more front a = sum_by_push (λ (x : Answer). one_if (is_refusal x)) front a
@@ -114,7 +114,7 @@ module _ (setup : Setup) (round : ℕ) (rs : List Request) (answers : List Answe
       sym (flat_map-map line_of (λ (l : Line). l.answer) (placed setup round 0 rs answers before after turns))
       ∙ ap (flat_map line_of) (placed_answers setup round 0 rs answers before after turns)
 
-  -- how many of them are refusals
+  -- the number of refusals among these lines
   more_refused : refusals (placed setup round 0 rs answers before after turns) ≡ count_by is_refusal answers
   more_refused =
       count_map is_refusal (λ (l : Line). l.answer) (placed setup round 0 rs answers before after turns)
@@ -127,7 +127,7 @@ module _ (setup : Setup) (round : ℕ) (rs : List Request) (answers : List Answe
       ∙ ap length (placed_places setup round 0 rs answers before after turns)
       ∙ length-map-range_with_len (λ k. place round (k % setup.workers)) 0 (length rs)
 
--- what holds of a round of so many workers and requests holds of as many
+-- a fact of a round with these numbers of workers and requests
 pub round_at : (files : Files) (folder : FolderState) (terms : Terms) (m n a count : ℕ)
     (requests : List Request) (lists : List (List Answer)) (known after : List Sight) → m ≡ n
     → a ≡ count
@@ -139,7 +139,7 @@ round_at files folder terms m n a count requests lists known after crew size rou
     (subst (λ (k : ℕ). AnswersRound (setup_of files folder terms m) (take k requests) lists known
     after) size round)
 
--- the requests of a round are so many
+-- the number of requests in a round
 round_long : (done count : ℕ) (requests : List Request) → done + count ≤ length requests
     → length (take count (drop done requests)) ≡ count
 round_long done count requests within =
@@ -231,7 +231,7 @@ module _ (setup : Setup) (requests : List Request) (done count n : ℕ) (known a
             (more_refused setup round rs answers before after turns)));
       }
 
--- ---- what stands then
+-- ---- the state after the round
 
 module _ (setup : Setup) (requests : List Request) (done : ℕ) (crew : List Sight)
     (old new : Progress) (page : List ℕ) (refused : ℕ)
@@ -258,7 +258,7 @@ module _ (setup : Setup) (requests : List Request) (done : ℕ) (crew : List Sig
       ∙ ap (λ (n : ℕ). drop n (here ++ rest)) (sym long)
       ∙ drop-append_seam here rest)
 
-  -- so many requests are answered
+  -- this many requests are answered
   abbrev pub answered_so_far : Answers setup requests done old.source (source_of_crew crew)
   answered_so_far = record {
     lines = so_far.lines;
@@ -270,7 +270,7 @@ module _ (setup : Setup) (requests : List Request) (done : ℕ) (crew : List Sig
     moves = so_far.so_far.moves;
   }
 
-  -- these are whole rounds
+  -- the requests answered so far make up whole rounds
   pub whole_so_far : AreWholeRounds (places_of setup.workers requests) done
   whole_so_far = record {
     rounds = so_far.round;
@@ -291,7 +291,7 @@ all_put text old new passes =
     let all : passes.put ≡ text = sym (append-nil passes.put) ∙ passes.all in
     subst (λ (put : List ℕ). Appends put old.holds new.holds) all passes.appended
 
--- what waited was put behind it
+-- what was on the page was followed by it
 pub put_behind_all : (text : List ℕ) (s0 s1 s2 : SinkState) (p1 p2 : List ℕ)
     → Passes text (outgoing_of [] s0) (outgoing_of p1 s1)
     → Passes [] (outgoing_of p1 s1) (outgoing_of p2 s2) → p2 ≡ []
@@ -372,7 +372,7 @@ module _ (setup : Setup) (requests : List Request) (done : ℕ) (crew : List Sig
 
 -- ---- the lines that close a run
 
--- counts that stand below the most that they tell
+-- counts below their greatest value
 short_least : (m n s : ℕ) → n ≤ m → min n m ≤ s → n ≤ s
 short_least m n s short least = omega (arith, short, least)
 
@@ -386,7 +386,7 @@ module _ (setup : Setup) (requests : List Request) (crew : List Sight) (old mid 
     (page : List ℕ) (refused : ℕ)
     (so_far : SoFar setup requests (length requests) crew old mid page refused)
     (short : length requests ≤ max_requests) where
-  -- so many cells at most were needed
+  -- at most this many cells were needed
   needs_short : (w : ℕ) → needs_by w so_far.lines ≤ max_requests * max_texels
   needs_short w =
       let part = sum_by-le-sum_by
@@ -464,7 +464,7 @@ module _ {T W H : Type 0} (state : T → TapState) (posts : List (Post T W H)) (
   }
 
   module _ (last : SinkState) where
-    -- all of a list
+    -- all of a list was answered
     pub rounds_finish : (p2 : List ℕ) → Passes text (outgoing_of page mid.sink) (outgoing_of p2 last)
         → p2 ≡ [] → Finishes setup requests old (progress_by state posts last) (nat_lt 0 refused)
     rounds_finish p2 passes empty = record {
@@ -492,7 +492,7 @@ module _ {T W H : Type 0} (state : T → TapState) (posts : List (Post T W H)) (
           (outgoing_of page mid.sink) last so_far.written part;
     }
 
--- where no round more was begun, though what was seen was carried
+-- no further round was begun, although the workers exchanged what they had seen
 pub rounds_kept : (setup : Setup) (requests : List Request) (done : ℕ) (known crew : List Sight)
     (old new : Progress) (source : SourceState) (page : List ℕ) (refused : ℕ)
     → SoFar setup requests done known old new page refused → SeeNoLess known crew

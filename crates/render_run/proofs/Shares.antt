@@ -34,7 +34,7 @@ place_of i w n p is low =
       ap (λ (x : ℕ). x / n) turned ∙ div-mul-add p n w low,
     )
 
--- so much room each is enough
+-- this much memory for each worker is enough
 pub room_enough : (n count room : ℕ) → 0 < n → count / n + 1 ≤ room → count ≤ n * room
 room_enough n count room some low =
     let whole : n * (count / n) + count % n ≡ count = div-add-mod count n in
@@ -74,7 +74,7 @@ in_turn_push n i lists =
     in_turn_append n 0 i 1 lists
     ∙ ap (λ (m : ℕ). in_turn n 0 i lists ++ answer_in n m lists ∷ []) (zero-add i)
 
--- as it stands with the worker that gave it
+-- an answer, as it is in the list of the worker that gave it
 pub answer_is : {A : Type 0} (answers_of : A → List Answer) (posts : List A) (n i : ℕ) (d : A)
     (e : Answer) → i % n < length posts → i / n < length (answers_of (get_or posts (i % n) d))
     → get_or (answers_of (get_or posts (i % n) d)) (i / n) e ≡ answer_in n i (map answers_of posts)
@@ -92,7 +92,7 @@ share_drop n (suc d) [] = refl
 share_drop n zero (x ∷ xs) = refl
 share_drop n (suc d) (x ∷ xs) = share_drop n d xs
 
--- it has the requests that come in turn
+-- a worker's share has every n-th request
 pub share_has : {A : Type 0} → (n : ℕ) → 0 < n → (xs : List A) (d p : ℕ) → d + p * n < length xs
     → p < length (share_of n d xs)
 share_has n some [] d p low = absurd (omega arith)
@@ -153,7 +153,7 @@ module _ (files : Files) (terms : Terms) where
     here_is : (i : ℕ) → i + 0 ≡ i % n + i / n * n
     here_is i = omega (arith, mod-add-div' i n)
 
-    -- what remains behind it
+    -- what remains after one task
     remain_more : (i : ℕ) (t : Task) (tasks : List Task) (old new : List Sight)
         → length old ≡ n → Remain i (t ∷ tasks) old new
         → (f : First t (share_of n (n - 1) tasks) (drop (i / n) (answers_at lists (i % n)))
@@ -164,7 +164,7 @@ module _ (files : Files) (terms : Terms) where
         k : ℕ
         k = i % n
 
-        -- of another worker, whose next request is one place nearer
+        -- another worker, whose next request is one place nearer
         other : d + 1 < n → AnswersEach files terms (share_of n d tasks)
             (drop p (answers_at lists w)) (sight_at (set old (i % n) f.mid) w) (sight_at new w)
         other short =
@@ -185,7 +185,7 @@ module _ (files : Files) (terms : Terms) where
                 lt_of_mul-lt-mul_right n {m = p} {n = suc (i / n)} (omega (arith, turned, more)) in
                 omega (arith, up, down)
 
-        -- of the worker itself
+        -- the worker itself
         own : d + 1 ≡ n → AnswersEach files terms (share_of n d tasks)
             (drop p (answers_at lists w)) (sight_at (set old (i % n) f.mid) w) (sight_at new w)
         own last = by_p p at
@@ -215,7 +215,7 @@ module _ (files : Files) (terms : Terms) where
         by_end zero is = own (omega arith)
         by_end (suc e) is = other (omega arith)
 
-    -- they were answered in turn
+    -- the requests from the i-th on were answered in turn
     in_turn_from : (i : ℕ) (tasks : List Task) (old new : List Sight) → length old ≡ n
         → length new ≡ n → Remain i tasks old new
         → AnswersInTurn files terms n i tasks (in_turn n i (length tasks) lists) old new
@@ -260,7 +260,7 @@ module _ (files : Files) (terms : Terms) where
           rest,
         )
 
-  -- So it is of all requests of a round.
+  -- The shares of all workers make up all requests of a round.
   pub shares_in_turn : (tasks : List Task) (lists : List (List Answer)) (old new : List Sight)
       → 0 < length old → AnswersShares files terms tasks lists old new
       → AnswersInTurn files terms (length old) 0 tasks
@@ -323,7 +323,7 @@ module _ (files : Files) (terms : Terms) where
 
 module _ {A : Type 0} (sight : A → Sight) (answers_of : A → List Answer) (files : Files) (terms : Terms)
     (tasks : List Task) (before after : List A) (same : length after ≡ length before) where
-  -- one of them, as it stands among all
+  -- one worker's share, as it is among all
   pub share_is : (w : ℕ) (a b d : A) → w < length before → a ≡ get_or before w d
       → b ≡ get_or after w d
       → AnswersEach files terms (share_of (length before) w tasks) (answers_of b) (sight a) (sight b)
@@ -350,7 +350,7 @@ module _ {A : Type 0} (sight : A → Sight) (files : Files) (terms : Terms) (tas
   crew_some : 0 < length (map sight before)
   crew_some = omega (arith, crew, some)
 
-  -- they answered in turn
+  -- the workers answered in turn
   pub turns_taken : AnswersInTurn files terms n 0 tasks (in_turn n 0 count lists)
       (map sight before) (map sight after)
   turns_taken =

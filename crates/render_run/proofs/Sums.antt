@@ -1,4 +1,4 @@
--- What becomes of the workers together, where one of them answers.
+-- What becomes of all workers together when one of them answers.
 use Rattle.std.proofs.Common.{◌≡◌, ◌≢◌, ℕ, ◌+◌, ◌<◌, ◌≤◌, List, length, set, refl, arith}
 use Rattle.std.specs.List.{sum_by}
 use Rattle.std.proofs.lemmas.List.{get_or-set_same, get_or-set_other}
@@ -13,7 +13,7 @@ pub at_same : (crew : List Sight) (w : ℕ) (s : Sight) → w < length crew
     → sight_at (set crew w s) w ≡ s
 at_same crew w s low = get_or-set_same crew w s no_sight low
 
--- and what another sees
+-- another worker's state is unchanged
 pub at_other : (crew : List Sight) (w v : ℕ) (s : Sight) → v ≢ w
     → sight_at (set crew w s) v ≡ sight_at crew v
 at_other crew w v s ne = get_or-set_other crew w v s no_sight ne
@@ -50,7 +50,7 @@ module _ (crew : List Sight) (w : ℕ) (s : Sight) (low : w < length crew) where
     moves = sum_on (λ (t : Sight). t.source.moves) refl crew w s low on.moves;
   }
 
-  -- what is the cause of one's answer is so of all
+  -- the cause of one worker's answer is a cause for all together
   pub crew_cause : (b : Basis) → HasCause (sight_at crew w).source s.source b
       → HasCause (source_of_crew crew) (source_of_crew (set crew w s)) b
   crew_cause OnFault cause = sum_rises (λ (t : Sight). t.source.faults) refl crew w s low cause

@@ -6,7 +6,7 @@ use Rattle.std.proofs.lemmas.List.{take_all, drop-drop, length-take, length-drop
 use Rattle.tex_world.specs.Stream.{Feeds}
 use Rattle.render_run.specs.ListRead.{IsTaken, IsRead}
 
--- nothing is left behind the bytes
+-- nothing is left after all bytes
 none_left : (bytes left : List ℕ) → drop (length bytes) left ≡ [] → length left ≤ length bytes
 none_left bytes left none = omega (arith, length-drop (length bytes) left, ap length none)
 

@@ -55,7 +55,7 @@ run_hits before keys answers are =
     ap (count_by (λ (hit : Bool). hit)) are
     ∙ sum_by-append (λ (hit : Bool). if hit then 1 else 0) (hits before) answers
 
--- counts that stand at the most that they tell
+-- counts at their greatest value
 min_more : (m a b c old new : ℕ) → old ≡ min a m → new ≡ min (old + b) m → c ≡ a + b → new ≡ min c m
 min_more m a b c old new is more all = omega (arith, is, more, all)
 
@@ -123,7 +123,7 @@ module _ (w : ℕ) (lines : List Line) (line : Line) where
       (lines ++ line ∷ []) lines (Some line) refl calm).1
 
   module _ (files : Files) (old : Tally) (told : IsTallied files w lines old) where
-    -- of another worker
+    -- a line of another worker
     pub tally_other : line.place.worker ≢ w → IsTallied files w (lines ++ line ∷ []) old
     tally_other other = record {
       least = omega (arith, told.least, needs_other other);
@@ -137,7 +137,7 @@ module _ (w : ℕ) (lines : List Line) (line : Line) where
     }
 
     module _ (new : Tally) (own : line.place.worker ≡ w) where
-      -- of its own
+      -- a line of the worker itself
       exact_as : (b : Bool) → empties line.answer ≡ b → TalliesAs b line.needed old new
           → IsExactly w lines old → IsExactly w (lines ++ line ∷ []) new
       exact_as true is emptied so_far =

@@ -1,4 +1,4 @@
--- What does a cell that is held, or refused, say of the line that it is answered with?
+-- What does holding a cell, or failing to, say about the line that answers it?
 use Rattle.std.proofs.Common.{◌≡◌, ◌+◌, ◌<◌, ◌≤◌, ◌++◌, ◌∷◌, [], ℕ, List, length, get_or, Option, Some, None, Result, Ok, Err, Bool, true, false}
 use Rattle.std.proofs.Common.{inl, inr, refl, sym, ap, ◌∙◌, arith, IsTrue}
 use Rattle.std.specs.Prelude.{IsOkAnd, IsSomeAnd, IfSome, slice_get}
@@ -52,7 +52,7 @@ module _ (a : Around) (at : TexelAt) where
         };
   }
 
-  -- where fewer than four tiles are held
+  -- if fewer than four tiles are held
   pub tile_rests : {B : Type 0} → (length a.old.pinned.holds ≡ 4 → ⊥) → (e : CacheError B)
       → HasCause a (NoFurtherHold a.old) (TileRefuses at) e
       → RestsOn a.files a.cut a.file (Hold at) (refusal_of e) (basis_of (refusal_of e))
@@ -94,7 +94,7 @@ module _ (a : Around) (at : TexelAt) where
 
 -- ---- a cell that is held
 
--- bytes that are held are told
+-- if a generation has bytes, the world is modelled
 told_by : (files : Files) → IsWorld files → (file generation : ℕ) (bytes : List ℕ)
     → files.held file generation ≡ Some bytes → IsTrue files.tells
 told_by files lawful file generation bytes is = by_case files.tells refl
@@ -104,7 +104,7 @@ told_by files lawful file generation bytes is = by_case files.tells refl
     by_case false untold =
         let none = lawful.untold (rw untold refl) file generation in absurd (cc (none, is))
 
--- what is so of the layout, of both
+-- two facts of the layout together
 both_ok : (layout : Result Kept TiffFault) (P Q : Kept → Type 0) → IsOkAnd layout P
     → IsOkAnd layout Q → IsOkAnd layout (λ kept. P kept × Q kept)
 both_ok (Ok kept) P Q p q = (p, q)
@@ -148,12 +148,12 @@ module _ (files : Files) (file : ℕ) (cut : Cut) (old new : PassState) (at : Te
           };
     }
 
-    -- its rectangle
+    -- the answer with a held tile's rectangle
     pub tile_reply : KeepsGiven files file cut old new generation (HoldsCell files at old new)
         → IsReplyOf files cut file (Hold at) generation (line.Held generation rect)
     tile_reply given = by_held new.latest given
 
--- where none is held none is let go of
+-- if nothing is held, nothing is released
 pub none_gone : (old new : List CachedTile) → length old ≤ 0 → new ≡ old → new ≡ remove old 0
 none_gone [] new none same = same
 none_gone (tile ∷ tiles) new none same = absurd (omega arith)

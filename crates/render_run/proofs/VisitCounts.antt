@@ -2,10 +2,11 @@
 use Rattle.std.proofs.Common.{ℕ, zero, suc, ◌+◌, ◌*◌, ◌≤◌, ◌==◌, Bool, true, false, List, ◌++◌}
 use Rattle.std.proofs.Common.{length, Option, Some, None, if◌then◌else◌, ℤ, pos, ◌+ℤ◌, arith}
 use Rattle.std.proofs.lemmas.List.{length-append}
-use Rattle.texel_filter.specs.declared.request.TexRequest.{TexRequest}
+use Rattle.texel_filter.specs.declared.request.FineRequest.{FineRequest}
 use Rattle.texel_filter.specs.declared.request.DerivRequest.{DerivRequest}
 use Rattle.texel_filter.specs.declared.request.Filter.{Filter}
 use Rattle.texel_filter.specs.declared.request.Filter.TheVariants.{Closest, Bilinear, Trilinear}
+use Rattle.texel_filter.specs.Fine.{fine_of}
 use Rattle.texel_filter.specs.Image.{Sizes, Texel}
 use Rattle.texel_filter.specs.Coordinate.{fraction_of_next_level, level_before, nearest_level, index_at}
 use Rattle.texel_filter.specs.Coordinate.{index_before}
@@ -38,7 +39,7 @@ four_few a b c d la lb lc ld =
       ld,
     )
 
-module _ (sizes : Sizes) (r : TexRequest) where
+module _ (sizes : Sizes) (r : FineRequest) where
   wrapped_few : (l : ℕ) (i j : ℤ) → length (wrapped_visit sizes r l i j) ≤ 1
   wrapped_few l i j =
       visit_few l (wrapped_index r.swrap i (sizes.width l)) (wrapped_index r.twrap j (sizes.height l))
@@ -83,7 +84,7 @@ module _ (sizes : Sizes) (r : TexRequest) where
   point_few : length (lookup_visits sizes r) ≤ 8
   point_few = by_filter r.filter
 
--- of so many probes
+-- the visits of k probes
 probes_few : (sizes : Sizes) (r : DerivRequest) (p : ProbePlan) (k : ℕ)
     → length (probes_visits sizes r p k) ≤ 8 * k
 unfolding probes_visits
@@ -91,9 +92,9 @@ probes_few sizes r p zero = omega arith
 probes_few sizes r p (suc k) =
     omega (
       arith,
-      length-append (probes_visits sizes r p k) (trilinear_visits sizes (probe_at r p k)),
+      length-append (probes_visits sizes r p k) (trilinear_visits sizes (fine_of (probe_at r p k))),
       probes_few sizes r p k,
-      trilinear_few sizes (probe_at r p k),
+      trilinear_few sizes (fine_of (probe_at r p k)),
     )
 
 probes_most : (r : DerivRequest) (w h : ℕ) → (plan_of r w h).n ≤ 8
@@ -107,5 +108,5 @@ footprint_few sizes r =
     omega (arith, probes_few sizes r p p.n, probes_most r (sizes.width 0) (sizes.height 0))
 
 pub visits_few : (sizes : Sizes) (r : LookupRequest) → length (asked_visits sizes r) ≤ 64
-visits_few sizes (Point r) = omega (arith, point_few sizes r)
+visits_few sizes (Point r) = omega (arith, point_few sizes (fine_of r))
 visits_few sizes (Footprint r) = footprint_few sizes r

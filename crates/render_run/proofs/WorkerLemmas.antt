@@ -58,7 +58,7 @@ module _ {T W H : Type 0} (state : T → TapState) (files : Files) (cache : Cach
   pub none_found : (q : Question) → WorkerAnswers state files cache (Ask None q) w w NoSuchFile
   none_found q = idle_answers (Ask None q) NoSuchFile refl refl refl tt refl refl tt refl
 
-  -- the same in a tile
+  -- no file for a UDIM tile
   pub no_tile_found : (q : Question) → WorkerAnswers state files cache (Tile None q) w w NoSuchFile
   no_tile_found q = idle_answers (Tile None q) NoSuchFile refl (inl refl) refl tt refl refl tt refl
 
@@ -66,7 +66,7 @@ module _ {T W H : Type 0} (state : T → TapState) (files : Files) (cache : Cach
   pub synced : WorkerAnswers state files cache Sync w w Synced
   synced = idle_answers Sync Synced refl refl refl tt refl refl tt refl
 
-  -- no memory for the name of a tile
+  -- out of memory for the name of a UDIM tile
   pub unnamed : WorkerAnswers state files cache Unnamed w w NoMemory
   unnamed = idle_answers Unnamed NoMemory refl refl refl tt refl refl tt refl
 

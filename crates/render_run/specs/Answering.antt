@@ -1,4 +1,4 @@
--- What does a worker leave of what it sees, and how far has answering a list come?
+-- What does a worker leave of what it has seen, and how far has answering a list come?
 use Rattle.std.specs.Prelude.{◌≡◌, ◌⊎◌, ℕ, zero, suc, ◌+◌, ◌-◌, ◌/◌, ◌%◌, ◌<◌, ◌≤◌, List, [], ◌∷◌, ◌++◌}
 use Rattle.std.specs.Prelude.{IsTrue, length, slice_index, slice_index_or, slice_set}
 use Rattle.std.specs.Prelude.{map, take, drop, Option, Some, None, IsSome, ⊤}
@@ -32,24 +32,25 @@ use Rattle.render_run.specs.Page.{Passes, outgoing_of}
 
 -- ---- one request
 
--- the counts of faults and of moves have not fallen
+-- the counts of I/O errors and moves have not fallen
 pub record GoesOn (old new : SourceState) : Type 0 where
   pub faults : old.faults ≤ new.faults
   pub moves : old.moves ≤ new.moves
 
--- What the basis of an answer says of the source: its faults rose, or its moves did.
+-- What the basis of an answer says about the source: its I/O errors rose, or its moves did.
 abbrev pub HasCause : SourceState → SourceState → Basis → Type 0
 HasCause old new OnFault = Rises old.faults new.faults
 HasCause old new (OnNewer from to) = Rises old.moves new.moves
 HasCause old new _ = ⊤
 
--- of no file is less seen than before
+-- for no file has less been seen than before
 abbrev pub SeesNoLess : List ℕ → List ℕ → Type 0
 SeesNoLess old new = (n : ℕ) → slice_index old n ≤ slice_index new n
 
--- An answer on a file, if there is one, is not older than what the worker had seen of that file, and
--- what it has then seen is not older than the answer. It has seen no file's number fall, it has the
--- same permits, it holds a tile more or less as the answer says, and the answer has its cause.
+-- What an answer does to a worker's state. An answer about a file is not older than what the worker
+-- had seen of it, and the worker has now seen at least the answer's generation. Nothing that it has
+-- seen has fallen, its permits are the same, its holds change as the answer says, and the answer
+-- has its cause.
 pub record AfterAnswer (file : Option ℕ) (old new : Sight) (line : Answer) : Type 0 where
   pub later : SeesNoLess old.seen new.seen
   pub permits : new.permits ≡ old.permits
@@ -59,9 +60,8 @@ pub record AfterAnswer (file : Option ℕ) (old new : Sight) (line : Answer) : T
   pub cause : HasCause old.source new.source (basis_of line)
   pub counts : GoesOn old.source new.source
 
--- The answer meets what a worker was given of a request. Where it tells what the shards have, it tells
--- the pins of the tiles that the worker holds and of those of its microcache, and no others where it
--- has all permits.
+-- The answer is right for what a worker was given. If it lists the shards, it counts the pins of
+-- the worker's holds and microcache, and no others if the worker has all permits.
 pub record AnswersTask (files : Files) (terms : Terms) (task : Task) (old new : Sight)
     (line : Answer) : Type 0 where
   pub meets : MeetsTask files terms old.holds task line
@@ -71,37 +71,37 @@ pub record AnswersTask (files : Files) (terms : Terms) (task : Task) (old new : 
 
 -- ---- the requests of a round
 
--- what a worker is given of a request may be asked, and its file is one of so many, and of the world's
+-- what a worker is given may be asked, and its file is in range and belongs to the world
 pub record MayBeGiven (files : Files) (count : ℕ) (task : Task) : Type 0 where
   pub number : ForSome (file_in task) (λ n. n < count)
   pub file : ForSome (file_in task) (IsFile files)
   pub asked : AsksWell task
 
--- A name holds no mark, and it is that of a file of the folder, which has this number.
+-- The name has no UDIM mark, and belongs to the file of the folder with this number.
 pub record IsKnown (files : Files) (folder : FolderState) (name : List ℕ) (number : ℕ) : Type 0 where
   pub unmarked : mark_at name ≡ None
   pub numbered : folder.number_of name ≡ Some number
   pub low : number < folder.size
   pub file : IsFile files number
 
--- These tasks are given of requests to a folder, and each may be.
+-- These tasks are made from requests to a folder, and each may be asked.
 pub record AreDealt (files : Files) (folder : FolderState) (requests : List Request)
     (tasks : List Task) : Type 0 where
   pub may : All (MayBeGiven files folder.size) tasks
   pub are : AreGivenOf folder.number_of requests tasks
 
--- each of so many files is one of the world's
+-- each file below this number belongs to the world
 abbrev pub AreFiles : Files → ℕ → Type 0
 AreFiles files count = (file : ℕ) → file < count → IsFile files file
 
--- Of the requests of a round, the one at place d from here on, and every n-th after it: those that
--- are dealt to one of n workers.
+-- Every n-th element of a list, from index d on: the requests of a round that go to one of n
+-- workers.
 abbrev pub share_of : {A : Type 0} → ℕ → ℕ → List A → List A
 share_of n d [] = []
 share_of n zero (x ∷ xs) = x ∷ share_of n (n - 1) xs
 share_of n (suc d) (x ∷ xs) = share_of n d xs
 
--- a worker answered what it was given, one after another
+-- a worker answered its tasks one after another
 abbrev pub AnswersEach : Files → Terms → List Task → List Answer → Sight → Sight → Type 0
 AnswersEach files terms [] [] old new = new ≡ old
 AnswersEach files terms [] (line ∷ lines) old new = ⊥
@@ -120,14 +120,14 @@ AnswersInTurn files terms n i (task ∷ tasks) (line ∷ lines) old new =
     (mid : Sight) × AnswersTask files terms task (sight_at old (i % n)) mid line
     × AnswersInTurn files terms n (i + 1) tasks lines (slice_set old (i % n) mid) new
 
--- so many answers from the i-th on, of n workers in turn, each of which has its own in a list
+-- the answers from the i-th on, taken in turn from the lists of n workers
 abbrev pub in_turn : ℕ → ℕ → ℕ → List (List Answer) → List Answer
 in_turn n i zero lists = []
 in_turn n i (suc count) lists =
     slice_index_or (slice_index_or lists (i % n) []) (i / n) Synced
     ∷ in_turn n (i + 1) count lists
 
--- Each of so many answers is there.
+-- Each of these answers exists.
 abbrev pub AreInTurn : ℕ → ℕ → List (List Answer) → Type 0
 AreInTurn n count lists =
     (i : ℕ) → i < count → i / n < length (slice_index_or lists (i % n) [])
@@ -136,10 +136,10 @@ AreInTurn n count lists =
 abbrev pub answers_text : List Answer → List ℕ
 answers_text answers = flat_map line_of answers
 
--- ---- so many requests
+-- ---- several requests
 
--- A list of requests may be answered: the folder was entered, its files are those of the cache, each
--- request may be asked, and they are no more than a list may have.
+-- A list of requests may be answered: the folder was entered, its files are those of the cache,
+-- each request may be asked, and there are no more than a list may have.
 pub record MayBeAnswered (folder : FolderState) (cache : CacheState) (requests : List Request)
     : Type 0 where
   pub entered : IsSome folder.entered
@@ -147,22 +147,21 @@ pub record MayBeAnswered (folder : FolderState) (cache : CacheState) (requests :
   pub asked : All MayAsk requests
   pub few : length requests ≤ max_requests
 
--- what was seen of its file is not older than the line
+-- what was seen of the line's file is not older than the line
 abbrev pub IsSeenOf : List ℕ → Line → Type 0
 IsSeenOf seen line = (n : ℕ) → line.file ≡ Some n
     → ForSome (latest (basis_of line.answer)) (λ g. g ≤ slice_index seen n)
 
--- a line of an earlier round than this one, or of this worker
+-- a line of an earlier round, or of this worker
 abbrev pub IsKnownTo : ℕ → ℕ → Line → Type 0
 IsKnownTo round w line = (line.place.round < round) ⊎ (line.place.worker ≡ w)
 
--- One worker alone has all permits.
+-- If there is only one worker, it has all permits.
 abbrev pub HasAllAlone : ℕ → List Sight → Type 0
 HasAllAlone passes crew = length crew ≡ 1 → (sight_at crew 0).permits ≡ passes
 
--- What the lines for some first requests tell. None of those that a worker knows, of its own and of
--- the rounds before this one, is newer than what it has then seen, and it holds and has counted what
--- they leave.
+-- What the lines for the first requests say. No line that a worker knows (its own, and those of
+-- earlier rounds) is newer than what it has seen, and its holds and counts follow from the lines.
 pub record AreLinesSoFar (setup : Setup) (requests : List Request) (old : SourceState) (round : ℕ)
     (crew : List Sight) (lines : List Line) : Type 0 where
   pub met : MeetsAll setup requests lines
@@ -183,8 +182,8 @@ pub record AreLinesSoFar (setup : Setup) (requests : List Request) (old : Source
   pub seen : All (λ line. (w : ℕ) → w < setup.workers → IsKnownTo round w line
       → IsSeenOf (sight_at crew w).seen line) lines
 
--- Some first rounds of a list were answered, and their lines passed on to a page that was empty. So
--- many are refusals.
+-- Some first rounds of a list were answered, and their lines written or put on the page, which was
+-- empty. This many are refusals.
 pub record SoFar (setup : Setup) (requests : List Request) (done : ℕ) (crew : List Sight)
     (old new : Progress) (page : List ℕ) (refused : ℕ) : Type 0 where
   pub lines : List Line

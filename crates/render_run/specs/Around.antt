@@ -1,4 +1,4 @@
--- What is known of the folder, the feed and the sink around a call, before it and after it?
+-- How do contracts see the folder, the feed and the sink of a run, before and after it?
 use Rattle.std.specs.Prelude.{ℕ, ◌/◌, List, [], Option, length, slice_index_or}
 use Rattle.std.specs.List.{sum_by}
 use Rattle.tex_world.specs.World.{Files}
@@ -12,84 +12,84 @@ use Rattle.shard_gate.specs.Gate.{GateState}
 use Rattle.image_cache.specs.Pass.{PassState}
 use Rattle.request_lang.specs.declared.closing.Counts.{Counts}
 
--- of a feed: how often it has failed, and what it has left, where it tells
+-- a feed: how often it has failed and, if it is modelled, the bytes that are left
 pub record FeedState : Type 0 where
   pub faults : ℕ
   pub left : Option (List ℕ)
 
--- of a sink: how often it has failed, and what it holds, where it tells
+-- a sink: how often it has failed and, if it is modelled, the bytes that it has
 pub record SinkState : Type 0 where
   pub faults : ℕ
   pub holds : Option (List ℕ)
 
--- of the source of the files: how often it has failed, and how often it has met a newer generation
+-- the source of the files: how many I/O errors it has had, and how often it met a newer generation
 pub record SourceState : Type 0 where
   pub faults : ℕ
   pub moves : ℕ
 
--- what is known of a feed by its ghost members
+-- a feed, as its ghost members describe it
 abbrev pub feed_state : {I : Type 0} → (I → ℕ) → (I → Option (List ℕ)) → I → FeedState
 feed_state faults left feed = record { faults = faults feed; left = left feed }
 
--- what is known of a sink by its ghost members
+-- a sink, as its ghost members describe it
 abbrev pub sink_state : {O : Type 0} → (O → ℕ) → (O → Option (List ℕ)) → O → SinkState
 sink_state faults holds sink = record { faults = faults sink; holds = holds sink }
 
--- the same by the members as one
+-- a sink, as its ghost members describe it, given as one value
 abbrev pub sink_of : {O : Type 0} → a_sink.Ghosts O → O → SinkState
 sink_of s sink = sink_state s.faults s.holds sink
 
--- the source that a folder is, with the taps that came back to it
+-- the source made of a folder and the taps given back to it
 abbrev pub source_of_folder : FolderState → SourceState
 source_of_folder folder = record { faults = folder.faults; moves = folder.moves }
 
--- the source that a tap is
+-- the source made of a tap
 abbrev pub source_of_tap : TapState → SourceState
 source_of_tap tap = record { faults = tap.faults; moves = tap.moves }
 
--- ---- together
+-- ---- several of these together
 
--- what is around the top call: the folder, the feed of the list and the sink of the answers
+-- the surroundings of the top call: the folder, the feed of the list and the sink of the answers
 pub record Around : Type 0 where
   pub folder : FolderState
   pub feed : FeedState
   pub sink : SinkState
 
--- what a list comes from: the folder that is entered, and the feed
+-- what a list comes from: the folder and the feed
 pub record Inputs : Type 0 where
   pub folder : FolderState
   pub feed : FeedState
 
--- how far answering has come: at the source that lines are read from, and the sink of the lines
+-- the state of answering: the source that lines are read from, and the sink of the lines
 pub record Progress : Type 0 where
   pub source : SourceState
   pub sink : SinkState
 
--- What a cache was asked for: how levels are cut, how many shards it has, how many bytes the
--- unpinned tiles of each may take, and how many passes it has.
+-- The terms of a cache: its cut, the number of shards, the share of each in bytes, and the number
+-- of passes.
 pub record Terms : Type 0 where
   pub cut : Cut
   pub shards : ℕ
   pub share : ℕ
   pub passes : ℕ
 
--- What requests are answered over: the files of the world, the number that a name has among those of
--- the folder, if any, the terms of the cache, and how many workers there are.
+-- What requests are answered from: the files of the world, the number of each name in the folder,
+-- the terms of the cache, and the number of workers.
 pub record Setup : Type 0 where
   pub files : Files
   pub number_of : List ℕ → Option ℕ
   pub terms : Terms
   pub workers : ℕ
 
--- The microcache of a worker, and what it has counted: needs, hits, and needs answered apart.
+-- The microcache of a worker, and its counts: needs, hits and uncached needs.
 pub record Tally : Type 0 where
   pub recent : List CachedTile
   pub needs : ℕ
   pub hits : ℕ
   pub apart : ℕ
 
--- What a worker has seen of each file, how many of the cache's permits and of its tiles it holds,
--- what it has counted, and the source that its tap is.
+-- A worker: what it has seen of each file, its permits and holds, its counts, and the source made
+-- of its tap.
 pub record Sight : Type 0 where
   pub seen : List ℕ
   pub permits : ℕ
@@ -97,7 +97,7 @@ pub record Sight : Type 0 where
   pub tally : Tally
   pub source : SourceState
 
--- the terms that options ask for: the budget is shared among the shards
+-- the terms that options ask for; the budget is divided among the shards
 abbrev pub terms_for : Options → Terms
 terms_for o = record {
   cut = o.cut;
@@ -106,7 +106,7 @@ terms_for o = record {
   passes = o.workers;
 }
 
--- those of the tiles of a cache
+-- the terms of a gate
 abbrev pub terms_of : GateState → Terms
 terms_of gate = record {
   cut = gate.cut;
@@ -115,19 +115,19 @@ terms_of gate = record {
   passes = gate.passes;
 }
 
--- all three
+-- the folder, the feed and the sink together
 abbrev pub around_of : FolderState → FeedState → SinkState → Around
 around_of folder feed sink = record { folder = folder; feed = feed; sink = sink }
 
--- the two of a list
+-- the folder and the feed together
 abbrev pub inputs_of : FolderState → FeedState → Inputs
 inputs_of folder feed = record { folder = folder; feed = feed }
 
--- the two of the lines
+-- the source and the sink together
 abbrev pub progress_of : SourceState → SinkState → Progress
 progress_of source sink = record { source = source; sink = sink }
 
--- the files as a folder numbers them, on these terms, for so many workers
+-- the setup with the files as a folder numbers them, these terms, and this many workers
 abbrev pub setup_of : Files → FolderState → Terms → ℕ → Setup
 setup_of files folder terms workers =
     record { files = files; number_of = folder.number_of; terms = terms; workers = workers }
@@ -141,11 +141,11 @@ tally_of pass = record {
   apart = pass.apart;
 }
 
--- what the line of a worker tells of it
+-- the counts in a worker's line
 abbrev pub counts_of : PassState → Counts
 counts_of pass = record { needs = pass.needs; hits = pass.hits; apart = pass.apart }
 
--- what a worker sees by its pass and its tap
+-- a worker, given by its pass and its tap
 abbrev pub sight_of : PassState → TapState → Sight
 sight_of pass tap = record {
   seen = pass.view.seen;
@@ -157,7 +157,7 @@ sight_of pass tap = record {
 
 -- ---- several workers
 
--- nothing is counted
+-- counts of 0
 abbrev pub no_tally : Tally
 no_tally = record { recent = []; needs = 0; hits = 0; apart = 0 }
 
@@ -171,11 +171,11 @@ no_sight = record {
   source = record { faults = 0; moves = 0 };
 }
 
--- of worker w
+-- worker w in a list of workers
 abbrev pub sight_at : List Sight → ℕ → Sight
 sight_at crew w = slice_index_or crew w no_sight
 
--- the source that the taps of all workers are together
+-- the source made of the taps of all workers
 abbrev pub source_of_crew : List Sight → SourceState
 source_of_crew crew = record {
   faults = sum_by (λ s. s.source.faults) crew;

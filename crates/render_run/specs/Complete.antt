@@ -1,4 +1,5 @@
--- When is a list answered whole, and when does no line of it fail? (docs/REQUESTS.md, "Statuses")
+-- When is a list answered completely, and when does no line report a failure? (docs/REQUESTS.md,
+-- "Statuses")
 use Rattle.std.specs.Prelude.{◌≡◌, ◌⊎◌, ℕ, ◌<◌, ◌≤◌, IsSome, List, Option, Some, Ok}
 use Rattle.tex_world.specs.Counts.{last_count}
 use Rattle.tex_world.specs.World.{Files}
@@ -10,7 +11,7 @@ use Rattle.render_run.specs.Around.{Around, FeedState}
 use Rattle.render_run.specs.Reply.{Line}
 use Rattle.render_run.specs.Run.{IsAnswered, read_faults, agains}
 
--- the count has not risen, and could have
+-- the count has not risen, and is not at its greatest value
 pub record StaysAt (old new : ℕ) : Type 0 where
   pub same : new ≡ old
   pub short : old < last_count
@@ -22,7 +23,7 @@ pub record IsCalm (old new : Around) : Type 0 where
   pub feed : StaysAt old.feed.faults new.feed.faults
   pub sink : StaysAt old.sink.faults new.sink.faults
 
--- The words are those of the command, and what the feed tells that it has left is a list.
+-- The arguments are valid, and the bytes that the feed has left are a valid list.
 pub record HasAList (asked : Option Asked) (feed : FeedState) : Type 0 where
   pub words : IsSome asked
   pub bytes : List ℕ
@@ -30,12 +31,12 @@ pub record HasAList (asked : Option Asked) (feed : FeedState) : Type 0 where
   pub requests : List Request
   pub says : list_of bytes ≡ Ok requests
 
--- none of the lines says that the source failed, or that a newer generation was met
+-- no line reports an I/O error or a newer generation
 pub record NoneFails (lines : List Line) : Type 0 where
   pub faults : read_faults lines ≡ 0
   pub moves : agains lines ≡ 0
 
--- The list was answered and written whole, and none of its lines fails, or no memory was found.
+-- The list was answered and written completely, and no line reports a failure; or memory ran out.
 abbrev pub Completes : Files → Option Asked → Around → Around → ℕ → Type 0
 Completes files asked old new ends =
     ((ends ≤ status.with_refusals) × ((answered : IsAnswered files asked old new ends)

@@ -15,11 +15,11 @@ use Rattle.render_run.specs.Around.{tally_of, no_tally}
 use Rattle.render_run.specs.Answering.{AnswersEach, AnswersInTurn, AreInTurn, SeesNoLess}
 use Rattle.render_run.specs.Answering.{in_turn, share_of}
 
--- the most workers
+-- the greatest number of workers
 abbrev pub max_workers : ℕ
 max_workers = 16
 
--- what a worker has answered in a round
+-- the answers of a worker in a round
 abbrev pub answers_at : List (List Answer) → ℕ → List Answer
 answers_at lists w = slice_index_or lists w []
 
@@ -30,24 +30,23 @@ pub record AnswersShares (files : Files) (terms : Terms) (tasks : List Task) (li
   pub each : (w : ℕ) → w < length old → AnswersEach files terms (share_of (length old) w tasks)
       (answers_at lists w) (sight_at old w) (sight_at new w)
 
--- A pass sees no less of a file than before, has the same permits, holds the same tiles and has counted
--- the same.
+-- A pass has seen at least as much of each file as before. Its permits, holds and counts are the
+-- same.
 pub record SeesOn (old new : PassState) : Type 0 where
   pub seen : SeesNoLess old.view.seen new.view.seen
   pub permits : new.pinned.seat.permits ≡ old.pinned.seat.permits
   pub holds : new.pinned.holds ≡ old.pinned.holds
   pub tally : tally_of new ≡ tally_of old
 
--- A pass has seen the same as before, has the same permits, holds the same tiles and has counted the
--- same.
+-- A pass has seen the same as before. Its permits, holds and counts are the same.
 pub record GivesOn (old new : PassState) : Type 0 where
   pub seen : new.view.seen ≡ old.view.seen
   pub permits : new.pinned.seat.permits ≡ old.pinned.seat.permits
   pub holds : new.pinned.holds ≡ old.pinned.holds
   pub tally : tally_of new ≡ tally_of old
 
--- A worker sees no less of a file than before. Its permits, what it holds, what it has counted and its
--- tap are as before.
+-- A worker has seen at least as much of each file as before. Its permits, holds, counts and tap are
+-- the same.
 pub record SightsOn (old new : Sight) : Type 0 where
   pub seen : SeesNoLess old.seen new.seen
   pub permits : new.permits ≡ old.permits
@@ -55,19 +54,19 @@ pub record SightsOn (old new : Sight) : Type 0 where
   pub tally : new.tally ≡ old.tally
   pub source : new.source ≡ old.source
 
--- So it is of each worker.
+-- Each worker has seen at least as much as before, and is otherwise the same.
 pub record SeeNoLess (old new : List Sight) : Type 0 where
   pub count : length new ≡ length old
   pub each : (w : ℕ) → w < length old → SightsOn (sight_at old w) (sight_at new w)
 
--- The same, and what each worker has seen was carried to every other.
+-- The workers have exchanged what they have seen, and are otherwise the same.
 pub record AreCarried (old new : List Sight) : Type 0 where
   pub kept : SeeNoLess old new
   pub carried : (v w : ℕ) → v < length old → w < length old
       → SeesNoLess (sight_at old v).seen (sight_at new w).seen
 
--- A round of these requests was answered: what each worker had seen was carried to every other, and
--- then all answered in turn. Each has its own answers in a list.
+-- A round of these requests was answered: the workers exchanged what they had seen, and then
+-- answered in turn. Each has its own list of answers.
 pub record AnswersRound (setup : Setup) (requests : List Request) (lists : List (List Answer))
     (old new : List Sight) : Type 0 where
   pub before : List Sight
@@ -79,13 +78,13 @@ pub record AnswersRound (setup : Setup) (requests : List Request) (lists : List 
 
 -- ---- the taps
 
--- A worker is new: its pass is one of the cache's and has nothing, and its tap has done nothing.
+-- A worker is new: its pass belongs to the cache and is empty, and its tap has done nothing.
 pub record IsNewPost (cache : CacheState) (pass : PassState) (tap : TapState) : Type 0 where
   pub of : IsPassOf cache pass
   pub fresh : IsFresh pass
   pub unused : IsNew tap
 
--- So many taps were made of a folder, and nothing else changed that is told of its taps.
+-- n taps were made by a folder, and nothing else changed of its counts of taps.
 pub record MakesMore (n : ℕ) (old new : FolderState) : Type 0 where
   pub made : RisesBy n old.made new.made
   pub returned : new.returned ≡ old.returned
@@ -93,7 +92,7 @@ pub record MakesMore (n : ℕ) (old new : FolderState) : Type 0 where
   pub moves : new.moves ≡ old.moves
   pub files : KeepsFiles old new
 
--- So many taps were given back to a folder, which then tells of their faults and moves too.
+-- n taps were given back to a folder, which now counts their I/O errors and moves too.
 pub record TakesBack (n : ℕ) (source : SourceState) (old new : FolderState) : Type 0 where
   pub made : new.made ≡ old.made
   pub returned : RisesBy n old.returned new.returned
@@ -103,7 +102,7 @@ pub record TakesBack (n : ℕ) (source : SourceState) (old new : FolderState) : 
   pub moves : min (old.moves + source.moves) last_count ≤ new.moves
   pub files : KeepsFiles old new
 
--- Of so many taps with these counts so many are left with those: the others were given back.
+-- Of `all` taps with these counts, `left` remain with those counts; the others were given back.
 pub record GivesMore (all : ℕ) (whole : SourceState) (left : ℕ) (rest : SourceState)
     (old new : FolderState) : Type 0 where
   pub few : left ≤ all
@@ -116,11 +115,11 @@ pub record GivesMore (all : ℕ) (whole : SourceState) (left : ℕ) (rest : Sour
   pub moves : min (old.moves + whole.moves) last_count ≤ new.moves + rest.moves
   pub files : KeepsFiles old new
 
--- A worker holds no tile and has counted nothing.
+-- A worker has no holds and counts of 0.
 pub record IsIdle (sight : Sight) : Type 0 where
   pub holds : sight.holds ≡ 0
   pub tally : sight.tally ≡ no_tally
 
--- So it is of each.
+-- Each worker has no holds and counts of 0.
 abbrev pub AreIdle : List Sight → Type 0
 AreIdle crew = (w : ℕ) → IsIdle (sight_at crew w)

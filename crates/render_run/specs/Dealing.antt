@@ -6,7 +6,7 @@ use Rattle.texel_values.specs.Region.{max_texels}
 use Rattle.request_lang.specs.declared.request.Request.{Request}
 use Rattle.request_lang.specs.declared.request.Request.TheVariants.{Pixels, Sync}
 
--- the round of a request, and its worker there, both from 0 on
+-- the round of a request, and its worker, both counted from 0
 pub record Place : Type 0 where
   pub round : ℕ
   pub worker : ℕ
@@ -14,42 +14,41 @@ pub record Place : Type 0 where
 abbrev pub place : ℕ → ℕ → Place
 place round worker = record { round = round; worker = worker }
 
--- How far a list is dealt: the round that is being dealt, the requests that it has so far, and the
--- texels that their regions have together.
+-- How far a list has been dealt: the current round, the number of its requests so far, and the
+-- texels of their regions together.
 pub record Dealt : Type 0 where
   pub round : ℕ
   pub requests : ℕ
   pub texels : ℕ
 
--- a round that has no request yet
+-- a round without requests
 abbrev pub fresh_round : ℕ → Dealt
 fresh_round round = record { round = round; requests = 0; texels = 0 }
 
--- the most texels that the regions of a round have together
+-- the most texels in all regions of a round together
 abbrev pub max_round_texels : ℕ
 max_round_texels = 4194304
 
--- the texels of the region that a request asks for, and 0 where they are more than a region may have
+-- the number of texels in the region of a request; 0 if they are too many for a region
 abbrev pub texels_asked : Request → ℕ
 texels_asked (Pixels level x y w h name) = if nat_lt max_texels (w * h) then 0 else w * h
 texels_asked _ = 0
 
--- the most that it is
+-- the greatest value of `texels_asked`
 abbrev pub max_texels_asked : ℕ
 max_texels_asked = max_texels
 
--- the request ends its round
+-- whether the request ends its round
 abbrev pub is_sync : Request → Bool
 is_sync Sync = true
 is_sync _ = false
 
--- The round of the next request: the one that is being dealt, or another one where its texels would
--- be too many.
+-- The round of the next request: the current one, or a new one if its texels would be too many.
 abbrev pub round_for : Dealt → Request → Dealt
 round_for d r =
     if nat_lt max_round_texels (d.texels + texels_asked r) then fresh_round (d.round + 1) else d
 
--- How far the list is dealt behind a request that this round has. `sync` ends its round.
+-- How far the list has been dealt after a request of this round. `sync` ends the round.
 abbrev pub dealt_with : Dealt → Request → Dealt
 dealt_with d r =
     if is_sync r then fresh_round (d.round + 1)
@@ -59,7 +58,7 @@ dealt_with d r =
 abbrev pub place_in : ℕ → Dealt → Place
 place_in workers d = place d.round (d.requests % workers)
 
--- The places of requests that are dealt to so many workers in turn, from here on.
+-- The places of requests that are dealt to the workers in turn, from here on.
 unfoldable pub places_from : ℕ → Dealt → List Request → List Place
 places_from workers d [] = []
 places_from workers d (r ∷ rest) =
@@ -73,12 +72,12 @@ places_of workers requests = places_from workers (fresh_round 0) requests
 abbrev pub round_places : ℕ → ℕ → ℕ → List Place
 round_places workers round n = map (λ i. place round (i % workers)) (range_with_len 0 n)
 
--- Where a round begins with these requests, the first n are its own.
+-- If a round begins with these requests, the first n belong to it.
 abbrev pub IsRound : List Request → ℕ → Type 0
 IsRound requests n = (workers round : ℕ) → places_from workers (fresh_round round) requests
     ≡ round_places workers round n ++ places_from workers (fresh_round (round + 1)) (drop n requests)
 
--- The first so many requests are all that some first rounds have.
+-- The first `count` requests make up some whole rounds.
 pub record AreWholeRounds (places : List Place) (count : ℕ) : Type 0 where
   pub rounds : ℕ
   pub before : All (λ p. p.round < rounds) (take count places)

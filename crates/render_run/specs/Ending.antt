@@ -1,4 +1,4 @@
--- Why does the top call end before it answers a list, and with which status and text?
+-- Why does the top call end before it answers a list, with which status and text?
 -- (docs/REQUESTS.md, "Statuses")
 use Rattle.std.specs.Prelude.{◌≡◌, ◌⊎◌, ℕ, IsTrue, codes, List, [], ◌∷◌, ◌++◌, map, Option, None}
 use Rattle.std.specs.Prelude.{IsSome, IsSomeAnd, Ok, Err, String, ⊤}
@@ -24,7 +24,7 @@ use Rattle.request_lang.specs.Grammar.{line_feed}
 use Rattle.request_lang.specs.Line.{bad_list_line}
 use Rattle.render_run.specs.ListRead.{FeedSays}
 
--- what the words of the command line ask for, where they are its words
+-- what the arguments ask for, if they are valid
 abbrev pub asked_by : List (String Global) → Option Asked
 asked_by words = invocation_of (map string_bytes words)
 
@@ -32,32 +32,32 @@ asked_by words = invocation_of (map string_bytes words)
 abbrev pub path_in : Option Asked → Option (List ℕ)
 path_in asked = option_map (λ a. a.0) asked
 
--- these options are asked for
+-- these are the requested options
 abbrev pub HasOptions : Option Asked → Options → Type 0
 HasOptions asked options = IsSomeAnd asked (λ a. a.1 ≡ options)
 
--- why the words name no folder
+-- why the arguments name no folder
 abbrev pub WordsCause : Option (List ℕ) → WordsError → Type 0
 WordsCause path Bad = path ≡ None
 WordsCause path words.NoMemory = ⊤
 
--- ---- before an ending, and without one
+-- ---- before an ending, or before a list is answered
 
--- the folder of the path was entered
+-- the folder at the path was entered
 pub record IsEntered (path : Option (List ℕ)) (folder : FolderState) : Type 0 where
   pub has_path : IsSome path
   pub of_path : folder.entered ≡ path
 
--- there is a path, and its folder was not entered
+-- there is a path, but its folder was not entered
 pub record IsNotEntered (path : Option (List ℕ)) (folder : FolderState) : Type 0 where
   pub has_path : IsSome path
   pub none : folder.entered ≡ None
 
--- the latest `enter` did not answer that there are too many files
+-- the last `enter` did not find too many files
 abbrev pub HasNoMark : FolderState → Type 0
 HasNoMark folder = IsTrue folder.over → ⊥
 
--- The folder of the path was entered, and the feed gave a list of these requests.
+-- The folder at the path was entered, and the feed had a list of these requests.
 pub record IsPrepared (path : Option (List ℕ)) (old new : Inputs) (requests : List Request)
     : Type 0 where
   pub folder : IsEntered path new.folder
@@ -66,7 +66,8 @@ pub record IsPrepared (path : Option (List ℕ)) (old new : Inputs) (requests : 
 
 -- ---- endings
 
--- What an ending says of the words and the folder. Where the words are none the folder stays.
+-- What an ending says about the arguments and the folder. If the arguments are invalid, the folder
+-- is unchanged.
 abbrev pub EnterEnds : Files → Option (List ℕ) → FolderState → FolderState → Ending → Type 0
 EnterEnds files path old new BadWords = (path ≡ None) × (new ≡ old)
 EnterEnds files path old new FolderFault = IsNotEntered path new × Rises old.faults new.faults
@@ -76,7 +77,7 @@ EnterEnds files path old new NoMemory = ⊤
 EnterEnds files path old new ListFault = ⊥
 EnterEnds files path old new (NotAList bad) = ⊥
 
--- What an ending says of the feed.
+-- What an ending says about the feed.
 abbrev pub ListEnds : FeedState → FeedState → Ending → Type 0
 ListEnds old new ListFault = Rises old.faults new.faults
 ListEnds old new (NotAList bad) = FeedSays (Err bad) old new
@@ -85,15 +86,16 @@ ListEnds old new BadWords = ⊥
 ListEnds old new FolderFault = ⊥
 ListEnds old new TooManyFiles = ⊥
 
--- What an ending says: of the words and the folder, before the feed is read, or, once the folder is
--- entered, of the feed.
+-- What an ending says: about the arguments and the folder, before the feed is read; or about the
+-- feed, after the folder was entered.
 abbrev pub Ends : Files → Option (List ℕ) → Inputs → Inputs → Ending → Type 0
 Ends files path old new ending =
     (EnterEnds files path old.folder new.folder ending × (new.feed ≡ old.feed))
     ⊎ (IsEntered path new.folder × ListEnds old.feed new.feed ending)
 
--- Whether the mark for too many files is set: exactly where that is the ending. Where the words are
--- none the folder was not entered, and the mark stays. Where memory was wanting it was not set anew.
+-- Whether the folder found too many files: if and only if that is the ending. If the arguments are
+-- invalid the folder was not entered, and the mark is unchanged. If memory ran out, the mark was
+-- not newly set.
 abbrev pub MarksAs : FolderState → FolderState → Ending → Type 0
 MarksAs old new TooManyFiles = IsTrue new.over
 MarksAs old new BadWords = new.over ≡ old.over
@@ -102,7 +104,7 @@ MarksAs old new FolderFault = HasNoMark new
 MarksAs old new ListFault = HasNoMark new
 MarksAs old new (NotAList bad) = HasNoMark new
 
--- The ending has its cause, no tap was made, and the mark for too many files is set as it says.
+-- The ending has its cause, no tap was made, and the mark for too many files is right.
 pub record IsEnded (files : Files) (path : Option (List ℕ)) (old new : Inputs) (ending : Ending)
     : Type 0 where
   pub cause : Ends files path old new ending

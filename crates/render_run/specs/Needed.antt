@@ -1,4 +1,4 @@
--- Which cells did an answer need, by their keys, in the order in which they are counted?
+-- Which cells did an answer need, as keys in the order in which they are counted?
 -- (docs/REQUESTS.md, "The closing lines")
 use Rattle.std.specs.Prelude.{◌≡◌, ℕ, Bool, true, false, List, [], map, Some}
 use Rattle.std.specs.List.{range_with_len}
@@ -28,21 +28,21 @@ use Rattle.render_run.specs.declared.question.Question.TheVariants.{Values, Look
 use Rattle.render_run.specs.declared.question.Task.{Task}
 use Rattle.render_run.specs.declared.question.Task.TheVariants.{Ask, Tile}
 
--- ---- on the bytes of a generation of a file
+-- ---- from the bytes of a generation
 
--- of a lookup: the cell of each texel that it visits
+-- for a lookup: the cell of each texel that it visits
 abbrev pub lookup_keys : Cut → List ℕ → ℕ → ℕ → LookupRequest → List ℕ
 lookup_keys cut bytes generation file r =
     map (λ texel. (cell_of generation file cut (kept_of bytes) (at_of texel)).key)
     (asked_visits (sizes_in (kept_of bytes) cut) r)
 
--- the cells of a level that its places in these columns and rows meet, row by row
+-- the cells of a level that a range of columns and rows meets, row by row
 abbrev pub met_keys : ℕ → ℕ → ℕ → CutLevel → Overlap → Overlap → List ℕ
 met_keys generation file level_is level columns rows =
     map (λ k. key_of generation file level_is (cell_met level columns rows k))
     (range_with_len 0 (count_met level columns rows))
 
--- of a region: each cell that it meets on its level
+-- for a region: each cell that it meets on its level
 pub record AreRegionKeys (cut : Cut) (bytes : List ℕ) (generation file : ℕ) (r : Region)
     (keys : List ℕ) : Type 0 where
   pub columns : Overlap
@@ -51,10 +51,10 @@ pub record AreRegionKeys (cut : Cut) (bytes : List ℕ) (generation file : ℕ) 
   pub down : IsOverlap r.y r.h (cut_level_of bytes cut r.level).height rows
   pub are : keys ≡ met_keys generation file r.level (cut_level_of bytes cut r.level) columns rows
 
--- ---- of an answer
+-- ---- for an answer
 
--- what an answer to a lookup needed: its cells, where the world tells the bytes of the generation that
--- is answered
+-- what an answer to a lookup needed: its cells, if the bytes of the answered generation are
+-- modelled
 abbrev pub AreLookupKeys : Files → Cut → ℕ → Answer → LookupRequest → List ℕ → Type 0
 AreLookupKeys files cut n (Tex generation values) (Point r) keys = ForSome
     (files.held n generation) (λ bytes. keys ≡ lookup_keys cut bytes generation n (Point r))
@@ -62,28 +62,30 @@ AreLookupKeys files cut n (Texd generation values) (Footprint r) keys = ForSome
     (files.held n generation) (λ bytes. keys ≡ lookup_keys cut bytes generation n (Footprint r))
 AreLookupKeys files cut n line r keys = keys ≡ []
 
--- What an answer to a question to a file needed: a lookup and a region their cells, and all else none.
+-- What an answer to a question about a file needed: its cells for a lookup or a region, otherwise
+-- nothing.
 abbrev pub AreNeededOn : Files → Cut → ℕ → Question → Answer → List ℕ → Type 0
 AreNeededOn files cut n (Lookup r) line keys = AreLookupKeys files cut n line r keys
 AreNeededOn files cut n (Values r) (Pixels generation channels values) keys =
     ForSome (files.held n generation) (λ bytes. AreRegionKeys cut bytes generation n r keys)
 AreNeededOn files cut n q line keys = keys ≡ []
 
--- what an answer needed: where no file was asked, nothing
+-- what an answer needed; nothing if no file was asked
 abbrev pub AreNeeded : Files → Cut → Task → Answer → List ℕ → Type 0
 AreNeeded files cut (Ask (Some n) q) line keys = AreNeededOn files cut n q line keys
 AreNeeded files cut (Tile (Some n) q) line keys = AreNeededOn files cut n q line keys
 AreNeeded files cut task line keys = keys ≡ []
 
--- The answer is that a file was made invalid, or each: it empties the worker's microcache.
+-- Whether the answer says that one file or all files were checked, which empties the worker's
+-- microcache.
 abbrev pub empties : Answer → Bool
 empties (Invalidated generation) = true
 empties (Renewed generation) = true
 empties InvalidatedAll = true
 empties _ = false
 
--- An answer that rests on this has cause in the words, the names or the bytes: the source did not
--- fail, no newer generation was met, and memory was found.
+-- Whether an answer with this basis reports no failure: its cause is in the words, the names or the
+-- bytes, and not an I/O error, a newer generation or out of memory.
 abbrev pub is_calm : Basis → Bool
 is_calm (OnNewer from to) = false
 is_calm OnFault = false

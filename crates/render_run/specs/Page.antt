@@ -1,4 +1,4 @@
--- What is on its way to a sink, and what becomes of it?
+-- What is on the page, and what becomes of it?
 use Rattle.std.specs.Prelude.{◌≡◌, ℕ, ◌+◌, ◌≤◌, List, ◌++◌, Result, Ok, Err}
 use Rattle.tex_world.specs.Counts.{Rises}
 use Rattle.tex_world.specs.Stream.{Appends, AppendsPart}
@@ -6,7 +6,7 @@ use Rattle.request_lang.specs.Appending.{max_part_bytes, room_values}
 use Rattle.tex_world.specs.declared.sink.Sink as a_sink
 use Rattle.render_run.specs.Around.{SinkState, sink_of}
 
--- what waits on the page, and the sink that it is before
+-- the bytes on the page, and the sink that they will be written to
 pub record Outgoing : Type 0 where
   pub waits : List ℕ
   pub sink : SinkState
@@ -15,43 +15,44 @@ pub record Outgoing : Type 0 where
 abbrev pub outgoing_of : List ℕ → SinkState → Outgoing
 outgoing_of page sink = record { waits = page; sink = sink }
 
--- the same of a sink by its members
+-- a page and a sink, as its ghost members describe it
 abbrev pub outgoing : {O : Type 0} → a_sink.Ghosts O → List ℕ → O → Outgoing
 outgoing s page sink = outgoing_of page (sink_of s sink)
 
--- A text was added behind what waits. Some of both came off the front and was put, in order, and
--- the rest waits.
+-- A text was added to the page. A first part of the page's bytes was written, in order, and the
+-- rest is still on the page.
 pub record Passes (text : List ℕ) (old new : Outgoing) : Type 0 where
   pub put : List ℕ
   pub all : put ++ new.waits ≡ old.waits ++ text
   pub appended : Appends put old.sink.holds new.sink.holds
   pub faults : old.sink.faults ≤ new.sink.faults
 
--- A first part of a text was put, and then the sink failed.
+-- A first part of a text was written, and then the sink failed.
 pub record PutsPart (text : List ℕ) (old new : SinkState) : Type 0 where
   pub part : AppendsPart text old.holds new.holds
   pub cause : Rises old.faults new.faults
 
--- A text was added behind what waits, or the sink failed behind a first part of what waited.
+-- A text was added to the page, or the sink failed after a first part of what was on it.
 abbrev pub AddsOn : {A E : Type 0} → List ℕ → Outgoing → Outgoing → Result A E → Type 0
 AddsOn text old new (Ok a) = Passes text old new
 AddsOn text old new (Err e) = PutsPart old.waits old.sink new.sink
 
--- The same, or the sink failed behind a first part of what waited and of the text.
+-- A text was added to the page, or the sink failed after a first part of what was on it and of the
+-- text.
 abbrev pub PassesOn : {A E : Type 0} → List ℕ → Outgoing → Outgoing → Result A E → Type 0
 PassesOn text old new (Ok a) = Passes text old new
 PassesOn text old new (Err e) = PutsPart (old.waits ++ text) old.sink new.sink
 
--- ---- room
+-- ---- sizes
 
--- a page of so many bytes is full
+-- the number of bytes at which a page is full
 abbrev pub page_bytes : ℕ
 page_bytes = 65536
 
--- the bytes that a page has room for: a part of a line more
+-- the bytes that a page can hold: a full page and one more part of a line
 abbrev pub room_bytes : ℕ
 room_bytes = page_bytes + max_part_bytes
 
--- how many values a part of a line has
+-- the number of values in a part of a line
 abbrev pub part_values : ℕ
 part_values = room_values

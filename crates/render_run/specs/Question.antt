@@ -18,20 +18,20 @@ use Rattle.render_run.specs.declared.question.Question.TheVariants.{Renewal}
 use Rattle.render_run.specs.declared.question.Task.{Task}
 use Rattle.render_run.specs.declared.question.Task.TheVariants as task
 
--- what holds of each request of a list: a lookup asks for what it may ask for
+-- what is true of each request of a list: a lookup asks for what is allowed
 pub record MayAsk (r : Request) : Type 0 where
   pub channels : IsTrue (has_channels r)
   pub footprint : HasFootprint r
 
--- What a worker is given of a lookup: in the file of its name; in no file, where the coordinates lie
--- in no tile; or in the file of the tile in which they lie, at their place there.
+-- What a worker is given for a lookup: the file with its name; or no file, if the coordinates lie
+-- in no UDIM tile; or the file of the UDIM tile that contains them, with the place in it.
 abbrev pub lookup_task : (List ℕ → Option ℕ) → LookupRequest → List ℕ → Udim → Task
 lookup_task number_of r name Plain = task.Ask (number_of name) (Lookup r)
 lookup_task number_of r name Outside = task.Ask None (Lookup r)
 lookup_task number_of r name (Tile own s t) = task.Tile (number_of own) (Lookup (moved_to r s t))
 
--- what a worker is given of a request: what is asked of the file of its name, which has this number
--- in the folder, if any, or what is asked of no file
+-- what a worker is given for a request: a question about the file with its name, if the folder has
+-- one, or a task without a file
 abbrev pub task_of : (List ℕ → Option ℕ) → Request → Task
 task_of number_of (request.Tex r name) =
     lookup_task number_of (Point r) name (udim_of name r.s r.t)
@@ -49,13 +49,13 @@ task_of number_of request.InvalidateAll = task.RenewAll
 task_of number_of request.Stat = task.Count
 task_of number_of request.Sync = task.Sync
 
--- What a worker was given of a lookup: what it is to be given, or that no memory was found for the
--- name of a tile.
+-- What a worker was given for a lookup: the right task, or the note that memory ran out for the
+-- name of a UDIM tile.
 abbrev pub IsLookupOf : (List ℕ → Option ℕ) → LookupRequest → List ℕ → Udim → Task → Type 0
 IsLookupOf number_of r name means given = (given ≡ lookup_task number_of r name means)
     ⊎ ((given ≡ task.Unnamed) × IsTrue (is_tile means))
 
--- what a worker was given of a request
+-- what a worker was given for a request
 abbrev pub IsGivenOf : (List ℕ → Option ℕ) → Request → Task → Type 0
 IsGivenOf number_of (request.Tex r name) given =
     IsLookupOf number_of (Point r) name (udim_of name r.s r.t) given
@@ -63,7 +63,7 @@ IsGivenOf number_of (request.Texd r name) given =
     IsLookupOf number_of (Footprint r) name (udim_of name r.s r.t) given
 IsGivenOf number_of r given = given ≡ task_of number_of r
 
--- so it is of each request, in order
+-- each request has its task, in order
 abbrev pub AreGivenOf : (List ℕ → Option ℕ) → List Request → List Task → Type 0
 AreGivenOf number_of [] [] = ⊤
 AreGivenOf number_of [] (t ∷ tasks) = ⊥
@@ -71,7 +71,7 @@ AreGivenOf number_of (r ∷ requests) [] = ⊥
 AreGivenOf number_of (r ∷ requests) (t ∷ tasks) =
     IsGivenOf number_of r t × AreGivenOf number_of requests tasks
 
--- the file that is asked, if one is
+-- the file of a task, if it has one
 abbrev pub file_in : Task → Option ℕ
 file_in (task.Ask file q) = file
 file_in (task.Tile file q) = file
@@ -81,7 +81,7 @@ file_in task.RenewAll = None
 file_in task.Count = None
 file_in task.Sync = None
 
--- the file that is asked, if it is that of the name itself
+-- the file of a task, if it has the request's own name
 abbrev pub own_file_in : Task → Option ℕ
 own_file_in (task.Ask file q) = file
 own_file_in (task.Tile file q) = None
@@ -91,7 +91,7 @@ own_file_in task.RenewAll = None
 own_file_in task.Count = None
 own_file_in task.Sync = None
 
--- a lookup asks for what it may ask for
+-- a lookup asks for what is allowed
 abbrev pub MayBeAsked : Question → Type 0
 MayBeAsked (Lookup r) = MayBeLookedUp r
 MayBeAsked Facts = ⊤
@@ -99,7 +99,7 @@ MayBeAsked (Values region) = ⊤
 MayBeAsked (Hold at) = ⊤
 MayBeAsked (Renewal force) = ⊤
 
--- so it does, where a file is asked
+-- a task with a file asks for what is allowed
 abbrev pub AsksWell : Task → Type 0
 AsksWell (task.Ask file q) = MayBeAsked q
 AsksWell (task.Tile file q) = MayBeAsked q
@@ -109,7 +109,7 @@ AsksWell task.RenewAll = ⊤
 AsksWell task.Count = ⊤
 AsksWell task.Sync = ⊤
 
--- a region of more texels is asked for than a region may have
+-- whether a region has more texels than are allowed
 abbrev pub is_too_large : Question → Bool
 is_too_large (Values region) = nat_lt max_texels (region.w * region.h)
 is_too_large Facts = false
@@ -117,7 +117,7 @@ is_too_large (Lookup r) = false
 is_too_large (Hold at) = false
 is_too_large (Renewal force) = false
 
--- a tile more is to be held than a worker may hold, which holds so many
+-- whether one more tile is to be held than a worker with this many holds may hold
 abbrev pub is_full : ℕ → Question → Bool
 is_full held (Hold at) = held == max_holds
 is_full held Facts = false

@@ -1,10 +1,11 @@
--- Which line says that the cache refused a call?
+-- Which line reports an error of the cache?
 use Rattle.image_cache.specs.declared.error.CacheError.{CacheError}
 use Rattle.image_cache.specs.declared.error.CacheError.TheVariants as refused
 use Rattle.request_lang.specs.declared.answer.Answer.{Answer}
 use Rattle.request_lang.specs.declared.answer.Answer.TheVariants as line
 
--- The line of a refusal. What waits for ever never gives up, so `Busy` has none of its own.
+-- The line for an error. A waiter that waits for ever never gives up, so `Busy` has no line of its
+-- own.
 abbrev pub refusal_of : {B : Type 0} → CacheError B → Answer
 refusal_of (refused.BadFile generation fault) = line.BadFile generation fault
 refusal_of (refused.TileTooLarge generation) = line.TileTooLarge generation

@@ -29,19 +29,19 @@ use Rattle.render_run.specs.Ending.{ending_text}
 
 -- ---- the lines
 
--- how many lines are refusals
+-- the number of lines that are refusals
 abbrev pub refusals : List Line → ℕ
 refusals lines = count_by (λ line. is_refusal line.answer) lines
 
--- some line is one
+-- whether some line is a refusal
 abbrev pub some_refused : List Line → Bool
 some_refused lines = nat_lt 0 (refusals lines)
 
--- how many lines rest on a fault of the source
+-- the number of lines that report an I/O error
 abbrev pub read_faults : List Line → ℕ
 read_faults lines = count_by (λ line. is_fault (basis_of line.answer)) lines
 
--- how many lines rest on a newer generation that was met
+-- the number of lines that report a newer generation
 abbrev pub agains : List Line → ℕ
 agains lines = count_by (λ line. is_move (basis_of line.answer)) lines
 
@@ -49,10 +49,10 @@ agains lines = count_by (λ line. is_move (basis_of line.answer)) lines
 abbrev pub lines_text : List Line → List ℕ
 lines_text lines = flat_map (λ line. line_of line.answer) lines
 
--- The first so many requests were answered, by one line each: it meets its request and has its place
--- in the dealing of the list, its worker held before it what its lines before leave, and none is
--- older than those before it on its file. The `read fault` lines are at most as many as the source's
--- faults rose, the `again` lines as its moves did.
+-- The first `count` requests were answered with one line each. The line is right for its request
+-- and has its place in the dealing of the list, its worker held what its earlier lines leave, and
+-- no line is older than earlier lines about its file. There are no more `read fault` lines than I/O
+-- errors, and no more `again` lines than moves.
 pub record Answers (setup : Setup) (requests : List Request) (count : ℕ) (old new : SourceState)
     : Type 0 where
   pub lines : List Line
@@ -63,9 +63,9 @@ pub record Answers (setup : Setup) (requests : List Request) (count : ℕ) (old 
   pub faults : RisesByAtLeast (read_faults lines) old.faults new.faults
   pub moves : RisesByAtLeast (agains lines) old.moves new.moves
 
--- The text closes a run of so many workers with these lines: it tells what each worker has counted,
--- how many lines there are, and how many of them are refusals. Where the world tells and a worker
--- answered nothing apart, its lines tell the pins of its tiles.
+-- The text closes a run of this many workers with these lines: it has the counts of each worker,
+-- the number of lines, and the number of refusals. In a modelled world, a worker without uncached
+-- needs counts the pins of its tiles in its lines about shards.
 pub record Closes (files : Files) (workers : ℕ) (lines : List Line) (text : List ℕ) : Type 0 where
   pub counts : List Counts
   pub each : length counts ≡ workers
@@ -75,10 +75,10 @@ pub record Closes (files : Files) (workers : ℕ) (lines : List Line) (text : Li
       → (slice_index_or counts w no_counts).apart ≡ 0 → TellTheirPins workers w [] lines
   pub tells : text ≡ closing_lines counts (length lines) (refusals lines)
 
--- ---- what was written of a list
+-- ---- what was written for a list
 
--- All of the list was answered and written, with the lines that close a run, and some line is a
--- refusal, or none.
+-- The whole list was answered and written, with the closing lines; `refused` says whether some line
+-- is a refusal.
 pub record Finishes (setup : Setup) (requests : List Request) (old new : Progress) (refused : Bool)
     : Type 0 where
   pub answers : Answers setup requests (length requests) old.source new.source
@@ -87,8 +87,8 @@ pub record Finishes (setup : Setup) (requests : List Request) (old new : Progres
   pub written : Appends (lines_text answers.lines ++ closing) old.sink.holds new.sink.holds
   pub refusal : refused ≡ some_refused answers.lines
 
--- A first part of the lines for some first requests, or, behind those for all, of the lines that
--- close a run, was written before the sink failed.
+-- The sink failed after a first part of the lines for some first requests, or of the closing lines
+-- after all others.
 pub record PartWritten (setup : Setup) (requests : List Request) (old new : Progress)
     : Type 0 where
   pub count : ℕ
@@ -98,7 +98,7 @@ pub record PartWritten (setup : Setup) (requests : List Request) (old new : Prog
       × Closes setup.files setup.workers answers.lines closing)
   pub put : PutsPart (lines_text answers.lines ++ closing) old.sink new.sink
 
--- The lines of some first rounds were written, whole.
+-- The lines of some first rounds were written completely.
 pub record RoundsWritten (setup : Setup) (requests : List Request) (old new : Progress)
     : Type 0 where
   pub count : ℕ
@@ -108,15 +108,15 @@ pub record RoundsWritten (setup : Setup) (requests : List Request) (old new : Pr
 
 -- ---- the top call
 
--- the folder and the feed around the call
+-- the folder and the feed of the call
 abbrev pub inputs_in : Around → Inputs
 inputs_in around = inputs_of around.folder around.feed
 
--- how far answering has come: at the source that the folder is, and the sink
+-- the state of answering: the source made of the folder, and the sink
 abbrev pub progress_in : Around → Progress
 progress_in around = progress_of (source_of_folder around.folder) around.sink
 
--- what a list is answered over: the files of the folder, under these options
+-- what a list is answered from: the files of the folder, under these options
 abbrev pub setup_in : Files → Around → Options → Setup
 setup_in files around options =
     setup_of files around.folder (terms_for options) options.workers
@@ -125,15 +125,15 @@ setup_in files around options =
 abbrev pub MakesTaps : ℕ → FolderState → FolderState → Type 0
 MakesTaps workers old new = RisesBy workers old.made new.made
 
--- The folder of the path was entered, the feed was read to its end, and its bytes are a list of these
--- requests, to be answered under the options that were asked for.
+-- The folder at the path was entered, the feed was read to its end, and its bytes are a list of
+-- these requests, to be answered under the requested options.
 pub record IsListed (asked : Option Asked) (old new : Around) : Type 0 where
   pub options : Options
   pub asked_for : HasOptions asked options
   pub requests : List Request
   pub prepared : IsPrepared (path_in asked) (inputs_in old) (inputs_in new) requests
 
--- All of the list was answered and written, by each worker through a tap of its own. The status tells
+-- The whole list was answered and written, by each worker through its own tap. The status says
 -- whether some line is a refusal.
 pub record IsAnswered (files : Files) (asked : Option Asked) (old new : Around) (ends : ℕ)
     : Type 0 where
@@ -144,19 +144,19 @@ pub record IsAnswered (files : Files) (asked : Option Asked) (old new : Around) 
   pub of_status : ends ≡ (if refused then status.with_refusals else status.all_answered)
   pub made : MakesTaps list.options.workers old.folder new.folder
 
--- Of the lines for a list a first part was written.
+-- A first part of the lines for a list was written.
 pub record ListPart (files : Files) (asked : Option Asked) (old new : Around) : Type 0 where
   pub list : IsListed asked old new
   pub part : PartWritten (setup_in files new list.options) list.requests (progress_in old)
       (progress_in new)
 
--- Of the lines for a list those of some first rounds were written, whole.
+-- The lines of some first rounds of a list were written completely.
 pub record ListRounds (files : Files) (asked : Option Asked) (old new : Around) : Type 0 where
   pub list : IsListed asked old new
   pub rounds : RoundsWritten (setup_in files new list.options) list.requests (progress_in old)
       (progress_in new)
 
--- No list was answered: an ending has its cause, and its text was written.
+-- No list was answered: the ending has its cause, and its text was written.
 pub record Stops (files : Files) (path : Option (List ℕ)) (old new : Around) (ends : ℕ)
     : Type 0 where
   pub ending : Ending
@@ -164,13 +164,13 @@ pub record Stops (files : Files) (path : Option (List ℕ)) (old new : Around) (
   pub ended : IsEnded files path (inputs_in old) (inputs_in new) ending
   pub written : Appends (ending_text ending) old.sink.holds new.sink.holds
 
--- A first part of the text of an ending was written, which has its cause.
+-- A first part of the text of an ending was written, and the ending has its cause.
 pub record StopsPart (files : Files) (path : Option (List ℕ)) (old new : Around) : Type 0 where
   pub ending : Ending
   pub ended : IsEnded files path (inputs_in old) (inputs_in new) ending
   pub part : AppendsPart (ending_text ending) old.sink.holds new.sink.holds
 
--- The sink failed, and a first part of what was to be written was: of an ending, or of the lines
+-- The sink failed after a first part of what was to be written: the text of an ending, or the lines
 -- for a list.
 pub record BreaksOff (files : Files) (asked : Option Asked) (old new : Around) : Type 0 where
   pub failed : Rises old.sink.faults new.sink.faults
@@ -191,16 +191,16 @@ pub record GivesTapsBack (old new : FolderState) : Type 0 where
 -- What the top call has done, by the status that it ends with.
 pub record Runs (files : Files) (asked : Option Asked) (old new : Around) (ends : ℕ)
     : Type 0 where
-  -- all of the list was answered
+  -- the whole list was answered
   pub answered : ends ≤ status.with_refusals → IsAnswered files asked old new ends
-  -- no list was answered, for the cause that is written
+  -- no list was answered, and the cause was written
   pub stopped : status.bad_words ≤ ends → ends ≤ status.input_fault
       → Stops files (path_in asked) old new ends
-  -- the sink failed, and a first part of what was to be written was
+  -- the sink failed after a first part of what was to be written
   pub cut : ends ≡ status.not_written → BreaksOff files asked old new
-  -- no memory was found: nothing was written, or whole rounds were
+  -- memory ran out: nothing was written, or whole rounds were
   pub short : ends ≡ status.no_memory → WritesNothing old new ⊎ ListRounds files asked old new
   -- there is no other status
   pub statuses : ends ≤ status.no_memory
-  -- however it ends, each tap that was made was given back
+  -- in every case, each tap that was made was given back
   pub taps : GivesTapsBack old.folder new.folder

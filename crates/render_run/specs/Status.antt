@@ -1,19 +1,19 @@
--- Which status says what? (docs/REQUESTS.md, "Statuses")
+-- What does each exit status mean? (docs/REQUESTS.md, "Statuses")
 use Rattle.std.specs.Prelude.{ℕ}
 
--- all of the list was answered, and no line is a refusal
+-- the whole list was answered, and no line is a refusal
 abbrev pub all_answered : ℕ
 all_answered = 0
 
--- all of the list was answered, and some line is a refusal
+-- the whole list was answered, and some line is a refusal
 abbrev pub with_refusals : ℕ
 with_refusals = 1
 
--- the words are not those of the command
+-- the arguments are not those of the command
 abbrev pub bad_words : ℕ
 bad_words = 2
 
--- the list is none
+-- the list is not valid
 abbrev pub bad_list : ℕ
 bad_list = 3
 
@@ -25,6 +25,6 @@ input_fault = 4
 abbrev pub not_written : ℕ
 not_written = 5
 
--- no memory was found, and nothing was written
+-- out of memory, and nothing was written
 abbrev pub no_memory : ℕ
 no_memory = 6

@@ -1,4 +1,4 @@
-//! Answering a list, round by round.
+//! Answers a list, round by round.
 
 ghost use Rattle.std.specs.Prelude.{◌≡◌, ◌+◌, ◌<◌, ◌≤◌, [], length};
 ghost use Rattle.std.specs.Prelude.{IfOk, IfErr, OnOk, OnErr, IsSome};
@@ -24,17 +24,17 @@ use std::sync::Wait;
 use std::thread::Threads;
 use tex_world::{Folder, NoMemory, Sink, Tap};
 
-/// Why a list is not answered to its end.
+/// Why a list was not answered to its end.
 #[derive(Clone, Copy, Debug, PartialEq, Eq)]
 pub(crate) enum Unfinished {
-    /// The sink failed.
+    /// The output failed.
     NotWritten,
-    /// No memory was found for a round, and those before it were written.
+    /// Out of memory for a round. All rounds before it were written.
     NoMemory,
 }
 
-/// Answers the requests in their order, round by round, writes the line of each and those that close
-/// the run, and says whether some line is a refusal. The page is empty before.
+/// Answers the requests in order, round by round. Writes the line of each and the closing lines,
+/// and returns whether any line is a refusal. The page must be empty.
 pub(crate) fn answer_list<R: Threads + Wait + Sync, F: Folder, O: Sink, K: Hook + Sync>(
     setting: &Setting<'_, R, F::Tap, K>,
     folder: &F,
@@ -72,7 +72,7 @@ where
     }
 }
 
-/// Answers the requests and passes the line of each on, and says how many are refusals.
+/// Answers the requests, writes their lines to the page, and counts the refusals.
 fn answer_rounds<R: Threads + Wait + Sync, F: Folder, O: Sink, K: Hook + Sync>(
     setting: &Setting<'_, R, F::Tap, K>,
     folder: &F,
@@ -127,8 +127,8 @@ where
     Ok(refused)
 }
 
-/// Answers a round of these requests, the first of which has this place in the list. The tasks are
-/// room for what is given of them.
+/// Answers the round of these requests, whose first has this place in the list. `tasks` is a buffer
+/// for what the workers are given.
 fn answer_next<R: Threads + Wait + Sync, F: Folder, K: Hook + Sync>(
     setting: &Setting<'_, R, F::Tap, K>,
     folder: &F,
@@ -160,8 +160,8 @@ where
     Ok(())
 }
 
-/// Begins a round with these requests: what each worker has seen is carried to every other, the names
-/// of the requests are found, and there is room for an answer to each.
+/// Begins a round: the workers exchange what they have seen, the names of the requests are looked
+/// up, and memory for the answers is reserved.
 fn begin<F: Folder>(
     cache: &Cache<F::Tap>,
     folder: &F,

@@ -1,4 +1,4 @@
-//! The lines that close a run.
+//! The closing lines of a run.
 
 ghost use Rattle.std.specs.Prelude.{◌≡◌, ◌≤◌, [], length, OnOk};
 ghost use Rattle.std.specs.List.{All};
@@ -12,9 +12,8 @@ use crate::round::Post;
 use request_lang::Counts;
 use tex_world::{Failed, Sink, Tap};
 
-/// Passes the lines on that close a run, and puts all that waits: of each worker how many cells its
-/// answers needed, how many of these its microcache had and how many were answered apart, then how many
-/// lines there are and how many of them are refusals.
+/// Writes the closing lines, and then all that is still on the page. For each worker: the numbers
+/// of needs, hits and uncached needs. Then the numbers of lines and of refusals.
 pub(crate) fn close<T: Tap, O: Sink>(
     page: &mut Page,
     posts: &[Post<T>],
@@ -38,7 +37,7 @@ pub(crate) fn close<T: Tap, O: Sink>(
     page.put(out)
 }
 
-/// What holds of the counts of each worker. It does nothing.
+/// Does nothing; its contract gives the proof what is true of each worker's counts.
 fn know_counts<T: Tap>(posts: &[Post<T>])
     ensures { All (λ p. p.worker.pass.hits ≤ p.worker.pass.needs) posts.now }
 {
@@ -47,7 +46,7 @@ fn know_counts<T: Tap>(posts: &[Post<T>])
     }
 }
 
-/// Passes the lines of the workers on.
+/// Writes the lines of the workers.
 fn pass_workers<T: Tap, O: Sink>(
     page: &mut Page,
     posts: &[Post<T>],

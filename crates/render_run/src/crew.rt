@@ -1,5 +1,5 @@
-//! The workers of a run: each has a pass and a tap of its own. Between rounds what each has seen is
-//! carried to every other.
+//! The workers of a run, each with its own pass and tap. Between rounds they exchange what they
+//! have seen.
 
 ghost use Rattle.std.specs.Prelude.{◌≡◌, ℕ, ◌<◌, ◌≤◌, [], length};
 ghost use Rattle.std.specs.Prelude.{IfOk, OnOk, OnErr};
@@ -20,7 +20,7 @@ use image_cache::{Cache, Pass};
 use std::alloc::Global;
 use tex_world::{Folder, NoMemory, Tap};
 
-/// What each worker has seen is carried to every other.
+/// Lets all workers exchange what they have seen.
 pub(crate) fn carry_all<T: Tap>(cache: &Cache<T>, posts: &mut [Post<T>]) -> Result<(), NoMemory>
     requires pass { ArePassesOf cache.now posts.old }
     ensures ok { OnOk result (AreCarried (sights_of T.state posts.old)
@@ -35,7 +35,7 @@ pub(crate) fn carry_all<T: Tap>(cache: &Cache<T>, posts: &mut [Post<T>]) -> Resu
     spread(cache, &mut first.worker.pass, others)
 }
 
-/// What other workers have seen is carried to a pass.
+/// Merges what other workers have seen into a pass.
 fn gather<T: Tap>(
     cache: &Cache<T>,
     first: &mut Pass<T::W>,
@@ -56,7 +56,7 @@ fn gather<T: Tap>(
     Ok(())
 }
 
-/// What a worker has seen is carried to a pass.
+/// Merges what one worker has seen into a pass.
 fn carry_from<T: Tap>(
     cache: &Cache<T>,
     post: &mut Post<T>,
@@ -73,7 +73,7 @@ fn carry_from<T: Tap>(
     cache.carry(&mut post.worker.pass, to)
 }
 
-/// What a pass has seen is carried to other workers.
+/// Merges what a pass has seen into other workers.
 fn spread<T: Tap>(
     cache: &Cache<T>,
     first: &mut Pass<T::W>,
@@ -94,7 +94,7 @@ fn spread<T: Tap>(
     Ok(())
 }
 
-/// What a pass has seen is carried to a worker.
+/// Merges what a pass has seen into one worker.
 fn carry_to<T: Tap>(
     cache: &Cache<T>,
     from: &mut Pass<T::W>,
@@ -111,8 +111,8 @@ fn carry_to<T: Tap>(
     cache.carry(from, &mut post.worker.pass)
 }
 
-/// So many workers: the first has this pass, the others have passes that are split off it, and each
-/// has a tap of its own. Where no memory is found the taps that were made are given back.
+/// Makes the workers. The first gets this pass, the others split passes off it, and each gets its
+/// own tap. If memory runs out, the taps made so far are given back.
 pub(crate) fn crew_of<F: Folder>(
     alloc: Global,
     cache: &Cache<F::Tap>,
@@ -141,7 +141,7 @@ where
     }
 }
 
-/// The same into a list that is empty. Where no memory is found some are made.
+/// Adds the workers to an empty list. If memory runs out, some have been added.
 fn man<F: Folder>(
     alloc: Global,
     cache: &Cache<F::Tap>,
@@ -167,7 +167,7 @@ fn man<F: Folder>(
     Ok(())
 }
 
-/// A pass that is split off that of a worker.
+/// Splits a pass off that of a worker.
 fn split_off<T: Tap>(cache: &Cache<T>, post: &mut Post<T>) -> Result<Pass<T::W>, NoMemory>
     requires { IsNewPost cache.now post.old.worker.pass (T.state post.old.worker.tap) }
     ensures of { IfOk result (IsPassOf cache.now) }
@@ -180,7 +180,7 @@ fn split_off<T: Tap>(cache: &Cache<T>, post: &mut Post<T>) -> Result<Pass<T::W>,
     }
 }
 
-/// One worker more, which has this pass.
+/// Adds one worker with this pass.
 fn add<F: Folder>(
     alloc: Global,
     folder: &mut F,
@@ -204,7 +204,7 @@ fn add<F: Folder>(
     Ok(())
 }
 
-/// The taps of all workers are given back.
+/// Gives back the taps of all workers.
 pub(crate) fn give_back<F: Folder>(folder: &mut F, mut posts: Vec<Post<F::Tap>>)
 where
     F::Tap: Drop,
@@ -217,7 +217,7 @@ where
     }
 }
 
-/// The tap of a worker is given back.
+/// Gives back the tap of one worker.
 fn give_one<F: Folder>(folder: &mut F, post: Post<F::Tap>)
     ensures { AfterBack (F.Tap.state post.worker.tap) (F.state folder.old) (F.state folder.new) }
 {

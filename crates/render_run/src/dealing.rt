@@ -1,4 +1,4 @@
-//! How a list is cut into rounds.
+//! Divides a list into rounds.
 
 ghost use Rattle.std.specs.Prelude.{◌≡◌, ◌<◌, ◌≤◌, ◌+◌, IsTrue, length, nat_lt};
 ghost use Rattle.render_run.specs.Dealing as spec;
@@ -6,10 +6,10 @@ ghost use Rattle.render_run.specs.Dealing as spec;
 use request_lang::Request;
 use texel_values::Region;
 
-/// The most texels that the regions of a round have together.
+/// The most texels in all regions of a round together.
 const MAX_ROUND_TEXELS: u64 = 4194304;
 
-/// How many of these requests, the first of which begins a round, that round has.
+/// The number of requests in the round that begins with the first of these.
 pub(crate) fn round_len(requests: &[Request]) -> usize
     ensures round { spec.IsRound requests.now result }
     ensures within { result ≤ length requests.now }
@@ -32,15 +32,14 @@ pub(crate) fn round_len(requests: &[Request]) -> usize
     count
 }
 
-/// The request ends its round.
+/// Whether the request ends its round.
 fn is_sync(request: &Request) -> bool
     ensures { result ≡ spec.is_sync request.now }
 {
     matches!(request, Request::Sync)
 }
 
-/// The texels of the region that a request asks for, and 0 where they are more than a region may
-/// have.
+/// The number of texels in the region of a request; 0 if they are too many for a region.
 fn texels_asked(request: &Request) -> u64
     ensures value { result ≡ spec.texels_asked request.now }
     ensures few { result ≤ spec.max_texels_asked }

@@ -1,13 +1,13 @@
-//! What is called round each request.
+//! A trait whose methods are called before and after each request.
 use std::sync::Wait;
 
-/// Is called round each request that a worker answers; round `sync`, which asks nothing, it is not. A
-/// request is named by its place in the list, from 0 on.
+/// Called before and after each request that a worker answers, except `sync`, which nobody answers.
+/// A request is named by its place in the list, from 0 on.
 pub trait Hook: Sync {
-    /// Before a worker answers a request.
+    /// Called before a worker answers a request.
     fn before<R: Wait>(&self, rt: &R, worker: u32, index: u32);
 
-    /// After it has answered it.
+    /// Called after a worker has answered it.
     fn after<R: Wait>(&self, rt: &R, worker: u32, index: u32);
 }
 

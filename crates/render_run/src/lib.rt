@@ -1,5 +1,5 @@
-//! The top call of the texture service: it reads a list of requests and answers them from the files
-//! of a folder, through the cache.
+//! The top call `run`: it reads a list of requests and answers it from the files of a folder,
+//! through the cache.
 #![tactic(auto)]
 
 mod answering;

@@ -1,4 +1,4 @@
-//! The bytes of the list, read from the feed.
+//! Reads the bytes of the list from the feed.
 
 ghost use Rattle.std.specs.Prelude.{◌≡◌, ◌<◌, ◌≤◌, length, IfOk, IfErr};
 ghost use Rattle.render_run.specs.declared.list.ListError.TheVariants.{NoMemory};
@@ -8,18 +8,18 @@ ghost use Rattle.render_run.specs.ListRead.{IsRead, ListCause};
 use std::alloc::{AllocError, Global};
 use tex_world::Feed;
 
-/// The most bytes that a list has.
+/// The most bytes that a list may have.
 const MAX_LIST_BYTES: usize = 16777216;
 
-/// How many bytes the feed is asked for at a time.
+/// How many bytes are read from the feed at a time.
 const CHUNK: usize = 65536;
 
-/// Why the bytes were not read.
+/// Why the list could not be read.
 #[derive(Debug, Drop)]
 pub(crate) enum ListError {
     /// The feed failed.
     Failed,
-    /// No memory was found.
+    /// Out of memory.
     NoMemory,
 }
 
@@ -31,7 +31,7 @@ impl From<AllocError> for ListError {
     }
 }
 
-/// All bytes of the feed. It stops reading where they are more than a list may have.
+/// Reads all bytes of the feed. It stops if they are more than a list may have.
 pub(crate) fn read_list<I: Feed>(alloc: Global, feed: &mut I) -> Result<Vec<u8>, ListError>
     ensures read { IfOk result
         (λ bytes. IsRead bytes.items (I.left feed.old) (I.left feed.new)) }
@@ -42,7 +42,7 @@ pub(crate) fn read_list<I: Feed>(alloc: Global, feed: &mut I) -> Result<Vec<u8>,
     read_chunks(alloc, feed, &mut chunk)
 }
 
-/// The same through a buffer.
+/// Reads all bytes of the feed through a buffer.
 fn read_chunks<I: Feed>(alloc: Global, feed: &mut I, chunk: &mut [u8]) -> Result<Vec<u8>, ListError>
     requires { 0 < length chunk.old }
     ensures read { IfOk result

@@ -1,4 +1,4 @@
-//! Lines on their way to the sink: they wait on a page, which is put once it is full.
+//! Buffers output lines on a page, which is written when it is full.
 
 ghost use Rattle.std.specs.Prelude.{◌≡◌, ◌≤◌, [], ◌∷◌, length};
 ghost use Rattle.std.specs.Prelude.{IfOk, OnOk};
@@ -16,14 +16,14 @@ use std::alloc::{AllocError, Global};
 use std::marker::Model;
 use tex_world::{Failed, Sink};
 
-/// A page of so many bytes is full.
+/// A page with this many bytes is full.
 const PAGE_BYTES: usize = 65536;
 
-/// The bytes that a page has room for: a part of a line more than one that is not full.
+/// The bytes that a page can hold: more than a full one, so that any part of a line still fits.
 const ROOM_BYTES: usize = PAGE_BYTES + MAX_PART_BYTES;
 
-/// The lines that wait, and the texts that values are printed by. Contracts see the bytes of the
-/// lines. There is always room for a part of a line, so that no line takes memory.
+/// The lines not yet written, and the texts of numbers. Clauses see the bytes of the lines. A part
+/// of a line always fits, so no line allocates.
 #[derive(Drop)]
 pub(crate) struct Page {
     text: Vec<u8>,
@@ -43,7 +43,7 @@ impl Model for Page {
 }
 
 impl Page {
-    /// A page on which nothing waits.
+    /// An empty page.
     pub(crate) fn new(alloc: Global) -> Result<Page, AllocError>
         ensures { IfOk result (λ page. page ≡ []) }
     {
@@ -53,7 +53,7 @@ impl Page {
         })
     }
 
-    /// Puts all that waits.
+    /// Writes everything on the page.
     pub(crate) fn put<O: Sink>(&mut self, out: &mut O) -> Result<(), Failed>
         ensures passed { AddsOn [] (outgoing O.Sink self.old out.old)
             (outgoing O.Sink self.new out.new) result }
@@ -68,7 +68,7 @@ impl Page {
         }
     }
 
-    /// Puts what waits where there might be no room for a part of a line.
+    /// Writes the page if a part of a line might not fit.
     fn make_room<O: Sink>(&mut self, out: &mut O) -> Result<(), Failed>
         ensures passed { AddsOn [] (outgoing O.Sink self.old out.old)
             (outgoing O.Sink self.new out.new) result }
@@ -80,7 +80,7 @@ impl Page {
         self.put(out)
     }
 
-    /// Passes the line of an answer on. It takes no memory.
+    /// Adds the line of an answer. Allocates nothing.
     #[tactic(auto, using(crate::proofs::Passing::adds_passes))]
     pub(crate) fn pass<O: Sink>(&mut self, out: &mut O, answer: &Answer) -> Result<(), Failed>
         ensures { PassesOn (line_of answer.now) (outgoing O.Sink self.old out.old)
@@ -92,7 +92,7 @@ impl Page {
         self.pass_parts(out, answer)
     }
 
-    /// Passes the line of an answer on that ends with a few values at most.
+    /// Adds the line of an answer that ends with at most a few values.
     #[inline(always)]
     fn pass_short<O: Sink>(&mut self, out: &mut O, answer: &Answer) -> Result<(), Failed>
         requires few { length (values_in answer.now) ≤ few_values }
@@ -108,7 +108,7 @@ impl Page {
         Ok(())
     }
 
-    /// Passes the line of an answer on in parts.
+    /// Adds the line of an answer in parts.
     fn pass_parts<O: Sink>(&mut self, out: &mut O, answer: &Answer) -> Result<(), Failed>
         ensures { PassesOn (line_of answer.now) (outgoing O.Sink self.old out.old)
             (outgoing O.Sink self.new out.new) result }
@@ -122,7 +122,7 @@ impl Page {
         self.pass_end(out)
     }
 
-    /// Passes a line on up to its values.
+    /// Adds a line up to its values.
     fn pass_head<O: Sink>(&mut self, out: &mut O, answer: &Answer) -> Result<(), Failed>
         ensures { AddsOn (head_of answer.now) (outgoing O.Sink self.old out.old)
             (outgoing O.Sink self.new out.new) result }
@@ -136,7 +136,7 @@ impl Page {
         Ok(())
     }
 
-    /// Passes values on, each behind a space.
+    /// Adds values, each after a space.
     fn pass_values<O: Sink>(&mut self, out: &mut O, values: &[u16]) -> Result<(), Failed>
         ensures { PassesOn (fields values.now) (outgoing O.Sink self.old out.old)
             (outgoing O.Sink self.new out.new) result }
@@ -152,7 +152,7 @@ impl Page {
         Ok(())
     }
 
-    /// Passes a few values on, each behind a space.
+    /// Adds a few values, each after a space.
     fn pass_part<O: Sink>(&mut self, out: &mut O, values: &[u16]) -> Result<(), Failed>
         requires few { length values.now ≤ part_values }
         ensures { AddsOn (fields values.now) (outgoing O.Sink self.old out.old)
@@ -181,7 +181,7 @@ impl Page {
         Ok(())
     }
 
-    /// Passes the line of a worker on. It takes no memory.
+    /// Adds the line of a worker. Allocates nothing.
     pub(crate) fn pass_worker<O: Sink>(
         &mut self,
         out: &mut O,
@@ -200,8 +200,7 @@ impl Page {
         Ok(())
     }
 
-    /// Passes the line on that says how many lines there are, and how many are refusals. It takes no
-    /// memory.
+    /// Adds the line with the numbers of lines and refusals. Allocates nothing.
     pub(crate) fn pass_total<O: Sink>(
         &mut self,
         out: &mut O,

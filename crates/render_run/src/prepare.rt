@@ -1,4 +1,4 @@
-//! The steps before the first answer: the words, the folder and the list.
+//! The steps before the first answer: arguments, folder and list.
 
 ghost use Rattle.std.specs.Prelude.{◌≡◌, ◌≤◌, length, IfOk, IfErr, OnOk, Ok};
 ghost use Rattle.request_lang.specs.Grammar.{max_requests};
@@ -21,7 +21,7 @@ use tex_world::{EnterError, Feed, Folder};
 /// Why no list is answered.
 #[derive(Clone, Copy, Debug, PartialEq, Eq)]
 pub(crate) enum Ending {
-    /// The words are not those of the command.
+    /// The arguments are not those of the command.
     BadWords,
     /// The folder failed.
     FolderFault,
@@ -29,20 +29,20 @@ pub(crate) enum Ending {
     TooManyFiles,
     /// The feed failed.
     ListFault,
-    /// What the feed has is no list.
+    /// The bytes of the feed are not a valid list.
     NotAList(BadList),
-    /// No memory was found.
+    /// Out of memory.
     NoMemory,
 }
 
-/// What is answered: the requests of a list, under the options of the words.
+/// What to answer: the requests of a list, under the options in the arguments.
 #[derive(Drop)]
 pub(crate) struct Prepared {
     pub(crate) options: Options,
     pub(crate) requests: Vec<Request>,
 }
 
-/// What the words ask for.
+/// What the arguments ask for.
 fn invocation<'a>(alloc: Global, words: &'a [String]) -> Result<Invocation<'a>, WordsError>
     ensures ok { IfOk result (λ i. path_in (asked_by words.entry.now) ≡ Some i.folder.now) }
     ensures options { IfOk result (λ i. HasOptions (asked_by words.entry.now) i.options) }
@@ -55,7 +55,7 @@ fn invocation<'a>(alloc: Global, words: &'a [String]) -> Result<Invocation<'a>, 
     }
 }
 
-/// Enters the folder of the words, and gives their options.
+/// Enters the folder that the arguments name, and returns their options.
 fn enter_folder<F: Folder>(
     alloc: Global,
     words: &[String],
@@ -84,7 +84,7 @@ fn enter_folder<F: Folder>(
     }
 }
 
-/// The requests of the list that the feed has.
+/// Reads and checks the requests of the list.
 fn read_requests<I: Feed>(alloc: Global, feed: &mut I) -> Result<Vec<Request>, Ending>
     ensures asked { IfOk result (λ requests. All MayAsk requests.items) }
     ensures few { IfOk result (λ requests. length requests.items ≤ max_requests) }
@@ -105,7 +105,7 @@ fn read_requests<I: Feed>(alloc: Global, feed: &mut I) -> Result<Vec<Request>, E
     }
 }
 
-/// The requests of the list, once the folder of the words is entered, and the options of the words.
+/// Enters the folder, reads the list, and returns its requests and the options.
 pub(crate) fn prepare<F: Folder, I: Feed>(
     alloc: Global,
     words: &[String],

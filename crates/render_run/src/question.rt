@@ -13,7 +13,7 @@ use texel_values::{Region, TexelAt};
 use texture_sys::LookupRequest;
 use udim::{Udim, udim};
 
-/// What is asked of a file.
+/// What is asked about a file.
 #[derive(Clone, Copy, Debug)]
 pub(crate) enum Question {
     /// Its size and its levels.
@@ -28,27 +28,27 @@ pub(crate) enum Question {
     Renewal(bool),
 }
 
-/// What a worker is given of a request.
+/// What a worker is given for a request.
 #[derive(Clone, Copy, Debug)]
 pub(crate) enum Task {
-    /// A question to the file of the name: its number, if the folder has it.
+    /// A question about the file with the request's name. `None` if the folder does not have it.
     Ask(Option<u32>, Question),
-    /// The same to the file of a tile, whose number stands in the name.
+    /// A question about a UDIM tile's file, whose number is part of its name.
     Tile(Option<u32>, Question),
-    /// No memory was found for the name of a tile. Nothing is asked.
+    /// Memory ran out for the name of a UDIM tile. Nothing is asked.
     Unnamed,
-    /// The oldest hold is let go.
+    /// The oldest hold is released.
     Release,
-    /// The newest generation of each file that is known.
+    /// Every known file is checked for a newer generation.
     RenewAll,
-    /// What each shard has.
+    /// The counts of each shard.
     Count,
     /// The round ends. Nothing is asked.
     Sync,
 }
 
 impl Task {
-    /// What a worker is given of a request.
+    /// What a worker is given for a request.
     pub(crate) fn of<F: Folder>(alloc: Global, folder: &F, request: &Request) -> Task
         requires entered { IsSome (F.state folder.now).entered }
         requires asked { spec.MayAsk request.now }
@@ -88,7 +88,7 @@ impl Task {
     }
 }
 
-/// A name that holds no mark, and the number of its file.
+/// A name without a UDIM mark, and the number of its file.
 #[derive(Clone, Copy)]
 pub(crate) struct Known<'a> {
     pub(crate) name: &'a str,
@@ -96,7 +96,7 @@ pub(crate) struct Known<'a> {
 }
 
 impl<'a> Known<'a> {
-    /// The name of a lookup of which this is given, if a file of the name is asked.
+    /// The name of a lookup that was given to a worker, if its own file is asked.
     fn of<F: Folder>(_folder: &F, request: &'a Request, task: &Task) -> Option<Known<'a>>
         requires value { spec.IsGivenOf (F.state _folder.now).number_of request.now task.now }
         requires given { MayBeGiven F.W.files (F.state _folder.now).size task.now }
@@ -121,7 +121,7 @@ impl<'a> Known<'a> {
         Known { name, file }
     }
 
-    /// What a worker is given of a request, if it is a lookup in the file of this name.
+    /// What a worker is given for a request, if that is a lookup in the file of this name.
     #[inline(always)]
     fn task<F: Folder>(self, _folder: &F, request: &Request) -> Option<Task>
         requires known { IsKnown F.W.files (F.state _folder.now) self.name.now self.file }
@@ -141,7 +141,7 @@ impl<'a> Known<'a> {
         }
     }
 
-    /// It is known of this name.
+    /// Whether this is the same name.
     #[inline(always)]
     fn is_of(self, name: &Name) -> bool
         ensures { IsTrue result → name.now ≡ self.entry.name.now }
@@ -149,7 +149,7 @@ impl<'a> Known<'a> {
         name.as_str() == self.name
     }
 
-    /// A lookup in its file.
+    /// A lookup in this file.
     #[inline(always)]
     fn look(self, request: LookupRequest) -> Task
         ensures { result ≡ Task.Ask (Some self.entry.file) (Question.Lookup request) }
@@ -158,7 +158,7 @@ impl<'a> Known<'a> {
     }
 }
 
-/// The file that is asked, if it is that of the name itself.
+/// The file that is asked, if it has the request's own name.
 fn own_file(task: &Task) -> Option<u32>
     ensures { result ≡ spec.own_file_in task.now }
 {
@@ -168,8 +168,8 @@ fn own_file(task: &Task) -> Option<u32>
     }
 }
 
-/// What a worker is given of a request, and the name that is known then. That of the lookup before is
-/// not looked for again.
+/// What a worker is given for a request, and the name known after it. A name equal to the previous
+/// lookup's is not looked up again.
 #[inline(always)]
 pub(crate) fn next_task<'a, F: Folder>(
     alloc: Global,
@@ -198,7 +198,7 @@ pub(crate) fn next_task<'a, F: Folder>(
     task
 }
 
-/// A lookup in the file that a name means, which may be that of a tile.
+/// A lookup in the file that a name means, possibly that of a UDIM tile.
 fn look<F: Folder>(alloc: Global, folder: &F, name: &Name, request: &LookupRequest) -> Task
     requires entered { IsSome (F.state folder.now).entered }
     requires asked { MayBeLookedUp request.now }
@@ -215,7 +215,7 @@ fn look<F: Folder>(alloc: Global, folder: &F, name: &Name, request: &LookupReque
     }
 }
 
-/// A lookup in the file of a tile.
+/// A lookup in the file of a UDIM tile.
 fn in_tile<F: Folder>(folder: &F, name: &Name, request: &LookupRequest) -> Task
     requires entered { IsSome (F.state folder.now).entered }
     requires asked { MayBeLookedUp request.now }
@@ -226,7 +226,7 @@ fn in_tile<F: Folder>(folder: &F, name: &Name, request: &LookupRequest) -> Task
     Task::Tile(folder.find(name.as_str()), Question::Lookup(*request))
 }
 
-/// A question to the file of a name.
+/// A question about the file of a name.
 fn ask<F: Folder>(folder: &F, name: &Name, question: Question) -> Task
     requires entered { IsSome (F.state folder.now).entered }
     requires asked { spec.MayBeAsked question }

@@ -1,5 +1,5 @@
-//! A round: its requests are dealt to the workers, each of which answers its share in a thread of its
-//! own, and then its lines are written.
+//! A round: its requests are dealt to the workers, each worker answers its share in its own thread,
+//! and then the lines are written.
 
 ghost use Rattle.std.specs.Prelude.{◌≡◌, ◌+◌, ◌*◌, ◌<◌, ◌≤◌, [], length, map, vec_capacity};
 ghost use Rattle.std.specs.Prelude.{IfOk, OnOk, IsSome};
@@ -28,15 +28,14 @@ use std::thread::{Threads, for_each_mut};
 use tex_world::{Failed, Folder, Sink, Tap};
 use waiter::Forever;
 
-/// A worker and its answers of a round.
+/// A worker, and its answers of a round.
 #[derive(Drop)]
 pub(crate) struct Post<T: Tap> {
     pub(crate) worker: Worker<T>,
     pub(crate) answers: Vec<Answer>,
 }
 
-/// What the workers of a run share: the runtime, the allocator, the cache, and the hook that is called
-/// round each request.
+/// What the workers of a run share: the runtime, the allocator, the cache, and the hook.
 #[derive(Drop)]
 pub(crate) struct Setting<'a, R, T: Tap, K> {
     pub(crate) rt: &'a R,
@@ -45,8 +44,8 @@ pub(crate) struct Setting<'a, R, T: Tap, K> {
     pub(crate) hook: &'a K,
 }
 
-/// Which requests of a round are a worker's: of so many that take turns it is this one. The first
-/// request of the round has this place in the list.
+/// Which requests of a round belong to a worker: every `workers`-th one, from number `worker` on.
+/// The first request of the round is number `first` in the list.
 #[derive(Clone, Copy, Debug)]
 pub(crate) struct Turn {
     pub(crate) worker: usize,
@@ -54,7 +53,7 @@ pub(crate) struct Turn {
     pub(crate) first: usize,
 }
 
-/// Finds the names of these requests, and what each asks of its worker.
+/// Looks up the names of these requests, and fills in what each worker is given.
 pub(crate) fn deal<F: Folder>(
     folder: &F,
     requests: &[Request],
@@ -75,7 +74,7 @@ pub(crate) fn deal<F: Folder>(
     Ok(())
 }
 
-/// Makes room for the answers of so many requests, which the workers take in turn.
+/// Reserves memory for the answers to `count` requests, which the workers take in turn.
 pub(crate) fn make_room<T: Tap>(posts: &mut [Post<T>], count: usize) -> Result<(), AllocError>
     requires some { 0 < length posts.old }
     requires few { count ≤ max_requests }
@@ -90,8 +89,8 @@ pub(crate) fn make_room<T: Tap>(posts: &mut [Post<T>], count: usize) -> Result<(
     Ok(())
 }
 
-/// How many threads so many workers take for a round: where it deals one request at most, none but
-/// the thread that asks. `sync` is dealt to nobody.
+/// The number of threads for a round. If at most one request is dealt, it is answered in the
+/// calling thread. `sync` is dealt to nobody.
 fn threads_for(workers: usize, tasks: &[Task]) -> usize
     requires { 0 < workers }
     ensures { 0 < result }
@@ -104,8 +103,8 @@ fn threads_for(workers: usize, tasks: &[Task]) -> usize
     }
 }
 
-/// Each worker answers its share of the requests of a round, in a thread of its own where one can be
-/// made and the round deals several.
+/// Lets each worker answer its share of a round, in its own thread if one can be made and more than
+/// one request is dealt.
 pub(crate) fn answer_round<R: Threads + Wait + Sync, T: Tap + Send, K: Hook + Sync>(
     setting: &Setting<'_, R, T, K>,
     posts: &mut [Post<T>],
@@ -153,8 +152,8 @@ where
     );
 }
 
-/// Answers what a worker is given of a round, one after another. No answer waits for memory to be
-/// kept in.
+/// Answers a worker's share of a round, one request after another. Memory for the answers is
+/// already reserved.
 fn answer_share<R: Wait, T: Tap, K: Hook>(
     setting: &Setting<'_, R, T, K>,
     post: &mut Post<T>,
@@ -197,8 +196,7 @@ fn answer_share<R: Wait, T: Tap, K: Hook>(
     }
 }
 
-/// The answer of this worker to what it is given of a request, round which the hook is called. `sync`
-/// asks nothing, so it is not called round that.
+/// Answers one request, and calls the hook before and after, except for `sync`.
 fn answer_hooked<R: Wait, T: Tap, K: Hook>(
     setting: &Setting<'_, R, T, K>,
     desk: &Desk<'_, &R, T>,
@@ -222,8 +220,7 @@ fn answer_hooked<R: Wait, T: Tap, K: Hook>(
     answer
 }
 
-/// Passes the lines of a round on, and says how many of them are refusals. The workers took its
-/// requests in turn.
+/// Writes the lines of a round, and counts the refusals. The workers took its requests in turn.
 pub(crate) fn write_round<T: Tap, O: Sink>(
     page: &mut Page,
     posts: &[Post<T>],

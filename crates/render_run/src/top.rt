@@ -1,4 +1,4 @@
-//! The top call.
+//! The top call `run`, and its exit statuses.
 
 ghost use Rattle.std.specs.Prelude.{◌≡◌, ◌≤◌, length, IfOk, OnOk, IsSome, IsTrue};
 ghost use Rattle.request_lang.specs.Grammar.{max_requests};
@@ -28,28 +28,28 @@ use std::sync::Wait;
 use std::thread::Threads;
 use tex_world::{Feed, Folder, NoMemory, Sink, Tap};
 
-/// All of the list was answered, and no line is a refusal.
+/// The whole list was answered, and no line is a refusal.
 const ALL_ANSWERED: u8 = 0;
 
-/// All of the list was answered, and some line is a refusal.
+/// The whole list was answered, and some line is a refusal.
 const WITH_REFUSALS: u8 = 1;
 
-/// The words are not those of the command.
+/// The arguments are not those of the command.
 const BAD_WORDS: u8 = 2;
 
-/// The list is none.
+/// The list is not valid.
 const BAD_LIST: u8 = 3;
 
-/// The folder or the feed failed, or the folder has too many files.
+/// The folder or the input failed, or the folder has too many files.
 const INPUT_FAULT: u8 = 4;
 
-/// The sink failed.
+/// The output failed.
 pub const NOT_WRITTEN: u8 = 5;
 
-/// No memory was found outside an answer, and no line of the round that was begun was written.
+/// Out of memory outside an answer. No line of the current round was written.
 pub const NO_MEMORY: u8 = 6;
 
-/// Writes a text and gives the status, or that of a sink that fails.
+/// Writes a text and returns `status`, or the status of an output that failed.
 fn put_status<O: Sink>(out: &mut O, text: &[u8], status: u8) -> u8
     ensures { StatusWritten text.now status (sink_of O.Sink out.old) (sink_of O.Sink out.new)
         result }
@@ -60,7 +60,7 @@ fn put_status<O: Sink>(out: &mut O, text: &[u8], status: u8) -> u8
     }
 }
 
-/// Writes why the list is none.
+/// Writes why the list is not valid.
 #[tactic(auto, unfolding(crate::specs::Ending::ending_text))]
 fn put_bad_list<O: Sink>(alloc: Global, out: &mut O, bad: BadList) -> u8
     ensures { EndedAs (Ending.NotAList bad) (sink_of O.Sink out.old) (sink_of O.Sink out.new)
@@ -73,8 +73,8 @@ fn put_bad_list<O: Sink>(alloc: Global, out: &mut O, bad: BadList) -> u8
     }
 }
 
-/// Writes the text of an ending and gives its status, or that of a sink that fails or of want of
-/// memory.
+/// Writes the text of an ending and returns its status, or that of an output that failed, or of out
+/// of memory.
 fn put_ending<O: Sink>(alloc: Global, out: &mut O, ending: Ending) -> u8
     ensures { EndedAs ending (sink_of O.Sink out.old) (sink_of O.Sink out.new) result }
 {
@@ -88,7 +88,7 @@ fn put_ending<O: Sink>(alloc: Global, out: &mut O, ending: Ending) -> u8
     }
 }
 
-/// A cache of the files of a folder, under the options that are asked for, and its first pass.
+/// A cache for the files of a folder, with the given options, and its first pass.
 fn cache_of<T: Tap>(
     alloc: Global,
     options: &Options,
@@ -115,8 +115,8 @@ fn cache_of<T: Tap>(
     }
 }
 
-/// Answers the requests through taps of the folder's, which it gives back, and says whether some line
-/// is a refusal.
+/// Answers the requests through taps of the folder, gives the taps back, and returns whether any
+/// line is a refusal.
 fn answer_through_taps<R: Threads + Wait + Sync, F: Folder, O: Sink, K: Hook + Sync>(
     rt: &R,
     alloc: Global,
@@ -169,7 +169,7 @@ where
     answered
 }
 
-/// The status of a list that was answered, or was not to its end.
+/// The status of a list, answered to its end or not.
 fn status_of(answered: Result<bool, Unfinished>) -> u8
     ensures { result ≡ list_status answered }
 {
@@ -181,14 +181,15 @@ fn status_of(answered: Result<bool, Unfinished>) -> u8
     }
 }
 
-/// Reads a list of requests from the feed, answers it from the files of the folder that the words
-/// name, and writes the answers to the sink. The status is 0 where all was written and no line is a
-/// refusal, 1 where some line is, 2 where the words are not those of the command, 3 where the list
-/// is none, 4 where the folder or the feed failed or the folder has too many files, 5 where the
-/// sink failed, and 6 where no memory was found.
+/// Reads a list of requests from the feed, answers it from the files of the folder named in the
+/// arguments, and writes the answers to the sink.
 ///
-/// Each worker answers its requests through a pass and a tap of its own, in a thread of its own where
-/// one can be made. The hook is called round each request.
+/// The status is 0 if everything was written and no line is a refusal, and 1 if some line is. It is
+/// 2 for wrong arguments, and 3 for an invalid list. It is 4 if the folder or the feed failed or
+/// the folder has too many files, 5 if the sink failed, and 6 if memory ran out.
+///
+/// Each worker answers its requests through its own pass and tap, in its own thread if one can be
+/// made. The hook is called before and after each request.
 pub fn run<R: Threads + Wait + Sync, F: Folder, I: Feed, O: Sink, K: Hook + Sync>(
     rt: &R,
     alloc: Global,

@@ -1,4 +1,4 @@
-//! A worker, which answers what it is given through the cache.
+//! A worker: it answers what it is given, through the cache.
 
 ghost use Rattle.std.specs.Prelude.{◌≡◌, ◌+◌, ◌<◌, ◌≤◌, None, IfSome, IfOk, length, slice_get};
 ghost use Rattle.tex_world.specs.World.{IsFile};
@@ -28,15 +28,15 @@ use texture_sys::{LookupRequest, texture, texture_d};
 use tiff_format::{MAX_CHANNELS, Rect, ShardCount};
 use waiter::Forever;
 
-/// A worker: its pass, and the tap that it reads by.
+/// A worker: its pass, and the tap that it reads through.
 #[derive(Drop)]
 pub(crate) struct Worker<T: Tap> {
     pub(crate) pass: Pass<T::W>,
     pub(crate) tap: T,
 }
 
-/// What a worker answers by, for as long as its share of a round takes: the allocator, the cache, and
-/// how it waits for another worker.
+/// What a worker needs for its share of a round: the allocator, the cache, and how to wait for
+/// other workers.
 #[derive(Drop)]
 pub(crate) struct Desk<'a, R: Wait, T: Tap> {
     pub(crate) alloc: Global,
@@ -45,7 +45,7 @@ pub(crate) struct Desk<'a, R: Wait, T: Tap> {
 }
 
 impl<T: Tap> Worker<T> {
-    /// The answer to what it is given of a request.
+    /// Answers what it is given for a request.
     pub(crate) fn answer<R: Wait>(&mut self, desk: &Desk<'_, R, T>, task: &Task) -> Answer
         requires pass { IsPassOf desk.now.cache.now self.old.pass }
         requires given { MayBeGiven T.W.files desk.now.cache.now.files.board.files task.now }
@@ -66,7 +66,7 @@ impl<T: Tap> Worker<T> {
         }
     }
 
-    /// The answer to a question to a file.
+    /// Answers a question about a file.
     fn answer_on<R: Wait>(
         &mut self,
         desk: &Desk<'_, R, T>,
@@ -90,7 +90,7 @@ impl<T: Tap> Worker<T> {
         }
     }
 
-    /// What a file is.
+    /// Answers with the size and the levels of a file.
     fn facts<R: Wait>(&mut self, desk: &Desk<'_, R, T>, file: u32) -> Answer
         requires { MayAnswer T.W.files desk.now.cache.now self.old.pass file }
         ensures { WorkerAnswers T.state T.W.files desk.now.cache.now
@@ -105,7 +105,7 @@ impl<T: Tap> Worker<T> {
         }
     }
 
-    /// The values of a region.
+    /// Answers with the values of a region.
     fn values<R: Wait>(&mut self, desk: &Desk<'_, R, T>, file: u32, region: &Region) -> Answer
         requires { MayAnswer T.W.files desk.now.cache.now self.old.pass file }
         ensures { WorkerAnswers T.state T.W.files desk.now.cache.now
@@ -129,7 +129,7 @@ impl<T: Tap> Worker<T> {
         }
     }
 
-    /// The values of a lookup.
+    /// Answers with the values of a lookup.
     fn look<R: Wait>(&mut self, desk: &Desk<'_, R, T>, file: u32, request: &TexRequest) -> Answer
         requires by { MayAnswer T.W.files desk.now.cache.now self.old.pass file }
         requires channels { IsChannelCount request.now.nch }
@@ -156,7 +156,7 @@ impl<T: Tap> Worker<T> {
         }
     }
 
-    /// The values of a lookup along a footprint.
+    /// Answers with the values of a lookup along a footprint.
     fn lookup_along<R: Wait>(
         &mut self,
         desk: &Desk<'_, R, T>,
@@ -188,7 +188,7 @@ impl<T: Tap> Worker<T> {
         }
     }
 
-    /// The cell of a texel, which the worker then holds.
+    /// Holds the cell of a texel.
     fn hold<R: Wait>(&mut self, desk: &Desk<'_, R, T>, file: u32, at: TexelAt) -> Answer
         requires { MayAnswer T.W.files desk.now.cache.now self.old.pass file }
         ensures { WorkerAnswers T.state T.W.files desk.now.cache.now
@@ -207,7 +207,7 @@ impl<T: Tap> Worker<T> {
         }
     }
 
-    /// The newest generation of a file, which is made invalid, with force or without.
+    /// Checks a file for a newer generation, with force or without.
     fn renewal<R: Wait>(&mut self, desk: &Desk<'_, R, T>, file: u32, force: bool) -> Answer
         requires { MayAnswer T.W.files desk.now.cache.now self.old.pass file }
         ensures { WorkerAnswers T.state T.W.files desk.now.cache.now
@@ -223,7 +223,7 @@ impl<T: Tap> Worker<T> {
         }
     }
 
-    /// It lets go of its oldest hold.
+    /// Releases its oldest hold.
     fn release<R: Wait>(&mut self, desk: &Desk<'_, R, T>) -> Answer
         requires { IsPassOf desk.now.cache.now self.old.pass }
         ensures { WorkerAnswers T.state T.W.files desk.now.cache.now Task.Release
@@ -236,7 +236,7 @@ impl<T: Tap> Worker<T> {
         }
     }
 
-    /// Each file that is known is made invalid.
+    /// Checks every known file for a newer generation.
     fn renewal_of_all<R: Wait>(&mut self, desk: &Desk<'_, R, T>) -> Answer
         requires pass { IsPassOf desk.now.cache.now self.old.pass }
         requires files { AreFiles T.W.files desk.now.cache.now.files.board.files }
@@ -252,7 +252,7 @@ impl<T: Tap> Worker<T> {
         }
     }
 
-    /// What each shard has. The pin of a tile that is in hand is given back before.
+    /// Answers with the counts of each shard. A tile in hand is unpinned first.
     fn shards<R: Wait>(&mut self, desk: &Desk<'_, R, T>) -> Answer
         requires { IsPassOf desk.now.cache.now self.old.pass }
         ensures { WorkerAnswers T.state T.W.files desk.now.cache.now Task.Count
@@ -271,7 +271,7 @@ impl<T: Tap> Worker<T> {
     }
 }
 
-/// The rectangle of the tile that a pass holds at a place.
+/// The rectangle of the held tile at a place.
 fn held_rect<W: World>(pass: &Pass<W>, place: usize) -> Rect
     requires { place < length pass.now.pinned.holds }
     ensures { IfSome (slice_get pass.now.pinned.holds place) (λ tile. result ≡ tile.rect) }
@@ -282,7 +282,7 @@ fn held_rect<W: World>(pass: &Pass<W>, place: usize) -> Rect
     }
 }
 
-/// What each shard has, in their order. Nothing is in hand.
+/// The counts of each shard, in order. Nothing may be in hand.
 fn counts_of_shards<R: Wait, T: Tap>(
     desk: &Desk<'_, R, T>,
     pass: &mut Pass<T::W>,
@@ -309,7 +309,7 @@ fn counts_of_shards<R: Wait, T: Tap>(
     Ok(counts)
 }
 
-/// The line that says that the cache refused a call. What waits for ever never gives up.
+/// The line for an error of the cache. A waiter that waits for ever never gives up.
 fn refusal(error: CacheError<Infallible>) -> Answer
     ensures { result ≡ refusal_of error }
 {

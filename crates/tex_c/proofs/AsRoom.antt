@@ -1,4 +1,4 @@
--- A room with bytes, and the parts of its box, own what a box at the same types owns.
+-- A buffer with bytes, and the parts of its box, own what a box at the same types owns.
 use mir.Syntax.{impl, tnil, dnil}
 use mathlib.Core.List.{[]}
 use denote.Signature.{Slot, plain}

@@ -1,4 +1,4 @@
--- A cause that is told of equal things is told of these.
+-- A cause that holds of equal things holds of these.
 use Rattle.std.proofs.Common.{◌≡◌, subst}
 use Rattle.std.specs.Prelude.{ℕ, Result, IfErr}
 use Rattle.tiff_format.specs.declared.cut.Cut.{Cut}

@@ -1,4 +1,4 @@
--- What does an answer say: of a refusal, and of what is lacking?
+-- What does an answer to C say about an error, and about what the call needs?
 use Rattle.std.specs.Prelude.{◌≡◌, ℕ}
 use Rattle.tiff_format.specs.Fault.{code_of}
 use Rattle.tiff_format.specs.declared.fault.TiffFault.{TiffFault}
@@ -9,7 +9,7 @@ use Rattle.tex_c.specs.declared.answer.TexAnswer.{TexAnswer}
 use Rattle.tex_c.specs.declared.supply.Need.{Need}
 use Rattle.tex_c.specs.declared.supply.Need.TheVariants.{Look, Bytes, Rows}
 
--- an answer that says nothing
+-- an answer with all fields 0
 abbrev pub blank : TexAnswer
 blank = record {
   generation = 0;
@@ -28,13 +28,13 @@ blank = record {
   need_row = 0;
 }
 
--- an answer of this generation
+-- an answer that names this generation
 abbrev pub of_generation : ℕ → TexAnswer
 of_generation generation = record blank { generation = generation }
 
--- ---- refusals
+-- ---- errors
 
--- the tag, or the level, that a fault is of
+-- the tag or the level that a file fault names
 abbrev pub part_of : TiffFault → ℕ
 part_of (fault.FieldMissing tag) = tag
 part_of (fault.FieldShape tag) = tag
@@ -42,13 +42,13 @@ part_of (fault.Unsupported tag value) = tag
 part_of (fault.DataOutside level index) = level
 part_of f = 0
 
--- the value, or the index, that it is of
+-- the value or the index that a file fault names
 abbrev pub value_of : TiffFault → ℕ
 value_of (fault.Unsupported tag value) = value
 value_of (fault.DataOutside level index) = index
 value_of f = 0
 
--- what belongs to a fault of a file
+-- the fields that go with a file fault
 abbrev pub answer_of_fault : ℕ → TiffFault → TexAnswer
 answer_of_fault generation f = record blank {
   generation = generation;
@@ -57,7 +57,7 @@ answer_of_fault generation f = record blank {
   value = value_of f;
 }
 
--- what belongs to a refusal
+-- the fields that go with an error
 abbrev pub of_refusal : {B : Type 0} → CacheError B → TexAnswer
 of_refusal (refused.BadFile generation f) = answer_of_fault generation f
 of_refusal (refused.TileTooLarge generation) = of_generation generation
@@ -67,10 +67,10 @@ of_refusal (refused.Outside generation) = of_generation generation
 of_refusal (refused.Again from to) = record blank { generation = from; newer = to }
 of_refusal e = blank
 
--- ---- what is lacking
+-- ---- what a call needs
 
--- It names what is lacking: a look at a file of a generation that is at least this one, so many
--- bytes of a generation of a file from a place on, or rows of them.
+-- The answer names what the call needs: a freshness check of a file that shows at least this
+-- generation, bytes of one generation from a place on, or rows of it.
 abbrev pub SaysNeed : TexAnswer → Need → Type 0
 SaysNeed a (Look file least) = (a.need ≡ 1) × (a.need_file ≡ file) × (a.need_generation ≡ least)
 SaysNeed a (Bytes file generation at least most) = (a.need ≡ 2) × (a.need_file ≡ file)

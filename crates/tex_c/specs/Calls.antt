@@ -1,4 +1,4 @@
--- What does each call of C say, and what does it leave?
+-- What does each C call answer, and what state does it leave?
 use Rattle.std.specs.Prelude.{◌≡◌, ◌⊎◌, ℕ, ◌+◌, ◌*◌, ◌^◌, ◌<◌, ◌≤◌, Bool, List, length}
 use Rattle.std.specs.Prelude.{take, drop, slice_index, slice_get}
 use Rattle.std.specs.Prelude.{Option, IsOkAnd, IsSomeAnd, IfSome}
@@ -18,7 +18,7 @@ use Rattle.image_cache.specs.InvalidAll.{MakesAllInvalid}
 use Rattle.image_cache.specs.Reading.{pass_tap}
 use Rattle.image_cache.specs.Region.{ReadsRegion}
 use Rattle.texture_sys.specs.Call.{Answers, TextureCause, IsWarm, ServesLocally}
-use Rattle.texture_sys.specs.declared.lookup_request.LookupRequest.{LookupRequest}
+use Rattle.texture_sys.specs.declared.lookup.Lookups.{Lookups}
 use Rattle.tex_c.specs.declared.answer.TexAnswer.{TexAnswer}
 use Rattle.tex_c.specs.declared.holds.TexTile.{TexTile}
 use Rattle.tex_c.specs.declared.saying.TexInfo.{TexInfo}
@@ -29,23 +29,22 @@ use Rattle.tex_c.specs.SuppliedTap.{tap_state}
 use Rattle.tex_c.specs.SuppliedWorld.{supplied_files}
 use Rattle.tex_c.specs.Unanswered.{IsUnanswered, RefusesFile, RefusesLookup, RefusesRegion}
 
--- both handles have a client, and P is so of what they have
+-- both handles have a client, and `P` holds between the two clients
 abbrev pub Hands : Option ClientState → Option ClientState → (ClientState → ClientState → Type 0)
     → Type 0
 Hands from to P = IsSomeAnd from (λ old. IsSomeAnd to (λ new. P old new))
 
--- how many files the cache has
+-- the number of files of the cache
 abbrev pub files_of : ClientState → ℕ
 files_of c = c.cache.files.board.files
 
 -- ---- lookups
 
--- What a lookup says, and what it leaves. `Good` says that the numbers of the request are in their
--- ranges. The values are those of the lookup on the bytes of the generation that is answered; those
--- behind them, and all where it is refused, are as they were. Where the pass keeps a record of the
--- file and its microcache has each cell that the lookup needs, it is answered, or a newer
--- generation was seen.
-pub record SaysLookup (file : ℕ) (Good : Type 0) (r : LookupRequest) (channels code : ℕ)
+-- What a lookup answers, and what state it leaves. `Good` says that the numbers of the request are
+-- in range. The values are those of the lookup on the answered generation's bytes. The rest of the
+-- buffer is unchanged; if the lookup fails, all of it. If the pass keeps a valid record of the file
+-- and its microcache has every cell needed, the lookup succeeds or a newer generation was seen.
+pub record SaysLookup (file : ℕ) (Good : Type 0) (r : Lookups) (channels code : ℕ)
     (answer : TexAnswer) (out_old out_new : List ℕ) (old new : ClientState) : Type 0 where
   pub cache : new.cache ≡ old.cache
   pub ok : code ≡ 0 → Answers supplied_files file old.cache.gate.cut r old.pass.view new.pass.view
@@ -62,15 +61,14 @@ pub record SaysLookup (file : ℕ) (Good : Type 0) (r : LookupRequest) (channels
       → ((code ≡ 0) × (answer.generation ≡ known.generation))
       ⊎ (known.generation < slice_index new.pass.view.seen file))
 
--- why a lookup in the microcache alone is not answered: it is refused, or the microcache has not
--- all that it needs
-abbrev pub IsNotLocal : ℕ → Type 0 → LookupRequest → ℕ → ℕ → ℕ → ClientState → ClientState → Type 0
+-- why a lookup from the microcache alone fails: its request is refused, or a cell is not there
+abbrev pub IsNotLocal : ℕ → Type 0 → Lookups → ℕ → ℕ → ℕ → ClientState → ClientState → Type 0
 IsNotLocal file Good r channels room code old new =
     RefusesLookup (files_of old) file Good channels room code
     ⊎ ((code ≡ 7) × ¬ IsSomeAnd old.pass.latest (ServesLocally file r old.pass new.pass))
 
--- The same of a lookup in the microcache alone.
-pub record SaysLocally (file : ℕ) (Good : Type 0) (r : LookupRequest) (channels code : ℕ)
+-- What a lookup from the microcache alone answers, and what state it leaves.
+pub record SaysLocally (file : ℕ) (Good : Type 0) (r : Lookups) (channels code : ℕ)
     (answer : TexAnswer) (out_old out_new : List ℕ) (old new : ClientState) : Type 0 where
   pub cache : new.cache ≡ old.cache
   pub tap : new.tap ≡ old.tap
@@ -80,9 +78,9 @@ pub record SaysLocally (file : ℕ) (Good : Type 0) (r : LookupRequest) (channel
   pub err : ¬ (code ≡ 0) → out_new ≡ out_old
   pub cause : ¬ (code ≡ 0) → IsNotLocal file Good r channels (length out_old) code old new
 
--- ---- a file, a region
+-- ---- files and regions
 
--- What a file is said to be: what its bytes show, of the generation that is answered.
+-- What `info` answers: the size, depth, channels and levels in the answered generation.
 pub record SaysInfo (file code : ℕ) (answer : TexAnswer) (info : TexInfo) (old new : ClientState)
     : Type 0 where
   pub cache : new.cache ≡ old.cache
@@ -93,7 +91,7 @@ pub record SaysInfo (file code : ℕ) (answer : TexAnswer) (info : TexInfo) (old
       (HasCause (around supplied_files file old.cache.gate.cut old.pass new.pass
       (tap_state old.tap) (tap_state new.tap)) Never InfoRefuses) new.tap code answer
 
--- The values of a region are those of the level in the bytes of the generation that is answered.
+-- What a read of a region answers: the level's values in the answered generation's bytes.
 pub record SaysRegion (file : ℕ) (region : TexRegion) (code : ℕ) (answer : TexAnswer)
     (out_old out_new : List ℕ) (old new : ClientState) : Type 0 where
   pub cache : new.cache ≡ old.cache
@@ -112,7 +110,7 @@ pub record SaysRegion (file : ℕ) (region : TexRegion) (code : ℕ) (answer : T
 
 -- ---- tiles
 
--- The cell of a texel is held: of the generation that is answered, and told by its bytes.
+-- What `get_tile` answers: the cell of the texel, in the answered generation, is held.
 pub record SaysTile (file : ℕ) (at : TexelAt) (code : ℕ) (answer : TexAnswer)
     (old new : ClientState) : Type 0 where
   pub cache : new.cache ≡ old.cache
@@ -123,7 +121,7 @@ pub record SaysTile (file : ℕ) (at : TexelAt) (code : ℕ) (answer : TexAnswer
       (tap_state old.tap) (tap_state new.tap)) (NoFurtherHold old.pass) (TileRefuses at))
       new.tap code answer
 
--- The tile that is held at a place: its rectangle and the samples of a texel.
+-- What is answered about a held tile: its rectangle and the number of samples per texel.
 pub record SaysHeld (place code : ℕ) (out : TexTile) (old new : ClientState) : Type 0 where
   pub same : new ≡ old
   pub ok : code ≡ 0 → IsSomeAnd (slice_get old.pass.pinned.holds place) (λ tile.
@@ -131,7 +129,7 @@ pub record SaysHeld (place code : ℕ) (out : TexTile) (old new : ClientState) :
       × (out.h ≡ tile.rect.h) × (out.channels ≡ tile.channels))
   pub cause : ¬ (code ≡ 0) → (code ≡ 8) × (length old.pass.pinned.holds ≤ place)
 
--- The hold at a place is released. It is refused where there is none, or where the waiter gave up.
+-- The hold at a place is released. This fails if none exists, or if the waiter gave up on a lock.
 pub record SaysRelease (place code : ℕ) (old new : ClientState) : Type 0 where
   pub cache : new.cache ≡ old.cache
   pub tap : new.tap ≡ old.tap
@@ -139,13 +137,13 @@ pub record SaysRelease (place code : ℕ) (old new : ClientState) : Type 0 where
   pub cause : ¬ (code ≡ 0) → ((code ≡ 8) × (length old.pass.pinned.holds ≤ place))
       ⊎ ((code ≡ 19) × (place < length old.pass.pinned.holds))
 
--- why the samples of a row of a tile are not answered: it has no such row, or there is no room
+-- why a row of a tile is not copied: the tile has no such row, or the buffer is too small
 abbrev pub RefusesRow : CachedTile → ℕ → ℕ → ℕ → Type 0
 RefusesRow tile row room code =
     ((code ≡ 9) × ((tile.rect.h ≤ row) ⊎ (2 ^ 32 ≤ tile.rect.y + row)))
     ⊎ ((code ≡ 5) × (room < tile.rect.w * tile.channels))
 
--- The samples of a row of a tile: those of its texels, which are told by the bytes of its
+-- What a read of a row of a tile answers: the samples of its texels, which are those of the tile's
 -- generation.
 pub record SaysTileRow (tile : CachedTile) (row code : ℕ) (out_old out_new : List ℕ)
     : Type 0 where
@@ -156,7 +154,7 @@ pub record SaysTileRow (tile : CachedTile) (row code : ℕ) (out_old out_new : L
   pub err : ¬ (code ≡ 0) → out_new ≡ out_old
   pub cause : ¬ (code ≡ 0) → RefusesRow tile row (length out_old) code
 
--- The same of the tile that is held at a place.
+-- What a read of a row of a held tile answers.
 pub record SaysRow (place row code : ℕ) (out_old out_new : List ℕ) (old new : ClientState)
     : Type 0 where
   pub same : new ≡ old
@@ -164,9 +162,9 @@ pub record SaysRow (place row code : ℕ) (out_old out_new : List ℕ) (old new 
       ⊎ IsSomeAnd (slice_get old.pass.pinned.holds place) (λ tile.
       SaysTileRow tile row code out_old out_new)
 
--- ---- files that are made invalid
+-- ---- freshness checks
 
--- A file was made invalid, with this answer.
+-- One file was checked for a newer generation, with this answer.
 pub record SaysInvalid (file : ℕ) (force : Bool) (code : ℕ) (answer : TexAnswer)
     (old new : ClientState) : Type 0 where
   pub cache : new.cache ≡ old.cache
@@ -175,7 +173,7 @@ pub record SaysInvalid (file : ℕ) (force : Bool) (code : ℕ) (answer : TexAns
   pub cause : ¬ (code ≡ 0) → IsUnanswered (RefusesFile (files_of old) file)
       (InvalidCause (tap_state old.tap) (tap_state new.tap)) new.tap code answer
 
--- So was each that is known.
+-- Every known file was checked for a newer generation.
 pub record SaysAllInvalid (code : ℕ) (answer : TexAnswer) (old new : ClientState) : Type 0 where
   pub cache : new.cache ≡ old.cache
   pub ok : code ≡ 0 → MakesAllInvalid supplied_files old.cache.gate (files_of old)

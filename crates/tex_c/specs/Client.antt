@@ -1,8 +1,8 @@
--- What has a caller in C of a cache, and what does a call leave of it?
+-- Which state is behind a C handle, and what does a call change of it?
 use Rattle.image_cache.specs.Pass.{CacheState, PassState}
 use Rattle.tex_c.specs.declared.tap.SuppliedTap.{SuppliedTap}
 
--- the cache, which others may share, a pass of it, and what was supplied for the call at hand
+-- the shared cache, a pass of it, and what was supplied for the current call
 pub record ClientState : Type 0 where
   pub cache : CacheState
   pub pass : PassState

@@ -1,11 +1,11 @@
--- Which number has a refusal in C?
+-- Which code does each error have in C?
 use Rattle.std.specs.Prelude.{ℕ}
 use Rattle.image_cache.specs.declared.error.CacheError.{CacheError}
 use Rattle.image_cache.specs.declared.error.CacheError.TheVariants as refused
 use Rattle.tex_c.specs.declared.supply.SupplyError.{SupplyError}
 use Rattle.tex_c.specs.declared.supply.SupplyError.TheVariants as supplied
 
--- the number of a refused call
+-- the code of a call that failed
 abbrev pub code_of : {B : Type 0} → CacheError B → ℕ
 code_of (refused.BadFile generation fault) = 10
 code_of (refused.TileTooLarge generation) = 11
@@ -18,7 +18,7 @@ code_of refused.ReadFault = 17
 code_of refused.NoMemory = 18
 code_of (refused.Busy b) = 19
 
--- the number of a refused supply
+-- the code of a supply that was not accepted
 abbrev pub supply_code_of : SupplyError → ℕ
 supply_code_of supplied.NotNeeded = 20
 supply_code_of supplied.OtherPlace = 21

@@ -1,4 +1,4 @@
--- What do the exports leave that are no calls of the cache: making one, splitting it, supplies?
+-- What do the other C calls leave: making a cache, splitting a pass, supplying?
 use Rattle.std.specs.Prelude.{◌≡◌, ◌⊎◌, ℕ, ◌<◌, List, Option, Some, IsSomeAnd}
 use Rattle.tex_world.specs.World.{max_files}
 use Rattle.image_cache.specs.Pass.{IsNewCache, IsFirstPass, IsSecondPass}
@@ -17,7 +17,7 @@ use Rattle.tex_c.specs.Unanswered.{IsRefusedSupply}
 
 -- ---- a cache and its passes
 
--- what a cache is made with
+-- the cache's options, from those that C wrote
 abbrev pub options_of : TexOptions → Options
 options_of o = record {
   budget = o.budget;
@@ -28,13 +28,12 @@ options_of o = record {
   slots = o.slots;
 }
 
--- a new cache of so many files, and its first pass
+-- a new cache of `files` files, and its first pass
 pub record IsMade (o : TexOptions) (files : ℕ) (made : ClientState) : Type 0 where
   pub cache : IsNewCache (options_of o) files made.cache
   pub pass : IsFirstPass made.cache made.pass
 
--- why none was made: there are too many files, an option is out of its range, or no memory was
--- found
+-- why no cache was made: too many files, an option out of range, or out of memory
 abbrev pub IsNotMade : TexOptions → ℕ → ℕ → TexAnswer → Type 0
 IsNotMade o files code answer = ((code ≡ 4) × (max_files < files))
     ⊎ (((code ≡ 2) × (first_bad (options_of o) ≡ Some answer.detail)) ⊎ (code ≡ 18))
@@ -46,30 +45,30 @@ pub record IsSplitOff (old second : ClientState) : Type 0 where
 
 -- ---- supplies
 
--- Cache and pass are as they were.
+-- The cache and the pass are unchanged.
 pub record KeepsRest (old new : ClientState) : Type 0 where
   pub cache : new.cache ≡ old.cache
   pub pass : new.pass ≡ old.pass
 
--- the room has bytes, and P is so of them
+-- the buffer has bytes, and `P` holds of them
 abbrev pub HasBytes : Option Bytes → (List ℕ → Type 0) → Type 0
 HasBytes room P = IsSomeAnd room (λ b. P b.items.items)
 
--- What a look that is supplied leaves.
+-- What the supply of a file's generation and length leaves.
 pub record SaysLook (file generation code : ℕ) (old new : ClientState) : Type 0 where
   pub rest : KeepsRest old new
   pub same : KeepsSupplies old.tap new.tap
   pub ok : code ≡ 0 → FitsLook old.tap.need file generation
   pub cause : ¬ (code ≡ 0) → IsRefusedSupply (LookCause old.tap.need file generation) code
 
--- The same of several.
+-- What the supply of several files' generations and lengths leaves.
 pub record SaysLooks (looks : List Seen) (code : ℕ) (old new : ClientState) : Type 0 where
   pub rest : KeepsRest old new
   pub same : KeepsSupplies old.tap new.tap
   pub cause : ¬ (code ≡ 0) → IsRefusedSupply (LooksCause old.tap.need looks) code
 
--- What bytes leave that are supplied: they are taken only where they are what is lacking, and
--- refused for their cause.
+-- What the supply of bytes leaves: they are accepted only if they are what is needed, and otherwise
+-- the code names the cause.
 pub record SaysBytes (file generation at size code : ℕ) (old new : ClientState) : Type 0 where
   pub rest : KeepsRest old new
   pub state : tap_state new.tap ≡ tap_state old.tap
@@ -77,7 +76,7 @@ pub record SaysBytes (file generation at size code : ℕ) (old new : ClientState
   pub err : ¬ (code ≡ 0) → KeepsBytes old.tap new.tap
   pub cause : ¬ (code ≡ 0) → IsRefusedSupply (BytesCause old.tap.need file generation at size) code
 
--- The same of rows.
+-- What the supply of rows leaves: they are accepted only if they are what is needed.
 pub record SaysRows (place : RowsAt) (size code : ℕ) (old new : ClientState) : Type 0 where
   pub rest : KeepsRest old new
   pub state : tap_state new.tap ≡ tap_state old.tap

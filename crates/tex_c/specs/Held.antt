@@ -9,7 +9,7 @@ use Rattle.std.specs.Global.{Global}
 use Rattle.std_heap.specs.contracts.GlobalAllocator.TheImpl.{ghosts}
 use Rattle.tex_c.specs.contracts.client.Client.{the_row}
 
--- where there is a client, the box that it lies in
+-- a handle with a client owns the box of the client
 abbrev pub held_owns : Global → Ptr → Option the_row.Denot → Fml
 held_owns alloc at None = ftrue
 held_owns alloc at (Some client) = box_owns (ghosts.dealloc_token alloc) the_row at client

@@ -11,4 +11,5 @@ pub mod Answer
 pub mod Request
 pub mod Unanswered
 pub mod Calls
+pub mod Batch
 pub mod Exports

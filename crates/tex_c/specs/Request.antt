@@ -1,4 +1,4 @@
--- What does a request of C ask for, and which can be asked?
+-- What does a C request ask for, and which requests are in range?
 use Rattle.std.specs.Prelude.{ℕ, ◌<◌, ◌==◌, if◌then◌else◌}
 use Rattle.tiff_format.specs.declared.info.Info.{Info}
 use Rattle.texel_values.specs.declared.region.Region.{Region}
@@ -16,25 +16,25 @@ use Rattle.tex_c.specs.declared.request.TexLookup.{TexLookup}
 use Rattle.tex_c.specs.declared.saying.TexInfo.{TexInfo}
 use Rattle.tex_c.specs.declared.saying.TexRegion.{TexRegion}
 
--- the wrap of a number below 4
+-- the wrap with this number, which is below 4
 abbrev pub wrap_of : ℕ → Wrap
 wrap_of n = if n == 0 then wrap.Black else if n == 1 then wrap.Clamp
     else if n == 2 then wrap.Periodic else wrap.Mirror
 
--- the filter of a number below 3
+-- the filter with this number, which is below 3
 abbrev pub filter_of : ℕ → Filter
 filter_of n = if n == 0 then by.Closest else if n == 1 then by.Bilinear else by.Trilinear
 
 -- ---- lookups at a place
 
--- Each number is in its range.
+-- Each number of a lookup at a place is in its range.
 pub record IsPoint (l : TexLookup) : Type 0 where
   pub swrap : l.swrap < 4
   pub twrap : l.twrap < 4
   pub filter : l.filter < 3
   pub channels : IsChannelCount l.channels
 
--- what is then asked for
+-- the lookup at a place that such a request asks for
 abbrev pub point_of : TexLookup → TexRequest
 point_of l = record {
   s = l.s;
@@ -48,7 +48,7 @@ point_of l = record {
 
 -- ---- lookups along a footprint
 
--- Coordinates and derivatives are in their range.
+-- The coordinates and derivatives are in their range.
 pub record AreDerivNumbers (l : TexLookup) : Type 0 where
   pub s : IsDerivNumber l.s
   pub t : IsDerivNumber l.t
@@ -57,14 +57,14 @@ pub record AreDerivNumbers (l : TexLookup) : Type 0 where
   pub dsdy : IsDerivNumber l.dsdy
   pub dtdy : IsDerivNumber l.dtdy
 
--- Each number is in its range.
+-- Each number of a lookup along a footprint is in its range.
 pub record IsFootprint (l : TexLookup) : Type 0 where
   pub numbers : AreDerivNumbers l
   pub swrap : l.swrap < 4
   pub twrap : l.twrap < 4
   pub channels : IsChannelCount l.channels
 
--- what is then asked for
+-- the lookup along a footprint that such a request asks for
 abbrev pub footprint_of : TexLookup → DerivRequest
 footprint_of l = record {
   s = l.s;
@@ -78,17 +78,17 @@ footprint_of l = record {
   nch = l.channels;
 }
 
--- ---- regions, and what a file is
+-- ---- regions and files
 
--- the region that C asks for
+-- the region that C asks for, as the cache names it
 abbrev pub region_of : TexRegion → Region
 region_of r = record { level = r.level; x = r.x; y = r.y; w = r.w; h = r.h }
 
--- the texel that C asks for
+-- the texel that C asks for, as the cache names it
 abbrev pub texel_of : TexTexel → TexelAt
 texel_of t = record { level = t.level; x = t.x; y = t.y }
 
--- what C is told of a file
+-- the description of a file, in C's form
 abbrev pub told_info : Info → TexInfo
 told_info info = record {
   width = info.width;

@@ -1,4 +1,4 @@
--- What does a room of C own? Bytes in a box, or nothing.
+-- What does a C buffer own? Bytes in a box, or nothing.
 use base.Fml.{Fml, ftrue}
 use base.Stored.{Coded}
 use denote.RawPtr.{Ptr}
@@ -9,7 +9,7 @@ use Rattle.std.specs.Global.{Global}
 use Rattle.std_heap.specs.contracts.GlobalAllocator.TheImpl.{ghosts}
 use Rattle.tex_c.specs.contracts.bytes.Bytes.{the_row}
 
--- where there are bytes, the box that they lie in
+-- a buffer with bytes owns the box of the bytes
 abbrev pub room_owns : Global → Ptr → Option the_row.Denot → Fml
 room_owns alloc at None = ftrue
 room_owns alloc at (Some bytes) = box_owns (ghosts.dealloc_token alloc) the_row at bytes

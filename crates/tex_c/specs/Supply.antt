@@ -1,4 +1,4 @@
--- Which supplies are what is lacking, and why is another refused?
+-- Which supplies are what a call needs, and why is another one not accepted?
 use Rattle.std.specs.Prelude.{◌≡◌, ◌⊎◌, ℕ, ◌+◌, ◌<◌, ◌≤◌, ⊤, Option, None, Some, List, [], ◌∷◌}
 use Rattle.tex_world.specs.World.{last_generation}
 use Rattle.tex_c.specs.declared.supply.Need.{Need}
@@ -8,21 +8,21 @@ use Rattle.tex_c.specs.declared.supply.Seen.{Seen}
 use Rattle.tex_c.specs.declared.supply.SupplyError.{SupplyError}
 use Rattle.tex_c.specs.declared.supply.SupplyError.TheVariants as refused
 
--- What is lacking is a look, or bytes in whose place a newer look may come: P is so of the file and
--- of the least generation.
+-- The call needs a freshness check, or bytes for which a newer generation may be supplied instead.
+-- `P` holds of the file and of the least generation.
 abbrev pub LacksLook : Option Need → (ℕ → ℕ → Type 0) → Type 0
 LacksLook None P = ⊥
 LacksLook (Some (Look file least)) P = P file least
 LacksLook (Some (Bytes file generation at least most)) P = P file (generation + 1)
 LacksLook (Some (Rows rows size)) P = P rows.file (rows.generation + 1)
 
--- a look at a generation of a file, which it may have, is what is lacking
+-- this look shows a possible generation of the file, and is what the call needs
 abbrev pub FitsLook : Option Need → ℕ → ℕ → Type 0
 FitsLook need file generation =
     LacksLook need (λ f least. (f ≡ file) × (least ≤ generation))
     × (1 ≤ generation) × (generation ≤ last_generation)
 
--- why a look is refused
+-- why a look is not accepted
 abbrev pub LookCause : Option Need → ℕ → ℕ → SupplyError → Type 0
 LookCause need file generation refused.NotNeeded = need ≡ None
 LookCause need file generation refused.OtherPlace = LacksLook need (λ f _. ¬ (f ≡ file))
@@ -32,25 +32,25 @@ LookCause need file generation refused.OtherGeneration =
 LookCause need file generation refused.NoMemory = ⊤
 LookCause need file generation e = ⊥
 
--- why several are: there are none, or the first is refused
+-- why several looks are not accepted: there are none, or the first is not accepted
 abbrev pub LooksCause : Option Need → List Seen → SupplyError → Type 0
 LooksCause need [] e = e ≡ refused.Short
 LooksCause need (first ∷ more) e = LookCause need first.file first.generation e
 
--- What is lacking is a stretch of bytes: P is so of its file, its generation, its place, and of how
--- many there have to be and may be.
+-- The call needs bytes. `P` holds of the file, the generation, the place, and the least and the
+-- greatest number of bytes.
 abbrev pub LacksBytes : Option Need → (ℕ → ℕ → ℕ → ℕ → ℕ → Type 0) → Type 0
 LacksBytes None P = ⊥
 LacksBytes (Some (Look file least)) P = ⊥
 LacksBytes (Some (Bytes file generation at least most)) P = P file generation at least most
 LacksBytes (Some (Rows rows size)) P = ⊥
 
--- so many bytes of a generation of a file from a place on are what is lacking
+-- these bytes are what the call needs
 abbrev pub FitsBytes : Option Need → ℕ → ℕ → ℕ → ℕ → Type 0
 FitsBytes need file generation at size = LacksBytes need (λ f g a least most.
     (f ≡ file) × (g ≡ generation) × (a ≡ at) × (least ≤ size) × (size ≤ most))
 
--- why they are refused
+-- why bytes are not accepted
 abbrev pub BytesCause : Option Need → ℕ → ℕ → ℕ → ℕ → SupplyError → Type 0
 BytesCause need file generation at size refused.NotNeeded = ¬ LacksBytes need (λ _ _ _ _ _. ⊤)
 BytesCause need file generation at size refused.OtherPlace =
@@ -65,22 +65,22 @@ BytesCause need file generation at size refused.Long =
     LacksBytes need (λ _ _ _ _ most. most < size)
 BytesCause need file generation at size refused.NoMemory = ⊤
 
--- What is lacking is rows: P is so of them, and of how many bytes they have.
+-- The call needs rows. `P` holds of the rows and of their number of bytes.
 abbrev pub LacksRows : Option Need → (RowsAt → ℕ → Type 0) → Type 0
 LacksRows None P = ⊥
 LacksRows (Some (Look file least)) P = ⊥
 LacksRows (Some (Bytes file generation at least most)) P = ⊥
 LacksRows (Some (Rows rows size)) P = P rows size
 
--- these rows, of so many bytes, are what is lacking
+-- these rows are what the call needs
 abbrev pub FitsRows : Option Need → RowsAt → ℕ → Type 0
 FitsRows need p size = LacksRows need (λ q whole. (q ≡ p) × (whole ≡ size))
 
--- they stand at other places
+-- the two name different places
 abbrev pub AreElsewhere : RowsAt → RowsAt → Type 0
 AreElsewhere p q = ¬ ((p.file ≡ q.file) × (p.at ≡ q.at) × (p.stride ≡ q.stride) × (p.row ≡ q.row))
 
--- why rows are refused
+-- why rows are not accepted
 abbrev pub RowsCause : Option Need → RowsAt → ℕ → SupplyError → Type 0
 RowsCause need p size refused.NotNeeded = ¬ LacksRows need (λ _ _. ⊤)
 RowsCause need p size refused.OtherPlace = LacksRows need (λ q _. AreElsewhere q p)

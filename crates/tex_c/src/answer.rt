@@ -1,4 +1,4 @@
-//! What a call tells C: a number, and what belongs to it.
+//! The answer of a call to C: a code, and the numbers that go with it.
 ghost use Rattle.std.specs.Prelude.{◌≡◌};
 ghost use Rattle.tex_c.specs.Answer.{SaysNeed};
 ghost use Rattle.tex_c.specs.Answer as said;
@@ -8,16 +8,16 @@ use crate::supply::{Need, SupplyError};
 use image_cache::CacheError;
 use tiff_format::TiffFault;
 
-/// It is answered.
+/// The call is answered.
 pub const ANSWERED: u32 = 0;
 
-/// Something is lacking. Once it is supplied the same call goes on.
+/// The call needs bytes or a freshness check. Supply it and call again: the same call goes on.
 pub const NEEDED: u32 = 1;
 
 /// An option is out of its range.
 pub const BAD_OPTIONS: u32 = 2;
 
-/// There is no file of this number.
+/// No file has this number.
 pub const NO_FILE: u32 = 3;
 
 /// A number of the request is out of its range.
@@ -26,56 +26,56 @@ pub const BAD_REQUEST: u32 = 4;
 /// The buffer is too small.
 pub const SMALL_BUFFER: u32 = 5;
 
-/// The pass has one permit.
+/// The pass has only one permit left, so it cannot be split.
 pub const NO_PERMIT: u32 = 6;
 
-/// The microcache has not all that the lookup needs.
+/// The microcache does not have every cell that the lookup needs.
 pub const NOT_LOCAL: u32 = 7;
 
-/// No tile is held at that place.
+/// The pass holds no tile at that place.
 pub const NOTHING_HELD: u32 = 8;
 
-/// The shard or the row is none.
+/// The shard or the row does not exist.
 pub const NO_PART: u32 = 9;
 
-/// No memory was found.
+/// Out of memory.
 pub const NO_MEMORY: u32 = 18;
 
-/// The waiter gave up.
+/// The waiter gave up on a lock.
 pub const BUSY: u32 = 19;
 
-/// A call's answer beside its number. Fields that it does not fill are 0.
+/// What a call answers besides its code. Fields that do not apply are 0.
 #[repr(C)]
 #[derive(Clone, Copy, Debug, PartialEq, Eq)]
 pub struct TexAnswer {
-    /// The generation of the file that is answered, or that the refusal is of.
+    /// The generation that was answered, or for which the call failed.
     pub generation: u32,
     /// The newer generation that was met.
     pub newer: u32,
-    /// The fault's number, the number of a bad option, or how many levels there are.
+    /// The number of the file fault, the number of the bad option, or the number of levels.
     pub detail: u32,
-    /// The tag, or the level, that the fault is of.
+    /// The tag or the level that the file fault names.
     pub part: u32,
-    /// The value, or the index, that the fault is of; how many values there are.
+    /// The value or the index that the file fault names, or the number of values.
     pub value: u64,
-    /// The values of each texel.
+    /// The number of values per texel.
     pub channels: u32,
-    /// What is lacking: 0 nothing, 1 a look at a file, 2 bytes of it, 3 rows of it.
+    /// What the call needs: 0 nothing, 1 a freshness check of a file, 2 bytes of it, 3 rows of it.
     pub need: u32,
     pub need_file: u32,
-    /// The generation that a look is to be of at least, or that the bytes are to be of.
+    /// The least generation that the check must show, or the generation whose bytes are needed.
     pub need_generation: u32,
     pub need_at: u64,
-    /// How many bytes there have to be, and may be.
+    /// The least and the greatest number of bytes to supply.
     pub need_least: u64,
     pub need_most: u64,
-    /// Of rows: each begins so many bytes behind the one before, and has so many.
+    /// For rows: the distance from one row to the next, and the length of a row, in bytes.
     pub need_stride: u64,
     pub need_row: u64,
 }
 
 impl TexAnswer {
-    /// An answer that says nothing.
+    /// An answer with all fields 0.
     pub(crate) fn blank() -> TexAnswer
         ensures { result ≡ said.blank }
     {
@@ -97,7 +97,7 @@ impl TexAnswer {
         }
     }
 
-    /// An answer of this generation.
+    /// An answer that names this generation.
     pub(crate) fn of(generation: u32) -> TexAnswer
         ensures { result ≡ said.of_generation generation }
     {
@@ -107,7 +107,7 @@ impl TexAnswer {
         }
     }
 
-    /// What is lacking.
+    /// An answer that names what the call needs.
     pub(crate) fn of_need(need: Need) -> TexAnswer
         ensures { SaysNeed result need }
     {
@@ -147,7 +147,7 @@ impl TexAnswer {
         }
     }
 
-    /// What belongs to a refusal.
+    /// The numbers that go with an error.
     pub(crate) fn of_refusal<B>(e: &CacheError<B>) -> TexAnswer
         ensures { result ≡ said.of_refusal e.now }
     {
@@ -172,7 +172,7 @@ impl TexAnswer {
     }
 }
 
-/// What belongs to a fault of a file.
+/// The numbers that go with a file fault.
 fn of_fault(generation: u32, fault: &TiffFault) -> TexAnswer
     ensures { result ≡ said.answer_of_fault generation fault.now }
 {
@@ -184,7 +184,7 @@ fn of_fault(generation: u32, fault: &TiffFault) -> TexAnswer
     }
 }
 
-/// The tag, or the level, that a fault is of.
+/// The tag or the level that a file fault names; 0 if none.
 fn part_of(fault: &TiffFault) -> u32
     ensures { result ≡ said.part_of fault.now }
 {
@@ -197,7 +197,7 @@ fn part_of(fault: &TiffFault) -> u32
     }
 }
 
-/// The value, or the index, that it is of.
+/// The value or the index that a file fault names; 0 if none.
 fn value_of(fault: &TiffFault) -> u64
     ensures { result ≡ said.value_of fault.now }
 {
@@ -208,7 +208,7 @@ fn value_of(fault: &TiffFault) -> u64
     }
 }
 
-/// The number of a refusal.
+/// The code of an error, 10 to 19.
 pub(crate) fn code_of<B>(e: &CacheError<B>) -> u32
     ensures { result ≡ spec.code_of e.now }
 {
@@ -226,7 +226,7 @@ pub(crate) fn code_of<B>(e: &CacheError<B>) -> u32
     }
 }
 
-/// The number of a refused supply.
+/// The code of a supply that was not accepted, from 20 up.
 pub(crate) fn supply_code_of(e: SupplyError) -> u32
     ensures { result ≡ spec.supply_code_of e }
 {

@@ -1,6 +1,6 @@
-//! Bytes that a caller fills.
+//! A buffer of bytes that a C caller fills.
 
-/// Bytes that a caller fills.
+/// A buffer of bytes that a C caller fills.
 #[derive(Drop)]
 pub struct Bytes {
     pub(crate) items: Vec<u8>,

@@ -1,5 +1,5 @@
-//! What a caller in C has of a cache: the cache, which others may share, a pass of it, and what was
-//! supplied for the call at hand.
+//! The state behind a C handle: a shared cache, a pass of it, and the bytes supplied for the
+//! current call.
 ghost use Rattle.std.specs.Prelude.{◌≡◌, ◌≤◌, IfOk, IfErr};
 ghost use Rattle.std.specs.Arc.{arc_value};
 ghost use Rattle.tex_world.specs.World.{max_files};
@@ -18,7 +18,7 @@ use std::sync::Arc;
 use tex_world::NoMemory;
 use waiter::GaveUp;
 
-/// What a caller in C has of a cache. In a clause it is the cache, the pass and the tap.
+/// The state behind a C handle. Clauses see its cache, pass and tap.
 #[derive(Drop)]
 pub struct Client {
     pub(crate) alloc: Global,
@@ -26,13 +26,13 @@ pub struct Client {
     pub(crate) pass: Pass<SuppliedWorld>,
     pub(crate) tap: SuppliedTap,
     files: u32,
-    /// The counts of the pass when the round began.
+    /// The counts of the pass when the current round began.
     begun: PassCounts,
-    /// What was counted in rounds that lacked something, and is counted again as the call goes on.
+    /// What unfinished rounds counted. The call will count it again, so it is subtracted.
     twice: PassCounts,
 }
 
-/// Needs, hits, and needs that are answered apart.
+/// Numbers of needs, of hits and of uncached needs.
 #[derive(Clone, Copy, Debug)]
 struct PassCounts {
     needs: u64,
@@ -62,7 +62,7 @@ impl Model for Client {
 }
 
 impl Client {
-    /// A cache of so many files, and its first pass.
+    /// Makes a cache of `files` files, and its first pass.
     pub(crate) fn new(alloc: Global, options: Options, files: u32) -> Result<Client, NewError>
         requires files { files ≤ max_files }
         ensures cache { IfOk result (λ c. IsNewCache options files c.cache) }
@@ -82,7 +82,7 @@ impl Client {
         })
     }
 
-    /// A second pass of the cache, with one permit of this one, for another thread.
+    /// Makes a second pass of the same cache for another thread. It takes one permit of this one.
     pub(crate) fn split(&mut self) -> Result<Client, SplitError>
         ensures ok { IfOk result (λ c.
             (c.cache ≡ self.old.cache) × IsSecondPass self.old.pass c.pass) }
@@ -103,7 +103,7 @@ impl Client {
         })
     }
 
-    /// How many files there are.
+    /// The number of files.
     pub(crate) fn files(&self) -> u32
         ensures value { result ≡ self.now.cache.files.board.files }
         ensures few { result ≤ max_files }
@@ -111,7 +111,7 @@ impl Client {
         self.files
     }
 
-    /// A round begins: nothing is lacking yet.
+    /// Begins a round: the call needs nothing yet.
     #[inline(always)]
     pub(crate) fn begin(&mut self)
         ensures cache { self.new.cache ≡ self.old.cache }
@@ -122,7 +122,7 @@ impl Client {
         self.begun = self.counted();
     }
 
-    /// The call is answered, or refused: what was supplied for it is given up.
+    /// Ends a call that was answered or failed, and drops what was supplied for it.
     #[inline(always)]
     pub(crate) fn end(&mut self)
         ensures cache { self.new.cache ≡ self.old.cache }
@@ -132,7 +132,7 @@ impl Client {
         self.tap.end();
     }
 
-    /// The round lacks something, or room for its answer: what it counted will be counted again.
+    /// Ends a round that will be repeated, so that its counts can be subtracted.
     pub(crate) fn count_twice(&mut self)
         ensures cache { self.new.cache ≡ self.old.cache }
         ensures pass { self.new.pass ≡ self.old.pass }
@@ -153,7 +153,7 @@ impl Client {
         };
     }
 
-    /// The counts of the pass.
+    /// The current counts of the pass.
     fn counted(&self) -> PassCounts {
         PassCounts {
             needs: self.pass.needs(),
@@ -162,22 +162,22 @@ impl Client {
         }
     }
 
-    /// How many cells the answered calls needed.
+    /// The number of cells that finished calls needed.
     pub(crate) fn needs(&self) -> u64 {
         self.pass.needs().saturating_sub(self.twice.needs)
     }
 
-    /// How many of these the microcache had.
+    /// The number of needs that the microcache served.
     pub(crate) fn hits(&self) -> u64 {
         self.pass.hits().saturating_sub(self.twice.hits)
     }
 
-    /// How many were answered apart.
+    /// The number of needs that were uncached.
     pub(crate) fn apart(&self) -> u64 {
         self.pass.apart().saturating_sub(self.twice.apart)
     }
 
-    /// What a refused round says: what is lacking, where it was refused for that, else its cause.
+    /// Writes the answer of a failed round: what the call needs, or the cause of the error.
     pub(crate) fn refuse(&mut self, e: &CacheError<GaveUp>, answer: &mut TexAnswer) -> u32
         ensures says { Says e.now self.new.tap result answer.new }
         ensures other { ¬ (result ≡ 0) }
@@ -196,14 +196,14 @@ impl Client {
     }
 }
 
-/// A cache that others may share.
+/// Puts a cache into an `Arc`, so that other passes can share it.
 fn shared(alloc: Global, cache: Cache<SuppliedTap>) -> Result<Arc<Cache<SuppliedTap>>, NoMemory>
     ensures { IfOk result (λ c. arc_value c ≡ cache) }
 {
     Arc::new(alloc, cache).map_err(|_| NoMemory)
 }
 
-/// The same cache once more.
+/// A second reference to a shared cache.
 fn again(cache: &Arc<Cache<SuppliedTap>>) -> Result<Arc<Cache<SuppliedTap>>, NoMemory>
     ensures { IfOk result (λ c. arc_value c ≡ arc_value cache.now) }
 {

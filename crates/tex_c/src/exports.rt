@@ -1,6 +1,8 @@
-//! What C calls. Each call takes a handle by value and hands it back.
+//! The calls for C on files and lookups. Each takes a handle by value and returns it through `to`.
 ghost use Rattle.std.specs.Prelude.{◌≡◌, IsNone, IsSome, IsSomeAnd};
 ghost use Rattle.texture_sys.specs.declared.lookup_request.LookupRequest.TheVariants as asked;
+ghost use Rattle.texture_sys.specs.declared.lookup.Lookup.TheVariants as form;
+ghost use Rattle.texture_sys.specs.declared.lookup.Lookups.TheVariants.{One};
 ghost use Rattle.tex_c.specs.Calls.{Hands, SaysLookup, SaysLocally, SaysInfo, SaysRegion};
 ghost use Rattle.tex_c.specs.Calls.{SaysInvalid, SaysAllInvalid};
 ghost use Rattle.tex_c.specs.Exports.{IsMade, IsNotMade, IsSplitOff};
@@ -15,10 +17,10 @@ use crate::saying::{TexInfo, TexRegion};
 use image_cache::{NewError, SplitError};
 use std::alloc::Global;
 
-/// The most files that a folder can have.
+/// The greatest number of files of a folder.
 const MAX_FILES: u32 = 4096;
 
-/// A cache of so many files, and its first pass.
+/// Makes a cache of `files` files, and its first pass.
 #[unsafe(no_mangle)]
 pub extern "C" fn tex_c_new(
     alloc: Global,
@@ -52,7 +54,7 @@ pub extern "C" fn tex_c_new(
     }
 }
 
-/// A second pass, for another thread.
+/// Makes a second pass of the same cache, for another thread.
 #[unsafe(no_mangle)]
 pub extern "C" fn tex_c_split(alloc: Global, from: Held, to: &mut Held, second: &mut Held) -> u32
     requires from { IsSome from.value }
@@ -79,7 +81,7 @@ pub extern "C" fn tex_c_split(alloc: Global, from: Held, to: &mut Held, second: 
     }
 }
 
-/// A handle ends. The caller gives one that has nothing, and has that from then on.
+/// Frees a handle. The caller passes an empty handle as `none`, which is returned in its place.
 #[unsafe(no_mangle)]
 pub extern "C" fn tex_c_free(from: Held, none: Held, to: &mut Held)
     requires from { IsSome from.value }
@@ -90,7 +92,7 @@ pub extern "C" fn tex_c_free(from: Held, none: Held, to: &mut Held)
     *to = none;
 }
 
-/// What a file is.
+/// The size, depth, channels and levels of a file.
 #[unsafe(no_mangle)]
 pub extern "C" fn tex_c_info(
     from: Held,
@@ -109,7 +111,7 @@ pub extern "C" fn tex_c_info(
     code
 }
 
-/// The values of a lookup at a place.
+/// Looks up the values at a place.
 #[unsafe(no_mangle)]
 pub extern "C" fn tex_c_texture(
     from: Held,
@@ -121,7 +123,7 @@ pub extern "C" fn tex_c_texture(
 ) -> u32
     requires from { IsSome from.value }
     ensures { Hands from.value to.new.value (λ old new.
-        SaysLookup file (IsPoint lookup.now) (asked.Point (point_of lookup.now))
+        SaysLookup file (IsPoint lookup.now) (One (form.Coarse (asked.Point (point_of lookup.now))))
         lookup.now.channels result answer.new out.old out.new old new) }
 {
     let mut client = from.into_box();
@@ -130,7 +132,7 @@ pub extern "C" fn tex_c_texture(
     code
 }
 
-/// The values of a lookup along a footprint.
+/// Looks up the mean over a pixel's footprint.
 #[unsafe(no_mangle)]
 pub extern "C" fn tex_c_texture_d(
     from: Held,
@@ -142,7 +144,7 @@ pub extern "C" fn tex_c_texture_d(
 ) -> u32
     requires from { IsSome from.value }
     ensures { Hands from.value to.new.value (λ old new.
-        SaysLookup file (IsFootprint lookup.now) (asked.Footprint (footprint_of lookup.now))
+        SaysLookup file (IsFootprint lookup.now) (One (form.Coarse (asked.Footprint (footprint_of lookup.now))))
         lookup.now.channels result answer.new out.old out.new old new) }
 {
     let mut client = from.into_box();
@@ -151,7 +153,7 @@ pub extern "C" fn tex_c_texture_d(
     code
 }
 
-/// The values of a lookup at a place, where the microcache has all that it needs.
+/// Looks up the values at a place if the microcache has every cell needed. It needs no supplies.
 #[unsafe(no_mangle)]
 pub extern "C" fn tex_c_texture_local(
     from: Held,
@@ -163,7 +165,7 @@ pub extern "C" fn tex_c_texture_local(
 ) -> u32
     requires from { IsSome from.value }
     ensures { Hands from.value to.new.value (λ old new.
-        SaysLocally file (IsPoint lookup.now) (asked.Point (point_of lookup.now))
+        SaysLocally file (IsPoint lookup.now) (One (form.Coarse (asked.Point (point_of lookup.now))))
         lookup.now.channels result answer.new out.old out.new old new) }
 {
     let mut client = from.into_box();
@@ -172,7 +174,7 @@ pub extern "C" fn tex_c_texture_local(
     code
 }
 
-/// The values of a region.
+/// Reads the values of a region of a level.
 #[unsafe(no_mangle)]
 pub extern "C" fn tex_c_pixels(
     from: Held,
@@ -192,7 +194,7 @@ pub extern "C" fn tex_c_pixels(
     code
 }
 
-/// A file is made invalid.
+/// Checks one file for a newer generation; with `force` its cached tiles go in any case.
 #[unsafe(no_mangle)]
 pub extern "C" fn tex_c_invalidate(
     from: Held,
@@ -211,7 +213,7 @@ pub extern "C" fn tex_c_invalidate(
     code
 }
 
-/// Each file that is known is made invalid.
+/// Checks every known file for a newer generation.
 #[unsafe(no_mangle)]
 pub extern "C" fn tex_c_invalidate_all(from: Held, to: &mut Held, answer: &mut TexAnswer) -> u32
     requires from { IsSome from.value }

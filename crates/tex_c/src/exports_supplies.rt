@@ -1,4 +1,4 @@
-//! What C calls: supplies, and the room that they come in.
+//! The calls for C that supply what a call needs, and the buffers for it.
 ghost use Rattle.std.specs.Prelude.{◌≡◌, length, IfSome, IsNone, IsSome, IsSomeAnd};
 ghost use Rattle.tex_c.specs.Calls.{Hands};
 ghost use Rattle.tex_c.specs.Exports.{KeepsRest, HasBytes};
@@ -13,7 +13,7 @@ use crate::room::Room;
 use crate::supply::{RowsAt, Seen};
 use std::alloc::Global;
 
-/// What was seen of a file.
+/// Supplies the generation and the length of a file.
 #[unsafe(no_mangle)]
 pub extern "C" fn tex_c_supply_look(
     from: Held,
@@ -34,7 +34,8 @@ pub extern "C" fn tex_c_supply_look(
     code
 }
 
-/// What was seen of several files: the first is lacking, the others the call may ask for next.
+/// Supplies several files' generations and lengths. The first must be the one needed; the call may
+/// need the others next.
 #[unsafe(no_mangle)]
 pub extern "C" fn tex_c_supply_looks(from: Held, to: &mut Held, looks: &[Seen]) -> u32
     requires from { IsSome from.value }
@@ -48,8 +49,8 @@ pub extern "C" fn tex_c_supply_looks(from: Held, to: &mut Held, looks: &[Seen]) 
     code
 }
 
-/// Room for so many bytes, which is the caller's to fill until it comes back with a supply or by
-/// `tex_c_give_back`. The bytes begin at the place that is answered.
+/// Makes a buffer of `size` bytes and returns where its bytes begin. The caller fills it and hands
+/// it back with a supply or by `tex_c_give_back`.
 #[unsafe(no_mangle)]
 pub extern "C" fn tex_c_room(
     alloc: Global,
@@ -83,7 +84,7 @@ pub extern "C" fn tex_c_room(
     }
 }
 
-/// Room that is not needed.
+/// Takes back a buffer that is not needed.
 #[unsafe(no_mangle)]
 pub extern "C" fn tex_c_give_back(from: Held, to: &mut Held, room: Room)
     requires from { IsSome from.value }
@@ -96,8 +97,8 @@ pub extern "C" fn tex_c_give_back(from: Held, to: &mut Held, room: Room)
     *to = Held::of(client);
 }
 
-/// Bytes of a generation of a file, from a place on. Their room goes in with them, whatever is
-/// answered.
+/// Supplies bytes of one generation of a file, from a place on. The buffer is taken even if the
+/// supply is not accepted.
 #[unsafe(no_mangle)]
 pub extern "C" fn tex_c_supply_bytes(
     from: Held,
@@ -121,7 +122,7 @@ pub extern "C" fn tex_c_supply_bytes(
     code
 }
 
-/// The same of rows.
+/// Supplies rows of one generation of a file. The buffer is taken even if they are not accepted.
 #[unsafe(no_mangle)]
 pub extern "C" fn tex_c_supply_rows(from: Held, to: &mut Held, place: &RowsAt, room: Room) -> u32
     requires from { IsSome from.value }
@@ -138,7 +139,7 @@ pub extern "C" fn tex_c_supply_rows(from: Held, to: &mut Held, place: &RowsAt, r
     code
 }
 
-/// What is lacking cannot be had.
+/// Says that what the call needs cannot be read. The call then fails.
 #[unsafe(no_mangle)]
 pub extern "C" fn tex_c_supply_fault(from: Held, to: &mut Held) -> u32
     requires from { IsSome from.value }

@@ -1,4 +1,4 @@
-//! What C calls: tiles that are held, and counts.
+//! The calls for C on held tiles and on counts.
 ghost use Rattle.std.specs.Prelude.{◌≡◌, IsSome};
 ghost use Rattle.tex_c.specs.Calls.{Hands, SaysTile, SaysHeld, SaysRow, SaysRelease};
 ghost use Rattle.tex_c.specs.Request.{texel_of};
@@ -7,7 +7,7 @@ use crate::answer::TexAnswer;
 use crate::held::Held;
 use crate::holds::{TexCounts, TexShard, TexTexel, TexTile};
 
-/// The cell that holds a texel becomes the latest hold.
+/// Pins the tile that holds a texel, as the latest hold of the pass.
 #[unsafe(no_mangle)]
 pub extern "C" fn tex_c_get_tile(
     from: Held,
@@ -26,7 +26,7 @@ pub extern "C" fn tex_c_get_tile(
     code
 }
 
-/// The tile that is held at a place.
+/// Describes the tile that is held at a place.
 #[unsafe(no_mangle)]
 pub extern "C" fn tex_c_tile(from: Held, to: &mut Held, place: usize, out: &mut TexTile) -> u32
     requires from { IsSome from.value }
@@ -39,7 +39,7 @@ pub extern "C" fn tex_c_tile(from: Held, to: &mut Held, place: usize, out: &mut 
     code
 }
 
-/// The samples of a row of the tile that is held at a place.
+/// Copies the samples of one row of the tile that is held at a place.
 #[unsafe(no_mangle)]
 pub extern "C" fn tex_c_tile_row(
     from: Held,
@@ -58,7 +58,7 @@ pub extern "C" fn tex_c_tile_row(
     code
 }
 
-/// The hold at a place is released.
+/// Releases the hold at a place.
 #[unsafe(no_mangle)]
 pub extern "C" fn tex_c_release_tile(from: Held, to: &mut Held, place: usize) -> u32
     requires from { IsSome from.value }
@@ -71,7 +71,7 @@ pub extern "C" fn tex_c_release_tile(from: Held, to: &mut Held, place: usize) ->
     code
 }
 
-/// What the pass has counted.
+/// The counts of the pass.
 #[unsafe(no_mangle)]
 pub extern "C" fn tex_c_counts(from: Held, to: &mut Held, out: &mut TexCounts)
     requires from { IsSome from.value }
@@ -82,7 +82,7 @@ pub extern "C" fn tex_c_counts(from: Held, to: &mut Held, out: &mut TexCounts)
     *to = Held::of(client);
 }
 
-/// What a shard has.
+/// The counts and the memory of one shard.
 #[unsafe(no_mangle)]
 pub extern "C" fn tex_c_shard(from: Held, to: &mut Held, shard: u32, out: &mut TexShard) -> u32
     requires from { IsSome from.value }

@@ -1,4 +1,4 @@
-//! A file of the caller, open at one generation.
+//! A handle: a file of the caller at one generation.
 ghost use Rattle.std.specs.Prelude.{◌≡◌, ◌≤◌};
 ghost use Rattle.tex_world.specs.World.{last_generation};
 ghost use Rattle.tex_c.specs.Truth.{IsTrueLook};
@@ -8,7 +8,7 @@ use crate::supply::Look;
 use crate::world::SuppliedWorld;
 use tex_world::TapHandle;
 
-/// A file at a generation, with the length that it has at it. The caller keeps what is open.
+/// A file at one generation, with its length. The caller keeps what is really open.
 #[derive(Drop)]
 pub struct SuppliedHandle {
     file: u32,
@@ -20,7 +20,7 @@ pub struct SuppliedHandle {
 }
 
 impl SuppliedHandle {
-    /// The handle of a file as it was seen.
+    /// A handle of a file in the generation that was supplied.
     pub(crate) fn of(look: Look) -> SuppliedHandle
         ensures file { result.file ≡ look.file }
         ensures generation { result.generation ≡ look.generation }
@@ -33,7 +33,7 @@ impl SuppliedHandle {
         }
     }
 
-    /// The look that it stands for.
+    /// The file, generation and length of this handle.
     pub(crate) fn look(&self) -> Look
         ensures file { result.file ≡ self.now.file }
         ensures generation { result.generation ≡ self.now.generation }

@@ -1,4 +1,4 @@
-//! What a caller in C holds: a pointer to what it has of a cache.
+//! The handle that C code keeps: a pointer to its client.
 ghost use Rattle.std.specs.Prelude.{◌≡◌, Option, Some, IsSome};
 ghost use Rattle.tex_c.specs.Client.{ClientState};
 ghost use Rattle.tex_c.specs.Held.{held_coded, held_owns};
@@ -8,8 +8,8 @@ use crate::parts::Parts;
 use std::alloc::Global;
 use std::marker::Model;
 
-/// A handle of C: nothing, or a client. It is passed by value, and the call that takes it hands one
-/// back. What is dropped here is not freed: a client leaves by `into_box`.
+/// A C handle: empty, or owning a client. Calls take it by value and return it through a pointer.
+/// Dropping it frees nothing: a client is freed only after `into_box`.
 #[repr(C)]
 #[derive(Drop)]
 pub struct Held {
@@ -23,14 +23,14 @@ impl Model for Held {
 }
 
 impl Held {
-    /// The handle of a client.
+    /// A handle that owns this client.
     pub(crate) fn of(client: Box<Client>) -> Held
         ensures { result.value ≡ Some client.value }
     {
         Held::of_parts(Parts::of(client))
     }
 
-    /// The client of a handle.
+    /// Takes the client out of its handle.
     pub(crate) fn into_box(self) -> Box<Client>
         requires { IsSome self.value }
         ensures { self.value ≡ Some result.value }

@@ -1,4 +1,4 @@
-//! What a pass holds and has counted, and how it ends.
+//! The answers about held tiles and counts, as C reads them.
 ghost use Rattle.std.specs.Prelude.{◌≡◌, ◌⊎◌, ◌<◌, ◌≤◌, length, take, slice_get};
 ghost use Rattle.std.specs.Prelude.{IsTrue, IsFalse, IsSomeAnd};
 ghost use Rattle.std.specs.List.{remove};
@@ -13,23 +13,23 @@ use image_cache::{NotReleased, TexelAt};
 use tile_store::{Row, Tile};
 use waiter::Tries;
 
-/// How often a call tries before it says that it is busy.
+/// How often a call tries to get a lock before it answers `BUSY`.
 const TRIES: u64 = 1 << 20;
 
-/// The tile that a pass holds at a place.
+/// A tile that a pass holds.
 #[repr(C)]
 #[derive(Clone, Copy, Debug, PartialEq, Eq)]
 pub struct TexTile {
-    /// Its rectangle in its level.
+    /// The tile's rectangle in its level.
     pub x: u32,
     pub y: u32,
     pub w: u32,
     pub h: u32,
-    /// The samples of a texel.
+    /// The number of samples per texel.
     pub channels: u32,
 }
 
-/// A texel of a level.
+/// A texel of a level, as C names it.
 #[repr(C)]
 #[derive(Clone, Copy, Debug, PartialEq, Eq)]
 pub struct TexTexel {
@@ -39,7 +39,7 @@ pub struct TexTexel {
 }
 
 impl TexTexel {
-    /// The texel that C asks for.
+    /// The texel in the form that the cache uses.
     pub(crate) fn texel(&self) -> TexelAt
         ensures { result ≡ texel_of self.now }
     {
@@ -55,15 +55,15 @@ impl TexTexel {
 #[repr(C)]
 #[derive(Clone, Copy, Debug, PartialEq, Eq)]
 pub struct TexCounts {
-    /// How many cells its answers needed.
+    /// The number of cells that its answers needed.
     pub needs: u64,
-    /// How many of these its microcache had.
+    /// The number of needs that its microcache served.
     pub hits: u64,
-    /// How many were answered apart, since no memory was found for a tile.
+    /// The number of needs that were uncached, because no memory was found for a tile.
     pub apart: u64,
-    /// How many tiles it holds.
+    /// The number of tiles that it holds.
     pub holds: u64,
-    /// How many shards the cache has.
+    /// The number of shards of the cache.
     pub shards: u32,
 }
 
@@ -73,14 +73,14 @@ pub struct TexCounts {
 pub struct TexShard {
     pub tiles: u32,
     pub pins: u32,
-    /// The bytes of its unpinned tiles.
+    /// The bytes of the shard's unpinned tiles.
     pub loose: u64,
-    /// The bytes that its unpinned tiles may take.
+    /// The most bytes that its unpinned tiles may take.
     pub share: u64,
 }
 
 impl Client {
-    /// The tile that is held at a place.
+    /// Describes the tile that is held at a place.
     pub(crate) fn say_tile(&mut self, place: usize, out: &mut TexTile) -> u32
         ensures { SaysHeld place result out.new self.old self.new }
     {
@@ -100,7 +100,7 @@ impl Client {
         }
     }
 
-    /// Writes the samples of a row of the tile that is held at a place.
+    /// Copies the samples of one row of the tile that is held at a place.
     pub(crate) fn say_row(&mut self, place: usize, row: u32, out: &mut [u16]) -> u32
         ensures { SaysRow place row result out.old out.new self.old self.new }
     {
@@ -110,7 +110,7 @@ impl Client {
         }
     }
 
-    /// The hold at a place is released.
+    /// Releases the hold at a place.
     pub(crate) fn say_release(&mut self, place: usize) -> u32
         ensures { SaysRelease place result self.old self.new }
     {
@@ -121,7 +121,7 @@ impl Client {
         }
     }
 
-    /// What the pass has counted.
+    /// Writes the counts of the pass.
     pub(crate) fn say_counts(&mut self, out: &mut TexCounts)
         ensures { self.new ≡ self.old }
     {
@@ -134,7 +134,7 @@ impl Client {
         };
     }
 
-    /// What a shard has.
+    /// Writes the counts and the memory of one shard.
     pub(crate) fn say_shard(&mut self, shard: u32, out: &mut TexShard) -> u32
         ensures cache { self.new.cache ≡ self.old.cache }
     {
@@ -157,7 +157,7 @@ impl Client {
     }
 }
 
-/// Copies the samples of a row to a buffer of the caller, unless it is too small.
+/// Copies a row's samples to a buffer. False if the buffer is too small.
 fn copy_row(row: &Row<'_>, out: &mut [u16]) -> bool
     ensures ok { IsTrue result
         → take (length (samples_of row.now)) out.new ≡ samples_of row.now }
@@ -172,11 +172,11 @@ fn copy_row(row: &Row<'_>, out: &mut [u16]) -> bool
     true
 }
 
-/// Writes the samples of a row of a tile.
+/// Copies the samples of one row of a tile.
 fn say_tile_row(tile: &Tile<SuppliedWorld>, row: u32, out: &mut [u16]) -> u32
     ensures { SaysTileRow tile.now row result out.old out.new }
 {
-    // it tells that the tile is one
+    // needed by the proof: the tile is well formed
     let _key = tile.key();
     let rect = tile.rect();
     if rect.h <= row {

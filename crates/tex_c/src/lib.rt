@@ -1,11 +1,13 @@
-//! The cache for programs in C: a static library without input and output. What a call lacks it
-//! says, and the caller reads it and supplies it.
+//! The cache as a static library for C, without input or output of its own. A call answers which
+//! bytes it needs; the caller reads and supplies them, and calls again.
 #![tactic(auto)]
 
 mod answer;
+mod batch;
 mod bytes;
 mod client;
 mod exports;
+mod exports_batch;
 mod exports_supplies;
 mod exports_tiles;
 mod handle;
@@ -17,6 +19,7 @@ mod request;
 mod room;
 mod rounds;
 mod saying;
+mod saying_batch;
 mod supply;
 mod supplying;
 mod taking;
@@ -24,6 +27,7 @@ mod tap;
 mod world;
 
 pub use answer::TexAnswer;
+pub use batch::{TexBatch, TexBatchAnswer};
 pub use bytes::Bytes;
 pub use client::Client;
 pub use handle::SuppliedHandle;

@@ -1,4 +1,4 @@
-//! Requests as C writes them.
+//! Requests as C writes them, and their conversion to the cache's requests.
 ghost use Rattle.std.specs.Prelude.{◌≡◌, ◌↔◌, ◌<◌, IsSome, IfSome, IsTrue};
 ghost use Rattle.texel_filter.specs.Deriv.{IsDerivNumber, IsDerivRequest};
 ghost use Rattle.texel_filter.specs.Image.{IsChannelCount};
@@ -8,36 +8,37 @@ ghost use Rattle.tex_c.specs.Request as spec;
 
 use texel_filter::{DerivRequest, Filter, TexRequest, Wrap};
 
-/// A lookup at a place, or along a footprint.
+/// A lookup at a place or along a footprint.
 #[repr(C)]
 #[derive(Clone, Copy, Debug, PartialEq, Eq)]
 pub struct TexLookup {
-    /// The coordinates in 1/65536 of the image.
+    /// The coordinates, in 1/65536 of the image's width and height.
     pub s: i32,
     pub t: i32,
-    /// The level asked for, in 1/65536, of a lookup at a place.
+    /// The LOD of a lookup at a place, in 1/65536 of a level.
     pub lod: u32,
-    /// The wraps: 0 black, 1 clamp, 2 periodic, 3 mirror.
+    /// The wraps in s and t: 0 black, 1 clamp, 2 periodic, 3 mirror.
     pub swrap: u32,
     pub twrap: u32,
     /// The filter of a lookup at a place: 0 closest, 1 bilinear, 2 trilinear.
     pub filter: u32,
     /// The number of channels, 1 to 8.
     pub channels: u32,
-    /// How far the coordinates go from a pixel to the next, of a lookup along a footprint.
+    /// The derivatives of a lookup along a footprint: the change of s and t from a pixel to the
+    /// next.
     pub dsdx: i32,
     pub dtdx: i32,
     pub dsdy: i32,
     pub dtdy: i32,
 }
 
-/// The least and the greatest number of a lookup along a footprint.
+/// The range of coordinates and derivatives in a lookup along a footprint.
 const LEAST: i32 = -1073741824;
 
 const GREATEST: i32 = 1073741823;
 
 impl TexLookup {
-    /// What it asks for at a place, unless a number is out of its range.
+    /// The request at a place. `None` if a number is out of its range.
     pub(crate) fn point(&self) -> Option<TexRequest>
         ensures asked { IfSome result (λ r. r ≡ point_of self.now) }
         ensures good { IsSome result ↔ IsPoint self.now }
@@ -72,7 +73,7 @@ impl TexLookup {
         self.filter < 3
     }
 
-    /// What it asks for along a footprint, unless a number is out of its range.
+    /// The request along a footprint. `None` if a number is out of its range.
     pub(crate) fn footprint(&self) -> Option<DerivRequest>
         ensures asked { IfSome result (λ r. r ≡ footprint_of self.now) }
         ensures good { IsSome result ↔ IsFootprint self.now }
@@ -109,7 +110,7 @@ impl TexLookup {
         self.are_in_range()
     }
 
-    /// Whether its coordinates and derivatives may be those of a lookup along a footprint.
+    /// Whether coordinates and derivatives are in the range for a footprint.
     fn are_in_range(&self) -> bool
         ensures { IsTrue result ↔ AreDerivNumbers self.now }
     {
@@ -126,21 +127,21 @@ impl TexLookup {
     }
 }
 
-/// Whether a lookup can have so many channels.
+/// Whether a lookup can ask for `n` channels.
 fn are_channels(n: u32) -> bool
     ensures { IsTrue result ↔ IsChannelCount n }
 {
     1 <= n && n <= 8
 }
 
-/// Whether it may be a number of a lookup along a footprint.
+/// Whether `n` is in the range of coordinates and derivatives.
 fn is_in_range(n: i32) -> bool
     ensures { IsTrue result ↔ IsDerivNumber n }
 {
     LEAST <= n && n <= GREATEST
 }
 
-/// Whether both may be.
+/// Whether `s` and `t` are both in that range.
 fn are_both_in_range(s: i32, t: i32) -> bool
     ensures { IsTrue result ↔ (IsDerivNumber s × IsDerivNumber t) }
 {
@@ -150,8 +151,8 @@ fn are_both_in_range(s: i32, t: i32) -> bool
     is_in_range(t)
 }
 
-/// The wrap of a number below 4.
-fn wrap_of(n: u32) -> Wrap
+/// The wrap with this number, which is below 4.
+pub(crate) fn wrap_of(n: u32) -> Wrap
     ensures { result ≡ spec.wrap_of n }
 {
     match n {
@@ -162,8 +163,8 @@ fn wrap_of(n: u32) -> Wrap
     }
 }
 
-/// The filter of a number below 3.
-fn filter_of(n: u32) -> Filter
+/// The filter with this number, which is below 3.
+pub(crate) fn filter_of(n: u32) -> Filter
     ensures { result ≡ spec.filter_of n }
 {
     match n {

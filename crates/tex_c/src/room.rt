@@ -1,4 +1,4 @@
-//! Room for bytes, which C fills and hands back.
+//! A buffer that C fills and hands back.
 ghost use Rattle.std.specs.Prelude.{◌≡◌, Option, Some, IsSome};
 ghost use Rattle.tex_c.specs.declared.bytes.Bytes.{Bytes};
 ghost use Rattle.tex_c.specs.Room.{room_coded, room_owns};
@@ -8,8 +8,8 @@ use crate::parts::Parts;
 use std::alloc::Global;
 use std::marker::Model;
 
-/// Room for bytes: nothing, or bytes that are the caller's until it hands them back. What is
-/// dropped here is not freed: bytes leave by `into_box`.
+/// A buffer: empty, or bytes that belong to the caller until it hands them back. Dropping it frees
+/// nothing: bytes are freed only after `into_box`.
 #[repr(C)]
 #[derive(Drop)]
 pub struct Room {
@@ -23,14 +23,14 @@ impl Model for Room {
 }
 
 impl Room {
-    /// The room of these bytes.
+    /// A buffer that owns these bytes.
     pub(crate) fn of(bytes: Box<Bytes>) -> Room
         ensures { result.value ≡ Some bytes.value }
     {
         Room::of_parts(Parts::of(bytes))
     }
 
-    /// The bytes of a room.
+    /// Takes the bytes, still in their box, out of the buffer.
     pub(crate) fn into_box(self) -> Box<Bytes>
         requires { IsSome self.value }
         ensures { self.value ≡ Some result.value }
@@ -38,7 +38,7 @@ impl Room {
         self.into_parts().into_box()
     }
 
-    /// The bytes of a room, out of their box.
+    /// Takes the bytes out of the buffer and frees the box.
     pub(crate) fn into_bytes(self) -> Bytes
         requires { IsSome self.value }
         ensures { self.value ≡ Some result }

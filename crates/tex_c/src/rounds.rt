@@ -1,5 +1,5 @@
-//! The calls of the cache, each as one round: it is answered, or it is refused, where something was
-//! lacking also for that.
+//! The calls of the cache, one round each. A round succeeds, or fails, possibly because bytes must
+//! be supplied first.
 ghost use Rattle.std.specs.Prelude.{◌≡◌, ◌↔◌, ◌<◌, [], length, IfOk, IfErr, IfSome, OnOk, OnErr};
 ghost use Rattle.std.specs.Prelude.{IsOkAnd, IsSome, IsSomeAnd, IsNone};
 ghost use Rattle.std.specs.List.{remove};
@@ -18,6 +18,8 @@ ghost use Rattle.image_cache.specs.Reading.{pass_tap};
 ghost use Rattle.image_cache.specs.Region.{ReadsRegion};
 ghost use Rattle.texture_sys.specs.Call.{Answers, TextureCause, IsWarm, AnswersWarm, ServesLocally};
 ghost use Rattle.texture_sys.specs.declared.lookup_request.LookupRequest.TheVariants as asked;
+ghost use Rattle.texture_sys.specs.declared.lookup.Lookup.TheVariants as form;
+ghost use Rattle.texture_sys.specs.declared.lookup.Lookups.TheVariants.{One};
 ghost use Rattle.tex_c.specs.SuppliedWorld.{supplied_files};
 ghost use Rattle.tex_c.specs.SuppliedTap.{tap_state};
 
@@ -28,11 +30,11 @@ use texture_sys::{texture, texture_d, texture_local};
 use tiff_format::Info;
 use waiter::{GaveUp, Tries};
 
-/// How often a call tries before it says that it is busy.
-const TRIES: u64 = 1 << 20;
+/// How often a call tries to get a lock before it answers `BUSY`.
+pub(crate) const TRIES: u64 = 1 << 20;
 
 impl Client {
-    /// What a file is.
+    /// The size, depth, channels and levels of a file.
     pub(crate) fn info(&mut self, file: u32) -> Result<Info, CacheError<GaveUp>>
         requires file { file < self.old.cache.files.board.files }
         ensures ok { IfOk result (λ info. KeepsGiven supplied_files file self.old.cache.gate.cut
@@ -49,7 +51,7 @@ impl Client {
             .info(&waiter, &mut self.pass, &mut self.tap, file)
     }
 
-    /// Writes the values of a lookup.
+    /// Looks up the values at a place.
     #[inline(always)]
     pub(crate) fn texture(
         &mut self,
@@ -61,12 +63,12 @@ impl Client {
         requires count { length out.old ≡ r.now.nch }
         requires channels { IsChannelCount r.now.nch }
         ensures value { IfOk result (Answers supplied_files file self.old.cache.gate.cut
-            (asked.Point r.now) self.old.pass.view self.new.pass.view out.new) }
+            (One (form.Coarse (asked.Point r.now))) self.old.pass.view self.new.pass.view out.new) }
         ensures cause { IfErr result (TextureCause supplied_files file self.old.cache.gate.cut
             (sighted self.old.pass.view (tap_state self.old.tap))
             (sighted self.new.pass.view (tap_state self.new.tap))) }
         ensures err { OnErr result (out.new ≡ out.old) }
-        ensures warm { IfSome self.old.pass.latest (λ known. IsWarm file (asked.Point r.now)
+        ensures warm { IfSome self.old.pass.latest (λ known. IsWarm file (One (form.Coarse (asked.Point r.now)))
             self.old.pass known → AnswersWarm file known.generation
             (sighted self.old.pass.view (tap_state self.old.tap))
             (sighted self.new.pass.view (tap_state self.new.tap)) result) }
@@ -85,7 +87,7 @@ impl Client {
         )
     }
 
-    /// The same along a footprint.
+    /// Looks up the mean over a pixel's footprint.
     pub(crate) fn texture_d(
         &mut self,
         file: u32,
@@ -96,12 +98,12 @@ impl Client {
         requires count { length out.old ≡ r.now.nch }
         requires request { IsDerivRequest r.now }
         ensures value { IfOk result (Answers supplied_files file self.old.cache.gate.cut
-            (asked.Footprint r.now) self.old.pass.view self.new.pass.view out.new) }
+            (One (form.Coarse (asked.Footprint r.now))) self.old.pass.view self.new.pass.view out.new) }
         ensures cause { IfErr result (TextureCause supplied_files file self.old.cache.gate.cut
             (sighted self.old.pass.view (tap_state self.old.tap))
             (sighted self.new.pass.view (tap_state self.new.tap))) }
         ensures err { OnErr result (out.new ≡ out.old) }
-        ensures warm { IfSome self.old.pass.latest (λ known. IsWarm file (asked.Footprint r.now)
+        ensures warm { IfSome self.old.pass.latest (λ known. IsWarm file (One (form.Coarse (asked.Footprint r.now)))
             self.old.pass known → AnswersWarm file known.generation
             (sighted self.old.pass.view (tap_state self.old.tap))
             (sighted self.new.pass.view (tap_state self.new.tap)) result) }
@@ -120,7 +122,7 @@ impl Client {
         )
     }
 
-    /// The values of a lookup, where the microcache has all that it needs.
+    /// Looks up the values at a place from the microcache alone.
     pub(crate) fn texture_local(
         &mut self,
         file: u32,
@@ -131,9 +133,9 @@ impl Client {
         requires count { length out.old ≡ r.now.nch }
         requires channels { IsChannelCount r.now.nch }
         ensures some { IsSome result ↔ IsSomeAnd self.old.pass.latest
-            (ServesLocally file (asked.Point r.now) self.old.pass self.new.pass) }
+            (ServesLocally file (One (form.Coarse (asked.Point r.now))) self.old.pass self.new.pass) }
         ensures value { IfSome result (Answers supplied_files file self.old.cache.gate.cut
-            (asked.Point r.now) self.old.pass.view self.new.pass.view out.new) }
+            (One (form.Coarse (asked.Point r.now))) self.old.pass.view self.new.pass.view out.new) }
         ensures none { IsNone result → out.new ≡ out.old }
         ensures cache { self.new.cache ≡ self.old.cache }
         ensures tap { self.new.tap ≡ self.old.tap }
@@ -141,7 +143,7 @@ impl Client {
         texture_local(&self.cache, &mut self.pass, file, r, out)
     }
 
-    /// Reads a region into values, of which there are none.
+    /// Reads a region. `values` must be empty and is filled.
     pub(crate) fn pixels(
         &mut self,
         file: u32,
@@ -168,7 +170,7 @@ impl Client {
             .get_pixels(&waiter, pass, tap, file, region, values)
     }
 
-    /// The cell that holds a texel becomes the latest hold.
+    /// Pins the tile that holds a texel, as the latest hold of the pass.
     pub(crate) fn get_tile(&mut self, file: u32, at: TexelAt) -> Result<u32, CacheError<GaveUp>>
         requires file { file < self.old.cache.files.board.files }
         ensures ok { IfOk result (λ generation. KeepsGiven supplied_files file
@@ -185,7 +187,7 @@ impl Client {
             .get_tile(&waiter, &mut self.pass, &mut self.tap, file, at)
     }
 
-    /// The hold at a place is released.
+    /// Releases the hold at a place.
     pub(crate) fn release_tile(&mut self, place: usize) -> Result<(), NotReleased<GaveUp>>
         ensures ok { OnOk result
             (self.new.pass.pinned.holds ≡ remove self.old.pass.pinned.holds place) }
@@ -197,7 +199,7 @@ impl Client {
         self.cache.release_tile(&waiter, &mut self.pass, place)
     }
 
-    /// A file is made invalid.
+    /// Checks one file for a newer generation; with `force` its cached tiles go in any case.
     pub(crate) fn invalidate(&mut self, file: u32, force: bool) -> Result<u32, CacheError<GaveUp>>
         requires file { file < self.old.cache.files.board.files }
         ensures ok { IfOk result (MakesInvalid supplied_files self.old.cache.gate
@@ -213,7 +215,7 @@ impl Client {
             .invalidate(&waiter, &mut self.pass, &mut self.tap, file, force)
     }
 
-    /// Each file that is known is made invalid.
+    /// Checks every known file for a newer generation.
     pub(crate) fn invalidate_all(&mut self) -> Result<(), CacheError<GaveUp>>
         ensures ok { OnOk result (MakesAllInvalid supplied_files self.old.cache.gate
             self.old.cache.files.board.files (pass_tap self.old.pass (tap_state self.old.tap))

@@ -1,6 +1,9 @@
-//! The calls as C makes them: numbers are tested, and what is answered is said in numbers.
+//! The calls as C makes them: they check the numbers of the request and write the answer as
+//! numbers.
 ghost use Rattle.std.specs.Prelude.{◌≡◌, ◌<◌, length, take, drop, IsTrue, IsFalse};
 ghost use Rattle.texture_sys.specs.declared.lookup_request.LookupRequest.TheVariants as asked;
+ghost use Rattle.texture_sys.specs.declared.lookup.Lookup.TheVariants as form;
+ghost use Rattle.texture_sys.specs.declared.lookup.Lookups.TheVariants.{One};
 ghost use Rattle.tex_c.specs.Request.{IsPoint, IsFootprint, point_of, footprint_of};
 ghost use Rattle.tex_c.specs.Request.{region_of, told_info};
 ghost use Rattle.tex_c.specs.Calls.{SaysLookup, SaysLocally, SaysInfo, SaysRegion, SaysTile};
@@ -12,22 +15,22 @@ use crate::request::TexLookup;
 use image_cache::{Region, TexelAt};
 use tiff_format::Info;
 
-/// What a file is.
+/// The size, depth, channels and levels of a file.
 #[repr(C)]
 #[derive(Clone, Copy, Debug, PartialEq, Eq)]
 pub struct TexInfo {
     pub width: u32,
     pub height: u32,
     pub channels: u32,
-    /// The bits of a sample, 8 or 16.
+    /// The bits per sample, 8 or 16.
     pub depth: u32,
-    /// How many levels the file stores.
+    /// The number of levels that the file stores.
     pub stored: u32,
-    /// How many levels it has with those that are generated.
+    /// The number of levels, generated ones included.
     pub levels: u32,
 }
 
-/// A region of a level.
+/// A region of a level, as C writes it.
 #[repr(C)]
 #[derive(Clone, Copy, Debug, PartialEq, Eq)]
 pub struct TexRegion {
@@ -39,7 +42,7 @@ pub struct TexRegion {
 }
 
 impl Client {
-    /// `info`.
+    /// Answers `info`.
     pub(crate) fn say_info(&mut self, file: u32, out: &mut TexInfo, answer: &mut TexAnswer) -> u32
         ensures { SaysInfo file result answer.new out.new self.old self.new }
     {
@@ -58,7 +61,7 @@ impl Client {
         }
     }
 
-    /// `texture`.
+    /// Answers `texture`.
     pub(crate) fn say_texture(
         &mut self,
         file: u32,
@@ -66,7 +69,7 @@ impl Client {
         out: &mut [u16],
         answer: &mut TexAnswer,
     ) -> u32
-        ensures { SaysLookup file (IsPoint lookup.now) (asked.Point (point_of lookup.now))
+        ensures { SaysLookup file (IsPoint lookup.now) (One (form.Coarse (asked.Point (point_of lookup.now))))
             lookup.now.channels result answer.new out.old out.new self.old self.new }
     {
         *answer = TexAnswer::blank();
@@ -89,7 +92,7 @@ impl Client {
         }
     }
 
-    /// `texture_d`.
+    /// Answers `texture_d`.
     pub(crate) fn say_texture_d(
         &mut self,
         file: u32,
@@ -98,7 +101,7 @@ impl Client {
         answer: &mut TexAnswer,
     ) -> u32
         ensures { SaysLookup file (IsFootprint lookup.now)
-            (asked.Footprint (footprint_of lookup.now))
+            (One (form.Coarse (asked.Footprint (footprint_of lookup.now))))
             lookup.now.channels result answer.new out.old out.new self.old self.new }
     {
         *answer = TexAnswer::blank();
@@ -121,7 +124,7 @@ impl Client {
         }
     }
 
-    /// `texture_local`.
+    /// Answers `texture_local`.
     pub(crate) fn say_texture_local(
         &mut self,
         file: u32,
@@ -129,7 +132,7 @@ impl Client {
         out: &mut [u16],
         answer: &mut TexAnswer,
     ) -> u32
-        ensures { SaysLocally file (IsPoint lookup.now) (asked.Point (point_of lookup.now))
+        ensures { SaysLocally file (IsPoint lookup.now) (One (form.Coarse (asked.Point (point_of lookup.now))))
             lookup.now.channels result answer.new out.old out.new self.old self.new }
     {
         *answer = TexAnswer::blank();
@@ -151,7 +154,7 @@ impl Client {
         }
     }
 
-    /// `get_pixels`.
+    /// Answers `get_pixels`.
     pub(crate) fn say_pixels(
         &mut self,
         file: u32,
@@ -182,7 +185,7 @@ impl Client {
         }
     }
 
-    /// `get_tile`.
+    /// Answers `get_tile`.
     pub(crate) fn say_get_tile(&mut self, file: u32, at: TexelAt, answer: &mut TexAnswer) -> u32
         ensures { SaysTile file at result answer.new self.old self.new }
     {
@@ -200,7 +203,7 @@ impl Client {
         }
     }
 
-    /// `invalidate`.
+    /// Answers `invalidate`.
     pub(crate) fn say_invalidate(&mut self, file: u32, force: bool, answer: &mut TexAnswer) -> u32
         ensures { SaysInvalid file force result answer.new self.old self.new }
     {
@@ -218,7 +221,7 @@ impl Client {
         }
     }
 
-    /// `invalidate_all`.
+    /// Answers `invalidate_all`.
     pub(crate) fn say_invalidate_all(&mut self, answer: &mut TexAnswer) -> u32
         ensures { SaysAllInvalid result answer.new self.old self.new }
     {
@@ -234,7 +237,7 @@ impl Client {
 }
 
 impl TexInfo {
-    /// What C is told of a file.
+    /// Converts a file's description to C's form.
     fn of(info: &Info) -> TexInfo
         ensures { result ≡ told_info info.now }
     {
@@ -250,7 +253,7 @@ impl TexInfo {
 }
 
 impl TexRegion {
-    /// The region that C asks for.
+    /// Converts the region to the cache's form.
     fn region(&self) -> Region
         ensures { result ≡ region_of self.now }
     {
@@ -264,7 +267,7 @@ impl TexRegion {
     }
 }
 
-/// Copies values to a buffer of the caller, unless it is too small.
+/// Copies values to a buffer. False if the buffer is too small.
 fn copy_out(values: &[u16], out: &mut [u16]) -> bool
     ensures ok { IsTrue result → (take (length values.now) out.new ≡ values.now)
         × (drop (length values.now) out.new ≡ drop (length values.now) out.old) }

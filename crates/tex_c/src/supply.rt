@@ -1,4 +1,4 @@
-//! What a call lacks, and what the caller supplies.
+//! What a call needs, and what the caller can supply.
 ghost use Rattle.std.specs.Prelude.{◌≡◌, ◌≤◌, length, IfSome};
 ghost use Rattle.tex_world.specs.World.{last_generation};
 ghost use Rattle.tex_c.specs.Truth.{IsTrueLook, AreTrueBytes, AreTrueRows};
@@ -6,8 +6,8 @@ ghost use Rattle.tex_c.specs.Truth.{IsTrueLook, AreTrueBytes, AreTrueRows};
 use crate::handle::SuppliedHandle;
 use tex_world::TapHandle;
 
-/// Rows of a generation of a file: the first from a place on, of so many bytes each, and each so
-/// many bytes behind the one before.
+/// Rows of one generation of a file. The first begins at `at`, each has `row` bytes, and each
+/// begins `stride` bytes after the one before.
 #[repr(C)]
 #[derive(Clone, Copy, Debug, PartialEq, Eq)]
 pub struct RowsAt {
@@ -18,16 +18,16 @@ pub struct RowsAt {
     pub row: u64,
 }
 
-/// What a call lacks to go on.
+/// What a call needs to go on.
 #[derive(Clone, Copy, Debug, PartialEq, Eq)]
 pub enum Need {
-    /// A look at a file: its generation, which is to be at least this one, and its length.
+    /// The generation and the length of a file. The generation must be at least the one named.
     Look {
         file: u32,
         least: u32,
     },
-    /// Bytes of this generation of a file: from a place on so many at least, and so many at most,
-    /// which is up to the end of the file.
+    /// Bytes of this generation of a file from a place on. At least `least`; at most `most`, which
+    /// reaches to the end of the file.
     Bytes {
         file: u32,
         generation: u32,
@@ -35,33 +35,33 @@ pub enum Need {
         least: u64,
         most: u64,
     },
-    /// Rows, of so many bytes in all.
+    /// Rows, `size` bytes together.
     Rows {
         rows: RowsAt,
         size: u64,
     },
 }
 
-/// Why a supply is refused. All is then as before.
+/// Why a supply is not accepted. Nothing changes then.
 #[derive(Clone, Copy, Debug, PartialEq, Eq)]
 pub enum SupplyError {
-    /// No call lacks anything of this kind.
+    /// No call needs anything of this kind.
     NotNeeded,
-    /// It is of another file or another place than what is lacking.
+    /// It is for another file or another place than what is needed.
     OtherPlace,
-    /// Its generation is older than what is lacking.
+    /// Its generation is older than the one needed.
     Older,
-    /// Its generation is another one that is not older, or none from 1 to 1048575.
+    /// Its generation is a different, newer one, or not a number from 1 to 1048575.
     OtherGeneration,
-    /// It has fewer bytes than are lacking.
+    /// It has fewer bytes than needed.
     Short,
-    /// It has bytes past the end of the file, or more than the rows that are lacking.
+    /// It reaches past the end of the file, or has more bytes than the rows that are needed.
     Long,
-    /// No memory was found.
+    /// Out of memory.
     NoMemory,
 }
 
-/// What a caller says of a file: its generation, and the length that it has at it.
+/// A file's generation and its length, as a caller reports them.
 #[repr(C)]
 #[derive(Clone, Copy, Debug, PartialEq, Eq)]
 pub struct Seen {
@@ -70,7 +70,7 @@ pub struct Seen {
     pub len: u64,
 }
 
-/// What was seen of a file: its generation and its length.
+/// A file's generation and its length, as the tap keeps them.
 #[derive(Clone, Copy, Debug)]
 pub struct Look {
     pub file: u32,
@@ -81,7 +81,7 @@ pub struct Look {
     ghost told: { IsTrueLook file generation len },
 }
 
-/// Bytes of a generation of a file, from a place on.
+/// Supplied bytes of one generation of a file, from a place on.
 #[derive(Drop)]
 pub struct Part {
     pub file: u32,
@@ -92,7 +92,7 @@ pub struct Part {
 }
 
 impl Part {
-    /// So many bytes from a place of a handle's file on, where the part has them all.
+    /// The `size` bytes of a handle's file at `at`, if this part has all of them.
     fn slice(&self, handle: &SuppliedHandle, at: u64, size: usize) -> Option<&[u8]>
         ensures long { IfSome result (λ bytes. length bytes.now ≡ size) }
         ensures told { IfSome result (λ bytes.
@@ -110,7 +110,7 @@ impl Part {
     }
 }
 
-/// So many bytes from a place of a handle's file on, where they were supplied in one part.
+/// The `size` bytes of a handle's file at `at`, if one of the parts has all of them.
 pub(crate) fn supplied<'a>(
     parts: &'a [Part],
     handle: &SuppliedHandle,
@@ -129,7 +129,7 @@ pub(crate) fn supplied<'a>(
     None
 }
 
-/// The bytes of rows.
+/// Supplied rows.
 #[derive(Drop)]
 pub struct RowsPart {
     pub place: RowsAt,
@@ -137,7 +137,7 @@ pub struct RowsPart {
     ghost told: { AreTrueRows place bytes.items },
 }
 
-/// The bytes of these rows, so many in all, where they were supplied.
+/// The bytes of these rows, `size` together, if they were supplied.
 pub(crate) fn supplied_rows<'a>(
     parts: &'a [RowsPart],
     place: &RowsAt,

@@ -1,4 +1,4 @@
-//! What the caller supplies, as C says it.
+//! The supplies, as C makes them.
 ghost use Rattle.std.specs.Prelude.{◌≡◌, length, IfSome};
 ghost use Rattle.tex_c.specs.Truth.{IsTrueLook, AreTrueLooks, AreTrueBytes, AreTrueRows};
 ghost use Rattle.tex_c.specs.Supply.{FitsLook, FitsBytes, FitsRows};
@@ -11,7 +11,7 @@ use crate::client::Client;
 use crate::supply::{RowsAt, Seen};
 
 impl Client {
-    /// What was seen of a file.
+    /// Supplies the generation and the length of a file.
     pub(crate) fn supply_look(&mut self, file: u32, generation: u32, len: u64) -> u32
         requires told { FitsLook self.old.tap.need file generation
             → IsTrueLook file generation len }
@@ -23,7 +23,7 @@ impl Client {
         }
     }
 
-    /// What was seen of several files.
+    /// Supplies the generations and lengths of several files.
     pub(crate) fn supply_looks(&mut self, looks: &[Seen]) -> u32
         requires told { AreTrueLooks looks.now }
         ensures { SaysLooks looks.now result self.old self.new }
@@ -34,7 +34,7 @@ impl Client {
         ANSWERED
     }
 
-    /// Room for so many bytes.
+    /// Makes a buffer of `size` bytes. `None` if out of memory.
     pub(crate) fn room(&mut self, size: usize) -> Option<Bytes>
         ensures size { IfSome result (λ bytes. length bytes.items.items ≡ size) }
         ensures rest { KeepsRest self.old self.new }
@@ -46,7 +46,7 @@ impl Client {
         }
     }
 
-    /// Room that is not needed.
+    /// Takes back a buffer that is not needed.
     pub(crate) fn give_back(&mut self, bytes: Bytes)
         ensures rest { KeepsRest self.old self.new }
         ensures same { KeepsSupplies self.old.tap self.new.tap }
@@ -54,7 +54,7 @@ impl Client {
         self.tap.give_back(bytes.items);
     }
 
-    /// Bytes of a generation of a file, from a place on.
+    /// Supplies bytes of one generation of a file, from a place on.
     pub(crate) fn supply_bytes(&mut self, file: u32, generation: u32, at: u64, bytes: Bytes) -> u32
         requires told { FitsBytes self.old.tap.need file generation at (length bytes.items.items)
             → AreTrueBytes file generation at bytes.items.items }
@@ -66,7 +66,7 @@ impl Client {
         ANSWERED
     }
 
-    /// The bytes of rows.
+    /// Supplies rows of one generation of a file.
     pub(crate) fn supply_rows(&mut self, place: RowsAt, bytes: Bytes) -> u32
         requires told { FitsRows self.old.tap.need place (length bytes.items.items)
             → AreTrueRows place bytes.items.items }
@@ -78,7 +78,7 @@ impl Client {
         ANSWERED
     }
 
-    /// What is lacking cannot be had.
+    /// Says that what the call needs cannot be read.
     pub(crate) fn supply_fault(&mut self) -> u32
         ensures rest { KeepsRest self.old self.new }
         ensures same { KeepsSupplies self.old.tap self.new.tap }

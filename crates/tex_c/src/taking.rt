@@ -1,4 +1,4 @@
-//! What the caller supplies for the call at hand.
+//! Checks each supply against what the current call needs, and keeps it.
 ghost use Rattle.std.specs.Prelude.{◌≡◌, ◌⊎◌, ◌+◌, ◌<◌, ◌≤◌, None, length, IsTrue, IsFalse};
 ghost use Rattle.std.specs.Prelude.{IfErr, IfSome, IsNone, OnErr, OnOk};
 ghost use Rattle.tex_world.specs.World.{last_generation};
@@ -11,7 +11,7 @@ use crate::supply::{Look, Need, Part, RowsAt, RowsPart, Seen, SupplyError};
 use crate::tap::{SuppliedTap, keep_spare};
 use tex_world::LAST_GENERATION;
 
-/// A file, and the least generation that is asked for.
+/// A file and the least generation that is needed.
 #[derive(Clone, Copy, Debug)]
 struct Wanted {
     file: u32,
@@ -19,7 +19,7 @@ struct Wanted {
 }
 
 impl SuppliedTap {
-    /// What was lacking cannot be had.
+    /// Says that what the call needs cannot be read.
     pub fn supply_fault(&mut self) -> Result<(), SupplyError>
         ensures same { KeepsSupplies self.old self.new }
     {
@@ -31,7 +31,8 @@ impl SuppliedTap {
         Ok(())
     }
 
-    /// What was seen of a file. Where bytes of it are lacking it is of a newer generation.
+    /// Supplies a file's generation and length. If its bytes are needed, the generation must be
+    /// newer.
     pub fn supply_look(&mut self, file: u32, generation: u32, len: u64) -> Result<(), SupplyError>
         requires told { FitsLook self.old.need file generation → IsTrueLook file generation len }
         ensures same { KeepsSupplies self.old self.new }
@@ -64,9 +65,8 @@ impl SuppliedTap {
         }
     }
 
-    /// What was seen of several files. The first is what is lacking, as it would be alone; the
-    /// others are kept for what the call asks next, and passed over where they are no generation of
-    /// a file.
+    /// Supplies several files. The first must be what is needed. The others are kept for what the
+    /// call needs next, and ignored if their generation is out of range.
     pub fn supply_looks(&mut self, looks: &[Seen]) -> Result<(), SupplyError>
         requires told { AreTrueLooks looks.now }
         ensures same { KeepsSupplies self.old self.new }
@@ -80,7 +80,7 @@ impl SuppliedTap {
         Ok(())
     }
 
-    /// Room for so many bytes.
+    /// A buffer of `size` bytes, a used one if possible. `None` if out of memory.
     pub fn room(&mut self, size: usize) -> Option<Vec<u8>>
         ensures size { IfSome result (λ bytes. length bytes.items ≡ size) }
         ensures same { KeepsSupplies self.old self.new }
@@ -95,15 +95,15 @@ impl SuppliedTap {
         }
     }
 
-    /// Room that is not needed.
+    /// Takes back a buffer that is not needed.
     pub fn give_back(&mut self, bytes: Vec<u8>)
         ensures same { KeepsSupplies self.old self.new }
     {
         keep_spare(&mut self.spare, bytes);
     }
 
-    /// Bytes of a generation of a file, from a place on. Their room is the tap's, whatever is
-    /// answered.
+    /// Supplies bytes of one generation of a file. The tap keeps the buffer even if they are not
+    /// accepted.
     pub fn supply_bytes(
         &mut self,
         file: u32,
@@ -139,7 +139,7 @@ impl SuppliedTap {
         }
     }
 
-    /// The bytes of rows. Their room is the tap's, whatever is answered.
+    /// Supplies rows. The tap keeps the buffer even if they are not accepted.
     pub fn supply_rows(&mut self, place: RowsAt, bytes: Vec<u8>) -> Result<(), SupplyError>
         requires told { FitsRows self.old.need place (length bytes.items)
             → AreTrueRows place bytes.items }
@@ -162,7 +162,7 @@ impl SuppliedTap {
     }
 }
 
-/// Whether a file may have a generation of this number.
+/// Whether generations can have this number.
 fn is_generation(generation: u32) -> bool
     ensures is { IsTrue result → (1 ≤ generation) × (generation ≤ last_generation) }
     ensures not { IsFalse result → (generation ≡ 0) ⊎ (last_generation < generation) }
@@ -170,7 +170,7 @@ fn is_generation(generation: u32) -> bool
     generation != 0 && generation <= LAST_GENERATION
 }
 
-/// Keeps looks, where their generations are ones that a file may have and memory is there.
+/// Keeps the looks whose generation is in range. Those for which memory is short are dropped.
 fn keep_looks(kept: &mut Vec<Look>, looks: &[Seen])
     requires told { AreTrueLooks looks.now }
 {
@@ -186,7 +186,7 @@ fn keep_looks(kept: &mut Vec<Look>, looks: &[Seen])
     }
 }
 
-/// Which look is lacking. Where bytes are it is one at a newer generation of their file.
+/// Which freshness check is needed. If bytes are needed, a newer generation of their file will do.
 fn wanted_look(need: Option<Need>) -> Option<Wanted>
     ensures some { IfSome result (λ w. LacksLook need (λ file least.
         (file ≡ w.file) × (least ≡ w.least))) }
@@ -211,7 +211,7 @@ fn wanted_look(need: Option<Need>) -> Option<Wanted>
     }
 }
 
-/// A newer generation of a file than this one.
+/// A newer generation of this file than the one given.
 fn above(file: u32, generation: u32) -> Wanted
     ensures file { result.file ≡ file }
     ensures least { result.least ≡ generation + 1 }
@@ -222,7 +222,7 @@ fn above(file: u32, generation: u32) -> Wanted
     }
 }
 
-/// Whether a stretch of so many bytes is what is lacking.
+/// Whether bytes at this place, `size` of them, are what is needed.
 fn fits_bytes(
     need: Option<Need>,
     file: u32,
@@ -263,7 +263,7 @@ fn fits_bytes(
     Ok(())
 }
 
-/// Whether rows of so many bytes are what is lacking.
+/// Whether these rows, `size` bytes together, are what is needed.
 fn fits_rows(need: Option<Need>, place: &RowsAt, size: u64) -> Result<(), SupplyError>
     ensures fits { OnOk result (FitsRows need place.now size) }
     ensures cause { IfErr result (RowsCause need place.now size) }
@@ -289,7 +289,7 @@ fn fits_rows(need: Option<Need>, place: &RowsAt, size: u64) -> Result<(), Supply
     Ok(())
 }
 
-/// Whether rows stand at the same places of the same file.
+/// Whether both name the same places of the same file.
 fn stand_alike(p: &RowsAt, q: &RowsAt) -> bool
     ensures elsewhere { IsFalse result → AreElsewhere p.now q.now }
     ensures alike { IsTrue result → (p.now.file ≡ q.now.file) × (p.now.at ≡ q.now.at)

@@ -1,4 +1,4 @@
-//! A source of bytes that the caller supplies.
+//! A tap whose bytes the caller supplies.
 ghost use Rattle.std.specs.Prelude.{◌≡◌, ◌+◌, ◌≤◌, [], IsTrue, IfSome};
 ghost use Rattle.tex_world.specs.Tap.{IsNew};
 ghost use Rattle.tex_c.specs.Truth.{AreTrueBytes, AreTrueRows};
@@ -12,23 +12,23 @@ use crate::world::SuppliedWorld;
 use std::alloc::Global;
 use tex_world::{Failed, OpenError, ReadError, Tap, TapHandle};
 
-/// How much room is kept for the next supplies: so many pieces of so many bytes at most.
+/// How many buffers are kept for the next supplies, and how large each may be in bytes.
 const MAX_SPARE: usize = 8;
 
 const MAX_SPARE_BYTES: usize = 262144;
 
-/// A source of what the caller supplied for the call at hand. A call of the tap that lacks
-/// something says what, and is counted as a fault.
+/// A tap that reads what the caller supplied for the current call. If something is missing, the tap
+/// call counts an I/O error and records what is needed.
 #[derive(Drop)]
 pub struct SuppliedTap {
     pub(crate) alloc: Global,
     pub(crate) looks: Vec<Look>,
     pub(crate) parts: Vec<Part>,
     pub(crate) rows: Vec<RowsPart>,
-    /// Room of supplies that were given up, for the next ones.
+    /// Used buffers, kept for the next supplies.
     pub(crate) spare: Vec<Vec<u8>>,
     pub(crate) need: Option<Need>,
-    /// The caller said that what was lacking cannot be had.
+    /// Whether the caller said that what is needed cannot be read.
     pub(crate) failed: bool,
     faults: u64,
     calls: u64,
@@ -40,7 +40,7 @@ pub struct SuppliedTap {
 }
 
 impl SuppliedTap {
-    /// A tap that has had no call, and for which nothing is supplied.
+    /// A tap without calls and supplies.
     pub fn new(alloc: Global) -> SuppliedTap
         ensures new { IsNew (tap_state result) }
         ensures parts { parts_of result ≡ [] }
@@ -64,25 +64,25 @@ impl SuppliedTap {
         }
     }
 
-    /// What the latest call lacked. None where it was answered, or failed for another cause.
+    /// What the last call needed. `None` if it succeeded or failed for another reason.
     pub fn need(&self) -> Option<Need>
         ensures { result ≡ self.now.need }
     {
         self.need
     }
 
-    /// A call begins, or goes on with what was supplied: nothing is lacking yet.
+    /// Begins a call, or continues it with what was supplied.
     #[inline(always)]
     pub fn begin(&mut self)
         ensures same { KeepsSupplies self.old self.new }
     {
-        // seldom, and cheaper to ask than to write
+        // rarely set: testing is cheaper than writing
         if self.need.is_some() {
             self.need = None;
         }
     }
 
-    /// The call has ended: what was supplied for it is given up.
+    /// Ends the call and drops what was supplied for it.
     #[inline(always)]
     pub fn end(&mut self)
         ensures state { tap_state self.new ≡ tap_state self.old }
@@ -102,7 +102,7 @@ impl SuppliedTap {
         }
     }
 
-    /// Counts a failed call.
+    /// Counts an I/O error.
     fn count_fault(&mut self)
         ensures adds { AddsFault (tap_state self.old) (tap_state self.new) }
         ensures bytes { KeepsBytes self.old self.new }
@@ -110,7 +110,7 @@ impl SuppliedTap {
         self.faults = self.faults.saturating_add(1);
     }
 
-    /// Counts a meeting with a newer generation.
+    /// Counts that a newer generation was met.
     fn count_move(&mut self)
         ensures adds { AddsMove (tap_state self.old) (tap_state self.new) }
         ensures bytes { KeepsBytes self.old self.new }
@@ -118,7 +118,7 @@ impl SuppliedTap {
         self.moves = self.moves.saturating_add(1);
     }
 
-    /// Counts a read that met one.
+    /// Counts a read that failed because a newer generation was met.
     fn count_loss(&mut self)
         ensures adds { AddsLoss (tap_state self.old) (tap_state self.new) }
         ensures bytes { KeepsBytes self.old self.new }
@@ -127,7 +127,7 @@ impl SuppliedTap {
         self.lost = self.lost.saturating_add(1);
     }
 
-    /// This is lacking, unless the caller said that it cannot be had. It is a failed call.
+    /// Records what is needed, unless the caller said that it cannot be read. Counts an I/O error.
     fn lack(&mut self, need: Need)
         ensures adds { AddsFault (tap_state self.old) (tap_state self.new) }
         ensures bytes { KeepsBytes self.old self.new }
@@ -138,14 +138,14 @@ impl SuppliedTap {
         self.count_fault();
     }
 
-    /// The latest look at a file that is of this generation at least.
+    /// The last supplied look at this file whose generation is at least `least`.
     fn look(&self, file: u32, least: u32) -> Option<Look>
         ensures { IfSome result (λ look. (look.file ≡ file) × (least ≤ look.generation)) }
     {
         latest_look(&self.looks, file, least)
     }
 
-    /// Fills the buffer with what was supplied, where it was.
+    /// Copies supplied bytes to the buffer. False if they were not supplied.
     fn fill(&self, h: &SuppliedHandle, at: u64, buf: &mut [u8]) -> bool
         ensures { IsTrue result → AreTrueBytes h.now.file h.now.generation at buf.new }
     {
@@ -158,7 +158,7 @@ impl SuppliedTap {
         }
     }
 
-    /// Fills the buffer with rows that were supplied, where they were.
+    /// Copies supplied rows to the buffer. False if they were not supplied.
     fn fill_rows(&self, place: &RowsAt, buf: &mut [u8]) -> bool
         ensures { IsTrue result → AreTrueRows place.now buf.new }
     {
@@ -172,7 +172,7 @@ impl SuppliedTap {
     }
 }
 
-/// The latest of the looks at a file that are of this generation at least.
+/// The last of the looks at this file whose generation is at least `least`.
 fn latest_look(looks: &[Look], file: u32, least: u32) -> Option<Look>
     ensures { IfSome result (λ look. (look.file ≡ file) × (least ≤ look.generation)) }
 {
@@ -184,7 +184,7 @@ fn latest_look(looks: &[Look], file: u32, least: u32) -> Option<Look>
     None
 }
 
-/// Gives up parts, and keeps their room.
+/// Drops supplied parts and keeps their buffers.
 fn spare_parts(parts: &mut Vec<Part>, spare: &mut Vec<Vec<u8>>)
     ensures { parts.new.items ≡ [] }
 {
@@ -196,7 +196,7 @@ fn spare_parts(parts: &mut Vec<Part>, spare: &mut Vec<Vec<u8>>)
     parts.clear();
 }
 
-/// Gives up rows, and keeps their room.
+/// Drops supplied rows and keeps their buffers.
 fn spare_rows(rows: &mut Vec<RowsPart>, spare: &mut Vec<Vec<u8>>)
     ensures { rows.new.items ≡ [] }
 {
@@ -208,7 +208,7 @@ fn spare_rows(rows: &mut Vec<RowsPart>, spare: &mut Vec<Vec<u8>>)
     rows.clear();
 }
 
-/// Keeps the room of bytes, unless there is enough of it.
+/// Keeps a buffer, unless it is large or enough are kept.
 pub(crate) fn keep_spare(spare: &mut Vec<Vec<u8>>, bytes: Vec<u8>) {
     if spare.len() < MAX_SPARE && bytes.capacity() <= MAX_SPARE_BYTES {
         if let Err(_refused) = spare.push(bytes) {}
@@ -222,7 +222,7 @@ impl Tap for SuppliedTap {
 
     ghost state = { tap_state };
 
-    /// It goes by the latest look at the file that was supplied.
+    /// Answers from the last supplied look at the file.
     fn open(&mut self, _alloc: Global, file: u32, least: u32) -> Result<SuppliedHandle, OpenError> {
         self.calls = self.calls.saturating_add(1);
         self.opens = self.opens.saturating_add(1);
@@ -240,7 +240,7 @@ impl Tap for SuppliedTap {
         }
     }
 
-    /// It goes by the latest look at the file that was supplied.
+    /// Answers from the last supplied look at the file.
     fn newest(&mut self, file: u32, least: u32) -> Result<u32, Failed> {
         self.calls = self.calls.saturating_add(1);
         match self.look(file, least) {
@@ -256,8 +256,8 @@ impl Tap for SuppliedTap {
         }
     }
 
-    /// The bytes are those that were supplied of the handle's generation. Where a newer look at the
-    /// file was supplied they are gone.
+    /// Answers with supplied bytes of the handle's generation. They are `Gone` if a newer
+    /// generation was supplied.
     fn read_at(
         &mut self,
         h: &mut SuppliedHandle,
@@ -276,7 +276,7 @@ impl Tap for SuppliedTap {
         Err(ReadError::Failed)
     }
 
-    /// As `read_at`, of rows that were supplied at once. What is lacking is all of them.
+    /// Like `read_at`, for rows. If they were not supplied, all of them are needed.
     fn read_rows(
         &mut self,
         h: &mut SuppliedHandle,
@@ -310,8 +310,8 @@ impl Tap for SuppliedTap {
 }
 
 impl SuppliedTap {
-    /// So many bytes of a handle's file are lacking, from a place on. The file is remembered as it
-    /// was seen, so that the call may open it again when it goes on.
+    /// Records that `size` bytes of a handle's file are needed. The handle's generation and length
+    /// are kept too, so that the repeated call can open the file again.
     fn lack_bytes(&mut self, h: &SuppliedHandle, at: u64, size: usize)
         requires inside { at + size ≤ h.now.len }
         ensures adds { AddsFault (tap_state self.old) (tap_state self.new) }
@@ -327,7 +327,7 @@ impl SuppliedTap {
         });
     }
 
-    /// Keeps the look that a handle stands for, if none is kept and memory is there.
+    /// Keeps the handle's generation and length, if none are kept and memory is there.
     fn remember(&mut self, h: &SuppliedHandle)
         ensures same { KeepsSupplies self.old self.new }
     {

@@ -1,10 +1,10 @@
-//! The files whose bytes a caller supplies.
+//! The contracts' model of the files whose bytes a caller supplies.
 ghost use Rattle.tex_c.specs.SuppliedWorld.{supplied_files, supplied_is_world};
 
 use tex_world::World;
 
-/// The files that the caller has. What they hold is what the caller says of them, which each supply
-/// has to be true to.
+/// The caller's files. Their bytes are whatever the caller supplies; each supply must be true to
+/// them.
 #[derive(Drop)]
 pub struct SuppliedWorld;
 

@@ -1,4 +1,4 @@
--- What is said of the cells that a pass asked for is so of a pass with another record.
+-- What a pass asked for does not depend on which record it keeps.
 use Rattle.std.proofs.Common.{◌≡◌, ℕ, ap, refl, sym, subst, ◌∙◌, List, inl, inr, arith}
 use Rattle.std.proofs.Common.{[], ◌∷◌, length}
 use Rattle.std.specs.Prelude.{if◌then◌else◌, IfOk}
@@ -15,7 +15,7 @@ use Rattle.image_cache.proofs.FillLemmas.{if_ok, needs_between}
 use Rattle.image_cache.specs.Fetches.{at_of}
 use Rattle.texture_sys.specs.Needs.{lookup_keys_on, AsksForEach, AsksForCells}
 
--- nothing is answered apart between moments at which the counts are the same
+-- no need was uncached up to a moment with the same counts
 none_to : (a b c : PassState) → SameCounts b c → NoneApart a c → NoneApart a b
 none_to a b c same none = record { same = sym same.apart ∙ none.same; low = none.low }
 
@@ -26,7 +26,7 @@ none_from a b c same none = record {
 }
 
 module _ (files : Files) (state : RecordState) where
-  -- what was needed of a record between two moments at which only the record was another
+  -- what was needed of a record is unchanged if the pass then keeps another record
   needs_from : (keys : Kept → List ℕ) (old mid new : PassState) → KeepsAllBut view_and_record old mid
       → IfOk state.layout (λ kept. Needs files (keys kept) mid new)
       → IfOk state.layout (λ kept. Needs files (keys kept) old new)
@@ -60,7 +60,7 @@ module _ (files : Files) (state : RecordState) where
   each_to (t ∷ texels) old mid new same (next, first, rest) =
       (next, first, each_to texels next mid new same rest)
 
-  -- what is said of a pass is so of one that has another record
+  -- a pass with another record has asked for the same cells
   pub asks_to : (texels : List Texel) (old mid new : PassState) → KeepsAllBut view_and_record mid new
       → AsksForCells files state texels old mid → AsksForCells files state texels old new
   asks_to texels old mid new same asks = record {

@@ -1,4 +1,4 @@
--- What do the fetches of a lookup through the cache leave, one after another?
+-- What do the fetches of a lookup leave, when they follow one another?
 use Rattle.std.proofs.Common.{◌≡◌, ◌≤◌, refl, ap, ◌∙◌, inl, inr}
 use Rattle.std.proofs.Common.{List, [], ◌∷◌, length, Result, Ok, Err}
 use Rattle.std.specs.Prelude.{slice_index_or, IfErr, OnOk}
@@ -29,7 +29,7 @@ use Rattle.texture_sys.proofs.Counted.{asks_cells}
 use Rattle.texture_sys.proofs.MovedCells.{has_moved}
 use Rattle.texture_sys.proofs.Stays.{Leaves, leaves_none, leaves_chain}
 
--- all cells are there still
+-- a microcache keeps all cells when one of its tiles is moved
 pub still_there : (state : RecordState) (at : Texel) (texels : List Texel) (old new : List CachedTile)
     → MovesCellAt state (at_of at) old new → HasCells state old texels → HasCells state new texels
 still_there state at texels old new moved has =
@@ -59,7 +59,7 @@ module _ (files : Files) (gate : GateState) (state : RecordState) where
   each_asks (t ∷ texels) p q (mid, first, rest) =
       (mid.pass, first.asks, each_asks texels mid q rest)
 
-  -- they have no call of the tap where the microcache has all cells
+  -- if the microcache has all cells, the fetches make no call to the tap
   pub each_warm : (texels : List Texel) (p q : PassTap)
       → HasCells state p.pass.pinned.recent texels → EachAnswered (Fetches files gate state) p texels q
       → q.tap ≡ p.tap
@@ -104,7 +104,7 @@ module _ (files : Files) (gate : GateState) (state : RecordState) where
         cause_since files state q.pass.view p.tap mid.tap q.tap e first.tap
         (one_cause texels mid q e rest)
 
-    -- of stored levels memory is wanting only where a file was opened
+    -- fetches of stored levels run out of memory only if a file was opened
     one_memory : (texels : List Texel) (p q : PassTap) (e : CacheError B)
         → All (λ texel. IsStoredAt state (at_of texel)) texels
         → OneRefused (Fetches files gate state) (Refuses files gate state) p texels e q
@@ -116,7 +116,7 @@ module _ (files : Files) (gate : GateState) (state : RecordState) where
         wants_since p.tap mid.tap q.tap e first.tap (one_memory texels mid q e
         (All-tail (λ texel. IsStoredAt state (at_of texel)) t texels stored) rest)
 
-    -- none is refused where the microcache has all cells
+    -- no fetch fails if the microcache has all cells
     pub one_cold : (texels : List Texel) (p q : PassTap) (e : CacheError B)
         → HasCells state p.pass.pinned.recent texels
         → OneRefused (Fetches files gate state) (Refuses files gate state) p texels e q → ⊥
@@ -131,7 +131,7 @@ module _ (files : Files) (gate : GateState) (state : RecordState) where
 
 -- ---- a whole lookup
 
--- why a texel is not fetched is why the lookup is not answered
+-- a lookup fails for the reason for which one of its texels was not fetched
 lookup_cause : {B : Type 0} (files : Files) (k : RecordState) (view : ViewState) (a b : TapState)
     (e : CacheError B) → FetchCause files k view a b e → StepCause files k view a b LookupRefuses e
 lookup_cause files k view a b (refused.Again from to) met = met

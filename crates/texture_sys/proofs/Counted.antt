@@ -1,4 +1,4 @@
--- What do the needs of a lookup count, one after another?
+-- What do the needs of a lookup count, when they follow one another?
 use Rattle.std.proofs.Common.{◌≡◌, ◌≤◌, Bool, true, false, List, [], ◌∷◌, length, refl, subst}
 use Rattle.std.proofs.Common.{Result, Ok, Err, arith}
 use Rattle.std.specs.Prelude.{IfOk}
@@ -14,12 +14,12 @@ use Rattle.image_cache.proofs.FillLemmas.{needs_between, needs_chain, no_needs}
 use Rattle.image_cache.specs.Fetches.{at_of}
 use Rattle.texture_sys.specs.Needs.{lookup_keys_on, NeedsCells, AsksForEach, AsksForCells}
 
--- the counts are of 64 bits
+-- the counts fit 64 bits
 pub record AreCounts (pass : PassState) : Type 0 where
   pub needs : pass.needs ≤ max_count
   pub hits : pass.hits ≤ max_count
 
--- No count falls by one need, and each is one of 64 bits still.
+-- A need lowers no count, and the counts still fit 64 bits.
 pub record CountsFurther (old new : PassState) : Type 0 where
   pub on : CountsOn old new
   pub are : AreCounts new
@@ -53,7 +53,7 @@ counts_chain a b c first later = record {
 pub counts_none : (pass : PassState) → CountsOn pass pass
 counts_none pass = record { needs = omega arith; hits = omega arith; apart = omega arith }
 
--- nothing was answered apart in either of two steps
+-- if no need was uncached in two steps, none was in either of them
 none_first : (a b c : PassState) → a.apart ≤ b.apart → b.apart ≤ c.apart → NoneApart a c
     → NoneApart a b
 none_first a b c first later none =
@@ -67,7 +67,7 @@ none_then a b c first later none = record {
 }
 
 module _ (files : Files) (state : RecordState) where
-  -- as many needs are counted
+  -- one need is counted for each texel
   each_needs : (texels : List Texel) (old new : PassState) → AreCounts old
       → AsksForEach files state texels old new
       → new.needs ≡ counted_together old.needs (length texels)
@@ -91,7 +91,7 @@ module _ (files : Files) (state : RecordState) where
       first.need first.apart.later in
       counts_chain old mid new further.on (each_counts texels mid new further.are rest)
 
-  -- and the microcache was asked for their keys in turn
+  -- the microcache was asked for the keys of the cells in order
   keys_in : (kept : Kept) → state.layout ≡ Ok kept → (texels : List Texel) (old new : PassState)
       → AreCounts old → NoneApart old new → AsksForEach files state texels old new
       → Needs files (lookup_keys_on state.generation state.file state.cut kept texels) old new

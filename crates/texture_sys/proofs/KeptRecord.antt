@@ -7,7 +7,7 @@ use Rattle.tex_world.specs.Tap.{TapState}
 use Rattle.tiff_format.specs.declared.cut.Cut.{Cut}
 use Rattle.file_table.specs.Record.{RecordState}
 use Rattle.file_table.specs.Calls.{Sighted, sighted, GivesRecord, KeepsView}
-use Rattle.texture_sys.specs.declared.lookup_request.LookupRequest.{LookupRequest}
+use Rattle.texture_sys.specs.declared.lookup.Lookups.{Lookups}
 use Rattle.image_cache.specs.declared.error.CacheError.{CacheError}
 use Rattle.image_cache.specs.declared.error.CacheError.TheVariants as refused
 use Rattle.image_cache.specs.Pass.{PassState}
@@ -71,7 +71,7 @@ module _ (files : Files) (file : ℕ) (cut : Cut) (old mid new : PassState)
   after tap_mid tap_new refused.RegionTooLarge falls none = absurd none
   after tap_mid tap_new refused.HoldsFull falls none = absurd none
 
-  pub texture_kept : {B : Type 0} (r : LookupRequest) (tap_mid tap_new : TapState)
+  pub texture_kept : {B : Type 0} (r : Lookups) (tap_mid tap_new : TapState)
       (result : Result ℕ (CacheError B)) → KeepsAllBut view_and_record old mid
       → IfOk result (λ g. g ≡ k.generation)
       → OnOk result (AsksForCells files k (visits_on k r) mid new)
@@ -120,7 +120,7 @@ module _ {B : Type 0} (files : Files) (file : ℕ) (cut : Cut) where
 
 -- ---- a lookup in the microcache alone
 
-pub local_kept : (files : Files) (file : ℕ) (cut : Cut) (r : LookupRequest)
+pub local_kept : (files : Files) (file : ℕ) (cut : Cut) (r : Lookups)
     (old mid looked new : PassState) (k : RecordState) (g : ℕ)
     → GivesRecord files file cut old.view new.view k → new.latest ≡ Some k → k.generation ≡ g
     → KeepsAllBut view_and_record old mid → AsksForCells files k (visits_on k r) mid looked

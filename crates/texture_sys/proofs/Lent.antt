@@ -1,4 +1,4 @@
--- What do the fetches of a lookup leave of what it was lent, one after another?
+-- What do the fetches of a lookup leave of the values that it was lent?
 use Rattle.std.proofs.Common.{◌≡◌, ap, subst, ◌∙◌, inl, inr}
 use Rattle.std.proofs.Common.{List, [], ◌∷◌, Result, Ok, Err}
 use Rattle.texel_filter.specs.Image.{Texel}
@@ -30,7 +30,7 @@ module _ {S E X : Type 0} (leaves : S → Texel → S → Type 0)
   one_same (t ∷ texels) a b e (inr (mid, first, rest)) =
       one_same texels mid b e rest ∙ kept a mid t first
 
--- all calls of a lookup leave the same
+-- what every fetch leaves unchanged, the whole lookup leaves unchanged
 pub left_same : {S E X T : Type 0} (b a : S) (texels : List Texel) (result : Result T E)
     (leaves : S → Texel → S → Type 0) (declines : S → Texel → E → S → Type 0)
     → LeftBy leaves declines a texels b result → (f : S → X)
@@ -72,7 +72,7 @@ module _ {S K D E : Type 0} (leaves : S → Texel → S → Type 0)
             (one_as texels mid b e rest),
       )
 
--- the calls of a lookup, said of what is known of the fetch
+-- the fetches of a lookup, in terms of a smaller state that describes the fetch
 pub left_as : {S K D E T : Type 0} (b a : S) (texels : List Texel) (result : Result T E)
     (leaves : S → Texel → S → Type 0) (declines : S → Texel → E → S → Type 0)
     → LeftBy leaves declines a texels b result → (k : S → K) (d : S → D)
@@ -86,7 +86,7 @@ left_as b a texels (Ok done) leaves declines left k d rel dec kept refused =
 left_as b a texels (Err e) leaves declines left k d rel dec kept refused =
     one_as leaves declines k d rel dec kept refused texels a b e left
 
--- ---- a lookup by a record
+-- ---- a lookup on a record
 
 module _ {V T Busy W H R : Type 0} {v : a_waiter.Ghosts V Busy} {t : a_tap.Ghosts T W H}
     {h : a_handle.Ghosts H W} (files : Files) (b a : Reading V T Busy W H v t h)
@@ -105,7 +105,7 @@ module _ {V T Busy W H R : Type 0} {v : a_waiter.Ghosts V Busy} {t : a_tap.Ghost
   same_of f each = left_same b a (texels a.known.now) result leaves declines left f
       (λ x y s p. each x y (kept x y s p).0) (λ x y s e p. each x y (refused x y s e p).0)
 
-  -- it is the same call behind it
+  -- the call that follows has the same cache, record, pass and tap
   pub same_after : IsSameCall a b
   same_after = record {
     cache = same_of (λ r. r.cache) (λ x y call. call.cache);
@@ -114,7 +114,7 @@ module _ {V T Busy W H R : Type 0} {v : a_waiter.Ghosts V Busy} {t : a_tap.Ghost
     tap_name = same_of (λ r. r.tap.ghost_name) (λ x y call. call.tap_name);
   }
 
-  -- the cache's tiles and the record, which stay
+  -- the cache's tiles and the record, which do not change
   abbrev Stays : Type 0
   Stays = GateState × RecordState
 
@@ -127,7 +127,7 @@ module _ {V T Busy W H R : Type 0} {v : a_waiter.Ghosts V Busy} {t : a_tap.Ghost
       ∙ ap (λ (k : RecordState). let p : Stays = (x.cache.now.gate, k) in p)
       (ap (λ k. k.now) call.known)
 
-  -- and what is left is said of pass and tap, by a record that it stands for
+  -- what the lookup leaves, in terms of the pass and the tap
   pub left_known : (k : RecordState) → a.known.now ≡ k
       → LeftBy (Fetches files a.cache.now.gate k) (Refuses files a.cache.now.gate k)
       (moment a) (texels k) (moment b) result

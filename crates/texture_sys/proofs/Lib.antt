@@ -11,3 +11,4 @@ mod TextureLemmas
 mod KeptRecord
 mod Warm
 mod Visits
+mod BatchLemmas

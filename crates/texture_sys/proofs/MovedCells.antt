@@ -1,4 +1,4 @@
--- Which cells has a microcache after one of its tiles was moved to the first place?
+-- Which cells does a microcache have after one of its tiles was moved to the front?
 use Rattle.std.proofs.Common.{◌≡◌, ℕ, Bool, true, false, not, ◌==◌, cond, refl, ap}
 use Rattle.std.proofs.Common.{◌∙◌, List, [], ◌∷◌, Option, Some, None, Result, Ok, Err}
 use Rattle.std.specs.Prelude.{IfOk}
@@ -27,7 +27,8 @@ module _ {A : Type 0} (p q : A → Bool) where
   kept_step x xs true false both is has later = absurd (cc (both is, has))
   kept_step x xs false false both is has later = later
 
-  -- what a test finds is found among those that pass another, where it passes that one too
+  -- a search in a filtered list finds what it finds in the whole list, if the filter keeps all
+  -- matches
   find_kept : ((x : A) → p x ≡ true → q x ≡ true) → (xs : List A)
       → find p (filter q xs) ≡ find p xs
   find_kept both [] = refl
@@ -41,7 +42,7 @@ module _ {A : Type 0} (p q : A → Bool) where
   dropped_step x xs false true apart is has later = rw is later
   dropped_step x xs true true apart is has later = absurd (cc (apart is, has))
 
-  -- and nothing is where it does not pass it
+  -- a search in a filtered list finds nothing if the filter drops all matches
   find_dropped : ((x : A) → p x ≡ true → q x ≡ false) → (xs : List A)
       → find p (filter q xs) ≡ None
   find_dropped apart [] = refl
@@ -52,7 +53,7 @@ or_none : {A : Type 0} (o : Option A) → option_or o None ≡ o
 or_none None = refl
 or_none (Some x) = refl
 
--- a tile of a key is found as before
+-- moving a tile to the front does not change which tile has a key
 find_first : (moved key : ℕ) (tiles : List CachedTile)
     → find (has_key key_in key) (key_first key_in moved tiles) ≡ find (has_key key_in key) tiles
 find_first moved key tiles =
@@ -82,7 +83,7 @@ find_first moved key tiles =
         (find_dropped p q other tiles)
         ∙ find_kept p (λ t. not (q t)) (λ t has. ap not (other t has)) tiles
 
--- and so is a cell
+-- moving a tile to the front does not change whether a cell is there
 pub has_first : (cell : CellAt) (moved : ℕ) (tiles : List CachedTile)
     → has_cell cell (key_first key_in moved tiles) ≡ has_cell cell tiles
 has_first cell moved tiles = ap (λ (o : Option CachedTile). option_map_or (is_tile_of cell) o false)

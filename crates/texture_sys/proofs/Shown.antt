@@ -1,4 +1,4 @@
--- What does a lookup leave whose texels were read where they lie, once they are counted together?
+-- What does a lookup leave that reads its texels in place and counts them together at the end?
 use Rattle.std.proofs.Common.{◌≡◌, ℕ, ◌≤◌, Bool, true, false, refl, sym, ap, subst, ◌∙◌, inl, inr, arith}
 use Rattle.std.proofs.Common.{List, [], ◌∷◌, length, Option, Some, None, Result, Ok, Err}
 use Rattle.std.specs.Prelude.{IsOkAnd, IfOk, IfSome}
@@ -29,7 +29,7 @@ use Rattle.texture_sys.proofs.Counted.{AreCounts, asks_cells}
 use Rattle.texture_sys.proofs.MovedCells.{has_first}
 use Rattle.texture_sys.proofs.Turns.{has_any, any_of_cell, there_any, asks_first, latest_turn}
 
--- a cell of a record that holds a texel
+-- the cell of a record that holds a texel
 abbrev CellFor : RecordState → TexelAt → Type 0
 CellFor state at = (cell : CellAt) × IsCellIn state at cell
 
@@ -58,7 +58,7 @@ latest_of state at cell latest is turned = by state.layout is turned
     by (Ok kept) same here = here ∙ ap (λ (c : CellAt). Some c.key) (sym same)
     by (Err fault) same here = absurd same
 
--- a texel was read whose cell the microcache has
+-- a texel was read, and the microcache has its cell
 pub shows_at : (state : RecordState) (old new : Walk) (texel : Texel) (key : ℕ)
     → IsShownAt state (at_of texel) old.pass.pinned.recent key → new.pass ≡ old.pass
     → new.reads ≡ counted old.reads → new.latest ≡ Some key → ShowsTexel state old texel new
@@ -77,11 +77,12 @@ shows_at state old new texel key shown same read is = record {
     by (Ok kept) here = is ∙ ap (λ (k : ℕ). Some k) here
     by (Err fault) here = tt
 
--- the key of the latest one's cell is there
+-- the last cell that was read is in the microcache
 abbrev IsThere : List CachedTile → Option ℕ → Type 0
 IsThere tiles latest = IfSome latest (λ key. has_any key tiles ≡ true)
 
--- The pass is the old one, had it counted each texel that was read and turned to its cell.
+-- The pass as it would be, had it counted each texel when it was read and moved the cell to the
+-- front.
 pub record Stands (old : PassState) (walk : Walk) (pass : PassState) : Type 0 where
   pub needs : pass.needs ≡ counted_together old.needs walk.reads
   pub hits : pass.hits ≡ counted_together old.hits walk.reads
@@ -107,7 +108,7 @@ module _ (files : Files) (state : RecordState) (old : PassState) where
   turns_on cell (Some key) few has =
       latest_turn cell.key key old.pinned.recent few (any_of_cell cell old.pinned.recent has)
 
-  -- the pass once the next texel is counted too
+  -- the pass after the next texel is counted too
   abbrev next : PassState → ℕ → PassState
   next p key = record p {
     needs = counted p.needs;
@@ -179,7 +180,7 @@ module _ (files : Files) (state : RecordState) (old : PassState) where
               (stands_next t w mid p found.0 one first found.1 has) other rest,
         )
 
-    -- what they leave, counted together
+    -- what such a lookup leaves after its needs are counted together
     pub shown_asks : (texels : List Texel) (v : Walk) (q : PassState) → AreCounts old
         → EachAnswered (ShowsTexel state) (walk_of old 0 None) texels v
         → CountsHits v.reads old q → q.pinned.recent ≡ turned_to v.latest old.pinned.recent
@@ -199,9 +200,9 @@ module _ (files : Files) (state : RecordState) (old : PassState) where
           recent = recent;
         }) each)
 
-  -- ---- which cells are there
+  -- ---- which cells are in the microcache
 
-  -- the latest one's cell is
+  -- the last cell that was read is there
   latest_there : (texels : List Texel) (w v : Walk) → w.pass ≡ old
       → IsThere old.pinned.recent w.latest → EachAnswered (ShowsTexel state) w texels v
       → IsThere old.pinned.recent v.latest
@@ -249,9 +250,9 @@ module _ (files : Files) (state : RecordState) (old : PassState) where
         cells_none texels mid v e (first.same ∙ of)
         (All-tail (HasCell state old.pinned.recent) t texels has) rest
 
--- ---- as the fetch of a lookup leaves them
+-- ---- in terms of the fetch of a lookup
 
--- the pass is as it was
+-- the pass does not change
 pass_stays : (state : RecordState) (texels : List Texel) (w v : Walk)
     → EachAnswered (ShowsTexel state) w texels v → v.pass ≡ w.pass
 pass_stays state [] w v is = ap (λ (x : Walk). x.pass) is
@@ -297,7 +298,7 @@ one_walked b a (t ∷ texels) e leaves declines (inr (mid, first, rest)) k w kep
           here.0 (one_walked b mid texels e leaves declines rest k w kept refused),
     )
 
--- four reads are counted one after another
+-- counting four reads together equals counting them one by one
 pub four_reads : (n m : ℕ) → m ≡ counted_together n 4
     → m ≡ counted (counted (counted (counted n)))
 four_reads n m is = omega (arith, is)

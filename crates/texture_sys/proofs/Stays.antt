@@ -1,4 +1,4 @@
--- What do the fetches of a lookup leave of a pass and of its tap, one after another?
+-- What do the fetches of a lookup leave of a pass and its tap?
 use Rattle.std.proofs.Common.{◌≡◌, ℕ, ◌≤◌, refl, sym, subst, length}
 use Rattle.shard_gate.specs.Gate.{GateState}
 use Rattle.shard_gate.specs.Since.{PurgesNone}

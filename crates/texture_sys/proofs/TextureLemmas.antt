@@ -1,7 +1,7 @@
--- A lookup on the record that was found: what it answers, and why it is refused.
+-- A lookup on the record that was found: what it answers, and why it fails.
 use Rattle.std.proofs.Common.{◌≡◌, ℕ, ◌≤◌, sym, ap, subst, ◌∙◌, arith, List}
 use Rattle.std.proofs.Common.{Some, Result, Ok, Err, slice_index}
-use Rattle.std.specs.Prelude.{IfOk, OnOk}
+use Rattle.std.specs.Prelude.{IfOk, IfErr, OnOk}
 use Rattle.std.specs.Option.{ForSome}
 use Rattle.tex_world.specs.World.{Files, IsReal}
 use Rattle.tex_world.specs.Tap.{TapState}
@@ -11,13 +11,17 @@ use Rattle.tile_layout.specs.Kept.{kept_of}
 use Rattle.tile_layout.specs.Cell.{CellsFit}
 use Rattle.file_table.specs.Record.{RecordState}
 use Rattle.file_table.specs.Calls.{sighted, GivesRecord, KeepsView}
-use Rattle.texture_sys.specs.declared.lookup_request.LookupRequest.{LookupRequest}
+use Rattle.texture_sys.specs.declared.lookup.Lookups.{Lookups}
 use Rattle.image_cache.specs.declared.error.CacheError.{CacheError}
 use Rattle.image_cache.specs.declared.error.CacheError.TheVariants as refused
 use Rattle.image_cache.specs.Call.{NoneFalls}
 use Rattle.image_cache.specs.Cause.{StepCause, LookupRefuses}
 use Rattle.image_cache.proofs.TexelLemmas.{cause_since}
-use Rattle.texture_sys.specs.Call.{IsOfGeneration, IsLookupOn, Answers, TextureCause}
+use Rattle.texture_sys.specs.declared.stopped.Stopped.{Stopped}
+use Rattle.texture_sys.specs.Asked.{AreFirstOn}
+use Rattle.texture_sys.specs.Look.{picture_of}
+use Rattle.texture_sys.specs.Call.{IsOfGeneration, IsLookupOn, Answers, AnswersFirst}
+use Rattle.texture_sys.specs.Call.{TextureCause}
 use Rattle.texture_sys.proofs.LookLemmas.{good_layout, bad_layout}
 
 module _ (files : Files) (file : ℕ) (cut : Cut) (old mid new : ViewState) (k : RecordState)
@@ -43,7 +47,7 @@ module _ (files : Files) (file : ℕ) (cut : Cut) (old mid new : ViewState) (k :
   held_as g bytes is held = ap (λ (n : ℕ). files.held n k.generation) given.of_file
       ∙ (ap (λ (n : ℕ). files.held file n) (sym is) ∙ held)
 
-  pub texture_value : {E : Type 0} (r : LookupRequest) (out : List ℕ) (result : Result ℕ E)
+  pub texture_value : {E : Type 0} (r : Lookups) (out : List ℕ) (result : Result ℕ E)
       → IfOk result (λ g. g ≡ k.generation)
       → ForSome (files.held k.file k.generation) (λ bytes. OnOk result (IsLookupOn k.cut bytes r out))
       → IfOk result (Answers files file cut r old new out)
@@ -53,6 +57,18 @@ module _ (files : Files) (file : ℕ) (cut : Cut) (old mid new : ViewState) (k :
         (value bytes (held_as g bytes is held));
   }
   texture_value r out (Err e) is value = tt
+
+  pub texture_part : {A E : Type 0} (r : Lookups) (out : List ℕ) (result : Result A (Stopped E))
+      → IfErr result (λ s. s.generation ≡ k.generation)
+      → ForSome (files.held k.file k.generation) (λ bytes.
+      IfErr result (λ s. AreFirstOn (picture_of k.cut bytes) r s.done out))
+      → IfErr result (AnswersFirst files file cut r old new out)
+  texture_part r out (Ok x) is part = tt
+  texture_part r out (Err s) is part = λ some. (
+    of_generation s.generation is,
+    λ bytes held. subst (λ (c : Cut). AreFirstOn (picture_of c bytes) r s.done out) given.under
+        (part bytes (held_as s.generation bytes is held)),
+  )
 
   pub texture_cause : {B : Type 0} (tap_old tap_mid tap_new : TapState) (e : CacheError B)
       → NoneFalls tap_old tap_mid → StepCause files k new tap_mid tap_new LookupRefuses e

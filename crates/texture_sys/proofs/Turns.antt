@@ -1,4 +1,4 @@
--- What does a microcache have that is turned to one cell after another, all of which it has?
+-- Which tiles does a microcache have after asking for cells that are all there?
 use Rattle.std.proofs.Common.{◌≡◌, ◌⊎◌, ℕ, Bool, true, false, cond, not, nat_eq, ◌||◌, ◌≤◌}
 use Rattle.std.proofs.Common.{List, [], ◌∷◌, ◌++◌, map, take, length, refl, sym, ap, subst, ◌∙◌}
 use Rattle.std.proofs.Common.{inl, inr, arith}
@@ -32,16 +32,16 @@ any_step cell t tiles true is later has = rw (nat_eq_equiv.symm cell.key t.key, 
 any_step cell t tiles false is later has =
     rw (nat_eq_equiv.symm cell.key t.key, is) (later (rw is at has))
 
--- so it is where the microcache has a cell of it
+-- a tile with the key is there if the microcache has a cell with it
 pub any_of_cell : (cell : CellAt) (tiles : List CachedTile) → has_cell cell tiles ≡ true
     → has_any cell.key tiles ≡ true
 any_of_cell cell [] has = absurd (false≢true has)
 any_of_cell cell (t ∷ tiles) has =
     any_step cell t tiles (nat_eq t.key cell.key) refl (any_of_cell cell tiles) has
 
--- ---- the latest two keys are two
+-- ---- the last two keys differ
 
--- the latest key and one behind it are read off a list
+-- the last key and the last different one are read off a list
 abbrev IsPushed : List ℕ → Type 0
 IsPushed asked = (x : ℕ) × ((ys : List ℕ) × (recent asked ≡ x ∷ take 1 (filter (is_other x) ys)))
 
@@ -115,14 +115,14 @@ are_two asked (a ∷ b ∷ []) were = two_items key_in a b (two_of asked a.key b
 are_two asked (a ∷ b ∷ c ∷ rest) were =
     absurd (three_of asked (map key_in rest) a.key b.key c.key (sym were))
 
--- a key that is there was asked for, once its tile was moved to the first place
+-- a key that is there was asked for, after its tile moved to the front
 pub asks_first : (key : ℕ) (tiles : List CachedTile) → has_any key tiles ≡ true
     → AsksFor key tiles (key_first key_in key tiles)
 asks_first key tiles any = λ asked were.
     recent_again key_in asked key tiles (key_first key_in key tiles)
     (first_found key_in key tiles (are_two asked tiles were) any).keys were
 
--- ---- only the latest turn tells
+-- ---- only the last move matters
 
 module _ (k l : ℕ) where
   none_here : (a : CachedTile) → nat_eq a.key k ≡ false → has_any k (a ∷ []) ≡ true → ⊥

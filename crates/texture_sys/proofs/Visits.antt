@@ -1,4 +1,4 @@
--- Which visits are made by a step that makes none, before or behind another?
+-- Which visits does a step make that follows or precedes one without visits?
 use Rattle.std.proofs.Common.{◌≡◌, ap, subst, sym}
 use Rattle.shard_gate.specs.Gate.{GateState, PinSeatState}
 use Rattle.shard_gate.specs.Since.{PurgesNone}

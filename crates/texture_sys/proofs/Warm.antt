@@ -7,13 +7,13 @@ use Rattle.tile_layout.specs.Cell.{CellsFit}
 use Rattle.tile_store.specs.Tile.{CachedTile}
 use Rattle.file_table.specs.Record.{RecordState}
 use Rattle.file_table.specs.Calls.{sighted}
-use Rattle.texture_sys.specs.declared.lookup_request.LookupRequest.{LookupRequest}
+use Rattle.texture_sys.specs.declared.lookup.Lookups.{Lookups}
 use Rattle.image_cache.specs.Pass.{PassState}
 use Rattle.texture_sys.specs.Needs.{visits_on, HasCells}
 use Rattle.texture_sys.specs.Call.{IsReady, IsWarm}
 use Rattle.texture_sys.specs.Call.{AnswersWarm}
 
-module _ {E : Type 0} (file : ℕ) (r : LookupRequest) (old mid new : PassState)
+module _ {E : Type 0} (file : ℕ) (r : Lookups) (old mid new : PassState)
     (tap_old tap_mid tap_new : TapState) (k : RecordState) (result : Result ℕ E)
     (later : slice_index mid.view.seen file ≤ slice_index new.view.seen file)
     (recent : mid.pinned.recent ≡ old.pinned.recent)

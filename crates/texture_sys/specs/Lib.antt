@@ -1,3 +1,4 @@
+pub mod Batch
 pub mod Asked
 pub mod Look
 pub mod Needs

@@ -1,4 +1,5 @@
--- Which cells does a lookup need, when has a microcache all of them, and what do the needs leave?
+-- Which cells does a lookup need, when does a microcache have all of them, and what do the needs
+-- leave?
 use Rattle.std.specs.Prelude.{◌≡◌, ℕ, List, [], ◌∷◌, map, length, true, IfOk}
 use Rattle.std.specs.List.{All}
 use Rattle.tex_world.specs.World.{Files}
@@ -6,43 +7,43 @@ use Rattle.tiff_format.specs.declared.cut.Cut.{Cut}
 use Rattle.tile_layout.specs.Kept.{Kept}
 use Rattle.tile_store.specs.Tile.{CachedTile}
 use Rattle.file_table.specs.Record.{RecordState}
-use Rattle.texture_sys.specs.declared.lookup_request.LookupRequest.{LookupRequest}
+use Rattle.texture_sys.specs.declared.lookup.Lookups.{Lookups}
 use Rattle.texel_filter.specs.Image.{Texel}
-use Rattle.texture_sys.specs.Asked.{asked_visits}
+use Rattle.texture_sys.specs.Asked.{all_visits}
 use Rattle.image_cache.specs.Pass.{PassState, SameCounts, counted_together}
 use Rattle.image_cache.specs.Texel.{has_cell_at, cell_of, IsStoredAt}
 use Rattle.image_cache.specs.Call.{Needs, NoneApart}
 use Rattle.image_cache.specs.Sizes.{sizes_known}
 use Rattle.image_cache.specs.Fetches.{at_of, AsksForCell}
 
--- the texels that a lookup on a record visits, one after another
-abbrev pub visits_on : RecordState → LookupRequest → List Texel
-visits_on state r = asked_visits (sizes_known state) r
+-- the texels that lookups on a record visit, in order
+abbrev pub visits_on : RecordState → Lookups → List Texel
+visits_on state r = all_visits (sizes_known state) r
 
--- ---- the microcache has them
+-- ---- cells in the microcache
 
--- the cell that holds a texel of a record is among these tiles
+-- these tiles include the cell that holds a texel of a record
 abbrev pub HasCell : RecordState → List CachedTile → Texel → Type 0
 HasCell state tiles texel = has_cell_at state (at_of texel) tiles ≡ true
 
--- all cells that hold these texels are
+-- these tiles include all cells that hold these texels
 abbrev pub HasCells : RecordState → List CachedTile → List Texel → Type 0
 HasCells state tiles texels = All (HasCell state tiles) texels
 
 -- ---- stored levels
 
--- the lookup visits texels of stored levels alone
-abbrev pub VisitsStored : LookupRequest → RecordState → Type 0
+-- the lookup visits texels of stored levels only
+abbrev pub VisitsStored : Lookups → RecordState → Type 0
 VisitsStored r state = All (λ texel. IsStoredAt state (at_of texel)) (visits_on state r)
 
--- ---- asking for them
+-- ---- asking for cells
 
--- the keys of the cells that hold these texels, of a generation of a file
+-- the keys of the cells that hold these texels, for one generation of a file
 abbrev pub lookup_keys_on : ℕ → ℕ → Cut → Kept → List Texel → List ℕ
 lookup_keys_on generation file cut kept texels =
     map (λ texel. (cell_of generation file cut kept (at_of texel)).key) texels
 
--- The cells of a record that hold these texels were needed in turn.
+-- The cells of a record that hold these texels were needed one after another.
 abbrev pub NeedsCells : Files → RecordState → List Texel → PassState → PassState → Type 0
 NeedsCells files state texels old new = IfOk state.layout (λ kept. Needs files
     (lookup_keys_on state.generation state.file state.cut kept texels) old new)
@@ -54,8 +55,8 @@ AsksForEach files state (texel ∷ rest) old new =
     (mid : PassState) × AsksForCell files state texel old mid
     × AsksForEach files state rest mid new
 
--- So it did, and counted as many needs. Unless one of them was answered apart the microcache was asked
--- for their keys in turn.
+-- The pass asked for the cells that hold these texels, and counted each need. If none of them was
+-- uncached, their keys were asked of the microcache in order.
 pub record AsksForCells (files : Files) (state : RecordState) (texels : List Texel)
     (old new : PassState) : Type 0 where
   pub each : AsksForEach files state texels old new

@@ -1,4 +1,4 @@
-//! The calls for lookups through the cache.
+//! The two public lookups through the cache: at a place, and along a pixel's footprint.
 ghost use Rattle.std.specs.Prelude.{◌≡◌, ◌<◌, length, IfOk, IfErr, IfSome, OnErr};
 ghost use Rattle.tex_world.specs.World.{IsFile};
 ghost use Rattle.file_table.specs.Calls.{sighted};
@@ -11,16 +11,19 @@ ghost use Rattle.image_cache.specs.Cause.{KeepsRecentAt};
 ghost use Rattle.texture_sys.specs.Call.{Answers, TextureCause, MemoryCause, AfterLookup};
 ghost use Rattle.texture_sys.specs.Call.{KeepsRecord};
 ghost use Rattle.texture_sys.specs.Call.{IsWarm, AnswersWarm};
+ghost use Rattle.texture_sys.specs.declared.lookup.Lookups.TheVariants.{One};
 
+use crate::lookup::{FileLookups, Lookup, Lookups};
 use crate::lookup_request::LookupRequest;
-use crate::texturing::texture_of;
+use crate::stopped::Stopped;
+use crate::texturing::texture_at;
 use image_cache::{Cache, CacheError, Pass};
 use tex_world::Tap;
 use texel_filter::{DerivRequest, TexRequest};
 use waiter::Waiter;
 
-/// Writes the values of a lookup on the newest known generation of a file, and answers which that
-/// is.
+/// Looks up the values at a place in the newest known generation of a file, opens it if necessary
+/// and returns that generation.
 pub fn texture<V: Waiter, T: Tap>(
     cache: &Cache<T>,
     waiter: &V,
@@ -36,39 +39,34 @@ pub fn texture<V: Waiter, T: Tap>(
     requires count { length out.old ≡ r.now.nch }
     requires channels { IsChannelCount r.now.nch }
     ensures value { IfOk result (Answers T.W.files file cache.now.gate.cut
-        (LookupRequest.Point r.now) pass.old.view pass.new.view out.new) }
+        (One (Lookup.Coarse (LookupRequest.Point r.now))) pass.old.view pass.new.view out.new) }
     ensures cause { IfErr result (TextureCause T.W.files file cache.now.gate.cut
         (sighted pass.old.view (T.state tap.old)) (sighted pass.new.view (T.state tap.new))) }
     ensures err { OnErr result (out.new ≡ out.old) }
     ensures unread { IfErr result (KeepsRecentAt pass.old pass.new) }
-    // What the call leaves.
+    // The state after the call.
     ensures same { AfterLookup file pass.old pass.new }
-    ensures kept { KeepsRecord T.W.files file cache.now.gate.cut (LookupRequest.Point r.now)
+    ensures kept { KeepsRecord T.W.files file cache.now.gate.cut (One (Lookup.Coarse (LookupRequest.Point r.now)))
         pass.old pass.new (T.state tap.old) (T.state tap.new) result }
     ensures tap { NoneFalls (T.state tap.old) (T.state tap.new) }
-    // Each visit that it makes is that of a `pin`, a `pin_new`, an `unpin` or a `count`.
+    // It visits shards only to pin, unpin and count tiles; it purges nothing.
     ensures visits { PurgesNone cache.now.gate pass.old.pinned.seat pass.new.pinned.seat }
-    // Of stored levels it is refused for memory only where it opens a file.
-    ensures memory { MemoryCause (LookupRequest.Point r.now) pass.new (T.state tap.old)
+    // If it visits only stored levels, it runs out of memory only while it opens a file.
+    ensures memory { MemoryCause (One (Lookup.Coarse (LookupRequest.Point r.now))) pass.new (T.state tap.old)
         (T.state tap.new) result }
-    // Where all cells that it needs are in the microcache, there is no call of the tap.
-    ensures warm { IfSome pass.old.latest (λ known. IsWarm file (LookupRequest.Point r.now)
+    // If the microcache has every cell that it needs, it makes no call to the tap.
+    ensures warm { IfSome pass.old.latest (λ known. IsWarm file (One (Lookup.Coarse (LookupRequest.Point r.now)))
         pass.old known → AnswersWarm file known.generation
         (sighted pass.old.view (T.state tap.old)) (sighted pass.new.view (T.state tap.new))
         result) }
 {
-    texture_of(
-        cache,
-        waiter,
-        pass,
-        tap,
-        file,
-        &LookupRequest::Point(*r),
-        out,
-    )
+    let lookups = Lookups::One(Lookup::Coarse(LookupRequest::Point(*r)));
+    let at = FileLookups { file, lookups };
+    texture_at(cache, waiter, pass, tap, &at, out).map_err(Stopped::into_error)
 }
 
-/// The same of a lookup along the longer axis of a pixel's footprint.
+/// Looks up the mean over a pixel's footprint, which the derivatives give. Otherwise like
+/// [texture].
 pub fn texture_d<V: Waiter, T: Tap>(
     cache: &Cache<T>,
     waiter: &V,
@@ -84,34 +82,28 @@ pub fn texture_d<V: Waiter, T: Tap>(
     requires count { length out.old ≡ r.now.nch }
     requires request { IsDerivRequest r.now }
     ensures value { IfOk result (Answers T.W.files file cache.now.gate.cut
-        (LookupRequest.Footprint r.now) pass.old.view pass.new.view out.new) }
+        (One (Lookup.Coarse (LookupRequest.Footprint r.now))) pass.old.view pass.new.view out.new) }
     ensures cause { IfErr result (TextureCause T.W.files file cache.now.gate.cut
         (sighted pass.old.view (T.state tap.old)) (sighted pass.new.view (T.state tap.new))) }
     ensures err { OnErr result (out.new ≡ out.old) }
     ensures unread { IfErr result (KeepsRecentAt pass.old pass.new) }
-    // What the call leaves.
+    // The state after the call.
     ensures same { AfterLookup file pass.old pass.new }
-    ensures kept { KeepsRecord T.W.files file cache.now.gate.cut (LookupRequest.Footprint r.now)
+    ensures kept { KeepsRecord T.W.files file cache.now.gate.cut (One (Lookup.Coarse (LookupRequest.Footprint r.now)))
         pass.old pass.new (T.state tap.old) (T.state tap.new) result }
     ensures tap { NoneFalls (T.state tap.old) (T.state tap.new) }
-    // Each visit that it makes is that of a `pin`, a `pin_new`, an `unpin` or a `count`.
+    // It visits shards only to pin, unpin and count tiles; it purges nothing.
     ensures visits { PurgesNone cache.now.gate pass.old.pinned.seat pass.new.pinned.seat }
-    // Of stored levels it is refused for memory only where it opens a file.
-    ensures memory { MemoryCause (LookupRequest.Footprint r.now) pass.new (T.state tap.old)
+    // If it visits only stored levels, it runs out of memory only while it opens a file.
+    ensures memory { MemoryCause (One (Lookup.Coarse (LookupRequest.Footprint r.now))) pass.new (T.state tap.old)
         (T.state tap.new) result }
-    // Where all cells that it needs are in the microcache, there is no call of the tap.
-    ensures warm { IfSome pass.old.latest (λ known. IsWarm file (LookupRequest.Footprint r.now)
+    // If the microcache has every cell that it needs, it makes no call to the tap.
+    ensures warm { IfSome pass.old.latest (λ known. IsWarm file (One (Lookup.Coarse (LookupRequest.Footprint r.now)))
         pass.old known → AnswersWarm file known.generation
         (sighted pass.old.view (T.state tap.old)) (sighted pass.new.view (T.state tap.new))
         result) }
 {
-    texture_of(
-        cache,
-        waiter,
-        pass,
-        tap,
-        file,
-        &LookupRequest::Footprint(*r),
-        out,
-    )
+    let lookups = Lookups::One(Lookup::Coarse(LookupRequest::Footprint(*r)));
+    let at = FileLookups { file, lookups };
+    texture_at(cache, waiter, pass, tap, &at, out).map_err(Stopped::into_error)
 }

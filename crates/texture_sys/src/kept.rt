@@ -1,4 +1,4 @@
-//! The texels of a record, as a lookup reads them from the microcache alone.
+//! A source of texels that reads the microcache alone.
 ghost use Rattle.std.specs.Prelude.{◌≡◌};
 ghost use Rattle.image_cache.specs.Pass.{IsPassOf};
 ghost use Rattle.image_cache.specs.Texel.{IsUnder};
@@ -10,18 +10,18 @@ use tex_world::Tap;
 use texel_filter::{Corners, Fetch, Square};
 use tile_layout::TileKey;
 
-/// The microcache lacks a cell.
+/// The error of a texel whose cell is not in the microcache.
 #[derive(Drop)]
 pub(crate) struct Lacking;
 
-/// The texels of a record, as the microcache has them. They are read where they lie: the pass stays
-/// as it is until the lookup has all of them.
+/// The texels of one record that are in the microcache. They are read in place: the pass does not
+/// change until the lookup has all of them.
 #[derive(Drop)]
 pub(crate) struct KeptTexels<'a, T: Tap> {
     pub(crate) cache: &'a Cache<T>,
     pub(crate) pass: &'a Pass<T::W>,
     pub(crate) known: &'a Fitting<'a, T::W>,
-    /// How many were read, and the key of the latest one's cell.
+    /// How many texels were read, and the key of the cell that was read last.
     pub(crate) reads: u64,
     pub(crate) latest: Option<TileKey>,
     ghost of_cache: { IsPassOf cache.now pass.now },
@@ -75,7 +75,7 @@ impl<'a, T: Tap> Fetch for KeptTexels<'a, T> {
         channels: usize,
         out: &mut Corners,
     ) -> Result<(), Lacking> {
-        // all four from one cell, or each from its own
+        // usually one cell holds all four, and is searched for once
         if let Some(key) = self
             .cache
             .show_square_local(self.pass, self.known.record(), square, channels, out)

@@ -1,14 +1,20 @@
-//! Lookups through the cache: of a texture with all that it may need, at a place or along a pixel's
-//! footprint, and of what the microcache has alone.
+//! Texture lookups: at a place, along a pixel's footprint, or from the microcache alone.
 #![tactic(auto)]
 
 mod asking;
+mod batch;
 mod calls;
 mod kept;
 mod local;
+mod lookup;
 mod lookup_request;
+mod stopped;
 mod texturing;
 
+pub use batch::{Batch, BatchOptions, FootprintOptions, Place, PointOptions};
 pub use calls::{texture, texture_d};
-pub use local::texture_local;
+pub use local::{local_at, texture_local};
+pub use lookup::{FileLookup, FileLookups, Lookup, Lookups};
 pub use lookup_request::LookupRequest;
+pub use stopped::Stopped;
+pub use texturing::texture_at;

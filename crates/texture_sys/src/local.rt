@@ -1,5 +1,5 @@
-//! A lookup in what the microcache has alone. It waits for nothing, has no tap and takes no
-//! memory.
+//! A lookup from the microcache alone. It does not wait, makes no call to a tap and allocates
+//! nothing.
 ghost use Rattle.std.specs.Prelude.{◌≡◌, ◌↔◌, ◌<◌, ◌≤◌, length, slice_index, IsTrue, IsFalse};
 ghost use Rattle.std.specs.Prelude.{IsSome, IsNone, IfSome, IsSomeAnd, None};
 ghost use Rattle.std.specs.Option.{ForSome};
@@ -9,7 +9,8 @@ ghost use Rattle.texel_filter.specs.Calls.{EachAnswered};
 ghost use Rattle.image_cache.specs.Pass.{IsPassOf};
 ghost use Rattle.image_cache.specs.Pass.{KeepsAllBut, the_view, recent_and_counts};
 ghost use Rattle.image_cache.specs.Call.{CountsOn};
-ghost use Rattle.texture_sys.specs.Asked.{channels_asked, MayBeLookedUp};
+ghost use Rattle.texture_sys.specs.Asked.{channels_in, IsInRange};
+ghost use Rattle.texture_sys.specs.declared.lookup.Lookups.TheVariants.{One};
 ghost use Rattle.image_cache.specs.Texel.{IsUnder};
 ghost use Rattle.texture_sys.specs.Needs.{visits_on, HasCells, AsksForCells};
 ghost use Rattle.texture_sys.specs.Fetches.{walk_of, ShowsTexel};
@@ -18,15 +19,53 @@ ghost use Rattle.texture_sys.specs.Call.{ServesLocally};
 
 use crate::asking::lookup_for;
 use crate::kept::{KeptTexels, Lacking};
+use crate::lookup::{FileLookup, Lookup};
 use crate::lookup_request::LookupRequest;
 use image_cache::{Cache, Fitting, Pass};
 use tex_world::Tap;
 use texel_filter::TexRequest;
 use tile_layout::TileKey;
 
-/// Writes the values of a lookup, where the record that the pass keeps is of the newest known
-/// generation of the file and the microcache has all cells that it needs, and answers that
-/// generation. Else none: then all but what the pass has seen is as before.
+/// Looks up the values without a tap. It answers, with the generation, if the kept
+/// record is the newest known one and the microcache has every cell needed. Otherwise it returns
+/// `None`; only what the pass has seen of the file may have changed.
+pub fn local_at<T: Tap>(
+    cache: &Cache<T>,
+    pass: &mut Pass<T::W>,
+    at: &FileLookup,
+    out: &mut [u16],
+) -> Option<u32>
+    requires pass { IsPassOf cache.now pass.old }
+    requires file { at.now.file < cache.now.files.board.files }
+    requires count { length out.old ≡ channels_in at.now.lookup }
+    requires asked { IsInRange at.now.lookup }
+    ensures some { IsSome result
+        ↔ IsSomeAnd pass.old.latest (ServesLocally at.now.file (One at.now.lookup) pass.old pass.new) }
+    ensures value { IfSome result (Answers T.W.files at.now.file cache.now.gate.cut
+        (One at.now.lookup) pass.old.view pass.new.view out.new) }
+    ensures none { IsNone result
+        → (out.new ≡ out.old) × KeepsAllBut the_view pass.old pass.new }
+    // The state after the call.
+    ensures same { AfterLookup at.now.file pass.old pass.new }
+    ensures look { AfterStep at.now.file (slice_index pass.new.view.seen at.now.file)
+        pass.old.view pass.new.view }
+    ensures kept { IfSome result (λ generation. IsSomeAnd pass.new.latest (IsLookedUp T.W.files
+        at.now.file cache.now.gate.cut (One at.now.lookup) pass.old pass.new generation)) }
+    ensures latest { pass.new.latest ≡ pass.old.latest }
+{
+    let Some(known) = cache.local(pass, at.file) else {
+        return None;
+    };
+    let generation = known.generation();
+    let fitting = Fitting::of(&known);
+    let looked = lookup_local(cache, pass, &fitting, &at.lookup, out);
+    cache.keep(pass, known);
+    if looked { Some(generation) } else { None }
+}
+
+/// Looks up the values at a place without a tap. It answers, with the generation, if the kept
+/// record is the newest known one and the microcache has every cell needed. Otherwise it returns
+/// `None`; only what the pass has seen of the file may have changed.
 pub fn texture_local<T: Tap>(
     cache: &Cache<T>,
     pass: &mut Pass<T::W>,
@@ -39,56 +78,49 @@ pub fn texture_local<T: Tap>(
     requires count { length out.old ≡ r.now.nch }
     requires channels { IsChannelCount r.now.nch }
     ensures some { IsSome result
-        ↔ IsSomeAnd pass.old.latest (ServesLocally file (LookupRequest.Point r.now) pass.old pass.new) }
+        ↔ IsSomeAnd pass.old.latest (ServesLocally file (One (Lookup.Coarse (LookupRequest.Point r.now))) pass.old pass.new) }
     ensures value { IfSome result (Answers T.W.files file cache.now.gate.cut
-        (LookupRequest.Point r.now) pass.old.view pass.new.view out.new) }
+        (One (Lookup.Coarse (LookupRequest.Point r.now))) pass.old.view pass.new.view out.new) }
     ensures none { IsNone result
         → (out.new ≡ out.old) × KeepsAllBut the_view pass.old pass.new }
-    // What the call leaves.
+    // The state after the call.
     ensures same { AfterLookup file pass.old pass.new }
     ensures look { AfterStep file (slice_index pass.new.view.seen file)
         pass.old.view pass.new.view }
     ensures kept { IfSome result (λ generation. IsSomeAnd pass.new.latest (IsLookedUp T.W.files
-        file cache.now.gate.cut (LookupRequest.Point r.now) pass.old pass.new generation)) }
+        file cache.now.gate.cut (One (Lookup.Coarse (LookupRequest.Point r.now))) pass.old pass.new generation)) }
     ensures latest { pass.new.latest ≡ pass.old.latest }
 {
-    let Some(known) = cache.local(pass, file) else {
-        return None;
-    };
-    let generation = known.generation();
-    let r = LookupRequest::Point(*r);
-    let fitting = Fitting::of(&known);
-    let looked = lookup_local(cache, pass, &fitting, &r, out);
-    cache.keep(pass, known);
-    if looked { Some(generation) } else { None }
+    let lookup = Lookup::Coarse(LookupRequest::Point(*r));
+    local_at(cache, pass, &FileLookup { file, lookup }, out)
 }
 
-/// Writes the values of a lookup on a record, where the microcache has all cells that it needs.
+/// Looks up the values on one record, and counts the needs. False if the microcache lacks a cell.
 fn lookup_local<T: Tap>(
     cache: &Cache<T>,
     pass: &mut Pass<T::W>,
     known: &Fitting<'_, T::W>,
-    r: &LookupRequest,
+    r: &Lookup,
     out: &mut [u16],
 ) -> bool
     requires pass { IsPassOf cache.now pass.old }
     requires few { length pass.old.pinned.recent ≤ 2 }
     requires under { IsUnder cache.now known.now }
-    requires count { length out.old ≡ channels_asked r.now }
-    requires asked { MayBeLookedUp r.now }
+    requires count { length out.old ≡ channels_in r.now }
+    requires asked { IsInRange r.now }
     ensures has { IsTrue result
-        ↔ HasCells known.now pass.old.pinned.recent (visits_on known.now r.now) }
+        ↔ HasCells known.now pass.old.pinned.recent (visits_on known.now (One r.now)) }
     ensures value { IsTrue result →
         ForSome (T.W.files.held known.now.file known.now.generation) (λ bytes.
-        IsLookupOn known.now.cut bytes r.now out.new) }
+        IsLookupOn known.now.cut bytes (One r.now) out.new) }
     ensures same { IsFalse result → (out.new ≡ out.old) × (pass.new ≡ pass.old) }
-    // What the call leaves.
-    ensures asks { IsTrue result → AsksForCells T.W.files known.now (visits_on known.now r.now)
+    // The state after the call.
+    ensures asks { IsTrue result → AsksForCells T.W.files known.now (visits_on known.now (One r.now))
         pass.old pass.new }
     ensures counts { CountsOn pass.old pass.new }
     ensures kept { KeepsAllBut recent_and_counts pass.old pass.new }
 {
-    // these tell that the counts are of 64 bits
+    // needed by the proof: the counts fit 64 bits
     let _needs = pass.needs();
     let _hits = pass.hits();
     let Some(shown) = show(cache, pass, known, r, out) else {
@@ -98,37 +130,37 @@ fn lookup_local<T: Tap>(
     true
 }
 
-/// What a lookup has read in the microcache: how many texels, and the key of the latest one's cell.
+/// What a lookup has read in the microcache: how many texels, and the key of the last one's cell.
 #[derive(Drop)]
 struct Shown {
     reads: u64,
     latest: Option<TileKey>,
 }
 
-/// Writes the values of a lookup on a record, where the microcache has all cells that it needs.
-/// Nothing is counted, and no tile moved.
+/// Looks up the values on one record. Nothing is counted and no tile is moved; `None` if the
+/// microcache lacks a cell.
 fn show<T: Tap>(
     cache: &Cache<T>,
     pass: &Pass<T::W>,
     known: &Fitting<'_, T::W>,
-    r: &LookupRequest,
+    r: &Lookup,
     out: &mut [u16],
 ) -> Option<Shown>
     requires pass { IsPassOf cache.now pass.now }
     requires under { IsUnder cache.now known.now }
-    requires count { length out.old ≡ channels_asked r.now }
-    requires asked { MayBeLookedUp r.now }
+    requires count { length out.old ≡ channels_in r.now }
+    requires asked { IsInRange r.now }
     ensures has { IsSome result
-        ↔ HasCells known.now pass.now.pinned.recent (visits_on known.now r.now) }
+        ↔ HasCells known.now pass.now.pinned.recent (visits_on known.now (One r.now)) }
     ensures value { IsSome result →
         ForSome (T.W.files.held known.now.file known.now.generation) (λ bytes.
-        IsLookupOn known.now.cut bytes r.now out.new) }
+        IsLookupOn known.now.cut bytes (One r.now) out.new) }
     ensures each { IfSome result (λ shown. EachAnswered (ShowsTexel known.now)
-        (walk_of pass.now 0 None) (visits_on known.now r.now)
+        (walk_of pass.now 0 None) (visits_on known.now (One r.now))
         (walk_of pass.now shown.reads shown.latest)) }
     ensures none { IsNone result → out.new ≡ out.old }
 {
-    // its layout is that of its bytes
+    // needed by the proof: ties the record's layout to the file's bytes
     let _record = known.record();
     let mut texels = KeptTexels {
         cache,

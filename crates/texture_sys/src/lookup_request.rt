@@ -1,13 +1,14 @@
+//! The request of either kind of lookup.
 ghost use Rattle.std.specs.Prelude.{◌≡◌};
 
 use texel_filter::{DerivRequest, TexRequest};
 
-/// What a lookup asks for.
+/// A lookup at a place or along a footprint.
 #[derive(Clone, Copy, Debug, PartialEq, Eq)]
 pub enum LookupRequest {
-    /// The values at a place, by its filter.
+    /// The values at a place, with the filter that the request names.
     Point(TexRequest),
-    /// The values along the longer axis of a pixel's footprint: the mean of trilinear probes.
+    /// The mean of trilinear probes along the longer axis of a pixel's footprint.
     Footprint(DerivRequest),
 }
 
@@ -16,7 +17,7 @@ impl LookupRequest {
     ghost use Rattle.texture_sys.specs.Asked.{channels_asked, MayBeLookedUp};
     ghost use Rattle.texture_sys.specs.Asked.{s_asked, t_asked, moved_to};
 
-    /// How many channels it asks for.
+    /// The number of requested channels, 1 to 8.
     pub fn channels(&self) -> u32
         requires { MayBeLookedUp self.now }
         ensures value { result ≡ channels_asked self.now }
@@ -28,7 +29,7 @@ impl LookupRequest {
         }
     }
 
-    /// Its coordinates, s and t.
+    /// The coordinates, s and t.
     pub fn place(&self) -> (i32, i32)
         ensures s { result.0 ≡ s_asked self.now }
         ensures t { result.1 ≡ t_asked self.now }
@@ -39,7 +40,7 @@ impl LookupRequest {
         }
     }
 
-    /// The same lookup at other coordinates.
+    /// A copy of this request with other coordinates.
     pub fn moved_to(&self, s: i32, t: i32) -> LookupRequest
         ensures { result ≡ moved_to self.now s t }
     {

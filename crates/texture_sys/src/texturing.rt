@@ -1,4 +1,4 @@
-//! A lookup with all that it may need.
+//! A lookup that opens the file and reads cells if necessary.
 ghost use Rattle.std.specs.Prelude.{◌≡◌, ◌⊎◌, ◌<◌, ◌≤◌, Ok, length, slice_index, IsOkAnd};
 ghost use Rattle.std.specs.Prelude.{IfOk, IfErr, IfSome, OnOk, OnErr};
 ghost use Rattle.std.specs.Option.{ForSome};
@@ -11,63 +11,67 @@ ghost use Rattle.image_cache.specs.Call.{AfterNeed, CountsOn, NoneFalls};
 ghost use Rattle.image_cache.specs.Cause.{OpeningCause, StepCause, LookupRefuses, KeepsRecentAt};
 ghost use Rattle.image_cache.specs.Cause.{WantsByOpening};
 ghost use Rattle.image_cache.specs.Texel.{IsUnder};
-ghost use Rattle.texture_sys.specs.Asked.{channels_asked, MayBeLookedUp};
+ghost use Rattle.texture_sys.specs.Asked.{values_in, AreInRange, KeepsOthers, AreFirstOn, whole};
 ghost use Rattle.texture_sys.specs.Needs.{visits_on, HasCells, AsksForCells, VisitsStored};
 ghost use Rattle.texture_sys.specs.Call.{Answers, IsLookupOn, TextureCause, MemoryCause};
-ghost use Rattle.texture_sys.specs.Call.{AfterLookup, KeepsRecord};
+ghost use Rattle.texture_sys.specs.Call.{AnswersFirst, AfterLookup, KeepsRecord};
+ghost use Rattle.texture_sys.specs.Look.{picture_of};
 ghost use Rattle.texture_sys.specs.Call.{IsReady, IsWarm, AnswersWarm};
 ghost use Rattle.texture_sys.specs.Steps.{AfterOpening, AfterLookupOn};
 
-use crate::asking::lookup_for;
-use crate::lookup_request::LookupRequest;
+use crate::asking::lookups_for;
+use crate::lookup::{FileLookups, Lookups};
+use crate::stopped::Stopped;
 use file_table::Record;
 use image_cache::{Cache, CacheError, FileRecord, Pass, Reading, fits_cut};
 use std::sync::Arc;
 use tex_world::Tap;
 use waiter::Waiter;
 
-/// Writes the values of a lookup of either kind on the newest known generation of a file, and answers
-/// which that is.
-pub(crate) fn texture_of<V: Waiter, T: Tap>(
+/// Looks up the values in the newest known generation of a file, opens it if necessary and returns
+/// that generation.
+pub fn texture_at<V: Waiter, T: Tap>(
     cache: &Cache<T>,
     waiter: &V,
     pass: &mut Pass<T::W>,
     tap: &mut T,
-    file: u32,
-    r: &LookupRequest,
+    at: &FileLookups<'_>,
     out: &mut [u16],
-) -> Result<u32, CacheError<V::Busy>>
+) -> Result<u32, Stopped<CacheError<V::Busy>>>
     requires pass { IsPassOf cache.now pass.old }
-    requires file { file < cache.now.files.board.files }
-    requires told { IsFile T.W.files file }
-    requires count { length out.old ≡ channels_asked r.now }
-    requires asked { MayBeLookedUp r.now }
-    ensures value { IfOk result (Answers T.W.files file cache.now.gate.cut r.now
+    requires file { at.now.file < cache.now.files.board.files }
+    requires told { IsFile T.W.files at.now.file }
+    requires count { length out.old ≡ values_in at.now.lookups }
+    requires asked { AreInRange at.now.lookups }
+    ensures value { IfOk result (Answers T.W.files at.now.file cache.now.gate.cut at.now.lookups
         pass.old.view pass.new.view out.new) }
-    ensures cause { IfErr result (TextureCause T.W.files file cache.now.gate.cut
+    ensures cause { IfErr (whole result) (TextureCause T.W.files at.now.file cache.now.gate.cut
         (sighted pass.old.view (T.state tap.old)) (sighted pass.new.view (T.state tap.new))) }
-    ensures err { OnErr result (out.new ≡ out.old) }
-    ensures unread { IfErr result (KeepsRecentAt pass.old pass.new) }
-    // What the call leaves.
-    ensures same { AfterLookup file pass.old pass.new }
-    ensures kept { KeepsRecord T.W.files file cache.now.gate.cut r.now pass.old pass.new
-        (T.state tap.old) (T.state tap.new) result }
+    // The lookups before an error are answered, on the generation that it names.
+    ensures part { IfErr result (AnswersFirst T.W.files at.now.file cache.now.gate.cut at.now.lookups
+        pass.old.view pass.new.view out.new) }
+    ensures rest { IfErr result (λ s. KeepsOthers at.now.lookups s.done out.old out.new) }
+    ensures unread { IfErr (whole result) (KeepsRecentAt pass.old pass.new) }
+    // The state after the call.
+    ensures same { AfterLookup at.now.file pass.old pass.new }
+    ensures kept { KeepsRecord T.W.files at.now.file cache.now.gate.cut at.now.lookups pass.old pass.new
+        (T.state tap.old) (T.state tap.new) (whole result) }
     ensures tap { NoneFalls (T.state tap.old) (T.state tap.new) }
-    // Each visit that it makes is that of a `pin`, a `pin_new`, an `unpin` or a `count`.
+    // It visits shards only to pin, unpin and count tiles; it purges nothing.
     ensures visits { PurgesNone cache.now.gate pass.old.pinned.seat pass.new.pinned.seat }
-    // Of stored levels it is refused for memory only where it opens a file.
-    ensures memory { MemoryCause r.now pass.new (T.state tap.old) (T.state tap.new) result }
-    // Where all cells that it needs are in the microcache, there is no call of the tap.
-    ensures warm { IfSome pass.old.latest (λ known. IsWarm file r.now pass.old known
-        → AnswersWarm file known.generation (sighted pass.old.view (T.state tap.old))
-        (sighted pass.new.view (T.state tap.new)) result) }
+    // If it visits only stored levels, it runs out of memory only while it opens a file.
+    ensures memory { MemoryCause at.now.lookups pass.new (T.state tap.old) (T.state tap.new) (whole result) }
+    // If the microcache has every cell that it needs, it makes no call to the tap.
+    ensures warm { IfSome pass.old.latest (λ known. IsWarm at.now.file at.now.lookups pass.old known
+        → AnswersWarm at.now.file known.generation (sighted pass.old.view (T.state tap.old))
+        (sighted pass.new.view (T.state tap.new)) (whole result)) }
 {
-    let known = record_of(cache, waiter, pass, tap, file)?;
-    lookup_at(cache, waiter, pass, tap, known, r, out)
+    let known = record_of(cache, waiter, pass, tap, at.file)?;
+    lookup_at(cache, waiter, pass, tap, known, &at.lookups, out)
 }
 
-/// The record of the newest known generation of a file: the one that the pass keeps, or else one
-/// that is opened. It is handed out.
+/// Takes the record of the newest known generation out of the pass, or opens the file if the pass
+/// does not have it.
 fn record_of<V: Waiter, T: Tap>(
     cache: &Cache<T>,
     waiter: &V,
@@ -82,7 +86,7 @@ fn record_of<V: Waiter, T: Tap>(
         pass.old.view pass.new.view k.value) }
     ensures cause { IfErr result (OpeningCause T.W.files file
         (sighted pass.old.view (T.state tap.old)) (sighted pass.new.view (T.state tap.new))) }
-    // What the call leaves.
+    // The state after the call.
     ensures err { OnErr result (pass.new.latest ≡ pass.old.latest) }
     ensures once { OpensIfAtAll (T.state tap.old) (T.state tap.new) }
     ensures same { AfterOpening file pass.old pass.new }
@@ -94,7 +98,7 @@ fn record_of<V: Waiter, T: Tap>(
 {
     match cache.local(pass, file) {
         Some(known) => {
-            // it tells that the record is of the bytes of its generation
+            // needed by the proof: ties the record to the bytes of its generation
             let _generation = known.generation();
             Ok(known)
         }
@@ -102,88 +106,96 @@ fn record_of<V: Waiter, T: Tap>(
     }
 }
 
-/// Writes the values of a lookup on a record, which the pass then keeps, whatever is answered.
+/// Looks up the values on one record. The pass keeps the record, even if the lookup fails.
 fn lookup_at<V: Waiter, T: Tap>(
     cache: &Cache<T>,
     waiter: &V,
     pass: &mut Pass<T::W>,
     tap: &mut T,
     known: Arc<Record<T::W>>,
-    r: &LookupRequest,
+    r: &Lookups<'_>,
     out: &mut [u16],
-) -> Result<u32, CacheError<V::Busy>>
+) -> Result<u32, Stopped<CacheError<V::Busy>>>
     requires pass { IsPassOf cache.now pass.old }
     requires few { length pass.old.pinned.recent ≤ 2 }
     requires under { IsUnder cache.now known.value }
     requires told { IsFile T.W.files known.value.file }
     requires seen { known.value.generation ≤ slice_index pass.old.view.seen known.value.file }
-    requires count { length out.old ≡ channels_asked r.now }
-    requires asked { MayBeLookedUp r.now }
-    ensures ok { IfOk result (λ generation. generation ≡ known.value.generation) }
+    requires count { length out.old ≡ values_in r.now }
+    requires asked { AreInRange r.now }
+    ensures ok { IfOk (whole result) (λ generation. generation ≡ known.value.generation) }
+    ensures of { IfErr result (λ s. s.generation ≡ known.value.generation) }
     ensures value { ForSome (T.W.files.held known.value.file known.value.generation) (λ bytes.
         OnOk result (IsLookupOn known.value.cut bytes r.now out.new)) }
-    ensures cause { IfErr result (StepCause T.W.files known.value pass.new.view
+    ensures part { ForSome (T.W.files.held known.value.file known.value.generation) (λ bytes.
+        IfErr result (λ s. AreFirstOn (picture_of known.value.cut bytes) r.now s.done out.new)) }
+    ensures cause { IfErr (whole result) (StepCause T.W.files known.value pass.new.view
         (T.state tap.old) (T.state tap.new) LookupRefuses) }
-    ensures err { OnErr result (out.new ≡ out.old) }
-    ensures unread { IfErr result (KeepsRecentAt pass.old pass.new) }
-    // What the call leaves.
+    ensures rest { IfErr result (λ s. KeepsOthers r.now s.done out.old out.new) }
+    ensures unread { IfErr (whole result) (KeepsRecentAt pass.old pass.new) }
+    // The state after the call.
     ensures same { AfterLookupOn known.value pass.old pass.new }
-    ensures asks { OnOk result (AsksForCells T.W.files known.value (visits_on known.value r.now)
+    ensures asks { OnOk (whole result) (AsksForCells T.W.files known.value (visits_on known.value r.now)
         pass.old pass.new) }
     ensures tap { NoneFalls (T.state tap.old) (T.state tap.new) }
     ensures visits { PurgesNone cache.now.gate pass.old.pinned.seat pass.new.pinned.seat }
     ensures memory { VisitsStored r.now known.value
-        → IfErr result (WantsByOpening (T.state tap.old) (T.state tap.new)) }
+        → IfErr (whole result) (WantsByOpening (T.state tap.old) (T.state tap.new)) }
     ensures warm { IsOkAnd known.value.layout (λ kept. CellsFit kept known.value.cut)
         → HasCells known.value pass.old.pinned.recent (visits_on known.value r.now)
-        → (result ≡ Ok known.value.generation) × (T.state tap.new ≡ T.state tap.old) }
+        → (whole result ≡ Ok known.value.generation) × (T.state tap.new ≡ T.state tap.old) }
 {
     let generation = known.generation();
     let looked = look_up(cache, waiter, pass, tap, &known, r, out);
     cache.keep(pass, known);
     match looked {
         Ok(()) => Ok(generation),
-        Err(e) => Err(e),
+        Err(stopped) => Err(Stopped {
+            generation,
+            ..stopped
+        }),
     }
 }
 
-/// Writes the values of a lookup on a record, whose texels are fetched through the cache.
+/// Looks up the values on one record, whose texels are fetched through the cache.
 fn look_up<V: Waiter, T: Tap>(
     cache: &Cache<T>,
     waiter: &V,
     pass: &mut Pass<T::W>,
     tap: &mut T,
     known: &Record<T::W>,
-    r: &LookupRequest,
+    r: &Lookups<'_>,
     out: &mut [u16],
-) -> Result<(), CacheError<V::Busy>>
+) -> Result<(), Stopped<CacheError<V::Busy>>>
     requires pass { IsPassOf cache.now pass.old }
     requires few { length pass.old.pinned.recent ≤ 2 }
     requires under { IsUnder cache.now known.now }
     requires told { IsFile T.W.files known.now.file }
-    requires count { length out.old ≡ channels_asked r.now }
-    requires asked { MayBeLookedUp r.now }
+    requires count { length out.old ≡ values_in r.now }
+    requires asked { AreInRange r.now }
     ensures value { ForSome (T.W.files.held known.now.file known.now.generation) (λ bytes.
         OnOk result (IsLookupOn known.now.cut bytes r.now out.new)) }
-    ensures cause { IfErr result (StepCause T.W.files known.now pass.new.view
+    ensures part { ForSome (T.W.files.held known.now.file known.now.generation) (λ bytes.
+        IfErr result (λ s. AreFirstOn (picture_of known.now.cut bytes) r.now s.done out.new)) }
+    ensures cause { IfErr (whole result) (StepCause T.W.files known.now pass.new.view
         (T.state tap.old) (T.state tap.new) LookupRefuses) }
-    ensures err { OnErr result (out.new ≡ out.old) }
-    ensures unread { IfErr result (KeepsRecentAt pass.old pass.new) }
-    // What the call leaves.
+    ensures rest { IfErr result (λ s. KeepsOthers r.now s.done out.old out.new) }
+    ensures unread { IfErr (whole result) (KeepsRecentAt pass.old pass.new) }
+    // The state after the call.
     ensures same { AfterNeed known.now.file pass.old pass.new }
     ensures counts { CountsOn pass.old pass.new }
-    ensures asks { OnOk result (AsksForCells T.W.files known.now (visits_on known.now r.now)
+    ensures asks { OnOk (whole result) (AsksForCells T.W.files known.now (visits_on known.now r.now)
         pass.old pass.new) }
     ensures tap { NoneFalls (T.state tap.old) (T.state tap.new) }
     ensures visits { PurgesNone cache.now.gate pass.old.pinned.seat pass.new.pinned.seat }
     ensures memory { VisitsStored r.now known.now
-        → IfErr result (WantsByOpening (T.state tap.old) (T.state tap.new)) }
+        → IfErr (whole result) (WantsByOpening (T.state tap.old) (T.state tap.new)) }
     ensures warm { IsOkAnd known.now.layout (λ kept. CellsFit kept known.now.cut)
         → HasCells known.now pass.old.pinned.recent (visits_on known.now r.now)
-        → (result ≡ Ok tt) × (T.state tap.new ≡ T.state tap.old) }
+        → (whole result ≡ Ok tt) × (T.state tap.new ≡ T.state tap.old) }
 {
     fits_cut(known)?;
-    // these tell that its layout is that of its bytes, and that the counts are of 64 bits
+    // needed by the proof: ties the layout to the file's bytes, and the counts fit 64 bits
     let _generation = known.generation();
     let _needs = pass.needs();
     let _hits = pass.hits();
@@ -195,5 +207,5 @@ fn look_up<V: Waiter, T: Tap>(
         tap,
         known: &lent,
     };
-    lookup_for(&mut reading, r, out)
+    lookups_for(&mut reading, r, out)
 }

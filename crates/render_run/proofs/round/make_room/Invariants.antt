@@ -1,4 +1,4 @@
--- The workers so far have room.
+-- The workers so far have memory for their answers.
 use Rattle.std.proofs.Common.{◌≡◌, ◌*◌, ◌≤◌, [], length, map}
 use Rattle.std.specs.Prelude.{vec_capacity}
 use Rattle.std.specs.List.{AllWithin}

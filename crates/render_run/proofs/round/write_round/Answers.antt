@@ -15,7 +15,7 @@ use Rattle.render_run.proofs.Rounds.{text_more, count_more}
 use Rattle.render_run.proofs.Shares.{in_turn_append, in_turn_push, answer_in, answer_is}
 use Rattle.render_run.proofs.round.write_round.Goals as goal
 
--- the i-th answer, as it stands with its worker
+-- the i-th answer, as it is in its worker's list
 answer_here : {A : Type 0} (answers : A → List Answer) (posts : List A) (i : ℕ) (d : A) (e : Answer)
     → 0 < length posts
     → i / length posts < length (get_or (map answers posts) (i % length posts) [])
@@ -27,7 +27,7 @@ answer_here answers posts i d e some there =
     (subst (λ (xs : List Answer). i / length posts < length xs)
     (get_or-map answers posts (i % length posts) d [] low) there)
 
--- the text of an answer, and those before it and behind
+-- the text of an answer, between those before and after it
 texts_split : (n i count : ℕ) (lists : List (List Answer)) (a : Answer) → i < count
     → a ≡ answer_in n i lists
     → (answers_text (in_turn n 0 i lists) ++ line_of a)

@@ -6,7 +6,7 @@ use Rattle.render_run.specs.Page.{Passes, outgoing}
 use Rattle.render_run.specs.Posts.{answers_of}
 use Rattle.render_run.proofs.round.write_round.Given as goal
 
--- the lines of the first so many answers were passed on
+-- the lines of the answers so far were passed on
 abbrev pub invariant-loop-i : goal.invariant-loop-i
 invariant-loop-i g l = record {
   passed : Passes (answers_text (in_turn (length l.posts) 0 l.i (answers_of l.posts)))

@@ -5,7 +5,9 @@ use Rattle.tile_layout.specs.Cell.{CellsFit}
 use Rattle.file_table.specs.Record.{RecordState}
 use Rattle.image_cache.specs.Pass.{PassState}
 use Rattle.image_cache.proofs.UnreadLemmas.{recent_of, recent_same, at_between}
+use Rattle.texture_sys.specs.Asked.{AreFirstOn}
 use Rattle.texture_sys.specs.Call.{IsLookupOn}
+use Rattle.texture_sys.specs.Look.{picture_of}
 use Rattle.texture_sys.specs.Needs.{visits_on, HasCells, AsksForCells}
 use Rattle.texture_sys.proofs.Asked.{asks_to}
 use Rattle.texture_sys.proofs.Visits.{visits_before}
@@ -37,7 +39,7 @@ returns-in-Err-clause-unread g c =
     let old : PassState = c.args.pass.now in
     let looked : PassState = c.look_up-looked.new.pass in
     let new : PassState = c.keep.new.pass in
-    at_between c.in-Err.e old old looked new (recent_same old)
+    at_between c.in-Err.stopped.error old old looked new (recent_same old)
     (recent_of looked new c.keep.ensures.same) c.in-Err.ensures.unread
 
 pub returns-in-Ok-clause-warm : goal.returns-in-Ok-clause-warm
@@ -71,3 +73,11 @@ returns-in-Err-clause-warm g c = λ fits cells.
     fits) (subst (λ (x : RecordState). HasCells x c.args.pass.now.pinned.recent
     (visits_on x c.args.r.now)) (sym of_lookup) cells) in
     absurd (cc warm.0)
+
+pub returns-in-Err-clause-part : goal.returns-in-Err-clause-part
+returns-in-Err-clause-part g c = λ bytes held.
+    let k : RecordState = c.args.known.value in
+    let of_lookup : c.deref-2.result.now ≡ k = search rules in
+    subst (λ (x : RecordState). g.T.W.World.files.held x.file x.generation ≡ Some bytes
+    → AreFirstOn (picture_of x.cut bytes) c.args.r.now c.in-Err.stopped.done
+    c.look_up-looked.new.out) of_lookup (c.in-Err.ensures.part bytes) held

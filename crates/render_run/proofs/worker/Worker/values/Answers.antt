@@ -9,7 +9,7 @@ use Rattle.render_run.proofs.NeedLemmas.{region_tally, region_fails}
 use Rattle.render_run.proofs.PinLemmas.{refusal_tells}
 use Rattle.render_run.proofs.worker.Worker.values.Goals as goal
 
--- what is not more than so many
+-- a number that is not greater than the limit
 not_large : (n : ℕ) → (max_texels < n → ⊥) → n ≤ max_texels
 not_large n none = elim (cases_lt max_texels n) [
   | inl many ↦ absurd (none many)

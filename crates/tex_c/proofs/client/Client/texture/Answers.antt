@@ -1,4 +1,4 @@
--- The cause is told of the tap and of the cut as the cache was lent, which are those at the call.
+-- The cause speaks of the tap and the cut that the cache was lent; they equal those at the call.
 use Rattle.std.proofs.Common.{ap, ◌∙◌}
 use Rattle.file_table.specs.Calls.{sighted}
 use Rattle.tex_c.specs.SuppliedTap.{tap_state}

@@ -35,7 +35,7 @@ use Rattle.tex_c.proofs.held.Held.into_parts.Code as code
 abbrev stayed : Stays (F.ended).signature.params (F.ended).kept
 stayed = (stay_dropped From yes, tt)
 
--- the client that a handle has
+-- the client of a handle that has one
 client_of : (held : Option (X E)) → IsSome held → X E
 client_of (Some client) is = client
 client_of None is = absurd (cc is)

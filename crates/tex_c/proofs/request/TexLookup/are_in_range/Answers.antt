@@ -1,4 +1,4 @@
--- Each pair is in its range where its test says so.
+-- Each pair of numbers is in range if its test says so.
 use Rattle.std.proofs.Common.{rules, refl}
 use Rattle.tex_c.proofs.request.TexLookup.are_in_range.Goals as goal
 

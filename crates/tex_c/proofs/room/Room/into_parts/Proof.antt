@@ -35,7 +35,7 @@ use Rattle.tex_c.proofs.room.Room.into_parts.Code as code
 abbrev stayed : Stays (F.ended).signature.params (F.ended).kept
 stayed = (stay_dropped From yes, tt)
 
--- the bytes that a room has
+-- the bytes of a buffer that has some
 bytes_of : (held : Option (X E)) → IsSome held → X E
 bytes_of (Some bytes) is = bytes
 bytes_of None is = absurd (cc is)

@@ -1,4 +1,4 @@
--- One cell for all four, or four calls of `texel`, one after another.
+-- One cell serves all four texels, or four calls of `texel` follow one another.
 use Rattle.std.proofs.Common.{ℕ, Some, ap, arith, ◌∙◌, inl, inr, refl, subst}
 use Rattle.std.proofs.lemmas.Result.{err_from_is_err_and}
 use Rattle.file_table.specs.Record.{RecordState}

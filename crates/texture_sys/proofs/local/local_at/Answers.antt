@@ -1,13 +1,13 @@
--- The cells were asked for between the look and the keeping of the record.
+-- The cells were asked for after the generation was checked and before the record was kept.
 use Rattle.std.proofs.Common.{◌≡◌, List, ℕ, Ok, Result, Some, refl, sym, subst, ◌∙◌, ap, rules}
 use Rattle.file_table.specs.Record.{RecordState}
 use Rattle.file_table.specs.Calls.{GivesRecord}
-use Rattle.texture_sys.specs.declared.lookup_request.LookupRequest.TheVariants.{Point}
 use Rattle.texture_sys.specs.Call.{IsLookupOn}
+use Rattle.texture_sys.specs.declared.lookup.Lookups.TheVariants.{One}
 use Rattle.texture_sys.specs.Needs.{visits_on, AsksForCells}
 use Rattle.texture_sys.proofs.TextureLemmas.{texture_value}
 use Rattle.texture_sys.proofs.KeptRecord.{local_kept}
-use Rattle.texture_sys.proofs.local.texture_local.Goals as goal
+use Rattle.texture_sys.proofs.local.local_at.Goals as goal
 
 -- a generation that was answered
 abbrev ok_of : ℕ → Result ℕ ℕ
@@ -18,16 +18,16 @@ returns-then-looked-clause-kept g c =
     let k : RecordState = c.in-Some.known.value in
     let of_generation : c.deref.result.now ≡ k = search rules in
     let of_fitting : c.deref-2.result.now ≡ k = search rules in
-    let given : GivesRecord g.T.W.World.files c.args.file c.args.cache.now.gate.cut
+    let given : GivesRecord g.T.W.World.files c.args.at.now.file c.args.cache.now.gate.cut
     c.args.pass.now.view c.keep.new.pass.view c.in-Some.known.value = search rules in
-    local_kept g.T.W.World.files c.args.file c.args.cache.now.gate.cut (Point c.args.r.now)
+    local_kept g.T.W.World.files c.args.at.now.file c.args.cache.now.gate.cut (One c.args.at.now.lookup)
     c.args.pass.now c.local.new.pass c.lookup_local-looked.new.pass c.keep.new.pass k
     c.generation-generation.result given
     c.keep.ensures.kept
     (sym (c.generation-generation.ensures.value ∙ ap (λ (k : RecordState). k.generation)
     of_generation))
     c.in-Some.ensures.same
-    (subst (λ (k : RecordState). AsksForCells g.T.W.World.files k (visits_on k (Point c.args.r.now)) c.local.new.pass
+    (subst (λ (k : RecordState). AsksForCells g.T.W.World.files k (visits_on k (One c.args.at.now.lookup)) c.local.new.pass
     c.lookup_local-looked.new.pass) (c.of-fitting.ensures ∙ of_fitting) (c.if-looked.ensures.asks refl))
     c.keep.ensures.same
 
@@ -36,14 +36,14 @@ returns-then-looked-clause-value g c =
     let k : RecordState = c.in-Some.known.value in
     let of_generation : c.deref.result.now ≡ k = search rules in
     let of_fitting : c.deref-2.result.now ≡ k = search rules in
-    let given : GivesRecord g.T.W.World.files c.args.file c.args.cache.now.gate.cut
+    let given : GivesRecord g.T.W.World.files c.args.at.now.file c.args.cache.now.gate.cut
     c.args.pass.now.view c.local.new.pass.view c.in-Some.known.value = search rules in
-    texture_value g.T.W.World.files c.args.file c.args.cache.now.gate.cut c.args.pass.now.view
-    c.local.new.pass.view c.keep.new.pass.view k given (search rules) (Point c.args.r.now)
+    texture_value g.T.W.World.files c.args.at.now.file c.args.cache.now.gate.cut c.args.pass.now.view
+    c.local.new.pass.view c.keep.new.pass.view k given (search rules) (One c.args.at.now.lookup)
     c.lookup_local-looked.new.out (ok_of c.generation-generation.result)
     (c.generation-generation.ensures.value ∙ ap (λ (k : RecordState). k.generation)
     of_generation)
     (λ bytes held. subst (λ (k : RecordState).
     g.T.W.World.files.held k.file k.generation ≡ Some bytes
-    → IsLookupOn k.cut bytes (Point c.args.r.now) c.lookup_local-looked.new.out) (c.of-fitting.ensures ∙ of_fitting)
+    → IsLookupOn k.cut bytes (One c.args.at.now.lookup) c.lookup_local-looked.new.out) (c.of-fitting.ensures ∙ of_fitting)
     (c.if-looked.ensures.value refl bytes) held)

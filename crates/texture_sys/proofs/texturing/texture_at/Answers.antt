@@ -1,26 +1,27 @@
--- The record was found, and then looked at.
+-- The record was found, and then the lookup was made on it.
 use Rattle.std.proofs.lemmas.Result.{err_from_is_err_and}
 use Rattle.file_table.specs.Calls.{sighted}
 use Rattle.image_cache.specs.Pass.{PassState}
 use Rattle.image_cache.proofs.UnreadLemmas.{recent_of, recent_same, at_kept, unread_between}
-use Rattle.texture_sys.proofs.TextureLemmas.{texture_value, texture_cause}
+use Rattle.texture_sys.proofs.TextureLemmas.{texture_value, texture_part, texture_cause}
 use Rattle.texture_sys.proofs.KeptRecord.{texture_kept, opening_cause, opening_kept}
 use Rattle.texture_sys.proofs.Warm.{texture_warm}
-use Rattle.texture_sys.proofs.LookLemmas.{by_error}
+use Rattle.texture_sys.proofs.LookLemmas.{by_error, ok_whole}
 use Rattle.texture_sys.proofs.Visits.{visits_none, visits_after}
-use Rattle.texture_sys.proofs.texturing.texture_of.Goals as goal
+use Rattle.texture_sys.specs.Asked.{whole}
+use Rattle.texture_sys.proofs.texturing.texture_at.Goals as goal
 
 pub returns-clause-value : goal.returns-clause-value
 returns-clause-value g c =
-    texture_value g.T.W.World.files c.args.file c.args.cache.now.gate.cut c.args.pass.now.view
+    texture_value g.T.W.World.files c.args.at.now.file c.args.cache.now.gate.cut c.args.pass.now.view
     c.record_of.new.pass.view c.lookup_at.new.pass.view c.in_ok-known.known.value c.in_ok-known.ensures.ok
-    c.lookup_at.ensures.same.view c.args.r.now c.lookup_at.new.out c.lookup_at.result
-    c.lookup_at.ensures.ok c.lookup_at.ensures.value
+    c.lookup_at.ensures.same.view c.args.at.now.lookups c.lookup_at.new.out c.lookup_at.result
+    (ok_whole c.lookup_at.result _ c.lookup_at.ensures.ok) c.lookup_at.ensures.value
 
 pub returns-clause-cause : goal.returns-clause-cause
 returns-clause-cause g c =
-    by_error c.lookup_at.result c.lookup_at.ensures.cause (λ e cause.
-    texture_cause g.T.W.World.files c.args.file c.args.cache.now.gate.cut c.args.pass.now.view
+    by_error (whole c.lookup_at.result) c.lookup_at.ensures.cause (λ e cause.
+    texture_cause g.T.W.World.files c.args.at.now.file c.args.cache.now.gate.cut c.args.pass.now.view
     c.record_of.new.pass.view c.lookup_at.new.pass.view c.in_ok-known.known.value c.in_ok-known.ensures.ok
     c.lookup_at.ensures.same.view (g.T.Tap.state c.args.tap.now)
     (g.T.Tap.state c.record_of.new.tap) (g.T.Tap.state c.lookup_at.new.tap) e c.in_ok-known.ensures.tap
@@ -28,26 +29,26 @@ returns-clause-cause g c =
 
 pub returns-clause-kept : goal.returns-clause-kept
 returns-clause-kept g c =
-    texture_kept g.T.W.World.files c.args.file c.args.cache.now.gate.cut c.args.pass.now
+    texture_kept g.T.W.World.files c.args.at.now.file c.args.cache.now.gate.cut c.args.pass.now
     c.record_of.new.pass c.lookup_at.new.pass (g.T.Tap.state c.args.tap.now)
     c.in_ok-known.known.value c.in_ok-known.ensures.ok
-    c.lookup_at.ensures.same.view c.lookup_at.ensures.same.latest c.args.r.now
-    (g.T.Tap.state c.record_of.new.tap) (g.T.Tap.state c.lookup_at.new.tap) c.lookup_at.result
+    c.lookup_at.ensures.same.view c.lookup_at.ensures.same.latest c.args.at.now.lookups
+    (g.T.Tap.state c.record_of.new.tap) (g.T.Tap.state c.lookup_at.new.tap) (whole c.lookup_at.result)
     c.in_ok-known.ensures.same.keeps c.lookup_at.ensures.ok c.lookup_at.ensures.asks
     c.in_ok-known.ensures.tap c.lookup_at.ensures.cause
 
 pub returns-clause-warm : goal.returns-clause-warm
 returns-clause-warm g c =
-    texture_warm c.args.file c.args.r.now c.args.pass.now c.record_of.new.pass
+    texture_warm c.args.at.now.file c.args.at.now.lookups c.args.pass.now c.record_of.new.pass
     c.lookup_at.new.pass (g.T.Tap.state c.args.tap.now) (g.T.Tap.state c.record_of.new.tap)
-    (g.T.Tap.state c.lookup_at.new.tap) c.in_ok-known.known.value c.lookup_at.result
-    (c.lookup_at.ensures.same.view.later c.args.file) c.in_ok-known.ensures.same.keeps.tiles.recent
+    (g.T.Tap.state c.lookup_at.new.tap) c.in_ok-known.known.value (whole c.lookup_at.result)
+    (c.lookup_at.ensures.same.view.later c.args.at.now.file) c.in_ok-known.ensures.same.keeps.tiles.recent
     c.lookup_at.ensures.warm c.args.pass.now.latest c.in_ok-known.ensures.ready
 
 pub returns-in_err-known-clause-kept : goal.returns-in_err-known-clause-kept
 returns-in_err-known-clause-kept g c =
     let p = err_from_is_err_and c.from_residual.result c.from_residual.ensures.1 in
-    rw (p.1, p.2) (opening_kept g.T.W.World.files c.args.file c.args.cache.now.gate.cut
+    rw (p.1, p.2) (opening_kept g.T.W.World.files c.args.at.now.file c.args.cache.now.gate.cut
     c.args.pass.now c.record_of.new.pass (g.T.Tap.state c.args.tap.now)
     (g.T.Tap.state c.record_of.new.tap) (record {
       latest = c.in_err-known.ensures.err;
@@ -58,7 +59,7 @@ returns-in_err-known-clause-kept g c =
 pub returns-in_err-known-clause-cause : goal.returns-in_err-known-clause-cause
 returns-in_err-known-clause-cause g c =
     let p = err_from_is_err_and c.from_residual.result c.from_residual.ensures.1 in
-    rw (p.1, p.2) (opening_cause g.T.W.World.files c.args.file c.args.cache.now.gate.cut
+    rw (p.1, p.2) (opening_cause g.T.W.World.files c.args.at.now.file c.args.cache.now.gate.cut
     (sighted c.args.pass.now.view (g.T.Tap.state c.args.tap.now))
     (sighted c.record_of.new.pass.view (g.T.Tap.state c.record_of.new.tap)) _
     c.in_err-known.ensures.cause)
@@ -78,7 +79,7 @@ returns-clause-unread g c =
     let old : PassState = c.args.pass.now in
     let mid : PassState = c.record_of.new.pass in
     let new : PassState = c.lookup_at.new.pass in
-    unread_between c.lookup_at.result old mid new new
+    unread_between (whole c.lookup_at.result) old mid new new
     (recent_of old mid c.in_ok-known.ensures.same.keeps) (recent_same new) c.lookup_at.ensures.unread
 
 pub returns-in_err-known-clause-unread : goal.returns-in_err-known-clause-unread
@@ -87,3 +88,10 @@ returns-in_err-known-clause-unread g c =
     let old : PassState = c.args.pass.now in
     let new : PassState = c.record_of.new.pass in
     rw (p.1, p.2) (at_kept _ old new (recent_of old new c.in_err-known.ensures.same.keeps))
+
+pub returns-clause-part : goal.returns-clause-part
+returns-clause-part g c =
+    texture_part g.T.W.World.files c.args.at.now.file c.args.cache.now.gate.cut c.args.pass.now.view
+    c.record_of.new.pass.view c.lookup_at.new.pass.view c.in_ok-known.known.value c.in_ok-known.ensures.ok
+    c.lookup_at.ensures.same.view c.args.at.now.lookups c.lookup_at.new.out c.lookup_at.result
+    c.lookup_at.ensures.of c.lookup_at.ensures.part
