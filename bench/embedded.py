@@ -4,10 +4,11 @@
     python3 bench/embedded.py [--library FILE] [--folder FOLDER] [--name FILE] [--passes N]
     python3 bench/embedded.py --renderer [FOLDER]    # 64 textures of 1.07 GB, made in FOLDER or a folder that goes again
 
-A bilinear texcache_texture of three channels, within one cell of a file, over the library that ./build tex_c makes,
-with 1, 4 and 8 threads; and TextureSystem::texture at the same coordinates, where OpenImageIO's headers are there.
-The time is that of the whole, all threads side by side, for each lookup of one thread; the least of the passes, which
-are taken in turn. Instructions are those of 200,000 lookups more, for each. The first line has the load of the machine.
+It measures a bilinear texcache_texture of three channels within one cell of a file, with 1, 4 and 8 threads, over the
+library that ./build tex_c makes; and TextureSystem::texture at the same coordinates, if OpenImageIO's headers are
+installed. A time is the wall time of all threads together, divided by the lookups of one thread; the least of several
+passes, alternated between the two. Instructions per lookup come from 200,000 additional lookups. The first line has the
+load of the machine.
 """
 import argparse
 import os
@@ -32,7 +33,7 @@ def over(library):
 
 
 def programs(words, made):
-    """The lookups of texcache, and those of OpenImageIO where it is there."""
+    """The programs that time the lookups of texcache and, if it is installed, of OpenImageIO."""
     last, linked = over(words.library)
     own, other = Path(made) / "embedded", Path(made) / "oiio_lookups"
     told(["cc", "-std=gnu11", "-O2", f"-I{TOP / 'include'}", "-o", own, TOP / "bench" / "embedded.c", *linked, *last])

@@ -3,9 +3,9 @@
 
 It makes files and lists (make_files.py), builds the two programs that answer lists through the C library
 (texcache_lists.cpp) and through OpenImageIO (oiio_lists.cpp), runs all three in turn and keeps the least of the passes.
-Each row has a short and a long list; its figure is the difference of the two, for each item that the long one has more,
-so start-up is in none. OpenImageIO's calls and those of the C library are taken by their programs' own clock, without
-parsing and printing; the program texcache and OpenImageIO's program are taken as a whole.
+Each row has a short and a long list. Its figure is the difference of their times per additional item, so it contains no
+start-up. The calls of OpenImageIO and of the C library are timed by the programs' own clock, without parsing and
+printing; the program texcache and OpenImageIO's program are timed as a whole.
 
 It prints the tables of docs/BENCHMARK.md. With --write it also writes figures.json, that page and its plot, but only if
 all rows were measured, of a commit without changes, and the load was never above 2 per processor.

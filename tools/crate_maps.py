@@ -4,8 +4,8 @@
 - crates/README.md: each crate under its layer, with the first sentence of its README;
 - docs/DECISIONS.md: the title of each decision of each crate, above the decisions for all crates, which stay.
 
-Without options it compares and changes nothing; with --write it writes. It also checks that no crate of crates.txt
-stands before one that it uses. The status is 1 if something differs.
+Without options it compares and changes nothing; with --write it writes. It also checks that each crate in crates.txt
+comes after all that it uses. The status is 1 if something differs.
 """
 import argparse
 import re
@@ -73,7 +73,7 @@ def out_of_order():
     for name, below in uses.items():
         for other in below:
             if other in uses and other not in seen:
-                yield f"crates.txt: {name} stands before {other}, which it uses"
+                yield f"crates.txt: {name} comes before {other}, which it uses"
         seen.add(name)
 
 

@@ -1,9 +1,9 @@
 #!/usr/bin/env python3
 """Draws the pictures of the documents: layers.svg, tile_way.svg and turn.svg, beside this script.
 
-The crates of layers.svg are those of crates.txt, heading by heading. Without --write nothing is written: the
-script prints which picture is not the one that it draws, and ends with status 1. So it does, and writes nothing,
-if boxes or words lie over each other or leave their picture.
+The crates of layers.svg come from crates.txt, heading by heading. Without --write nothing is written: the script names
+each file that differs from its drawing, and ends with status 1. It also fails, and writes nothing, if boxes or words
+overlap or do not fit into their drawing.
 """
 import argparse
 import sys

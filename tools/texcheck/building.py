@@ -19,8 +19,8 @@ from texcheck.unproved import LIBRARY, PROGRAMS, build
 USUAL = "from nothing this takes about 60 minutes on two processors, and has not been measured on four"
 ABOUT = f"""Proves and builds a program, or the library for programs in C ({LIBRARY}), with the crates below it.
 
-The crates that do not stand on each other are proved side by side, as far as the memory allows. What an earlier run
-proved is taken over if no source has changed. {USUAL[0].upper()}{USUAL[1:]}.
+Crates that do not use each other are proved at the same time, if there is enough memory. What an earlier run proved is
+used again if no source has changed. {USUAL[0].upper()}{USUAL[1:]}.
 The program is left in crates/NAME/out/NAME, the library in crates/{LIBRARY}/out/lib{LIBRARY}.a.
 """
 # what a check may take, in bytes
@@ -36,13 +36,13 @@ def minutes(seconds):
 
 
 def side_by_side():
-    """How many crates may be proved at once: one for each processor, as long as the memory lasts."""
+    """How many crates to prove at once: one per processor, fewer if there is not enough memory."""
     available = re.search(r"MemAvailable: +(\d+) kB", Path("/proc/meminfo").read_text(encoding="ascii"))
     return max(1, min(len(os.sched_getaffinity(0)), int(available[1]) * 1024 // NEED))
 
 
 class Progress:
-    """Which crates are done, and how long the others may take, by their lines."""
+    """Which crates are done, and an estimate of the time for the others, by their numbers of lines."""
 
     def __init__(self, crates):
         self.crates, self.began = crates, time.monotonic()
@@ -51,7 +51,7 @@ class Progress:
         self.done = []
 
     def at(self, jobs):
-        """The crates that may be proved now: all below them are."""
+        """The crates that can be proved now, because all that they use is proved."""
         below = dependencies()
         return [it for it in self.crates if it not in self.done
                 and all(other in self.done for other in below[it] if other in below)][:jobs]
@@ -66,7 +66,7 @@ class Progress:
 
 
 def handed_back(crates, room):
-    """Moves what `rt` kept of each crate in the copy to the crate itself, so that a later build begins with it."""
+    """Moves what `rt` kept of each crate from the copy into the crate's own folder, so that later builds can use it."""
     for crate in crates:
         with open_folder(TOP / "crates" / crate) as folder:
             # `rt` locks a crate in the same way
@@ -89,7 +89,7 @@ def open_folder(path):
 
 
 def prove(name, jobs, room):
-    """Proves the crates in a copy, by the command of `rt` that works on several at once."""
+    """Proves the crates in a copy of the repository, several at once."""
     crates = crates_below(name)
     copied(name, room, ("src", "specs", "proofs"))
     progress = Progress(crates)

@@ -32,7 +32,7 @@ def times(top):
 
 
 def scripts(top):
-    """All scripts, each as the words that call it."""
+    """All scripts, each as the command that calls it."""
     found = [top / it for it in OTHERS]
     found += [it for it in files(top)
               if it.suffix == ".sh" or it.suffix == ".py" and "\nif __name__ == " in it.read_text(encoding="utf-8")]
@@ -53,7 +53,7 @@ def name_of(words, top):
 
 
 class Runs:
-    """Runs scripts in a copy, and counts what they do and should not."""
+    """Runs scripts in a copy of the repository, and counts wrong statuses, tracebacks and changed files."""
 
     def __init__(self, top):
         self.top, self.before, self.count, self.wrong = top, times(top), 0, 0
@@ -71,7 +71,7 @@ class Runs:
         changed += [str(it.relative_to(self.top)) for it in self.before if it not in after]
         if changed or "Traceback" in text or not text or not is_right(status):
             self.wrong += 1
-            print(f"{name_of(words, self.top)}: status {status}, and {wanted} is wanted; changed: {changed[:5]}\n"
+            print(f"{name_of(words, self.top)}: status {status}, wanted {wanted}; changed files: {changed[:5]}\n"
                   f"{text[-500:]}")
         self.before = after
 
@@ -97,7 +97,7 @@ def run(_args):
             runs.run([sys.executable, top / name, *words], lambda it: it not in (0, TOO_LONG), "a failure")
         if {it: it.read_bytes() for it in files(top)} != bytes_before:
             runs.wrong += 1
-            print("the bytes of some file changed")
+            print("a script changed the bytes of a file and kept its time")
     print(f"scripts: {runs.wrong} of {runs.count} calls of {len(found)} scripts and {len(subcommands)} subcommands are "
           "wrong")
     return 1 if runs.wrong or len(found) < 15 else 0

@@ -1,4 +1,4 @@
-"""Which crates a program is made of, and whether what was built of it is still up to date."""
+"""Which crates a program is made of, and whether a built program is up to date."""
 import hashlib
 import shutil
 from pathlib import Path
@@ -7,7 +7,7 @@ TOP = Path(__file__).resolve().parents[2]
 
 
 def dependencies():
-    """The crates of the repository, each with the names behind its colon in crates.txt."""
+    """The crates of the repository, each with the crates that it uses: the names after its colon in crates.txt."""
     found = {}
     for line in (TOP / "crates.txt").read_text(encoding="utf-8").splitlines():
         name, colon, below = line.split("#")[0].partition(":")
@@ -17,7 +17,7 @@ def dependencies():
 
 
 def crates_below(name):
-    """The crates that one stands on, and itself, each after those below it."""
+    """A crate and all crates that it uses, directly or not; each comes after those that it uses."""
     below, found = dependencies(), []
 
     def add(crate):
@@ -31,13 +31,13 @@ def crates_below(name):
 
 
 def files_of(name, parts, alone=False):
-    """The source files of a crate, and of all crates below it."""
+    """The source files of a crate and, unless `alone`, of all crates that it uses."""
     return [it for crate in ([name] if alone else crates_below(name)) for part in parts
             for it in sorted((TOP / "crates" / crate / part).rglob("*.*"))]
 
 
 def copied(name, to, parts):
-    """Copies these parts of a crate, and of all below it, as a repository of their own."""
+    """Makes a repository of a crate and all that it uses, with copies of these folders of each."""
     crates = set(crates_below(name))
     for part in (TOP / "crates" / crate / it for crate in crates for it in parts):
         if part.is_dir():
@@ -51,7 +51,7 @@ def copied(name, to, parts):
 
 
 def sum_of(name):
-    """A checksum of all that an unproved build reads, and of how it is built. (Proofs are not part of it.)"""
+    """A checksum of everything that an unproved build reads, the build script included. (It reads no proofs.)"""
     found = hashlib.sha256(Path(__file__).with_name("unproved.py").read_bytes())
     for it in files_of(name, ("src", "specs")):
         found.update(f"{it.relative_to(TOP)} {it.stat().st_size}\n".encode())

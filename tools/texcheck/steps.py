@@ -42,7 +42,7 @@ def tests_of(crate, is_checked):
 
 
 def stored_run(program, crate):
-    """A step that runs a program as its crate's files say: input, arguments, status and output."""
+    """A step that runs a program on its stored run: the files args, stdin, stdout and status of its crate."""
     def step():
         folder = TOP / "crates" / crate
         read = lambda name, usual: (folder / name).read_bytes() if (folder / name).is_file() else usual

@@ -1,10 +1,10 @@
-"""The files of texcache's stored run, its requests, and what they are to be answered.
+"""The files of texcache's stored run, its requests, and the expected answers.
 
-The requests are those of crates/texcache/stdin, which are written by hand down to the line MADE. After it come those
-of file_rows.py, of the regions below and of many_lookups.py. The answers follow from the formulas of the pictures, of
-docs/FORMAT.md and of docs/FILTERING.md, and not from the program. Those above the line that says so were worked out
-by hand before, as were the levels and faults of file_rows.py; many_lookups.py answers its lookups a second time.
-With --write crates/texcache/data, stdin and stdout are written; else they are compared.
+The requests above the line MADE in crates/texcache/stdin are written by hand. The requests below it come from
+file_rows.py, from the regions below and from many_lookups.py. The answers are computed by the formulas of the images,
+of docs/FORMAT.md and of docs/FILTERING.md, and not by the program. Some answers were also worked out by hand (a line of
+stdin says which), and so were the levels and faults of file_rows.py; many_lookups.py computes its answers a second
+time. With --write crates/texcache/data, stdin and stdout are written; without it they are compared.
 """
 import struct
 import sys
@@ -196,7 +196,7 @@ def files():
 
 
 def levels_of(name):
-    """The levels that the file of a name stores: a page that is no half of the one before is none."""
+    """The levels that a file stores: they end before the first page that is not half the size of the one before."""
     if name in READ:
         return READ[name]
     whole = CHANGED[name][0] if name in CHANGED else name
@@ -212,7 +212,6 @@ def levels_of(name):
 
 MOST_TEXELS = 2 ** 20
 
-# what the run is made with
 WORKERS = 4
 
 
@@ -220,8 +219,8 @@ MARK = "<UDIM>"
 
 
 def meant(request):
-    """The request that a lookup stands for whose name has the mark of a tile: by the rule of docs/REQUESTS.md,
-    "UDIM names". None where it lies in no tile."""
+    """The request with the name of the UDIM tile in place of <UDIM>, by docs/REQUESTS.md, "UDIM names". None if there
+    is no tile at its place."""
     word = request.split(" ", 1)[0]
     if word not in ("tex", "texd") or MARK not in request:
         return request

@@ -1,9 +1,9 @@
-"""The texture that is made of a file, by docs/FORMAT.md, "Textures that are made", alone, beside what texmake makes.
+"""Compares what texmake writes with the texture that docs/FORMAT.md, "Textures that are made", defines for a file.
 
-Of the program only what it writes and its status are compared: 0 with these bytes, or 8 with none if the file has a
-fault. Each texture is read again too: its levels have to be those of the file, and bad arguments and a name of no
-file are refused. Then texcache answers regions and lookups of each texture as it answers those of its file, on each
-level that it has of the file. With --readers libtiff and OpenImageIO have to read each texture.
+Only the output and the status of texmake are compared: status 0 and these bytes, or status 8 and no bytes if the file
+has a fault. Each texture is read again: its levels must be those of the file. Wrong arguments and unknown names must be
+refused. Then texcache must answer regions and lookups of each texture as it answers those of the file, on each level
+that the file has. With --readers libtiff and OpenImageIO must read each texture.
 """
 import shutil
 import struct
@@ -108,7 +108,7 @@ def check(program, folder, side):
             print(f"{path.name}: status {done.returncode} and {len(done.stdout)} bytes, wanted {status} and {len(out)}")
         elif status == MADE and levels_of(pages_of(out)) != levels:
             bad += 1
-            print(f"{path.name}: its levels are not those of its texture")
+            print(f"{path.name}: its texture has other levels than the file")
     return bad
 
 
