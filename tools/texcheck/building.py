@@ -12,7 +12,7 @@ import time
 from pathlib import Path
 
 from texcheck.common import TOP, Missing, said
-from texcheck.sources import copied, crates_below, dependencies, files_of, is_current
+from texcheck.sources import copied, crates_below, dependencies, files_of, proved
 from texcheck.unproved import LIBRARY, PROGRAMS, build
 
 # how long it took to prove texcache from nothing, two processors at work
@@ -114,10 +114,6 @@ def prove(name, jobs, room):
     return child.returncode == 0
 
 
-def is_built(name):
-    folder = TOP / "crates" / name / "out"
-    return any(is_current(it, name) for it in (folder / name, folder / f"lib{name}.a"))
-
 
 def finish(name):
     """Builds the program, or the library, over the crates that are proved."""
@@ -125,10 +121,10 @@ def finish(name):
     is_program = (folder / "src" / "main.rt").is_file()
     # a program is run then: it says that the arguments are bad, or does its stored run, whatever its status
     status, text = said(["rt", "run" if is_program else "lib"], cwd=folder)
-    is_made = is_built(name) if is_program or name == LIBRARY else status == 0
+    is_made = proved(name) if is_program or name == LIBRARY else status == 0
     if not is_made:
         print(text[-6000:], file=sys.stderr)
-    return is_made
+    return bool(is_made)
 
 
 def main():
@@ -147,7 +143,7 @@ def main():
                 parser.error(f"{args.name} is not built unproved; those are {', '.join(PROGRAMS)}, {LIBRARY}")
             print(os.path.relpath(build(args.name)))
             return 0
-        if is_built(args.name):
+        if proved(args.name):
             say(f"{args.name} is proved and built, and no source has changed since")
             return 0
         began, jobs = time.monotonic(), args.jobs or side_by_side()

@@ -14,8 +14,7 @@ from operator import ge
 from pathlib import Path
 
 from texcheck.common import TOP, Skips, add_program, debian_python, program_of, said
-from texcheck.sources import is_current
-from texcheck.unproved import LIBRARY, build, kit
+from texcheck.unproved import LIBRARY, kit, usual
 
 HELP = "the library for C, and the C, C++ and Python that use it"
 HERE = TOP / "tools" / "embedding"
@@ -202,15 +201,11 @@ def add_arguments(parser):
     Skips.add_argument(parser)
 
 
-def library_of(args):
-    proved = TOP / "crates" / LIBRARY / "out" / f"lib{LIBRARY}.a"
-    return args.library or (proved if is_current(proved, LIBRARY) else build(LIBRARY))
-
 
 def run(args):
     skips = Skips(args)
     with tempfile.TemporaryDirectory() as made:
-        tests = Tests(library_of(args), program_of(args, "texcache"), Path(made), skips)
+        tests = Tests(args.library or usual(LIBRARY), program_of(args, "texcache"), Path(made), skips)
         if skips.lacks(None if tests.cc else "a C compiler", "embedding"):
             return 1 if skips.failed else 0
         for step in (tests.in_c, tests.in_cxx, tests.in_python, tests.under_valgrind, tests.with_races, tests.render):

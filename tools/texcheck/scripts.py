@@ -1,5 +1,5 @@
 """Tests all scripts: `--help` prints a usage and changes nothing, a misspelt option is refused and changes nothing, and
-each check that is given a path that does not exist fails.
+each check that is given a path that does not exist fails. `./test --proved` fails if a proof is missing or out of date.
 
 It runs them in a copy of the repository, and compares the bytes and the times of all files before and after.
 """
@@ -10,6 +10,7 @@ import tempfile
 from pathlib import Path
 
 from texcheck.common import TOP, said
+from texcheck.unproved import LIBRARY, PROGRAMS
 
 HELP = "each script's --help, a misspelt option, and paths that do not exist"
 LEFT_OUT = shutil.ignore_patterns(".git", "out", "__pycache__")
@@ -63,17 +64,35 @@ class Runs:
         path = os.pathsep.join([str(top.parent), os.environ["PATH"]])
         self.environment = {**os.environ, "PATH": path, "PYTHONDONTWRITEBYTECODE": "1"}
 
-    def run(self, words, is_right, wanted):
+    def run(self, words, is_right, wanted, says=""):
         status, text = said(words, cwd=self.top, seconds=60, env=self.environment)
         self.count += 1
         after = times(self.top)
         changed = [str(it.relative_to(self.top)) for it in after if self.before.get(it) != after[it]]
         changed += [str(it.relative_to(self.top)) for it in self.before if it not in after]
-        if changed or "Traceback" in text or not text or not is_right(status):
+        if changed or "Traceback" in text or not text or says not in text or not is_right(status):
             self.wrong += 1
             print(f"{name_of(words, self.top)}: status {status}, wanted {wanted}; changed files: {changed[:5]}\n"
                   f"{text[-500:]}")
         self.before = after
+
+
+def check_proved(runs):
+    """Makes files that look like what CI leaves, and removes each in turn, or makes it older than its sources."""
+    crates = runs.top / "crates"
+    left = {it: crates / it / "out" / it for it in PROGRAMS} | {LIBRARY: crates / LIBRARY / "out"}
+    for it in left.values():
+        it.parent.mkdir(exist_ok=True)
+        it.touch() if it.name != "out" else it.mkdir()
+    for name, place in left.items():
+        found = place.stat().st_mtime_ns
+        for change in (lambda: os.utime(place, (1, 1)), lambda: place.rename(runs.top.parent / name)):
+            change()
+            runs.before = times(runs.top)
+            runs.run([runs.top / "test", "--proved"], lambda it: it == 1, f"status 1 and a line about {name} alone",
+                     f"./build {name}\n0 passed, 1 failed")
+        (runs.top.parent / name).rename(place)
+        os.utime(place, ns=(found, found))
 
 
 def add_arguments(_parser):
@@ -95,7 +114,8 @@ def run(_args):
             runs.run([top / "tools" / "check", *words], lambda it: it == 1, "status 1")
         for name, words in TOOLS.items():
             runs.run([sys.executable, top / name, *words], lambda it: it not in (0, TOO_LONG), "a failure")
-        if {it: it.read_bytes() for it in files(top)} != bytes_before:
+        check_proved(runs)
+        if {it: it.read_bytes() for it in files(top) if "out" not in it.parts} != bytes_before:
             runs.wrong += 1
             print("a script changed the bytes of a file and kept its time")
     print(f"scripts: {runs.wrong} of {runs.count} calls of {len(found)} scripts and {len(subcommands)} subcommands are "

@@ -59,13 +59,19 @@ def sum_of(name):
     return found.hexdigest()
 
 
-def is_current(built, name):
-    """Whether no source has changed since a proved program or library was built."""
+def is_current(made, name):
+    """Whether something was made of a crate, and no source of it has changed since."""
     files = [TOP / "crates.txt", *files_of(name, ("src", "specs", "proofs"))]
-    return built.is_file() and built.stat().st_mtime >= max(it.stat().st_mtime for it in files)
+    return made.exists() and made.stat().st_mtime >= max(it.stat().st_mtime for it in files)
 
 
 def proved(name):
-    """The place of the proved program, or None if it was not built or a source has changed since."""
-    built = TOP / "crates" / name / "out" / name
-    return built if is_current(built, name) else None
+    """The place of the proved program or library; None if it was not built or a source has changed since."""
+    out = TOP / "crates" / name / "out"
+    return next((it for it in (out / name, out / f"lib{name}.a") if is_current(it, name)), None)
+
+
+def is_proved_by_ci(name):
+    """Whether `rt ci` has proved a library for C since its sources changed. It does not link the library, but makes the
+    folder `out` anew. (It does so too if the proof fails, but then .ci/run ends.)"""
+    return is_current(TOP / "crates" / name / "out", name)
