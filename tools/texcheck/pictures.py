@@ -88,7 +88,7 @@ def run(args):
     program, skips = program_of(args, "texcache"), Skips(args)
     text = (TOP / "docs" / "PICTURES.md").read_text(encoding="utf-8")
     rows = ROW.findall(text) + [("info ", it) for it in HELP_LINE.findall(text) if " in." in it]
-    if len(ROW.findall(text)) < 9 or len(HELP_LINE.findall(text)) < 10:
+    if len(ROW.findall(text)) < 9 or len(HELP_LINE.findall(text)) < 9:
         sys.exit("pictures: docs/PICTURES.md has fewer lines than it had")
     tried, wrong = 0, 0
     with tempfile.TemporaryDirectory() as room:
