@@ -92,7 +92,10 @@ def main():
     args = words.parse_args()
     if not args.folder.is_dir():
         words.error(f"there is no folder {args.folder}")
-    print(*lines_of(program_of(args, "texcache"), os.path.abspath(args.folder)), sep="\n")
+    lines = list(lines_of(program_of(args, "texcache"), os.path.abspath(args.folder)))
+    print(*lines, sep="\n")
+    if any(": the file is not accepted: " in it for it in lines):
+        print(f"All images at once: tools/prepare.py {shlex.quote(str(args.folder))} DEST --convert")
 
 
 if __name__ == "__main__":

@@ -107,7 +107,8 @@ def check_folder(program, folder):
     for name in FILES:
         (folder / name).write_bytes((TOP / "crates" / "texcache" / "data" / name).read_bytes())
     found = printed(TOOLS / "folder_info.py", folder, "--program", program)
-    wrong = compare("folder_info.py", found, "\n".join(FILES[it] for it in sorted(FILES)) + "\n")
+    wanted = [*(FILES[it] for it in sorted(FILES)), f"All images at once: tools/prepare.py {folder} DEST --convert"]
+    wrong = compare("folder_info.py", found, "\n".join(wanted) + "\n")
     (folder / "list").write_text("pixels 0 0 0 80 48 B.tif\n" * 20, encoding="ascii")
     # with one worker, since several may each read what the others read at that moment
     rows = printed(TOOLS / "hit_curve.py", folder, folder / "list", "--program", program, "--workers", "1",
