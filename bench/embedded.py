@@ -24,22 +24,22 @@ TOP = Path(__file__).resolve().parent.parent
 RENDERER = TOP / "examples" / "renderer"
 
 
-def told(words):
+def output_of(words):
     return subprocess.run([str(it) for it in words], stdout=subprocess.PIPE, stderr=subprocess.STDOUT, check=True).stdout.decode()
 
 
 def over(library):
-    return ["-lm", "-lpthread"], [library, Path(told(["rt", "doc"]).strip()).parent / "c" / "liblibc_c.a"]
+    return ["-lm", "-lpthread"], [library, Path(output_of(["rt", "doc"]).strip()).parent / "c" / "liblibc_c.a"]
 
 
 def programs(words, made):
     """The programs that time the lookups of texcache and, if it is installed, of OpenImageIO."""
     last, linked = over(words.library)
     own, other = Path(made) / "embedded", Path(made) / "oiio_lookups"
-    told(["cc", "-std=gnu11", "-O2", f"-I{TOP / 'include'}", "-o", own, TOP / "bench" / "embedded.c", *linked, *last])
+    output_of(["cc", "-std=gnu11", "-O2", f"-I{TOP / 'include'}", "-o", own, TOP / "bench" / "embedded.c", *linked, *last])
     yield "texcache", own
     try:
-        told(["c++", "-std=c++17", "-O2", "-o", other, TOP / "bench" / "oiio_lookups.cpp", "-lOpenImageIO", "-lOpenImageIO_Util"])
+        output_of(["c++", "-std=c++17", "-O2", "-o", other, TOP / "bench" / "oiio_lookups.cpp", "-lOpenImageIO", "-lOpenImageIO_Util"])
         yield "OpenImageIO", other
     except (subprocess.CalledProcessError, FileNotFoundError):
         print("no OpenImageIO: it is not measured")
@@ -50,7 +50,7 @@ def lookups(words):
         found = list(programs(words, made))
 
         def run(program, threads, count, *before):
-            return told([*before, program, words.folder, words.name, threads, count])
+            return output_of([*before, program, words.folder, words.name, threads, count])
 
         for threads in (1, 4, 8):
             least = {}
@@ -72,15 +72,15 @@ def renderer(words, folder):
     with tempfile.TemporaryDirectory() as made:
         folder = folder or Path(made) / "textures"
         if not (folder / "t63.tif").is_file():
-            told([sys.executable, RENDERER / "textures.py", folder])
+            output_of([sys.executable, RENDERER / "textures.py", folder])
         size = sum(it.stat().st_size for it in folder.iterdir())
         last, linked = over(words.library)
         program = Path(made) / "renderer"
-        told(["cc", "-std=gnu11", "-O2", f"-I{TOP / 'include'}", "-o", program, RENDERER / "renderer.c", *linked, *last])
+        output_of(["cc", "-std=gnu11", "-O2", f"-I{TOP / 'include'}", "-o", program, RENDERER / "renderer.c", *linked, *last])
         print(f"{len(list(folder.iterdir()))} textures of {size} bytes")
         for more in ([], ["--closest"]):
             began = time.monotonic()
-            said = told([program, folder, Path(made) / "out.ppm", "--many", "--budget", 1 << 24, "--width", 1920, "--height",
+            said = output_of([program, folder, Path(made) / "out.ppm", "--many", "--budget", 1 << 24, "--width", 1920, "--height",
                          1200, *more])
             print(f"1920 by 1200, 8 threads, budget 16 MB {' '.join(more)}: {time.monotonic() - began:.2f} s,", said.strip(),
                   flush=True)

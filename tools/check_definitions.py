@@ -17,9 +17,9 @@ import argparse
 import re
 import sys
 from collections import namedtuple
-from pathlib import Path
 
-TOP = Path(__file__).resolve().parent.parent
+from texcheck.sources import TOP, layers
+
 CRATES = TOP / "crates"
 PAGE = TOP / "docs" / "DEFINITIONS.md"
 TESTS = "Tests"
@@ -43,14 +43,8 @@ Clause = namedtuple("Clause", "crate owner function label text names kind file")
 
 def libraries():
     """The libraries of the repository, in the order of crates.txt, without those for tests."""
-    found, heading = [], ""
-    for line in (TOP / "crates.txt").read_text(encoding="utf-8").splitlines():
-        if line.startswith("#"):
-            heading = line.lstrip("# 0123456789").strip()
-        name = line.split("#")[0].partition(":")[0].split()
-        if name and heading != TESTS and (CRATES / name[0] / "src" / "lib.rt").is_file():
-            found.append(name[0])
-    return found
+    return [name for heading, crates in layers() if not heading.endswith(TESTS)
+            for name in crates if (CRATES / name / "src" / "lib.rt").is_file()]
 
 
 def imports(text):

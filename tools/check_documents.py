@@ -25,6 +25,7 @@ from pathlib import Path
 
 import crate_maps
 from check_definitions import CARRIED, CRATES, TOP, call_of, public_clauses
+from texcheck.sources import dependencies
 
 MAX_COLUMNS = 120
 TABLE_COLUMNS = 160
@@ -184,13 +185,6 @@ def ends_of_paths():
             yield from ("/".join(parts[start:]) for start in range(len(parts)))
 
 
-def crate_names():
-    """The crates of crates.txt."""
-    for line in (TOP / "crates.txt").read_text(encoding="utf-8").splitlines():
-        name = line.split("#")[0].partition(":")[0].split()
-        if name:
-            yield name[0]
-
 
 def other_versions():
     """What does not name the version."""
@@ -204,7 +198,7 @@ def missing_entries():
     """Crates that the pages about the crates do not mention, and missing READMEs."""
     crates = (CRATES / "README.md").read_text(encoding="utf-8")
     tests = (CRATES / "TESTS.md").read_text(encoding="utf-8")
-    for name in crate_names():
+    for name in dependencies():
         if name.endswith("_tests"):
             if name not in tests:
                 yield f"crates/TESTS.md does not mention the crate {name}"

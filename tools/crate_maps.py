@@ -11,9 +11,9 @@ import argparse
 import re
 import sys
 import textwrap
-from pathlib import Path
 
-TOP = Path(__file__).resolve().parent.parent
+from texcheck.sources import TOP, dependencies, layers
+
 CRATES = TOP / "crates"
 MAP = CRATES / "README.md"
 DECISIONS = TOP / "docs" / "DECISIONS.md"
@@ -50,26 +50,9 @@ its DECISIONS.md; this list of the titles is made by `tools/crate_maps.py`. What
 ALL_CRATES = "## All crates\n"
 
 
-def layers():
-    """The headings of crates.txt, each with its crates."""
-    found = []
-    for line in (TOP / "crates.txt").read_text(encoding="utf-8").splitlines():
-        if line.startswith("#"):
-            found.append((line.lstrip("# "), []))
-        name = line.split("#")[0].partition(":")[0].split()
-        if name:
-            found[-1][1].append(name[0])
-    return found
-
-
 def out_of_order():
-    """The crates of crates.txt that stand before one that they use."""
-    uses = {}
-    for line in (TOP / "crates.txt").read_text(encoding="utf-8").splitlines():
-        name, colon, below = line.split("#")[0].partition(":")
-        if colon:
-            uses[name.split()[0]] = below.split()
-    seen = set()
+    """The crates of crates.txt that come before one that they use."""
+    uses, seen = dependencies(), set()
     for name, below in uses.items():
         for other in below:
             if other in uses and other not in seen:

@@ -16,6 +16,7 @@ from pathlib import Path
 
 from texcheck.common import add_program, program_of, tool
 from texcheck.meanings import counted, refusal
+from texprepare.sizes import size_text
 
 MOST_LINES = 1000
 
@@ -39,12 +40,6 @@ def kept(width, height, channels, levels):
     """The bytes that the texels of all levels take in the cache."""
     return sum(max(1, width >> n) * max(1, height >> n) * channels * 2 for n in range(levels))
 
-
-def size_text(count):
-    for unit, size in (("GiB", 2 ** 30), ("MiB", 2 ** 20), ("KiB", 2 ** 10)):
-        if count >= size:
-            return f"{count / size:.1f} {unit}"
-    return f"{count} bytes"
 
 
 def cut_text(whole, small, large):

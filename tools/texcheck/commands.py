@@ -127,9 +127,6 @@ def check_surroundings(checker, room):
     checker.compare("no toolchain", done.returncode == 125 and b"toolchain" in done.stderr, done.stderr)
 
 
-def add_arguments(_parser):
-    pass
-
 
 def run(_args):
     checker = Checker()

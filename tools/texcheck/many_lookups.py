@@ -184,9 +184,6 @@ def asked():
                    [footprint.mean(c) for c in range(channels)])
 
 
-def add_arguments(_parser):
-    pass
-
 
 def run(_args):
     for request, values in asked():

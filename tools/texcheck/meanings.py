@@ -93,7 +93,7 @@ def ending(line):
 
 
 REFUSALS = {
-    "no such file": "no file of this name is in the folder (subfolders are not read), or the UDIM texture has no tile here",
+    "no such file": "the folder has no such file (subfolders are not read), or the UDIM texture has no tile here",
     "region too large": "the region has more than 1048576 texels",
     "holds full": "the worker already holds four tiles",
     "nothing held": "the worker holds no tile",

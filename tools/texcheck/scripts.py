@@ -95,9 +95,6 @@ def check_proved(runs):
         os.utime(place, ns=(found, found))
 
 
-def add_arguments(_parser):
-    pass
-
 
 def run(_args):
     from texcheck.entry import parsers

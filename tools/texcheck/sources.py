@@ -6,14 +6,21 @@ from pathlib import Path
 TOP = Path(__file__).resolve().parents[2]
 
 
-def dependencies():
-    """The crates of the repository, each with the crates that it uses: the names after its colon in crates.txt."""
-    found = {}
+def layers():
+    """The headings of crates.txt. Each has its crates, and each of them the crates that it uses."""
+    found = []
     for line in (TOP / "crates.txt").read_text(encoding="utf-8").splitlines():
+        if line.startswith("#"):
+            found.append((line.lstrip("# "), {}))
         name, colon, below = line.split("#")[0].partition(":")
         if colon:
-            found[name.split()[0]] = below.split()
+            found[-1][1][name.split()[0]] = below.split()
     return found
+
+
+def dependencies():
+    """The crates of the repository, each with the crates that it uses."""
+    return {name: below for _, crates in layers() for name, below in crates.items()}
 
 
 def crates_below(name):
