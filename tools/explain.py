@@ -14,17 +14,10 @@ from pathlib import Path
 
 from texcheck.counts import MOST_OF_A_ROUND, texels
 from texcheck.meanings import counted, ending, refusal
+from texcheck.words import name_in
 
 # how many values of a region are shown
 SHOWN = 8
-
-# how many fields a request has between its first word and the name of the file
-FIELDS = {"tex": 7, "texd": 9, "pixels": 5, "info": 0, "hold": 3, "invalidate": 0, "renew": 0}
-
-
-def name_in(request):
-    word, _, rest = request.partition(" ")
-    return rest.split(" ", FIELDS[word])[-1] if word in FIELDS else ""
 
 
 def requests_of(text):

@@ -16,6 +16,7 @@ from texcheck.common import TOP, add_program, program_of
 from texcheck.list_rows import BAD_NUMBERS, BAD_WORDS, FAULTY, PARSED, PLAIN, RIGHT, SEVERAL, SPELLED, WRONG
 from texcheck.reference import FIELDS, on_pages
 from texcheck.tiff import BIG, LITTLE, WHITE_IS_ZERO, Level, tiff
+from texcheck.words import name_in
 
 HELP = "valid and invalid lists, lines and arguments"
 ALONE = ["--workers", "1"]
@@ -67,12 +68,6 @@ def picture(number):
     return Level(13, 9, texel, 16, rows=4)
 
 
-def name_of(line):
-    """The file name in a request; None if the request has no name."""
-    fields = {**FIELDS, "hold": 3, "invalidate": 0, "renew": 0}
-    word, _, rest = line.partition(" ")
-    return rest.split(" ", fields[word])[-1] if word in fields else None
-
 
 def held(level, x, y):
     """The answer to a hold on these images, whose levels are one cell each."""
@@ -88,7 +83,7 @@ def answer(line, pictures):
              "invalidate_all": "invalidated all"}
     if line in plain:
         return plain[line]
-    word, name = line.split(" ")[0], name_of(line)
+    word, name = line.split(" ")[0], name_in(line)
     if name not in pictures:
         return "no such file"
     if word in ("invalidate", "renew"):
@@ -104,7 +99,7 @@ def answer(line, pictures):
 def check_lines(checker, folder):
     """Each valid request, alone, in a folder that has all files that it may name; and lists of several requests."""
     lines = RIGHT + [it for _, it in SPELLED] + [it for _, said in PARSED for it in said.split("\n")]
-    names = {name_of(it) for it in lines} - {None, "a\0b"}
+    names = {name_in(it) for it in lines} - {"", "a\0b"}
     pictures = {name: number for number, name in enumerate(sorted(names))}
     for name, number in pictures.items():
         (folder / name).write_bytes(tiff(BIG, [picture(number)]))
