@@ -1,8 +1,8 @@
 #!/usr/bin/env python3
 """Checks the documents of the repository.
 
-- No line is longer than 120 columns, except in tables, which may have 160; README.md has at most 120 lines of at most
-  100 columns.
+- No line is longer than 120 columns, except in tables, which may have 160, or more if a script writes them; README.md
+  has at most 120 lines of at most 100 columns.
 - Each link leads to a file, and to a heading of it if it names one. So does each place that points to a heading by its
   title, in a document, a source or a script: `docs/FORMAT.md`, "Levels".
 - Each crate of crates.txt has a README; each crate of tests is in crates/TESTS.md; crates/README.md and
@@ -94,6 +94,8 @@ def anchor(title):
 def too_long(file, text):
     usual = README_COLUMNS if file == TOP / "README.md" else MAX_COLUMNS
     for number, line in enumerate(text.splitlines(), 1):
+        if line.startswith("|") and file.name == "DEFINITIONS.md":
+            continue
         most = TABLE_COLUMNS if line.startswith("|") else usual
         if len(line) > most:
             yield f"line {number} has {len(line)} columns, and may have {most}"
