@@ -52,7 +52,7 @@ def check_bad_input(case):
     text = case.expect_run("names", 1, "11 images: 4 made, 0 up to date, 7 failed", source, dest, "--flat")
     for part in (r"'b\nc.tif': its name has a line break", r"'d\udcff.tif': its name is not UTF-8",
                  "g.png: g.tif would make the same texture, g.tif", "g.tif: g.png would make the same texture",
-                 "sub/h.tif: sub_h.tif would make the same texture", "cut.tif: strip or tile 2 of level 0 is not all"):
+                 "sub/h.tif: sub_h.tif would make the same texture", "cut.tif: strip or tile 2 of level 0 is not completely"):
         case.expect(part in text, f"bad input: {part!r}", text)
     names = ["-e f.tif", "a.tif", "g.tiff", "i'j.tif"]
     case.expect(sorted(tree(dest)) == names, "what is made of odd names", sorted(tree(dest)))
