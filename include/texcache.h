@@ -1,7 +1,7 @@
 /* texcache.h: textures of a folder of TIFF files, for programs in C and C++.
  *
  * It needs the static library libtex_c.a, which is proved and does no input or output: the library says which
- * bytes it lacks, and this header reads and supplies them. How to build and link: docs/EMBEDDING.md.
+ * bytes it needs, and this header reads and supplies them. How to build and link: docs/EMBEDDING.md.
  *
  *     texcache *cache;
  *     texcache_pass *pass = NULL;
@@ -63,7 +63,7 @@ extern "C" {
 /* Why a call fails. 0 to 25 are the library's numbers, those from 40 on this header's. */
 enum texcache_status {
     TEXCACHE_OK = 0,
-    TEXCACHE_NEEDED = 1,            /* the library lacks bytes; no texcache_ call answers this */
+    TEXCACHE_NEEDED = 1,            /* the library needs bytes; no texcache_ call answers this */
     TEXCACHE_BAD_OPTIONS = 2,       /* detail: 1 budget, 2 shards, 3 passes, 4 handles, 5 autotile, 6 slots */
     TEXCACHE_NO_FILE = 3,           /* no file has this number */
     TEXCACHE_BAD_REQUEST = 4,       /* a number of the request is out of range */

@@ -22,7 +22,7 @@ COLUMNS = 120
 MAP_TOP = """# The crates
 
 This page is made by `tools/crate_maps.py` from `crates.txt` and the first sentence of each crate's README. Each crate
-stands behind all that it uses. How they work together, where to start reading and where to change what:
+comes after all that it uses. How they work together, where to start reading and where to change what:
 [ARCHITECTURE](../docs/ARCHITECTURE.md).
 
 ![the layers of the crates, and who owns what](../docs/pictures/layers.svg)

@@ -58,7 +58,7 @@ def words_of(pid):
 
 
 def edit_of(crate, folder):
-    """The edit that is tried in a folder: the one whose new text stands in the file that it names and its old one does not."""
+    """The edit that is tried in a folder: the file that it names has its new text, and not its old one."""
     for edit in sorted(Path("crates", crate, "must-fail").glob("*.edit")):
         lines = [it.partition(": ")[::2] for it in edit.read_text().splitlines()]
         file, old, new = ([text for word, text in lines if word == it][:1] for it in ("file", "old", "new"))
@@ -92,7 +92,7 @@ class Watch:
         self.seen, self.sessions, self.first = {}, set(), pid
 
     def read(self):
-        """Reads all processes of the command that are there now, each behind the one that started it."""
+        """Reads all processes of the command that run now, each after the one that started it."""
         now, ours = [], {}
         for pid in filter(str.isdigit, os.listdir("/proc")):
             try:

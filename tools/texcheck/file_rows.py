@@ -75,7 +75,7 @@ def tiled():
 
 
 def leading(file, at, to, half):
-    """A file whose next offset leads to a second directory, which stands behind it."""
+    """A file with a second directory at its end, to which the first one leads."""
     return file[:at] + bytes([to]) + file[at + 1:] + half
 
 

@@ -137,10 +137,10 @@ def check_limits(checker, folder):
         wanted = f"bad list {fault}\n".encode() if fault else nothing
         checker.run(folder, [*ALONE, "."], byte * length, wanted, 3 if fault else 0, f"{length} times {byte}")
     many, lines = b"\ninfo -\n" * MAX_REQUESTS, ["no such file"] * MAX_REQUESTS
-    told = text(lines + closing(lines))
+    answered = text(lines + closing(lines))
     for end, fault in [(b"", None), (b"#\n\n# sync\n", None), (b"drop", "2097153 8"), (b"\n#\nsync\nx", "2097155 8"),
                        (b"sync \n", "2097153 6"), (b"x\nsync", "2097153 1")]:
-        wanted = f"bad list {fault}\n".encode() if fault else told
+        wanted = f"bad list {fault}\n".encode() if fault else answered
         checker.run(folder, [*ALONE, "."], many + end, wanted, 3 if fault else 1, f"many requests, and {end}")
 
 

@@ -9,7 +9,7 @@ from texcheck.tiff import BLACK_IS_ZERO, WHITE_IS_ZERO
 
 # each file is in the first generation that the program meets
 GENERATION = 1
-# how many fields stand between the word of a request and its name
+# how many fields a request has between its first word and the name of the file
 FIELDS = {"tex": 7, "texd": 9, "pixels": 5, "info": 0}
 
 

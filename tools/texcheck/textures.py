@@ -22,7 +22,7 @@ WHITE_IS_ZERO, RGB = 0, 2
 MOST_SAMPLES = 67108864
 MADE, BAD_WORDS, NO_FILE, BAD_FILE, TOO_LARGE = 0, 2, 7, 8, 9
 
-# What stands behind FOLDER, a file and no more, is refused; and a side is 16 to 256, a multiple of 16.
+# values of T that are refused: a side is a multiple of 16 from 16 to 256
 WRONG_SIDES = ("0", "8", "24", "272", "+16", "-16", " 16", "16.", "", "00000000016")
 
 
@@ -113,7 +113,7 @@ def check(program, folder, side):
 
 
 def check_refusals(program, folder):
-    """How many words are answered otherwise than docs/TEXTURES.md says, before any file is read."""
+    """How many invalid arguments do not end with the status that docs/TEXTURES.md says."""
     name = min(path.name for path in Path(folder).iterdir() if path.is_file())
     folder = str(folder)
     asked = [(["-" + folder, name], BAD_WORDS), ([folder, name, "16", "16"], BAD_WORDS), ([], BAD_WORDS)]
@@ -171,7 +171,7 @@ def answered(texcache, folder, asked):
 
 
 def compare_answers(texcache, program, folder, side):
-    """How many files of a folder texcache answers otherwise than their textures."""
+    """How many textures of the files of a folder texcache answers differently from the file."""
     bad = asked_in_all = 0
     with tempfile.TemporaryDirectory() as made_in:
         asked = []
@@ -186,8 +186,8 @@ def compare_answers(texcache, program, folder, side):
             if got != wanted or len(got) != len(requests):
                 bad += 1
                 other = (it for it in zip(requests, wanted, got) if it[1] != it[2])
-                print("%s: %s" % (name, next(other, "lines lack")))
-    print(f"textures: {bad} of {len(asked)} files are answered otherwise, {asked_in_all} requests")
+                print("%s: %s" % (name, next(other, "lines are missing")))
+    print(f"textures: {bad} of {len(asked)} textures are not answered like their files, {asked_in_all} requests")
     return bad
 
 

@@ -133,10 +133,10 @@ def check_explained(folder):
     found = explained([it[0] for it in LINES], [it[1] for it in LINES])
     of_great = explained(GREAT, ["no memory"] * len(GREAT)).splitlines()
     rounds = [int(it.split("round ")[1].split(",")[0]) for it in of_great if it.startswith("line ")]
-    lacking = [numbers for numbers, word in FAULTS.items() if word not in fault(list(numbers))[0]]
+    wrong = [numbers for numbers, word in FAULTS.items() if word not in fault(list(numbers))[0]]
     return (compare("explain.py", found, "".join(wanted) + closing) + compare("its rounds", rounds, ROUNDS)
             + compare("endings", {it: ending(it) for it in ENDINGS}, ENDINGS)
-            + compare("faults whose explanation lacks a word", lacking, []))
+            + compare("faults whose explanation lacks a word", wrong, []))
 
 
 def loads(budget):
