@@ -4,10 +4,11 @@
     python3 bench/embedded.py [--library FILE] [--folder FOLDER] [--name FILE] [--passes N]
     python3 bench/embedded.py --renderer [FOLDER]    # 64 textures of 1.07 GB, made in FOLDER or a folder that goes again
 
-A bilinear texcache_texture of three channels, within one cell of a file, over the library that ./build tex_c makes,
-with 1, 4 and 8 threads; and TextureSystem::texture at the same coordinates, where OpenImageIO's headers are there.
-The time is that of the whole, all threads side by side, for each lookup of one thread; the least of the passes, which
-are taken in turn. Instructions are those of 200,000 lookups more, for each. The first line has the load of the machine.
+It measures a bilinear texcache_texture of three channels within one cell of a file, with 1, 4 and 8 threads, over the
+library that ./build tex_c makes; and TextureSystem::texture at the same coordinates, if OpenImageIO's headers are
+installed. A time is the wall time of all threads together, divided by the lookups of one thread; the least of several
+passes, alternated between the two. Instructions per lookup come from 200,000 additional lookups. The first line has the
+load of the machine.
 """
 import argparse
 import os
@@ -23,22 +24,22 @@ TOP = Path(__file__).resolve().parent.parent
 RENDERER = TOP / "examples" / "renderer"
 
 
-def told(words):
+def output_of(words):
     return subprocess.run([str(it) for it in words], stdout=subprocess.PIPE, stderr=subprocess.STDOUT, check=True).stdout.decode()
 
 
 def over(library):
-    return ["-lm", "-lpthread"], [library, Path(told(["rt", "doc"]).strip()).parent / "c" / "liblibc_c.a"]
+    return ["-lm", "-lpthread"], [library, Path(output_of(["rt", "doc"]).strip()).parent / "c" / "liblibc_c.a"]
 
 
 def programs(words, made):
-    """The lookups of texcache, and those of OpenImageIO where it is there."""
+    """The programs that time the lookups of texcache and, if it is installed, of OpenImageIO."""
     last, linked = over(words.library)
     own, other = Path(made) / "embedded", Path(made) / "oiio_lookups"
-    told(["cc", "-std=gnu11", "-O2", f"-I{TOP / 'include'}", "-o", own, TOP / "bench" / "embedded.c", *linked, *last])
+    output_of(["cc", "-std=gnu11", "-O2", f"-I{TOP / 'include'}", "-o", own, TOP / "bench" / "embedded.c", *linked, *last])
     yield "texcache", own
     try:
-        told(["c++", "-std=c++17", "-O2", "-o", other, TOP / "bench" / "oiio_lookups.cpp", "-lOpenImageIO", "-lOpenImageIO_Util"])
+        output_of(["c++", "-std=c++17", "-O2", "-o", other, TOP / "bench" / "oiio_lookups.cpp", "-lOpenImageIO", "-lOpenImageIO_Util"])
         yield "OpenImageIO", other
     except (subprocess.CalledProcessError, FileNotFoundError):
         print("no OpenImageIO: it is not measured")
@@ -49,7 +50,7 @@ def lookups(words):
         found = list(programs(words, made))
 
         def run(program, threads, count, *before):
-            return told([*before, program, words.folder, words.name, threads, count])
+            return output_of([*before, program, words.folder, words.name, threads, count])
 
         for threads in (1, 4, 8):
             least = {}
@@ -71,15 +72,15 @@ def renderer(words, folder):
     with tempfile.TemporaryDirectory() as made:
         folder = folder or Path(made) / "textures"
         if not (folder / "t63.tif").is_file():
-            told([sys.executable, RENDERER / "textures.py", folder])
+            output_of([sys.executable, RENDERER / "textures.py", folder])
         size = sum(it.stat().st_size for it in folder.iterdir())
         last, linked = over(words.library)
         program = Path(made) / "renderer"
-        told(["cc", "-std=gnu11", "-O2", f"-I{TOP / 'include'}", "-o", program, RENDERER / "renderer.c", *linked, *last])
+        output_of(["cc", "-std=gnu11", "-O2", f"-I{TOP / 'include'}", "-o", program, RENDERER / "renderer.c", *linked, *last])
         print(f"{len(list(folder.iterdir()))} textures of {size} bytes")
         for more in ([], ["--closest"]):
             began = time.monotonic()
-            said = told([program, folder, Path(made) / "out.ppm", "--many", "--budget", 1 << 24, "--width", 1920, "--height",
+            said = output_of([program, folder, Path(made) / "out.ppm", "--many", "--budget", 1 << 24, "--width", 1920, "--height",
                          1200, *more])
             print(f"1920 by 1200, 8 threads, budget 16 MB {' '.join(more)}: {time.monotonic() - began:.2f} s,", said.strip(),
                   flush=True)

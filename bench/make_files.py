@@ -28,7 +28,7 @@ TEXTURE_FORMAT, PLAIN_TEXTURE = 33302, b"Plain Texture\0"
 
 
 class Level(NamedTuple):
-    """A picture of three channels of 8 bits: in tiles of that side, or in strips of so many rows."""
+    """An image of three channels of 8 bits: in tiles of this side, or in strips of this number of rows."""
 
     width: int
     height: int
@@ -83,7 +83,7 @@ def directory(found, at):
 
 
 def write_picture(path, levels, noise):
-    """The blocks of each level, behind them its directory, to which the one before it leads."""
+    """The blocks of each level, each followed by the level's directory."""
     levels = list(levels)
     with open(path, "wb") as file:
         file.write(b"II*\0" + bytes(4))
@@ -130,7 +130,7 @@ def write_lists(folder, rows):
 
 
 def make(folder, rows=tuple(ROWS.values())):
-    """All of it, unless the folder has it already."""
+    """Makes all files and lists that the folder does not have yet."""
     folder.mkdir(parents=True, exist_ok=True)
     write_lists(folder, rows)
     if (folder / "done").exists():

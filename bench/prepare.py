@@ -2,8 +2,8 @@
 """How long tools/prepare.py takes for 100 images beside OpenImageIO's maketx: 8 bits, uncompressed, in tiles of 64 by 64,
 four at a time.
 
-It prints the wall time and the processor time of both, the least of some passes in turn, and the load of the machine.
-It writes nothing into the repository.
+It runs the two in turn several times, and prints the least wall time and the least processor time of each, and the load
+of the machine. It writes nothing into the repository.
 """
 import argparse
 import os

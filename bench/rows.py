@@ -1,7 +1,7 @@
 """The rows of the benchmark: what each asks for, and from which files.
 
-A row has two lists. Its figure is the difference of the two, divided by the number of items that the long one has more.
-So neither start-up nor what the short list reads too is in it.
+A row has a short and a long list. Its figure is the difference of their times, divided by the number of additional
+items in the long list. So it contains neither start-up nor what both lists read.
 """
 
 import random
@@ -134,8 +134,8 @@ def wide_scan(rows):
 
 
 class Row(NamedTuple):
-    """What a row asks for. `units` is how many items (lookups, tiles, files) the long list has more than the short one.
-    Without a short list, all that a program takes is the figure."""
+    """The lists of a row. `units` is the number of additional items (lookups, tiles, files) in the long list. Without a
+    short list the figure is the whole time of the program."""
 
     name: str
     title: str

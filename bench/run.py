@@ -3,9 +3,9 @@
 
 It makes files and lists (make_files.py), builds the two programs that answer lists through the C library
 (texcache_lists.cpp) and through OpenImageIO (oiio_lists.cpp), runs all three in turn and keeps the least of the passes.
-Each row has a short and a long list; its figure is the difference of the two, for each item that the long one has more,
-so start-up is in none. OpenImageIO's calls and those of the C library are taken by their programs' own clock, without
-parsing and printing; the program texcache and OpenImageIO's program are taken as a whole.
+Each row has a short and a long list. Its figure is the difference of their times per additional item, so it contains no
+start-up. The calls of OpenImageIO and of the C library are timed by the programs' own clock, without parsing and
+printing; the program texcache and OpenImageIO's program are timed as a whole.
 
 It prints the tables of docs/BENCHMARK.md. With --write it also writes figures.json, that page and its plot, but only if
 all rows were measured, of a commit without changes, and the load was never above 2 per processor.
@@ -53,7 +53,7 @@ def arguments():
     return asked
 
 
-def told(words):
+def output_of(words):
     return subprocess.run([str(it) for it in words], stdout=subprocess.PIPE, check=True, text=True).stdout.strip()
 
 
@@ -64,12 +64,12 @@ def build(folder, asked):
             sys.exit(f"run.py: {file} does not exist; {makes} makes it")
     if subprocess.run(["pkg-config", "--exists", "OpenImageIO"], check=False).returncode:
         sys.exit("run.py: OpenImageIO is not installed: apt-get install libopenimageio-dev")
-    heap = Path(told(["rt", "doc"])).parent / "c" / "liblibc_c.a"
+    heap = Path(output_of(["rt", "doc"])).parent / "c" / "liblibc_c.a"
     flags = ["g++", "-std=c++17", "-O2", "-I", TOP / "include"]
     subprocess.run(["cc", "-O2", "-o", folder / "measure", HERE / "measure.c"], check=True)
     subprocess.run([*flags, "-o", folder / "c", HERE / "texcache_lists.cpp", asked.library.resolve(), heap, "-lm",
                     "-lpthread"], check=True)
-    found = told(["pkg-config", "--cflags", "--libs", "OpenImageIO"]).split()
+    found = output_of(["pkg-config", "--cflags", "--libs", "OpenImageIO"]).split()
     subprocess.run([*flags, "-o", folder / "oiio", HERE / "oiio_lists.cpp", "-lpthread", *found], check=True)
     return {"program": asked.program.resolve(), "c": folder / "c", "oiio": folder / "oiio"}
 
@@ -160,8 +160,8 @@ def measure(bench, asked):
             say("; ".join(bench.differing(row)))
     load.look()
     model = re.search(r"model name\s*: (.*)", Path("/proc/cpuinfo").read_text(encoding="utf-8"))
-    figures = {"commit": told(["git", "-C", TOP, "describe", "--always", "--dirty", "--exclude", "*"]),
-               "oiio": told(["pkg-config", "--modversion", "OpenImageIO"]),
+    figures = {"commit": output_of(["git", "-C", TOP, "describe", "--always", "--dirty", "--exclude", "*"]),
+               "oiio": output_of(["pkg-config", "--modversion", "OpenImageIO"]),
                "processor": model[1] if model else platform.processor(), "processors": os.cpu_count(),
                "load": str(load), "passes": asked.passes, "rows": rows}
     return figures, load

@@ -1,6 +1,6 @@
 #!/usr/bin/env python3
-"""Asks the program for a grid of lookups of a picture in a folder, and writes what comes back as a
-PNG. `python3 picture.py --help` lists what can be chosen; Python's standard library is all it needs."""
+"""Draws a texture through lookups: asks the program for a grid of lookups, and writes the values as a PNG.
+`python3 picture.py --help` lists the options. It needs Python's standard library only."""
 import argparse
 import struct
 import subprocess
@@ -31,7 +31,7 @@ def arguments():
 
 
 def places(start, end, many):
-    """The middles of so many pixels between two coordinates, in 1/65536 of the picture."""
+    """The middles of `count` pixels between two coordinates, in 1/65536 of the image."""
     return [round(ONE * (start + (end - start) * (2 * i + 1) / (2 * many))) for i in range(many)]
 
 

@@ -1,9 +1,9 @@
 #!/usr/bin/env bash
-# Runs the real program over files that are no pictures, or that lie about themselves, and compares
-# what it prints. Each gets its named line at once, in little memory, but for blocks.tif: eight planes in
-# tiles of 16 by 16, whose levels all share the offsets of the first. HOSTILE_SIDE=131072 makes it as large
-# as it may be, a file of 2 GiB whose offsets take 5.3 GiB of memory. The sparse files have 5 GiB and take no
-# room on the disk. Another program may be named.
+# Runs the program on files that are not images, or that contradict themselves, and compares what it
+# prints. Each file is answered at once and with little memory, except blocks.tif: eight planes in tiles of
+# 16 by 16, whose levels all share the offsets of the first. HOSTILE_SIDE=131072 makes it as large as it may
+# be, a file of 2 GiB whose offsets take 5.3 GiB of memory. The sparse files have 5 GiB and take no space on
+# the disk. The argument names another program.
 set -u
 case "${1-}" in -*) echo 'usage: demo/try_hostile.sh [PROGRAM]'; [ "$1" = --help ]; exit ;; esac
 top=$(cd "$(dirname "${BASH_SOURCE[0]}")/.." && pwd) || exit 1
@@ -40,10 +40,10 @@ changed many_offsets.tif 74 '\xff\xff\xff\xff'   # 2^32 - 1 strip offsets
 changed no_offsets.tif 74 '\x00\x00\x00\x00'     # none
 changed far_strip.tif 78 '\xfb\xff\xff\xff'      # the strip near 2^32
 changed one_too_far.tif 78 '\x7b\x00\x00\x00'    # the strip one byte past the end
-# still pictures: the next directory is the first one, or stands far behind the file
+# valid images: the next directory is the first one, or is far behind the end of the file
 changed itself.tif 118 '\x08\x00\x00\x00'
 changed next_far.tif 118 '\xff\xff\xff\xff'
-# with wide offsets: places near 2^64, and a strip behind 5 GiB, the first sample of which is 7
+# with wide offsets: offsets near 2^64, and a strip behind 5 GiB, whose first sample is 7
 head -c 15 "$wide" > "$folder/fifteen.tif"
 widened wide_end.tif 8 '\xf8\xff\xff\xff\xff\xff\xff\xff'
 widened wide_entries.tif 16 '\xff\xff\xff\xff\xff\xff\xff\xff'

@@ -1,7 +1,7 @@
 /* texcache.h: textures of a folder of TIFF files, for programs in C and C++.
  *
  * It needs the static library libtex_c.a, which is proved and does no input or output: the library says which
- * bytes it lacks, and this header reads and supplies them. How to build and link: docs/EMBEDDING.md.
+ * bytes it needs, and this header reads and supplies them. How to build and link: docs/EMBEDDING.md.
  *
  *     texcache *cache;
  *     texcache_pass *pass = NULL;
@@ -63,7 +63,7 @@ extern "C" {
 /* Why a call fails. 0 to 25 are the library's numbers, those from 40 on this header's. */
 enum texcache_status {
     TEXCACHE_OK = 0,
-    TEXCACHE_NEEDED = 1,            /* the library lacks bytes; no texcache_ call answers this */
+    TEXCACHE_NEEDED = 1,            /* the library needs bytes; no texcache_ call answers this */
     TEXCACHE_BAD_OPTIONS = 2,       /* detail: 1 budget, 2 shards, 3 passes, 4 handles, 5 autotile, 6 slots */
     TEXCACHE_NO_FILE = 3,           /* no file has this number */
     TEXCACHE_BAD_REQUEST = 4,       /* a number of the request is out of range */
@@ -82,7 +82,7 @@ enum texcache_status {
     TEXCACHE_READ_FAULT = 17,       /* the file is gone, cannot be read, or was replaced twice within a call */
     TEXCACHE_NO_MEMORY = 18,
     TEXCACHE_BUSY = 19,             /* other threads used a part of the cache for too long */
-    TEXCACHE_NOT_NEEDED = 20,       /* 20 to 25: a supply that does not match what is lacking */
+    TEXCACHE_NOT_NEEDED = 20,       /* 20 to 25: a supply that does not match what the library needs */
     TEXCACHE_OTHER_PLACE = 21,
     TEXCACHE_OLDER = 22,
     TEXCACHE_OTHER_GENERATION = 23,
@@ -265,7 +265,7 @@ typedef struct texc_file {
     char *name;
     pthread_mutex_t lock;  /* guards what follows */
     uint32_t generation;   /* the latest one, 0 before the first look */
-    uint64_t stamp, len;   /* those of that generation */
+    uint64_t stamp, len;   /* the stamp and length of that generation */
     texc_open *open;       /* open at that generation, or NULL */
 } texc_file;
 
@@ -375,7 +375,7 @@ static inline size_t texc_pread(int fd, uint8_t *to, size_t count, uint64_t at)
     return done;
 }
 
-/* What is lacking of a file: rows, and the bytes of all of them. A single stretch is one row. */
+/* What the library needs of a file: rows, and how many bytes they have together. A single stretch is one row. */
 typedef struct texc_wanted {
     texcache_rows rows;
     size_t size;
@@ -393,7 +393,7 @@ static inline texc_wanted texc_want(const texcache_answer *need)
     return w;
 }
 
-/* Reads what is lacking from an open file into the buffer. Returns whether all was read. */
+/* Reads what the library needs from an open file into the buffer. Returns whether all was read. */
 static inline int texc_read(texcache *cache, int fd, const texc_wanted *w, uint8_t *to)
 {
     size_t row = w->rows.stride == w->rows.row ? w->size : (size_t)w->rows.row;
@@ -406,7 +406,7 @@ static inline int texc_read(texcache *cache, int fd, const texc_wanted *w, uint8
     return 1;
 }
 
-/* Reads the lacking bytes or rows into a buffer of the library, and supplies them. If the file has a newer
+/* Reads the bytes or rows that the library needs into one of its buffers, and supplies them. If the file has a newer
  * generation, that is supplied instead; if it cannot be read, nothing is. */
 static inline uint32_t texc_supply_bytes(texcache_pass *pass, const texcache_answer *need)
 {
@@ -464,7 +464,7 @@ static inline uint32_t texc_supply_look(texcache_pass *pass, const texcache_answ
     return tex_c_supply_look(pass->held, &pass->held, seen.file, seen.generation, seen.len);
 }
 
-/* Supplies the lacking look, and looks at all later files that were looked at before. */
+/* Supplies the generation and size of the file that the library needs, and of all later files that are known. */
 static inline uint32_t texc_supply_looks(texcache_pass *pass, const texcache_answer *need)
 {
     texcache *cache = pass->cache;
@@ -484,7 +484,7 @@ static inline uint32_t texc_supply_looks(texcache_pass *pass, const texcache_ans
     return code;
 }
 
-/* Supplies what is lacking, or says that it cannot be read. */
+/* Supplies what the library needs, or says that it cannot be read. */
 static inline void texc_supply(texcache_pass *pass, const texcache_answer *need)
 {
     uint32_t code = need->need == 1 ? texc_supply_look(pass, need) : texc_supply_bytes(pass, need);

@@ -146,7 +146,7 @@ public:
         called([&](texcache_answer *answer) { return texcache_invalidate_all(pass_, answer); }, nullptr);
     }
 
-    // The cell that holds a texel is held behind the others, until its place is released.
+    // Holds the cell of a texel until it is released. A pass holds at most four; the oldest is at place 0.
     std::uint32_t get_tile(std::uint32_t file, std::uint32_t level, std::uint32_t x, std::uint32_t y)
     {
         texcache_answer answer;

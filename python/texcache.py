@@ -7,7 +7,7 @@
         print(textures.texture(wall, 32768, 32768, channels=3))
 
 The shared object is libtexcache.so beside this file, or what TEXCACHE_LIBRARY names (docs/EMBEDDING.md). Each
-thread has a pass of its own. A refusal is a Refused, with its number, its text and what belongs to it. Values are
+thread has a pass of its own. A call that fails raises Refused, with its number, its text and its details. Values are
 lists of whole numbers, 0 to 65535; regions and tiles are numpy arrays where numpy is there.
 """
 import ctypes
@@ -31,13 +31,13 @@ class _Struct(ctypes.Structure):
 
 
 class Options(_Struct):
-    """What a cache is made with: texcache_options."""
+    """The options of a cache: texcache_options."""
     _fields_ = [("budget", c_uint64), ("shards", c_uint32), ("passes", c_uint32), ("handles", c_uint32),
                 ("autotile", c_uint32), ("slots", c_uint32), ("automip", c_bool)]
 
 
 class Answer(_Struct):
-    """What belongs to an answer or a refusal: texcache_answer."""
+    """The details of a result or an error: texcache_answer."""
     _fields_ = [("generation", c_uint32), ("newer", c_uint32), ("detail", c_uint32), ("part", c_uint32),
                 ("value", c_uint64), ("channels", c_uint32), ("need", c_uint32), ("need_file", c_uint32),
                 ("need_generation", c_uint32), ("need_at", c_uint64), ("need_least", c_uint64),
@@ -52,7 +52,7 @@ class Lookup(_Struct):
 
 
 class Info(_Struct):
-    """What a file is: texcache_info."""
+    """Size, channels, depth and levels of a file: texcache_info."""
     _fields_ = [(n, c_uint32) for n in ("width", "height", "channels", "depth", "stored", "levels")]
 
 
@@ -71,12 +71,12 @@ class Counts(_Struct):
 
 
 class Statistics(_Struct):
-    """What a pass has counted, and what all have read: texcache_statistics."""
+    """The counts of a pass, and the reads of all passes: texcache_statistics."""
     _fields_ = [("own", Counts), ("looks", c_uint64), ("opens", c_uint64), ("reads", c_uint64), ("bytes", c_uint64)]
 
 
 class Shard(_Struct):
-    """What a shard has: texcache_shard."""
+    """Tiles, pins and bytes of a shard: texcache_shard."""
     _fields_ = [("tiles", c_uint32), ("pins", c_uint32), ("loose", c_uint64), ("share", c_uint64)]
 
 
@@ -114,7 +114,7 @@ _lib = _declared(ctypes.CDLL(os.environ.get("TEXCACHE_LIBRARY", str(Path(__file_
 
 
 class Refused(Exception):
-    """A refused call: its number, and what belongs to it."""
+    """A failed call: `status` is its number, `answer` has the details."""
 
     def __init__(self, status, answer=None):
         super().__init__(_lib.texcache_error_string(status).decode())
@@ -143,7 +143,7 @@ class Cache:
         _check(status, bad)
 
     def close(self):
-        """Closes the cache, once all its passes have ended."""
+        """Closes the cache. All its passes must have ended."""
         if self._at:
             _check(_lib.texcache_close(byref(self._at)))
 
@@ -169,14 +169,14 @@ class Cache:
 
 
 class Pass:
-    """What one thread has of a cache."""
+    """One thread's access to a cache."""
 
     def __init__(self, cache):
         self._cache, self._at = cache, c_void_p()
         _check(_lib.texcache_perthread(cache._at, byref(self._at)))
 
     def end(self):
-        """The pass ends; its tiles are released."""
+        """Ends the pass and releases its tiles."""
         if self._at:
             _check(_lib.texcache_end(byref(self._at)))
 
@@ -191,7 +191,7 @@ class Pass:
         _check(call(self._at, *words, byref(self.answer)), self.answer)
 
     def info(self, file):
-        """What a file is."""
+        """Size, channels, depth and levels of a file."""
         info = Info()
         self._called(_lib.texcache_get_info, file, byref(info))
         return info
@@ -211,7 +211,7 @@ class Pass:
                                Lookup(s, t, 0, swrap, twrap, 0, channels, dsdx, dtdx, dsdy, dtdy))
 
     def texture_local(self, file, s, t, lod=0, swrap=PERIODIC, twrap=PERIODIC, filter=BILINEAR, channels=3):
-        """The values at S, T and LOD where the two latest tiles have all that is needed, and else None."""
+        """The values at S, T and LOD if the pass's two latest tiles have all texels; otherwise None. Never reads."""
         try:
             return self._looked_up(_lib.texcache_texture_local, file,
                                    Lookup(s, t, lod, swrap, twrap, filter, channels))
@@ -235,7 +235,7 @@ class Pass:
         return _shaped(values, h, w, answer.channels)
 
     def get_tile(self, file, level, x, y):
-        """The cell that holds a texel is held, behind the others."""
+        """Holds the cell of a texel. A pass holds at most four; the oldest is at place 0."""
         self._called(_lib.texcache_get_tile, file, level, x, y)
         return self.answer.generation
 
@@ -246,33 +246,33 @@ class Pass:
         return tile
 
     def tile_texels(self, place):
-        """Its samples: rows, columns, channels."""
+        """The samples of a held tile: rows, columns, channels."""
         tile = self.tile_at(place)
         values = (c_uint16 * (tile.w * tile.h * tile.channels))()
         _check(_lib.texcache_tile_texels(self._at, place, values, len(values)))
         return _shaped(values, tile.h, tile.w, tile.channels)
 
     def release_tile(self, place):
-        """The hold at a place is released."""
+        """Releases the hold at a place."""
         _check(_lib.texcache_release_tile(self._at, place))
 
     def invalidate(self, file, force=False):
-        """The file is looked at again; its newest generation."""
+        """Checks whether the file was replaced. Returns its newest generation."""
         self._called(_lib.texcache_invalidate, file, force)
         return self.answer.generation
 
     def invalidate_all(self):
-        """The same for each file that is known."""
+        """Checks each known file."""
         self._called(_lib.texcache_invalidate_all)
 
     def stats(self):
-        """What the pass has counted, and what all have read."""
+        """The counts of the pass, and the reads of all passes."""
         found = Statistics()
         _check(_lib.texcache_stats(self._at, byref(found)))
         return found
 
     def shard_stats(self, shard):
-        """What a shard has."""
+        """Tiles, pins and bytes of a shard."""
         found = Shard()
         _check(_lib.texcache_shard_stats(self._at, shard, byref(found)))
         return found

@@ -7,19 +7,21 @@ trait, or a ghost member or field of one. The crates under the heading `Tests` o
 out. A definition in specs/ is reached if a clause of a public call names it, or if another reached
 definition does. Laws and lemmas in specs/ have a proof instead of a meaning, so they are not followed.
 
-A row stands under the heading of its crate and has five cells: the file, its question, its source,
-the public calls that carry it with the labels of their clauses, and the tests. The script checks that
-each call and label exists and reaches the file, and that each test and heading exists. It prints what
-is wrong, suggests a row if one is missing, and then ends with status 1.
+A row is under the heading of its crate and has five cells: the file, its question, its source, the
+public calls that carry it with the labels of their clauses, and the tests. The question is the one
+that the file opens with; --write copies it. The script checks that each call and label exists and
+reaches the file, and that each test and heading exists. It prints what is wrong, suggests a row if
+one is missing, and then ends with status 1.
 """
 
 import argparse
 import re
 import sys
 from collections import namedtuple
-from pathlib import Path
+from itertools import takewhile
 
-TOP = Path(__file__).resolve().parent.parent
+from texcheck.sources import TOP, layers
+
 CRATES = TOP / "crates"
 PAGE = TOP / "docs" / "DEFINITIONS.md"
 TESTS = "Tests"
@@ -43,14 +45,8 @@ Clause = namedtuple("Clause", "crate owner function label text names kind file")
 
 def libraries():
     """The libraries of the repository, in the order of crates.txt, without those for tests."""
-    found, heading = [], ""
-    for line in (TOP / "crates.txt").read_text(encoding="utf-8").splitlines():
-        if line.startswith("#"):
-            heading = line.lstrip("# 0123456789").strip()
-        name = line.split("#")[0].partition(":")[0].split()
-        if name and heading != TESTS and (CRATES / name[0] / "src" / "lib.rt").is_file():
-            found.append(name[0])
-    return found
+    return [name for heading, crates in layers() if not heading.endswith(TESTS)
+            for name in crates if (CRATES / name / "src" / "lib.rt").is_file()]
 
 
 def imports(text):
@@ -102,13 +98,9 @@ class Spec:
 
     @staticmethod
     def opening(text):
-        """The comment that a file opens with."""
-        found = []
-        for line in text.splitlines():
-            if not line.startswith("--"):
-                break
-            found.append(line[2:].strip())
-        return " ".join(found)
+        """The question that a file opens with."""
+        lines = takewhile(lambda it: it.startswith("--"), text.splitlines())
+        return " ".join(it[2:].strip() for it in lines).partition("?")[0] + "?"
 
     def is_meaning(self, name):
         return self.kinds.get(name) in MEANINGS
@@ -311,6 +303,15 @@ def has_heading(source):
     return f"## {named[2]}" in page.read_text(encoding="utf-8").splitlines()
 
 
+def written(spec_of):
+    """The page, with the question of each file."""
+    lines = PAGE.read_text(encoding="utf-8").splitlines(keepends=True)
+    for place, crate, file, (question, *_) in rows():
+        if (crate, file) in spec_of:
+            lines[place - 1] = lines[place - 1].replace(f"| {question} |", f"| {spec_of[crate, file].question} |", 1)
+    return "".join(lines)
+
+
 def faults_of_row(key, cells, clauses, test_names):
     """What is wrong with the cells of a row."""
     if len(cells) != 4:
@@ -320,14 +321,14 @@ def faults_of_row(key, cells, clauses, test_names):
     if not question or not source or not tested:
         yield "has an empty cell"
     if not has_heading(source):
-        yield f"names {source}, which is no heading"
+        yield f"names {source}, which is not a heading"
     calls = CARRIED.findall(carried)
     if not calls:
         yield "names no call that carries it"
     for call, labels in calls:
         there = [it for it in clauses if call in (call_of(it[0]), it[0].function, it[0].owner)]
         if not there:
-            yield f"names the call {call}, which no library hands out"
+            yield f"names the call {call}, which no library exports"
         for label in [it.strip() for it in labels.split(",")] if labels else [None]:
             of_label = [it for it in there if label in (None, it[0].label)]
             if there and not of_label:
@@ -336,16 +337,15 @@ def faults_of_row(key, cells, clauses, test_names):
                 yield f"names {call} {label or ''}, from where no definition of the file is reached"
     for name in re.findall(r"`(\w+)`", tested):
         if name not in test_names:
-            yield f"names the test {name}, which is not there"
+            yield f"names the test {name}, which does not exist"
 
 
 def row_to_begin_from(key, spec, clauses):
     """A row for a file, with a call that reaches it, of its own crate where there is one."""
     reaching = [it for it, files in clauses if key in files]
     reaching.sort(key=lambda it: it.crate != key[0])
-    question = spec.question.partition("?")[0] + "?"
     call = f"`{call_of(reaching[0])}` ({reaching[0].label})"
-    return f"| `{key[1]}` | {question} | own | {call} | none |"
+    return f"| `{key[1]}` | {spec.question} | own | {call} | none |"
 
 
 def check(spec_of, wanted, clauses):
@@ -354,16 +354,18 @@ def check(spec_of, wanted, clauses):
     for place, crate, file, cells in rows():
         key = crate, file
         faults = list(faults_of_row(key, cells, clauses, test_names)) if key in files else []
+        if key in spec_of and cells[0] != spec_of[key].question:
+            faults.append("has another question than the file opens with; --write copies it")
         if key in seen:
             faults.append("has a second row")
         if key not in files:
-            faults.append("is reached by no public call, or is not there")
+            faults.append("is reached by no public call, or does not exist")
         seen.add(key)
         for it in faults:
             print(f"docs/DEFINITIONS.md:{place}: {crate}/specs/{file}.antt {it}")
             status = 1
     for key in [it for it in spec_of if it in files and it not in seen]:
-        print(f"docs/DEFINITIONS.md: under the heading {key[0]} a row lacks:")
+        print(f"docs/DEFINITIONS.md: under the heading {key[0]} this row is missing:")
         print(row_to_begin_from(key, spec_of[key], clauses))
         status = 1
     if not status:
@@ -392,7 +394,7 @@ def print_calls(crate):
     """Each public call of a crate with its clauses."""
     known = libraries()
     if crate not in known:
-        sys.exit(f"check_definitions: {crate} is no library of crates.txt; there are {', '.join(known)}")
+        sys.exit(f"check_definitions: {crate} is not a library of crates.txt; those are {', '.join(known)}")
     last = None
     for clause in public_clauses():
         if clause.crate != crate:
@@ -407,6 +409,7 @@ def main():
     parser = argparse.ArgumentParser(description=__doc__.split("\n\n")[0],
                                      epilog="Without options it checks the page, and changes nothing.")
     choice = parser.add_mutually_exclusive_group()
+    choice.add_argument("--write", action="store_true", help="copy the question of each file into its row, and check")
     choice.add_argument("--list", action="store_true", help="print each definition that is reached, with its sentence")
     choice.add_argument("--calls", nargs="?", const="", metavar="CRATE",
                         help="print each public call of CRATE with its clauses; without CRATE, print for each file of "
@@ -416,6 +419,8 @@ def main():
         print_calls(asked.calls)
         return 0
     spec_of = specs()
+    if asked.write:
+        PAGE.write_text(written(spec_of), encoding="utf-8")
     reach = Reach(spec_of)
     clauses, wanted = [], set()
     for clause in public_clauses():

@@ -1,14 +1,14 @@
 #!/usr/bin/env python3
 """Checks the documents of the repository.
 
-- No line is longer than 120 columns, except in tables, which may have 160; README.md has at most 120 lines of at most
-  100 columns.
+- No line is longer than 120 columns, except in tables, which may have 160, or more if a script writes them; README.md
+  has at most 120 lines of at most 100 columns.
 - Each link leads to a file, and to a heading of it if it names one. So does each place that points to a heading by its
   title, in a document, a source or a script: `docs/FORMAT.md`, "Levels".
 - Each crate of crates.txt has a README; each crate of tests is in crates/TESTS.md; crates/README.md and
   docs/DECISIONS.md are what tools/crate_maps.py makes, and docs/BENCHMARK.md shows bench/figures.json.
 - README.md, CHANGELOG.md and include/texcache.h name the version of the file VERSION.
-- Each file in backticks exists; it may be named by the end of its path.
+- Each file in backticks exists; the end of its path is enough.
 - Each clause that a crate's README names, as `read_dirs` (told), belongs to a public call.
 - Plain English: no sentence has more than 35 words, nine of ten sentences of a document have at most 28, and none of
   the private phrases below is used. Tables, code, headings and references to clauses are left out.
@@ -25,6 +25,7 @@ from pathlib import Path
 
 import crate_maps
 from check_definitions import CARRIED, CRATES, TOP, call_of, public_clauses
+from texcheck.sources import dependencies
 
 MAX_COLUMNS = 120
 TABLE_COLUMNS = 160
@@ -93,6 +94,8 @@ def anchor(title):
 def too_long(file, text):
     usual = README_COLUMNS if file == TOP / "README.md" else MAX_COLUMNS
     for number, line in enumerate(text.splitlines(), 1):
+        if line.startswith("|") and file.name == "DEFINITIONS.md":
+            continue
         most = TABLE_COLUMNS if line.startswith("|") else usual
         if len(line) > most:
             yield f"line {number} has {len(line)} columns, and may have {most}"
@@ -119,11 +122,11 @@ def broken_titles(text):
         file = TOP / path if "/" in path else TOP / "docs" / path
         file = file if file.exists() else TOP / path
         if not file.exists():
-            yield f"it points to {path}, which is not there"
+            yield f"it points to {path}, which does not exist"
             continue
         for title in re.findall(r"\"([^\"]+)\"", titles):
             if title not in headings(file):
-                yield f"it points to {path}, \"{title}\", which is no heading"
+                yield f"it points to {path}, \"{title}\", which is not a heading there"
 
 
 def prose(text):
@@ -149,7 +152,7 @@ def is_allowed(file, found):
 
 
 def not_plain(file, text):
-    """What of a document a stranger would have to read twice."""
+    """Sentences that are too long, and private phrases."""
     text = prose(text)
     counts = []
     for words in sentences(text):
@@ -172,24 +175,17 @@ def other_figures():
 
 
 def missing_files(text, ends):
-    return (f"it names the file {told}, which is not there" for told in FILE.findall(text) if told not in ends)
+    return (f"it names the file {it}, which does not exist" for it in FILE.findall(text) if it not in ends)
 
 
 def ends_of_paths():
-    """All that a path of the repository may be told by: it, and its ends."""
+    """The path of each file of the repository, and each end of such a path."""
     for at, folders, files in os.walk(TOP):
         folders[:] = [it for it in folders if it not in ("out", ".git")]
         for name in files:
             parts = (Path(at) / name).relative_to(TOP).parts
             yield from ("/".join(parts[start:]) for start in range(len(parts)))
 
-
-def crate_names():
-    """The crates of crates.txt."""
-    for line in (TOP / "crates.txt").read_text(encoding="utf-8").splitlines():
-        name = line.split("#")[0].partition(":")[0].split()
-        if name:
-            yield name[0]
 
 
 def other_versions():
@@ -200,33 +196,33 @@ def other_versions():
             yield f"{path} does not name the version {version}"
 
 
-def lacking():
-    """What the pages lack that show the crates."""
+def missing_entries():
+    """Crates that the pages about the crates do not mention, and missing READMEs."""
     crates = (CRATES / "README.md").read_text(encoding="utf-8")
     tests = (CRATES / "TESTS.md").read_text(encoding="utf-8")
-    for name in crate_names():
+    for name in dependencies():
         if name.endswith("_tests"):
             if name not in tests:
-                yield f"crates/TESTS.md lacks the crate {name}"
+                yield f"crates/TESTS.md does not mention the crate {name}"
             continue
         if not (CRATES / name / "README.md").exists():
-            yield f"crates/{name}/README.md lacks"
+            yield f"crates/{name}/README.md does not exist"
         if f"{name}/README.md)" not in crates:
-            yield f"crates/README.md lacks a link to {name}"
+            yield f"crates/README.md has no link to {name}"
 
 
 def unknown_clauses(text, clauses):
     for call, labels in CARRIED.findall(text):
         for label in [it.strip() for it in labels.split(",") if it.strip()]:
             if re.fullmatch(r"\w+", label) and (call, label) not in clauses:
-                yield f"it names the clause {label} of {call}, which no library hands out"
+                yield f"it names the clause {label} of {call}, which no library exports"
 
 
 def main():
     argparse.ArgumentParser(description=__doc__, formatter_class=argparse.RawDescriptionHelpFormatter).parse_args()
     ends = set(ends_of_paths())
     clauses = {(name, it.label) for it in public_clauses() for name in (call_of(it), it.owner)}
-    faults = [("", it) for it in (*lacking(), *other_versions(), *crate_maps.differences(), *other_figures())]
+    faults = [("", it) for it in (*missing_entries(), *other_versions(), *crate_maps.differences(), *other_figures())]
     for file in documents():
         text = file.read_text(encoding="utf-8")
         found = [*too_long(file, text), *broken_links(file, text), *broken_titles(text),

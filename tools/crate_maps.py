@@ -4,16 +4,16 @@
 - crates/README.md: each crate under its layer, with the first sentence of its README;
 - docs/DECISIONS.md: the title of each decision of each crate, above the decisions for all crates, which stay.
 
-Without options it compares and changes nothing; with --write it writes. It also checks that no crate of crates.txt
-stands before one that it uses. The status is 1 if something differs.
+Without options it compares and changes nothing; with --write it writes. It also checks that each crate in crates.txt
+comes after all that it uses. The status is 1 if something differs.
 """
 import argparse
 import re
 import sys
 import textwrap
-from pathlib import Path
 
-TOP = Path(__file__).resolve().parent.parent
+from texcheck.sources import TOP, dependencies, layers
+
 CRATES = TOP / "crates"
 MAP = CRATES / "README.md"
 DECISIONS = TOP / "docs" / "DECISIONS.md"
@@ -22,7 +22,7 @@ COLUMNS = 120
 MAP_TOP = """# The crates
 
 This page is made by `tools/crate_maps.py` from `crates.txt` and the first sentence of each crate's README. Each crate
-stands behind all that it uses. How they work together, where to start reading and where to change what:
+comes after all that it uses. How they work together, where to start reading and where to change what:
 [ARCHITECTURE](../docs/ARCHITECTURE.md).
 
 ![the layers of the crates, and who owns what](../docs/pictures/layers.svg)
@@ -50,30 +50,13 @@ its DECISIONS.md; this list of the titles is made by `tools/crate_maps.py`. What
 ALL_CRATES = "## All crates\n"
 
 
-def layers():
-    """The headings of crates.txt, each with its crates."""
-    found = []
-    for line in (TOP / "crates.txt").read_text(encoding="utf-8").splitlines():
-        if line.startswith("#"):
-            found.append((line.lstrip("# "), []))
-        name = line.split("#")[0].partition(":")[0].split()
-        if name:
-            found[-1][1].append(name[0])
-    return found
-
-
 def out_of_order():
-    """The crates of crates.txt that stand before one that they use."""
-    uses = {}
-    for line in (TOP / "crates.txt").read_text(encoding="utf-8").splitlines():
-        name, colon, below = line.split("#")[0].partition(":")
-        if colon:
-            uses[name.split()[0]] = below.split()
-    seen = set()
+    """The crates of crates.txt that come before one that they use."""
+    uses, seen = dependencies(), set()
     for name, below in uses.items():
         for other in below:
             if other in uses and other not in seen:
-                yield f"crates.txt: {name} stands before {other}, which it uses"
+                yield f"crates.txt: {name} comes before {other}, which it uses"
         seen.add(name)
 
 

@@ -1,11 +1,11 @@
 #!/usr/bin/env python3
-"""Says in words what the lines mean that texcache answered to a list.
+"""Explains in words what texcache answered to a list of requests.
 
     python3 tools/explain.py LIST ANSWERS
 
-LIST is the list of requests, ANSWERS what the program wrote for it. For each request it prints the line of the
-list, which worker answered it in which round, the request, its answer, what that means, and what helps where it is
-a refusal. It reads the program's own lines alone (docs/REQUESTS.md).
+LIST is the list of requests, ANSWERS what the program printed for it. For each request the script prints its line in
+the list, the round and the worker that answered it, the request, the answer, what the answer means, and what helps if
+it is a refusal. It reads these two files only (docs/REQUESTS.md).
 """
 import argparse
 import shlex
@@ -14,17 +14,10 @@ from pathlib import Path
 
 from texcheck.counts import MOST_OF_A_ROUND, texels
 from texcheck.meanings import counted, ending, refusal
+from texcheck.words import name_in
 
 # how many values of a region are shown
 SHOWN = 8
-
-# how many fields stand between the word of a request and its name
-FIELDS = {"tex": 7, "texd": 9, "pixels": 5, "info": 0, "hold": 3, "invalidate": 0, "renew": 0}
-
-
-def name_in(request):
-    word, _, rest = request.partition(" ")
-    return rest.split(" ", FIELDS[word])[-1] if word in FIELDS else ""
 
 
 def requests_of(text):
@@ -52,15 +45,15 @@ def fractions(values):
 
 
 def answered(line):
-    """What an answer says that is no refusal."""
+    """What an answer means; a refusal is explained by `refusal`."""
     word, *rest = line.split(" ")
     if word in ("tex", "texd"):
-        return f"generation {rest[0]}; of 1: {fractions(rest[1:])}"
+        return f"generation {rest[0]}; as floats: {fractions(rest[1:])}"
     if word == "pixels":
         generation, channels, *values = rest
         more = " .." if len(values) > SHOWN else ""
         return (f"generation {generation}; {counted(len(values) // int(channels), 'texel')} of "
-                f"{counted(channels, 'channel')}; of 1: {fractions(values[:SHOWN])}{more}")
+                f"{counted(channels, 'channel')}; as floats: {fractions(values[:SHOWN])}{more}")
     if word == "info":
         generation, width, height, channels, depth, stored, levels = rest
         return (f"generation {generation}; {width} by {height} texels, {counted(channels, 'channel')} of {depth} bits, "
@@ -75,16 +68,17 @@ def answered(line):
                 filled.append(f"shard {number}: {counted(tiles, 'tile')}, {counted(pins, 'pin')}, {loose} of {share} "
                               "bytes unpinned")
         return "; ".join([*filled, f"{len(rest) - len(filled)} of {len(rest)} shards are empty"])
-    return {"dropped": "the oldest hold is given up", "invalidated": "what is older is answered no more",
-            "renewed": "it is read again", "sync": "the round ended here"}.get(word, "")
+    return {"dropped": "the oldest held tile is released",
+            "invalidated": "the file was checked, and answers from older versions end here",
+            "renewed": "the file will be read again", "sync": "the round ended here"}.get(word, "")
 
 
 def explained(requests, lines):
-    """The texts for a list and what was written for it."""
+    """The explanations, line by line."""
     closing = [it for it in lines if it.startswith("worker ")]
     workers = max(1, len(closing))
     for (number, request), (of_round, worker), line in zip(requests, dealt([it for _, it in requests], workers), lines):
-        # how many workers there were, the lines tell that close a run
+        # without the closing lines it is not known how many workers there were
         yield f"line {number}, round {of_round + 1}{f', worker {worker}' * bool(closing)}: {request}"
         yield f"    {line}"
         found = refusal(line)
@@ -100,7 +94,7 @@ def explained(requests, lines):
         yield (f"worker {worker} needed {counted(needs, 'cell')}; {hits} of them were among the two that it had needed "
                "last")
         if apart:
-            yield f"    For {apart[-1]} of them no memory was found, and their texels were answered uncached."
+            yield f"    There was no memory for {apart[-1]} of them, and their texels were answered uncached."
 
 
 def main():

@@ -1,11 +1,11 @@
 #!/usr/bin/env python3
-"""Says what each file of a folder is to texcache: a line a file, and what helps if it is not accepted.
+"""Says for each file of a folder whether texcache accepts it, and what helps if it does not.
 
     python3 tools/folder_info.py FOLDER
 
-A line has the sides, channels and bits, the stored levels and all levels, how level 0 is cut in the file, and how
-many bytes the texels of all levels take in the cache, which counts two for each sample. The program itself is asked
-(docs/REQUESTS.md).
+For each accepted file it prints a line: width and height, channels and bits, the stored levels and all levels, tiles
+or strips of level 0, and the bytes that all levels together take in the cache, which counts two for each sample. The
+facts come from the program itself (docs/REQUESTS.md).
 """
 import argparse
 import os
@@ -16,12 +16,13 @@ from pathlib import Path
 
 from texcheck.common import add_program, program_of, tool
 from texcheck.meanings import counted, refusal
+from texprepare.sizes import size_text
 
 MOST_LINES = 1000
 
 
 def asked(program, folder, requests, *words):
-    """The answers to requests, of one worker, and without the lines that close the run."""
+    """The answers of one worker to requests, without the closing lines."""
     given = "".join(f"{it}\n" for it in requests)
     ran = subprocess.run([str(program), *words, "--workers", "1", "--", folder], input=given, text=True,
                          stdout=subprocess.PIPE, stderr=subprocess.DEVNULL, check=False)
@@ -31,7 +32,7 @@ def asked(program, folder, requests, *words):
 
 
 def sides(line):
-    """The sides of the cell that a hold answered."""
+    """Width and height of the cell in the answer to a hold; None if the answer is a refusal."""
     return tuple(map(int, line.split(" ")[4:])) if line.startswith("held ") else None
 
 
@@ -40,15 +41,10 @@ def kept(width, height, channels, levels):
     return sum(max(1, width >> n) * max(1, height >> n) * channels * 2 for n in range(levels))
 
 
-def size_text(count):
-    for unit, size in (("GiB", 2 ** 30), ("MiB", 2 ** 20), ("KiB", 2 ** 10)):
-        if count >= size:
-            return f"{count / size:.1f} {unit}"
-    return f"{count} bytes"
-
 
 def cut_text(whole, small, large):
-    """How level 0 is cut: cells of stripped files follow --autotile, those of tiled ones are the tiles."""
+    """Whether level 0 is in tiles or in strips. The cells of a stripped file follow --autotile; those of a tiled file
+    are its tiles, whatever --autotile is."""
     if small is None or large is None:
         return "cells above 32 MiB"
     if small == large and small != whole:
@@ -62,8 +58,8 @@ def described(name, info, small, large):
     found = refusal(info)
     if found:
         means, helps = found
-        told = f"{name}: {means}"
-        return f"{told}\n    What helps: {helps.replace('{name}', shlex.quote(name))}" if helps else told
+        more = f"\n    What helps: {helps.replace('{name}', shlex.quote(name))}" if helps else ""
+        return f"{name}: {means}{more}"
     _, _, width, height, channels, depth, stored, levels = info.split(" ")
     whole = (int(width), int(height))
     room = size_text(kept(*whole, int(channels), int(levels)))
@@ -77,7 +73,7 @@ def lines_of(program, folder):
     for first in range(0, len(names), MOST_LINES):
         some = names[first:first + MOST_LINES]
         infos = asked(program, folder, [f"info {it}" for it in some])
-        # each hold is given up, since a worker has at most four
+        # each hold is dropped, because a worker has at most four
         holds = [line for it in some for line in (f"hold 0 0 0 {it}", "drop")]
         small, large = (asked(program, folder, holds, "--autotile", side)[::2] for side in ("16", "4096"))
         for row in zip(some, infos, map(sides, small), map(sides, large)):
@@ -91,7 +87,10 @@ def main():
     args = words.parse_args()
     if not args.folder.is_dir():
         words.error(f"there is no folder {args.folder}")
-    print(*lines_of(program_of(args, "texcache"), os.path.abspath(args.folder)), sep="\n")
+    lines = list(lines_of(program_of(args, "texcache"), os.path.abspath(args.folder)))
+    print(*lines, sep="\n")
+    if any(": the file is not accepted: " in it for it in lines):
+        print(f"All images at once: tools/prepare.py {shlex.quote(str(args.folder))} DEST --convert")
 
 
 if __name__ == "__main__":

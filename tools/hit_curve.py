@@ -1,6 +1,6 @@
 #!/usr/bin/env python3
-"""How much memory does a scene need? Runs a list of requests under smaller and smaller budgets, and shows from which
-budget on the files are read again and again.
+"""How much memory does a scene need? Runs a list of requests with smaller and smaller budgets, and shows when the same
+tiles have to be read from the files again and again.
 
     python3 tools/hit_curve.py FOLDER LIST
     python3 tools/hit_curve.py FOLDER LIST --most 1G --least 16M --svg curve.svg --workers 1
@@ -42,7 +42,7 @@ Run = namedtuple("Run", "budget calls read seconds memory closing")
 
 
 def size_of(text):
-    """The bytes that a SIZE names."""
+    """A SIZE in bytes."""
     units = {"K": KIB, "M": MIB, "G": GIB}
     number, unit = (text[:-1], units[text[-1]]) if text[-1:] in units else (text, MIB)
     return int(float(number) * unit)
@@ -56,13 +56,13 @@ def size_text(size):
 
 
 def numbers_of(pid):
-    """What the system counts of a process that has ended, and is not yet waited for."""
+    """The system's counters of a process that has ended and was not waited for yet."""
     lines = Path(f"/proc/{pid}/io").read_text(encoding="ascii").splitlines()
     return {name: int(value) for name, value in (it.split(": ") for it in lines)}
 
 
 def last_of(stream):
-    """The end of what a stream gives."""
+    """The last lines of a stream."""
     tail = b""
     while part := stream.read1(65536):
         tail = (tail + part)[-TAIL:]
@@ -70,7 +70,7 @@ def last_of(stream):
 
 
 def run(program, folder, requests, words, budget, seconds):
-    """Runs the list under a budget; None where that takes longer."""
+    """Runs the list with a budget; None if that takes longer than `seconds`."""
     with open(requests, "rb") as given:
         child = subprocess.Popen([program, *words, "--budget", str(budget), "--", folder], stdin=given,
                                  stdout=subprocess.PIPE, stderr=subprocess.DEVNULL)
@@ -90,10 +90,10 @@ def run(program, folder, requests, words, budget, seconds):
 
 
 def runs_of(program, folder, requests, words, sizes, seconds):
-    """A run under each budget, with the reads of the files alone, until one takes too long."""
+    """A run with each budget, until one takes too long. Reads of the list itself are subtracted."""
     long = Path(requests).stat().st_size
     with tempfile.NamedTemporaryFile() as idle:
-        # as long, and with work for two workers that asks nothing of a file
+        # a list of the same length that starts two workers and reads no file
         idle.write(b"drop\ndrop\n".ljust(long, b"#"))
         idle.flush()
         own = run(program, folder, idle.name, words, sizes[0], seconds)
@@ -124,7 +124,7 @@ def row(it):
 
 
 def verdict(runs):
-    """Which budget is enough, of runs from the greatest to the least."""
+    """Which budget is enough. The runs begin with the largest budget."""
     greatest, least = runs[0], runs[-1]
     most = greatest.calls + NOISE + greatest.calls // 100
     enough = list(takewhile(lambda it: it.calls <= most, runs))[-1]
@@ -137,11 +137,11 @@ def verdict(runs):
 
 def needed(it):
     needs, hits = (sum(int(line[place]) for line in it.closing) for place in (3, 5))
-    return f"{needs} cells were needed, and {hits} of them were among the two that their worker had needed last"
+    return f"{needs} cells were needed; {hits} of them were among the two that their worker had needed last"
 
 
 def line(values, left, top, width, height):
-    """The places of values along a picture, the greatest below its top."""
+    """The points of a line in the picture."""
     most = 1.15 * max([*values, 1e-9])
     step = width / max(1, len(values) - 1)
     return [(left + step * k, top + height - height * value / most) for k, value in enumerate(values)]
@@ -178,7 +178,7 @@ def svg(runs, title, is_reads_only):
 
 
 def arguments():
-    """What is asked for, and the further options of texcache."""
+    """The options of this script, and those that are handed on to texcache."""
     asked = argparse.ArgumentParser(description=__doc__, formatter_class=argparse.RawDescriptionHelpFormatter,
                                     allow_abbrev=False, usage="%(prog)s FOLDER LIST [options] [options of texcache]")
     asked.add_argument("folder", metavar="FOLDER", help="the folder with the images")

@@ -55,12 +55,12 @@ def arguments():
 
 
 def wrong_options(options):
-    """What is wrong with the options, or an empty text. The folders become absolute paths."""
+    """What is wrong with the options, or an empty text. Makes the paths of both folders absolute."""
     source, dest, top = (Path(os.path.realpath(it)) for it in (options.source, options.dest, TOP))
     if not source.is_dir():
         return f"there is no folder {shown(str(options.source))}"
     if dest.exists() and not dest.is_dir():
-        return f"{shown(str(options.dest))} is no folder"
+        return f"{shown(str(options.dest))} is not a folder"
     if is_inside(dest, source):
         return "the destination is inside the source; its textures would be taken for images. Choose a folder beside it"
     if is_inside(source, dest):
@@ -76,7 +76,7 @@ def wrong_options(options):
 
 
 def chosen(options):
-    """The images that are to be made, and the names of files that are no images."""
+    """The images to make textures of, and the names of the files that are not images."""
     if not options.only:
         return images_of(options.source, options.dest, options.flat)
     found = []
@@ -96,7 +96,7 @@ def prepare(options):
     images, others = chosen(options)
     if others:
         names = ", ".join(map(shown, others[:5])) + (" .." if len(others) > 5 else "")
-        print(f"{len(others)} file{'s' * (len(others) != 1)} whose ending is not that of an image: {names}", file=sys.stderr)
+        print(f"{len(others)} file{'s' * (len(others) != 1)} left out, not named as an image: {names}", file=sys.stderr)
     if not images:
         print(f"prepare.py: {options.source} has no images", file=sys.stderr)
         return 0
@@ -114,7 +114,7 @@ def prepare(options):
 def main():
     options = arguments()
     for stream in (sys.stdout, sys.stderr):
-        # a name that the terminal cannot show ends no run
+        # a name that the terminal cannot show must not end the run
         stream.reconfigure(errors="backslashreplace")
     try:
         return prepare(options)

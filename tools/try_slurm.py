@@ -105,9 +105,9 @@ def main():
                                     allow_abbrev=False)
     add_program(asked, "texmake")
     args = asked.parse_args()
-    lacking = [it for it in PROGRAMS if not shutil.which(it, path=os.environ["PATH"] + ":/usr/sbin")]
-    if lacking or os.getuid() != 0:
-        raise Missing(f"{', '.join(lacking)}: not installed; apt-get install slurm-wlm munge" if lacking else "root is needed")
+    missing = [it for it in PROGRAMS if not shutil.which(it, path=os.environ["PATH"] + ":/usr/sbin")]
+    if missing or os.getuid() != 0:
+        raise Missing(f"{', '.join(missing)}: not installed; apt-get install slurm-wlm munge" if missing else "root is needed")
     os.environ["PATH"] += ":/usr/sbin"
     line = re.search(r"^sbatch .*$", (TOP / "docs" / "TEXTURES.md").read_text(encoding="utf-8"), re.M)[0]
     with tempfile.TemporaryDirectory(prefix="slurm-") as made:

@@ -3,12 +3,12 @@
 
     python3 tools/uv.py U V                                    # S and T
     python3 tools/uv.py U V --size W H --dx DUDX DVDX --dy DUDY DVDY    # and the LOD, and a `texd`
-    python3 tools/uv.py --value 40000                          # a value as a fraction of 1
+    python3 tools/uv.py --value 40000                          # a value as a float from 0 to 1
 
 U and V are fractions of the image: U from its left edge, V from its upper edge down. With --up V is measured from
 the lower edge up, as many renderers have it. S = round(65536 U) and T = round(65536 V). LOD is in 1/65536 of a
-level: 65536 times the logarithm to base 2 of how many texels of level 0 a pixel is long, 0 where it is less than
-one. W and H are the sides of level 0, and the derivatives are per pixel.
+level: 65536 * log2(p), if a pixel is p texels of level 0 long, and 0 if p is less than 1. W and H are the width and
+height of level 0, and the derivatives are per pixel.
 """
 import argparse
 import math
@@ -53,7 +53,7 @@ def main():
         print(f"{words.value / 65535:.6f}")
         return
     if len(words.place) != 2:
-        asked.error("U and V are wanted")
+        asked.error("U and V are missing")
     u, v = words.place
     s, t = coordinate(u), coordinate(1 - v if words.up else v)
     right, below = words.dx, words.dy

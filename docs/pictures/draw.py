@@ -1,9 +1,9 @@
 #!/usr/bin/env python3
 """Draws the pictures of the documents: layers.svg, tile_way.svg and turn.svg, beside this script.
 
-The crates of layers.svg are those of crates.txt, heading by heading. Without --write nothing is written: the
-script prints which picture is not the one that it draws, and ends with status 1. So it does, and writes nothing,
-if boxes or words lie over each other or leave their picture.
+The crates of layers.svg come from crates.txt, heading by heading. Without --write nothing is written: the script names
+each file that differs from its drawing, and ends with status 1. It also fails, and writes nothing, if boxes or words
+overlap or do not fit into their drawing.
 """
 import argparse
 import sys
@@ -11,7 +11,8 @@ from pathlib import Path
 from xml.sax.saxutils import escape
 
 HERE = Path(__file__).resolve().parent
-CRATES = HERE.parent.parent / "crates.txt"
+sys.path.insert(0, str(HERE.parents[1] / "tools"))
+from texcheck import sources  # noqa: E402
 
 INK, PALE, BLUE, GREEN, AMBER = "#1f2430", "#f4f5f7", "#dbe7f6", "#dff0e0", "#fbeccb"
 LETTER = 6.6
@@ -100,14 +101,7 @@ class Picture:
 
 def headings():
     """The headings of crates.txt with their crates, the highest first, without the tests."""
-    found = []
-    for line in CRATES.read_text(encoding="utf-8").splitlines():
-        if line.startswith("#"):
-            found.append((line.lstrip("# "), []))
-        name = line.split("#")[0].partition(":")[0].split()
-        if name and found:
-            found[-1][1].append(name[0])
-    return [(title, crates) for title, crates in reversed(found) if not title.endswith("Tests")]
+    return [(title, list(crates)) for title, crates in reversed(sources.layers()) if not title.endswith("Tests")]
 
 
 # Who owns what at a heading, by its number.

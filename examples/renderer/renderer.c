@@ -4,10 +4,10 @@
  *     renderer FOLDER OUT.ppm [--threads N] [--width W] [--height H] [--budget BYTES] [--closest]
  *              [--replace NAME FILE] [--many]
  *
- * FOLDER has bricks.tif, squares.tif, hills.tif and rings.tif, as the demo's. With --replace FILE is put in the
- * place of the texture of that name once the upper half stands, and the lower half shows it. With --many FOLDER
- * has t00.tif to t63.tif, which textures.py makes, and the floor shows all. The picture is the same for any
- * number of threads. The counts go to standard error.
+ * FOLDER has bricks.tif, squares.tif, hills.tif and rings.tif, like the demo. With --replace, FILE replaces the
+ * texture NAME when the upper half is done, and the lower half shows it. With --many, FOLDER has t00.tif to
+ * t63.tif, which textures.py makes, and the floor shows all. The picture is the same for any number of threads.
+ * The counts go to standard error.
  */
 #include "texcache.h"
 #include <stdio.h>
@@ -22,7 +22,7 @@ static vec times(vec a, double k) { return (vec){a.x * k, a.y * k, a.z * k}; }
 static double dot(vec a, vec b) { return a.x * b.x + a.y * b.y + a.z * b.z; }
 static vec unit(vec a) { return times(a, 1 / sqrt(dot(a, a))); }
 
-/* A rectangle: a corner, two sides that stand at right angles, and how often its texture repeats along each. */
+/* A rectangle: a corner, two sides at right angles, and how often its texture repeats along each. */
 typedef struct plane {
     vec corner, right, down;
     double across, along;

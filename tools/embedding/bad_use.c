@@ -89,7 +89,7 @@ static void by_hand(void)
     texcache_rows rows = {1, 1, 110, 8, 8};
     SAYS(supply_rows(&held, rows, bytes + 110, 64), TEXCACHE_NOT_NEEDED);
     SAYS(tex_c_supply_fault(held, &held), TEXCACHE_NOT_NEEDED);
-    /* a look is lacking */
+    /* the library needs to know the file's version and size */
     SAYS(tex_c_texture(held, &held, 1, &r, out, 8, &a), TEXCACHE_NEEDED);
     IS(a.need == 1 && a.need_file == 1 && a.need_generation == 0);
     SAYS(supply(&held, 1, 1, 0, bytes, size), TEXCACHE_NOT_NEEDED);
@@ -97,7 +97,7 @@ static void by_hand(void)
     SAYS(tex_c_supply_look(held, &held, 1, 0, size), TEXCACHE_OTHER_GENERATION);
     SAYS(tex_c_supply_look(held, &held, 1, 1048576, size), TEXCACHE_OTHER_GENERATION);
     SAYS(tex_c_supply_look(held, &held, 1, 5, size), TEXCACHE_OK);
-    /* bytes of generation 5 are lacking */
+    /* the library needs bytes of generation 5 */
     SAYS(tex_c_texture(held, &held, 1, &r, out, 8, &a), TEXCACHE_NEEDED);
     IS(a.need == 2 && a.need_file == 1 && a.need_generation == 5 && a.need_at == 0 && a.need_most == size);
     rows.generation = 5;
@@ -113,7 +113,7 @@ static void by_hand(void)
     SAYS(supply(&held, 1, 5, 0, bytes, size), TEXCACHE_OK);
     SAYS(tex_c_texture(held, &held, 1, &r, out, 8, &a), TEXCACHE_OK);
     IS(a.generation == 5 && out[0] == 7 * 257);
-    /* it is replaced while it is read again: the newer look is met, and the bytes of generation 5 are gone */
+    /* the file is replaced while it is read again: the library learns of the new version, and drops generation 5 */
     SAYS(tex_c_invalidate(held, &held, 1, true, &a), TEXCACHE_NEEDED);
     IS(a.need == 1 && a.need_generation == 5);
     SAYS(tex_c_supply_look(held, &held, 1, 4, size), TEXCACHE_OLDER);
@@ -133,7 +133,7 @@ static void by_hand(void)
     SAYS(supply(&held, 1, 6, a.need_at, other + a.need_at, size - (size_t)a.need_at), TEXCACHE_OK);
     SAYS(tex_c_texture(held, &held, 1, &r, out, 8, &a), TEXCACHE_OK);
     IS(a.generation == 6 && out[0] == 9 * 257);
-    /* what is known of it is of generation 7, and its texels are gone for those of generation 8 */
+    /* the library knows generation 7 of the file, and generation 8 has replaced it */
     SAYS(tex_c_invalidate(held, &held, 1, false, &a), TEXCACHE_NEEDED);
     SAYS(tex_c_supply_look(held, &held, 1, 7, size), TEXCACHE_OK);
     SAYS(tex_c_invalidate(held, &held, 1, false, &a), TEXCACHE_OK);
@@ -153,7 +153,7 @@ static void by_hand(void)
     SAYS(tex_c_supply_look(held, &held, 1, 7, size), TEXCACHE_OLDER);
     SAYS(tex_c_supply_fault(held, &held), TEXCACHE_OK);
     SAYS(tex_c_texture(held, &held, 1, &r, out, 8, &a), TEXCACHE_READ_FAULT);
-    /* what cannot be had is a read fault, and the next call asks anew */
+    /* bytes that cannot be read are a read fault, and the next call asks for them again */
     SAYS(tex_c_texture(held, &held, 2, &r, out, 8, &a), TEXCACHE_NEEDED);
     SAYS(tex_c_supply_fault(held, &held), TEXCACHE_OK);
     SAYS(tex_c_texture(held, &held, 2, &r, out, 8, &a), TEXCACHE_READ_FAULT);
@@ -171,7 +171,7 @@ static void by_hand(void)
 
 enum { WIDE = 8000, HIGH = 70, WIDE_SIZE = 110 + WIDE * HIGH };
 
-/* A grey picture of 8000 by 70 samples in one strip: the rows of its cells stand far apart, and are lacking at once. */
+/* A grey image of 8000 by 70 samples in one strip. The rows of a cell are far apart, so the library asks for rows. */
 static void wide_picture(uint8_t *to)
 {
     static const uint32_t entries[8][3] = {{256, 3, WIDE}, {257, 3, HIGH}, {258, 3, 8},   {259, 3, 1},
@@ -349,7 +349,7 @@ static void over_a_folder(const char *folder)
     if (symlink("grey.tif", path)) exit(2);
     SAYS(texcache_get_info(pass, link, &info, &a), TEXCACHE_READ_FAULT);
     unlink(path);
-    /* one that vanishes once it was looked at and before it is read: what is kept of it is answered on */
+    /* a file that vanishes after its version was checked and before it is read: cached texels are still answered */
     SAYS(texcache_get_info(pass, late, &info, &a), TEXCACHE_OK);
     snprintf(path, sizeof path, "%s/late.tif", folder);
     unlink(path);
@@ -359,7 +359,7 @@ static void over_a_folder(const char *folder)
     write_file(folder, "late.tif", bytes, size);
     SAYS(texcache_texture(pass, late, &r, out, 8, &a), TEXCACHE_OK);
     IS(out[0] == 1799);
-    /* one that changes, or vanishes, between the need of its bytes and their supply */
+    /* a file that changes, or vanishes, after the library asked for bytes and before they are supplied */
     SAYS(texcache_invalidate(pass, late, true, &a), TEXCACHE_OK);
     while (tex_c_texture(pass->held, &pass->held, late, &r, out, 8, &a) == TEXCACHE_NEEDED && a.need == 1) texc_supply(pass, &a);
     IS(a.need == 2 && a.need_file == late);
@@ -376,7 +376,7 @@ static void over_a_folder(const char *folder)
     unlink(path);
     texc_supply(pass, &a);
     SAYS(tex_c_texture(pass->held, &pass->held, late, &r, out, 8, &a), TEXCACHE_READ_FAULT);
-    /* so is one that is cut short */
+    /* a file that is cut short meanwhile */
     write_file(folder, "late.tif", bytes, size);
     while (tex_c_texture(pass->held, &pass->held, late, &r, out, 8, &a) == TEXCACHE_NEEDED && a.need == 1) texc_supply(pass, &a);
     IS(a.need == 2 && a.need_file == late);
@@ -400,7 +400,7 @@ static void over_a_folder(const char *folder)
     SAYS(texcache_release_tile(pass, 4), TEXCACHE_NOTHING_HELD);
     SAYS(texcache_release_tile(pass, 0), TEXCACHE_OK);
     SAYS(texcache_tile_at(pass, 3, &tile), TEXCACHE_NOTHING_HELD);
-    /* a file that is replaced is met once it is looked at */
+    /* a replaced file is noticed when its version is checked */
     size = picture(bytes, 9);
     usleep(20000);
     write_file(folder, "grey.tif", bytes, size);

@@ -12,15 +12,15 @@ import time
 from pathlib import Path
 
 from texcheck.common import TOP, Missing, said
-from texcheck.sources import copied, crates_below, dependencies, files_of, is_current
+from texcheck.sources import copied, crates_below, dependencies, files_of, proved
 from texcheck.unproved import LIBRARY, PROGRAMS, build
 
 # how long it took to prove texcache from nothing, two processors at work
 USUAL = "from nothing this takes about 60 minutes on two processors, and has not been measured on four"
 ABOUT = f"""Proves and builds a program, or the library for programs in C ({LIBRARY}), with the crates below it.
 
-The crates that do not stand on each other are proved side by side, as far as the memory allows. What an earlier run
-proved is taken over if no source has changed. {USUAL[0].upper()}{USUAL[1:]}.
+Crates that do not use each other are proved at the same time, if there is enough memory. What an earlier run proved is
+used again if no source has changed. {USUAL[0].upper()}{USUAL[1:]}.
 The program is left in crates/NAME/out/NAME, the library in crates/{LIBRARY}/out/lib{LIBRARY}.a.
 """
 # what a check may take, in bytes
@@ -36,13 +36,13 @@ def minutes(seconds):
 
 
 def side_by_side():
-    """How many crates may be proved at once: one for each processor, as long as the memory lasts."""
+    """How many crates to prove at once: one per processor, fewer if there is not enough memory."""
     available = re.search(r"MemAvailable: +(\d+) kB", Path("/proc/meminfo").read_text(encoding="ascii"))
     return max(1, min(len(os.sched_getaffinity(0)), int(available[1]) * 1024 // NEED))
 
 
 class Progress:
-    """Which crates are done, and how long the others may take, by their lines."""
+    """Which crates are done, and an estimate of the time for the others, by their numbers of lines."""
 
     def __init__(self, crates):
         self.crates, self.began = crates, time.monotonic()
@@ -51,7 +51,7 @@ class Progress:
         self.done = []
 
     def at(self, jobs):
-        """The crates that may be proved now: all below them are."""
+        """The crates that can be proved now, because all that they use is proved."""
         below = dependencies()
         return [it for it in self.crates if it not in self.done
                 and all(other in self.done for other in below[it] if other in below)][:jobs]
@@ -66,7 +66,7 @@ class Progress:
 
 
 def handed_back(crates, room):
-    """Moves what `rt` kept of each crate in the copy to the crate itself, so that a later build begins with it."""
+    """Moves what `rt` kept of each crate from the copy into the crate's own folder, so that later builds can use it."""
     for crate in crates:
         with open_folder(TOP / "crates" / crate) as folder:
             # `rt` locks a crate in the same way
@@ -89,7 +89,7 @@ def open_folder(path):
 
 
 def prove(name, jobs, room):
-    """Proves the crates in a copy, by the command of `rt` that works on several at once."""
+    """Proves the crates in a copy of the repository, several at once."""
     crates = crates_below(name)
     copied(name, room, ("src", "specs", "proofs"))
     progress = Progress(crates)
@@ -114,10 +114,6 @@ def prove(name, jobs, room):
     return child.returncode == 0
 
 
-def is_built(name):
-    folder = TOP / "crates" / name / "out"
-    return any(is_current(it, name) for it in (folder / name, folder / f"lib{name}.a"))
-
 
 def finish(name):
     """Builds the program, or the library, over the crates that are proved."""
@@ -125,10 +121,10 @@ def finish(name):
     is_program = (folder / "src" / "main.rt").is_file()
     # a program is run then: it says that the arguments are bad, or does its stored run, whatever its status
     status, text = said(["rt", "run" if is_program else "lib"], cwd=folder)
-    is_made = is_built(name) if is_program or name == LIBRARY else status == 0
+    is_made = proved(name) if is_program or name == LIBRARY else status == 0
     if not is_made:
         print(text[-6000:], file=sys.stderr)
-    return is_made
+    return bool(is_made)
 
 
 def main():
@@ -147,7 +143,7 @@ def main():
                 parser.error(f"{args.name} is not built unproved; those are {', '.join(PROGRAMS)}, {LIBRARY}")
             print(os.path.relpath(build(args.name)))
             return 0
-        if is_built(args.name):
+        if proved(args.name):
             say(f"{args.name} is proved and built, and no source has changed since")
             return 0
         began, jobs = time.monotonic(), args.jobs or side_by_side()

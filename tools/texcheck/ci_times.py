@@ -1,17 +1,17 @@
-"""Runs CI's proofs (`rt ci`), or another command of `rt`, and says which crate cost how many processor seconds.
+"""Runs CI's proofs (`rt ci`), or another command of `rt`, and prints how many processor seconds each crate took.
 
-It runs in the folder that it is started in, ends with the status of the command, and prints a table after what the
-command prints: a line for each crate, with its proof, its tests (their proof, and their run), its must-fail edits,
-and all else (building and running a program), the most expensive crate first. After it come the edits by themselves;
-`whole check` is the check of a crate as it stands, which its edits begin with.
+It works in the current folder and ends with the status of the command. After the output of the command comes a table
+with a line for each crate, the most expensive first. The columns are its proof, its tests (their proof and their run),
+its must-fail edits, and everything else, such as building and running a program. Then come the single edits. `whole
+check` is the check of the unchanged crate, with which its edits begin.
 
-How it counts: every half second it reads from /proc the time that each process of the command has used, alone and not
-with its children, and keeps the last reading of each. A process belongs to the command if it descends from it or is
-of a session of such a one. Its crate and kind follow from its own arguments: the word behind `--crate-name`, `--test`
-for tests, a folder `rt-edit-..` that it works in for an edit, a program `NAME` or `NAME_tests` that is run; else they
-are those of the process that started it. What a process uses after its last reading is in no line: it is `not seen`,
-the difference to what the system itself counts for the command and all its children. Seconds are those of a
-processor, so a busy machine changes them little; the line `wall` does change.
+How it counts: every half second it reads from /proc how much time each process of the command has used, without its
+children, and keeps the last reading. A process belongs to the command if it descends from it, or is in the session of
+such a process. Its arguments say which crate it works on, and on what: the word after `--crate-name`, `--test` for
+tests, a working folder `rt-edit-..` for an edit, a program `NAME` or `NAME_tests` that is run. Otherwise they are taken
+from the process that started it. Time that a process uses after its last reading is in no line. The line `not seen` has
+it: the difference to what the system counts for the command and all its children. The seconds are processor seconds,
+so a busy machine changes them little; the line `wall` is the time by the clock.
 """
 import os
 import re
@@ -58,7 +58,7 @@ def words_of(pid):
 
 
 def edit_of(crate, folder):
-    """The edit that is tried in a folder: the one whose new text stands in the file that it names and its old one does not."""
+    """The edit that is tried in a folder: the file that it names has its new text, and not its old one."""
     for edit in sorted(Path("crates", crate, "must-fail").glob("*.edit")):
         lines = [it.partition(": ")[::2] for it in edit.read_text().splitlines()]
         file, old, new = ([text for word, text in lines if word == it][:1] for it in ("file", "old", "new"))
@@ -92,7 +92,7 @@ class Watch:
         self.seen, self.sessions, self.first = {}, set(), pid
 
     def read(self):
-        """Reads all processes of the command that are there now, each behind the one that started it."""
+        """Reads all processes of the command that run now, each after the one that started it."""
         now, ours = [], {}
         for pid in filter(str.isdigit, os.listdir("/proc")):
             try:

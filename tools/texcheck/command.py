@@ -34,7 +34,7 @@ def say(name, text):
 
 
 def program(name):
-    """The proved program if it is up to date, or else the unproved one, and then a line says so."""
+    """The proved program if it is up to date; otherwise the unproved one, and a line on stderr says so."""
     found = proved(name)
     if found:
         return found
@@ -44,7 +44,7 @@ def program(name):
 
 
 class Given:
-    """The list, handed to a program and kept if it comes through a pipe, so that a faulty one can be explained."""
+    """The list on standard input. If it comes through a pipe, a copy is kept, so that errors in it can be explained."""
 
     def __init__(self):
         self.kept, self.command = bytearray(), []
@@ -60,7 +60,7 @@ class Given:
             self.command = ["sh", "-c", 'exec "$@" <&-', "sh"]
 
     def run(self, command):
-        """The status of a program that reads it."""
+        """Runs a program that reads the list, and returns its status."""
         child = subprocess.Popen([*self.command, *command], stdin=self.file, bufsize=0)
         if self.is_copied:
             threading.Thread(target=self.copy, args=(child.stdin,), daemon=True).start()
@@ -72,7 +72,7 @@ class Given:
             raise
 
     def copy(self, to):
-        """Hands on what comes in."""
+        """Copies standard input to the program and keeps it."""
         try:
             while part := os.read(LIST, 65536):
                 if len(self.kept) <= words.TOP_OF_LIST:
@@ -84,7 +84,7 @@ class Given:
             to.close()
 
     def again(self, command):
-        """What a program says of the same list once more."""
+        """Runs the program once more on the same list, and returns the words that it prints."""
         file = {"input": self.data()} if self.is_file or self.is_copied else {"stdin": self.file}
         done = subprocess.run([*self.command, *command], stdout=subprocess.PIPE, check=False, **file)
         return done.stdout.decode(errors="replace").split()
@@ -93,7 +93,7 @@ class Given:
         return os.pread(LIST, words.TOP_OF_LIST + 1, self.start) if self.is_file else bytes(self.kept)
 
     def fault(self):
-        """Why it cannot be read."""
+        """Why the list cannot be read."""
         try:
             os.read(LIST, 0)
             return "it could not be read"
@@ -102,7 +102,7 @@ class Given:
 
 
 def of_folder(folder):
-    """Why a folder cannot be read, by the system's own text."""
+    """Why a folder cannot be read, in the system's own words."""
     try:
         os.listdir(folder)
     except OSError as error:
@@ -111,7 +111,7 @@ def of_folder(folder):
 
 
 def explained(command, arguments, given, status):
-    """What a status of texcache means. The program says the same line once more, since its output went by."""
+    """What a status of texcache means. The program is run again, because its first output went to the user."""
     if status == 5:
         return "the answers could not be written"
     if status == 6:
@@ -143,7 +143,7 @@ def run_texcache(arguments):
 
 
 def of_file(path):
-    """What keeps a file from being read, and what helps."""
+    """Why texmake refused a file, and what helps."""
     try:
         with open(path, "rb") as file:
             size = os.fstat(file.fileno()).st_size
@@ -153,7 +153,7 @@ def of_file(path):
     except Fault as found:
         means, helps = fault(found.args)
         return f"{means}. What helps: {helps.replace('{name}', shlex.quote(str(path)))}" if helps else means
-    return "it is accepted now, so it was changed meanwhile"
+    return "it is accepted now, so it was replaced in the meantime; try again"
 
 
 def of_status(status, folder, name):

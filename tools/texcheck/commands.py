@@ -1,7 +1,6 @@
-"""Tests of ./texcache and ./texmake: their statuses, what they print, and what they say of an error.
+"""Tests of ./texcache and ./texmake: their statuses, what they print, and their error texts.
 
-What the commands say of a list or of arguments is also asked for each line of list_rows.py: something is said of all
-that is wrong there, and nothing of all that is right.
+Each line and each argument of list_rows.py is tried too: an invalid one gets an error text, a valid one none.
 """
 import os
 import subprocess
@@ -79,7 +78,7 @@ def check_cases(checker):
 
 
 def check_tables(checker):
-    """What words.py says of the lines and arguments that were worked out by hand."""
+    """The error texts of words.py for the lines and arguments of list_rows.py."""
     for line in [it for lines in WRONG.values() for it in lines] + [line for line, _ in SEVERAL]:
         checker.compare(f"nothing is said of {line!r}", bad_line(line))
     for line in RIGHT + [line for line, _ in SPELLED]:
@@ -92,7 +91,8 @@ def check_tables(checker):
 
 
 def check_surroundings(checker, room):
-    """A link, a texture that is made whole or not at all, standard input of other kinds, and no toolchain."""
+    """A symbolic link, a texture that is written completely or not at all, other kinds of standard input, and no
+    toolchain."""
     (room / "texcache").symlink_to(TOP / "texcache")
     demo = (TOP / "demo" / "requests.txt").read_bytes()
     expected = (TOP / "demo" / "expected.txt").read_bytes()
@@ -126,9 +126,6 @@ def check_surroundings(checker, room):
                           env={"PATH": str(room / "bin")})
     checker.compare("no toolchain", done.returncode == 125 and b"toolchain" in done.stderr, done.stderr)
 
-
-def add_arguments(_parser):
-    pass
 
 
 def run(_args):

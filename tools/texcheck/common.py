@@ -1,4 +1,4 @@
-"""How the checks run a program, and how a check that lacks something says so."""
+"""How the checks run a program, and what they do if something that they need is missing."""
 import contextlib
 import subprocess
 import sys
@@ -57,8 +57,8 @@ def debian_python():
 
 
 class Skips:
-    """What a check does if a package of the system is not installed: it fails, or with --skip-missing it skips what
-    needs it, and prints that. (What this repository builds is never skipped: that is Missing.)"""
+    """What a check does if a package of the system is not installed: it fails, or with --skip-missing it prints what it
+    skips. (A program or library of this repository is never skipped: that is Missing.)"""
 
     def __init__(self, args):
         self.may, self.failed = args.skip_missing, 0
@@ -69,7 +69,7 @@ class Skips:
                             help="skip what needs a package that is not installed, in place of failing")
 
     def lacks(self, what, step):
-        """Whether there is something that a step lacks."""
+        """Whether `what` is missing, so that the step cannot run. `what` is None if nothing is missing."""
         if what:
             self.failed += not self.may
             print(f"{'skipped' if self.may else 'failed'}: {step}: {what} is not installed; tools/setup installs it",
@@ -78,7 +78,7 @@ class Skips:
 
 
 def tool(main):
-    """Runs a tool for people, which may lack a program."""
+    """Runs one of the tools for people, and prints what is missing."""
     try:
         status = main()
     except Missing as error:
@@ -87,8 +87,8 @@ def tool(main):
 
 
 def forwarded(*words, program=False):
-    """What a script with an old name does: the subcommand of tools/check that took its place. With `program` its first
-    argument could be the program alone."""
+    """Runs the subcommand of tools/check that replaced a script. With `program` the first argument of the script may be
+    the program."""
     from texcheck.entry import main
     given = sys.argv[1:]
     raise SystemExit(main([*words, *(["--program"] if program and given and given[0][:1] != "-" else []), *given]))

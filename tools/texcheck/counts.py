@@ -1,5 +1,5 @@
-"""What closes a run, by the rules of docs/REQUESTS.md, "Rounds" and "The closing lines": which cells each
-worker needs, and which of them its microcache has. The levels are Levels of tiff.py."""
+"""The closing lines of a run, by docs/REQUESTS.md, "Rounds" and "The closing lines": which cells each worker needs, and
+which of them its microcache has. The levels are Levels of tiff.py."""
 from collections import namedtuple
 
 MOST_TEXELS, MOST_OF_A_ROUND = 2 ** 20, 2 ** 22
@@ -9,7 +9,7 @@ Needs = namedtuple("Needs", "needs hits recent", defaults=(0, 0, ()))
 
 
 def texels(request):
-    """The texels of the region that a request asks for, 0 where they are too many."""
+    """How many texels a request asks for; 0 for a region that is too large."""
     word, *fields = request.split(" ")
     asked = int(fields[3]) * int(fields[4]) if word == "pixels" else 0
     return asked if asked <= MOST_TEXELS else 0
@@ -28,7 +28,7 @@ def dealt(requests, workers):
 
 
 def sides(page):
-    """The sides of its cells: its tiles, or else squares."""
+    """Width and height of its cells: its tiles, or squares if it has strips."""
     return page.tile or (AUTOTILE, AUTOTILE)
 
 
@@ -49,15 +49,15 @@ def region_cells(page, x, y, w, h):
 
 
 def asked(needs, key):
-    """With a key more that was asked for: a hit is one of the two latest."""
+    """Counts a cell that is needed. It is a hit if it is one of the latest two."""
     hit = key in needs.recent
     others = [it for it in needs.recent if it != key]
     return Needs(needs.needs + 1, needs.hits + hit, (key, *others)[:2])
 
 
 def closing(requests, lines, workers, keys):
-    """The lines that close a run of these requests, with these answers. `keys(request, line)` are the
-    cells that an answer needed."""
+    """The closing lines of a run with these requests and answers. `keys(request, line)` are the cells that an answer
+    needed."""
     counts = [Needs()] * workers
     for request, line, worker in zip(requests, lines, dealt(requests, workers)):
         for key in keys(request, line):

@@ -1,8 +1,8 @@
-"""Draws docs/pictures/hit_curve.svg by tools/hit_curve.py: how often the demo's texture of hills is read, over the
+"""Draws docs/pictures/hit_curve.svg with tools/hit_curve.py: how often the demo's texture of hills is read with each
 budget, by one worker with one shard.
 
-The list is two pictures of all of the texture, 48 by 32 pixels each, row by row: trilinear lookups half way between
-level 0 and level 1. With --write the picture is written; else it is compared.
+The list asks for two pictures of the whole texture, 48 by 32 pixels each, row by row: trilinear lookups half way
+between level 0 and level 1. With --write the picture is written; without it it is compared.
 """
 import subprocess
 import sys

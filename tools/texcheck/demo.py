@@ -1,8 +1,8 @@
-"""The pictures of the demo, and what the program has to answer to its lists.
+"""The images of the demo, and the answers to its lists.
 
-The files and expected.txt follow from formulas: of the pictures below, and of reference.py. What
-refused_expected.txt and bad_expected.txt hold was worked out by hand from docs/REQUESTS.md. The program is run on
-all three lists. With --write the files and expected.txt are written; else they are compared.
+The images and expected.txt are computed by the formulas below and by reference.py. The lines of refused_expected.txt
+and bad_expected.txt were worked out by hand from docs/REQUESTS.md. The program is run on all three lists. With --write
+the images and expected.txt are written; without it they are compared.
 """
 import math
 import subprocess
@@ -20,7 +20,7 @@ DATA_OUTSIDE, WORKERS = 12, 4
 
 
 def half(page):
-    """The picture of half the size: each texel is the rounded mean of four."""
+    """The image at half the size: each texel is the rounded mean of four."""
     def texel(x, y):
         right, below = min(2 * x + 1, page.width - 1), min(2 * y + 1, page.height - 1)
         four = [page.texel(i, j) for j in (2 * y, below) for i in (2 * x, right)]
@@ -30,7 +30,7 @@ def half(page):
 
 
 def chain(page):
-    """A page, and those of half the size down to 1 by 1."""
+    """All levels of an image, each half the size of the one before, down to 1 by 1."""
     pages = [page]
     while pages[-1].width > 1 or pages[-1].height > 1:
         pages.append(half(pages[-1]))
@@ -115,7 +115,7 @@ def files():
 
 
 def requests():
-    """The requests of the list: its lines without those that are passed over."""
+    """The requests of the list: its lines without comments and empty lines."""
     lines = (DEMO / "requests.txt").read_text(encoding="utf-8").splitlines()
     return [line for line in lines if line and not line.startswith("#")]
 
@@ -128,7 +128,7 @@ def answer(request):
 
 
 def expected():
-    """What the program has to write for the list."""
+    """What the program must print for the list."""
     asked = requests()
     lines = [answer(it) for it in asked]
     lines += closing(asked, lines, WORKERS,
@@ -163,5 +163,5 @@ def run(args):
             wrong.append(f"demo/{given}: status {done.returncode}, and not {status}, or other lines than demo/{wanted}")
     print(*wrong, sep="\n", end="\n" if wrong else "", file=sys.stderr)
     if not wrong:
-        print(f"demo: {len(made)} files are those of the formulas, and {len(RUNS)} lists are answered as expected")
+        print(f"demo: {len(made)} files are as the formulas say, and {len(RUNS)} lists are answered as expected")
     return 1 if wrong else 0

@@ -1,10 +1,10 @@
-"""Tests the library tex_c and what is built over it in C, C++ and Python.
+"""Tests the library tex_c, and the C, C++ and Python that use it.
 
-Each line of the demo's list and of the stored run of texcache, by 1 and by 8 threads, is that of expected.txt and of
-the run's stdout, except for requests of textures in tiles, which the library does not have. One thread needs what the
-program's worker needs, and each of 8 threads at least that. Then come bad use, files that are replaced while they are
-read, and the renderer's picture, which is the same for 1 and for 8 threads. The first and the bad use run under
-valgrind too, and the C side is built with the compiler's thread sanitizer.
+The demo's list and the stored run of texcache are answered by 1 and by 8 threads. Each answer must be the line of
+expected.txt or of the run's stdout; requests for UDIM textures are left out, because the library does not have them.
+One thread needs the same cells as the program's worker, and each of 8 threads at least those. Then come wrong calls,
+files that are replaced while they are read, and the renderer's picture, which must be the same for 1 and 8 threads.
+The demo's list and the wrong calls also run under valgrind, and the C side with the compiler's thread sanitizer.
 """
 import os
 import shutil
@@ -14,10 +14,9 @@ from operator import ge
 from pathlib import Path
 
 from texcheck.common import TOP, Skips, add_program, debian_python, program_of, said
-from texcheck.sources import is_current
-from texcheck.unproved import LIBRARY, build, kit
+from texcheck.unproved import LIBRARY, kit, usual
 
-HELP = "the library for C, and what is over it in C, C++ and Python"
+HELP = "the library for C, and the C, C++ and Python that use it"
 HERE = TOP / "tools" / "embedding"
 RUN = TOP / "crates" / "texcache"
 FLAGS = ["-O2", "-Wall", "-Wextra", f"-I{TOP / 'include'}"]
@@ -32,7 +31,7 @@ def lists():
 
 
 def differences(got, wanted):
-    """The first lines that differ, and how many do; `-` is printed for a request that the library does not have."""
+    """How many lines differ, and the first of them. The line `-` means that the library does not have the request."""
     wanted = [it for it in wanted if not it.startswith(("worker ", "total "))]
     answers = [it for it in got.splitlines() if not it.startswith("worker ")]
     if len(answers) != len(wanted):
@@ -56,7 +55,7 @@ def needs(text):
 
 
 class Tests:
-    """The tests over one library, in a folder of their own, and how many passed and failed."""
+    """The tests of one library, in a temporary folder, and how many passed and failed."""
 
     def __init__(self, library, program, made, skips):
         self.library, self.program, self.made, self.skips = library.resolve(), program, made, skips
@@ -72,7 +71,7 @@ class Tests:
         print(f"{'passed' if is_so else 'failed'}: {what}{'' if is_so else ': ' + more[-3000:]}", flush=True)
 
     def built(self, name, source, *flags, compiler=None, over=None):
-        """Whether a program was built without a word; that it was not is a failure."""
+        """Builds a program, and returns whether that worked. Warnings count as a failure."""
         status, text = said([compiler or self.cc, *FLAGS, *flags, "-o", self.made / name, source,
                              *(over or [self.library, self.heap]), "-lm", "-lpthread"])
         if status or text:
@@ -80,8 +79,7 @@ class Tests:
         return status == 0
 
     def compare(self, what, words, folder, given, wanted, threads=None, **more):
-        """Whether a program answers a list as it should; with threads also whether each needed what the program's
-        worker needs."""
+        """Tests the answers to a list. With `threads` it also tests how many cells each thread needed."""
         status, got = said([*words, folder, *([threads] if threads else [])], given, 600, **more)
         wrong = differences(got, wanted) if status == 0 else f"status {status}: {got[-2000:]}"
         self.say(not wrong, what, wrong)
@@ -203,15 +201,11 @@ def add_arguments(parser):
     Skips.add_argument(parser)
 
 
-def library_of(args):
-    proved = TOP / "crates" / LIBRARY / "out" / f"lib{LIBRARY}.a"
-    return args.library or (proved if is_current(proved, LIBRARY) else build(LIBRARY))
-
 
 def run(args):
     skips = Skips(args)
     with tempfile.TemporaryDirectory() as made:
-        tests = Tests(library_of(args), program_of(args, "texcache"), Path(made), skips)
+        tests = Tests(args.library or usual(LIBRARY), program_of(args, "texcache"), Path(made), skips)
         if skips.lacks(None if tests.cc else "a C compiler", "embedding"):
             return 1 if skips.failed else 0
         for step in (tests.in_c, tests.in_cxx, tests.in_python, tests.under_valgrind, tests.with_races, tests.render):

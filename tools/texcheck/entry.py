@@ -41,7 +41,7 @@ def parsers(names=tuple(SUBCOMMANDS)):
         found = importlib.import_module(f"texcheck.{SUBCOMMANDS[name]}")
         each[name] = commands.add_parser(name, help=found.HELP, description=found.__doc__, allow_abbrev=False,
                                          formatter_class=argparse.RawDescriptionHelpFormatter)
-        found.add_arguments(each[name])
+        getattr(found, "add_arguments", lambda parser: None)(each[name])
         each[name].set_defaults(run=found.run)
     return whole, each
 

@@ -1,8 +1,8 @@
-"""Runs small lists over the files of texcache's stored run, each by itself, and compares what the program prints, with
-the lines that close the run, and its status.
+"""Runs small lists over the files of texcache's stored run, one by one, and compares what the program prints, closing
+lines included, and its status.
 
-What is expected, in examples.json, was worked out by hand from docs/REQUESTS.md, docs/FILTERING.md and the formulas of
-the pictures in stored_run.py.
+The expected output, in examples.json, was worked out by hand from docs/REQUESTS.md, docs/FILTERING.md and the formulas
+of the images in stored_run.py.
 """
 import json
 import subprocess
@@ -24,7 +24,7 @@ LOOKUPS = [(it["file"], it["arguments"], it["channels"], it["lookups"]) for it i
 
 
 def examples_of(lookups):
-    """A list for each file, and what it is answered, with no word of what the workers count."""
+    """A list for each file, and the answers without the closing lines."""
     for name, words, channels, rows in lookups:
         requests = [f"tex {fields} {many} {name}" for many in channels for fields, _ in rows]
         lines = [" ".join(map(str, ["tex", 1, *values, *[0] * (many - len(values))]))
@@ -45,5 +45,5 @@ def run(args):
         if (found, ran.returncode) != (lines + (closing or []), status):
             wrong += 1
             print(f"{words} {requests}: status {ran.returncode}\n{ran.stdout}", file=sys.stderr)
-    print(f"examples: {wrong} of {len(examples)} lists are answered otherwise than was worked out for them")
+    print(f"examples: {wrong} of {len(examples)} lists have other answers than expected")
     return 1 if wrong else 0

@@ -1,11 +1,11 @@
-"""Lets each allocation of small runs fail in turn, one a run, and looks at what is written. Then it lets all
-allocations above 1 MiB fail, and so each tile of a picture.
+"""Lets each allocation of small runs fail in turn, one per run, and checks what is written. Then it lets all
+allocations above 1 MiB fail, and with them every tile of an image.
 
-A `malloc` of its own is put in front of that of the C library. Each line has to be that of the undisturbed run, or
-`no memory`; else the status is 6, and whole rounds are written. With memory for all of it the run has to be the
-undisturbed one. A lookup of stored levels is out of memory only after it has opened its file. Of the tiles it is
-known which requests are answered uncached, how often, and how many reads that takes. A program with the address
-sanitizer has a `malloc` of its own with such a limit, so it is asked for the tiles alone.
+The library failing_malloc.c is loaded in front of the C library's `malloc`. Each printed line must be the line of the
+undisturbed run, or `no memory`. Otherwise the status must be 6, and complete rounds are printed. A lookup of stored
+levels may be out of memory only after it has opened its file. If tiles cannot be allocated, it is known which requests
+are answered uncached, how often, and with how many reads. A program with the address sanitizer has its own `malloc`
+with such a limit, so only the test of tiles is run with it.
 """
 import os
 import shutil
@@ -55,7 +55,7 @@ def listed(requests):
 
 
 def ran(program, shim, words, requests, workers, number):
-    """What a run writes where that growth is refused, its status, and what the shim noted."""
+    """What a run writes if this allocation fails, its status, and what failing_malloc.c noted."""
     with tempfile.TemporaryDirectory() as room:
         told = Path(room) / "refused"
         settings = {**os.environ, "LD_PRELOAD": shim, "REFUSED_GROWTH": str(number), "REFUSED_TOLD": str(told)}
@@ -80,7 +80,7 @@ def is_right(found, status, calm, requests):
 
 
 def growths_of(program, shim, words, requests, workers):
-    """How many growths were refused, and the faults that were found."""
+    """How many allocations failed, and the faults that were found."""
     calm, calm_status, calm_notes = ran(program, shim, words, requests, workers, 0)
     faults, what = [], f"{words} {requests}, {workers} workers"
     for number in range(1, MOST_GROWTHS):
@@ -98,8 +98,7 @@ def growths_of(program, shim, words, requests, workers):
 
 
 def run_wanting(program, shim, folder, words, requests):
-    """What a run of one worker writes where each growth above the limit is refused, its status, and how many reads it
-    makes."""
+    """What a run of one worker writes if each allocation above the limit fails, its status, and how often it reads."""
     is_checked = b"AddressSanitizer" in Path(program).read_bytes()
     limit = {"ASAN_OPTIONS": f"max_allocation_size_mb={LIMIT >> 20}:allocator_may_return_null=1"} if is_checked else {
         "LD_PRELOAD": shim, "REFUSED_ABOVE": str(LIMIT)}
@@ -116,7 +115,7 @@ def run_wanting(program, shim, folder, words, requests):
 
 
 def wanting_faults(program, shim, folder):
-    """The faults that were found where no tile finds memory, with slots and without."""
+    """The faults that were found if no tile can be allocated, with slots and without."""
     (Path(folder) / "big.tif").write_bytes(tiff(LITTLE, [Level(1024, 2048, lambda x, y: [(3 * x + 5 * y) % 256],
                                                                tile=(1024, 2048))]))
     for slots in ("0", "1", "512"):
@@ -158,5 +157,5 @@ def run(args):
     with tempfile.TemporaryDirectory() as room:
         faults, count = run_all(program, compiler, room)
     print(*faults[:20], sep="\n", file=sys.stderr, end="\n" if faults else "")
-    print(f"failed-allocations: {count} allocations failed, and {len(faults)} runs are not as they may be")
+    print(f"failed-allocations: {count} allocations failed, and {len(faults)} of these runs are wrong")
     return 1 if faults else 0

@@ -1,10 +1,10 @@
-"""The files of the program's stored run that show a rule of docs/FORMAT.md each, or a fault.
+"""The files of the program's stored run that each show one rule of docs/FORMAT.md, or one fault.
 
-A row of a table says what the file shows, how it is made, and what is to be read of it, which was worked out by hand.
-The tables are in file_rows.txt, and so are the files, byte by byte, from which the others are made: `to=7` leaves the
-first 7 bytes, or as many as there are and zeros after them; `8*3000` adds 3000 times the number 8, in two bytes each,
-at the end; `18=5,0` puts 5 and 0 at 18 and 19. What is read are its levels with their blocks and where these stand, or
-its first fault, as docs/FORMAT.md numbers them.
+A row of a table says what the file shows, how it is made, and what must be read from it, which was worked out by hand.
+The tables are in file_rows.txt, with the bytes of the files from which the others are made. `to=7` keeps the first 7
+bytes, and fills up with zeros if there are fewer. `8*3000` appends the number 8 3000 times, in two bytes each. `18=5,0`
+writes 5 and 0 at offsets 18 and 19. What must be read are the levels with the offsets of their blocks, or the first
+fault, with the numbers of docs/FORMAT.md.
 """
 import re
 import struct
@@ -75,7 +75,7 @@ def tiled():
 
 
 def leading(file, at, to, half):
-    """A file whose next offset leads to a second directory, which stands behind it."""
+    """A file with a second directory at its end, to which the first one leads."""
     return file[:at] + bytes([to]) + file[at + 1:] + half
 
 

@@ -1,9 +1,9 @@
-"""Runs the programs on lists, lines and words that are right or wrong, and compares what they print, and their status,
-with what was worked out by hand from docs/REQUESTS.md (list_rows.py) or follows from formulas.
+"""Runs the programs on valid and invalid lists, lines and arguments. Compares what they print, and their status, with
+what was worked out by hand from docs/REQUESTS.md (list_rows.py) or follows from formulas.
 
-The folders that they run in are made for the while. Compared are each spelling of a request and each cause of a line
-that is none; comments, line ends and bytes that are no text; lists at their limits; each word of the command line;
-which names have tiles; which cells a worker needs, one request after another; and the sample program.
+The programs run in temporary folders. Tested are each spelling of a request and each cause of an invalid line;
+comments, line ends and bytes that are not UTF-8; lists at their limits; each command-line option; UDIM names; the
+cells that a worker needs, request by request; and the sample program.
 """
 import os
 import subprocess
@@ -16,33 +16,34 @@ from texcheck.common import TOP, add_program, program_of
 from texcheck.list_rows import BAD_NUMBERS, BAD_WORDS, FAULTY, PARSED, PLAIN, RIGHT, SEVERAL, SPELLED, WRONG
 from texcheck.reference import FIELDS, on_pages
 from texcheck.tiff import BIG, LITTLE, WHITE_IS_ZERO, Level, tiff
+from texcheck.words import name_in
 
-HELP = "lists, lines and words, right and wrong ones"
+HELP = "valid and invalid lists, lines and arguments"
 ALONE = ["--workers", "1"]
 MAX_LIST_BYTES, MAX_REQUESTS = 16777216, 1048576
 
 
 class Checker:
-    """Runs programs, and counts what is otherwise than expected."""
+    """Runs programs, and counts the runs that print something unexpected."""
 
     def __init__(self, texcache, texsample):
         self.texcache, self.texsample = texcache, texsample
         self.runs, self.wrong = 0, 0
 
-    def compare(self, told, ran, wanted, status):
+    def compare(self, what, ran, wanted, status):
         self.runs += 1
         if (ran.stdout, ran.returncode) != (wanted, status):
             self.wrong += 1
-            print(f"{told}: status {ran.returncode}, wanted {status}\n{ran.stdout[:600]!r}\nwanted\n{wanted[:600]!r}",
+            print(f"{what}: status {ran.returncode}, wanted {status}\n{ran.stdout[:600]!r}\nwanted\n{wanted[:600]!r}",
                   file=sys.stderr)
 
-    def run(self, folder, words, given, wanted, status, told=None):
+    def run(self, folder, words, given, wanted, status, what=None):
         """Runs `texcache` in a folder on the bytes of a list."""
         ran = subprocess.run([self.texcache, *words], cwd=folder, input=given, stdout=subprocess.PIPE, check=False)
-        self.compare(told or (words, given[:200]), ran, wanted, status)
+        self.compare(what or (words, given[:200]), ran, wanted, status)
 
     def sample(self, words, wanted, status, out=subprocess.PIPE):
-        """Runs `texsample`, which may be without room for what it writes."""
+        """Runs `texsample`; `out` may be a full device."""
         ran = subprocess.run([self.texsample, *words], stdin=subprocess.DEVNULL, stdout=out, check=False)
         ran.stdout = ran.stdout or b""
         self.compare(words, ran, wanted, status)
@@ -53,29 +54,23 @@ def text(lines):
 
 
 def closing(lines, needs=0, hits=0):
-    """What closes a run of one worker."""
+    """The closing lines of a run with one worker."""
     refusals = ("no ", "bad ", "outside", "region too", "holds full", "nothing", "read fault", "again", "tile too")
     refused = sum(it.startswith(refusals) for it in lines)
     return [f"worker 0 needs {needs} hits {hits}", f"total {len(lines)} refused {refused}"]
 
 
 def picture(number):
-    """A picture of 13 by 9 texels with eight channels, in which a number shows."""
+    """An image of 13 by 9 texels with eight channels, different for each number."""
     def texel(x, y):
         return [(40503 * x + 30011 * y + 10007 * c + 20011 * number + 12345) * 2654435761 >> 16 & 65535
                 for c in range(8)]
     return Level(13, 9, texel, 16, rows=4)
 
 
-def name_of(line):
-    """The name in a line, or none."""
-    fields = {**FIELDS, "hold": 3, "invalidate": 0, "renew": 0}
-    word, _, rest = line.partition(" ")
-    return rest.split(" ", fields[word])[-1] if word in fields else None
-
 
 def held(level, x, y):
-    """What a hold is answered on these pictures, whose levels are one cell each."""
+    """The answer to a hold on these images, whose levels are one cell each."""
     if level > 3:
         return "no level 1 4"
     width, height = max(1, 13 >> level), max(1, 9 >> level)
@@ -83,12 +78,12 @@ def held(level, x, y):
 
 
 def answer(line, pictures):
-    """What a line alone is answered over pictures with these names."""
+    """The answer to a list of one line, in a folder of images with these names."""
     plain = {"drop": "nothing held", "stat": "stat" + 16 * " 0,0,0,16777216", "sync": "sync",
              "invalidate_all": "invalidated all"}
     if line in plain:
         return plain[line]
-    word, name = line.split(" ")[0], name_of(line)
+    word, name = line.split(" ")[0], name_in(line)
     if name not in pictures:
         return "no such file"
     if word in ("invalidate", "renew"):
@@ -102,9 +97,9 @@ def answer(line, pictures):
 
 
 def check_lines(checker, folder):
-    """Each request that is right, over files that have the names of all; and lists of several."""
+    """Each valid request, alone, in a folder that has all files that it may name; and lists of several requests."""
     lines = RIGHT + [it for _, it in SPELLED] + [it for _, said in PARSED for it in said.split("\n")]
-    names = {name_of(it) for it in lines} - {None, "a\0b"}
+    names = {name_in(it) for it in lines} - {"", "a\0b"}
     pictures = {name: number for number, name in enumerate(sorted(names))}
     for name, number in pictures.items():
         (folder / name).write_bytes(tiff(BIG, [picture(number)]))
@@ -125,7 +120,7 @@ def check_lines(checker, folder):
 
 
 def check_faults(checker, folder):
-    """Each line and each list that is none."""
+    """Each invalid line, alone and in a list, and each invalid list."""
     wrong = [(line, why) for why, lines in WRONG.items() for line in lines] + SEVERAL
     for line, why in wrong:
         checker.run(folder, ["."], line.encode(), f"bad list 1 {why}\n".encode(), 3)
@@ -142,10 +137,10 @@ def check_limits(checker, folder):
         wanted = f"bad list {fault}\n".encode() if fault else nothing
         checker.run(folder, [*ALONE, "."], byte * length, wanted, 3 if fault else 0, f"{length} times {byte}")
     many, lines = b"\ninfo -\n" * MAX_REQUESTS, ["no such file"] * MAX_REQUESTS
-    told = text(lines + closing(lines))
+    answered = text(lines + closing(lines))
     for end, fault in [(b"", None), (b"#\n\n# sync\n", None), (b"drop", "2097153 8"), (b"\n#\nsync\nx", "2097155 8"),
                        (b"sync \n", "2097153 6"), (b"x\nsync", "2097153 1")]:
-        wanted = f"bad list {fault}\n".encode() if fault else told
+        wanted = f"bad list {fault}\n".encode() if fault else answered
         checker.run(folder, [*ALONE, "."], many + end, wanted, 3 if fault else 1, f"many requests, and {end}")
 
 
@@ -294,7 +289,7 @@ WHITE = [
 
 
 def place(x, y, width, height):
-    """S and T at which a closest lookup meets a texel."""
+    """S and T of a closest lookup that answers this texel."""
     return [-(-(2 * it + 1) * 32768 // side) for it, side in ((x, width), (y, height))]
 
 
@@ -303,8 +298,8 @@ def closest(x, y, width, height, channels, name):
 
 
 def check_cells(checker, folder):
-    """One request more, one after another, and the needs and the hits are then these, with room for all tiles and
-    with none; likewise of two files whose cells have the same numbers."""
+    """The needs and hits after the first request, the first two, and so on: with a budget for all tiles and with none,
+    and for two files whose cells have the same numbers."""
     for name, shift in (("a.tif", 0), ("b.tif", 100)):
         gray = Level(40, 20, lambda x, y, shift=shift: [(x + 40 * y + shift) % 251], rows=7)
         (folder / name).write_bytes(tiff(LITTLE, [gray]))
@@ -324,7 +319,7 @@ def check_cells(checker, folder):
 
 
 def check_white(checker, folder):
-    """Two channels of 16 bits, of which the first is white at 0, and channels that the file lacks."""
+    """A WhiteIsZero file with two channels of 16 bits, and lookups of more channels than it has."""
     def texel(x, y):
         return [601 * (2 * (x + 18 * y) + c) for c in range(2)]
     (folder / "w.tif").write_bytes(tiff(BIG, [Level(18, 3, texel, 16, WHITE_IS_ZERO, rows=2)]))
@@ -346,7 +341,7 @@ SAMPLES = [
 
 
 def check_samples(checker):
-    """The sample program: words that are none, lines, a list that is too long, and no room for what it writes."""
+    """The sample program: invalid arguments, its lines, a list that is too long, and a full output device."""
     for words in BAD_NUMBERS:
         checker.sample(words.split("|"), b"bad words\n", 2)
     for words, status, written in SAMPLES:
@@ -372,7 +367,7 @@ CLOSINGS = [
 
 
 def check_closings(checker, top):
-    """However little memory and however few handles are asked for, the answers are the same."""
+    """The answers are the same for every budget and every number of handles."""
     data = TOP / "crates" / "texcache" / "data"
     for name in ("-", "-x", "."):
         (top / name).mkdir(exist_ok=True)
@@ -384,8 +379,8 @@ def check_closings(checker, top):
 
 
 def check_huge(checker, folder):
-    """What the cells of a large level take depends on how it is cut: as one cell it would take 64 MiB; in squares of
-    4096 texels a side it takes two of 32 MiB, and no cell may be larger."""
+    """A level of 64 MiB is too large for one cell, because a cell has at most 32 MiB; with --autotile 4096 it is two
+    cells of 32 MiB."""
     head = tiff(LITTLE, [Level(8192, 1, lambda x, y: [0], rows=4096)])[:122]
     with open(folder / "huge.tif", "wb") as file:
         file.write(head[:30] + (4096).to_bytes(2, "little") + head[32:])
@@ -414,5 +409,5 @@ def run(args):
     with ThreadPoolExecutor(len(os.sched_getaffinity(0))) as pool:
         list(pool.map(lambda check: in_a_folder(check, checker), checks))
     check_samples(checker)
-    print(f"lists: {checker.wrong} of {checker.runs} runs are otherwise than was worked out for them")
+    print(f"lists: {checker.wrong} of {checker.runs} runs print something other than expected")
     return 1 if checker.wrong else 0

@@ -5,7 +5,7 @@ ONE = 65536
 
 
 def wrapped(wrap, i, n):
-    """The texel that index i means beside n texels, or None."""
+    """The texel, 0 to n - 1, that a wrap takes for index i; None if it is black."""
     if wrap == "black":
         return i if 0 <= i < n else None
     if wrap == "clamp":
@@ -25,7 +25,7 @@ class Lookup:
         self.swrap, self.twrap, self.kind = swrap, twrap, kind
 
     def texel(self, level, i, j, channel):
-        """The value at two indices, 0 where a black wrap leaves the texel out."""
+        """The value at two indices; 0 if the wrap is black and the texel is outside."""
         page = self.levels[level]
         x, y = wrapped(self.swrap, i, page.width), wrapped(self.twrap, j, page.height)
         return 0 if x is None or y is None else self.value(page, x, y, channel)
@@ -41,7 +41,7 @@ class Lookup:
                 + self.texel(level, i + 1, j + 1, channel) * f * g)
 
     def square(self, level):
-        """The texels of the four about a place, the upper row first, that no black wrap leaves out."""
+        """The four texels around a place, upper row first, without those that a black wrap leaves out."""
         page = self.levels[level]
         i = (self.s * page.width - ONE // 2) // ONE
         j = (self.t * page.height - ONE // 2) // ONE
@@ -52,7 +52,7 @@ class Lookup:
                     yield level, x, y
 
     def visits(self):
-        """The texels that it visits, one after another, each with its level."""
+        """The texels that it visits, in order, each with its level."""
         last = len(self.levels) - 1
         nearest = min((self.lod + ONE // 2) // ONE, last)
         if self.kind == "trilinear":
@@ -66,7 +66,7 @@ class Lookup:
         return [] if x is None or y is None else [(nearest, x, y)]
 
     def one_level(self, channel):
-        """Closest and bilinear: the nearest level, a half rounded up."""
+        """The level of closest and bilinear: the nearest one, and a half is rounded up."""
         level = min((self.lod + ONE // 2) // ONE, len(self.levels) - 1)
         if self.kind == "bilinear":
             return (self.bilinear_sum(level, channel) + 2 ** 31) // 2 ** 32

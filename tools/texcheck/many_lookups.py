@@ -1,9 +1,8 @@
-"""Many lookups over four pictures, and many along footprints, with what each is to be answered: 4608 and 2048
-requests of the program's stored run.
+"""4608 lookups over four images and 2048 lookups along footprints, with the expected answers: requests of the program's
+stored run.
 
-Written after the formulas of docs/FILTERING.md alone, with Python's whole numbers, which have no bound and
-whose division rounds down. It shares nothing with lookups.py, by which stored_run.py answers the stored
-run, on purpose: the two have to agree.
+It is written from the formulas of docs/FILTERING.md alone, in Python's whole numbers, which are unbounded and whose
+division rounds down. It shares nothing with lookups.py, which stored_run.py uses, on purpose: the two must agree.
 """
 from collections import namedtuple
 
@@ -20,13 +19,13 @@ LEAST, MOST, LAST_LOD = -(2**31), 2**31 - 1, 2**32 - 1
 
 
 def noise(picture, level, x, y, c):
-    """The stored sample of a channel of a texel, which shows no order."""
+    """The stored sample of a channel of a texel: a number without a visible pattern."""
     place = x * 40503 + y * 30011 + level * 20011 + c * 10007 + 12345
     return place * 2654435761 % 2**32 >> 32 - picture.depth
 
 
 def value_of(picture, level, x, y, c):
-    """The 16-bit value of a channel, 0 where the picture lacks it."""
+    """The 16-bit value of a channel; 0 if the image does not have it."""
     if c >= picture.channels:
         return 0
     return noise(picture, level, x, y, c) * (257 if picture.depth == 8 else 1)
@@ -128,7 +127,7 @@ class Footprint:
 
 
 class Draws:
-    """Numbers that show no order."""
+    """Pseudo-random numbers."""
 
     def __init__(self):
         self.last = 1
@@ -184,9 +183,6 @@ def asked():
             yield (" ".join(map(str, ["texd", *place, *right, *below, *wraps, channels, picture.name])),
                    [footprint.mean(c) for c in range(channels)])
 
-
-def add_arguments(_parser):
-    pass
 
 
 def run(_args):

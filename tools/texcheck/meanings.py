@@ -1,5 +1,5 @@
-"""What the answers of texcache mean, in words, and what helps: for explain.py, folder_info.py and ./texmake. The
-numbers of fields and values are those of TIFF 6.0 and of the registered compressions."""
+"""Explains the answers of texcache in words and says what helps: for explain.py, folder_info.py and ./texmake. The
+numbers of fields and values are from TIFF 6.0 and the register of compressions."""
 
 FIELDS = {256: "ImageWidth", 257: "ImageLength", 258: "BitsPerSample", 259: "Compression",
           262: "PhotometricInterpretation", 273: "StripOffsets", 277: "SamplesPerPixel", 278: "RowsPerStrip",
@@ -26,64 +26,65 @@ def counted(number, noun):
 
 
 def unsupported(tag, value):
-    """Fault 7: a field has a value that is not read. What it means, and what helps."""
+    """What fault 7, a field with an unsupported value, means, and what helps."""
     if tag == 259:
-        known = COMPRESSIONS.get(value, "none that is known here")
+        known = COMPRESSIONS.get(value, "an unknown method")
         return f"Compression is {value}, {known}", "tiffcp -c none {name} OUT.tif"
     if tag == 262:
-        return f"its colours are {COLOURS.get(value, f'of kind {value}')}", SRGB if value in (5, 8, 9, 10) else PLAIN
+        return (f"its PhotometricInterpretation is {value}, {COLOURS.get(value, 'an unknown kind')}",
+                SRGB if value in (5, 8, 9, 10) else PLAIN)
     if tag == 258:
-        return f"its samples do not all have 8 bits, or all 16: one has {value}", PLAIN + ", or -d uint16"
+        return f"its samples must all have 8 bits, or all 16: one has {value}", PLAIN + ", or -d uint16"
     if tag == 339:
-        return f"its samples are {FORMATS.get(value, f'of kind {value}')}", PLAIN + ", or -d uint16"
+        return f"its SampleFormat is {value}, {FORMATS.get(value, 'an unknown kind')}", PLAIN + ", or -d uint16"
     return f"{FIELDS.get(tag, f'field {tag}')} is {value}", AGAIN
 
 
 def fault(numbers):
-    """What a fault of a file means, by its numbers behind the generation, and what helps."""
+    """What a fault of a file means, and what helps. `numbers` are those that follow the generation in the answer."""
     code, *rest = numbers
     field = FIELDS.get(rest[0], f"field {rest[0]}") if rest else ""
     if code == 7:
         return unsupported(*rest)
     if code == 12:
         level, index = rest
-        return (f"strip or tile {index} of level {level} is not all in the file: it was cut short, or its writer "
-                "left the block out (a sparse file)", ANEW)
+        return (f"strip or tile {index} of level {level} is not completely in the file: the file was cut short, or "
+                "its writer left this block out (a sparse file)", ANEW)
     means = {
         1: ("it is shorter than a header", "if it is a TIFF, " + ANEW),
-        2: ("it begins neither with II nor with MM, so it is no TIFF", PLAIN),
-        3: ("it has the mark of a TIFF, and another version than 42 or 43", PLAIN),
-        4: ("its directory is not all in the file: it was cut short", ANEW),
+        2: ("it begins neither with II nor with MM, so it is not a TIFF", PLAIN),
+        3: ("it begins like a TIFF, but its version is neither 42 nor 43", PLAIN),
+        4: ("its directory is not completely in the file: the file was cut short", ANEW),
         5: (f"it has no {field}", AGAIN),
-        6: (f"its {field} has a type that is not read, no value, or values outside the file", AGAIN),
-        8: ("its width, its height, its channels or the rows of a strip are 0", AGAIN),
+        6: (f"its {field} has an unsupported type, no value, or values outside the file", AGAIN),
+        8: ("its width, its height, the number of its channels or the rows of a strip are 0", AGAIN),
         9: ("a side is longer than 131072 texels, or it has more than 8 channels",
             "oiiotool {name} --resize 131072x0 (or --ch R,G,B) -d uint8 --compression none -o OUT.tif"),
-        10: ("the sides of its tiles are no multiples of 16",
+        10: ("the sides of its tiles are not multiples of 16",
              "oiiotool {name} -d uint8 --compression none --tile 64 64 -o OUT.tif"),
-        11: ("it has fewer strips or tiles than its sides need", AGAIN),
+        11: ("it has fewer strips or tiles than its width and height need", AGAIN),
     }
     return means[code]
 
 
-# What a run says that answers nothing, and the causes of a bad list (docs/REQUESTS.md, "Causes").
+# What a run prints if it answers no request, and the causes of a bad list (docs/REQUESTS.md, "Causes").
 ENDINGS = {
-    "bad words": "the words of the command line ask for nothing: ./texcache --help shows what they may be",
+    "bad words": "the arguments are not accepted; ./texcache --help shows all options",
     "folder fault": "the folder could not be read",
     "list fault": "the list could not be read",
     "too many files": "the folder has more than 4096 files",
 }
 CAUSES = {
-    1: "it begins with the word of no request", 2: "a field is missing, or the name is empty",
-    3: "a field that is a number is not spelled as one: 1 to 10 digits, behind exactly one space",
-    4: "a number is out of its range", 5: "a wrap or a filter is none of its words",
-    6: "something follows the word, be it a space", 7: "it is not UTF-8", 8: "it would be request 1048577",
-    9: "the list has more than 16777216 bytes",
+    1: "it does not begin with the name of a request", 2: "a field is missing, or the name of the file is empty",
+    3: "a number is not written as one: 1 to 10 digits after exactly one space",
+    4: "a number is out of its range", 5: "a wrap or a filter has an unknown name",
+    6: "something follows a request that has no fields, maybe a space", 7: "it is not UTF-8",
+    8: "it is request 1048577, and a list has at most 1048576", 9: "the list has more than 16777216 bytes",
 }
 
 
 def ending(line):
-    """What the one line of a run means that answered nothing; None of every other line."""
+    """What the only line of a run that answered no request means; None for every other line."""
     words = line.split(" ")
     if words[:2] == ["bad", "list"]:
         where = f"line {words[2]} of the list: " if words[2] != "0" else ""
@@ -92,29 +93,30 @@ def ending(line):
 
 
 REFUSALS = {
-    "no such file": "no file of the folder has this name, or the place lies in no tile of the texture",
+    "no such file": "the folder has no such file (subfolders are not read), or the UDIM texture has no tile here",
     "region too large": "the region has more than 1048576 texels",
-    "holds full": "the worker holds four tiles already",
+    "holds full": "the worker already holds four tiles",
     "nothing held": "the worker holds no tile",
-    "read fault": "the file could not be opened or read",
-    "no memory": "no memory was found for this answer",
+    "read fault": "the file could not be opened or read, or was replaced twice while it was read",
+    "no memory": "there was not enough memory for this answer",
 }
 
 
 def refusal(line):
-    """What a line means that is a refusal, and what helps, if anything does; None where the line is an answer."""
+    """What a refusal means, and what helps, or None if nothing does. None alone if the line is an answer."""
     words = line.split(" ")
     if line in REFUSALS:
         return REFUSALS[line], None
     if line.startswith("bad file"):
         means, helps = fault([int(it) for it in words[3:]])
-        return f"the file is none that is read: {means}", helps
+        return f"the file is not accepted: {means}", helps
     if line.startswith("tile too large"):
-        return "a cell of a level would take more than 32 MiB", "a smaller --autotile, or smaller tiles in the file"
+        return "a cell of a level needs more than 32 MiB", "a smaller --autotile, or smaller tiles in the file"
     if line.startswith("no level"):
         return f"the file has {words[3]} levels, 0 to {int(words[3]) - 1}", None
     if line.startswith("outside"):
-        return "the texel is none of its level", None
+        return "the level has no such texel", None
     if line.startswith("again"):
-        return f"the file changed from generation {words[1]} to {words[2]} while it was read", "ask once more"
+        return (f"the file was replaced: version {words[1]} is gone, version {words[2]} is there",
+                "send the same request again")
     return None

@@ -1,8 +1,9 @@
-"""Runs the commands of docs/PICTURES.md on a picture that it makes, and compares what texcache says of what they write
-with the line in front of each.
+"""Runs the commands of docs/PICTURES.md on an image, and compares texcache's `info` of their output with the line in
+front of each command.
 
-Of a command for a refusal it tries those that read in.tif, which is compressed (Deflate): what they write has to be
-accepted. A command whose program or Python package is not installed is a failure; with --skip-missing it is skipped.
+The commands that help against a refusal are tried if they read in.tif, which is compressed (Deflate): texcache must
+accept their output. A command whose program or Python package is not installed is a failure, or is skipped with
+--skip-missing.
 """
 import os
 import re
@@ -54,7 +55,7 @@ def program_named(name):
 
 
 def missing(name, words):
-    """What a command needs and is not installed: its program, or what a line of Python imports."""
+    """What a command needs and is not installed: its program, or a Python package that it imports."""
     if not words[0]:
         return name
     if name == "python3":
@@ -70,7 +71,7 @@ def info(program, folder):
 
 
 def found_by(program, words, folder):
-    """What texcache says of the file that a command writes."""
+    """The answer of texcache to `info` of the file that a command writes."""
     (folder / "out.tif").unlink(missing_ok=True)
     status, text = said(words, cwd=folder)
     if status or not (folder / "out.tif").is_file():
@@ -87,7 +88,7 @@ def run(args):
     program, skips = program_of(args, "texcache"), Skips(args)
     text = (TOP / "docs" / "PICTURES.md").read_text(encoding="utf-8")
     rows = ROW.findall(text) + [("info ", it) for it in HELP_LINE.findall(text) if " in." in it]
-    if len(ROW.findall(text)) < 9 or len(HELP_LINE.findall(text)) < 10:
+    if len(ROW.findall(text)) < 9 or len(HELP_LINE.findall(text)) < 9:
         sys.exit("pictures: docs/PICTURES.md has fewer lines than it had")
     tried, wrong = 0, 0
     with tempfile.TemporaryDirectory() as room:
@@ -103,6 +104,6 @@ def run(args):
             found = found_by(program, words, folder)
             if not found.startswith(wanted) if wanted == "info " else found != wanted:
                 wrong += 1
-                print(f"{command}: {found}, and not {wanted}", file=sys.stderr)
-    print(f"pictures: {wrong} of {tried} commands write otherwise than docs/PICTURES.md says")
+                print(f"{command}: {found}, wanted {wanted}", file=sys.stderr)
+    print(f"pictures: {wrong} of {tried} commands do not write what docs/PICTURES.md says")
     return 1 if wrong or skips.failed else 0

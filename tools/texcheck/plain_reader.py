@@ -1,6 +1,7 @@
-"""What the bytes of a file are, by docs/FORMAT.md alone: the levels that it stores, or its first fault.
+"""Reads a file by docs/FORMAT.md alone: gives the levels that it stores, or its first fault.
 
-It is to be read beside that page. It keeps nothing that it could look up, and shares nothing with the crates.
+Read it beside that page. For simplicity it looks everything up again when it needs it, and it shares nothing with the
+crates.
 """
 from collections import namedtuple
 
@@ -46,15 +47,15 @@ class File:
         return int.from_bytes(self.data[at:at + size], self.order)
 
     def holds(self, at, size):
-        """So many bytes from a place on lie in the file."""
+        """Whether the file has this number of bytes from this offset on."""
         return at + size <= len(self.data)
 
     def first_directory(self):
-        """Its place, which ends the header."""
+        """The offset of the first directory, at the end of the header."""
         return self.number(self.form.header - self.form.offset, self.form.offset)
 
     def values(self, tag, entry):
-        """The values of the entry at a place."""
+        """The values of the entry at this offset."""
         kind, count = self.number(entry + 2, 2), self.number(entry + 4, self.form.offset)
         size = self.form.types.get(kind, 0)
         at = entry + 4 + self.form.offset
@@ -66,7 +67,7 @@ class File:
 
 
 class Directory:
-    """A directory that shows none of the faults 4 to 11."""
+    """A directory without the faults 4 to 11."""
 
     def __init__(self, file, at):
         self.file = file
@@ -83,7 +84,7 @@ class Directory:
             raise Fault(11)
 
     def entries_and_next(self, at):
-        """The place of the first entry of each tag, and the place of the next directory."""
+        """The offset of the first entry of each tag, and the offset of the next directory."""
         form = self.file.form
         size = 4 + 2 * form.offset
         if at < form.header or not self.file.holds(at, form.count):
@@ -101,7 +102,7 @@ class Directory:
         return self.fields[tag][0] if tag in self.fields else DEFAULTS[tag]
 
     def of_channels(self, tag):
-        """Those of its values that are of a channel."""
+        """The offsets of the blocks that have this channel."""
         return self.fields.get(tag, [DEFAULTS[tag]])[:self.one(277)]
 
     def look_for_unsupported(self):
@@ -130,11 +131,11 @@ class Directory:
         return self.one(277) if self.one(284) == 2 else 1
 
     def samples_of_pixel(self):
-        """How many samples of a pixel stand side by side."""
+        """How many samples of a pixel are stored side by side."""
         return self.one(277) // self.planes()
 
     def across(self):
-        """How many tiles stand side by side."""
+        """How many tiles a row of tiles has."""
         return (self.one(256) + self.one(322) - 1) // self.one(322)
 
     def blocks_of_plane(self):
@@ -175,7 +176,7 @@ class Directory:
                     lambda x, y: [self.sample(x, y, channel) for channel in range(self.one(277))])
 
     def is_next_level(self, other):
-        """The other one is the level behind this one."""
+        """Whether the other one is the next level after this one."""
         half = [max(1, self.one(tag) // 2) for tag in (256, 257)]
         return [other.one(256), other.one(257)] == half and all(
             other.one(tag) == self.one(tag) for tag in (258, 277))

@@ -1,9 +1,9 @@
-"""Tries the planted bugs that CI does not try: the edits in crates/NAME/wrong-bodies, each of which the prover has to
-refuse. Run it for each crate whose contracts change, and for those above it if a definition does.
+"""Tries the planted bugs that CI does not try: the edits in crates/NAME/wrong-bodies. The prover must refuse each. Run
+it for a crate if its contracts change, and also for the crates above it if one of its definitions changes.
 
-They are tried by `rt must-fail` in a copy of the repository as it stands, over the libraries that earlier checks have
-built. It prints what is still proved, and what cannot be applied or read. Without names all crates that have some are
-tried, which takes hours.
+`rt must-fail` tries them in a copy of the working tree, with the libraries that earlier checks built. Printed are the
+edits that are still proved, and those that cannot be applied or read. Without names the edits of all crates are tried,
+which takes hours.
 """
 import re
 import shutil
@@ -23,7 +23,7 @@ def has_some(name):
 
 
 def copied(to):
-    """A copy of the repository in which these bodies stand where `rt must-fail` looks."""
+    """A copy of the repository with these edits in the folder where `rt must-fail` looks."""
     for file in ("crates.txt", "HANDLES"):
         shutil.copy(TOP / file, to / file)
     for crate in (TOP / "crates").iterdir():
@@ -35,7 +35,7 @@ def copied(to):
 
 
 def tried(name, folder):
-    """How many bodies of a crate are refused, and how many are not."""
+    """How many planted bugs of a crate the prover refuses, and how many it does not."""
     ran = subprocess.run(["rt", "must-fail", name], cwd=folder, stdin=subprocess.DEVNULL, stdout=subprocess.PIPE,
                          stderr=subprocess.STDOUT, text=True, errors="replace", check=False)
     said = re.findall(rf"^rt: must-fail {name}/.*$", ran.stdout, re.M)

@@ -1,9 +1,9 @@
-"""Tests of tools/prepare.py: what it makes of images of each kind, what it refuses, and that it neither leaves half a
-file nor replaces what it did not make.
+"""Tests of tools/prepare.py: the textures of images of each kind, the errors, and that it never leaves half a file or
+replaces a file that it did not make.
 
-Values come from the formulas of the images (for JPEG from Pillow), and textures of accepted files from textures.py. In
-its short form it takes less than a minute. With --full it also makes an image of 8192 by 8192, takes more files, fills a
-small disk, and tries each converter that is installed.
+The expected values are computed by the formulas of the images (for JPEG by Pillow), and the textures of accepted files
+by textures.py. The short form takes less than a minute. With --full it also makes an image of 8192 by 8192, takes more
+files, fills a small disk, and tries each converter that is installed.
 """
 import os
 import pty
@@ -79,7 +79,7 @@ def check_kinds(case, texcache, converter, number):
     if converter != "ImageMagick":
         case.expect("floats.tif, values from -0.1 to 1.0875" in text and "half.exr, values from -0.0" in text,
                     "the range of the floats", text)
-    case.expect("whose ending is not that of an image: sub dir/-notes on it.txt" in text, "other files", text)
+    case.expect("left out, not named as an image: sub dir/-notes on it.txt" in text, "other files", text)
     check_values(case, texcache, dest, images)
     check_accepted(case, source, dest, ACCEPTED)
     planned = re.search(rf"{count + 1} images: ", plan) and all(f"would make: {it.target} of" in plan for it in images)
@@ -96,7 +96,7 @@ def check_options(case, source):
     dest = case.room / "flat"
     text = case.expect_run("--flat without --convert", 1, "6 made, 0 up to date, 10 failed", source, dest, "--flat")
     case.expect(sorted(it.name for it in dest.iterdir())[:2] == ["plain.tif", "sub dir_wall.1001.tif"], "names of --flat")
-    for part in ("a.png: it is no TIFF. What helps: --convert; or oiiotool ", "lzw.TIFF: Compression is 5, LZW. What helps: "
+    for part in ("a.png: it is not a TIFF. What helps: --convert; or oiiotool ", "lzw.TIFF: Compression is 5, LZW. What helps: "
                  "--convert; or tiffcp -c none "):
         case.expect(part in text, f"what helps: {part!r}", text)
     only = [source, dest, "--flat", "--only", "plain.tif"]
@@ -213,7 +213,7 @@ def add_arguments(parser):
 
 
 def converters(is_full):
-    """Those that are tried: the first that is installed, or all."""
+    """The converters to test: the first that is installed, or all."""
     sys.path.insert(0, str(TOP / "tools"))
     from texprepare.converters import ALL
     found = [it.name for it in ALL if it.is_there()]

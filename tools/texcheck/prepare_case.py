@@ -1,4 +1,4 @@
-"""How the check of tools/prepare.py runs it, and counts what is not as it should be."""
+"""Runs tools/prepare.py for its tests, and counts the failures."""
 import hashlib
 import re
 import subprocess
@@ -13,7 +13,7 @@ MARK = b'\n{"texcache prepare": 1'
 
 
 class Case:
-    """Counts what is not as it should be."""
+    """Counts comparisons and failures."""
 
     def __init__(self, program, room):
         self.program, self.room, self.count, self.wrong = program, room, 0, 0
@@ -67,7 +67,7 @@ def whole(data):
 
 
 def check_accepted(case, source, dest, names):
-    """What needs no converter is, byte by byte, the texture that FORMAT.md defines, and the record behind it."""
+    """A texture that was made without a converter is, byte for byte, what FORMAT.md defines, and then a record."""
     for name in names:
         wanted, found = textures.wanted((source / name).read_bytes(), 64)[1], (dest / name).read_bytes()
-        case.expect(found.startswith(wanted + MARK) and whole(found), f"{name}: other bytes than those of its texture")
+        case.expect(found.startswith(wanted + MARK) and whole(found), f"{name}: the bytes of its texture are wrong")

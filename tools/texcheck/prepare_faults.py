@@ -25,7 +25,7 @@ def replacing(case, change):
 
 
 def check_bad_input(case):
-    """Each has an error in words, and nothing is overwritten or lost."""
+    """Each bad input gets an error in words, and nothing is overwritten or lost."""
     source, dest = case.folder("bad") / "in", case.room / "bad" / "out"
     source.mkdir()
     (source / "a.tif").write_bytes(plain())
@@ -33,7 +33,7 @@ def check_bad_input(case):
     case.expect_run("inside", 2, "the destination is inside the source", source, source / "out")
     case.expect_run("around", 2, "the source is inside the destination", source, source.parent)
     case.expect_run("the repository", 2, "inside the repository", source, TOP / "textures")
-    case.expect_run("a file", 2, "is no folder", source, source / ".." / ".." / "bad" / "in" / "a.tif")
+    case.expect_run("a file", 2, "is not a folder", source, source / ".." / ".." / "bad" / "in" / "a.tif")
     case.expect(not (TOP / "textures").exists() and not dest.exists(), "a refused run made a folder")
     for words, text in ((["--tile", "24"], "multiple of 16"), (["--jobs", "0"], "at least 1")):
         case.expect_run(text, 2, text, source, dest, *words)
@@ -52,7 +52,7 @@ def check_bad_input(case):
     text = case.expect_run("names", 1, "11 images: 4 made, 0 up to date, 7 failed", source, dest, "--flat")
     for part in (r"'b\nc.tif': its name has a line break", r"'d\udcff.tif': its name is not UTF-8",
                  "g.png: g.tif would make the same texture, g.tif", "g.tif: g.png would make the same texture",
-                 "sub/h.tif: sub_h.tif would make the same texture", "cut.tif: strip or tile 2 of level 0 is not all"):
+                 "sub/h.tif: sub_h.tif would make the same texture", "cut.tif: strip or tile 2 of level 0 is not completely"):
         case.expect(part in text, f"bad input: {part!r}", text)
     names = ["-e f.tif", "a.tif", "g.tiff", "i'j.tif"]
     case.expect(sorted(tree(dest)) == names, "what is made of odd names", sorted(tree(dest)))

@@ -1,5 +1,5 @@
-"""The images for the check of tools/prepare.py. Each is a formula, and is written by this package's TIFF writer, or from
-that by a program that is not ours; so what the cache has to answer is known without prepare.py."""
+"""The images for the tests of tools/prepare.py. Each image is a formula. This package's TIFF writer writes it, or another
+program converts such a file; so the right answers of the cache are known without prepare.py."""
 import shutil
 import struct
 import subprocess
@@ -109,7 +109,7 @@ def pillow_texel(path):
 
 
 def missing():
-    """What is not installed that writes or reads the images; None if nothing is."""
+    """What is needed to write or read the images and not installed; None if everything is installed."""
     for it in ("oiiotool", "tiffcp"):
         if not shutil.which(it):
             return it

@@ -1,9 +1,9 @@
-"""Makes pictures at random, breaks many of them, and compares what the program answers of them, the lines that close
-the run, and its status, with what the formulas give.
+"""Makes random images, breaks many of them, and compares the program's answers, closing lines and status with what the
+formulas give.
 
-A round is a folder of files and a list of requests for them. The bytes of a file are read by plain_reader.py, which
-follows docs/FORMAT.md alone; the answers follow from what it reads by reference.py, after docs/FILTERING.md and
-docs/REQUESTS.md. A file whose line differs is kept, and its path is printed.
+A round is a folder of files and a list of requests. plain_reader.py reads the bytes of a file by docs/FORMAT.md alone.
+reference.py computes the answers from what it reads, by docs/FILTERING.md and docs/REQUESTS.md. If a line differs, the
+file is kept and its path is printed.
 """
 import random
 import subprocess
@@ -47,7 +47,7 @@ def some_level(dice, width, height, channels, depth, kinds):
 
 
 def some_picture(dice):
-    """The bytes of a picture of one to four pages, of which each is mostly half of the one before."""
+    """The bytes of a file of one to four pages; each is usually half the size of the one before."""
     order, is_wide = dice.choice([LITTLE, BIG]), dice.random() < 0.4
     width, height = dice.randint(1, 50), dice.randint(1, 50)
     channels, depth = dice.randint(1, 8), dice.choice([8, 16])
@@ -60,7 +60,7 @@ def some_picture(dice):
 
 
 def broken(dice, data):
-    """The bytes with none to five changes: some are cut off or added behind, or one is another."""
+    """The bytes with up to five changes: bytes cut off, bytes appended, or one byte replaced."""
     for _ in range(dice.choice([0, 1, 1, 1, 2, 3, 5])):
         change = dice.random()
         if change < 0.15:
@@ -94,8 +94,7 @@ def some_requests(dice, name):
 
 
 def some_words(dice):
-    """Words of the command line, which change no line but for how the requests are dealt; and how many
-    workers there are."""
+    """Options, and the number of workers. They change no answer, only which worker gives it."""
     workers = dice.randint(1, 4)
     words = ["--workers", str(workers)]
     words += ["--budget", str(dice.choice([0, 1000, 100000]))] if dice.random() < 0.5 else []
@@ -130,14 +129,14 @@ class Round:
         return on_pages(word, numbers, read)
 
     def lines(self, workers):
-        """What the program has to write."""
+        """What the program must print."""
         answers = [self.answer(it) for it in self.requests]
         answers += closing(self.requests, answers, workers,
                            lambda request, line: keys(request, line, lambda name: self.read[name]))
         return [" ".join(map(str, it)) for it in answers]
 
     def written(self, program, words):
-        """What it writes, and its status."""
+        """What it prints, and its status."""
         with tempfile.TemporaryDirectory() as folder:
             for name, data in self.files.items():
                 (Path(folder) / name).write_bytes(data)

@@ -1,4 +1,4 @@
-"""What requests are to be answered, from the levels of a picture and not from the program: regions, facts and
+"""The expected answers to requests, computed from the levels of an image and not by the program: regions, facts and
 lookups in whole numbers (docs/FORMAT.md, docs/FILTERING.md, docs/REQUESTS.md). A level is a Level of tiff.py or a
 Page of plain_reader.py."""
 from functools import cache
@@ -9,7 +9,7 @@ from texcheck.tiff import BLACK_IS_ZERO, WHITE_IS_ZERO
 
 # each file is in the first generation that the program meets
 GENERATION = 1
-# how many fields stand between the word of a request and its name
+# how many fields a request has between its first word and the name of the file
 FIELDS = {"tex": 7, "texd": 9, "pixels": 5, "info": 0}
 
 
@@ -29,7 +29,7 @@ def values(page, x, y):
 
 
 def halved(page):
-    """The level that is generated behind a page: each sample is the average of four, a half rounded up."""
+    """The generated level after a page: each sample is the average of four, and a half is rounded up."""
     @cache
     def texel(x, y):
         across = [min(2 * x + i, page.width - 1) for i in range(2)]
@@ -42,7 +42,7 @@ def halved(page):
 
 
 def with_generated(pages):
-    """The levels of a picture: where it stores one, those down to 1 by 1 are generated."""
+    """All levels of an image: if it stores only one, the others, down to 1 by 1, are generated."""
     levels = list(pages)
     while len(pages) == 1 and (levels[-1].width, levels[-1].height) != (1, 1):
         levels.append(halved(levels[-1]))
@@ -58,13 +58,13 @@ def region(page, x, y, w, h):
 
 
 def value(page, x, y, channel):
-    """The value of one channel, 0 where the picture lacks it."""
+    """The value of one channel; 0 if the image does not have it."""
     found = values(page, x, y)
     return found[channel] if channel < len(found) else 0
 
 
 def on_pages(word, numbers, pages):
-    """What a request is answered on the pages of a picture."""
+    """The answer to a request on an image with these pages."""
     levels = with_generated(pages)
     if word == "info":
         page = pages[0]
@@ -83,13 +83,13 @@ def on_pages(word, numbers, pages):
 
 
 def footprint(levels, numbers):
-    """The lookup that the fields of a `texd` ask for."""
+    """The lookup with the fields of a `texd`."""
     s, t, *steps = map(int, numbers[:6])
     return Footprint(levels, value, s, t, steps[:2], steps[2:], *numbers[6:8])
 
 
 def keys_on(word, numbers, pages, name):
-    """The cells that an answer on the pages of a picture needed, in their order."""
+    """The cells that an answer needed, in order."""
     levels = with_generated(pages)
     if word in ("tex", "texd"):
         s, t, lod = map(int, numbers[:3])
@@ -102,8 +102,7 @@ def keys_on(word, numbers, pages, name):
 
 
 def keys(request, line, pages_of):
-    """The cells that a request and its line needed: none of a refusal, and none but of `tex`, `texd` and
-    `pixels`."""
+    """The cells that a request needed. Refusals, and requests other than `tex`, `texd` and `pixels`, need none."""
     if line[0] not in ("tex", "texd", "pixels"):
         return []
     word, rest = request.split(" ", 1)

@@ -1,10 +1,10 @@
-"""Runs texcache while the files of its folder are replaced, and looks for an answer of two versions.
+"""Runs texcache while the files of its folder are replaced, and looks for answers that mix two versions.
 
-Each version of a file has one value in all its texels, another one than each version before it, so a lookup over
-texels of two versions has a value that no version has. Every fourth file is of strips, and every second of 16 bits;
-the budget is small, so that tiles are read again and again. New versions are written beside the files and renamed
-over them for as long as the program runs. The value of each lookup has to be that of one version, which is the same
-for all lines of the file that name its generation, and a later version for each later generation.
+All texels of one version of a file have the same value, and each version has a different one. So a lookup that mixes
+two versions has a value that no version has. Every fourth file is in strips, every second has 16 bits, and the budget
+is small, so that tiles are read again and again. New versions are written beside the files and renamed over them for as
+long as the program runs. Each answer must have the value of one version. Lines of one file with the same generation
+must have the same version, and a later generation a later version.
 """
 import random
 import struct

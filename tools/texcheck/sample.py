@@ -1,8 +1,7 @@
-"""The list of requests that the sample program makes from a number, and the line that it writes, from formulas.
+"""The list of requests that the sample program makes from a number, and the line that it prints, from formulas.
 
-The list is written from docs/REQUESTS.md, "The sample program". The pictures are those of
-crates/tex_world/README.md, the values those of reference.py, and needs and hits those of docs/REQUESTS.md. Nothing
-is shared with the program.
+The list follows docs/REQUESTS.md, "The sample program". The images are described in crates/tex_world/README.md,
+reference.py computes the values, and docs/REQUESTS.md says what needs and hits are. Nothing is shared with the program.
 """
 from functools import cache
 

@@ -1,4 +1,4 @@
-"""Which crates a program is made of, and whether what was built of it is still up to date."""
+"""Which crates a program is made of, and whether a built program is up to date."""
 import hashlib
 import shutil
 from pathlib import Path
@@ -6,18 +6,25 @@ from pathlib import Path
 TOP = Path(__file__).resolve().parents[2]
 
 
-def dependencies():
-    """The crates of the repository, each with the names behind its colon in crates.txt."""
-    found = {}
+def layers():
+    """The headings of crates.txt. Each has its crates, and each of them the crates that it uses."""
+    found = []
     for line in (TOP / "crates.txt").read_text(encoding="utf-8").splitlines():
+        if line.startswith("#"):
+            found.append((line.lstrip("# "), {}))
         name, colon, below = line.split("#")[0].partition(":")
         if colon:
-            found[name.split()[0]] = below.split()
+            found[-1][1][name.split()[0]] = below.split()
     return found
 
 
+def dependencies():
+    """The crates of the repository, each with the crates that it uses."""
+    return {name: below for _, crates in layers() for name, below in crates.items()}
+
+
 def crates_below(name):
-    """The crates that one stands on, and itself, each after those below it."""
+    """A crate and all crates that it uses, directly or not; each comes after those that it uses."""
     below, found = dependencies(), []
 
     def add(crate):
@@ -31,13 +38,13 @@ def crates_below(name):
 
 
 def files_of(name, parts, alone=False):
-    """The source files of a crate, and of all crates below it."""
+    """The source files of a crate and, unless `alone`, of all crates that it uses."""
     return [it for crate in ([name] if alone else crates_below(name)) for part in parts
             for it in sorted((TOP / "crates" / crate / part).rglob("*.*"))]
 
 
 def copied(name, to, parts):
-    """Copies these parts of a crate, and of all below it, as a repository of their own."""
+    """Makes a repository of a crate and all that it uses, with copies of these folders of each."""
     crates = set(crates_below(name))
     for part in (TOP / "crates" / crate / it for crate in crates for it in parts):
         if part.is_dir():
@@ -51,7 +58,7 @@ def copied(name, to, parts):
 
 
 def sum_of(name):
-    """A checksum of all that an unproved build reads, and of how it is built. (Proofs are not part of it.)"""
+    """A checksum of everything that an unproved build reads, the build script included. (It reads no proofs.)"""
     found = hashlib.sha256(Path(__file__).with_name("unproved.py").read_bytes())
     for it in files_of(name, ("src", "specs")):
         found.update(f"{it.relative_to(TOP)} {it.stat().st_size}\n".encode())
@@ -59,13 +66,19 @@ def sum_of(name):
     return found.hexdigest()
 
 
-def is_current(built, name):
-    """Whether no source has changed since a proved program or library was built."""
+def is_current(made, name):
+    """Whether something was made of a crate, and no source of it has changed since."""
     files = [TOP / "crates.txt", *files_of(name, ("src", "specs", "proofs"))]
-    return built.is_file() and built.stat().st_mtime >= max(it.stat().st_mtime for it in files)
+    return made.exists() and made.stat().st_mtime >= max(it.stat().st_mtime for it in files)
 
 
 def proved(name):
-    """The place of the proved program, or None if it was not built or a source has changed since."""
-    built = TOP / "crates" / name / "out" / name
-    return built if is_current(built, name) else None
+    """The place of the proved program or library; None if it was not built or a source has changed since."""
+    out = TOP / "crates" / name / "out"
+    return next((it for it in (out / name, out / f"lib{name}.a") if is_current(it, name)), None)
+
+
+def is_proved_by_ci(name):
+    """Whether `rt ci` has proved a library for C since its sources changed. It does not link the library, but makes the
+    folder `out` anew. (It does so too if the proof fails, but then .ci/run ends.)"""
+    return is_current(TOP / "crates" / name / "out", name)

@@ -8,16 +8,19 @@ import time
 from concurrent.futures import ThreadPoolExecutor
 
 from texcheck.common import TOP, Missing, said
-from texcheck.sources import is_current
-from texcheck.unproved import LIBRARY, PROGRAMS, build, try_tests
+from texcheck.sources import is_proved_by_ci, proved
+from texcheck.unproved import LIBRARY, PROGRAMS, build, try_tests, usual
 
 ABOUT = """Runs all tests that need no prover: the tests of the crates, the programs' stored runs, lists and files, the
 library for C, the tools, the documents and the drawings. It proves nothing: bash .ci/run is the full check.
 
 The programs, the library and the tests are unproved builds. With --checked programs and tests are built with the
 address sanitizer, which finds bad accesses too, and takes much longer. With --proved the programs are those that CI or
-./build left, and what CI runs itself is left out. CI does not link the library, so it may still be an unproved build. It takes about ten minutes on two processors. The last line counts what
-passed and what failed; above it is what was skipped, and why.
+./build left, and what CI runs itself is left out; if one of them or the proof of the library is missing, nothing is
+run. CI proves the library and does not link it, so it may be an unproved build of the proved sources.
+
+It takes about ten minutes on two processors. The last line counts what passed and what failed; above it is what was
+skipped, and why.
 """
 # the longest first
 TESTS = ["request_tests", "format_tests", "cache_tests", "sharing_tests"]
@@ -42,7 +45,7 @@ def tests_of(crate, is_checked):
 
 
 def stored_run(program, crate):
-    """A step that runs a program as its crate's files say: input, arguments, status and output."""
+    """A step that runs a program on its stored run: the files args, stdin, stdout and status of its crate."""
     def step():
         folder = TOP / "crates" / crate
         read = lambda name, usual: (folder / name).read_bytes() if (folder / name).is_file() else usual
@@ -100,22 +103,21 @@ def processors():
 
 
 def what_is_built(args):
-    """The programs and the library, and how many of them are missing."""
+    """The programs, and the library."""
     if not args.proved:
         with ThreadPoolExecutor(processors()) as pool:
             *programs, library = pool.map(lambda it: build(it, args.checked and it != LIBRARY), (*PROGRAMS, LIBRARY))
-        return dict(zip(PROGRAMS, programs)), library, 0
-    places = {it: TOP / "crates" / it / "out" / it for it in PROGRAMS}
-    library = TOP / "crates" / LIBRARY / "out" / f"lib{LIBRARY}.a"
-    if not is_current(library, LIBRARY):
-        # `rt ci` proves the library and does not link it
+        return dict(zip(PROGRAMS, programs)), library
+    programs = {it: proved(it) for it in PROGRAMS}
+    missing = [it for it, place in programs.items() if not place]
+    missing += [] if proved(LIBRARY) or is_proved_by_ci(LIBRARY) else [LIBRARY]
+    if missing:
+        raise Missing("".join(f"\nfailed: {it} is not proved, or a source has changed: bash .ci/run, or ./build {it}"
+                              for it in missing), len(missing))
+    if not proved(LIBRARY):
         print(f"test: {LIBRARY} is an unproved build of the proved sources; ./build {LIBRARY} makes the proved one",
               flush=True)
-        library = build(LIBRARY)
-    missing = [it for it, place in places.items() if not is_current(place, it)]
-    for it in missing:
-        print(f"failed: {it} is not proved and built, or a source has changed since: ./build {it}", flush=True)
-    return places, library, len(missing)
+    return programs, usual(LIBRARY)
 
 
 def main():
@@ -128,13 +130,14 @@ def main():
                         help="with --proved, skip what needs a package that tools/setup would install")
     args = parser.parse_args()
     try:
-        programs, library, missing = what_is_built(args)
+        programs, library = what_is_built(args)
     except Missing as error:
-        print(f"test: {error}\n0 passed, 1 failed")
+        text, count = (*error.args, 1)[:2]
+        print(f"test: {text}\n0 passed, {count} failed")
         return 1
     with ThreadPoolExecutor(processors()) as pool:
         results = list(pool.map(timed, steps(args, programs, library)))
     passed, failed, skipped = zip(*results)
     print(*(line for lines in skipped for line in lines), sep="\n", end="\n" if any(skipped) else "")
-    print(f"{sum(passed)} passed, {sum(failed) + missing} failed")
-    return 1 if sum(failed) + missing else 0
+    print(f"{sum(passed)} passed, {sum(failed)} failed")
+    return 1 if sum(failed) else 0

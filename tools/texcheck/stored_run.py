@@ -1,10 +1,10 @@
-"""The files of texcache's stored run, its requests, and what they are to be answered.
+"""The files of texcache's stored run, its requests, and the expected answers.
 
-The requests are those of crates/texcache/stdin, which are written by hand down to the line MADE. After it come those
-of file_rows.py, of the regions below and of many_lookups.py. The answers follow from the formulas of the pictures, of
-docs/FORMAT.md and of docs/FILTERING.md, and not from the program. Those above the line that says so were worked out
-by hand before, as were the levels and faults of file_rows.py; many_lookups.py answers its lookups a second time.
-With --write crates/texcache/data, stdin and stdout are written; else they are compared.
+The requests above the line MADE in crates/texcache/stdin are written by hand. The requests below it come from
+file_rows.py, from the regions below and from many_lookups.py. The answers are computed by the formulas of the images,
+of docs/FORMAT.md and of docs/FILTERING.md, and not by the program. Some answers were also worked out by hand (a line of
+stdin says which), and so were the levels and faults of file_rows.py; many_lookups.py computes its answers a second
+time. With --write crates/texcache/data, stdin and stdout are written; without it they are compared.
 """
 import struct
 import sys
@@ -58,9 +58,9 @@ PICTURES = {
                               16, rows=5) for n in range(7)]),
 }
 
-# And those whose channels have planes: strips of one row and of several, in another order than they are
-# numbered, the last of a plane shorter; tiles with padding; both orders, 8 and 16 bits, 2 to 8 channels,
-# channel 0 alone turned round where 0 is white; and levels of which only some are planar.
+# Images whose channels have planes: strips of one row and of several, not in the order of their numbers, the last of
+# a plane shorter; tiles with padding; both byte orders; 8 and 16 bits; 2 to 8 channels; WhiteIsZero; and images with
+# both planar and chunky levels.
 PICTURES |= {
     "planar.tif": (LITTLE, [Level(2, 2, lambda x, y: [2 * y + x + 1 + 10 * c for c in range(3)], photometric=RGB,
                                   rows=1, offset_type=SHORT, planar=True)]),
@@ -76,9 +76,9 @@ PICTURES |= {
                                tile=(32, 16), planar=True)]),
 }
 
-# And those with wide offsets: both orders, 8 and 16 bits, strips and tiles, several levels, planes on
-# some levels of a file. Offsets and numbers are SHORT, LONG and LONG8. Four SHORT, two LONG and one
-# LONG8 stand in their entries, and more behind the directory.
+# Images with wide offsets: both byte orders, 8 and 16 bits, strips and tiles, several levels, planes on some levels.
+# Offsets and numbers are SHORT, LONG and LONG8. Up to four SHORT, two LONG or one LONG8 are in their entries; more are
+# after the directory.
 PICTURES |= {
     "big.tif": (LITTLE, [Level(4, 4, grid, rows=4, offset_type=LONG8, types={279: LONG})], WIDE[LITTLE]),
     "far.tif": (BIG, [Level(max(1, 21 >> n), max(1, 18 >> n),
@@ -105,7 +105,7 @@ PICTURES |= {
     "t.1012.tif": (LITTLE, [Level(4, 4, lambda x, y: [16 * y + x + 100], rows=4)]),
 }
 
-# And those of many lookups: every level is stored, and shows no order.
+# The images of many_lookups.py: every level is stored, with samples without a visible pattern.
 PICTURES |= {
     it.name: (BIG, [Level(max(1, it.width >> n), max(1, it.height >> n),
                           lambda x, y, it=it, n=n: [many_lookups.noise(it, n, x, y, c) for c in range(it.channels)],
@@ -128,7 +128,7 @@ CHANGED = {
     "nine.tif": ("A.tif", 90, b"\x09", "9"),
     "few.tif": ("A.tif", 102, b"\x02", "11"),
     "end.tif": ("A.tif", 78, b"\x7b", "12 0 0"),
-    # each fault of a directory once more: its place, its count; fields that lack, that have another type, no
+    # each fault of a directory once more: its offset, its count; fields that are missing, that have another type, no
     # value, values outside the file; depth, colour; sides, samples and rows of 0; counts; tiles; blocks
     "front.tif": ("A.tif", 4, b"\x04", "4"),
     "many.tif": ("A.tif", 8, b"\xff\xff", "4"),
@@ -196,7 +196,7 @@ def files():
 
 
 def levels_of(name):
-    """The levels that the file of a name stores: a page that is no half of the one before is none."""
+    """The levels that a file stores: they end before the first page that is not half the size of the one before."""
     if name in READ:
         return READ[name]
     whole = CHANGED[name][0] if name in CHANGED else name
@@ -212,7 +212,6 @@ def levels_of(name):
 
 MOST_TEXELS = 2 ** 20
 
-# what the run is made with
 WORKERS = 4
 
 
@@ -220,8 +219,8 @@ MARK = "<UDIM>"
 
 
 def meant(request):
-    """The request that a lookup stands for whose name has the mark of a tile: by the rule of docs/REQUESTS.md,
-    "UDIM names". None where it lies in no tile."""
+    """The request with the name of the UDIM tile in place of <UDIM>, by docs/REQUESTS.md, "UDIM names". None if there
+    is no tile at its place."""
     word = request.split(" ", 1)[0]
     if word not in ("tex", "texd") or MARK not in request:
         return request
@@ -234,7 +233,7 @@ def meant(request):
 
 
 def answer(request):
-    """What a request is answered: each file is met in its first generation."""
+    """The answer to a request; each file is in its first generation."""
     if request == "sync":
         return ["sync"]
     request = meant(request)
@@ -253,7 +252,7 @@ def answer(request):
 
 MADE = "# From here on the list is made by tools/run_files.py."
 
-# how many values stand in a line: around 8 and 256, and many
+# how many values a line has: around 8 and 256, and many
 MANY = (7, 8, 9, 255, 256, 257, 600)
 
 

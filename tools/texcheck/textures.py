@@ -1,9 +1,9 @@
-"""The texture that is made of a file, by docs/FORMAT.md, "Textures that are made", alone, beside what texmake makes.
+"""Compares what texmake writes with the texture that docs/FORMAT.md, "Textures that are made", defines for a file.
 
-Of the program only what it writes and its status are compared: 0 with these bytes, or 8 with none if the file has a
-fault. Each texture is read again too: its levels have to be those of the file, and bad arguments and a name of no
-file are refused. Then texcache answers regions and lookups of each texture as it answers those of its file, on each
-level that it has of the file. With --readers libtiff and OpenImageIO have to read each texture.
+Only the output and the status of texmake are compared: status 0 and these bytes, or status 8 and no bytes if the file
+has a fault. Each texture is read again: its levels must be those of the file. Wrong arguments and unknown names must be
+refused. Then texcache must answer regions and lookups of each texture as it answers those of the file, on each level
+that the file has. With --readers libtiff and OpenImageIO must read each texture.
 """
 import shutil
 import struct
@@ -22,7 +22,7 @@ WHITE_IS_ZERO, RGB = 0, 2
 MOST_SAMPLES = 67108864
 MADE, BAD_WORDS, NO_FILE, BAD_FILE, TOO_LARGE = 0, 2, 7, 8, 9
 
-# What stands behind FOLDER, a file and no more, is refused; and a side is 16 to 256, a multiple of 16.
+# values of T that are refused: a side is a multiple of 16 from 16 to 256
 WRONG_SIDES = ("0", "8", "24", "272", "+16", "-16", " 16", "16.", "", "00000000016")
 
 
@@ -108,12 +108,12 @@ def check(program, folder, side):
             print(f"{path.name}: status {done.returncode} and {len(done.stdout)} bytes, wanted {status} and {len(out)}")
         elif status == MADE and levels_of(pages_of(out)) != levels:
             bad += 1
-            print(f"{path.name}: its levels are not those of its texture")
+            print(f"{path.name}: its texture has other levels than the file")
     return bad
 
 
 def check_refusals(program, folder):
-    """How many words are answered otherwise than docs/TEXTURES.md says, before any file is read."""
+    """How many invalid arguments do not end with the status that docs/TEXTURES.md says."""
     name = min(path.name for path in Path(folder).iterdir() if path.is_file())
     folder = str(folder)
     asked = [(["-" + folder, name], BAD_WORDS), ([folder, name, "16", "16"], BAD_WORDS), ([], BAD_WORDS)]
@@ -171,7 +171,7 @@ def answered(texcache, folder, asked):
 
 
 def compare_answers(texcache, program, folder, side):
-    """How many files of a folder texcache answers otherwise than their textures."""
+    """How many textures of the files of a folder texcache answers differently from the file."""
     bad = asked_in_all = 0
     with tempfile.TemporaryDirectory() as made_in:
         asked = []
@@ -186,8 +186,8 @@ def compare_answers(texcache, program, folder, side):
             if got != wanted or len(got) != len(requests):
                 bad += 1
                 other = (it for it in zip(requests, wanted, got) if it[1] != it[2])
-                print("%s: %s" % (name, next(other, "lines lack")))
-    print(f"textures: {bad} of {len(asked)} files are answered otherwise, {asked_in_all} requests")
+                print("%s: %s" % (name, next(other, "lines are missing")))
+    print(f"textures: {bad} of {len(asked)} textures are not answered like their files, {asked_in_all} requests")
     return bad
 
 

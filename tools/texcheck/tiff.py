@@ -1,5 +1,5 @@
-"""The one writer of TIFF files (docs/FORMAT.md). What it writes is read back by plain_reader.py, which shares
-nothing with it on purpose: each checks the other. (So does file_rows.py, whose files are written out by hand.)"""
+"""The only TIFF writer of the tools (docs/FORMAT.md). plain_reader.py reads its files back and shares nothing with it
+on purpose: each checks the other. The files of file_rows.py are written byte by byte and check both."""
 import struct
 from collections import namedtuple
 from functools import partial

@@ -1,11 +1,11 @@
 """Builds a program or the library for C without a proof, in about a minute, and leaves it in out/unproved.
 
-`rt try` compiles a program, runs it once and keeps nothing. So it is run here from a folder of links to the
-toolchain, in which one tool is ours: a script that keeps what the tool is to work on.
+`rt try` compiles a program, runs it once and keeps nothing. So it is called from a folder of links to the toolchain in
+which one tool is replaced by a script that keeps its input.
 
-The fast build is optimised (-O2) and lacks the address sanitizer. Overflow, index and other checks are part of
-the program and stay. With --checked a program is what `rt try` runs: at -O0, with the sanitizer, and some 200
-times as slow. All are kept until a source changes.
+The fast build is optimised (-O2) and has no address sanitizer. Overflow, index and other checks belong to the program
+and stay. The build with --checked is what `rt try` runs: at -O0, with the sanitizer, and some 200 times as slow. Builds
+are kept until a source changes.
 """
 import fcntl
 import os

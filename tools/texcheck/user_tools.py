@@ -20,31 +20,33 @@ LIST, ANSWERS, EXPLAINED = (it.partition("\n")[2] for it in Path(__file__).with_
 
 # Requests of one worker, what it wrote for each, and what is said of it.
 LINES = [
-    ("texd 0 0 64 0 0 64 clamp clamp 2 A.tif", "texd 3 65535 26214", "generation 3; of 1: 1.0000, 0.4000"),
+    ("texd 0 0 64 0 0 64 clamp clamp 2 A.tif", "texd 3 65535 26214", "generation 3; as floats: 1.0000, 0.4000"),
     ("info B.tif", "info 1 80 48 3 16 1 7",
      "generation 1; 80 by 48 texels, 3 channels of 16 bits, 7 levels, 1 of them stored"),
     ("hold 0 70 3 B.tif", "held 1 64 0 16 32", "generation 1; the cell is 16 by 32 texels from (64, 0) on"),
-    ("drop", "dropped", "the oldest hold is given up"),
+    ("drop", "dropped", "the oldest held tile is released"),
     ("drop", "nothing held", "Refused: the worker holds no tile."),
-    ("hold 0 0 0 B.tif", "holds full", "Refused: the worker holds four tiles already."),
-    ("invalidate B.tif", "invalidated 2", "what is older is answered no more"),
-    ("renew B.tif", "renewed 2", "it is read again"),
+    ("hold 0 0 0 B.tif", "holds full", "Refused: the worker already holds four tiles."),
+    ("invalidate B.tif", "invalidated 2", "the file was checked, and answers from older versions end here"),
+    ("renew B.tif", "renewed 2", "the file will be read again"),
     ("pixels 9 0 0 1 1 B.tif", "no level 2 7", "Refused: the file has 7 levels, 0 to 6."),
     ("pixels 0 0 0 1025 1024 B.tif", "region too large", "Refused: the region has more than 1048576 texels."),
     ("pixels 0 0 0 1 1 B.tif", "again 2 3",
-     "Refused: the file changed from generation 2 to 3 while it was read.\n    What helps: ask once more"),
+     "Refused: the file was replaced: version 2 is gone, version 3 is there.\n"
+     "    What helps: send the same request again"),
     ("pixels 0 0 0 1 1 wide.tif", "tile too large 1",
-     "Refused: a cell of a level would take more than 32 MiB.\n"
+     "Refused: a cell of a level needs more than 32 MiB.\n"
      "    What helps: a smaller --autotile, or smaller tiles in the file"),
-    ("tex 0 0 0 clamp clamp closest 1 B.tif", "read fault", "Refused: the file could not be opened or read."),
-    ("stat", "no memory", "Refused: no memory was found for this answer."),
+    ("tex 0 0 0 clamp clamp closest 1 B.tif", "read fault",
+     "Refused: the file could not be opened or read, or was replaced twice while it was read."),
+    ("stat", "no memory", "Refused: there was not enough memory for this answer."),
 ]
 
-# Regions of 2^20 texels: a round has four of them, since it asks for at most 2^22 (docs/REQUESTS.md, "Rounds").
+# Regions of 2^20 texels: a round has four of them, because it has at most 2^22 texels (docs/REQUESTS.md, "Rounds").
 GREAT = ["pixels 0 0 0 1024 1024 B.tif"] * 9
 ROUNDS = [1, 1, 1, 1, 2, 2, 2, 2, 3]
 
-# What TIFF 6.0 and the register of compressions mean by the numbers of a fault, in a word of what is said.
+# The numbers of a fault, and a word that its explanation must contain, by TIFF 6.0 and the register of compressions.
 FAULTS = {
     (1,): "header", (2,): "II nor", (3,): "version", (4,): "directory",
     (5, 256): "ImageWidth", (5, 273): "StripOffsets",
@@ -54,9 +56,9 @@ FAULTS = {
     (7, 339, 3): "floating", (8,): "0", (9,): "131072", (10,): "16", (11,): "fewer", (12, 2, 7): "7 of level 2",
 }
 
-# What a run says that answers nothing.
+# What is said about the only line of a run that answers no request.
 ENDINGS = {
-    "bad list 3 5": "line 3 of the list: a wrap or a filter is none of its words",
+    "bad list 3 5": "line 3 of the list: a wrap or a filter has an unknown name",
     "bad list 0 9": "the list has more than 16777216 bytes", "too many files": "the folder has more than 4096 files",
     "bad file 1 7 259 5": None, "sync": None,
 }
@@ -67,14 +69,14 @@ FILES = {
     "A.tif": "A.tif: 4 by 4, 1 channel of 8 bits, 1 of 3 levels stored, one cell, 42 bytes in the cache",
     "B.tif": "B.tif: 80 by 48, 3 channels of 16 bits, 1 of 7 levels stored, tiles of 64 by 32, 30.0 KiB in the cache",
     "pages.tif": "pages.tif: 100 by 80, 1 channel of 8 bits, 1 of 7 levels stored, strips, 20.8 KiB in the cache",
-    "lzw.tif": "lzw.tif: the file is none that is read: Compression is 5, LZW\n"
+    "lzw.tif": "lzw.tif: the file is not accepted: Compression is 5, LZW\n"
                "    What helps: tiffcp -c none lzw.tif OUT.tif",
-    "cut.tif": "cut.tif: the file is none that is read: strip or tile 3 of level 0 is not all in the file: it was cut "
-               "short, or its writer left the block out (a sparse file)\n"
+    "cut.tif": "cut.tif: the file is not accepted: strip or tile 3 of level 0 is not completely in the file: the file "
+               "was cut short, or its writer left this block out (a sparse file)\n"
                "    What helps: copy the file again, or write it again with the program that made it",
 }
 
-# The words of uv.py, and what it prints. A pixel of 0.002 by 0.001 over 1024 by 512 texels is 2.048 texels long, whose
+# Arguments of uv.py, and what it prints. A pixel of 0.002 by 0.001 over 1024 by 512 texels is 2.048 texels long, whose
 # logarithm to base 2 is 1.0342157.
 NUMBERS = [
     (["0.25", "0.75"], "tex 16384 49152 0 periodic periodic trilinear 3 NAME"),
@@ -93,33 +95,34 @@ def printed(*words):
     return subprocess.run([sys.executable, *map(str, words)], text=True, stdout=subprocess.PIPE, check=False).stdout
 
 
-def compare(told, found, wanted):
+def compare(what, found, wanted):
     if found == wanted:
         return 0
-    print(f"{told}:\n{found}\nand not\n{wanted}", file=sys.stderr)
+    print(f"{what}:\n{found}\nwanted\n{wanted}", file=sys.stderr)
     return 1
 
 
 def check_folder(program, folder):
-    """What is told of some files, and of a list that is run under three budgets."""
+    """What folder_info.py says about some files, and hit_curve.py about a list that is run under three budgets."""
     for name in FILES:
         (folder / name).write_bytes((TOP / "crates" / "texcache" / "data" / name).read_bytes())
     found = printed(TOOLS / "folder_info.py", folder, "--program", program)
-    wrong = compare("folder_info.py", found, "\n".join(FILES[it] for it in sorted(FILES)) + "\n")
+    wanted = [*(FILES[it] for it in sorted(FILES)), f"All images at once: tools/prepare.py {folder} DEST --convert"]
+    wrong = compare("folder_info.py", found, "\n".join(wanted) + "\n")
     (folder / "list").write_text("pixels 0 0 0 80 48 B.tif\n" * 20, encoding="ascii")
     # with one worker, since several may each read what the others read at that moment
     rows = printed(TOOLS / "hit_curve.py", folder, folder / "list", "--program", program, "--workers", "1",
                    "--most", "4", "--svg", folder / "curve.svg").splitlines()
     budgets = [it.split()[0] for it in rows[1:-2]]
-    # its four cells are needed each time, and two cells are no more than kept between
-    needs = "80 cells were needed, and 0 of them were among the two that their worker had needed last"
+    # the region needs four cells each time, and the microcache keeps two
+    needs = "80 cells were needed; 0 of them were among the two that their worker had needed last"
     return (wrong + compare("hit_curve.py", budgets, ["4", "2", "1"]) + compare("hit_curve.py", rows[-2], needs)
             + compare("its verdict", rows[-1], "1 MiB is enough; --least tries less")
             + compare("its picture", (folder / "curve.svg").read_text(encoding="utf-8").count("<polyline"), 2))
 
 
 def check_explained(folder):
-    """What is said of the lines, and in which round each is."""
+    """What explain.py says about each line, and in which round it is."""
     def explained(requests, answers):
         (folder / "asked").write_text("\n".join(requests), encoding="utf-8")
         (folder / "answered").write_text("\n".join([*answers, "worker 0 needs 0 hits 0"]), encoding="utf-8")
@@ -130,15 +133,15 @@ def check_explained(folder):
     found = explained([it[0] for it in LINES], [it[1] for it in LINES])
     of_great = explained(GREAT, ["no memory"] * len(GREAT)).splitlines()
     rounds = [int(it.split("round ")[1].split(",")[0]) for it in of_great if it.startswith("line ")]
-    lacking = [numbers for numbers, word in FAULTS.items() if word not in fault(list(numbers))[0]]
+    wrong = [numbers for numbers, word in FAULTS.items() if word not in fault(list(numbers))[0]]
     return (compare("explain.py", found, "".join(wanted) + closing) + compare("its rounds", rounds, ROUNDS)
             + compare("endings", {it: ending(it) for it in ENDINGS}, ENDINGS)
-            + compare("faults that are not said", lacking, []))
+            + compare("faults whose explanation lacks a word", wrong, []))
 
 
 def loads(budget):
-    """How many cells are read for the list of docs/pictures/curve.py by one worker with one shard: by docs/CACHE.md,
-    "The microcache" and "The order of eviction", of the demo's texture of hills, which has tiles of 16 by 16."""
+    """How many cells one worker with one shard reads for the list of docs/pictures/curve.py, by docs/CACHE.md, "The
+    microcache" and "The order of eviction". The texture is the demo's hills, in tiles of 16 by 16."""
     levels = [Page(max(1, 96 >> n), max(1, 64 >> n)) for n in range(7)]
     recent, shard, count = [], {}, 0
 
@@ -154,7 +157,7 @@ def loads(budget):
                 recent = [key, *(it for it in recent if it != key)]
                 continue
             count += key not in shard
-            # behind the others, as the one that was used last, with a pin more
+            # last in the order, because it was used last; with one pin more
             shard[key] = shard.pop(key, 0) + 1
             recent.insert(0, key)
             if len(recent) > 2:
@@ -169,14 +172,14 @@ Page = namedtuple("Page", "width height")
 
 
 def check_curve(program, folder):
-    """How often the texture of hills is read under each budget more than under the greatest: once for each cell that is
-    loaded, but for some reads of the system's own."""
+    """How many more reads each budget needs than the largest one: one for each cell that is loaded, except that the
+    system itself reads once or twice."""
     (folder / "scene").write_text("".join(f"{it}\n" for it in curve.scene()), encoding="ascii")
     rows = printed(TOOLS / "hit_curve.py", TOP / "demo" / "textures", folder / "scene", "--program", program,
                    *curve.WORDS).splitlines()[1:]
     reads = [int(it.split()[2]) for it in rows[:-2]]
     wanted = [loads(1024 * 2 ** k) for k in range(6, 0, -1)]
-    # with 64 KiB all 30 cells fit, with 32 KiB they do not
+    # all 30 cells fit in 64 KiB, but not in 32 KiB
     said = "the reads still fall at 64 KiB; --most tries more"
     return (compare("reads over the budget", [abs(it - reads[0] - (cells - wanted[0])) <= 2
                                               for it, cells in zip(reads, wanted)], [True] * 6)

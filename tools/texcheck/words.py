@@ -24,6 +24,12 @@ FRACTION = re.compile(r"-?\d*\.\d+|-?\d+\.\d*|-?\d+(\.\d*)?e-?\d+")
 SIZE = re.compile(r"(\d+) *([KMG])(i?B)?", re.I)
 
 
+def name_in(request):
+    """The file name in a request; empty if it has none."""
+    word, _, rest = request.partition(" ")
+    return rest.split(" ", len(FORMS[word]) - 1)[-1] if FORMS.get(word) else ""
+
+
 def range_text(least, most, step, unit):
     multiple = f", a multiple of {step}" if step > 1 else ""
     return f"{least} to {most}{unit}{multiple}"

@@ -1,5 +1,5 @@
-"""Makes the texture of one image: in a folder of its own beside the textures, and then by a rename, so that a reader
-sees the old file or the whole new one."""
+"""Makes the texture of one image. It is written in a hidden folder of the destination and then renamed, so a reader
+sees the old file or the complete new one."""
 import contextlib
 import errno
 import fcntl
@@ -51,8 +51,8 @@ def free_bytes(folder):
 
 
 class Room:
-    """A hidden folder in the destination for what is not whole yet. It goes when the run ends; that of a run that was
-    killed goes when the next one begins."""
+    """A hidden folder in the destination for unfinished files. It is removed when the run ends. If the run was killed,
+    the next run removes it."""
 
     def __init__(self, dest):
         dest.mkdir(parents=True, exist_ok=True)
@@ -91,12 +91,12 @@ class Maker:
         return self.options.dest / image.target
 
     def is_current(self, image):
-        """Whether the texture is that of the image as it is now. It fails if the file is not to be replaced."""
+        """Whether the texture was made of the image as it is now. Fails if the file may not be replaced."""
         target = self.target(image)
         if not target.exists():
             return False
         if not target.is_file():
-            raise Failed(f"{shown(str(target))} is there, and is no file. What helps: move it away")
+            raise Failed(f"{shown(str(target))} exists and is not a file. What helps: move it away")
         found = record.read(target)
         if not found:
             raise Failed(f"{shown(str(target))} was not made by prepare.py, and is not replaced. What helps: move it "
@@ -167,7 +167,7 @@ class Maker:
             return self.children.run([self.options.program, folder, name, str(self.options.tile)], out)
 
     def check_size(self, path, part):
-        """Every byte is there: the disk may have been full, and the system silent."""
+        """Checks that every byte was written: if the disk is full, the system does not always say so."""
         wanted, found = texture_bytes(tiff_facts(path), self.options.tile), part.stat().st_size
         if abs(wanted - found) > 18 * 36:
             raise Failed(f"the texture has {found} bytes, and some {wanted} are expected; it was not kept")
@@ -178,7 +178,7 @@ class Maker:
         if not numbers:
             means, helps = self.too_large(path)
         elif numbers == NOT_A_TIFF and path.suffix.lower() not in (".tif", ".tiff"):
-            means, helps = "it is no TIFF", fault(numbers)[1]
+            means, helps = "it is not a TIFF", fault(numbers)[1]
         else:
             means, helps = fault(numbers)
         helps = (helps or "").replace("{name}", shlex.quote(shown(str(path))))
