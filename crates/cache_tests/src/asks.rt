@@ -1,6 +1,7 @@
 //! The calls that tests make, and their answers.
 use image_cache::CacheError;
 use texel_filter::{Filter, Wrap};
+use texture_sys::BatchOptions;
 
 /// S, T and LOD of a lookup, its wrap for both directions, its filter and its number of channels.
 pub(crate) type Look = ((i32, i32, u32), Wrap, Filter, u32);
@@ -19,6 +20,8 @@ pub(crate) enum Ask {
     Pixels(u32, (u32, i32, i32), (u32, u32)),
     Texture(u32, Look),
     TextureLocal(u32, Look),
+    /// Looks up the values at several places, at most three.
+    Batch(u32, BatchOptions, &'static [(i64, i64)]),
     /// Counts a shard.
     Count(u32),
     /// Invalidates a file, with force or without.
@@ -64,6 +67,8 @@ pub(crate) enum Answer {
     /// The generation, and the number of levels.
     NoLevel(u32, u32),
     Outside(u32),
+    /// How many lookups of a batch were answered before an error, and on which generation.
+    Stopped(u64, u32),
     RegionTooLarge,
     HoldsFull,
     Again(u32, u32),

@@ -1,5 +1,5 @@
 //! Tests of the cache and of lookups, on files in memory. They cover regions, holds, records,
-//! fetches, lookups, invalidated files, generated levels, errors, passes that are joined, two
+//! fetches, lookups, batches, invalidated files, generated levels, errors, passes that are joined, two
 //! threads, and a locked shard.
 #![tactic(auto)]
 
@@ -7,6 +7,8 @@
 mod apart;
 #[cfg(test)]
 mod asks;
+#[cfg(test)]
+mod batches;
 #[cfg(test)]
 mod busy;
 #[cfg(test)]

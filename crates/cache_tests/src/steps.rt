@@ -38,6 +38,7 @@ fn file_of(ask: Ask) -> u32 {
         Ask::Pixels(file, _, _) => file,
         Ask::Texture(file, _) => file,
         Ask::TextureLocal(file, _) => file,
+        Ask::Batch(file, _, _) => file,
         Ask::Invalidate(file, _) => file,
         Ask::Open(file) => file,
         Ask::Local(file) => file,

@@ -66,6 +66,9 @@ impl<T: Tap> Worker<'_, T> {
             }
             Ask::Texture(file, look) if file < FILES => self.look(waiter, tap, file, look),
             Ask::TextureLocal(file, look) if file < FILES => self.lookup_local(file, look),
+            Ask::Batch(file, options, places) if file < FILES => {
+                self.look_up_all(waiter, tap, file, options, places)
+            }
             Ask::Invalidate(file, force) if file < FILES => {
                 self.invalidate(waiter, tap, file, force)
             }

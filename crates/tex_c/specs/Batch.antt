@@ -1,17 +1,14 @@
 -- What does a batch of C ask for, which are in range, and what is answered?
-use Rattle.std.specs.Prelude.{◌≡◌, ◌⊎◌, ℕ, ◌+◌, ◌*◌, ◌^◌, ◌<◌, ◌≤◌, ◌==◌, if◌then◌else◌}
-use Rattle.std.specs.Prelude.{List, length, take, drop, slice_index, slice_index_or, IfSome}
+use Rattle.std.specs.Prelude.{◌≡◌, ◌⊎◌, ℕ, ◌*◌, ◌<◌, ◌≤◌, ◌==◌, if◌then◌else◌}
+use Rattle.std.specs.Prelude.{List, length, take, drop, slice_index, IfSome}
 use Rattle.file_table.specs.Calls.{sighted}
 use Rattle.std.specs.Borrow.{Bor}
 use Rattle.texture_sys.specs.declared.batch.Place.{Place}
 use Rattle.texture_sys.specs.declared.batch.BatchOptions.{BatchOptions}
 use Rattle.texture_sys.specs.declared.batch.BatchOptions.TheVariants.{Points, Footprints}
 use Rattle.texture_sys.specs.declared.batch.Batch.{Batch}
-use Rattle.texture_sys.specs.declared.lookup.Lookups.{Lookups}
 use Rattle.texture_sys.specs.declared.lookup.Lookups.TheVariants.{Many}
-use Rattle.texture_sys.specs.declared.stopped.Stopped.{Stopped}
-use Rattle.texture_sys.specs.Batch.{IsPlaceInRange, batch_channels, no_place, IsBatchInRange}
-use Rattle.texture_sys.specs.Batch.{KeepsBehind}
+use Rattle.texture_sys.specs.Batch.{batch_channels, IsBatchInRange, IsFirstOutOfRange}
 use Rattle.std.specs.Option.{ForSome}
 use Rattle.texture_sys.specs.Asked.{AreFirstOn}
 use Rattle.texture_sys.specs.Look.{picture_of}
@@ -52,19 +49,8 @@ options_of b = if b.max_probes == 0
     })
 
 -- the lookups at these places
-abbrev pub lookups_of : BatchOptions → Bor (List Place) → Lookups
-lookups_of options places = Many (record { options = options; places = places })
-
--- the lookups at all places have their numbers in range
-abbrev pub AreAllowed : BatchOptions → List Place → Type 0
-AreAllowed options places = (i : ℕ) → i < length places
-    → IsPlaceInRange options (slice_index_or places i no_place)
-
--- The lookup at place i has a number out of range, and no lookup before it has.
-pub record IsFirstRefused (options : BatchOptions) (places : List Place) (i : ℕ) : Type 0 where
-  pub inside : i < length places
-  pub refused : ¬ IsPlaceInRange options (slice_index_or places i no_place)
-  pub before : (k : ℕ) → k < i → IsPlaceInRange options (slice_index_or places k no_place)
+abbrev pub batch_of : TexBatch → Bor (List Place) → Batch
+batch_of b places = record { options = options_of b; places = places }
 
 -- how many values are asked for
 abbrev pub count_of : TexBatch → List Place → ℕ
@@ -78,10 +64,10 @@ blank = record { done = 0; generation = 0; error = said.blank }
 
 -- The request is refused: no file has this number; a wrap or the filter is out of range, or the
 -- lookup that the answer names; or the buffer is too small.
-abbrev pub RefusesBatch : ℕ → TexBatch → List Place → ℕ → ℕ → ℕ → Type 0
+abbrev pub RefusesBatch : ℕ → TexBatch → Bor (List Place) → ℕ → ℕ → ℕ → Type 0
 RefusesBatch files b places room done code = RefusesFile files b.file code
-    ⊎ (((code ≡ 4) × (¬ HasOptions b ⊎ IsFirstRefused (options_of b) places done))
-    ⊎ ((code ≡ 5) × (room < count_of b places)))
+    ⊎ (((code ≡ 4) × (¬ HasOptions b ⊎ IsFirstOutOfRange (batch_of b places) done))
+    ⊎ ((code ≡ 5) × (room < count_of b places.now)))
 
 -- What a batch answers, and what state it leaves. The values are those of the lookups on the bytes
 -- of the generation that the answer names, and the rest of the buffer is unchanged. After an error
@@ -92,24 +78,24 @@ pub record SaysBatch (b : TexBatch) (places : Bor (List Place)) (code : ℕ) (an
     (out_old out_new : List ℕ) (old new : ClientState) : Type 0 where
   pub cache : new.cache ≡ old.cache
   pub ok : code ≡ 0 → Answers supplied_files b.file old.cache.gate.cut
-      (lookups_of (options_of b) places) old.pass.view new.pass.view
+      (Many (batch_of b places)) old.pass.view new.pass.view
       (take (count_of b places.now) out_new) answer.generation
   pub beyond : drop (count_of b places.now) out_new ≡ drop (count_of b places.now) out_old
   pub part : ¬ (code ≡ 0) → ¬ (code ≡ 4) → 1 ≤ answer.done
       → IsOfGeneration supplied_files b.file old.pass.view new.pass.view answer.generation
       × ForSome (supplied_files.held b.file answer.generation) (λ bytes.
-      AreFirstOn (picture_of old.cache.gate.cut bytes) (lookups_of (options_of b) places)
+      AreFirstOn (picture_of old.cache.gate.cut bytes) (Many (batch_of b places))
       answer.done (take (count_of b places.now) out_new))
   pub rest : ¬ (code ≡ 0) → (k : ℕ) → answer.done * batch_channels (options_of b) ≤ k
       → slice_index out_new k ≡ slice_index out_old k
   pub unwritten : code ≡ 4 → out_new ≡ out_old
   pub cause : ¬ (code ≡ 0) → IsUnanswered
-      (RefusesBatch (files_of old) b places.now (length out_old) answer.done)
+      (RefusesBatch (files_of old) b places (length out_old) answer.done)
       (TextureCause supplied_files b.file old.cache.gate.cut
       (sighted old.pass.view (tap_state old.tap)) (sighted new.pass.view (tap_state new.tap)))
       new.tap code answer.error
-  pub warm : b.file < files_of old → HasOptions b → AreAllowed (options_of b) places.now
+  pub warm : b.file < files_of old → HasOptions b → IsBatchInRange (batch_of b places)
       → count_of b places.now ≤ length out_old
-      → IfSome old.pass.latest (λ known. IsWarm b.file (lookups_of (options_of b) places) old.pass known
+      → IfSome old.pass.latest (λ known. IsWarm b.file (Many (batch_of b places)) old.pass known
       → ((code ≡ 0) × (answer.generation ≡ known.generation))
       ⊎ (known.generation < slice_index new.pass.view.seen b.file))

@@ -1,12 +1,11 @@
 //! Batches of lookups as C writes them, and what is answered about them.
-ghost use Rattle.std.specs.Prelude.{◌≡◌, ◌↔◌, ◌<◌, length, IsNone, IsSome, IfNone, IfSome, IsTrue};
-ghost use Rattle.texture_sys.specs.Batch.{IsPlaceInRange, nth_place};
+ghost use Rattle.std.specs.Prelude.{◌≡◌, ◌↔◌, IsSome, IfSome, IsTrue};
 ghost use Rattle.tex_c.specs.Batch.{HasOptions, options_of};
 ghost use Rattle.tex_c.specs.Batch as spec;
 
 use crate::answer::TexAnswer;
 use crate::request::{filter_of, wrap_of};
-use texture_sys::{BatchOptions, FootprintOptions, Place, PointOptions};
+use texture_sys::{BatchOptions, FootprintOptions, PointOptions};
 
 /// What the lookups of a batch have in common.
 #[repr(C)]
@@ -66,19 +65,6 @@ impl TexBatch {
         }
         self.filter < 3
     }
-}
-
-/// The first place at which a lookup has a number out of range.
-pub(crate) fn first_refused(options: &BatchOptions, places: &[Place]) -> Option<usize>
-    ensures none { IsNone result → spec.AreAllowed options.now places.now }
-    ensures some { IfSome result (spec.IsFirstRefused options.now places.now) }
-{
-    for i in 0..places.len() {
-        if !options.allow(&places[i]) {
-            return Some(i);
-        }
-    }
-    None
 }
 
 /// What is answered about a batch besides the code.

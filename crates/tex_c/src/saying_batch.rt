@@ -10,7 +10,7 @@ ghost use Rattle.tex_c.specs.SuppliedTap.{tap_state};
 ghost use Rattle.tex_c.specs.Batch.{SaysBatch};
 
 use crate::answer::{ANSWERED, BAD_REQUEST, NO_FILE, SMALL_BUFFER};
-use crate::batch::{TexBatch, TexBatchAnswer, first_refused};
+use crate::batch::{TexBatch, TexBatchAnswer};
 use crate::client::Client;
 use crate::rounds::TRIES;
 use image_cache::CacheError;
@@ -70,7 +70,8 @@ impl Client {
         let Some(options) = batch.options() else {
             return BAD_REQUEST;
         };
-        if let Some(i) = first_refused(&options, places) {
+        let asked = Batch { options, places };
+        if let Some(i) = asked.first_out_of_range() {
             answer.done = i as u64;
             return BAD_REQUEST;
         }
@@ -80,7 +81,6 @@ impl Client {
         if out.len() < count {
             return SMALL_BUFFER;
         }
-        let asked = Batch { options, places };
         match self.texture_many(batch.file, asked, &mut out[..count]) {
             Ok(generation) => {
                 answer.generation = generation;

@@ -1,7 +1,7 @@
 -- One more lookup of a batch: its texels, its values, and what an error among them leaves.
 use Rattle.std.proofs.Common.{◌≡◌, ℕ, zero, suc, ◌+◌, ◌-◌, ◌*◌, ◌<◌, ◌≤◌, refl, arith}
 use Rattle.std.proofs.Common.{List, ◌++◌, length, slice_index, add-one, add-zero, add-suc, inl, inr}
-use Rattle.std.proofs.Common.{ap, ◌∙◌, sym, subst, Result, Ok, Err, OnOk}
+use Rattle.std.proofs.Common.{◌∙◌, sym, subst, Result, Ok, Err, OnOk}
 use Rattle.std.proofs.lemmas.Bool.{cases_lt}
 use Rattle.std.proofs.Math.Nat.{mul-le-mul_right}
 use Rattle.texel_filter.specs.Image.{Sizes, Image, Texel}

@@ -10,12 +10,12 @@ use Rattle.tile_store.specs.Tile.{CachedTile}
 use Rattle.file_table.specs.Record.{RecordState}
 use Rattle.micro.specs.Items.{HasKey, key_first}
 use Rattle.pinned_tiles.specs.declared.cell.CellAt.{CellAt}
-use Rattle.pinned_tiles.specs.Pinned.{key_in, PinnedState}
+use Rattle.pinned_tiles.specs.Pinned.{key_in}
 use Rattle.pinned_tiles.specs.Cell.{has_cell}
 use Rattle.texel_filter.specs.Image.{Texel}
 use Rattle.texel_filter.specs.Calls.{EachAnswered, OneRefused}
 use Rattle.texel_values.specs.declared.texel_at.TexelAt.{TexelAt}
-use Rattle.image_cache.specs.Pass.{PassState, SameCounts, counted, counted_together, max_count}
+use Rattle.image_cache.specs.Pass.{PassState, SameCounts, counted, counted_together}
 use Rattle.image_cache.specs.Texel.{has_cell_at, has_cell_by, cell_of, IsCellIn}
 use Rattle.image_cache.specs.Call.{CountsNeed, CountsHits, Needs, turned_to}
 use Rattle.image_cache.specs.Square.{IsShownAt}

@@ -83,6 +83,12 @@ batch_len b = length b.places.now * batch_channels b.options
 abbrev pub IsBatchInRange : Batch → Type 0
 IsBatchInRange b = (i : ℕ) → i < length b.places.now → IsPlaceInRange b.options (nth_place b i)
 
+-- Lookup i has a number out of range, and no lookup before it has.
+pub record IsFirstOutOfRange (b : Batch) (i : ℕ) : Type 0 where
+  pub inside : i < length b.places.now
+  pub out : ¬ IsPlaceInRange b.options (nth_place b i)
+  pub before : (k : ℕ) → k < i → IsPlaceInRange b.options (nth_place b k)
+
 -- the texels that the first k lookups visit, in order
 unfoldable pub batch_visits_upto : Sizes → Batch → ℕ → List Texel
 batch_visits_upto sizes b zero = []

@@ -136,3 +136,21 @@ pub struct Batch<'a> {
     /// The places.
     pub places: &'a [Place],
 }
+
+impl Batch<'_> {
+    ghost use Rattle.std.specs.Prelude.{IsNone, IfSome};
+    ghost use Rattle.texture_sys.specs.Batch.{IsBatchInRange, IsFirstOutOfRange};
+
+    /// The first lookup that has a number out of range.
+    pub fn first_out_of_range(&self) -> Option<usize>
+        ensures none { IsNone result → IsBatchInRange self.now }
+        ensures some { IfSome result (IsFirstOutOfRange self.now) }
+    {
+        for i in 0..self.places.len() {
+            if !self.options.allow(&self.places[i]) {
+                return Some(i);
+            }
+        }
+        None
+    }
+}

@@ -1,5 +1,5 @@
 -- The cells were asked for after the generation was checked and before the record was kept.
-use Rattle.std.proofs.Common.{◌≡◌, List, ℕ, Ok, Result, Some, refl, sym, subst, ◌∙◌, ap, rules}
+use Rattle.std.proofs.Common.{◌≡◌, ℕ, Ok, Result, Some, refl, sym, subst, ◌∙◌, ap, rules}
 use Rattle.file_table.specs.Record.{RecordState}
 use Rattle.file_table.specs.Calls.{GivesRecord}
 use Rattle.texture_sys.specs.Call.{IsLookupOn}
