@@ -5,7 +5,7 @@ use Rattle.std.specs.Prelude.{Result, OnOk, IfErr}
 use Rattle.tex_world.specs.Counts.{Rises, RisesByOne}
 use Rattle.tex_world.specs.World.{Files, IsReal}
 use Rattle.tex_world.specs.Tap.{Named, TapState}
-use Rattle.gen_board.specs.View.{ViewState, IsLater}
+use Rattle.gen_board.specs.View.{ViewState, IsLater, KeepsLooks}
 use Rattle.tiff_format.specs.declared.cut.Cut.{Cut}
 use Rattle.file_table.specs.Record.{RecordState, IsRecord}
 use Rattle.tex_world.specs.declared.fault.OpenError.{OpenError}
@@ -37,17 +37,23 @@ pub record KeepsView (file : ℕ) (old new : ViewState) : Type 0 where
   pub seen_others : (f : ℕ) → f ≢ file → slice_index new.seen f ≡ slice_index old.seen f
   pub steps_others : (f : ℕ) → f ≢ file → slice_index new.steps f ≡ slice_index old.steps f
 
--- The board's number of the file was raised at most once.
+-- The board's number of the file was raised at most once, and not read.
 pub record RaisesIfAtAll (file : ℕ) (old new : ViewState) : Type 0 where
   pub keeps : KeepsView file old new
+  pub looks : KeepsLooks old new
   pub least : slice_index old.steps file ≤ slice_index new.steps file
   pub most : slice_index new.steps file ≤ slice_index old.steps file + 1
 
 -- The board's number of the file was read once, and then raised at most once.
 pub record LooksOnce (file : ℕ) (old new : ViewState) : Type 0 where
   pub keeps : KeepsView file old new
+  pub looks : slice_index new.looks file ≡ slice_index old.looks file + 1
   pub least : slice_index old.steps file + 1 ≤ slice_index new.steps file
   pub most : slice_index new.steps file ≤ slice_index old.steps file + 2
+
+-- No call of the tap failed. So none was tried again.
+abbrev pub IsFaultless : TapState → TapState → Type 0
+IsFaultless old new = new.faults ≡ old.faults
 
 -- The tap was called only to read.
 pub record ReadsOnly (old new : TapState) : Type 0 where
@@ -84,6 +90,10 @@ pub record GivesRecord (files : Files) (file : ℕ) (cut : Cut) (old new : ViewS
   pub honest : IsRecord files state
   pub new_enough : slice_index old.seen file ≤ state.generation
   pub seen : state.generation ≤ slice_index new.seen file
+
+-- The record is at least as new as what the last read of the board's word found.
+abbrev pub IsAsNew : ℕ → ViewState → RecordState → Type 0
+IsAsNew file view state = slice_index view.looked file ≤ state.generation
 
 -- If the view took exactly this number of steps on the file, the record is of the generation that
 -- the view has then seen. Used for the steps without a raise: no record is older than the board.

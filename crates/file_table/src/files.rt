@@ -1,11 +1,12 @@
 //! The table of files: their newest records, shared by many workers.
-ghost use Rattle.std.specs.Prelude.{◌≡◌, ℕ, ◌<◌, ◌≤◌, IfOk, IfErr, IfSome, slice_index};
+ghost use Rattle.std.specs.Prelude.{◌≡◌, ℕ, ◌<◌, ◌≤◌, IfOk, IfErr, IfSome, OnOk, slice_index};
 ghost use Rattle.tex_world.specs.World.{IsFile, IsReal};
 ghost use Rattle.gen_board.specs.View.{IsNewView};
 ghost use Rattle.tiff_format.specs.Cut.{IsCut};
 ghost use Rattle.file_table.specs.Calls.{sighted, RaisesIfAtAll, LooksOnce, OpensOnce};
 ghost use Rattle.file_table.specs.Files.{HasLocks};
-ghost use Rattle.file_table.specs.Calls.{GivesRecord, IsAsSeen, OpensIfAtAll, RecordCause};
+ghost use Rattle.file_table.specs.Calls.{GivesRecord, IsAsSeen, IsAsNew, IsFaultless};
+ghost use Rattle.file_table.specs.Calls.{OpensIfAtAll, RecordCause};
 
 use crate::error::FileError;
 use crate::home::put_back;
@@ -119,6 +120,8 @@ impl<T: Tap> Files<T> {
         ensures ok { IfOk result (λ r. GivesRecord T.W.files file self.now.cut view.old view.new
             r.value) }
         ensures as_seen { IfOk result (λ r. IsAsSeen 1 file view.old view.new r.value) }
+        ensures as_new { IfOk result (λ r. IsAsNew file view.new r.value) }
+        ensures faultless { OnOk result (IsFaultless (T.state tap.old) (T.state tap.new)) }
         ensures cause { IfErr result (RecordCause T.W.files file
             (sighted view.old (T.state tap.old)) (sighted view.new (T.state tap.new))) }
 
@@ -202,6 +205,7 @@ impl<T: Tap> Files<T> {
         ensures ok { IfOk result (λ r. GivesRecord T.W.files file self.now.cut view.old view.new
             r.value) }
         ensures as_seen { IfOk result (λ r. IsAsSeen 0 file view.old view.new r.value) }
+        ensures faultless { OnOk result (IsFaultless (T.state tap.old) (T.state tap.new)) }
         ensures cause { IfErr result (RecordCause T.W.files file
             (sighted view.old (T.state tap.old)) (sighted view.new (T.state tap.new))) }
         ensures raises { RaisesIfAtAll file view.old view.new }

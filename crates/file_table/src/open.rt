@@ -1,9 +1,9 @@
 //! Opens a file and makes its record.
-ghost use Rattle.std.specs.Prelude.{◌≡◌, ◌≤◌, IfOk, IfErr};
+ghost use Rattle.std.specs.Prelude.{◌≡◌, ◌≤◌, IfOk, IfErr, OnOk};
 ghost use Rattle.tex_world.specs.World.{IsFile};
 ghost use Rattle.tex_world.specs.Tap.{IsLeast};
 ghost use Rattle.tiff_format.specs.Cut.{IsCut};
-ghost use Rattle.file_table.specs.Calls.{OpensOnce, OpenedCause, ReadsOnly};
+ghost use Rattle.file_table.specs.Calls.{OpensOnce, OpenedCause, ReadsOnly, IsFaultless};
 
 use crate::error::FileError;
 use crate::record::Record;
@@ -36,6 +36,7 @@ pub(crate) fn open_record<T: Tap, B>(
     ensures ok { IfOk result (λ o.
         (o.record.file ≡ file) × (least ≤ o.record.generation) × (o.record.cut ≡ cut)) }
     ensures once { OpensOnce (T.state tap.old) (T.state tap.new) }
+    ensures faultless { OnOk result (IsFaultless (T.state tap.old) (T.state tap.new)) }
     ensures cause { IfErr result
         (OpenedCause T.W.files file least (T.state tap.old) (T.state tap.new)) }
 {
@@ -54,6 +55,7 @@ fn read_record<T: Tap, B>(
     ensures ok { let named = T.Handle.named handle in IfOk result (λ o. (o.record.file ≡ named.file)
         × (o.record.generation ≡ named.generation) × (o.record.cut ≡ cut)) }
     ensures reads { ReadsOnly (T.state tap.old) (T.state tap.new) }
+    ensures faultless { OnOk result (IsFaultless (T.state tap.old) (T.state tap.new)) }
     ensures cause { let named = T.Handle.named handle in IfErr result (OpenedCause T.W.files
         named.file named.generation (T.state tap.old) (T.state tap.new)) }
 {

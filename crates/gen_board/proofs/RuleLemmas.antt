@@ -11,7 +11,7 @@ use Rattle.tex_world.specs.World.{Files, IsReal}
 use Rattle.tex_world.specs.Tap.{IsLeast}
 use Rattle.gen_board.specs.declared.sight.Sight.{Sight}
 use Rattle.gen_board.specs.Rule.{IsBoard, IsSeen, word_count, first_sight, spent_sight}
-use Rattle.gen_board.specs.Rule.{stepped_sight, both_sights, Looked, Raised}
+use Rattle.gen_board.specs.Rule.{stepped_sight, looked_sight, both_sights, Looked, Raised}
 use Rattle.gen_board.proofs.ListLemmas.{set_keeps, max_keeps, later_keeps, zero_at}
 
 module _ (world : Files) (files : ℕ) where
@@ -41,24 +41,26 @@ module _ (world : Files) (files : ℕ) where
   )
 
   -- A step that raises a word to a real generation, which its seat has then seen.
-  steps : (s : State (Unit {0}) Sight) (id i m : ℕ) (old : Sight) → IsBoard world files s
-      → get_elem? s.views id ≡ some old → i < word_count files → slice_index s.words i ≤ m
-      → IsLeast world i m
+  steps : (s : State (Unit {0}) Sight) (id i m : ℕ) (old new : Sight) → IsBoard world files s
+      → get_elem? s.views id ≡ some old → new.seen ≡ set old.seen i m → i < word_count files
+      → slice_index s.words i ≤ m → IsLeast world i m
       → IsBoard world files (record {
         words = set s.words i m;
         homes = s.homes;
-        views = set s.views id (stepped_sight old i m);
+        views = set s.views id new;
       })
-  steps s id i m old kept at inside up real =
+  steps s id i m old new kept at sees inside up real =
       let each = words_rise s.words s.views i m up kept.views in
       let there : slice_index (set s.words i m) i ≡ m =
       get_or-set_same s.words i m 0 (subst (λ (n : ℕ). i < n) (sym kept.count) inside) in
       record {
         count = length-set s.words i m ∙ kept.count;
         words = set_keeps (IsLeast world) s.words i m kept.words real;
-        views = one_view (set s.words i m) s.views id (stepped_sight old i m) each
+        views = one_view (set s.words i m) s.views id new each
+            (subst (λ (seen : List ℕ). (file : ℕ)
+            → IsSeen world (set s.words i m) file (slice_index seen file)) (sym sees)
             (set_keeps (IsSeen world (set s.words i m)) old.seen i m (each id old at)
-            (real, subst (λ (n : ℕ). m ≤ n) (sym there) (le_refl m)));
+            (real, subst (λ (n : ℕ). m ≤ n) (sym there) (le_refl m))));
       }
 
   pub looks : (slots id : ℕ) (me : Me (Unit {0}) Sight) (i : ℕ) → i < word_count files
@@ -66,10 +68,10 @@ module _ (world : Files) (files : ℕ) where
       (Looked world (step slots i 0 0 none) me)
   looks slots id me i inside s kept homes at fits =
       let n : ℕ = slice_index s.words i in (
-        stepped_sight me.0 i n,
+        looked_sight me.0 i n,
         keeps,
         tt,
-        steps s id i n me.0 kept at inside (le_refl n) (kept.words i),
+        steps s id i n me.0 (looked_sight me.0 i n) kept at refl inside (le_refl n) (kept.words i),
         record {
           real = kept.words i;
           newer = (kept.views id me.0 at i).1;
@@ -87,7 +89,8 @@ module _ (world : Files) (files : ℕ) where
         stepped_sight me.0 i (max n g),
         keeps,
         tt,
-        steps s id i (max n g) me.0 kept at inside (omega arith)
+        steps s id i (max n g) me.0 (stepped_sight me.0 i (max n g)) kept at refl inside
+            (omega arith)
             (max_keeps (IsLeast world i) n g (kept.words i) (inr real)),
         record {
           real = kept.words i;

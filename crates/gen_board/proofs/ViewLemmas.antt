@@ -31,6 +31,10 @@ module _ (world : Files) (own other new : Seat (Unit {0}) Sight) (kept theirs it
         ∙ ((λ i. later_of (seated.seen i) (seated_other.seen i)) ∙ sym later);
     length_steps = ap (λ (m : Me (Unit {0}) Sight). length m.0.steps) me
         ∙ (seated.length_steps ∙ (sym (length-later kept theirs) ∙ sym (ap length later)));
+    length_looks = ap (λ (m : Me (Unit {0}) Sight). length m.0.looks) me
+        ∙ (seated.length_looks ∙ (sym (length-later kept theirs) ∙ sym (ap length later)));
+    length_looked = ap (λ (m : Me (Unit {0}) Sight). length m.0.looked) me
+        ∙ (seated.length_looked ∙ (sym (length-later kept theirs) ∙ sym (ap length later)));
     known = subst
         (λ (xs : List ℕ). (file : ℕ) → IsLeast world file (slice_index xs file)) (sym later)
         (later_keeps (IsLeast world) kept theirs seated.known seated_other.known);
@@ -48,4 +52,6 @@ module _ (world : Files) (own other new : Seat (Unit {0}) Sight) (kept theirs it
     later = λ file. subst (λ (xs : List ℕ). slice_index kept file ≤ slice_index xs file) (sym later)
         (omega (arith, later_at kept theirs file same));
     steps = ap (λ (m : Me (Unit {0}) Sight). m.0.steps) me;
+    looks = ap (λ (m : Me (Unit {0}) Sight). m.0.looks) me;
+    looked = ap (λ (m : Me (Unit {0}) Sight). m.0.looked) me;
   }

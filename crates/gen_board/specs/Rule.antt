@@ -14,11 +14,16 @@ word_count files = max 1 files
 
 -- nothing was seen, and no step was made
 abbrev pub first_sight : ℕ → Sight
-first_sight files = record { seen = replicate files 0; steps = replicate files 0 }
+first_sight files = record {
+  seen = replicate files 0;
+  steps = replicate files 0;
+  looks = replicate files 0;
+  looked = replicate files 0;
+}
 
 -- what a spent seat knows: nothing
 abbrev pub spent_sight : Sight
-spent_sight = record { seen = []; steps = [] }
+spent_sight = record { seen = []; steps = []; looks = []; looked = [] }
 
 -- the number is 0 or a generation of the file that exists, and at most the word
 abbrev pub IsSeen : Files → List ℕ → ℕ → ℕ → Type 0
@@ -37,6 +42,17 @@ abbrev pub stepped_sight : Sight → ℕ → ℕ → Sight
 stepped_sight old file n = record {
   seen = slice_set old.seen file n;
   steps = slice_set old.steps file (slice_index old.steps file + 1);
+  looks = old.looks;
+  looked = old.looked;
+}
+
+-- what the seat knows after it has read the word of a file and found this number
+abbrev pub looked_sight : Sight → ℕ → ℕ → Sight
+looked_sight old file n = record {
+  seen = slice_set old.seen file n;
+  steps = slice_set old.steps file (slice_index old.steps file + 1);
+  looks = slice_set old.looks file (slice_index old.looks file + 1);
+  looked = slice_set old.looked file n;
 }
 
 -- A read finds 0 or a generation that exists, at least what was seen, and has now seen it.
@@ -44,7 +60,7 @@ pub record Looked (world : Files) (step : Step (Unit {0})) (old : Me (Unit {0}) 
     (new : Me (Unit {0}) Sight) : Type 0 where
   pub real : IsLeast world step.word found
   pub newer : slice_index old.0.seen step.word ≤ found
-  pub sight : new.0 ≡ stepped_sight old.0 step.word found
+  pub sight : new.0 ≡ looked_sight old.0 step.word found
   pub slots : new.1 ≡ old.1
 
 -- A raise finds 0 or a generation that exists, at least what was seen. It has now seen the greater
@@ -64,4 +80,9 @@ later_of (x ∷ xs) (y ∷ ys) = max x y ∷ later_of xs ys
 
 -- what two seats have seen together, with the counts of the first
 abbrev pub both_sights : Sight → Sight → Sight
-both_sights own other = record { seen = later_of own.seen other.seen; steps = own.steps }
+both_sights own other = record {
+  seen = later_of own.seen other.seen;
+  steps = own.steps;
+  looks = own.looks;
+  looked = own.looked;
+}

@@ -18,6 +18,8 @@ view_state seat seen = record {
   board = record { files = length seen; table = seat.table_id };
   seen = seen;
   steps = seat.me.0.steps;
+  looks = seat.me.0.looks;
+  looked = seat.me.0.looked;
 }
 
 -- The seat knows exactly these numbers, and each is 0 or a generation that exists. It holds no
@@ -25,5 +27,7 @@ view_state seat seen = record {
 pub record IsSeated (world : Files) (seat : Seat (Unit {0}) Sight) (kept : List ℕ) : Type 0 where
   pub seen : seat.me.0.seen ≡ kept
   pub length_steps : length seat.me.0.steps ≡ length kept
+  pub length_looks : length seat.me.0.looks ≡ length kept
+  pub length_looked : length seat.me.0.looked ≡ length kept
   pub known : (file : ℕ) → IsLeast world file (slice_index kept file)
   pub slots : seat.me.1 ≡ []

@@ -17,6 +17,10 @@ pub record ViewState : Type 0 where
   pub seen : List ℕ
   -- how often it has read or raised the word of each file
   pub steps : List ℕ
+  -- how often it has read the word of each file
+  pub looks : List ℕ
+  -- what the last read of each file's word found, or 0
+  pub looked : List ℕ
 
 -- for no file has less been seen than before
 abbrev pub IsLater : List ℕ → List ℕ → Type 0
@@ -28,6 +32,8 @@ pub record IsNewView (count : ℕ) (made : BoardId) (view : ViewState) : Type 0 
   pub board : view.board ≡ made
   pub seen : (file : ℕ) → slice_index view.seen file ≡ 0
   pub steps : (file : ℕ) → slice_index view.steps file ≡ 0
+  pub looks : (file : ℕ) → slice_index view.looks file ≡ 0
+  pub looked : (file : ℕ) → slice_index view.looked file ≡ 0
 
 -- A step on the word of a file. The answer is at least what was seen, and has now been seen. The
 -- step is counted, and nothing else changes.
@@ -40,11 +46,25 @@ pub record AfterStep (file answer : ℕ) (old new : ViewState) : Type 0 where
   pub steps : slice_index new.steps file ≡ slice_index old.steps file + 1
   pub steps_others : (f : ℕ) → f ≢ file → slice_index new.steps f ≡ slice_index old.steps f
 
+-- The step was a read, which found this number. It is counted.
+pub record CountsLook (file found : ℕ) (old new : ViewState) : Type 0 where
+  pub looks : slice_index new.looks file ≡ slice_index old.looks file + 1
+  pub looks_others : (f : ℕ) → f ≢ file → slice_index new.looks f ≡ slice_index old.looks f
+  pub looked : slice_index new.looked file ≡ found
+  pub looked_others : (f : ℕ) → f ≢ file → slice_index new.looked f ≡ slice_index old.looked f
+
+-- No word was read.
+pub record KeepsLooks (old new : ViewState) : Type 0 where
+  pub looks : new.looks ≡ old.looks
+  pub looked : new.looked ≡ old.looked
+
 -- The view belongs to the same board, and has seen and counted the same.
 pub record IsSameView (old new : ViewState) : Type 0 where
   pub board : new.board ≡ old.board
   pub seen : new.seen ≡ old.seen
   pub steps : new.steps ≡ old.steps
+  pub looks : new.looks ≡ old.looks
+  pub looked : new.looked ≡ old.looked
 
 -- The view has seen the greater of both for each file, and keeps its own counts.
 pub record ViewAfterJoin (other old new : ViewState) : Type 0 where
@@ -53,3 +73,5 @@ pub record ViewAfterJoin (other old new : ViewState) : Type 0 where
       → slice_index new.seen file ≡ max (slice_index old.seen file) (slice_index other.seen file)
   pub later : IsLater old.seen new.seen
   pub steps : new.steps ≡ old.steps
+  pub looks : new.looks ≡ old.looks
+  pub looked : new.looked ≡ old.looked

@@ -2,7 +2,8 @@
 ghost use Rattle.std.specs.Prelude.{◌≡◌, ◌<◌, ◌≤◌, IfOk};
 ghost use Rattle.tex_world.specs.World.{IsReal};
 ghost use Rattle.tex_world.specs.Tap.{IsLeast};
-ghost use Rattle.gen_board.specs.View.{IsNewView, AfterStep, IsSameView, ViewAfterJoin};
+ghost use Rattle.gen_board.specs.View.{IsNewView, AfterStep, CountsLook, KeepsLooks};
+ghost use Rattle.gen_board.specs.View.{IsSameView, ViewAfterJoin};
 
 use crate::later::take_later;
 use crate::rule::Generations;
@@ -68,6 +69,7 @@ impl<W: World> Board<W> {
         requires file { file < self.now.files }
         ensures real { IsLeast W.files file result }
         ensures seen { AfterStep file result v.old v.new }
+        ensures looked { CountsLook file result v.old v.new }
     {
         let shared = &self.table.shared;
         let found = shared.load::<Look<W>>(&mut v.seat, file as usize) as u32;
@@ -84,6 +86,7 @@ impl<W: World> Board<W> {
         ensures real { IsReal W.files file result }
         ensures least { g ≤ result }
         ensures seen { AfterStep file result v.old v.new }
+        ensures looked { KeepsLooks v.old v.new }
     {
         let shared = &self.table.shared;
         let found = shared.fetch_max::<Raise<W>>(&mut v.seat, file as usize, g as u64) as u32;

@@ -5,4 +5,8 @@ pub(crate) struct Sight {
     pub seen: [u32; 0],
     /// How often it has read or raised the word of each file.
     pub steps: [u64; 0],
+    /// How often it has read the word of each file.
+    pub looks: [u64; 0],
+    /// What the last read of each file's word found.
+    pub looked: [u32; 0],
 }

@@ -218,8 +218,10 @@ impl<T: Tap + Drop + Shows> Visitor<'_, T> {
         let Some(tap) = self.taps.get_mut(tap) else {
             return Err(Wrong);
         };
-        let Ok(known) = self.seat.record(&Tries::new(9), tap, file) else {
-            return Err(Wrong);
+        let known = match self.seat.record(&Tries::new(9), tap, file) {
+            Ok(known) => known,
+            Err(FileError::ReadFault) => return Err(Fault),
+            Err(_) => return Err(Wrong),
         };
         match self.seat.lend(&Tries::new(9), tap, file, &known) {
             Ok(open) => Ok((known, open)),

@@ -12,7 +12,7 @@ use tex_world::{FailByte, FileTable, Folder, MemFolder, MemTap, Newest, Plan, Ri
 use tiff_format::Cut;
 
 /// Makes four taps. For tap 1 a read of byte 222 fails, which is column 100 of the first row. In
-/// the file of nine levels a byte between two directories fails, which nobody needs, and in the
+/// the file of nine levels a byte between two directories fails, which nobody asks for, and in the
 /// tiled file a byte of tile 33. At 67400, column 78 of row 16, tap 2 meets generation 2; tap 3
 /// knows it from the start.
 fn taps_of(alloc: Global) -> Result<Vec<MemTap<Strips>>, Fail> {
@@ -135,7 +135,7 @@ static ROWS: &[(&str, &[Step])] = &[
         ],
     ),
     (
-        "rows whose read fails are read again",
+        "rows whose read fails are read again by the next call",
         &[
             (Load(1, 0, (0, 0)), Cell(1), 6),
             (Load(1, 0, (16, 0)), Cell(1), 1),
@@ -284,13 +284,16 @@ static ROWS: &[(&str, &[Step])] = &[
         ],
     ),
     (
-        "a byte that nobody asked for and that is not read changes no answer",
+        "a read that fails is not tried again, also if it read more than was asked for",
         &[
-            (Load(1, 6, (0, 0)), Cell(1), 12),
+            (Load(1, 6, (0, 0)), Fault, 8),
+            (Load(1, 6, (0, 0)), Cell(1), 10),
             (Scan(1, 8, 32), Cell(1), 38),
+            (Load(1, 8, (0, 64)), Fault, 1),
             (Load(1, 8, (0, 64)), Cell(1), 2),
-            (Load(1, 8, (16, 64)), Cell(1), 1),
-            (Load(1, 8, (64, 64)), Cell(1), 0),
+            (Load(1, 8, (16, 64)), Cell(1), 0),
+            (Load(1, 8, (32, 64)), Cell(1), 1),
+            (Load(1, 8, (80, 64)), Cell(1), 0),
         ],
     ),
     (

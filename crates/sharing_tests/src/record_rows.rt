@@ -3,7 +3,7 @@ ghost use Rattle.std.specs.Prelude.{◌<◌};
 
 use crate::bench::{Bench, memory_bench};
 use crate::script::Answer::{Again, Bad, Done, Fault, Is};
-use crate::script::Call::{Forget, Idle, Lend, Record, Seen, Settle};
+use crate::script::Call::{Forget, Idle, Lend, LendFirst, Record, Seen, Settle};
 use crate::script::{Counts, Script, Step, text_of};
 use crate::seat::Seat;
 use std::alloc::Global;
@@ -114,6 +114,21 @@ static ROWS: &[(&str, usize, &[Step])] = &[
             (Settle, Done, NONE),
             (Idle, Is(1), NONE),
             (Lend(0, A), Is(2), NONE),
+        ],
+    ),
+    (
+        "a newer idle handle stays if an older generation is lent",
+        4,
+        &[
+            (Record(0, A), Is(1), READ),
+            (Lend(1, A), Again(1, 2), OPENED),
+            (Record(0, A), Is(2), READ),
+            (Lend(0, A), Is(2), OPENED),
+            (Settle, Done, NONE),
+            (LendFirst(0, A), Is(1), OPENED),
+            (Idle, Is(1), NONE),
+            (Lend(0, A), Is(2), NONE),
+            (Idle, Is(0), NONE),
         ],
     ),
     (

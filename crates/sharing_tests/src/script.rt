@@ -41,6 +41,8 @@ pub(crate) enum Call {
     Record(usize, u32),
     /// Lends a handle of the latest record's generation, which becomes the latest handle.
     Lend(usize, u32),
+    /// Lends a handle of the first record's generation, which becomes the latest handle.
+    LendFirst(usize, u32),
     /// Reads the first byte through the latest handle.
     Read(usize),
     /// Settles the latest handle.
@@ -89,11 +91,12 @@ pub(crate) fn text_of(alloc: Global, wrong: Option<Wrong>) -> Result<String, Fai
     }
 }
 
-/// A table with a view, some taps, the latest record, and the lent handles.
+/// A table with a view, some taps, the first and the latest record, and the lent handles.
 #[derive(Drop)]
 pub(crate) struct Script<'a, T: Tap + Drop> {
     seat: Seat<'a, T>,
     taps: Vec<T>,
+    first: Option<Arc<Record<T::W>>>,
     record: Option<Arc<Record<T::W>>>,
     lent: Vec<OpenFile<T>>,
 }
@@ -103,6 +106,7 @@ impl<'a, T: Tap + Drop> Script<'a, T> {
         Script {
             seat,
             taps,
+            first: None,
             record: None,
             lent: Vec::new(alloc),
         }
@@ -114,6 +118,7 @@ fn tap_of(call: Call) -> usize {
     match call {
         Call::Record(tap, _) => tap,
         Call::Lend(tap, _) => tap,
+        Call::LendFirst(tap, _) => tap,
         Call::Read(tap) => tap,
         _ => 0,
     }
@@ -163,7 +168,8 @@ impl<T: Tap + Drop + Shows> Script<'_, T> {
     {
         match call {
             Call::Record(tap, file) if file < 3 => self.read_record(tap, file),
-            Call::Lend(tap, file) if file < 3 => self.lend(tap, file),
+            Call::Lend(tap, file) if file < 3 => self.lend(tap, file, false),
+            Call::LendFirst(tap, file) if file < 3 => self.lend(tap, file, true),
             Call::Read(tap) => self.read(tap),
             Call::Settle => self.settle(),
             Call::Forget(file) => match self.seat.forget(&Tries::new(9), file) {
@@ -197,6 +203,9 @@ impl<T: Tap + Drop + Shows> Script<'_, T> {
             Ok(record) => {
                 let generation = record.generation();
                 let is_bad = record.layout().is_err();
+                if self.first.is_none() {
+                    self.first = record.clone().ok();
+                }
                 self.record = Some(record);
                 if is_bad {
                     Answer::Bad(generation)
@@ -208,10 +217,12 @@ impl<T: Tap + Drop + Shows> Script<'_, T> {
         }
     }
 
-    fn lend(&mut self, tap: usize, file: u32) -> Answer
+    /// Lends a handle of the generation of the first record, or of the latest.
+    fn lend(&mut self, tap: usize, file: u32, is_first: bool) -> Answer
         requires { IsFile T.W.files file }
     {
-        let (Some(tap), Some(record)) = (self.taps.get_mut(tap), &self.record) else {
+        let record = if is_first { &self.first } else { &self.record };
+        let (Some(tap), Some(record)) = (self.taps.get_mut(tap), record) else {
             return Answer::Nothing;
         };
         match self.seat.lend(&Tries::new(9), tap, file, record) {

@@ -23,9 +23,10 @@ pub record OnlyReads (old new : Lent) : Type 0 where
   pub lost : old.tap.lost ≤ new.tap.lost
   pub newest : new.tap.newest ≡ old.tap.newest
 
--- after reads that succeeded: no newer generation was met
+-- after reads that succeeded: no read failed, and no newer generation was met
 pub record KeepsTap (old new : Lent) : Type 0 where
   pub reads : OnlyReads old new
+  pub faultless : new.tap.faults ≡ old.tap.faults
   pub moves : new.tap.moves ≡ old.tap.moves
 
 -- after a read that failed: the error has its cause, and the moves rise only with it

@@ -17,6 +17,7 @@ KeepsTap-itself lent = record {
     lost = omega arith;
     newest = refl;
   };
+  faultless = refl;
   moves = refl;
 }
 
@@ -35,6 +36,7 @@ OnlyReads-chains a b c p q = record {
 pub KeepsTap-chains : (a b c : Lent) → KeepsTap a b → KeepsTap b c → KeepsTap a c
 KeepsTap-chains a b c p q = record {
   reads = OnlyReads-chains a b c p.reads q.reads;
+  faultless = q.faultless ∙ p.faultless;
   moves = q.moves ∙ p.moves;
 }
 

@@ -14,7 +14,8 @@ use tex_world::{ReadError, Tap, TapHandle};
 use tiff_dirs::ByteReader;
 
 /// The reader of one file: a tap, a handle and the file's read-ahead, all borrowed. Bytes in the
-/// read-ahead cost no call to the tap. Read errors are those of the tap.
+/// read-ahead cost no call to the tap. Read errors are those of the tap, also if a read of more than
+/// was asked for fails: no call of the tap is tried again.
 #[derive(Drop)]
 pub struct AheadReader<'t, 'h, 'a, 'b, T: Tap> {
     pub tap: &'t mut T,
@@ -100,7 +101,6 @@ impl<'t, 'h, 'a, 'b, T: Tap> ByteReader for AheadReader<'t, 'h, 'a, 'b, T> {
                 self.ahead.put(wanted.slot, rows, room);
                 Ok(())
             }
-            Err(ReadError::Failed) if wanted.is_more => self.tap.read_at(self.handle, at, buf),
             Err(e) => Err(e),
         }
     }

@@ -12,9 +12,6 @@ use tex_world::World;
 pub(crate) struct Wanted {
     pub(crate) slot: usize,
     pub(crate) rows: Rows,
-    /// Whether more than the wanted bytes is read. If that read fails, the wanted bytes are read
-    /// alone.
-    pub(crate) is_more: bool,
 }
 
 /// The rows of a band that begin with `size` bytes at `at`, if all rows lie below the file's
@@ -35,7 +32,6 @@ fn rows_at(bands: &[Band], at: u64, size: usize, len: u64) -> Option<Wanted>
             return Some(Wanted {
                 slot: band.slot,
                 rows,
-                is_more: rows.count == 1,
             });
         }
     }

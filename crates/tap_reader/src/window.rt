@@ -86,10 +86,6 @@ impl<W: World> ReadAhead<W> {
         if size > rows.row || size > rows.size() || !rows.lie_below(len) {
             return None;
         }
-        Some(Wanted {
-            slot,
-            rows,
-            is_more: true,
-        })
+        Some(Wanted { slot, rows })
     }
 }

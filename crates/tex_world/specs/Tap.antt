@@ -67,11 +67,12 @@ OpenCause old new opening.NoMemory = ⊤
 abbrev pub IsMove : ℕ → ℕ → Type 0
 IsMove least generation = (0 < least) × (least < generation)
 
--- An `open` counts as a call and an open. The moves rise if and only if it opens a newer generation
--- than `least`; the count of lost generations is unchanged.
+-- An `open` counts as a call and an open. If it succeeds, no I/O error is counted. The moves rise if
+-- and only if it opens a newer generation than `least`; the count of lost generations is unchanged.
 pub record AfterOpen {H : Type 0} (named : H → Named) (least : ℕ) (old new : TapState)
     (result : Result H OpenError) : Type 0 where
   pub faults : old.faults ≤ new.faults
+  pub faultless : (h : H) → result ≡ Ok h → new.faults ≡ old.faults
   pub calls : RisesByOne old.calls new.calls
   pub opens : RisesByOne old.opens new.opens
   pub asks : new.asks ≡ old.asks
@@ -113,10 +114,12 @@ abbrev pub IsFault : ReadError → Type 0
 IsFault reading.Failed = ⊤
 IsFault (reading.Gone to) = ⊥
 
--- A read counts as one call, whatever its number of rows, and neither as an open nor as an ask. The
--- moves and the lost generations rise if and only if it answers `Gone`.
+-- A read counts as one call, whatever its number of rows, and neither as an open nor as an ask. If it
+-- succeeds, no I/O error is counted. The moves and the lost generations rise if and only if it
+-- answers `Gone`.
 pub record AfterRead (old new : TapState) (result : Result (Unit {0}) ReadError) : Type 0 where
   pub faults : old.faults ≤ new.faults
+  pub faultless : result ≡ Ok tt → new.faults ≡ old.faults
   pub calls : RisesByOne old.calls new.calls
   pub opens : new.opens ≡ old.opens
   pub asks : new.asks ≡ old.asks
