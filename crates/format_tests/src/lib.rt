@@ -18,6 +18,8 @@ mod latest_items;
 #[cfg(test)]
 mod layouts;
 #[cfg(test)]
+mod made_textures;
+#[cfg(test)]
 mod mem_reader;
 #[cfg(test)]
 mod plain_rects;

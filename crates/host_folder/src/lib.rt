@@ -15,5 +15,5 @@ pub use folder::RealFolder;
 pub use handle::RealHandle;
 pub use stamp::generation_after;
 pub use stream::{RealFeed, RealSink};
-pub use tap::RealTap;
+pub use tap::{RealTap, settle_word};
 pub use world::RealWorld;

@@ -233,7 +233,7 @@ impl<R: Files<File = File>> RealTap<R> {
 
 /// The generation of a file with this stamp: that of the loaded word if the stamp is the same,
 /// otherwise the next one, which is written to the word. Never waits for another tap.
-fn settle_word(word: &AtomicU64, loaded: u64, stamp: u64) -> Option<u32>
+pub fn settle_word(word: &AtomicU64, loaded: u64, stamp: u64) -> Option<u32>
     requires { stamp < stamps }
     ensures { IfSome result (λ g. (1 ≤ g) × (g ≤ last_generation)) }
 {

@@ -27,6 +27,8 @@ mod read_ahead;
 #[cfg(test)]
 mod real_folder;
 #[cfg(test)]
+mod real_reads;
+#[cfg(test)]
 mod real_taps;
 #[cfg(test)]
 mod record_rows;

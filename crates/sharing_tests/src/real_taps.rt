@@ -2,8 +2,9 @@
 ghost use Rattle.std.specs.Prelude.{ℕ, ◌<◌};
 ghost use Rattle.tex_world.specs.World.{IsFile};
 
-use host_folder::{RealFolder, generation_after};
+use host_folder::{RealFolder, generation_after, settle_word};
 use std::alloc::Global;
+use std::sync::atomic::{AtomicU64, Ordering};
 use std::test::Fail;
 use std::thread::Threads;
 use std::{fs, thread};
@@ -148,6 +149,29 @@ fn what_follows_an_exchange(rt: HostRuntime) -> Result<(), Fail> {
         let (loaded, found) = (word(loaded.0, loaded.1), word(found.0, found.1));
         let answer = generation_after(loaded, found, *stamp % STAMPS).unwrap_or(0);
         assert!(rt; answer == *wanted, "row {row}: {answer}");
+    }
+    Ok(())
+}
+
+// The same cases with a shared word, which has changed since it was read if another tap was first. An
+// exchange that is lost leaves the other tap's word and does not count as won.
+#[test]
+fn an_exchange_is_won_or_lost(rt: HostRuntime) -> Result<(), Fail> {
+    for (row, (loaded, found, stamp, wanted)) in EXCHANGES.iter().enumerate() {
+        let is_won = loaded == found && *wanted != 0;
+        let (loaded, found) = (word(loaded.0, loaded.1), word(found.0, found.1));
+        let shared = AtomicU64::new(found);
+        let answer = settle_word(&shared, loaded, *stamp % STAMPS).unwrap_or(0);
+        assert!(rt; answer == *wanted, "row {row}: {answer}");
+        let left = if is_won {
+            word(u64::from(*wanted), *stamp)
+        } else {
+            found
+        };
+        assert!(rt;
+            shared.load(Ordering::SeqCst) == left,
+            "row {row}: the word"
+        );
     }
     Ok(())
 }

@@ -71,9 +71,10 @@ pub makes_of : (files : Files) (asked : Wanted) (old new : Around) (ends : ℕ) 
     → Reads files asked new.folder (λ bytes. IsPictureOf bytes picture)
     → IsMadeSide asked.side → samples_of (seen picture) ≤ max_samples
     → PutsPicture (texture_of (seen picture) asked.side) old.sink new.sink ends
-    → (LacksFile asked new.folder → ⊥) → (IsTrue new.folder.over → ⊥) → LeavesFolder old.folder new.folder
+    → (LacksFile asked new.folder → ⊥) → (IsTrue new.folder.over → ⊥)
+    → new.folder.moves ≡ old.folder.moves → LeavesFolder old.folder new.folder
     → Makes files asked old new ends
-makes_of files asked old new ends picture reads side_in small (inl made) there calm folder = record {
+makes_of files asked old new ends picture reads side_in small (inl made) there calm still folder = record {
   ends_as = inl (
     made.0,
     reads_so files asked old new (λ bytes. IsPictureOf bytes picture)
@@ -87,10 +88,11 @@ makes_of files asked old new ends picture reads side_in small (inl made) there c
   );
   absent = (λ lacks. absurd (there lacks), λ seven. absurd (omega (arith, seven, made.0)));
   mark = (λ over. absurd (calm over), λ eleven. absurd (omega (arith, eleven, made.0)));
+  moves = λ _. still;
   folder = folder;
   sink = made.1.faults;
 }
-makes_of files asked old new ends picture reads side_in small (inr (inl cut)) there calm folder = record {
+makes_of files asked old new ends picture reads side_in small (inr (inl cut)) there calm still folder = record {
   ends_as = inr (inl (
     cut.0,
     record {
@@ -106,10 +108,11 @@ makes_of files asked old new ends picture reads side_in small (inr (inl cut)) th
   ));
   absent = (λ lacks. absurd (there lacks), λ seven. absurd (omega (arith, seven, cut.0)));
   mark = (λ over. absurd (calm over), λ eleven. absurd (omega (arith, eleven, cut.0)));
+  moves = λ _. still;
   folder = folder;
   sink = cut.1.failed.later;
 }
-makes_of files asked old new ends picture reads side_in small (inr (inr none)) there calm folder = record {
+makes_of files asked old new ends picture reads side_in small (inr (inr none)) there calm still folder = record {
   ends_as = inr (inr (record {
     ending = NoMemory;
     of_status = sym none.0;
@@ -118,6 +121,7 @@ makes_of files asked old new ends picture reads side_in small (inr (inr none)) t
   }));
   absent = (λ lacks. absurd (there lacks), λ seven. absurd (omega (arith, seven, none.0)));
   mark = (λ over. absurd (calm over), λ eleven. absurd (omega (arith, eleven, none.0)));
+  moves = λ _. still;
   folder = folder;
   sink = omega (arith, ap (λ (s : SinkState). s.faults) none.1);
 }

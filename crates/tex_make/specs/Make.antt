@@ -127,13 +127,15 @@ pub record Stops (files : Files) (asked : Wanted) (old new : Around) (ends : ℕ
   pub sink : new.sink ≡ old.sink
 
 -- What the call has done if the arguments ask for something. The status says that the file does not
--- exist if and only if that is so, and likewise for too many files.
+-- exist if and only if that is so, and likewise for too many files. A newer generation was met only
+-- if the status says that the file was changed: nothing is read again after that.
 pub record Makes (files : Files) (asked : Wanted) (old new : Around) (ends : ℕ) : Type 0 where
   pub ends_as : ((ends ≡ status.made) × Reads files asked new.folder (WritesTexture asked old new))
       ⊎ (((ends ≡ status.not_written) × BreaksOff files asked old new)
       ⊎ Stops files asked old new ends)
   pub absent : LacksFile asked new.folder ↔ (ends ≡ status.no_such_file)
   pub mark : IsTrue new.folder.over ↔ (ends ≡ status.too_many)
+  pub moves : (ends ≡ status.gone → ⊥) → new.folder.moves ≡ old.folder.moves
   pub folder : LeavesFolder old.folder new.folder
   pub sink : old.sink.faults ≤ new.sink.faults
 

@@ -4,7 +4,7 @@ ghost use Rattle.std.specs.Prelude.{◌≡◌, ◌≤◌, ◌↔◌, IsTrue, IfO
 ghost use Rattle.tex_world.specs.World.{IsFile};
 ghost use Rattle.tex_make.specs.declared.ending.Ending.TheVariants.{NoSuchFile, TooMany};
 ghost use Rattle.tex_make.specs.Asked.{shown_asked};
-ghost use Rattle.tex_make.specs.FileRead.{ReadsFile, LeavesTap};
+ghost use Rattle.tex_make.specs.FileRead.{ReadsFile, LeavesTap, MovesOnlyGone, FaultsOnlyFailed};
 ghost use Rattle.tex_make.specs.Make.{ReadsPicture, LacksFile, LeavesFolder, EndsAs, Completes};
 ghost use Rattle.tex_make.specs.Make.{asked_by, around_of, ReadsOf};
 ghost use Rattle.tex_world.specs.Folder.{KeepsFiles};
@@ -27,6 +27,8 @@ fn read_file<T: Tap>(alloc: Global, tap: &mut T, file: u32) -> Result<Pyramid, E
     requires { IsFile T.W.files file }
     ensures reads { ReadsFile T.W.files file (T.state tap.old) (T.state tap.new) result }
     ensures small { IfOk result (λ picture. samples_of (seen picture) ≤ max_samples) }
+    ensures faultless { FaultsOnlyFailed (T.state tap.old) (T.state tap.new) result }
+    ensures moves { MovesOnlyGone (T.state tap.old).moves (T.state tap.new).moves result }
     ensures later { LeavesTap (T.state tap.old) (T.state tap.new) }
 {
     let mut handle = match tap.open(alloc, file, 0) {
@@ -53,6 +55,7 @@ fn picture_of<F: Folder>(alloc: Global, folder: &mut F, file: u32) -> Result<Pyr
     requires { IsFile F.W.files file }
     ensures reads { ReadsOf F.W.files file (F.state folder.old) (F.state folder.new) result }
     ensures small { IfOk result (λ picture. samples_of (seen picture) ≤ max_samples) }
+    ensures moves { MovesOnlyGone (F.state folder.old).moves (F.state folder.new).moves result }
     ensures files { KeepsFiles (F.state folder.old) (F.state folder.new) }
     ensures folder { LeavesFolder (F.state folder.old) (F.state folder.new) }
 {
@@ -77,6 +80,7 @@ fn picture_asked<F: Folder>(
     ensures absent { LacksFile (shown_asked asked.now) (F.state folder.new)
         ↔ (result ≡ Err NoSuchFile) }
     ensures mark { IsTrue (F.state folder.new).over ↔ (result ≡ Err TooMany) }
+    ensures moves { MovesOnlyGone (F.state folder.old).moves (F.state folder.new).moves result }
     ensures folder { LeavesFolder (F.state folder.old) (F.state folder.new) }
 {
     match folder.enter(alloc, asked.path) {

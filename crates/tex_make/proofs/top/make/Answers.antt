@@ -21,7 +21,8 @@ returns-in-Ok-clause-makes g c =
     (makes_of files asked old new c.put_picture.result c.in-Ok.picture c.in-Ok.ensures.reads
     c.in-Some.asked.side_in c.in-Ok.ensures.small c.put_picture.ensures
     (λ lacks. let fails = c.in-Ok.ensures.absent.0 lacks in cc)
-    (λ over. let no = c.in-Ok.ensures.mark.0 over in cc) c.in-Ok.ensures.folder)
+    (λ over. let no = c.in-Ok.ensures.mark.0 over in cc)
+    (c.in-Ok.ensures.moves (λ gone. cc)) c.in-Ok.ensures.folder)
 
 pub returns-in-Err-clause-complete : goal.returns-in-Err-clause-complete
 returns-in-Err-clause-complete g c = λ source calm.
