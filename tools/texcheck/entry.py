@@ -19,6 +19,7 @@ SUBCOMMANDS = {
     "replaced-files": "replaced_files",
     "textures": "textures",
     "embedding": "embedding",
+    "fine": "fine",
     "user-tools": "user_tools",
     "pictures": "pictures",
     "prepare": "prepare",

@@ -66,6 +66,7 @@ def steps(args, programs, library):
     for name, *words in [
         ("textures", "--program", texmake, "--texcache", texcache, *readers),
         ("embedding", "--program", texcache, "--library", library, *skip),
+        ("fine", "--library", library, *(["--full"] if args.proved else []), *skip),
         ("lists", "--program", texcache, "--texsample", texsample),
         ("failed-allocations", "--program", texcache, *skip),
         ("scripts",), ("stored-run",),
