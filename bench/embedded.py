@@ -4,8 +4,9 @@
     python3 bench/embedded.py [--library FILE] [--folder FOLDER] [--name FILE] [--passes N]
     python3 bench/embedded.py --renderer [FOLDER]    # 64 textures of 1.07 GB, made in FOLDER or a folder that goes again
 
-A bilinear texcache_texture of three channels, within one cell of a file, over the library that ./build tex_c makes,
-with 1, 4 and 8 threads; and TextureSystem::texture at the same coordinates, where OpenImageIO's headers are there.
+Bilinear lookups of three channels, within one cell of a file, over the library that ./build tex_c makes, with 1, 4 and 8
+threads: on doubles, 64 in a call of texcache_texture_many and single ones; and those in 1/65536 of the image. Beside
+them TextureSystem::texture at the same coordinates, if OpenImageIO's headers are there.
 The time is that of the whole, all threads side by side, for each lookup of one thread; the least of the passes, which
 are taken in turn. Instructions are those of 200,000 lookups more, for each. The first line has the load of the machine.
 """
@@ -36,10 +37,10 @@ def programs(words, made):
     last, linked = over(words.library)
     own, other = Path(made) / "embedded", Path(made) / "oiio_lookups"
     told(["cc", "-std=gnu11", "-O2", f"-I{TOP / 'include'}", "-o", own, TOP / "bench" / "embedded.c", *linked, *last])
-    yield "texcache", own
+    yield from (("64 in a call", own, "many"), ("single", own, "single"), ("1/65536", own, "fixed"))
     try:
         told(["c++", "-std=c++17", "-O2", "-o", other, TOP / "bench" / "oiio_lookups.cpp", "-lOpenImageIO", "-lOpenImageIO_Util"])
-        yield "OpenImageIO", other
+        yield "OpenImageIO", other, None
     except (subprocess.CalledProcessError, FileNotFoundError):
         print("no OpenImageIO: it is not measured")
 
@@ -48,21 +49,21 @@ def lookups(words):
     with tempfile.TemporaryDirectory() as made:
         found = list(programs(words, made))
 
-        def run(program, threads, count, *before):
-            return told([*before, program, words.folder, words.name, threads, count])
+        def run(program, kind, threads, count, *before):
+            return told([*before, program, words.folder, words.name, threads, count, *([kind] if kind else [])])
 
         for threads in (1, 4, 8):
             least = {}
             for _ in range(words.passes):
-                for name, program in found:
-                    nanos = float(re.search(r"ns ([\d.]+)", run(program, threads, 2000000)).group(1))
+                for name, program, kind in found:
+                    nanos = float(re.search(r"ns ([\d.]+)", run(program, kind, threads, 2000000)).group(1))
                     least[name] = min(nanos, least.get(name, nanos))
             print(f"{threads} threads, ns a lookup:", ", ".join(f"{name} {it:.1f}" for name, it in least.items()), flush=True)
         if shutil.which("valgrind"):
-            for name, program in found:
+            for name, program, kind in found:
                 counts = []
-                for count in (1000, 201000):
-                    said = run(program, 1, count, "valgrind", "--tool=callgrind", f"--callgrind-out-file={made}/out")
+                for count in (1024, 201024):
+                    said = run(program, kind, 1, count, "valgrind", "--tool=callgrind", f"--callgrind-out-file={made}/out")
                     counts.append(int(re.search(r"Collected : (\d+)", said).group(1)))
                 print(f"instructions a lookup: {name} {(counts[1] - counts[0]) / 200000:.0f}", flush=True)
 
