@@ -2,6 +2,7 @@
 """What a warm lookup through texcache.h costs, beside OpenImageIO, and the renderer with textures of 1 GB.
 
     python3 bench/embedded.py [--library FILE] [--folder FOLDER] [--name FILE] [--passes N]
+    python3 bench/embedded.py --python               # 4,096 lookups in a call of python/texcache.py, with numpy
     python3 bench/embedded.py --renderer [FOLDER]    # 64 textures of 1.07 GB, made in FOLDER or a folder that goes again
 
 Bilinear lookups of three channels, within one cell of a file, over the library that ./build tex_c makes, with 1, 4 and 8
@@ -68,6 +69,39 @@ def lookups(words):
                 print(f"instructions a lookup: {name} {(counts[1] - counts[0]) / 200000:.0f}", flush=True)
 
 
+IN_PYTHON = """
+import sys, time
+sys.path.insert(0, sys.argv[1])
+import numpy, texcache
+with texcache.Cache(sys.argv[2]) as cache, cache.perthread() as textures:
+    file, n = cache.find(sys.argv[3]), numpy.arange(4096)
+    s, t = 0.06 + n % 64 / 65536, 0.06 + n // 64 / 65536
+    round_ = (s, t, 0 * s + 0.01, 0 * s, 0 * s, 0 * s + 0.01)
+    calls = {"points": lambda: textures.texture(file, s, t),
+             "points as floats": lambda: textures.texture(file, s, t, floats=True),
+             "round footprints": lambda: textures.texture_footprint(file, *round_),
+             "one point": lambda: textures.texture(file, 0.06, 0.06)}
+    least = dict.fromkeys(calls, 1e9)
+    for _ in range(200):
+        for name, call in calls.items():
+            began = time.perf_counter()
+            call()
+            least[name] = min(least[name], time.perf_counter() - began)
+    each = (f"{name} {1e6 * it / (1 if name == 'one point' else 4096):.3f}" for name, it in least.items())
+    print("Python, us a lookup:", ", ".join(each))
+"""
+
+
+def in_python(words):
+    with tempfile.TemporaryDirectory() as made:
+        last, linked = over(words.library)
+        shared = Path(made) / "libtexcache.so"
+        told(["cc", "-O2", "-shared", "-fPIC", f"-I{TOP / 'include'}", "-o", shared, TOP / "python" / "texcache_shared.c",
+              *linked, *last])
+        os.environ["TEXCACHE_LIBRARY"] = str(shared)
+        print(told([sys.executable, "-c", IN_PYTHON, TOP / "python", words.folder, words.name]), end="")
+
+
 def renderer(words, folder):
     with tempfile.TemporaryDirectory() as made:
         folder = folder or Path(made) / "textures"
@@ -92,10 +126,13 @@ def main():
     asked.add_argument("--folder", type=Path, default=TOP / "demo")
     asked.add_argument("--name", default="hills.tif")
     asked.add_argument("--passes", type=int, default=5)
+    asked.add_argument("--python", action="store_true")
     asked.add_argument("--renderer", nargs="?", const="", metavar="FOLDER")
     words = asked.parse_args()
     print("load", *(f"{it:.1f}" for it in os.getloadavg()), "on", os.cpu_count(), "processors", flush=True)
-    if words.renderer is None:
+    if words.python:
+        in_python(words)
+    elif words.renderer is None:
         lookups(words)
     else:
         renderer(words, Path(words.renderer) if words.renderer else None)

@@ -7,7 +7,8 @@
 
 magnified: a close view of a texture of 8192 texels. ramp: a slow zoom. contrasts: how much of noise and stripes is left
 by footprints of one shape, whose pixel grid is turned. jumps: the greatest change of a value from frame to frame while
-a footprint changes slowly. times: a warm footprint. It needs libopenimageio-dev, openimageio-tools and numpy.
+a footprint changes slowly. times: a warm footprint. check: the first four, shorter and of texcache alone, beside limits.
+It needs libopenimageio-dev, openimageio-tools and numpy.
 """
 import argparse
 import os
@@ -70,14 +71,14 @@ def pictures(folder, program, to):
 def main():
     asked = argparse.ArgumentParser(description=__doc__, formatter_class=argparse.RawDescriptionHelpFormatter,
                                     allow_abbrev=False)
-    asked.add_argument("parts", nargs="*", metavar="PART", help=f"{', '.join(PARTS)}; or pictures, with --write")
+    asked.add_argument("parts", nargs="*", metavar="PART", help=f"{', '.join(PARTS)}; check; or pictures, with --write")
     asked.add_argument("--library", type=Path, default=TOP / "crates" / "tex_c" / "out" / "libtex_c.a",
                        help="the library; crates/tex_c/out/libtex_c.a if it is not given")
     asked.add_argument("--write", action="store_true", help="write docs/pictures/close_views.png and plane_views.png")
     words = asked.parse_args()
     parts = words.parts or PARTS
-    if set(parts) - {*PARTS, "pictures"} or ("pictures" in parts) != words.write:
-        asked.error(f"parts are {', '.join(PARTS)}, and pictures with --write")
+    if set(parts) - {*PARTS, "check", "pictures"} or ("pictures" in parts) != words.write:
+        asked.error(f"parts are {', '.join(PARTS)}, check, and pictures with --write")
     if not words.library.is_file():
         sys.exit(f"footprints: there is no {words.library}; ./build tex_c makes it")
     print("load", *(f"{it:.1f}" for it in os.getloadavg()), "on", os.cpu_count(), "processors;", words.library, flush=True)

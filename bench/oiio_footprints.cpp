@@ -10,6 +10,7 @@
 #include <cstdio>
 #include <cstdlib>
 #include <functional>
+#include <map>
 #include <string>
 #include <vector>
 
@@ -24,6 +25,8 @@ struct Place {
 using Filter = std::function<double(const Place &)>;  // a grey value, 0 to 255
 
 std::string folder;
+bool is_check;  // texcache alone, and beside limits
+int failures;
 texcache *cache;
 texcache_pass *pass;
 TextureSystem *oiio_system;
@@ -32,6 +35,14 @@ void stop(const std::string &what)
 {
     std::fprintf(stderr, "oiio_footprints: %s\n", what.c_str());
     std::exit(1);
+}
+
+// In a check a number that is above its limit is a failure.
+void limit(const char *what, double found, double most)
+{
+    if (!is_check || found <= most) return;
+    std::printf("%s: %g, and may be %g\n", what, found, most);
+    failures++;
 }
 
 std::uint32_t file_of(const char *name)
@@ -142,9 +153,11 @@ void contrasts()
     const auto where = places(3000);
     std::printf("contrast of noise, and of stripes 4 texels wide (least over the angles of the grid)\n");
     std::printf("%6s %-12s %8s %8s %8s %8s %9s %9s\n", "r", "filter", "0", "15", "30", "45", "spread", "stripes");
-    const std::vector<std::pair<const char *, std::function<Filter(const char *)>>> filters = {
-        {"texd", fixed}, {"16 probes", [](const char *n) { return ours(n, 16); }},
-        {"32 probes", [](const char *n) { return ours(n, 32); }}, {"OpenImageIO", oiio}};
+    std::vector<std::pair<const char *, std::function<Filter(const char *)>>> filters = {
+        {"16 probes", [](const char *n) { return ours(n, 16); }}, {"32 probes", [](const char *n) { return ours(n, 32); }}};
+    if (!is_check) filters.insert(filters.begin(), {"texd", fixed}), filters.push_back({"OpenImageIO", oiio});
+    // what the model of the definitions has, on another noise
+    const std::map<int, double> model = {{2, .2479}, {4, .1870}, {8, .1332}, {16, .0742}, {32, .0934}};
     for (double r : {2.0, 4.0, 8.0, 16.0})
         for (const auto &it : filters) {
             Filter noise = it.second("noise.tif"), stripes = it.second("stripes.tif");
@@ -161,6 +174,9 @@ void contrasts()
             }
             std::printf("%6.0f %-12s %8.4f %8.4f %8.4f %8.4f %7.1f %% %9.3f\n", r, it.first, four[0], four[1], four[2], four[3],
                         100 * spread, least);
+            double wanted = model.at(r == 16 && it.first[0] == '3' ? 32 : int(r));
+            limit("contrast beside the model's", std::fabs(four[0] / wanted - 1), 0.05);
+            limit("spread of the contrast over the angles of the grid", spread, 0.001);
         }
 }
 
@@ -184,19 +200,32 @@ void jumps()
 {
     const auto where = places(400);
     const double side = 1024;
-    const std::vector<std::pair<const char *, std::function<Place(double)>>> scenes = {
-        {"zoom 0.5 to 64, 8:1", [=](double k) { double m = 0.5 * std::exp2(7 * k); return shaped(side, 8 * m, m, 20, 35); }},
-        {"ratio 1 to 20", [=](double k) { return shaped(side, 2 * (1 + 19 * k), 2, 20, 35); }},
-        {"nearly round, 1 to 1.5", [=](double k) { return shaped(side, 2 * (1 + 0.5 * k), 2, 20, 35); }},
-        {"grid turned, 8:1", [=](double k) { return shaped(side, 16, 2, 20, 90 * k); }},
-        {"axis turned, 8:1", [=](double k) { return shaped(side, 16, 2, 90 * k, 35); }},
-        {"round, axis turned", [=](double k) { return shaped(side, 2, 2, 90 * k, 35); }}};
+    // each with the greatest jump that the model of the definitions has in 300 frames, on another noise
+    struct Scene {
+        const char *name;
+        double most;
+        std::function<Place(double)> frame;
+    };
+    const std::vector<Scene> scenes = {
+        {"zoom 0.5 to 64, 8:1", 4.7,
+         [=](double k) { double m = 0.5 * std::exp2(7 * k); return shaped(side, 8 * m, m, 20, 35); }},
+        {"ratio 1 to 20", 6.2, [=](double k) { return shaped(side, 2 * (1 + 19 * k), 2, 20, 35); }},
+        {"nearly round, 1 to 1.5", 0.2, [=](double k) { return shaped(side, 2 * (1 + 0.5 * k), 2, 20, 35); }},
+        {"grid turned, 8:1", 0.03, [=](double k) { return shaped(side, 16, 2, 20, 90 * k); }},
+        {"axis turned, 8:1", 6.2, [=](double k) { return shaped(side, 16, 2, 90 * k, 35); }},
+        {"round, axis turned", 0.01, [=](double k) { return shaped(side, 2, 2, 90 * k, 35); }}};
+    if (is_check) {
+        for (const auto &scene : scenes)
+            for (std::uint32_t probes : {16u, 32u})
+                limit(scene.name, jump(ours("noise.tif", probes), scene.frame, 300, where), scene.most);
+        return;
+    }
     std::printf("greatest jump from frame to frame, of 255: 300 frames -> 3000\n");
     std::printf("%-24s %18s %18s %18s %18s\n", "scene", "texd", "16 probes", "32 probes", "OpenImageIO");
     for (const auto &scene : scenes) {
-        std::printf("%-24s", scene.first);
+        std::printf("%-24s", scene.name);
         for (const auto &it : {fixed("noise.tif"), ours("noise.tif", 16), ours("noise.tif", 32), oiio("noise.tif")})
-            std::printf("  %6.2f -> %6.2f", jump(it, scene.second, 300, where), jump(it, scene.second, 3000, where));
+            std::printf("  %6.2f -> %6.2f", jump(it, scene.frame, 300, where), jump(it, scene.frame, 3000, where));
         std::printf("\n");
     }
 }
@@ -222,6 +251,7 @@ void magnified()
             }
         std::printf("magnified, %s beside OpenImageIO: %ld pixels, %.2f %% differ in 8 bits, RMS %.4f, greatest %.3f of 255\n",
                     it.first, count, 100.0 * double(differ) / double(count), std::sqrt(sum / double(count)), greatest);
+        if (it.first[0] == 'd') limit("bilinear beside OpenImageIO, of 255", greatest, 0.02);
     }
 }
 
@@ -248,6 +278,7 @@ void ramp()
         }
         std::printf("zoom into a ramp, %s: %ld of %ld neighbours differ by more than the ramp, by up to %.1f of 65535\n",
                     it.first, over, count, greatest);
+        if (it.first[0] == 'd') limit("neighbours that differ by more than the ramp", double(over), 0);
     }
 }
 
@@ -377,7 +408,8 @@ int main(int count, char **words)
     else if (mode == "jumps") jumps();
     else if (mode == "times") times();
     else if (mode == "pictures") pictures();
+    else if (mode == "check") is_check = true, magnified(), ramp(), contrasts(), jumps();
     else return 2;
     texcache_end(&pass);
-    return texcache_close(&cache);
+    return texcache_close(&cache) || failures;
 }

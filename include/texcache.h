@@ -306,8 +306,9 @@ uint32_t tex_c_supply_fault(texcache_held from, texcache_held *to);
 /* How often a call is repeated because its file was replaced, or because a shard is busy. */
 #define TEXC_AGAIN 64
 #define TEXC_TRIES 100000
-/* How many lookups the library makes at once. If it lacks bytes it makes them anew. */
+/* How many lookups the library makes at once, and how many after it lacked bytes. */
 #define TEXC_PART 64
+#define TEXC_FEW 4
 
 /* An open file of one generation. It is closed when nobody reads it and it is no longer its file's. */
 typedef struct texc_open {
@@ -886,22 +887,27 @@ static inline __attribute__((always_inline)) int texc_scaled(double value, doubl
 static inline size_t texc_places(const texcache_coordinates *at, size_t first, size_t count, texcache_place *to)
 {
     const int64_t side = INT64_C(1) << 46;
+    const double fine = 4294967296.0, *s = at->s + first * at->step, *t = at->t + first * at->step;
     const size_t step = at->step;
-    const double fine = 4294967296.0;
-    size_t i, k = first * step;
+    size_t i, k = 0;
+    if (!at->dsdx) {
+        for (i = 0; i < count; i++, s += step, t += step) {
+            texcache_place *place = &to[i % TEXC_PART];
+            if (!texc_scaled(*s, fine, -2 * side, 2 * side - 1, &place->s)) break;
+            if (!texc_scaled(*t, fine, -2 * side, 2 * side - 1, &place->t)) break;
+        }
+        return i;
+    }
+    const double *dsdx = at->dsdx + first * step, *dtdx = at->dtdx + first * step;
+    const double *dsdy = at->dsdy + first * step, *dtdy = at->dtdy + first * step;
     for (i = 0; i < count; i++, k += step) {
         texcache_place *place = &to[i % TEXC_PART];
-        if (!at->dsdx) {
-            if (!texc_scaled(at->s[k], fine, -2 * side, 2 * side - 1, &place->s)) break;
-            if (!texc_scaled(at->t[k], fine, -2 * side, 2 * side - 1, &place->t)) break;
-            continue;
-        }
-        if (!texc_scaled(at->s[k], fine, -side, side, &place->s)) break;
-        if (!texc_scaled(at->t[k], fine, -side, side, &place->t)) break;
-        if (!texc_scaled(at->dsdx[k], fine, -side, side - 1, &place->dsdx)) break;
-        if (!texc_scaled(at->dtdx[k], fine, -side, side - 1, &place->dtdx)) break;
-        if (!texc_scaled(at->dsdy[k], fine, -side, side - 1, &place->dsdy)) break;
-        if (!texc_scaled(at->dtdy[k], fine, -side, side - 1, &place->dtdy)) break;
+        if (!texc_scaled(s[k], fine, -side, side, &place->s)) break;
+        if (!texc_scaled(t[k], fine, -side, side, &place->t)) break;
+        if (!texc_scaled(dsdx[k], fine, -side, side - 1, &place->dsdx)) break;
+        if (!texc_scaled(dtdx[k], fine, -side, side - 1, &place->dtdx)) break;
+        if (!texc_scaled(dsdy[k], fine, -side, side - 1, &place->dsdy)) break;
+        if (!texc_scaled(dtdy[k], fine, -side, side - 1, &place->dtdy)) break;
     }
     return i;
 }
@@ -940,31 +946,35 @@ static inline int texc_fails(int status, uint32_t detail, uint64_t value, texcac
     return status;
 }
 
-/* Makes at most TEXC_PART lookups, on one generation. */
+/* Makes lookups until one of them fails, but for those that only lack bytes. If bytes are lacking, `count` becomes less:
+ * those behind the lookup that lacks them would be made twice. Returns the error. */
 static inline uint32_t texc_part(texcache_pass *pass, const texcache_batch *batch, const texcache_place *places,
-                                 size_t count, uint16_t *out, texcache_batch_answer *said)
+                                 size_t *count, uint16_t *out, texcache_batch_answer *said)
 {
     unsigned anew = 0;
     uint32_t code;
     do {
-        code = tex_c_texture_many(pass->held, &pass->held, batch, places, count, out, count * batch->channels, said);
-    } while (__builtin_expect(code != 0, 0) && texc_goes_on(pass, code, &said->error, &anew));
+        code = tex_c_texture_many(pass->held, &pass->held, batch, places, *count, out, *count * batch->channels, said);
+        if (__builtin_expect(code == 0, 1)) break;
+        if (code == TEXCACHE_NEEDED && said->done < *count) *count = (size_t)said->done + 1;
+    } while (texc_goes_on(pass, code, &said->error, &anew));
     return code;
 }
 
 /* Makes lookups whose numbers are in range, part by part, all on one generation: if the file is replaced between two
- * parts, all begin anew. `places` has the first part. Returns the error; `done` and the answer are filled. */
+ * parts, all begin anew. `places` has the first TEXC_PART. Returns the error; `done` and the answer are filled. */
 static inline uint32_t texc_parts(texcache_pass *pass, const texcache_batch *batch, const texcache_coordinates *at,
                                   size_t count, texcache_place *places, uint16_t *out, size_t *done, texcache_answer *answer)
 {
     texcache_batch_answer said;
-    size_t from = 0;
+    size_t from = 0, size = TEXC_PART;
     uint32_t generation = 0, code;
     unsigned anew = 0;
     for (;;) {
-        size_t part = count - from < TEXC_PART ? count - from : TEXC_PART;
-        if (count > TEXC_PART) texc_places(at, from, part, places);
-        code = texc_part(pass, batch, places, part, out + from * batch->channels, &said);
+        size_t part = count - from < size ? count - from : size, planned = part;
+        texcache_place *first = places + from;
+        if (count > TEXC_PART) texc_places(at, from, part, first = places);
+        code = texc_part(pass, batch, first, &part, out + from * batch->channels, &said);
         if (from && said.generation && said.generation != generation) {
             /* the file was replaced since the part before */
             if (++anew < TEXC_AGAIN) {
@@ -979,6 +989,8 @@ static inline uint32_t texc_parts(texcache_pass *pass, const texcache_batch *bat
         if (said.generation) generation = said.generation;
         from += code ? (size_t)said.done : part;
         if (code || from == count) break;
+        /* a part that lacked bytes is made twice, so the next one is small */
+        size = part < planned ? TEXC_FEW : 2 * size < TEXC_PART ? 2 * size : TEXC_PART;
     }
     if (done) *done = from;
     if (answer) {
@@ -1038,7 +1050,7 @@ TEXCACHE_API int texcache_texture_footprint(texcache_pass *pass, uint32_t file, 
  * `done`, which may be NULL, says how many lookups stand. After success these are all. If a number is out of range they
  * are none, and nothing was written. After another error the first `done` lookups stand, all of the generation that the
  * answer names; the values behind them are unchanged unless the file was replaced during the call. If it is replaced
- * 64 times during the call, that is TEXCACHE_AGAIN. Nothing is allocated; a call makes parts of 64 lookups. */
+ * 64 times during the call, that is TEXCACHE_AGAIN. Nothing is allocated; a call makes parts of at most 64 lookups. */
 TEXCACHE_API int texcache_texture_many(texcache_pass *pass, uint32_t file, const texcache_texture_options *options,
                                        const texcache_coordinates *at, size_t count, uint16_t *out, size_t room,
                                        size_t *done, texcache_answer *answer)

@@ -343,11 +343,11 @@ static void replace_at(unsigned call, const uint16_t *at)
     if (call >= first_call && call <= last_call) replace();
 }
 
-/* Each time that the second part begins. */
+/* Each time that the first part is answered. */
 static void replace_each(unsigned call, const uint16_t *at)
 {
     static const uint16_t *latest;
-    if (call && latest == out && at == out + 64) replace();
+    if (call && latest == out && at != out) replace();
     latest = at;
 }
 

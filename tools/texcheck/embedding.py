@@ -112,6 +112,8 @@ class Tests:
             self.over_a_folder("bad use and bad input", "bad_use")
         if self.built("lookups", HERE / "lookups.c", "-std=gnu11"):
             self.over_a_folder("lookups on doubles, and many in one call", "lookups")
+        if self.built("lookups_fast", HERE / "lookups.c", "-std=gnu11", "-O3", "-ffast-math"):
+            self.over_a_folder("lookups on doubles with -ffast-math", "lookups_fast")
         for standard in ("c11", "c17"):
             self.built(f"alone in {standard}", HERE / "bad_use.c", f"-std={standard}", "-Wpedantic")
         if self.built("replaced", HERE / "replaced.c", "-std=gnu11"):

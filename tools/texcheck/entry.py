@@ -20,6 +20,7 @@ SUBCOMMANDS = {
     "textures": "textures",
     "embedding": "embedding",
     "fine": "fine",
+    "beside-oiio": "beside_oiio",
     "user-tools": "user_tools",
     "pictures": "pictures",
     "prepare": "prepare",

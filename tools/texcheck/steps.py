@@ -67,6 +67,7 @@ def steps(args, programs, library):
         ("textures", "--program", texmake, "--texcache", texcache, *readers),
         ("embedding", "--program", texcache, "--library", library, *skip),
         ("fine", "--library", library, *(["--full"] if args.proved else []), *skip),
+        ("beside-oiio", "--library", library, *skip),
         ("lists", "--program", texcache, "--texsample", texsample),
         ("failed-allocations", "--program", texcache, *skip),
         ("scripts",), ("stored-run",),
