@@ -7,7 +7,8 @@
 
 magnified: a close view of a texture of 8192 texels. ramp: a slow zoom. contrasts: how much of noise and stripes is left
 by footprints of one shape, whose pixel grid is turned. jumps: the greatest change of a value from frame to frame while
-a footprint changes slowly. times: a warm footprint. check: the first four, shorter and of texcache alone, beside limits.
+a footprint changes slowly. planes: the error of planes in perspective. times: a warm footprint. check: the first four,
+shorter and of texcache alone, beside limits.
 It needs libopenimageio-dev, openimageio-tools and numpy.
 """
 import argparse
@@ -18,7 +19,7 @@ import tempfile
 from pathlib import Path
 
 TOP = Path(__file__).resolve().parent.parent
-PARTS = ("magnified", "ramp", "contrasts", "jumps", "times")
+PARTS = ("magnified", "ramp", "contrasts", "jumps", "planes", "times")
 
 
 def said(*words):
@@ -38,6 +39,7 @@ def textures(folder):
         "noise": (255 * drawn.integers(0, 2, (1024, 1024))).astype(numpy.uint8),
         "stripes": (127.5 + 127.5 * numpy.sin(numpy.pi / 2 * (x + 0.5))).round().astype(numpy.uint8),
         "checker": (235 - 215 * ((x // 64 + y // 64) % 2)).astype(numpy.uint8),
+        "zone": (127.5 + 127.5 * numpy.cos(numpy.pi / 1024 * ((x - 511.5) ** 2 + (y - 511.5) ** 2))).round().astype(numpy.uint8),
         "wide": drawn.integers(0, 256, (512, 8192)).astype(numpy.uint8),
         "ramp": numpy.minimum(2048 * numpy.minimum(wide % 64, 63 - wide % 64), 65535).astype(numpy.uint16),
         "rgb": drawn.integers(0, 256, (1024, 1024, 3)).astype(numpy.uint8),

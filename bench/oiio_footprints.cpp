@@ -201,12 +201,12 @@ void jumps()
     const auto where = places(400);
     const double side = 1024;
     // each with the greatest jump that the model of the definitions has in 300 frames, on another noise
-    struct Scene {
+    struct Shot {
         const char *name;
         double most;
         std::function<Place(double)> frame;
     };
-    const std::vector<Scene> scenes = {
+    const std::vector<Shot> scenes = {
         {"zoom 0.5 to 64, 8:1", 4.7,
          [=](double k) { double m = 0.5 * std::exp2(7 * k); return shaped(side, 8 * m, m, 20, 35); }},
         {"ratio 1 to 20", 6.2, [=](double k) { return shaped(side, 2 * (1 + 19 * k), 2, 20, 35); }},
@@ -279,6 +279,66 @@ void ramp()
         std::printf("zoom into a ramp, %s: %ld of %ld neighbours differ by more than the ramp, by up to %.1f of 65535\n",
                     it.first, over, count, greatest);
         if (it.first[0] == 'd') limit("neighbours that differ by more than the ramp", double(over), 0);
+    }
+}
+
+struct Scene {
+    const char *name, *file;
+    double roll;
+    bool is_near;
+};
+
+// A plane seen by a camera that is rolled by degrees: where the ray of a pixel of 256 by 256 meets it. In the near one
+// most pixels are about as large as a texel, in the far one they are some four times as long.
+void meets(const Scene &scene, double x, double y, double &s, double &t)
+{
+    const double roll = scene.roll;
+    double a = (x - 128) / 128 * 0.6, b = (y - 128) / 128 * 0.6;
+    double u = a * std::cos(roll * degree) - b * std::sin(roll * degree);
+    double v = a * std::sin(roll * degree) + b * std::cos(roll * degree) + 0.9;
+    s = scene.is_near ? 0.06 * u / v + 0.5 : 0.25 * u / v;
+    t = scene.is_near ? 0.06 / v + 0.1 : 0.25 / v;
+}
+
+// The error of such views, of 1: beside the mean of 16 by 16 bilinear lookups in level 0 for each pixel.
+void planes()
+{
+    constexpr int SIDE = 256, SAMPLES = 16, ALL = SAMPLES * SAMPLES;
+    std::printf("RMS error of a plane to 16 by 16 samples a pixel\n%-24s %8s %10s %10s %12s\n", "scene", "texd", "16 probes",
+                "32 probes", "OpenImageIO");
+    std::vector<Scene> scenes;
+    for (bool is_near : {true, false})
+        for (double roll : {0.0, 30.0})
+            for (auto it : {std::make_pair("checker", "checker.tif"), std::make_pair("zone plate", "zone.tif"),
+                            std::make_pair("noise", "noise.tif")})
+                scenes.push_back({it.first, it.second, roll, is_near});
+    for (const Scene &scene : scenes) {
+        Filter filters[] = {fixed(scene.file), ours(scene.file, 16), ours(scene.file, 32), oiio(scene.file)};
+        std::uint32_t file = file_of(scene.file);
+        texcache_texture_options options = texcache_default_texture_options(1);
+        std::vector<double> s(ALL), t(ALL);
+        std::vector<std::uint16_t> values(ALL);
+        texcache_coordinates at = {s.data(), t.data(), nullptr, nullptr, nullptr, nullptr, 1};
+        double squares[4] = {0, 0, 0, 0};
+        for (int y = 0; y < SIDE; y++)
+            for (int x = 0; x < SIDE; x++) {
+                for (int i = 0; i < ALL; i++)
+                    meets(scene, x + (i % SAMPLES + 0.5) / SAMPLES, y + (i / SAMPLES + 0.5) / SAMPLES, s[i], t[i]);
+                if (texcache_texture_many(pass, file, &options, &at, ALL, values.data(), ALL, nullptr, nullptr)) stop("texcache");
+                double mean = 0, sx, tx, sy, ty;
+                for (auto it : values) mean += it / 257.0 / ALL;
+                Place p;
+                meets(scene, x + 0.5, y + 0.5, p.s, p.t);
+                meets(scene, x + 1.5, y + 0.5, sx, tx), meets(scene, x + 0.5, y + 1.5, sy, ty);
+                p.dsdx = sx - p.s, p.dtdx = tx - p.t, p.dsdy = sy - p.s, p.dtdy = ty - p.t;
+                for (int k = 0; k < 4; k++) {
+                    double by = (filters[k](p) - mean) / 255;
+                    squares[k] += by * by / (SIDE * SIDE);
+                }
+            }
+        std::string name = std::string(scene.name) + (scene.roll ? ", rolled" : "") + (scene.is_near ? ", near" : ", far");
+        std::printf("%-24s %8.4f %10.4f %10.4f %12.4f\n", name.c_str(), std::sqrt(squares[0]), std::sqrt(squares[1]),
+                    std::sqrt(squares[2]), std::sqrt(squares[3]));
     }
 }
 
@@ -407,6 +467,7 @@ int main(int count, char **words)
     else if (mode == "contrasts") contrasts();
     else if (mode == "jumps") jumps();
     else if (mode == "times") times();
+    else if (mode == "planes") planes();
     else if (mode == "pictures") pictures();
     else if (mode == "check") is_check = true, magnified(), ramp(), contrasts(), jumps();
     else return 2;
