@@ -2,13 +2,14 @@
 """What a warm lookup through texcache.h costs, beside OpenImageIO, and the renderer with textures of 1 GB.
 
     python3 bench/embedded.py [--library FILE] [--folder FOLDER] [--name FILE] [--passes N]
+    python3 bench/embedded.py --python               # 4,096 lookups in a call of python/texcache.py, with numpy
     python3 bench/embedded.py --renderer [FOLDER]    # 64 textures of 1.07 GB, made in FOLDER or a folder that goes again
 
-It measures a bilinear texcache_texture of three channels within one cell of a file, with 1, 4 and 8 threads, over the
-library that ./build tex_c makes; and TextureSystem::texture at the same coordinates, if OpenImageIO's headers are
-installed. A time is the wall time of all threads together, divided by the lookups of one thread; the least of several
-passes, alternated between the two. Instructions per lookup come from 200,000 additional lookups. The first line has the
-load of the machine.
+It measures bilinear lookups of three channels within one cell of a file, with 1, 4 and 8 threads, over the library that
+./build tex_c makes: on doubles, 64 in a call of texcache_texture_many and single ones, and those in 1/65536 of the
+image; and TextureSystem::texture at the same coordinates, if OpenImageIO's headers are installed. A time is the wall
+time of all threads together, divided by the lookups of one thread; the least of several passes, alternated between all.
+Instructions per lookup come from 200,000 additional lookups. The first line has the load of the machine.
 """
 import argparse
 import os
@@ -37,10 +38,10 @@ def programs(words, made):
     last, linked = over(words.library)
     own, other = Path(made) / "embedded", Path(made) / "oiio_lookups"
     output_of(["cc", "-std=gnu11", "-O2", f"-I{TOP / 'include'}", "-o", own, TOP / "bench" / "embedded.c", *linked, *last])
-    yield "texcache", own
+    yield from (("64 in a call", own, "many"), ("single", own, "single"), ("1/65536", own, "fixed"))
     try:
         output_of(["c++", "-std=c++17", "-O2", "-o", other, TOP / "bench" / "oiio_lookups.cpp", "-lOpenImageIO", "-lOpenImageIO_Util"])
-        yield "OpenImageIO", other
+        yield "OpenImageIO", other, None
     except (subprocess.CalledProcessError, FileNotFoundError):
         print("no OpenImageIO: it is not measured")
 
@@ -49,23 +50,56 @@ def lookups(words):
     with tempfile.TemporaryDirectory() as made:
         found = list(programs(words, made))
 
-        def run(program, threads, count, *before):
-            return output_of([*before, program, words.folder, words.name, threads, count])
+        def run(program, kind, threads, count, *before):
+            return output_of([*before, program, words.folder, words.name, threads, count, *([kind] if kind else [])])
 
         for threads in (1, 4, 8):
             least = {}
             for _ in range(words.passes):
-                for name, program in found:
-                    nanos = float(re.search(r"ns ([\d.]+)", run(program, threads, 2000000)).group(1))
+                for name, program, kind in found:
+                    nanos = float(re.search(r"ns ([\d.]+)", run(program, kind, threads, 2000000)).group(1))
                     least[name] = min(nanos, least.get(name, nanos))
             print(f"{threads} threads, ns a lookup:", ", ".join(f"{name} {it:.1f}" for name, it in least.items()), flush=True)
         if shutil.which("valgrind"):
-            for name, program in found:
+            for name, program, kind in found:
                 counts = []
-                for count in (1000, 201000):
-                    said = run(program, 1, count, "valgrind", "--tool=callgrind", f"--callgrind-out-file={made}/out")
+                for count in (1024, 201024):
+                    said = run(program, kind, 1, count, "valgrind", "--tool=callgrind", f"--callgrind-out-file={made}/out")
                     counts.append(int(re.search(r"Collected : (\d+)", said).group(1)))
                 print(f"instructions a lookup: {name} {(counts[1] - counts[0]) / 200000:.0f}", flush=True)
+
+
+IN_PYTHON = """
+import sys, time
+sys.path.insert(0, sys.argv[1])
+import numpy, texcache
+with texcache.Cache(sys.argv[2]) as cache, cache.perthread() as textures:
+    file, n = cache.find(sys.argv[3]), numpy.arange(4096)
+    s, t = 0.06 + n % 64 / 65536, 0.06 + n // 64 / 65536
+    round_ = (s, t, 0 * s + 0.01, 0 * s, 0 * s, 0 * s + 0.01)
+    calls = {"points": lambda: textures.texture(file, s, t),
+             "points as floats": lambda: textures.texture(file, s, t, floats=True),
+             "round footprints": lambda: textures.texture_footprint(file, *round_),
+             "one point": lambda: textures.texture(file, 0.06, 0.06)}
+    least = dict.fromkeys(calls, 1e9)
+    for _ in range(200):
+        for name, call in calls.items():
+            began = time.perf_counter()
+            call()
+            least[name] = min(least[name], time.perf_counter() - began)
+    each = (f"{name} {1e6 * it / (1 if name == 'one point' else 4096):.3f}" for name, it in least.items())
+    print("Python, us a lookup:", ", ".join(each))
+"""
+
+
+def in_python(words):
+    with tempfile.TemporaryDirectory() as made:
+        last, linked = over(words.library)
+        shared = Path(made) / "libtexcache.so"
+        output_of(["cc", "-O2", "-shared", "-fPIC", f"-I{TOP / 'include'}", "-o", shared, TOP / "python" / "texcache_shared.c",
+              *linked, *last])
+        os.environ["TEXCACHE_LIBRARY"] = str(shared)
+        print(output_of([sys.executable, "-c", IN_PYTHON, TOP / "python", words.folder, words.name]), end="")
 
 
 def renderer(words, folder):
@@ -92,10 +126,13 @@ def main():
     asked.add_argument("--folder", type=Path, default=TOP / "demo")
     asked.add_argument("--name", default="hills.tif")
     asked.add_argument("--passes", type=int, default=5)
+    asked.add_argument("--python", action="store_true")
     asked.add_argument("--renderer", nargs="?", const="", metavar="FOLDER")
     words = asked.parse_args()
     print("load", *(f"{it:.1f}" for it in os.getloadavg()), "on", os.cpu_count(), "processors", flush=True)
-    if words.renderer is None:
+    if words.python:
+        in_python(words)
+    elif words.renderer is None:
         lookups(words)
     else:
         renderer(words, Path(words.renderer) if words.renderer else None)

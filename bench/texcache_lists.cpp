@@ -74,7 +74,7 @@ class Worker {
     found.word = Answer::Word::Tex;
     found.first = store.size(), found.values = size_t(request.channels);
     store.resize(found.first + found.values);
-    int error = texcache_texture(pass, file.number, &at, store.data() + found.first, found.values, &said);
+    int error = texcache_texture_fixed(pass, file.number, &at, store.data() + found.first, found.values, &said);
     if (!error) return found;
     store.resize(found.first);
     return refused(error, said);

@@ -6,12 +6,12 @@
  *     texcache *cache;
  *     texcache_pass *pass = NULL;
  *     uint32_t file;
- *     uint16_t values[3];
+ *     uint16_t rgb[3];
+ *     texcache_texture_options options = texcache_default_texture_options(3);
  *     if (texcache_open(&cache, "textures", NULL) == TEXCACHE_OK
  *         && texcache_perthread(cache, &pass) == TEXCACHE_OK
  *         && texcache_find(cache, "wall.tif", &file) == TEXCACHE_OK) {
- *         texcache_lookup at = texcache_lookup_at(32768, 32768, 0, 3);
- *         int refused = texcache_texture(pass, file, &at, values, 3, NULL);
+ *         int refused = texcache_texture(pass, file, &options, 0.5, 0.5, rgb, 3, NULL);
  *         if (refused) fprintf(stderr, "%s\n", texcache_error_string(refused));
  *     }
  *     texcache_end(&pass);
@@ -38,7 +38,6 @@
 #include <dirent.h>
 #include <errno.h>
 #include <fcntl.h>
-#include <math.h>
 #include <pthread.h>
 #include <sched.h>
 #include <stdbool.h>
@@ -66,8 +65,8 @@ enum texcache_status {
     TEXCACHE_NEEDED = 1,            /* the library needs bytes; no texcache_ call answers this */
     TEXCACHE_BAD_OPTIONS = 2,       /* detail: 1 budget, 2 shards, 3 passes, 4 handles, 5 autotile, 6 slots */
     TEXCACHE_NO_FILE = 3,           /* no file has this number */
-    TEXCACHE_BAD_REQUEST = 4,       /* a number of the request is out of range */
-    TEXCACHE_SMALL_BUFFER = 5,      /* value: how many values there are */
+    TEXCACHE_BAD_REQUEST = 4,       /* a number is out of range; detail and value: enum texcache_bad_number */
+    TEXCACHE_SMALL_BUFFER = 5,      /* value: how many values there are (not of the calls named _fixed) */
     TEXCACHE_NO_PERMIT = 6,         /* the cache has as many passes as it may have */
     TEXCACHE_NOT_LOCAL = 7,         /* the pass's two latest tiles do not have all texels of the lookup */
     TEXCACHE_NOTHING_HELD = 8,      /* no tile is held at that place */
@@ -131,7 +130,7 @@ typedef struct texcache_answer {
     uint32_t newer;        /* AGAIN: the newer version */
     uint32_t detail;
     uint32_t part;         /* BAD_FILE: a tag or a level */
-    uint64_t value;        /* BAD_FILE: a value or an index; get_pixels: the number of values */
+    uint64_t value;        /* BAD_FILE: a value or an index; BAD_REQUEST: an index; the number of values */
     uint32_t channels;     /* get_pixels: the values of each texel */
     uint32_t need;         /* 0 nothing, 1 a look at a file, 2 bytes of it, 3 rows of it */
     uint32_t need_file;
@@ -144,15 +143,44 @@ enum texcache_wrap { TEXCACHE_BLACK, TEXCACHE_CLAMP, TEXCACHE_PERIODIC, TEXCACHE
 
 enum texcache_filter { TEXCACHE_CLOSEST, TEXCACHE_BILINEAR, TEXCACHE_TRILINEAR };
 
-/* A lookup. Coordinates and derivatives are in 1/65536 of the image, S from its left edge across and T
- * from its upper edge down; LOD is in 1/65536 of a level, 0 the largest. */
+/* How texture coordinates become values, for one lookup or many. texcache_default_texture_options sets all of it. */
+typedef struct texcache_texture_options {
+    uint32_t swrap, twrap;  /* enum texcache_wrap */
+    uint32_t channels;      /* 1 to 8, from channel 0 on; a channel that the file lacks is 0 */
+    uint32_t filter;        /* without derivatives: enum texcache_filter */
+    double lod;             /* without derivatives: the level, 0 the largest, -32768 to 65535.99; below 0 it counts as 0 */
+    uint32_t max_probes;    /* with derivatives: the most probes along the footprint, 1 to 32, usually 1, 8, 16 or 32 */
+} texcache_texture_options;
+
+/* Which number of a lookup is out of range: `detail` of TEXCACHE_BAD_REQUEST. */
+enum texcache_bad_number {
+    TEXCACHE_BAD_SWRAP = 1,
+    TEXCACHE_BAD_TWRAP,
+    TEXCACHE_BAD_CHANNELS,
+    TEXCACHE_BAD_FILTER,
+    TEXCACHE_BAD_LOD,
+    TEXCACHE_BAD_MAX_PROBES,
+    TEXCACHE_BAD_PLACE  /* a coordinate or a derivative; value: the index of the first such lookup */
+};
+
+/* The coordinates of many lookups, and their derivatives, or NULL for all four. Those of lookup i are at i * step:
+ * with step 1 each is an array of its own, with step 6 all are in one array of structs of six doubles. */
+typedef struct texcache_coordinates {
+    const double *s, *t;
+    const double *dsdx, *dtdx, *dsdy, *dtdy;
+    size_t step;
+} texcache_coordinates;
+
+/* A lookup of the calls that end in _fixed, which have the units of the program's requests. Coordinates and
+ * derivatives are in 1/65536 of the image, S from its left edge across and T from its upper edge down; LOD is in
+ * 1/65536 of a level, 0 the largest. */
 typedef struct texcache_lookup {
     int32_t s, t;
     uint32_t lod;
     uint32_t swrap, twrap;  /* enum texcache_wrap */
     uint32_t filter;        /* enum texcache_filter */
     uint32_t channels;      /* 1 to 8, from channel 0 on */
-    int32_t dsdx, dtdx, dsdy, dtdy;  /* of texcache_texture_d, which takes no LOD and no filter */
+    int32_t dsdx, dtdx, dsdy, dtdy;  /* of texcache_texture_d_fixed, which takes no LOD and no filter */
 } texcache_lookup;
 
 /* What a file is. */
@@ -211,6 +239,27 @@ typedef struct texcache_rows {
     uint64_t at, stride, row;
 } texcache_rows;
 
+/* What many lookups of the library have in common. LOD is in 1/65536 of a level. */
+typedef struct texcache_batch {
+    uint32_t file;
+    uint32_t max_probes;  /* 1 to 32; 0 for lookups without derivatives */
+    uint32_t lod, filter; /* without derivatives */
+    uint32_t swrap, twrap, channels;
+} texcache_batch;
+
+/* Where a lookup of the library is, in 1/2^32 of the image. Without derivatives s and t alone are read. */
+typedef struct texcache_place {
+    int64_t s, t, dsdx, dtdx, dsdy, dtdy;
+} texcache_place;
+
+/* What the library says of many lookups: how many are answered before an error, or which is the first out of range;
+ * the generation that they are of; and what belongs to the error. */
+typedef struct texcache_batch_answer {
+    uint64_t done;
+    uint32_t generation;
+    texcache_answer error;
+} texcache_batch_answer;
+
 uint32_t tex_c_new(texcache_held *to, const texcache_options *options, uint32_t files, texcache_answer *answer);
 uint32_t tex_c_split(texcache_held from, texcache_held *to, texcache_held *second);
 void tex_c_free(texcache_held from, texcache_held none, texcache_held *to);
@@ -221,6 +270,9 @@ uint32_t tex_c_texture_d(texcache_held from, texcache_held *to, uint32_t file, c
                          uint16_t *out, size_t room, texcache_answer *answer);
 uint32_t tex_c_texture_local(texcache_held from, texcache_held *to, uint32_t file, const texcache_lookup *lookup,
                              uint16_t *out, size_t room, texcache_answer *answer);
+uint32_t tex_c_texture_many(texcache_held from, texcache_held *to, const texcache_batch *batch,
+                            const texcache_place *places, size_t count, uint16_t *out, size_t room,
+                            texcache_batch_answer *answer);
 uint32_t tex_c_pixels(texcache_held from, texcache_held *to, uint32_t file, const texcache_region *region,
                       uint16_t *out, size_t room, texcache_answer *answer);
 uint32_t tex_c_get_tile(texcache_held from, texcache_held *to, uint32_t file, const texcache_texel *at,
@@ -254,6 +306,9 @@ uint32_t tex_c_supply_fault(texcache_held from, texcache_held *to);
 /* How often a call is repeated because its file was replaced, or because a shard is busy. */
 #define TEXC_AGAIN 64
 #define TEXC_TRIES 100000
+/* How many lookups the library makes at once, and how many after it lacked bytes. */
+#define TEXC_PART 64
+#define TEXC_FEW 4
 
 /* An open file of one generation. It is closed when nobody reads it and it is no longer its file's. */
 typedef struct texc_open {
@@ -778,7 +833,237 @@ TEXCACHE_API int texcache_get_info(texcache_pass *pass, uint32_t file, texcache_
     TEXC_CALL(pass, answer, tex_c_info(pass->held, &pass->held, file, info, texc_said));
 }
 
-/* ---- lookups */
+/* ---- lookups
+ *
+ * Coordinates are fractions of the image: s from its left edge across, t from its upper edge down. Derivatives are
+ * those of s and t from a pixel to the next one to the right (dsdx, dtdx) and to the next one below (dsdy, dtdy).
+ * Each is rounded to 1/2^32 of the image, floor(2^32 * s + 0.5). Ranges:
+ *
+ *     without derivatives: s, t from -32768 to below 32768
+ *     with derivatives:    s, t from -16384 to 16384; derivatives from -16384 to below 16384
+ *
+ * Other numbers, NaN and infinity are TEXCACHE_BAD_REQUEST, and nothing is looked up. Values are 16-bit, 0 to 65535,
+ * whatever the file's depth; a channel is 1.0 at 65535. docs/FILTERING.md says exactly which values.
+ *
+ * These calls always fill the answer, and after an error with what belongs to it. The values are then unchanged, except
+ * those of texcache_texture_many that stand. */
+
+/* Options with periodic wraps, the bilinear filter, level 0 and 16 probes. */
+TEXCACHE_API texcache_texture_options texcache_default_texture_options(uint32_t channels)
+{
+    texcache_texture_options o = {TEXCACHE_PERIODIC, TEXCACHE_PERIODIC, channels, TEXCACHE_BILINEAR, 0, 16};
+    return o;
+}
+
+/* A value as a float from 0 to 1. */
+TEXCACHE_API float texcache_float(uint16_t value)
+{
+    return (float)value / 65535.0f;
+}
+
+/* Values as floats from 0 to 1. */
+TEXCACHE_API void texcache_floats(const uint16_t *values, size_t count, float *out)
+{
+    for (size_t i = 0; i < count; i++) out[i] = (float)values[i] / 65535.0f;
+}
+
+/* floor(scale * value + 0.5) in `out`, if it is from least to most; scale is a power of 2. The exponent is tested by
+ * its bits, since -ffast-math lets a compiler drop a test for NaN. */
+static inline __attribute__((always_inline)) int texc_scaled(double value, double scale, int64_t least, int64_t most,
+                                                             int64_t *out)
+{
+    uint64_t bits;
+    memcpy(&bits, &value, sizeof bits);
+    if (__builtin_expect(bits << 1 >= (uint64_t)(1023 + 17) << 53, 0)) return 0;
+    double at = value * scale + 0.5;
+    int64_t found = (int64_t)at;
+    found -= (double)found > at;
+    *out = found;
+    return (uint64_t)found - (uint64_t)least <= (uint64_t)most - (uint64_t)least;
+}
+
+/* The places of `count` lookups from `first` on, of which the last TEXC_PART are kept. Returns how many are in range
+ * before the first that is not. */
+static inline size_t texc_places(const texcache_coordinates *at, size_t first, size_t count, texcache_place *to)
+{
+    const int64_t side = INT64_C(1) << 46;
+    const double fine = 4294967296.0, *s = at->s + first * at->step, *t = at->t + first * at->step;
+    const size_t step = at->step;
+    size_t i, k = 0;
+    if (!at->dsdx) {
+        for (i = 0; i < count; i++, s += step, t += step) {
+            texcache_place *place = &to[i % TEXC_PART];
+            if (!texc_scaled(*s, fine, -2 * side, 2 * side - 1, &place->s)) break;
+            if (!texc_scaled(*t, fine, -2 * side, 2 * side - 1, &place->t)) break;
+        }
+        return i;
+    }
+    const double *dsdx = at->dsdx + first * step, *dtdx = at->dtdx + first * step;
+    const double *dsdy = at->dsdy + first * step, *dtdy = at->dtdy + first * step;
+    for (i = 0; i < count; i++, k += step) {
+        texcache_place *place = &to[i % TEXC_PART];
+        if (!texc_scaled(s[k], fine, -side, side, &place->s)) break;
+        if (!texc_scaled(t[k], fine, -side, side, &place->t)) break;
+        if (!texc_scaled(dsdx[k], fine, -side, side - 1, &place->dsdx)) break;
+        if (!texc_scaled(dtdx[k], fine, -side, side - 1, &place->dtdx)) break;
+        if (!texc_scaled(dsdy[k], fine, -side, side - 1, &place->dsdy)) break;
+        if (!texc_scaled(dtdy[k], fine, -side, side - 1, &place->dtdy)) break;
+    }
+    return i;
+}
+
+/* The options as the library takes them. Returns which is out of range, or 0. */
+static inline uint32_t texc_batch(const texcache_texture_options *o, uint32_t file, int is_footprint, texcache_batch *to)
+{
+    int64_t lod = 0;
+    if (o->swrap > TEXCACHE_MIRROR) return TEXCACHE_BAD_SWRAP;
+    if (o->twrap > TEXCACHE_MIRROR) return TEXCACHE_BAD_TWRAP;
+    if (o->channels - 1 > 7) return TEXCACHE_BAD_CHANNELS;
+    if (is_footprint) {
+        if (o->max_probes - 1 > 31) return TEXCACHE_BAD_MAX_PROBES;
+    } else {
+        if (o->filter > TEXCACHE_TRILINEAR) return TEXCACHE_BAD_FILTER;
+        if (!texc_scaled(o->lod, 65536.0, INT32_MIN, UINT32_MAX, &lod)) return TEXCACHE_BAD_LOD;
+    }
+    to->file = file;
+    to->max_probes = is_footprint ? o->max_probes : 0;
+    to->lod = lod < 0 ? 0 : (uint32_t)lod;
+    to->filter = is_footprint ? 0 : o->filter;
+    to->swrap = o->swrap;
+    to->twrap = o->twrap;
+    to->channels = o->channels;
+    return 0;
+}
+
+/* A call that fails before it reaches the library. */
+static inline int texc_fails(int status, uint32_t detail, uint64_t value, texcache_answer *answer)
+{
+    if (answer) {
+        memset(answer, 0, sizeof *answer);
+        answer->detail = detail;
+        answer->value = value;
+    }
+    return status;
+}
+
+/* Makes lookups until one of them fails, but for those that only lack bytes. If bytes are lacking, `count` becomes less:
+ * those behind the lookup that lacks them would be made twice. Returns the error. */
+static inline uint32_t texc_part(texcache_pass *pass, const texcache_batch *batch, const texcache_place *places,
+                                 size_t *count, uint16_t *out, texcache_batch_answer *said)
+{
+    unsigned anew = 0;
+    uint32_t code;
+    do {
+        code = tex_c_texture_many(pass->held, &pass->held, batch, places, *count, out, *count * batch->channels, said);
+        if (__builtin_expect(code == 0, 1)) break;
+        if (code == TEXCACHE_NEEDED && said->done < *count) *count = (size_t)said->done + 1;
+    } while (texc_goes_on(pass, code, &said->error, &anew));
+    return code;
+}
+
+/* Makes lookups whose numbers are in range, part by part, all on one generation: if the file is replaced between two
+ * parts, all begin anew. `places` has the first TEXC_PART. Returns the error; `done` and the answer are filled. */
+static inline uint32_t texc_parts(texcache_pass *pass, const texcache_batch *batch, const texcache_coordinates *at,
+                                  size_t count, texcache_place *places, uint16_t *out, size_t *done, texcache_answer *answer)
+{
+    texcache_batch_answer said;
+    size_t from = 0, size = TEXC_PART;
+    uint32_t generation = 0, code;
+    unsigned anew = 0;
+    for (;;) {
+        size_t part = count - from < size ? count - from : size, planned = part;
+        texcache_place *first = places + from;
+        if (count > TEXC_PART) texc_places(at, from, part, first = places);
+        code = texc_part(pass, batch, first, &part, out + from * batch->channels, &said);
+        if (from && said.generation && said.generation != generation) {
+            /* the file was replaced since the part before */
+            if (++anew < TEXC_AGAIN) {
+                from = 0;
+                continue;
+            }
+            memset(&said.error, 0, sizeof said.error);
+            said.error.newer = said.generation;
+            code = TEXCACHE_AGAIN;
+            break;
+        }
+        if (said.generation) generation = said.generation;
+        from += code ? (size_t)said.done : part;
+        if (code || from == count) break;
+        /* a part that lacked bytes is made twice, so the next one is small */
+        size = part < planned ? TEXC_FEW : 2 * size < TEXC_PART ? 2 * size : TEXC_PART;
+    }
+    if (done) *done = from;
+    if (answer) {
+        *answer = said.error;
+        if (!answer->generation) answer->generation = generation;
+    }
+    return code;
+}
+
+/* Makes lookups, of which `count` is 1 in the calls for one. */
+static inline int texc_look_up(texcache_pass *pass, uint32_t file, const texcache_texture_options *options,
+                               const texcache_coordinates *at, size_t count, uint16_t *out, size_t room, size_t *done,
+                               texcache_place *places, texcache_answer *answer)
+{
+    texcache_batch batch;
+    uint32_t bad;
+    size_t good;
+    int status;
+    if (done) *done = 0;
+    if (!pass || !options || !out) return texc_fails(TEXCACHE_CLOSED, 0, 0, answer);
+    if ((bad = texc_batch(options, file, at->dsdx != NULL, &batch))) return texc_fails(TEXCACHE_BAD_REQUEST, bad, 0, answer);
+    good = texc_places(at, 0, count, places);
+    if (good < count) return texc_fails(TEXCACHE_BAD_REQUEST, TEXCACHE_BAD_PLACE, good, answer);
+    if (room / batch.channels < count) return texc_fails(TEXCACHE_SMALL_BUFFER, 0, (uint64_t)count * batch.channels, answer);
+    if ((status = texc_enter(pass))) return texc_fails(status, 0, 0, answer);
+    status = (int)texc_parts(pass, &batch, at, count, places, out, done, answer);
+    texc_leave(pass);
+    return status;
+}
+
+/* The values of a lookup at a place, by the filter and in the level of the options: OpenImageIO's `texture` without
+ * derivatives. `out` has room for `room` values, at least options->channels. The answer may be NULL. */
+TEXCACHE_API int texcache_texture(texcache_pass *pass, uint32_t file, const texcache_texture_options *options, double s,
+                                  double t, uint16_t *out, size_t room, texcache_answer *answer)
+{
+    texcache_coordinates at = {&s, &t, NULL, NULL, NULL, NULL, 1};
+    texcache_place place;
+    return texc_look_up(pass, file, options, &at, 1, out, room, NULL, &place, answer);
+}
+
+/* The values over a pixel's footprint, the ellipse that its derivatives span: OpenImageIO's `texture` with
+ * derivatives. It is trilinear if the footprint is round, or options->max_probes is below 3. Otherwise it is the
+ * weighted mean of up to max_probes trilinear probes along the longer axis, always an odd number of them. */
+TEXCACHE_API int texcache_texture_footprint(texcache_pass *pass, uint32_t file, const texcache_texture_options *options,
+                                            double s, double t, double dsdx, double dtdx, double dsdy, double dtdy,
+                                            uint16_t *out, size_t room, texcache_answer *answer)
+{
+    texcache_coordinates at = {&s, &t, &dsdx, &dtdx, &dsdy, &dtdy, 1};
+    texcache_place place;
+    return texc_look_up(pass, file, options, &at, 1, out, room, NULL, &place, answer);
+}
+
+/* The values of `count` lookups of one file, those of lookup i from out[i * options->channels] on: exactly those of as
+ * many single calls, and all of one generation, which the answer names. With derivatives they are footprints. `out` has
+ * room for `room` values.
+ *
+ * `done`, which may be NULL, says how many lookups stand. After success these are all. If a number is out of range they
+ * are none, and nothing was written. After another error the first `done` lookups stand, all of the generation that the
+ * answer names; the values behind them are unchanged unless the file was replaced during the call. If it is replaced
+ * 64 times during the call, that is TEXCACHE_AGAIN. Nothing is allocated; a call makes parts of at most 64 lookups. */
+TEXCACHE_API int texcache_texture_many(texcache_pass *pass, uint32_t file, const texcache_texture_options *options,
+                                       const texcache_coordinates *at, size_t count, uint16_t *out, size_t room,
+                                       size_t *done, texcache_answer *answer)
+{
+    texcache_place places[TEXC_PART];
+    if (done) *done = 0;
+    if (!at || !at->s || !at->t || !at->dsdx != !at->dtdx || !at->dsdx != !at->dsdy || !at->dsdx != !at->dtdy)
+        return texc_fails(TEXCACHE_CLOSED, 0, 0, answer);
+    return texc_look_up(pass, file, options, at, count, out, room, done, places, answer);
+}
+
+/* ---- lookups in the units of the program's requests: 1/65536 of the image. A texture that is much enlarged shows
+ * these steps; the calls above do not. docs/FILTERING.md, "Footprints", says what texcache_texture_d_fixed filters. */
 
 /* A lookup with periodic wraps and the bilinear filter. */
 TEXCACHE_API texcache_lookup texcache_lookup_at(int32_t s, int32_t t, uint32_t lod, uint32_t channels)
@@ -788,82 +1073,31 @@ TEXCACHE_API texcache_lookup texcache_lookup_at(int32_t s, int32_t t, uint32_t l
 }
 
 /* The 16-bit values of a lookup at S, T and LOD. */
-TEXCACHE_API int texcache_texture(texcache_pass *pass, uint32_t file, const texcache_lookup *r, uint16_t *out,
-                                  size_t room, texcache_answer *answer)
+TEXCACHE_API int texcache_texture_fixed(texcache_pass *pass, uint32_t file, const texcache_lookup *r, uint16_t *out,
+                                        size_t room, texcache_answer *answer)
 {
     if (!r || !out) return TEXCACHE_CLOSED;
     TEXC_CALL(pass, answer, tex_c_texture(pass->held, &pass->held, file, r, out, room, texc_said));
 }
 
 /* The 16-bit values of a lookup along a pixel's footprint, by its derivatives. */
-TEXCACHE_API int texcache_texture_d(texcache_pass *pass, uint32_t file, const texcache_lookup *r, uint16_t *out,
-                                    size_t room, texcache_answer *answer)
+TEXCACHE_API int texcache_texture_d_fixed(texcache_pass *pass, uint32_t file, const texcache_lookup *r, uint16_t *out,
+                                          size_t room, texcache_answer *answer)
 {
     if (!r || !out) return TEXCACHE_CLOSED;
     TEXC_CALL(pass, answer, tex_c_texture_d(pass->held, &pass->held, file, r, out, room, texc_said));
 }
 
-/* Like texcache_texture, but only if the pass's two latest tiles have all texels; never reads. Otherwise
+/* Like texcache_texture_fixed, but only if the pass's two latest tiles have all texels; never reads. Otherwise
  * TEXCACHE_NOT_LOCAL. */
-TEXCACHE_API int texcache_texture_local(texcache_pass *pass, uint32_t file, const texcache_lookup *r, uint16_t *out,
-                                        size_t room, texcache_answer *answer)
+TEXCACHE_API int texcache_texture_local_fixed(texcache_pass *pass, uint32_t file, const texcache_lookup *r, uint16_t *out,
+                                              size_t room, texcache_answer *answer)
 {
     if (!r || !out) return TEXCACHE_CLOSED;
     TEXC_CALL(pass, answer, tex_c_texture_local(pass->held, &pass->held, file, r, out, room, texc_said));
 }
 
-/* floor(65536 * value + 0.5), if it is in a range. */
-static inline int texc_fixed(double value, double least, double most, int32_t *out)
-{
-    double found = floor(value * 65536.0 + 0.5);
-    if (!(found >= least && found <= most)) return 0;
-    *out = (int32_t)found;
-    return 1;
-}
-
-/* Makes a lookup from floats: coordinates and derivatives as fractions of the image, rounded to 1/65536. The LOD is
- * 65536 * log2(p), if the longer side of a pixel is p texels of level 0. Wraps, filter and channels are those of
- * `like`. With `along` it is a lookup along the footprint, which takes no filter. */
-TEXCACHE_API int texcache_round(texcache_lookup *r, const texcache_lookup *like, const texcache_info *info, double s,
-                                double t, double dsdx, double dtdx, double dsdy, double dtdy, bool along)
-{
-    const double end = 1073741824.0, edge = 2147483648.0;
-    *r = *like;
-    if (along) {
-        return texc_fixed(s, -end, end - 1, &r->s) && texc_fixed(t, -end, end - 1, &r->t)
-            && texc_fixed(dsdx, -end, end - 1, &r->dsdx) && texc_fixed(dtdx, -end, end - 1, &r->dtdx)
-            && texc_fixed(dsdy, -end, end - 1, &r->dsdy) && texc_fixed(dtdy, -end, end - 1, &r->dtdy)
-            ? TEXCACHE_OK : TEXCACHE_BAD_REQUEST;
-    }
-    if (!texc_fixed(s, -edge, edge - 1, &r->s) || !texc_fixed(t, -edge, edge - 1, &r->t)) return TEXCACHE_BAD_REQUEST;
-    double right = hypot(dsdx * info->width, dtdx * info->height);
-    double below = hypot(dsdy * info->width, dtdy * info->height);
-    double longest = right > below ? right : below;
-    double lod = longest > 1 ? floor(65536.0 * log2(longest) + 0.5) : 0;
-    r->lod = lod >= 4294967295.0 ? UINT32_MAX : lod >= 0 ? (uint32_t)lod : 0;
-    return TEXCACHE_OK;
-}
-
-/* The values of a lookup with floats, as floats from 0 to 1. */
-TEXCACHE_API int texcache_texture_f(texcache_pass *pass, uint32_t file, const texcache_lookup *like, float s, float t,
-                                    float dsdx, float dtdx, float dsdy, float dtdy, bool along, float *out,
-                                    size_t room, texcache_answer *answer)
-{
-    texcache_lookup r;
-    texcache_info info;
-    uint16_t values[8];
-    memset(&info, 0, sizeof info);
-    if (!like || !out) return TEXCACHE_CLOSED;
-    if (room < like->channels) return TEXCACHE_SMALL_BUFFER;
-    bool has_derivatives = dsdx != 0 || dtdx != 0 || dsdy != 0 || dtdy != 0;
-    int refused = along || !has_derivatives ? TEXCACHE_OK : texcache_get_info(pass, file, &info, answer);
-    if (!refused) refused = texcache_round(&r, like, &info, s, t, dsdx, dtdx, dsdy, dtdy, along);
-    if (!refused) refused = along ? texcache_texture_d(pass, file, &r, values, 8, answer)
-                                  : texcache_texture(pass, file, &r, values, 8, answer);
-    if (!refused)
-        for (uint32_t c = 0; c < like->channels; c++) out[c] = (float)values[c] / 65535.0f;
-    return refused;
-}
+/* ---- regions */
 
 /* The 16-bit values of a region, row by row, channels side by side. The answer has the channels and the number of
  * values. If the buffer is too small it is TEXCACHE_SMALL_BUFFER. */

@@ -2,7 +2,8 @@
 //
 //     texcache_cpp::Cache cache("textures");
 //     texcache_cpp::Pass pass(cache);                    // one for each thread
-//     std::vector<std::uint16_t> wall = pass.texture(cache.find("wall.tif"), texcache_lookup_at(32768, 32768, 0, 3));
+//     std::uint16_t rgb[3];
+//     pass.texture(cache.find("wall.tif"), texcache_default_texture_options(3), 0.5, 0.5, rgb);
 //
 // A refusal is thrown as a Refused, which has its number, its text and what belongs to it. A pass ends before
 // its cache does. What a caller must see to is in texcache.h.
@@ -11,9 +12,12 @@
 
 #include "texcache.h"
 
+#include <cstddef>
 #include <cstdint>
+#include <initializer_list>
 #include <stdexcept>
 #include <string>
+#include <type_traits>
 #include <utility>
 #include <vector>
 
@@ -33,6 +37,24 @@ inline void check(int status, const texcache_answer &answer = texcache_answer())
 {
     if (status != TEXCACHE_OK) throw Refused(status, answer);
 }
+
+// Elements side by side that belong to the caller: of a pointer and a count, of an array, or of what has data() and
+// size(), as std::vector, std::array and std::span.
+template <class T> class Span {
+public:
+    Span(T *data, std::size_t size) noexcept : data_(data), size_(size) {}
+    template <std::size_t N> Span(T (&array)[N]) noexcept : data_(array), size_(N) {}
+    template <class From, class = typename std::enable_if<std::is_convertible<
+        decltype(std::declval<From &>().data()), T *>::value>::type>
+    Span(From &&from) noexcept : data_(from.data()), size_(from.size()) {}
+
+    T *data() const noexcept { return data_; }
+    std::size_t size() const noexcept { return size_; }
+
+private:
+    T *data_;
+    std::size_t size_;
+};
 
 // A cache of the plain files of a folder.
 class Cache {
@@ -89,28 +111,76 @@ public:
         return info;
     }
 
-    // The values of a lookup at S, T and LOD, and along a footprint.
-    std::vector<std::uint16_t> texture(std::uint32_t file, const texcache_lookup &r, texcache_answer *said = nullptr)
+    // Writes the values of a lookup at a place to `out`, and returns their generation. What s, t and the derivatives
+    // mean is in texcache.h. Nothing is allocated, here and in the four calls below.
+    std::uint32_t texture(std::uint32_t file, const texcache_texture_options &options, double s, double t,
+                          Span<std::uint16_t> out)
+    {
+        return generation([&](texcache_answer *a) {
+            return texcache_texture(pass_, file, &options, s, t, out.data(), out.size(), a); });
+    }
+
+    // Writes the values over a pixel's footprint.
+    std::uint32_t texture_footprint(std::uint32_t file, const texcache_texture_options &options, double s, double t,
+                                    double dsdx, double dtdx, double dsdy, double dtdy, Span<std::uint16_t> out)
+    {
+        return generation([&](texcache_answer *a) {
+            return texcache_texture_footprint(pass_, file, &options, s, t, dsdx, dtdx, dsdy, dtdy, out.data(), out.size(),
+                                              a); });
+    }
+
+    // Writes the values of `count` lookups, which are of one generation. `done`, if given, says how many stand, also
+    // if it throws.
+    std::uint32_t texture_many(std::uint32_t file, const texcache_texture_options &options, const texcache_coordinates &at,
+                               std::size_t count, Span<std::uint16_t> out, std::size_t *done = nullptr)
+    {
+        return generation([&](texcache_answer *a) {
+            return texcache_texture_many(pass_, file, &options, &at, count, out.data(), out.size(), done, a); });
+    }
+
+    // Those at the places of two arrays of one length.
+    std::uint32_t texture_many(std::uint32_t file, const texcache_texture_options &options, Span<const double> s,
+                               Span<const double> t, Span<std::uint16_t> out, std::size_t *done = nullptr)
+    {
+        same_size(s, {t});
+        texcache_coordinates at = {s.data(), t.data(), nullptr, nullptr, nullptr, nullptr, 1};
+        return texture_many(file, options, at, s.size(), out, done);
+    }
+
+    // Those over the footprints of six arrays of one length.
+    std::uint32_t texture_many(std::uint32_t file, const texcache_texture_options &options, Span<const double> s,
+                               Span<const double> t, Span<const double> dsdx, Span<const double> dtdx,
+                               Span<const double> dsdy, Span<const double> dtdy, Span<std::uint16_t> out,
+                               std::size_t *done = nullptr)
+    {
+        same_size(s, {t, dsdx, dtdx, dsdy, dtdy});
+        texcache_coordinates at = {s.data(), t.data(), dsdx.data(), dtdx.data(), dsdy.data(), dtdy.data(), 1};
+        return texture_many(file, options, at, s.size(), out, done);
+    }
+
+    // The values of a lookup in the units of the program's requests, 1/65536 of the image; and along a footprint.
+    std::vector<std::uint16_t> texture_fixed(std::uint32_t file, const texcache_lookup &r, texcache_answer *said = nullptr)
     {
         std::vector<std::uint16_t> out(r.channels);
         called([&](texcache_answer *answer) {
-            return texcache_texture(pass_, file, &r, out.data(), out.size(), answer); }, said);
+            return texcache_texture_fixed(pass_, file, &r, out.data(), out.size(), answer); }, said);
         return out;
     }
 
-    std::vector<std::uint16_t> texture_d(std::uint32_t file, const texcache_lookup &r, texcache_answer *said = nullptr)
+    std::vector<std::uint16_t> texture_d_fixed(std::uint32_t file, const texcache_lookup &r,
+                                               texcache_answer *said = nullptr)
     {
         std::vector<std::uint16_t> out(r.channels);
         called([&](texcache_answer *answer) {
-            return texcache_texture_d(pass_, file, &r, out.data(), out.size(), answer); }, said);
+            return texcache_texture_d_fixed(pass_, file, &r, out.data(), out.size(), answer); }, said);
         return out;
     }
 
     // Whether the two latest tiles of the pass had all that the lookup at S, T and LOD needs.
-    bool texture_local(std::uint32_t file, const texcache_lookup &r, std::vector<std::uint16_t> &out)
+    bool texture_local_fixed(std::uint32_t file, const texcache_lookup &r, std::vector<std::uint16_t> &out)
     {
         out.resize(r.channels);
-        int status = texcache_texture_local(pass_, file, &r, out.data(), out.size(), nullptr);
+        int status = texcache_texture_local_fixed(pass_, file, &r, out.data(), out.size(), nullptr);
         if (status == TEXCACHE_NOT_LOCAL) return false;
         check(status);
         return true;
@@ -181,6 +251,19 @@ public:
     texcache_pass *get() const { return pass_; }
 
 private:
+    template <class Call> static std::uint32_t generation(Call call)
+    {
+        texcache_answer answer;
+        check(call(&answer), answer);
+        return answer.generation;
+    }
+
+    static void same_size(Span<const double> one, std::initializer_list<Span<const double>> others)
+    {
+        for (const auto &it : others)
+            if (it.size() != one.size()) throw std::invalid_argument("arrays of different lengths");
+    }
+
     template <class Call> static void called(Call call, texcache_answer *said)
     {
         texcache_answer own, *answer = said ? said : &own;

@@ -4,15 +4,19 @@
     with texcache.Cache("textures") as cache, cache.perthread() as textures:
         wall = cache.find("wall.tif")
         print(textures.info(wall).width)
-        print(textures.texture(wall, 32768, 32768, channels=3))
+        print(textures.texture(wall, 0.5, 0.5, channels=3))
 
 The shared object is libtexcache.so beside this file, or what TEXCACHE_LIBRARY names (docs/EMBEDDING.md). Each
 thread has a pass of its own. A call that fails raises Refused, with its number, its text and its details. Values are
-lists of whole numbers, 0 to 65535; regions and tiles are numpy arrays where numpy is there.
+whole numbers, 0 to 65535, or floats from 0 to 1. With numpy, many lookups take and give arrays, and regions and tiles
+are arrays; without numpy they are lists.
 """
 import ctypes
 import os
-from ctypes import POINTER, byref, c_bool, c_char_p, c_int, c_int32, c_size_t, c_uint16, c_uint32, c_uint64, c_void_p
+from array import array
+from ctypes import (POINTER, byref, c_bool, c_char_p, c_double, c_int, c_int32, c_size_t, c_uint16, c_uint32, c_uint64,
+                    c_void_p)
+from numbers import Real
 from pathlib import Path
 
 try:
@@ -44,8 +48,19 @@ class Answer(_Struct):
                 ("need_most", c_uint64), ("need_stride", c_uint64), ("need_row", c_uint64)]
 
 
+class TextureOptions(_Struct):
+    """How coordinates become values: texcache_texture_options."""
+    _fields_ = [("swrap", c_uint32), ("twrap", c_uint32), ("channels", c_uint32), ("filter", c_uint32),
+                ("lod", c_double), ("max_probes", c_uint32)]
+
+
+class Coordinates(_Struct):
+    """Where many lookups are: texcache_coordinates."""
+    _fields_ = [*((n, c_void_p) for n in ("s", "t", "dsdx", "dtdx", "dsdy", "dtdy")), ("step", c_size_t)]
+
+
 class Lookup(_Struct):
-    """A lookup: texcache_lookup."""
+    """A lookup in 1/65536 of the image: texcache_lookup."""
     _fields_ = [("s", c_int32), ("t", c_int32), ("lod", c_uint32), ("swrap", c_uint32), ("twrap", c_uint32),
                 ("filter", c_uint32), ("channels", c_uint32), ("dsdx", c_int32), ("dtdx", c_int32),
                 ("dsdy", c_int32), ("dtdy", c_int32)]
@@ -83,12 +98,16 @@ class Shard(_Struct):
 def _declared(library):
     values, answer = POINTER(c_uint16), POINTER(Answer)
     lookup = [c_void_p, c_uint32, POINTER(Lookup), values, c_size_t, answer]
+    fine = [c_void_p, c_uint32, POINTER(TextureOptions)]
     calls = {
         "open_saying": [POINTER(c_void_p), c_char_p, POINTER(Options), POINTER(c_uint32)],
         "close": [POINTER(c_void_p)], "perthread": [c_void_p, POINTER(c_void_p)], "end": [POINTER(c_void_p)],
         "find": [c_void_p, c_char_p, POINTER(c_uint32)],
         "get_info": [c_void_p, c_uint32, POINTER(Info), answer],
-        "texture": lookup, "texture_d": lookup, "texture_local": lookup,
+        "texture": [*fine, *[c_double] * 2, values, c_size_t, answer],
+        "texture_footprint": [*fine, *[c_double] * 6, values, c_size_t, answer],
+        "texture_many": [*fine, POINTER(Coordinates), c_size_t, c_void_p, c_size_t, POINTER(c_size_t), answer],
+        "texture_fixed": lookup, "texture_d_fixed": lookup, "texture_local_fixed": lookup,
         "get_pixels": [c_void_p, c_uint32, POINTER(Region), values, c_size_t, answer],
         "get_tile": [c_void_p, c_uint32, c_uint32, c_uint32, c_uint32, answer],
         "tile_at": [c_void_p, c_size_t, POINTER(Tile)], "tile_texels": [c_void_p, c_size_t, values, c_size_t],
@@ -114,11 +133,11 @@ _lib = _declared(ctypes.CDLL(os.environ.get("TEXCACHE_LIBRARY", str(Path(__file_
 
 
 class Refused(Exception):
-    """A failed call: `status` is its number, `answer` has the details."""
+    """A failed call: `status` is its number, `answer` has the details, and `values` those lookups of many that stand."""
 
-    def __init__(self, status, answer=None):
+    def __init__(self, status, answer=None, values=None):
         super().__init__(_lib.texcache_error_string(status).decode())
-        self.status, self.answer = status, answer or Answer()
+        self.status, self.answer, self.values = status, answer or Answer(), values
 
 
 def _check(status, answer=None):
@@ -128,6 +147,32 @@ def _check(status, answer=None):
 
 def _shaped(values, *sides):
     return numpy.ctypeslib.as_array(values).reshape(sides) if numpy else list(values)
+
+
+def _columns(numbers):
+    """The numbers of many lookups as arrays of doubles of one shape, the shape, and where each array lies."""
+    if numpy:
+        columns = [numpy.ascontiguousarray(it, dtype=numpy.float64) for it in numbers]
+        shape = columns[0].shape
+        if any(it.shape != shape for it in columns):
+            columns = [numpy.ascontiguousarray(it) for it in numpy.broadcast_arrays(*columns)]
+            shape = columns[0].shape
+        return columns, shape, [it.ctypes.data for it in columns]
+    columns = [it if isinstance(it, array) and it.typecode == "d" else array("d", it) for it in numbers]
+    if any(len(it) != len(columns[0]) for it in columns):
+        raise ValueError("lists of different lengths")
+    return columns, (len(columns[0]),), [it.buffer_info()[0] for it in columns]
+
+
+def _rows(values, count, shape, channels, floats):
+    """The values of the first `count` lookups: an array of this shape if these are all, or a list of lists."""
+    if numpy:
+        if count < len(values) // channels:
+            shape = (count,)
+        values = values[:count * channels]
+        return (values / numpy.float32(65535) if floats else values).reshape(*shape, channels)
+    values = [it / 65535 for it in values] if floats else values.tolist()
+    return [values[at:at + channels] for at in range(0, count * channels, channels)]
 
 
 class Cache:
@@ -196,24 +241,68 @@ class Pass:
         self._called(_lib.texcache_get_info, file, byref(info))
         return info
 
+    def _many(self, file, options, numbers, floats):
+        columns, shape, places = _columns(numbers)
+        channels, count = options.channels, 1
+        for it in shape:
+            count *= it
+        room = count * min(channels, 8)
+        if numpy:
+            values = numpy.empty(room, dtype=numpy.uint16)
+            place = values.ctypes.data
+        else:
+            values = array("H", bytes(2 * room))
+            place = values.buffer_info()[0]
+        if not count:
+            return _rows(values, count, shape, channels, floats)
+        self.answer, done, at = Answer(), c_size_t(), Coordinates(*places, step=1)
+        status = _lib.texcache_texture_many(self._at, file, byref(options), byref(at), count, place, room, byref(done),
+                                            byref(self.answer))
+        if status != OK:
+            raise Refused(status, self.answer, _rows(values, done.value, shape, channels or 1, floats))
+        return _rows(values, count, shape, channels, floats)
+
+    def _one(self, call, file, options, numbers, floats):
+        values = (c_uint16 * 8)()
+        self._called(call, file, byref(options), *numbers, values, 8)
+        return [it / 65535 for it in values[:options.channels]] if floats else values[:options.channels]
+
+    def texture(self, file, s, t, lod=0.0, swrap=PERIODIC, twrap=PERIODIC, filter=BILINEAR, channels=3, floats=False):
+        """The values at s and t, fractions of the image. `lod` is the level, 0 the largest. For two numbers it is a list
+        of the channels. For two arrays it is an array with one axis more, the channels; for two lists without numpy
+        a list of lists. All values of a call are of one generation, answer.generation."""
+        options = TextureOptions(swrap, twrap, channels, filter, lod, 16)
+        if isinstance(s, Real) and isinstance(t, Real):
+            return self._one(_lib.texcache_texture, file, options, (s, t), floats)
+        return self._many(file, options, (s, t), floats)
+
+    def texture_footprint(self, file, s, t, dsdx, dtdx, dsdy, dtdy, max_probes=16, swrap=PERIODIC, twrap=PERIODIC,
+                          channels=3, floats=False):
+        """The values over the footprints of these derivatives, fractions of the image per pixel; otherwise as
+        texture."""
+        options, numbers = TextureOptions(swrap, twrap, channels, 0, 0, max_probes), (s, t, dsdx, dtdx, dsdy, dtdy)
+        if all(isinstance(it, Real) for it in numbers):
+            return self._one(_lib.texcache_texture_footprint, file, options, numbers, floats)
+        return self._many(file, options, numbers, floats)
+
     def _looked_up(self, call, file, lookup):
         values = (c_uint16 * max(1, min(lookup.channels, 8)))()
         self._called(call, file, byref(lookup), values, len(values))
         return list(values)
 
-    def texture(self, file, s, t, lod=0, swrap=PERIODIC, twrap=PERIODIC, filter=BILINEAR, channels=3):
-        """The values at S, T and LOD, in 1/65536."""
-        return self._looked_up(_lib.texcache_texture, file, Lookup(s, t, lod, swrap, twrap, filter, channels))
+    def texture_fixed(self, file, s, t, lod=0, swrap=PERIODIC, twrap=PERIODIC, filter=BILINEAR, channels=3):
+        """The values at S, T and LOD, whole numbers in 1/65536, as a request `tex` of the program."""
+        return self._looked_up(_lib.texcache_texture_fixed, file, Lookup(s, t, lod, swrap, twrap, filter, channels))
 
-    def texture_d(self, file, s, t, dsdx, dtdx, dsdy, dtdy, swrap=PERIODIC, twrap=PERIODIC, channels=3):
-        """The values along the footprint of these derivatives, in 1/65536."""
-        return self._looked_up(_lib.texcache_texture_d, file,
+    def texture_d_fixed(self, file, s, t, dsdx, dtdx, dsdy, dtdy, swrap=PERIODIC, twrap=PERIODIC, channels=3):
+        """The values along the footprint of these derivatives, in 1/65536, as a request `texd` of the program."""
+        return self._looked_up(_lib.texcache_texture_d_fixed, file,
                                Lookup(s, t, 0, swrap, twrap, 0, channels, dsdx, dtdx, dsdy, dtdy))
 
-    def texture_local(self, file, s, t, lod=0, swrap=PERIODIC, twrap=PERIODIC, filter=BILINEAR, channels=3):
+    def texture_local_fixed(self, file, s, t, lod=0, swrap=PERIODIC, twrap=PERIODIC, filter=BILINEAR, channels=3):
         """The values at S, T and LOD if the pass's two latest tiles have all texels; otherwise None. Never reads."""
         try:
-            return self._looked_up(_lib.texcache_texture_local, file,
+            return self._looked_up(_lib.texcache_texture_local_fixed, file,
                                    Lookup(s, t, lod, swrap, twrap, filter, channels))
         except Refused as refused:
             if refused.status == NOT_LOCAL:

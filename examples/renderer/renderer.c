@@ -1,4 +1,4 @@
-/* A small renderer: textured planes and a ball, seen by a pinhole camera. Each pixel is one lookup along the
+/* A small renderer: textured planes and a ball, seen by a pinhole camera. Each pixel is one lookup over the
  * footprint that the rays of its neighbours span; --closest takes the nearest texel of level 0 in its place.
  *
  *     renderer FOLDER OUT.ppm [--threads N] [--width W] [--height H] [--budget BYTES] [--closest]
@@ -10,6 +10,7 @@
  * The counts go to standard error.
  */
 #include "texcache.h"
+#include <math.h>
 #include <stdio.h>
 #include <sys/resource.h>
 
@@ -146,9 +147,10 @@ static int first_met(vec ray, double *far)
     return found;
 }
 
+/* Coordinates and derivatives of a footprint are within 16384 images. */
 static double bounded(double value)
 {
-    return value < -8000 ? -8000 : value > 8000 ? 8000 : value;
+    return value < -16000 ? -16000 : value > 16000 ? 16000 : value;
 }
 
 /* The step from one coordinate to another, the short way round where it is the ball's longitude. */
@@ -171,21 +173,21 @@ static void shade(texcache_pass *pass, int x, int y, double colour[3])
     double far, u, v, ux, vx, uy, vy, lit = 1;
     vec ray = ray_at(x + 0.5, y + 0.5);
     int object = first_met(ray, &far);
-    float values[3] = {0.6f, 0.75f, 0.95f};
+    uint16_t values[3] = {39321, 49151, 62258};
     if (object != NOTHING) {
         place_on(object, ray, &u, &v);
         place_on(object, ray_at(x + 1.5, y + 0.5), &ux, &vx);
         place_on(object, ray_at(x + 0.5, y + 1.5), &uy, &vy);
-        texcache_lookup like = texcache_lookup_at(0, 0, 0, infos[object].channels < 3 ? 1 : 3);
-        if (object == BALL) like.twrap = TEXCACHE_CLAMP;
-        if (asked.is_closest) like.filter = TEXCACHE_CLOSEST;
+        texcache_texture_options options = texcache_default_texture_options(infos[object].channels < 3 ? 1 : 3);
+        if (object == BALL) options.twrap = TEXCACHE_CLAMP;
+        if (asked.is_closest) options.filter = TEXCACHE_CLOSEST;
         double dux = step(object, u, ux, 1), dvx = step(object, v, vx, 0);
         double duy = step(object, u, uy, 1), dvy = step(object, v, vy, 0);
-        if (asked.is_closest) dux = dvx = duy = dvy = 0;
-        int status = texcache_texture_f(pass, files[object], &like, (float)u, (float)v, (float)dux, (float)dvx, (float)duy,
-                                        (float)dvy, !asked.is_closest, values, 3, NULL);
+        int status = asked.is_closest
+            ? texcache_texture(pass, files[object], &options, u, v, values, 3, NULL)
+            : texcache_texture_footprint(pass, files[object], &options, u, v, dux, dvx, duy, dvy, values, 3, NULL);
         if (status) fail(object == BALL ? ball_name : planes[object].name, status);
-        if (like.channels == 1) values[1] = values[2] = values[0];
+        if (options.channels == 1) values[1] = values[2] = values[0];
         if (object == BALL) {
             double facing = dot(unit(sub(times(ray, far), ball)), unit(light));
             lit = 0.35 + 0.65 * (facing < 0 ? 0 : facing);
@@ -193,7 +195,7 @@ static void shade(texcache_pass *pass, int x, int y, double colour[3])
             lit = 1 / (1 + far * 0.03);
         }
     }
-    for (int c = 0; c < 3; c++) colour[c] = values[c] * lit;
+    for (int c = 0; c < 3; c++) colour[c] = texcache_float(values[c]) * lit;
 }
 
 static void *render(void *unused)

@@ -1,5 +1,5 @@
 /* Bad use and bad input, each with its refusal: bad_use FOLDER, an empty folder that it may write to.
- * The library alone is driven by hand first, and then texcache.h. */
+ * The library alone is driven by hand first, and then texcache.h. (Lookups on doubles are in lookups.c.) */
 #include "texcache.h"
 #include <stdio.h>
 
@@ -64,6 +64,56 @@ static uint32_t supply_rows(texcache_held *held, texcache_rows rows, const uint8
     if (tex_c_room(*held, held, count, &room, &to)) exit(2);
     memcpy(to, bytes, count);
     return tex_c_supply_rows(*held, held, &rows, room);
+}
+
+/* Many lookups by hand, of a picture of which nothing is known: the first call says that a look is lacking and the next
+ * that bytes are; a place out of range is named before anything is read; nothing else is written. */
+static void batch_by_hand(void)
+{
+    uint8_t bytes[200];
+    size_t size = picture(bytes, 7);
+    const int64_t half = INT64_C(1) << 31, side = INT64_C(1) << 47;
+    texcache_options o = texcache_default_options();
+    texcache_held held = {NULL}, none = {NULL};
+    texcache_answer a;
+    texcache_batch_answer b;
+    texcache_batch batch = {0, 0, 0, TEXCACHE_BILINEAR, TEXCACHE_PERIODIC, TEXCACHE_PERIODIC, 1}, bad = batch;
+    texcache_place at[4] = {{half, half, 0, 0, 0, 0}, {0, -1, 0, 0, 0, 0}, {side - 1, -side, 0, 0, 0, 0}, {1, 1, 0, 0, 0, 0}};
+    texcache_counts counts;
+    uint16_t out[6] = {1, 2, 3, 4, 5, 6};
+    SAYS(tex_c_new(&held, &o, 1, &a), TEXCACHE_OK);
+    SAYS(tex_c_texture_many(held, &held, &batch, at, 4, out, 3, &b), TEXCACHE_SMALL_BUFFER);
+    bad.file = 1;
+    SAYS(tex_c_texture_many(held, &held, &bad, at, 4, out, 6, &b), TEXCACHE_NO_FILE);
+    bad = batch, bad.filter = 3;
+    SAYS(tex_c_texture_many(held, &held, &bad, at, 4, out, 6, &b), TEXCACHE_BAD_REQUEST);
+    bad = batch, bad.twrap = 4;
+    SAYS(tex_c_texture_many(held, &held, &bad, at, 4, out, 6, &b), TEXCACHE_BAD_REQUEST);
+    bad = batch, bad.channels = 9;
+    SAYS(tex_c_texture_many(held, &held, &bad, at, 4, out, 64, &b), TEXCACHE_BAD_REQUEST);
+    bad = batch, bad.max_probes = 33;
+    SAYS(tex_c_texture_many(held, &held, &bad, at, 2, out, 6, &b), TEXCACHE_BAD_REQUEST);
+    bad.max_probes = 16;
+    SAYS(tex_c_texture_many(held, &held, &bad, at, 4, out, 6, &b), TEXCACHE_BAD_REQUEST);
+    IS(b.done == 2);
+    at[1].t = side;
+    SAYS(tex_c_texture_many(held, &held, &batch, at, 4, out, 6, &b), TEXCACHE_BAD_REQUEST);
+    IS(b.done == 1);
+    at[1].t = -1;
+    SAYS(tex_c_texture_many(held, &held, &batch, at, 4, out, 6, &b), TEXCACHE_NEEDED);
+    IS(b.error.need == 1 && b.done == 0 && out[0] == 1);
+    SAYS(tex_c_supply_look(held, &held, 0, 3, size), TEXCACHE_OK);
+    SAYS(tex_c_texture_many(held, &held, &batch, at, 4, out, 6, &b), TEXCACHE_NEEDED);
+    IS(b.error.need == 2 && b.error.need_generation == 3 && b.done == 0);
+    SAYS(supply(&held, 0, 3, 0, bytes, size), TEXCACHE_OK);
+    SAYS(tex_c_texture_many(held, &held, &batch, at, 4, out, 6, &b), TEXCACHE_OK);
+    IS(b.generation == 3 && out[0] == 1799 && out[3] == 1799 && out[4] == 5 && out[5] == 6);
+    tex_c_counts(held, &held, &counts);
+    IS(counts.needs == 16);
+    SAYS(tex_c_texture_many(held, &held, &batch, at, 4, out, 6, &b), TEXCACHE_OK);
+    tex_c_counts(held, &held, &counts);
+    IS(counts.needs == 32 && counts.hits >= 16);
+    tex_c_free(held, none, &held);
 }
 
 /* The library by hand: each wrong supply is refused and changes nothing, and the right one goes on. */
@@ -153,6 +203,9 @@ static void by_hand(void)
     SAYS(tex_c_supply_look(held, &held, 1, 7, size), TEXCACHE_OLDER);
     SAYS(tex_c_supply_fault(held, &held), TEXCACHE_OK);
     SAYS(tex_c_texture(held, &held, 1, &r, out, 8, &a), TEXCACHE_READ_FAULT);
+    /* many lookups: the lacking bytes are asked for, the counts are those of the answered call, and the values behind
+     * the last answered lookup are unchanged */
+    batch_by_hand();
     /* bytes that cannot be read are a read fault, and the next call asks for them again */
     SAYS(tex_c_texture(held, &held, 2, &r, out, 8, &a), TEXCACHE_NEEDED);
     SAYS(tex_c_supply_fault(held, &held), TEXCACHE_OK);
@@ -266,11 +319,11 @@ static void over_a_folder(const char *folder)
     texcache_tile tile;
     texcache_region region = {0, -1, 0, 3, 2};
     texcache_lookup r = texcache_lookup_at(32768, 32768, 0, 1), bad = r;
+    texcache_texture_options fine = texcache_default_texture_options(1);
     texcache_options o = texcache_default_options();
     uint32_t grey, cut, gone, pipe, link, late;
     uint8_t bytes[200];
     uint16_t out[600];
-    float parts[8];
     char path[4096];
     size_t size = picture(bytes, 7);
     write_file(folder, "grey.tif", bytes, size);
@@ -297,26 +350,25 @@ static void over_a_folder(const char *folder)
     SAYS(texcache_close(&cache), TEXCACHE_PASSES_LEFT);
     /* a call in a pass that runs another, and in none */
     pass->in_use = 1;
-    SAYS(texcache_texture(pass, grey, &r, out, 8, &a), TEXCACHE_IN_USE);
+    SAYS(texcache_texture_fixed(pass, grey, &r, out, 8, &a), TEXCACHE_IN_USE);
     SAYS(texcache_end(&pass), TEXCACHE_IN_USE);
     pass->in_use = 0;
-    SAYS(texcache_texture(NULL, grey, &r, out, 8, &a), TEXCACHE_CLOSED);
+    SAYS(texcache_texture_fixed(NULL, grey, &r, out, 8, &a), TEXCACHE_CLOSED);
     /* numbers out of range, and buffers that are too small */
-    SAYS(texcache_texture(pass, 6, &r, out, 8, &a), TEXCACHE_NO_FILE);
+    SAYS(texcache_texture_fixed(pass, 6, &r, out, 8, &a), TEXCACHE_NO_FILE);
     SAYS(texcache_get_info(pass, UINT32_MAX, &info, &a), TEXCACHE_NO_FILE);
     bad.channels = 9;
-    SAYS(texcache_texture(pass, grey, &bad, out, 8, &a), TEXCACHE_BAD_REQUEST);
+    SAYS(texcache_texture_fixed(pass, grey, &bad, out, 8, &a), TEXCACHE_BAD_REQUEST);
     bad.channels = 0;
-    SAYS(texcache_texture_d(pass, grey, &bad, out, 8, &a), TEXCACHE_BAD_REQUEST);
+    SAYS(texcache_texture_d_fixed(pass, grey, &bad, out, 8, &a), TEXCACHE_BAD_REQUEST);
     bad = r, bad.swrap = 4;
-    SAYS(texcache_texture(pass, grey, &bad, out, 8, &a), TEXCACHE_BAD_REQUEST);
+    SAYS(texcache_texture_fixed(pass, grey, &bad, out, 8, &a), TEXCACHE_BAD_REQUEST);
     bad = r, bad.filter = 3;
-    SAYS(texcache_texture_local(pass, grey, &bad, out, 8, &a), TEXCACHE_BAD_REQUEST);
+    SAYS(texcache_texture_local_fixed(pass, grey, &bad, out, 8, &a), TEXCACHE_BAD_REQUEST);
     bad = r, bad.dsdx = 1 << 30;
-    SAYS(texcache_texture_d(pass, grey, &bad, out, 8, &a), TEXCACHE_BAD_REQUEST);
+    SAYS(texcache_texture_d_fixed(pass, grey, &bad, out, 8, &a), TEXCACHE_BAD_REQUEST);
     bad = r, bad.channels = 3;
-    SAYS(texcache_texture(pass, grey, &bad, out, 2, &a), TEXCACHE_SMALL_BUFFER);
-    SAYS(texcache_texture_f(pass, grey, &r, 1e30f, 0, 0, 0, 0, 0, false, parts, 8, &a), TEXCACHE_BAD_REQUEST);
+    SAYS(texcache_texture_fixed(pass, grey, &bad, out, 2, &a), TEXCACHE_SMALL_BUFFER);
     SAYS(texcache_get_pixels(pass, grey, &region, out, 5, &a), TEXCACHE_SMALL_BUFFER);
     IS(a.value == 6);
     SAYS(texcache_get_pixels(pass, grey, &region, out, 6, &a), TEXCACHE_OK);
@@ -327,11 +379,11 @@ static void over_a_folder(const char *folder)
     SAYS(texcache_get_pixels(pass, grey, &region, out, 6, &a), TEXCACHE_NO_LEVEL);
     IS(a.detail == 4);
     /* lookups, and the microcache alone */
-    SAYS(texcache_texture_f(pass, grey, &r, 0.5f, 0.5f, 0.25f, 0, 0, 0.25f, true, parts, 8, &a), TEXCACHE_OK);
-    IS(parts[0] == 1799 / 65535.0f);
-    SAYS(texcache_texture_local(more[0], grey, &r, out, 8, &a), TEXCACHE_NOT_LOCAL);
-    SAYS(texcache_texture(more[0], grey, &r, out, 8, &a), TEXCACHE_OK);
-    SAYS(texcache_texture_local(more[0], grey, &r, out, 8, &a), TEXCACHE_OK);
+    SAYS(texcache_texture_footprint(pass, grey, &fine, 0.5, 0.5, 0.25, 0, 0, 0.25, out, 8, &a), TEXCACHE_OK);
+    IS(a.generation == 1 && out[0] == 1799 && texcache_float(out[0]) == 1799 / 65535.0f);
+    SAYS(texcache_texture_local_fixed(more[0], grey, &r, out, 8, &a), TEXCACHE_NOT_LOCAL);
+    SAYS(texcache_texture_fixed(more[0], grey, &r, out, 8, &a), TEXCACHE_OK);
+    SAYS(texcache_texture_local_fixed(more[0], grey, &r, out, 8, &a), TEXCACHE_OK);
     /* a file that shows a fault, one that is gone, a pipe and a link in its place */
     SAYS(texcache_get_info(pass, cut, &info, &a), TEXCACHE_BAD_FILE);
     IS(a.detail == 12 && a.part == 0 && a.value == 0);
@@ -354,10 +406,10 @@ static void over_a_folder(const char *folder)
     snprintf(path, sizeof path, "%s/late.tif", folder);
     unlink(path);
     SAYS(texcache_get_info(pass, late, &info, &a), TEXCACHE_OK);
-    SAYS(texcache_texture(pass, late, &r, out, 8, &a), TEXCACHE_READ_FAULT);
+    SAYS(texcache_texture_fixed(pass, late, &r, out, 8, &a), TEXCACHE_READ_FAULT);
     SAYS(texcache_invalidate(pass, late, false, &a), TEXCACHE_READ_FAULT);
     write_file(folder, "late.tif", bytes, size);
-    SAYS(texcache_texture(pass, late, &r, out, 8, &a), TEXCACHE_OK);
+    SAYS(texcache_texture_fixed(pass, late, &r, out, 8, &a), TEXCACHE_OK);
     IS(out[0] == 1799);
     /* a file that changes, or vanishes, after the library asked for bytes and before they are supplied */
     SAYS(texcache_invalidate(pass, late, true, &a), TEXCACHE_OK);
@@ -368,7 +420,7 @@ static void over_a_folder(const char *folder)
     usleep(20000);
     write_file(folder, "late.tif", bytes, size);
     texc_supply(pass, &a);
-    SAYS(texcache_texture(pass, late, &r, out, 8, &a), TEXCACHE_OK);
+    SAYS(texcache_texture_fixed(pass, late, &r, out, 8, &a), TEXCACHE_OK);
     IS(out[0] == 11 * 257 && a.generation > before);
     SAYS(texcache_invalidate(pass, late, true, &a), TEXCACHE_OK);
     while (tex_c_texture(pass->held, &pass->held, late, &r, out, 8, &a) == TEXCACHE_NEEDED && a.need == 1) texc_supply(pass, &a);
@@ -383,7 +435,7 @@ static void over_a_folder(const char *folder)
     usleep(20000);
     write_file(folder, "late.tif", bytes, size - 30);
     texc_supply(pass, &a);
-    SAYS(texcache_texture(pass, late, &r, out, 8, &a), TEXCACHE_BAD_FILE);
+    SAYS(texcache_texture_fixed(pass, late, &r, out, 8, &a), TEXCACHE_BAD_FILE);
     IS(a.detail == 12);
     picture(bytes, 7);
     /* holds */
@@ -404,10 +456,10 @@ static void over_a_folder(const char *folder)
     size = picture(bytes, 9);
     usleep(20000);
     write_file(folder, "grey.tif", bytes, size);
-    SAYS(texcache_texture(pass, grey, &r, out, 8, &a), TEXCACHE_OK);
+    SAYS(texcache_texture_fixed(pass, grey, &r, out, 8, &a), TEXCACHE_OK);
     IS(out[0] == 1799 && a.generation == 1);
     SAYS(texcache_invalidate_all(pass, &a), TEXCACHE_OK);
-    SAYS(texcache_texture(pass, grey, &r, out, 8, &a), TEXCACHE_OK);
+    SAYS(texcache_texture_fixed(pass, grey, &r, out, 8, &a), TEXCACHE_OK);
     IS(out[0] == 9 * 257 && a.generation == 2);
     SAYS(texcache_tile_texels(pass, 0, out, 64), TEXCACHE_OK);
     IS(out[0] == 7);

@@ -2,7 +2,7 @@
  *
  * Of the requests those for lookups, regions and sizes, and `sync`; request i of a round is dealt to thread
  * i mod THREADS. A request of another kind, or of a texture in tiles, is the line `-`. The closing lines of the
- * threads are those of the program. MODE is local where each lookup is first tried with texcache_texture_local.
+ * threads are those of the program. MODE is local where each lookup is first tried with texcache_texture_local_fixed.
  */
 #include "texcache.h"
 #include <stdio.h>
@@ -97,9 +97,9 @@ static char *answered(texcache_pass *pass, const char *line)
     r.twrap = number_of(twrap, wraps);
     int is_along = line[3] == 'd';
     if ((status = texcache_find(cache, line + name, &file))) return refusal(status, &a);
-    if (is_along) status = texcache_texture_d(pass, file, &r, values, 8, &a);
-    else if (!tries_local || (status = texcache_texture_local(pass, file, &r, values, 8, &a)) == TEXCACHE_NOT_LOCAL)
-        status = texcache_texture(pass, file, &r, values, 8, &a);
+    if (is_along) status = texcache_texture_d_fixed(pass, file, &r, values, 8, &a);
+    else if (!tries_local || (status = texcache_texture_local_fixed(pass, file, &r, values, 8, &a)) == TEXCACHE_NOT_LOCAL)
+        status = texcache_texture_fixed(pass, file, &r, values, 8, &a);
     return status ? refusal(status, &a) : values_line(is_along ? "texd" : "tex", &a, 0, values, r.channels);
 }
 

@@ -57,7 +57,7 @@ static std::string answered(const Cache &cache, Pass &pass, const std::string &l
         r.twrap = number_of(twrap, {"black", "clamp", "periodic", "mirror"});
         r.filter = number_of(filter, {"closest", "bilinear", "trilinear"});
         std::uint32_t number = file();
-        auto values = word == "tex" ? pass.texture(number, r, &a) : pass.texture_d(number, r, &a);
+        auto values = word == "tex" ? pass.texture_fixed(number, r, &a) : pass.texture_d_fixed(number, r, &a);
         said << word << ' ' << a.generation;
         for (auto value : values) said << ' ' << value;
     } else if (word == "pixels") {

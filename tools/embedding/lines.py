@@ -38,11 +38,11 @@ def answered(cache, textures, line):
     file = cache.find(name)
     if word == "tex":
         s, t, lod, swrap, twrap, by, channels = given
-        values = textures.texture(file, int(s), int(t), int(lod), WRAPS.index(swrap), WRAPS.index(twrap),
-                                  FILTERS.index(by), int(channels))
+        values = textures.texture_fixed(file, int(s), int(t), int(lod), WRAPS.index(swrap), WRAPS.index(twrap),
+                                        FILTERS.index(by), int(channels))
     elif word == "texd":
-        values = textures.texture_d(file, *map(int, given[:6]), WRAPS.index(given[6]), WRAPS.index(given[7]),
-                                    int(given[8]))
+        values = textures.texture_d_fixed(file, *map(int, given[:6]), WRAPS.index(given[6]),
+                                          WRAPS.index(given[7]), int(given[8]))
     elif word == "pixels":
         values = flat(textures.pixels(file, *map(int, given)))
         values = [textures.answer.channels, *values]

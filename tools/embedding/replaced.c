@@ -5,7 +5,7 @@
 #include <stdio.h>
 #include <time.h>
 
-enum { FILES = 4, SIDE = 200 };
+enum { FILES = 4, SIDE = 200, MANY = 200 };
 
 static texcache *cache;
 static const char *folder;
@@ -45,14 +45,25 @@ static void *reads(void *given)
         uint32_t file = (random >> 24) % FILES;
         size_t count;
         int status;
-        if (random >> 16 & 3) {
+        if (random >> 18 & 1) {
+            static const double along = 0.004;
+            texcache_texture_options o = texcache_default_texture_options(1);
+            double s[MANY], t[MANY], ds[MANY], dt[MANY];
+            texcache_coordinates at = {s, t, NULL, NULL, NULL, NULL, 1};
+            for (int i = 0; i < MANY; i++) {
+                s[i] = i / (double)MANY, t[i] = (random >> 8 & 255) / 255.0;
+                ds[i] = along * (i % 7), dt[i] = along;
+            }
+            if (random >> 17 & 1) at.dsdx = ds, at.dtdx = dt, at.dsdy = dt, at.dtdy = s;
+            status = texcache_texture_many(pass, file, &o, &at, MANY, out, SIDE * SIDE, &count, &a);
+        } else if (random >> 16 & 3) {
             texcache_region all = {0, 0, 0, SIDE, SIDE};
             status = texcache_get_pixels(pass, file, &all, out, SIDE * SIDE, &a);
             count = SIDE * SIDE;
         } else {
             texcache_lookup r = texcache_lookup_at((int32_t)(random & 65535), 777, random & 262143, 1);
             r.filter = TEXCACHE_TRILINEAR;
-            status = texcache_texture(pass, file, &r, out, 8, &a);
+            status = texcache_texture_fixed(pass, file, &r, out, 8, &a);
             count = 1;
         }
         if (status == TEXCACHE_AGAIN || status == TEXCACHE_READ_FAULT) continue;

@@ -3,8 +3,9 @@
 The demo's list and the stored run of texcache are answered by 1 and by 8 threads. Each answer must be the line of
 expected.txt or of the run's stdout; requests for UDIM textures are left out, because the library does not have them.
 One thread needs the same cells as the program's worker, and each of 8 threads at least those. Then come wrong calls,
-files that are replaced while they are read, and the renderer's picture, which must be the same for 1 and 8 threads.
-The demo's list and the wrong calls also run under valgrind, and the C side with the compiler's thread sanitizer.
+lookups on doubles, files that are replaced while they are read, and the renderer's picture, which must be the same for
+1 and 8 threads. The demo's list and the wrong calls also run under valgrind, and the C side with the compiler's thread
+sanitizer. `tools/check fine` tests which values lookups on doubles have.
 """
 import os
 import shutil
@@ -107,6 +108,12 @@ class Tests:
             self.say((status, text) == (0, "ok 42919 36494 34759\n"), "the lines of C of docs/EMBEDDING.md", text)
         if self.built("bad_use", HERE / "bad_use.c", "-std=gnu11"):
             self.over_a_folder("bad use and bad input", "bad_use")
+        if self.built("lookups", HERE / "lookups.c", "-std=gnu11"):
+            self.over_a_folder("lookups on doubles, and many in one call", "lookups")
+        if self.built("lookups_fast", HERE / "lookups.c", "-std=gnu11", "-O3", "-ffast-math"):
+            self.over_a_folder("lookups on doubles with -ffast-math", "lookups_fast")
+        for standard in ("c11", "c17"):
+            self.built(f"alone in {standard}", HERE / "bad_use.c", f"-std={standard}", "-Wpedantic")
         if self.built("replaced", HERE / "replaced.c", "-std=gnu11"):
             self.over_a_folder("files that are replaced while they are read", "replaced", "8", "4000")
 
@@ -116,6 +123,10 @@ class Tests:
         if self.built("lines_cpp", HERE / "lines.cpp", "-std=c++17", compiler=self.cxx):
             for name, *one in lists():
                 self.compare(f"C++, {name}", [self.made / "lines_cpp"], *one)
+        for standard in ("c++14", "c++17", "c++20"):
+            if self.built("lookups_cpp", HERE / "lookups.cpp", f"-std={standard}", "-Wpedantic", compiler=self.cxx):
+                status, text = said([self.made / "lookups_cpp", TOP / "demo"])
+                self.say(status == 0, f"C++, lookups on doubles, {standard}", text)
 
     def in_python(self):
         if not self.built(self.shared.name, TOP / "python" / "texcache_shared.c", "-shared", "-fPIC"):
@@ -130,6 +141,8 @@ class Tests:
                 for threads in THREADS:
                     self.compare(f"{what}, {name}, {threads} threads", [*python, HERE / "lines.py"], *one, threads,
                                  **more)
+            status, text = said([*python, HERE / "lookups.py", TOP / "demo"], **more)
+            self.say(status == 0, f"{what}, lookups on doubles", text)
         page = (TOP / "docs" / "EMBEDDING.md").read_text(encoding="utf-8")
         status, text = said([sys.executable, "-c", page.split("```python\n")[1].split("```")[0]], cwd=TOP, **more)
         self.say(status == 0 and "[42919, 36494, 34759]" in text and text.endswith("no level 6\n"),
@@ -143,6 +156,7 @@ class Tests:
         for threads in THREADS:
             self.compare(f"valgrind, {name}, {threads} threads", [*grind, self.made / "lines"], *one, threads)
         self.over_a_folder("valgrind, bad use", "bad_use", before=grind)
+        self.over_a_folder("valgrind, lookups on doubles", "lookups", before=grind)
         self.over_a_folder("valgrind, files that are replaced", "replaced", "4", "1500", before=grind)
 
     def with_races(self):
@@ -157,6 +171,10 @@ class Tests:
         if self.built("lines_races", HERE / "lines.c", *flags, over=over):
             for name, *one in lists():
                 self.compare(f"races, {name}, 8 threads", [self.made / "lines_races"], *one, "8", **more)
+        if self.built("lookups_races", HERE / "lookups.c", *flags, over=over):
+            with tempfile.TemporaryDirectory() as folder:
+                status, text = said([self.made / "lookups_races", folder], seconds=600, **more)
+                self.say(status == 0, "races, lookups on doubles", text)
         if self.built("replaced_races", HERE / "replaced.c", *flags, over=over):
             with tempfile.TemporaryDirectory() as folder:
                 status, text = said([self.made / "replaced_races", folder, "8", "3000"], seconds=600, **more)

@@ -19,6 +19,8 @@ SUBCOMMANDS = {
     "replaced-files": "replaced_files",
     "textures": "textures",
     "embedding": "embedding",
+    "fine": "fine",
+    "beside-oiio": "beside_oiio",
     "user-tools": "user_tools",
     "pictures": "pictures",
     "prepare": "prepare",

@@ -69,6 +69,8 @@ def steps(args, programs, library):
     for name, *words in [
         ("textures", "--program", texmake, "--texcache", texcache, *readers),
         ("embedding", "--program", texcache, "--library", library, *skip),
+        ("fine", "--library", library, *(["--full"] if args.proved else []), *skip),
+        ("beside-oiio", "--library", library, *skip),
         ("lists", "--program", texcache, "--texsample", texsample),
         ("failed-allocations", "--program", texcache, *skip),
         ("scripts",), ("stored-run",),

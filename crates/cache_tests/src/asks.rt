@@ -1,4 +1,5 @@
 //! The calls that tests make, and their answers.
+use crate::batches::Places;
 use image_cache::CacheError;
 use texel_filter::{Filter, Wrap};
 use texture_sys::BatchOptions;
@@ -20,8 +21,8 @@ pub(crate) enum Ask {
     Pixels(u32, (u32, i32, i32), (u32, u32)),
     Texture(u32, Look),
     TextureLocal(u32, Look),
-    /// Looks up the values at several places, at most three.
-    Batch(u32, BatchOptions, &'static [(i64, i64)]),
+    /// Looks up the values at several places.
+    Batch(u32, BatchOptions, Places),
     /// Counts a shard.
     Count(u32),
     /// Invalidates a file, with force or without.

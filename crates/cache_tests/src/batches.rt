@@ -1,10 +1,11 @@
 //! Many lookups in one call, with values, needs and hits worked out by hand.
-ghost use Rattle.std.specs.Prelude.{ℕ, ◌≡◌, ◌<◌};
+ghost use Rattle.std.specs.Prelude.{ℕ, ◌≡◌, ◌<◌, ◌≤◌};
 ghost use Rattle.tex_world.specs.World.{IsFile};
 
 use crate::asks::Answer;
 use crate::asks::Answer::{Of, Stopped};
 use crate::asks::Ask::Batch as Many;
+use crate::batches::Places::{Middles, Nowhere, Tiles};
 use crate::planned::{BROKEN, ONE_SHARD, PLAIN, RISING, steps_met};
 use crate::small_files::{A, B};
 use crate::steps::{CALLS, QUIET, Step};
@@ -31,14 +32,47 @@ const CORNER: Place = Place {
     dtdy: 0,
 };
 
+/// The places of a batch.
+#[derive(Clone, Copy)]
+pub(crate) enum Places {
+    Nowhere,
+    /// The middle of `A`, where four texels have the mean 6553.5; 1/2^20 of the width to the left,
+    /// where it is 6553.499; and 1/16 to the right, where it is 6617.75.
+    Middles,
+    /// In the texels (10, 5), (70, 5) and (3, 40) of `B`, each in another tile.
+    Tiles,
+}
+
 // Places with these coordinates.
-fn places_of(given: &[(i64, i64)]) -> [Place; MOST] {
+fn places_at(given: [(i64, i64); MOST]) -> [Place; MOST] {
     let mut places = [CORNER; MOST];
-    for (place, at) in places.iter_mut().zip(given) {
-        place.s = at.0;
-        place.t = at.1;
+    for k in 0..MOST {
+        places[k].s = given[k].0;
+        places[k].t = given[k].1;
     }
     places
+}
+
+// The places, and how many there are.
+fn places_of(places: Places) -> ([Place; MOST], usize)
+    ensures { result.1 ≤ 3 }
+{
+    match places {
+        Places::Nowhere => ([CORNER; MOST], 0),
+        Places::Middles => {
+            let middle = 2147483648;
+            let given = [(middle, middle), (2147479552, middle), (2415919104, middle)];
+            (places_at(given), MOST)
+        }
+        Places::Tiles => {
+            let given = [
+                (563714457, 492131669),
+                (3784939929, 492131669),
+                (187904819, 3623878656),
+            ];
+            (places_at(given), MOST)
+        }
+    }
 }
 
 impl<T: Tap> Worker<'_, T> {
@@ -49,7 +83,7 @@ impl<T: Tap> Worker<'_, T> {
         tap: usize,
         file: u32,
         options: BatchOptions,
-        given: &[(i64, i64)],
+        places: Places,
     ) -> Answer
         requires file { file < 5 }
         requires told { (file : ℕ) → file < 5 → IsFile T.W.files file }
@@ -58,11 +92,10 @@ impl<T: Tap> Worker<'_, T> {
         let Some(tap) = self.taps.get_mut(tap) else {
             return Answer::Other;
         };
-        let n = given.len();
-        if MOST < n || options.channels() != 1 {
+        if options.channels() != 1 {
             return Answer::Other;
         }
-        let places = places_of(given);
+        let (places, n) = places_of(places);
         let batch = Batch {
             options,
             places: &places[..n],
@@ -105,26 +138,11 @@ const FOOTPRINTS: BatchOptions = BatchOptions::Footprints(FootprintOptions {
     nch: 1,
 });
 
-// The middle of `A`, where four texels have the mean 6553.5; 1/2^20 of the width to the left, where
-// it is 6553.499; and 1/16 to the right, where it is 6617.75.
-const MIDDLES: &[(i64, i64)] = &[
-    (2147483648, 2147483648),
-    (2147479552, 2147483648),
-    (2415919104, 2147483648),
-];
-
-// In the texels (10, 5), (70, 5) and (3, 40) of `B`, each in another tile.
-const TILES: &[(i64, i64)] = &[
-    (563714457, 492131669),
-    (3784939929, 492131669),
-    (187904819, 3623878656),
-];
-
 // Each texel is a need, and all but the first hit.
 static ANSWERED: &[Step] = &[
     (
         PLAIN,
-        Many(A, POINTS, MIDDLES),
+        Many(A, POINTS, Middles),
         Of(1),
         &[6554, 6553, 6618],
         [12, 11, 1, 0],
@@ -132,7 +150,7 @@ static ANSWERED: &[Step] = &[
     ),
     (
         PLAIN,
-        Many(A, FOOTPRINTS, MIDDLES),
+        Many(A, FOOTPRINTS, Middles),
         Of(1),
         &[6554, 6553, 6618],
         [24, 23, 1, 0],
@@ -140,7 +158,7 @@ static ANSWERED: &[Step] = &[
     ),
     (
         PLAIN,
-        Many(A, POINTS, &[]),
+        Many(A, POINTS, Nowhere),
         Of(1),
         &[],
         [24, 23, 1, 0],
@@ -152,7 +170,7 @@ static ANSWERED: &[Step] = &[
 static FAILED: &[Step] = &[
     (
         BROKEN,
-        Many(B, NEAREST, TILES),
+        Many(B, NEAREST, Tiles),
         Stopped(1, 1),
         &[510, 7, 7],
         [2, 0, 1, 0],
@@ -160,7 +178,7 @@ static FAILED: &[Step] = &[
     ),
     (
         BROKEN,
-        Many(B, NEAREST, TILES),
+        Many(B, NEAREST, Tiles),
         Of(1),
         &[510, 570, 4003],
         [5, 1, 1, 0],
@@ -172,7 +190,7 @@ static FAILED: &[Step] = &[
 static REPLACED: &[Step] = &[
     (
         RISING,
-        Many(B, NEAREST, TILES),
+        Many(B, NEAREST, Tiles),
         Stopped(1, 1),
         &[510, 7, 7],
         [2, 0, 2, 0],
@@ -180,7 +198,7 @@ static REPLACED: &[Step] = &[
     ),
     (
         RISING,
-        Many(B, NEAREST, TILES),
+        Many(B, NEAREST, Tiles),
         Of(2),
         &[511, 571, 4004],
         [5, 0, 2, 0],
