@@ -185,6 +185,27 @@ static ROWS: &[(&str, &[Step])] = &[
             ),
         ],
     ),
+    (
+        "a file is not opened for texels of a level that it lacks",
+        &[
+            (
+                PLAIN,
+                Info(A),
+                Facts([1, 4, 4, 1, 8, 1, 3]),
+                &[],
+                [0, 0, 1, 0],
+                CALLS,
+            ),
+            (
+                PLAIN,
+                Pixels(A, (9, 0, 0), (1, 1)),
+                NoLevel(1, 3),
+                &[7],
+                [0, 0, 1, 0],
+                QUIET,
+            ),
+        ],
+    ),
 ];
 
 #[test]

@@ -38,9 +38,17 @@ static FIRST: &[Step] = &[
     ),
 ];
 
-// The second pass has cell 3 pinned by a hold, and cell 1 in its microcache. Its tap meets a newer
-// generation of `A`.
+// The record of `B` is still kept after `carry`. The second pass has cell 3 pinned by a hold, and
+// cell 1 in its microcache. Its tap meets a newer generation of `A`.
 static SECOND: &[Step] = &[
+    (
+        PLAIN,
+        Info(B),
+        Facts([1, 80, 48, 3, 16, 1, 1]),
+        &[],
+        [0, 0, 1, 0],
+        QUIET,
+    ),
     (PLAIN, Hold(B, (0, 64, 32)), Of(1), &[], [0, 0, 1, 1], CALLS),
     (
         PLAIN,

@@ -2,9 +2,10 @@
 use Rattle.std.proofs.Common.{◌≡◌, ℕ, ◌<◌, ◌≤◌, true, false, nat_eq, List, [], ◌∷◌, ◌++◌, length, length-append}
 use Rattle.std.proofs.Common.{Option, Some, None, IfSome, IsSome, set, drop, append_assoc}
 use Rattle.std.proofs.Common.{refl, sym, ap, ◌∙◌, subst, ⊎_elim, arith}
+use Rattle.std.specs.List.{IsDistinct}
 use Rattle.std.specs.Option.{option_map_or}
 use Rattle.std.proofs.Common.{append-nil, set-set, Result, Ok, Err, OnOk}
-use Rattle.std.proofs.lemmas.Bool.{eq-eqb, or_left, cases_lt, false≢true}
+use Rattle.std.proofs.lemmas.Bool.{eq-eqb, or_left, or_parts, or_from, cases_lt, false≢true}
 use Rattle.std.proofs.lemmas.Grind.{get_or-set_at}
 use Rattle.std.proofs.lemmas.List.{length-set, get_or-set_other, drop_all, drop-append-le}
 use Rattle.tile_store.specs.Entry.{EntryState, entry_at}
@@ -14,7 +15,8 @@ use Rattle.tile_store.specs.Slots.{ShardState, AreInSlots, SameSlots, LosesKey, 
 use Rattle.tile_store.specs.Slots.{SlotsAfterInsert}
 use Rattle.tile_store.specs.Order.{entries_of, IsOrdered, Evicts, MakesRoom}
 use Rattle.tile_store.specs.Order.MakesRoom.{stays, evicts}
-use Rattle.tile_store.proofs.OrderLemmas.{there, entry_by_some, entry_by_none}
+use Rattle.tile_store.proofs.OrderLemmas.{there, entry_by_some, entry_by_none, head_in, tail_in}
+use Rattle.tile_store.proofs.PlaceLemmas.{apart_as, apart_from}
 use Rattle.tile_store.proofs.EndLemmas.{cases_in}
 use Rattle.tile_store.proofs.KeyLemmas.{slot_has, low_key}
 use Rattle.tile_store.proofs.ChainLemmas.{out_fore, out_back, in_parts}
@@ -34,10 +36,56 @@ in_slots slots free room told index links is = record {
 
 -- ---- slots that entries leave
 
+-- no slot is there twice
+once_none : IsDistinct nat_eq []
+unfolding IsDistinct
+once_none = tt
+
+once_one : (p : ℕ) → IsDistinct nat_eq (p ∷ [])
+unfolding IsDistinct
+once_one p = (tt, tt)
+
+-- a place that is in neither list is not in both together
+out_parts : (p : ℕ) (xs ys : List ℕ) → is_in p xs ≡ false → is_in p ys ≡ false
+    → is_in p (xs ++ ys) ≡ false
+out_parts p [] ys out_xs out_ys = out_ys
+out_parts p (x ∷ xs) ys out_xs out_ys =
+    let parts = or_parts (nat_eq p x) (is_in p xs) out_xs in
+    or_from (nat_eq p x) (is_in p (xs ++ ys)) parts.0 (out_parts p xs ys parts.1 out_ys)
+
+-- what is not in a list, since that is absurd
+not_in : (p : ℕ) (xs : List ℕ) → (is_in p xs ≡ true → ⊥) → is_in p xs ≡ false
+not_in p xs never =
+    (elim (is_in p xs) as (λ b. is_in p xs ≡ b → b ≡ false) [
+      | true ↦ λ has. absurd (never has)
+      | false ↦ λ _. refl
+    ]) refl
+
+-- two lists without a place in common have no place twice
+once_both : (xs ys : List ℕ) → IsDistinct nat_eq xs → IsDistinct nat_eq ys
+    → ((q : ℕ) → is_in q xs ≡ true → is_in q ys ≡ true → ⊥) → IsDistinct nat_eq (xs ++ ys)
+unfolding IsDistinct
+once_both [] ys apart_xs apart_ys never = apart_ys
+once_both (x ∷ xs) ys apart_xs apart_ys never = (
+  apart_as x (xs ++ ys) (out_parts x xs ys (apart_from x xs apart_xs.0)
+      (not_in x ys (λ has. never x (head_in x xs) has))),
+  once_both xs ys apart_xs.1 apart_ys (λ q was now. never q (tail_in q x xs was) now),
+)
+
+-- a slot without a key is not emptied again
+emptied_twice : (a b c : ShardState) (x : EmptiesSlots a b) (y : EmptiesSlots b c) (q : ℕ)
+    → is_in q x.emptied ≡ true → is_in q y.emptied ≡ true → ⊥
+emptied_twice a b c x y q was now =
+    let none = x.none q was in
+    let some = y.had q now in
+    false≢true (subst (λ o. IsSome o) none some)
+
 pub same_empties : (old new : ShardState) → SameSlots old new → EmptiesSlots old new
 same_empties old new same = record {
   emptied = [];
   left = same.left ∙ sym (append-nil old.left);
+  once = once_none;
+  had = λ p h. absurd (false≢true h);
   none = λ p h. absurd (false≢true h);
   kept = λ p _. ap (λ l. key_in l p) same.slots;
   count = ap length same.slots;
@@ -57,6 +105,11 @@ lost_empties key old new lost =
           record {
             emptied = p ∷ [];
             left = lost.left ∙ ap (λ o. old.left ++ option_map_or (λ q. q ∷ []) o []) is;
+            once = once_one p;
+            had = λ q h. ⊎_elim
+                (λ (e : q ≡ p). subst (λ o. IsSome o)
+                (sym (ap (key_in old.slots) e ∙ slot_has key old.slots p is)) refl)
+                (λ no_more. absurd (false≢true no_more)) (cases_in q p [] h);
             none = λ q h. ⊎_elim
                 (λ (e : q ≡ p). ap (λ l. key_in l q) now ∙ get_or-set_at old.slots p q None None e low)
                 (λ no_more. absurd (false≢true no_more)) (cases_in q p [] h);
@@ -74,6 +127,14 @@ pub empties_more : (a b c : ShardState) → EmptiesSlots a b → EmptiesSlots b 
 empties_more a b c x y = record {
   emptied = x.emptied ++ y.emptied;
   left = y.left ∙ ap (λ l. l ++ y.emptied) x.left ∙ append_assoc a.left x.emptied y.emptied;
+  once = once_both x.emptied y.emptied x.once y.once (λ q was now. emptied_twice a b c x y q was now);
+  had = λ q h.
+      (elim (is_in q x.emptied) as (λ i. is_in q x.emptied ≡ i → IsSome (key_in a.slots q)) [
+        | true ↦ λ was. x.had q was
+        | false ↦ λ not. subst (λ o. IsSome o) (x.kept q not) (y.had q (⊎_elim
+            (λ was. absurd (false≢true (sym not ∙ was))) (λ now. now)
+            (in_parts q x.emptied y.emptied h)))
+      ]) refl;
   none = λ q h.
       (elim (is_in q y.emptied) as (λ i. is_in q y.emptied ≡ i → key_in c.slots q ≡ None) [
         | true ↦ λ now. y.none q now

@@ -1,6 +1,7 @@
 -- Which slot of a shard has which entry, and how does each call change that?
-use Rattle.std.specs.Prelude.{◌≡◌, ℕ, true, false, List, [], ◌∷◌, ◌++◌, length, replicate}
+use Rattle.std.specs.Prelude.{◌≡◌, ℕ, true, false, nat_eq, List, [], ◌∷◌, ◌++◌, length, replicate}
 use Rattle.std.specs.Prelude.{Option, Some, None, IsSome}
+use Rattle.std.specs.List.{IsDistinct}
 use Rattle.std.specs.Option.{option_map_or}
 use Rattle.tile_store.specs.Entry.{Entries, entry_at}
 use Rattle.tile_store.specs.Links.{is_in}
@@ -36,10 +37,13 @@ pub record LosesKey (key : ℕ) (old new : ShardState) : Type 0 where
   pub left : new.left
       ≡ old.left ++ option_map_or (λ slot. slot ∷ []) (slot_of key old.slots) []
 
--- Some slots were emptied and are still to be reported. The others keep their keys.
+-- Some slots that had a key were emptied, each once, and are still to be reported. The others keep
+-- their keys.
 pub record EmptiesSlots (old new : ShardState) : Type 0 where
   pub emptied : List ℕ
   pub left : new.left ≡ old.left ++ emptied
+  pub once : IsDistinct nat_eq emptied
+  pub had : (slot : ℕ) → is_in slot emptied ≡ true → IsSome (key_in old.slots slot)
   pub none : (slot : ℕ) → is_in slot emptied ≡ true → key_in new.slots slot ≡ None
   pub kept : (slot : ℕ) → is_in slot emptied ≡ false → key_in new.slots slot ≡ key_in old.slots slot
   pub count : length new.slots ≡ length old.slots

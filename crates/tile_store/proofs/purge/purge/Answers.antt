@@ -1,8 +1,19 @@
-use Rattle.std.proofs.Common.{◌≡◌, ℕ, ◌+◌, ◌-◌, length, ◌∙◌, ap, arith}
+use Rattle.std.proofs.Common.{◌≡◌, ℕ, ◌+◌, ◌-◌, length, ◌∙◌, refl, sym, ap, arith}
 use Rattle.tile_store.specs.Leaving.{turned}
-use Rattle.tile_store.proofs.PurgeLemmas.{turned-turned_to, turned_to-some}
-use Rattle.tile_store.proofs.LeftLemmas.{empties_more}
+use Rattle.tile_store.proofs.PurgeLemmas.{turned-turned_to, turned_to-some, turned_to-all}
+use Rattle.tile_store.proofs.LeftLemmas.{same_empties, empties_more}
 use Rattle.tile_store.proofs.purge.purge.Goals as goal
+
+pub around-init : goal.around-init
+around-init g c =
+    let es = c.args.order.now.entries in
+    let all : length es - 0 ≡ length es = omega arith in (
+      record {
+        entries = rw all (sym (turned_to-all c.args.file c.args.below es));
+        bytes_are = omega arith;
+      },
+      same_empties c.args.order.now c.args.order.now (record { slots = refl; left = refl }),
+    )
 
 pub take_or_turn-bytes-requires : goal.take_or_turn-bytes-requires
 take_or_turn-bytes-requires g c =
