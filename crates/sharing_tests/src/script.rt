@@ -141,6 +141,11 @@ fn why_refused(error: FileError<GaveUp>) -> Answer {
     }
 }
 
+// One of two records.
+fn one_of<'x, X>(first: &'x Option<X>, latest: &'x Option<X>, is_first: bool) -> &'x Option<X> {
+    if is_first { first } else { latest }
+}
+
 impl<T: Tap + Drop + Shows> Script<'_, T> {
     /// Makes the calls until one gives another answer than expected.
     pub(crate) fn first_wrong(&mut self, steps: &[Step]) -> Option<Wrong>
@@ -221,7 +226,7 @@ impl<T: Tap + Drop + Shows> Script<'_, T> {
     fn lend(&mut self, tap: usize, file: u32, is_first: bool) -> Answer
         requires { IsFile T.W.files file }
     {
-        let record = if is_first { &self.first } else { &self.record };
+        let record = one_of(&self.first, &self.record, is_first);
         let (Some(tap), Some(record)) = (self.taps.get_mut(tap), record) else {
             return Answer::Nothing;
         };
