@@ -65,7 +65,7 @@ enum texcache_status {
     TEXCACHE_NEEDED = 1,            /* the library needs bytes; no texcache_ call answers this */
     TEXCACHE_BAD_OPTIONS = 2,       /* detail: 1 budget, 2 shards, 3 passes, 4 handles, 5 autotile, 6 slots */
     TEXCACHE_NO_FILE = 3,           /* no file has this number */
-    TEXCACHE_BAD_REQUEST = 4,       /* a number is out of range; detail and value: enum texcache_bad_number */
+    TEXCACHE_BAD_REQUEST = 4,       /* a number is out of range; detail: enum texcache_bad_number (0 of the calls named _fixed) */
     TEXCACHE_SMALL_BUFFER = 5,      /* value: how many values there are (not of the calls named _fixed) */
     TEXCACHE_NO_PERMIT = 6,         /* the cache has as many passes as it may have */
     TEXCACHE_NOT_LOCAL = 7,         /* the pass's two latest tiles do not have all texels of the lookup */
@@ -164,7 +164,8 @@ enum texcache_bad_number {
 };
 
 /* The coordinates of many lookups, and their derivatives, or NULL for all four. Those of lookup i are at i * step:
- * with step 1 each is an array of its own, with step 6 all are in one array of structs of six doubles. */
+ * with step 1 each is an array of its own, with step 6 all are in one array of structs of six doubles. With step 0 all
+ * lookups are the first. */
 typedef struct texcache_coordinates {
     const double *s, *t;
     const double *dsdx, *dtdx, *dsdy, *dtdy;
@@ -1050,7 +1051,8 @@ TEXCACHE_API int texcache_texture_footprint(texcache_pass *pass, uint32_t file, 
  * `done`, which may be NULL, says how many lookups stand. After success these are all. If a number is out of range they
  * are none, and nothing was written. After another error the first `done` lookups stand, all of the generation that the
  * answer names; the values behind them are unchanged unless the file was replaced during the call. If it is replaced
- * 64 times during the call, that is TEXCACHE_AGAIN. Nothing is allocated; a call makes parts of at most 64 lookups. */
+ * 64 times during the call, that is TEXCACHE_AGAIN. Nothing is allocated, except for tiles that the cache lacks; a call
+ * makes parts of at most 64 lookups. */
 TEXCACHE_API int texcache_texture_many(texcache_pass *pass, uint32_t file, const texcache_texture_options *options,
                                        const texcache_coordinates *at, size_t count, uint16_t *out, size_t room,
                                        size_t *done, texcache_answer *answer)

@@ -1,4 +1,4 @@
-// texcache.hpp: textures of a folder of TIFF files, for programs in C++17. Header only, over texcache.h.
+// texcache.hpp: textures of a folder of TIFF files, for programs in C++14 or later. Header only, over texcache.h.
 //
 //     texcache_cpp::Cache cache("textures");
 //     texcache_cpp::Pass pass(cache);                    // one for each thread
@@ -27,10 +27,23 @@ namespace texcache_cpp {
 class Refused : public std::runtime_error {
 public:
     explicit Refused(int status, const texcache_answer &answer = texcache_answer())
-        : std::runtime_error(texcache_error_string(status)), status(status), answer(answer) {}
+        : std::runtime_error(text(status, answer)), status(status), answer(answer) {}
 
     int status;              // enum texcache_status
     texcache_answer answer;  // the generation, the fault and what else belongs to it
+
+private:
+    // The name of an error, and which option or number it was, if the answer says so.
+    static std::string text(int status, const texcache_answer &answer)
+    {
+        static const char *const options[] = {"budget", "shards", "passes", "handles", "autotile", "slots"};
+        static const char *const numbers[] = {"swrap", "twrap", "channels", "filter", "lod", "max_probes"};
+        std::string text = texcache_error_string(status);
+        if (status == TEXCACHE_BAD_OPTIONS && answer.detail - 1 < 6) return text + ": " + options[answer.detail - 1];
+        if (status != TEXCACHE_BAD_REQUEST) return text;
+        if (answer.detail == TEXCACHE_BAD_PLACE) return text + ": lookup " + std::to_string(answer.value);
+        return answer.detail - 1 < 6 ? text + ": " + numbers[answer.detail - 1] : text;
+    }
 };
 
 inline void check(int status, const texcache_answer &answer = texcache_answer())
@@ -112,12 +125,13 @@ public:
     }
 
     // Writes the values of a lookup at a place to `out`, and returns their generation. What s, t and the derivatives
-    // mean is in texcache.h. Nothing is allocated, here and in the four calls below.
+    // mean is in texcache.h. Nothing is allocated, except for tiles that the cache lacks, here and in the four calls
+    // below. An empty `out` is too small; NULL with a size is refused.
     std::uint32_t texture(std::uint32_t file, const texcache_texture_options &options, double s, double t,
                           Span<std::uint16_t> out)
     {
         return generation([&](texcache_answer *a) {
-            return texcache_texture(pass_, file, &options, s, t, out.data(), out.size(), a); });
+            return texcache_texture(pass_, file, &options, s, t, at(out), out.size(), a); });
     }
 
     // Writes the values over a pixel's footprint.
@@ -125,17 +139,18 @@ public:
                                     double dsdx, double dtdx, double dsdy, double dtdy, Span<std::uint16_t> out)
     {
         return generation([&](texcache_answer *a) {
-            return texcache_texture_footprint(pass_, file, &options, s, t, dsdx, dtdx, dsdy, dtdy, out.data(), out.size(),
+            return texcache_texture_footprint(pass_, file, &options, s, t, dsdx, dtdx, dsdy, dtdy, at(out), out.size(),
                                               a); });
     }
 
     // Writes the values of `count` lookups, which are of one generation. `done`, if given, says how many stand, also
     // if it throws.
-    std::uint32_t texture_many(std::uint32_t file, const texcache_texture_options &options, const texcache_coordinates &at,
-                               std::size_t count, Span<std::uint16_t> out, std::size_t *done = nullptr)
+    std::uint32_t texture_many(std::uint32_t file, const texcache_texture_options &options,
+                               const texcache_coordinates &places, std::size_t count, Span<std::uint16_t> out,
+                               std::size_t *done = nullptr)
     {
         return generation([&](texcache_answer *a) {
-            return texcache_texture_many(pass_, file, &options, &at, count, out.data(), out.size(), done, a); });
+            return texcache_texture_many(pass_, file, &options, &places, count, at(out), out.size(), done, a); });
     }
 
     // Those at the places of two arrays of one length.
@@ -143,8 +158,8 @@ public:
                                Span<const double> t, Span<std::uint16_t> out, std::size_t *done = nullptr)
     {
         same_size(s, {t});
-        texcache_coordinates at = {s.data(), t.data(), nullptr, nullptr, nullptr, nullptr, 1};
-        return texture_many(file, options, at, s.size(), out, done);
+        texcache_coordinates places = {at(s), at(t), nullptr, nullptr, nullptr, nullptr, 1};
+        return texture_many(file, options, places, s.size(), out, done);
     }
 
     // Those over the footprints of six arrays of one length.
@@ -154,8 +169,8 @@ public:
                                std::size_t *done = nullptr)
     {
         same_size(s, {t, dsdx, dtdx, dsdy, dtdy});
-        texcache_coordinates at = {s.data(), t.data(), dsdx.data(), dtdx.data(), dsdy.data(), dtdy.data(), 1};
-        return texture_many(file, options, at, s.size(), out, done);
+        texcache_coordinates places = {at(s), at(t), at(dsdx), at(dtdx), at(dsdy), at(dtdy), 1};
+        return texture_many(file, options, places, s.size(), out, done);
     }
 
     // The values of a lookup in the units of the program's requests, 1/65536 of the image; and along a footprint.
@@ -189,7 +204,7 @@ public:
     Pixels pixels(std::uint32_t file, const texcache_region &region)
     {
         Pixels pixels;
-        texcache_answer answer;
+        texcache_answer answer = texcache_answer();
         int status;
         std::uint64_t texels = std::uint64_t(region.w) * region.h;
         if (texels <= 1048576) pixels.values.resize(texels * info(file).channels);
@@ -206,7 +221,7 @@ public:
 
     std::uint32_t invalidate(std::uint32_t file, bool force = false)
     {
-        texcache_answer answer;
+        texcache_answer answer = texcache_answer();
         called([&](texcache_answer *a) { return texcache_invalidate(pass_, file, force, a); }, &answer);
         return answer.generation;
     }
@@ -219,7 +234,7 @@ public:
     // Holds the cell of a texel until it is released. A pass holds at most four; the oldest is at place 0.
     std::uint32_t get_tile(std::uint32_t file, std::uint32_t level, std::uint32_t x, std::uint32_t y)
     {
-        texcache_answer answer;
+        texcache_answer answer = texcache_answer();
         called([&](texcache_answer *a) { return texcache_get_tile(pass_, file, level, x, y, a); }, &answer);
         return answer.generation;
     }
@@ -253,9 +268,16 @@ public:
 private:
     template <class Call> static std::uint32_t generation(Call call)
     {
-        texcache_answer answer;
+        texcache_answer answer;  // always filled
         check(call(&answer), answer);
         return answer.generation;
+    }
+
+    // Where elements are. An empty vector may have NULL, which is refused; nothing is read or written there.
+    template <class T> static T *at(Span<T> span)
+    {
+        static T none = 0;
+        return span.size() ? span.data() : &none;
     }
 
     static void same_size(Span<const double> one, std::initializer_list<Span<const double>> others)
@@ -266,7 +288,7 @@ private:
 
     template <class Call> static void called(Call call, texcache_answer *said)
     {
-        texcache_answer own, *answer = said ? said : &own;
+        texcache_answer own = texcache_answer(), *answer = said ? said : &own;
         int status = call(answer);
         check(status, *answer);
     }

@@ -26,7 +26,7 @@ except ImportError:
 
 BLACK, CLAMP, PERIODIC, MIRROR = range(4)
 CLOSEST, BILINEAR, TRILINEAR = range(3)
-OK, SMALL_BUFFER, NOT_LOCAL = 0, 5, 7
+OK, BAD_OPTIONS, BAD_REQUEST, SMALL_BUFFER, NOT_LOCAL = 0, 2, 4, 5, 7
 
 
 class _Struct(ctypes.Structure):
@@ -132,12 +132,23 @@ def _declared(library):
 _lib = _declared(ctypes.CDLL(os.environ.get("TEXCACHE_LIBRARY", str(Path(__file__).with_name("libtexcache.so")))))
 
 
+def _text(status, answer):
+    """The name of an error, and which option or number it was, if the answer says so."""
+    text, names = _lib.texcache_error_string(status).decode(), ()
+    if status == BAD_OPTIONS:
+        names = ("budget", "shards", "passes", "handles", "autotile", "slots")
+    elif status == BAD_REQUEST:
+        names = ("swrap", "twrap", "channels", "filter", "lod", "max_probes", f"lookup {answer.value}")
+    return f"{text}: {names[answer.detail - 1]}" if 0 < answer.detail <= len(names) else text
+
+
 class Refused(Exception):
     """A failed call: `status` is its number, `answer` has the details, and `values` those lookups of many that stand."""
 
     def __init__(self, status, answer=None, values=None):
-        super().__init__(_lib.texcache_error_string(status).decode())
-        self.status, self.answer, self.values = status, answer or Answer(), values
+        answer = answer or Answer()
+        super().__init__(_text(status, answer))
+        self.status, self.answer, self.values = status, answer, values
 
 
 def _check(status, answer=None):
@@ -181,6 +192,8 @@ class Cache:
     def __init__(self, folder, **options):
         self._at, made, bad = c_void_p(), _lib.texcache_default_options(), Answer()
         for name, value in options.items():
+            if not hasattr(made, name):
+                raise TypeError(f"no option is named {name}")
             setattr(made, name, value)
         detail = c_uint32()
         status = _lib.texcache_open_saying(byref(self._at), os.fsencode(folder), byref(made), byref(detail))
@@ -217,7 +230,7 @@ class Pass:
     """One thread's access to a cache."""
 
     def __init__(self, cache):
-        self._cache, self._at = cache, c_void_p()
+        self._cache, self._at, self.answer = cache, c_void_p(), Answer()
         _check(_lib.texcache_perthread(cache._at, byref(self._at)))
 
     def end(self):
@@ -243,23 +256,24 @@ class Pass:
 
     def _many(self, file, options, numbers, floats):
         columns, shape, places = _columns(numbers)
-        channels, count = options.channels, 1
+        channels, count = min(max(options.channels, 1), 8), 1  # other numbers are refused by the call
         for it in shape:
             count *= it
-        room = count * min(channels, 8)
+        room = count * channels
         if numpy:
             values = numpy.empty(room, dtype=numpy.uint16)
             place = values.ctypes.data
         else:
             values = array("H", bytes(2 * room))
             place = values.buffer_info()[0]
+        self.answer = Answer()
         if not count:
             return _rows(values, count, shape, channels, floats)
-        self.answer, done, at = Answer(), c_size_t(), Coordinates(*places, step=1)
+        done, at = c_size_t(), Coordinates(*places, step=1)
         status = _lib.texcache_texture_many(self._at, file, byref(options), byref(at), count, place, room, byref(done),
                                             byref(self.answer))
         if status != OK:
-            raise Refused(status, self.answer, _rows(values, done.value, shape, channels or 1, floats))
+            raise Refused(status, self.answer, _rows(values, done.value, shape, channels, floats))
         return _rows(values, count, shape, channels, floats)
 
     def _one(self, call, file, options, numbers, floats):
