@@ -160,12 +160,13 @@ enum texcache_bad_number {
     TEXCACHE_BAD_FILTER,
     TEXCACHE_BAD_LOD,
     TEXCACHE_BAD_MAX_PROBES,
-    TEXCACHE_BAD_PLACE  /* a coordinate or a derivative; value: the index of the first such lookup */
+    TEXCACHE_BAD_PLACE, /* a coordinate or a derivative; value: the index of the first such lookup */
+    TEXCACHE_BAD_STEP   /* the step of several lookups is 0 */
 };
 
 /* The coordinates of many lookups, and their derivatives, or NULL for all four. Those of lookup i are at i * step:
- * with step 1 each is an array of its own, with step 6 all are in one array of structs of six doubles. With step 0 all
- * lookups are the first. */
+ * with step 1 each is an array of its own, with step 6 all are in one array of structs of six doubles. A step of 0 is
+ * refused for several lookups. */
 typedef struct texcache_coordinates {
     const double *s, *t;
     const double *dsdx, *dtdx, *dsdy, *dtdy;
@@ -1061,6 +1062,7 @@ TEXCACHE_API int texcache_texture_many(texcache_pass *pass, uint32_t file, const
     if (done) *done = 0;
     if (!at || !at->s || !at->t || !at->dsdx != !at->dtdx || !at->dsdx != !at->dsdy || !at->dsdx != !at->dtdy)
         return texc_fails(TEXCACHE_CLOSED, 0, 0, answer);
+    if (!at->step && count > 1) return texc_fails(TEXCACHE_BAD_REQUEST, TEXCACHE_BAD_STEP, 0, answer);
     return texc_look_up(pass, file, options, at, count, out, room, done, places, answer);
 }
 

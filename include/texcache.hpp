@@ -42,6 +42,7 @@ private:
         if (status == TEXCACHE_BAD_OPTIONS && answer.detail - 1 < 6) return text + ": " + options[answer.detail - 1];
         if (status != TEXCACHE_BAD_REQUEST) return text;
         if (answer.detail == TEXCACHE_BAD_PLACE) return text + ": lookup " + std::to_string(answer.value);
+        if (answer.detail == TEXCACHE_BAD_STEP) return text + ": step";
         return answer.detail - 1 < 6 ? text + ": " + numbers[answer.detail - 1] : text;
     }
 };

@@ -138,7 +138,7 @@ def _text(status, answer):
     if status == BAD_OPTIONS:
         names = ("budget", "shards", "passes", "handles", "autotile", "slots")
     elif status == BAD_REQUEST:
-        names = ("swrap", "twrap", "channels", "filter", "lod", "max_probes", f"lookup {answer.value}")
+        names = ("swrap", "twrap", "channels", "filter", "lod", "max_probes", f"lookup {answer.value}", "step")
     return f"{text}: {names[answer.detail - 1]}" if 0 < answer.detail <= len(names) else text
 
 

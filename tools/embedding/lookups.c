@@ -176,6 +176,10 @@ static void bad_use(texcache_pass *pass, uint32_t file)
     bad = good, bad.max_probes = 0;
     SAYS(texcache_texture_footprint(pass, file, &bad, 0, 0, 0, 0, 0, 0, out, 8, &a), TEXCACHE_BAD_REQUEST);
     IS(a.detail == TEXCACHE_BAD_MAX_PROBES);
+    at.step = 0;
+    SAYS(texcache_texture_many(pass, file, &good, &at, 2, out, COUNT * 8, &done, &a), TEXCACHE_BAD_REQUEST);
+    IS(a.detail == TEXCACHE_BAD_STEP && done == 0);
+    at.step = 1;
     SAYS(texcache_texture(pass, file, &good, 0, 0, out, 2, &a), TEXCACHE_SMALL_BUFFER);
     IS(a.value == 3);
     SAYS(texcache_texture_many(pass, file, &good, &at, COUNT, out, 3 * COUNT - 1, &done, &a), TEXCACHE_SMALL_BUFFER);
