@@ -15,8 +15,8 @@ from texcheck.common import TOP, Missing, said
 from texcheck.sources import copied, crates_below, dependencies, files_of, proved
 from texcheck.unproved import LIBRARY, PROGRAMS, build
 
-# how long it took to prove texcache from nothing, two processors at work
-USUAL = "from nothing this takes about 60 minutes on two processors, and has not been measured on four"
+# how long it took to prove texcache from nothing: with two processors at work, and with four beside some other work
+USUAL = "from nothing this takes about 60 minutes on two processors, and about 40 on four"
 ABOUT = f"""Proves and builds a program, or the library for programs in C ({LIBRARY}), with the crates below it.
 
 Crates that do not use each other are proved at the same time, if there is enough memory. What an earlier run proved is
