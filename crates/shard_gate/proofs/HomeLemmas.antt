@@ -1,8 +1,8 @@
 -- What a seat knows of a shard by the words of its slots, and what those of a new shard are.
-use Rattle.std.proofs.Common.{◌≡◌, ℕ, zero, suc, ◌*◌, ◌≤◌, false}
+use Rattle.std.proofs.Common.{◌≡◌, ℕ, zero, suc, ◌*◌, ◌<◌, ◌≤◌, false}
 use Rattle.std.proofs.Common.{nat_eq, List, [], ◌∷◌, length, Option, Some}
 use Rattle.std.proofs.Common.{None, IsSome, ne_eqb, refl, sym, ap, subst, ◌∙◌, arith}
-use Rattle.std.specs.Prelude.{slice_index}
+use Rattle.std.specs.Prelude.{slice_index, Contains}
 use Rattle.std.specs.List.{AllByRecursion, IsDistinct, sum_by}
 use Rattle.std.specs.Map.{keys_of, values_of}
 use Rattle.std.proofs.lemmas.Bool.{eqb-false, eq-eqb, false≢true}
@@ -19,7 +19,10 @@ use Rattle.tile_store.specs.Lawful.{Lawful}
 use Rattle.tile_store.specs.Slots.{empty_shard}
 use Rattle.shard_gate.specs.declared.rule.Terms.{Terms}
 use Rattle.std.proofs.Common.{replicate}
-use Rattle.std.proofs.lemmas.List.{length-replicate}
+use Rattle.std.proofs.lemmas.List.{length-replicate, get_or_default}
+use Rattle.std.proofs.lemmas.List.Elements.{Contains-from_at}
+use Rattle.shard_gate.specs.Given.{HaveSlots}
+use Rattle.shard_gate.proofs.SlotLemmas.{slot_low, slot_word}
 use Rattle.shard_gate.proofs.PinLemmas.{IsPinned}
 use Rattle.shard_gate.proofs.EntryLemmas.{long_as, key_at, pins_of_slot, key_from, pins_found}
 
@@ -52,6 +55,30 @@ is_there key s pins in_slots is =
       found = there.1;
       pin = subst (λ n. 1 ≤ n) count is.pin;
     }
+
+-- ---- the slots of the entries
+
+has_slot : (s : ShardState) → AreInSlots s → (key : ℕ) (o : Option ℕ) → slot_of key s.slots ≡ o
+    → IsSome (entry_at key s.entries) → Contains (words_of s).keys key
+has_slot s in_slots key None none some =
+    absurd (false≢true (subst (λ (o : Option EntryState). IsSome o) (in_slots.none key none) some))
+has_slot s in_slots key (Some slot) is some =
+    let keys = (words_of s).keys in
+    let low : slot < length keys =
+    omega (arith, long_as key_number s.slots, slot_low s s in_slots key slot is) in
+    Contains-from_at keys key (slot, low, λ d. get_or_default keys slot d 0 low
+    ∙ slot_word s s in_slots key slot is)
+
+-- The slots' keys say where each entry is.
+pub have_slots : (s : ShardState) → AreInSlots s → HaveSlots (words_of s).keys s.entries
+have_slots s in_slots = record {
+  some = λ key some. has_slot s in_slots key (slot_of key s.slots) refl some;
+  apart = λ i j low same.
+      let key = slice_index (words_of s).keys i in
+      in_slots.apart i j key
+      (key_from (key_in s.slots i) key (sym (key_at s.slots i)) low)
+      (key_from (key_in s.slots j) key (sym (key_at s.slots j) ∙ sym same) low);
+}
 
 -- ---- the pins of all entries
 

@@ -1,11 +1,11 @@
 -- What tiles that leave make of the words of the slots, and what telling those makes of that.
 use Rattle.std.proofs.Common.{◌≡◌, ◌≢◌, ℕ, zero, suc, ◌+◌, ◌-◌, ◌<◌, ◌≤◌, Bool, true, false}
 use Rattle.std.proofs.Common.{nat_eq, List, [], ◌∷◌, length, map, set, Option, Some}
-use Rattle.std.proofs.Common.{None, ne_eqb, ◌++◌, ◌||◌, refl, sym, ap, subst, ◌∙◌, arith}
+use Rattle.std.proofs.Common.{None, ◌++◌, ◌||◌, refl, sym, ap, subst, ◌∙◌, arith}
 use Rattle.std.specs.Prelude.{slice_index}
 use Rattle.std.specs.List.{IsDistinct}
 use Rattle.std.specs.Map.{keys_of}
-use Rattle.std.proofs.lemmas.Bool.{eq-eqb, false≢true}
+use Rattle.std.proofs.lemmas.Bool.{false≢true}
 use Rattle.std.proofs.lemmas.List.{length-set, get_or-set_same, get_or-set_other}
 use mathlib.Core.Logic.{dite}
 use native.Mathlib.Decide.{ℕ_discrete}
@@ -21,6 +21,7 @@ use Rattle.shard_gate.specs.Home.{key_number, pins_at, pins_in, words_of}
 use Rattle.shard_gate.specs.Work.{AreBehind}
 use Rattle.shard_gate.proofs.EntryLemmas.{long_as, same_items, key_at, pins_of_slot, one_for, pins_none, one_for_same, pins_less, keys_unpinned, pins_same}
 use Rattle.shard_gate.proofs.SlotLemmas.{pins_set, slot_low, other_key, less_pins}
+use Rattle.shard_gate.proofs.WordLemmas.{head_in, tail_in}
 
 module _ (s new : ShardState) (in_slots : AreInSlots s) where
   -- ---- tiles leave
@@ -127,12 +128,6 @@ past_end : (xs : List ℕ) (k : ℕ) → length xs ≤ k → slice_index xs k �
 past_end [] k past = refl
 past_end (x ∷ xs) zero past = absurd (omega arith)
 past_end (x ∷ xs) (suc k) past = past_end xs k (omega arith)
-
-head_in : (slot : ℕ) (rest : List ℕ) → is_in slot (slot ∷ rest) ≡ true
-head_in slot rest = ap (λ b. b || is_in slot rest) (eq-eqb slot slot refl)
-
-tail_in : (k slot : ℕ) (rest : List ℕ) → k ≢ slot → is_in k (slot ∷ rest) ≡ is_in k rest
-tail_in k slot rest ne = ap (λ b. b || is_in k rest) (ne_eqb k slot ne)
 
 or_true : (b : Bool) → (b || true) ≡ true
 or_true true = refl

@@ -1,5 +1,7 @@
 mod CountLemmas
 mod EntryLemmas
+mod EveryoneLemmas
+mod GivenLemmas
 mod HomeLemmas
 mod LeaveLemmas
 mod ListLemmas

@@ -6,7 +6,8 @@ use Rattle.tiff_format.specs.declared.cut.Cut.{Cut}
 use Rattle.shard_gate.specs.Seated.{ShardId, SeatAt, IsMadeBy, first_seat}
 use Rattle.shard_gate.specs.Gate.{AreLimits, IsFirstSeat}
 use Rattle.shard_gate.specs.Kept.{IsPinSeat, gate_state, seat_state}
-use Rattle.shard_gate.proofs.SeatLemmas.{first_parts, first_shards, first_keys, first_visits, none_placed}
+use Rattle.shard_gate.proofs.SeatLemmas.{first_parts, first_shards, first_keys, first_visits}
+use Rattle.shard_gate.proofs.SeatLemmas.{first_joined, none_placed}
 
 module _ (tables : List ShardId) (seats : List SeatAt) (passes : ℕ)
     (each : seats ≡ map first_seat tables) where
@@ -32,4 +33,5 @@ module _ (tables : List ShardId) (seats : List SeatAt) (passes : ℕ)
         permits = refl;
         pins = first_keys tables;
         visits = first_visits tables;
+        joined = first_joined tables;
       })

@@ -10,7 +10,9 @@ use Rattle.shard_gate.specs.Seated.{ShardId, SeatAt, shard_of_seat, kept_seat, n
 use Rattle.shard_gate.specs.Seated.{both_seats, joined_seats}
 use Rattle.shard_gate.specs.Gate.{PinSeatState, IsSecondSeat, AfterSplit, AfterJoin, max_pins, shard_of}
 use Rattle.shard_gate.specs.Visit.{visits_at}
-use Rattle.shard_gate.specs.Kept.{IsPinSeat, IsPartOf, IsGate, seat_state, visits_of_seat, keys_of_seats}
+use Rattle.shard_gate.specs.Visit as visited
+use Rattle.shard_gate.specs.Kept.{IsPinSeat, IsPartOf, IsGate, seat_state}
+use Rattle.shard_gate.specs.Kept.{visits_of_seat, joined_of_seat, keys_of_seats}
 use Rattle.shard_gate.proofs.SeatLemmas.{pins-le, none_placed}
 
 -- A change of permits alone leaves each seat at its shard.
@@ -25,6 +27,13 @@ pub no_visits : (seats : List SeatAt) (k : ℕ)
 no_visits [] k = refl
 no_visits (s ∷ seats) zero = refl
 no_visits (s ∷ seats) (suc k) = no_visits seats k
+
+-- a new seat has taken over no other
+no_joined : (seats : List SeatAt) (k : ℕ)
+    → visited.joined_at k (map joined_of_seat (map new_seat seats)) ≡ []
+no_joined [] k = refl
+no_joined (s ∷ seats) zero = refl
+no_joined (s ∷ seats) (suc k) = no_joined seats k
 
 -- A change of permits only leaves every pin where it is.
 kept_keys : (seats : List SeatAt) → keys_of_seats (map kept_seat seats) ≡ keys_of_seats seats
@@ -101,6 +110,8 @@ module _ (seats : List SeatAt) (permits : ℕ) (kept : IsPinSeat seats permits) 
     pins = kept_keys seats ∙ ap (λ (q : PinSeatState). q.pins) is;
     visits = same_by visits_of_seat kept_seat seats (λ s. refl)
         ∙ ap (λ (q : PinSeatState). q.visits) is;
+    joined = same_by joined_of_seat kept_seat seats (λ s. refl)
+        ∙ ap (λ (q : PinSeatState). q.joined) is;
   }
 
   pub second_seat : IsSecondSeat p (seat_state (map new_seat seats) 1)
@@ -110,6 +121,7 @@ module _ (seats : List SeatAt) (permits : ℕ) (kept : IsPinSeat seats permits) 
     permits = refl;
     pins = no_keys seats;
     visits = no_visits seats;
+    joined = no_joined seats;
   }
 
   -- Each shard of the seat has the passes of the gate.
@@ -164,6 +176,16 @@ joined_keys : (a b : List SeatAt) → keys_of_seats (joined_seats a b) ≡ keys_
 joined_keys [] b = refl
 joined_keys (x ∷ a) [] = refl
 joined_keys (x ∷ a) (y ∷ b) = ap (λ l. x.pins ++ l) (joined_keys a b)
+
+-- A seat lists the visits of the seat that it takes over before the earlier ones.
+joined_lists : (a b : List SeatAt) (k : ℕ) → k < length a → length a ≡ length b
+    → visited.joined_at k (map joined_of_seat (joined_seats a b))
+    ≡ (visits_at k (map visits_of_seat b) ∷ visited.joined_at k (map joined_of_seat b))
+    ++ visited.joined_at k (map joined_of_seat a)
+joined_lists [] b k low same = absurd (omega arith)
+joined_lists (x ∷ a) [] k low same = absurd (omega arith)
+joined_lists (x ∷ a) (y ∷ b) zero low same = refl
+joined_lists (x ∷ a) (y ∷ b) (suc k) low same = joined_lists a b k (omega arith) (omega arith)
 
 -- one of them
 some_seat : (seats : List SeatAt) → 0 < length seats → SeatAt
@@ -232,4 +254,13 @@ module _ (a b : List SeatAt) (own theirs : ℕ) (kept : IsPinSeat a own)
     );
     pins = joined_keys a b ∙ ap (λ (s : PinSeatState). s.pins) is;
     visits = joined_by visits_of_seat a b (λ x y. refl) ∙ ap (λ (s : PinSeatState). s.visits) is;
+    joined = λ k low.
+        joined_lists a b k (omega (
+          arith,
+          low,
+          ap (λ (s : PinSeatState). length s.gate) is,
+          length-map {A = SeatAt} {B = ShardId},
+        )) as_long
+        ∙ (λ i. (visits_at k ((is_q i).visits) ∷ visited.joined_at k ((is_q i).joined))
+        ++ visited.joined_at k ((is i).joined));
   }

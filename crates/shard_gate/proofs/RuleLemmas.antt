@@ -13,11 +13,11 @@ use Rattle.atomic_table.proofs.Lists.{at_set, at_snoc, set_else}
 use Rattle.tile_store.specs.Entry.{Entries}
 use Rattle.shard_gate.specs.declared.standing.Standing.{Standing}
 use Rattle.shard_gate.specs.declared.rule.Terms.{Terms}
+use Rattle.shard_gate.specs.Visit.{Visit}
 use Rattle.shard_gate.specs.Words.{SlotWords, AreWords, AreHeld, AreFewPins}
 use Rattle.shard_gate.specs.Words.{turn_word, tag_word, first_word, pin_word}
 use Rattle.shard_gate.specs.Words.{max_pins, pins_on}
-use Rattle.shard_gate.specs.Turn.{OneTurn, IsOf, TookLawful}
-use Rattle.shard_gate.specs.Turn.{terms_of}
+use Rattle.shard_gate.specs.Turn.{OneTurn, IsOf, TookLawful, WereGiven, terms_of}
 use Rattle.shard_gate.specs.Turn.{turn_of, permits_of, pinned}
 use Rattle.shard_gate.specs.Turn.{spent_standing}
 use Rattle.shard_gate.specs.Steps.{HasOwnPins}
@@ -86,24 +86,40 @@ module _ {S : Type 0} (lawful : Terms → S → Type 0) (shown : S → Entries)
   abbrev pub KnowsOf : List ℕ → Standing → Type 0
   KnowsOf words v = v.has_turn ≡ true → AreWords terms.passes words v.known
 
-  -- the seat's last visit took the entries of a lawful body
-  abbrev pub TakesOf : Standing → Type 0
-  TakesOf v = v.has_turn ≡ true → TookLawful lawful shown terms v.visits
+  -- the seat's last visit took a lawful body, of which it has changed only what it says
+  abbrev pub TakesOf : List ℕ → Standing → Type 0
+  TakesOf words v = v.has_turn ≡ true
+      → TookLawful lawful shown words_in terms words v.filled v.repinned v.visits
 
-  -- A lawful body is at home, and the words are its own.
-  abbrev pub IsIn : List ℕ → List (Option S) → Type 0
-  IsIn words homes = (body : S) × (get_elem? homes 0 ≡ some (some body)) × lawful terms body
-      × AreWords terms.passes words (words_in body)
+  -- A lawful body is at home, the words are its own, and some seat gave back its entries last.
+  abbrev pub IsIn : List ℕ → List (Option S) → List Standing → Type 0
+  IsIn words homes views = (body : S) × (get_elem? homes 0 ≡ some (some body)) × lawful terms body
+      × AreWords terms.passes words (words_in body) × WereGiven (shown body) views
+
+  -- The turn word does not matter for what was taken.
+  took_still : (words filled repinned : List ℕ) (visits : List Visit) (n : ℕ)
+      → TookLawful lawful shown words_in terms words filled repinned visits
+      → TookLawful lawful shown words_in terms (set words turn_word n) filled repinned visits
+  took_still words filled repinned visits n is = record {
+    body = is.body;
+    before = is.before;
+    right = is.right;
+    last = is.last;
+    keys = λ slot out. keys_stay words turn_word n slot (omega arith) ∙ is.keys slot out;
+    pins = λ slot out. pins_stay words turn_word n slot (omega arith) ∙ is.pins slot out;
+  }
 
   -- what is known of a view with other numbers of turns, permits and pins
   pub other_view : (old new : Standing) → IsOf terms old → old.live ≡ true → new.live ≡ old.live
       → new.tag ≡ old.tag → new.passes ≡ old.passes → length new.pins ≤ max_pins * new.permits
+      → 1 ≤ new.permits
       → (new.has_turn ≡ false → new.known ≡ record { keys = []; pins = [] }) → IsOf terms new
-  other_view old new right live same tag passes few blind =
+  other_view old new right live same tag passes few enough blind =
       let alive : new.live ≡ true = same ∙ live in
       record {
         tag = λ _. tag ∙ right.tag live;
         passes = λ _. passes ∙ right.passes live;
+        some = λ _. enough;
         permits = λ e. absurd (cc (alive, e));
         turn = λ e. absurd (cc (alive, e));
         few = few;
@@ -115,8 +131,8 @@ module _ {S : Type 0} (lawful : Terms → S → Type 0) (shown : S → Entries)
       → OneTurn lawful shown words_in terms s → get_elem? s.views id ≡ some old → n ≤ 1
       → slice_index s.words turn_word + turn_of new ≡ n + turn_of old
       → new.permits ≡ old.permits → new.pins ≡ old.pins → IsOf terms new → KnowsOf s.words new
-      → TakesOf new
-      → (n ≡ 0 → IsIn s.words homes)
+      → TakesOf s.words new
+      → (n ≡ 0 → IsIn s.words homes (set s.views id new))
       → OneTurn lawful shown words_in terms (record {
         words = set s.words turn_word n;
         homes = homes;
@@ -153,12 +169,17 @@ module _ {S : Type 0} (lawful : Terms → S → Type 0) (shown : S → Entries)
             words_stay terms.passes s.words turn_word n v.known (omega arith) (is has))
             kept.known
             (λ has. words_stay terms.passes s.words turn_word n new.known (omega arith) (knows has));
-        taken = one_view TakesOf TakesOf s.views id new (λ seat v ne there is. is) kept.taken takes_new;
+        taken = one_view (TakesOf s.words) (TakesOf words) s.views id new
+            (λ seat v ne there is has.
+            took_still s.words v.filled v.repinned v.visits n (is has))
+            kept.taken
+            (λ has. took_still s.words new.filled new.repinned new.visits n (takes_new has));
         home = λ e. let in_place = home (sym there ∙ e) in (
           in_place.0,
           in_place.1,
           in_place.2,
           words_stay terms.passes s.words turn_word n (words_in in_place.0) (omega arith) in_place.3,
+          in_place.4,
         );
         permits = omega (arith, sum_set permits_of s.views id old new at, kept.permits, permits);
       }
@@ -166,17 +187,18 @@ module _ {S : Type 0} (lawful : Terms → S → Type 0) (shown : S → Entries)
   -- A step of the seat that has the turn on a word of a slot.
   pub after_slot : (s : State S Standing) (id word n : ℕ) (old new : Standing)
       → OneTurn lawful shown words_in terms s → get_elem? s.views id ≡ some old → first_word ≤ word
-      → old.has_turn ≡ true → new.has_turn ≡ true → new.permits ≡ old.permits → new.visits ≡ old.visits → IsOf terms new
+      → old.has_turn ≡ true → new.has_turn ≡ true → new.permits ≡ old.permits → IsOf terms new
       → ((slot : ℕ) → slice_index (set s.words word n) (pin_word slot) + pins_on slot old.pins
       ≡ slice_index s.words (pin_word slot) + pins_on slot new.pins)
       → Each (λ v. AreHeld (set s.words word n) v.pins) (set s.views id new)
       → AreWords terms.passes (set s.words word n) new.known
+      → TookLawful lawful shown words_in terms (set s.words word n) new.filled new.repinned new.visits
       → OneTurn lawful shown words_in terms (record {
         words = set s.words word n;
         homes = s.homes;
         views = set s.views id new;
       })
-  after_slot s id word n old new kept at low turn still permits visits right shift held knows =
+  after_slot s id word n old new kept at low turn still permits right shift held knows takes =
       let words = set s.words word n in
       let same_turn : slice_index words turn_word ≡ slice_index s.words turn_word =
       get_or-set_other s.words word turn_word n 0 (λ e. absurd (omega arith)) in
@@ -202,8 +224,11 @@ module _ {S : Type 0} (lawful : Terms → S → Type 0) (shown : S → Entries)
             (omega (arith, kept.turn, kept.most)) seat v ne there other))
             kept.known
             (λ _. knows);
-        taken = one_view TakesOf TakesOf s.views id new (λ seat v ne there is. is) kept.taken
-            (λ _. subst (λ l. TookLawful lawful shown terms l) (sym visits) (kept.taken id old at turn));
+        taken = one_view (TakesOf s.words) (TakesOf words) s.views id new
+            (λ seat v ne there is other. absurd (only_turn s.views id old at turn
+            (omega (arith, kept.turn, kept.most)) seat v ne there other))
+            kept.taken
+            (λ _. takes);
         home = λ e. absurd (omega (arith, same_turn, kept.turn));
         permits = omega (arith, sum_set permits_of s.views id old new at, kept.permits, permits);
       }

@@ -13,8 +13,9 @@ use mathlib.Core.Logic.{dite}
 use native.Mathlib.Decide.{ℕ_discrete}
 use Rattle.shard_gate.specs.Seated.{ShardId, SeatAt, shard_of_seat, first_seat, IsMadeBy}
 use Rattle.shard_gate.specs.Gate.{max_passes, max_pins, shard_of}
-use Rattle.shard_gate.specs.Visit.{visits_at}
+use Rattle.shard_gate.specs.Visit.{visits_at, joined_at}
 use Rattle.shard_gate.specs.Kept.{IsPinSeat, IsPartOf, ArePlaced, keys_of_seats, visits_of_seat}
+use Rattle.shard_gate.specs.Kept.{joined_of_seat}
 
 pub few_permits : (seats : List SeatAt) (permits : ℕ) → IsPinSeat seats permits
     → permits ≤ max_passes
@@ -225,6 +226,13 @@ pub first_visits : (tables : List ShardId) (k : ℕ)
 first_visits [] k = refl
 first_visits (t ∷ tables) zero = refl
 first_visits (t ∷ tables) (suc k) = first_visits tables k
+
+-- the seats of a new gate have taken over no other
+pub first_joined : (tables : List ShardId) (k : ℕ)
+    → joined_at k (map joined_of_seat (map first_seat tables)) ≡ []
+first_joined [] k = refl
+first_joined (t ∷ tables) zero = refl
+first_joined (t ∷ tables) (suc k) = first_joined tables k
 
 -- Without pins, each pin is trivially at its shard.
 pub none_placed : (seats : List SeatAt) → keys_of_seats seats ≡ [] → ArePlaced seats

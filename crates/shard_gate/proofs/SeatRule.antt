@@ -1,7 +1,7 @@
 -- A split, a join and the start keep the rule of a table.
 use Rattle.std.proofs.Common.{◌≡◌, ℕ, ◌-◌, ◌*◌, ◌<◌, ◌≤◌, true, false, cond, List}
 use Rattle.std.proofs.Common.{[], ◌∷◌, set, refl, sym, ap, ◌∙◌, zero-le}
-use Rattle.std.proofs.Common.{arith, length}
+use Rattle.std.proofs.Common.{arith, length, inr}
 use Rattle.std.specs.Prelude.{slice_index}
 use Rattle.std.proofs.lemmas.List.Sums.{sum_by-append, sum_by-cons}
 use Rattle.atomic_table.specs.Table.{Splits, Joins, opening}
@@ -11,11 +11,12 @@ use Rattle.shard_gate.specs.declared.rule.Terms.{Terms}
 use Rattle.shard_gate.specs.Words.{SlotWords, AreBlank, AreHeld}
 use Rattle.shard_gate.specs.Words.{turn_word, tag_word, first_word, key_word, pin_word, word_count}
 use Rattle.shard_gate.specs.Words.{max_pins, pins_on}
-use Rattle.shard_gate.specs.Turn.{OneTurn, IsOf}
+use Rattle.shard_gate.specs.Turn.{OneTurn, IsOf, MadeNoVisit}
 use Rattle.shard_gate.specs.Turn.{first_standing}
 use Rattle.shard_gate.specs.Turn.{turn_of, permits_of}
 use Rattle.shard_gate.specs.Turn.{kept_standing, new_standing, both_standings, spent_standing}
 use Rattle.shard_gate.proofs.SumLemmas.{sum_set}
+use Rattle.shard_gate.proofs.GivenLemmas.{given_still, given_more, given_joined}
 use Rattle.shard_gate.proofs.RuleLemmas.{TakesOf, Each, one_view, one_more, one_only, KnowsOf, other_view}
 
 module _ {S : Type 0} (lawful : Terms → S → Type 0) (shown : S → Entries)
@@ -23,7 +24,7 @@ module _ {S : Type 0} (lawful : Terms → S → Type 0) (shown : S → Entries)
   -- ---- seats
 
   pub split_allowed : (id : ℕ) (v : Standing) → v.live ≡ true → v.has_turn ≡ false
-      → 0 < v.permits → length v.pins ≤ max_pins * (v.permits - 1)
+      → 1 < v.permits → length v.pins ≤ max_pins * (v.permits - 1)
       → Splits (OneTurn lawful shown words_in terms) id v (kept_standing v) (new_standing v)
   split_allowed id v live turn enough few s kept at =
       let right : IsOf terms v = kept.views id v at in
@@ -43,8 +44,10 @@ module _ {S : Type 0} (lawful : Terms → S → Type 0) (shown : S → Entries)
         tag = kept.tag;
         views = one_more (IsOf terms) (set s.views id left) new
             (one_view (IsOf terms) (IsOf terms) s.views id left (λ seat w ne there is. is) kept.views
-            (other_view lawful shown words_in terms v left right live refl refl refl few right.blind))
-            (other_view lawful shown words_in terms v new right live refl refl refl (omega arith) right.blind);
+            (other_view lawful shown words_in terms v left right live refl refl refl few (omega (arith, enough))
+            right.blind))
+            (other_view lawful shown words_in terms v new right live refl refl refl (omega arith)
+            (omega arith) right.blind);
         pins = λ slot. omega (
           arith,
           kept.pins slot,
@@ -59,11 +62,18 @@ module _ {S : Type 0} (lawful : Terms → S → Type 0) (shown : S → Entries)
             (one_view (KnowsOf lawful shown words_in terms s.words) (KnowsOf lawful shown words_in terms s.words) s.views id left
             (λ seat w ne there is. is) kept.known (kept.known id v at))
             (kept.known id v at);
-        taken = one_more (TakesOf lawful shown words_in terms) (set s.views id left) new
-            (one_view (TakesOf lawful shown words_in terms) (TakesOf lawful shown words_in terms) s.views id left (λ seat w ne there is. is) kept.taken
+        taken = one_more (TakesOf lawful shown words_in terms s.words) (set s.views id left) new
+            (one_view (TakesOf lawful shown words_in terms s.words) (TakesOf lawful shown words_in terms s.words) s.views id left (λ seat w ne there is. is) kept.taken
             (kept.taken id v at))
             (λ e. absurd (cc (turn, e)));
-        home = kept.home;
+        home = λ e. let body = kept.home e in (
+          body.0,
+          body.1,
+          body.2,
+          body.3,
+          given_more (shown body.0) (set s.views id left) new (refl, tt)
+              (given_still (shown body.0) s.views id v at left (λ gave. gave) (λ none. none) body.4),
+        );
         permits = omega (
           arith,
           sum_by-append permits_of (set s.views id left) (new ∷ []),
@@ -94,10 +104,12 @@ module _ {S : Type 0} (lawful : Terms → S → Type 0) (shown : S → Entries)
         views = one_view (IsOf terms) (IsOf terms) (set s.views id both) other spent_standing
             (λ seat u ne is_there is. is)
             (one_view (IsOf terms) (IsOf terms) s.views id both (λ seat u ne is_there is. is) kept.views
-            (other_view lawful shown words_in terms v both right live refl refl refl (omega (arith, right.few)) right.blind))
+            (other_view lawful shown words_in terms v both right live refl refl refl (omega (arith, right.few))
+            (omega (arith, right.some live)) right.blind))
             (record {
               tag = λ e. cc e;
               passes = λ e. cc e;
+              some = λ e. absurd (cc e);
               permits = λ _. refl;
               turn = λ _. refl;
               few = omega arith;
@@ -120,12 +132,18 @@ module _ {S : Type 0} (lawful : Terms → S → Type 0) (shown : S → Entries)
             (one_view (KnowsOf lawful shown words_in terms s.words) (KnowsOf lawful shown words_in terms s.words) s.views id both
             (λ seat u ne is_there is. is) kept.known (kept.known id v at))
             (λ e. absurd (cc e));
-        taken = one_view (TakesOf lawful shown words_in terms) (TakesOf lawful shown words_in terms) (set s.views id both) other spent_standing
+        taken = one_view (TakesOf lawful shown words_in terms s.words) (TakesOf lawful shown words_in terms s.words) (set s.views id both) other spent_standing
             (λ seat u ne is_there is. is)
-            (one_view (TakesOf lawful shown words_in terms) (TakesOf lawful shown words_in terms) s.views id both (λ seat u ne is_there is. is) kept.taken
+            (one_view (TakesOf lawful shown words_in terms s.words) (TakesOf lawful shown words_in terms s.words) s.views id both (λ seat u ne is_there is. is) kept.taken
             (kept.taken id v at))
             (λ e. absurd (cc e));
-        home = kept.home;
+        home = λ e. let body = kept.home e in (
+          body.0,
+          body.1,
+          body.2,
+          body.3,
+          given_joined (shown body.0) s.views id v other w at apart there body.4,
+        );
         permits = omega (
           arith,
           sum_set permits_of (set s.views id both) other w spent_standing there,
@@ -138,10 +156,10 @@ module _ {S : Type 0} (lawful : Terms → S → Type 0) (shown : S → Entries)
 
   pub opened : (words : List ℕ) (body : S) → length words ≡ word_count terms.passes
       → slice_index words turn_word ≡ 0 → slice_index words tag_word ≡ terms.tag
-      → ((k : ℕ) → first_word ≤ k → slice_index words k ≡ 0) → lawful terms body
-      → AreBlank terms.passes (words_in body)
+      → ((k : ℕ) → first_word ≤ k → slice_index words k ≡ 0) → 1 ≤ terms.passes → lawful terms body
+      → AreBlank terms.passes (words_in body) → shown body ≡ []
       → OneTurn lawful shown words_in terms (opening words (body ∷ []) (first_standing terms))
-  opened words body count turn tag blank right clear =
+  opened words body count turn tag blank enough right clear empty =
       let first = first_standing terms in
       let only : (P : Standing → Type 0) → P first → Each P (first ∷ []) = λ P is. one_only P first is in
       record {
@@ -152,6 +170,7 @@ module _ {S : Type 0} (lawful : Terms → S → Type 0) (shown : S → Entries)
         views = only (IsOf terms) (record {
           tag = λ _. refl;
           passes = λ _. refl;
+          some = λ _. enough;
           permits = λ e. absurd (cc e);
           turn = λ e. absurd (cc e);
           few = zero-le;
@@ -160,7 +179,7 @@ module _ {S : Type 0} (lawful : Terms → S → Type 0) (shown : S → Entries)
         pins = λ slot. blank (pin_word slot) (omega arith);
         held = only (λ v. AreHeld words v.pins) tt;
         known = only (KnowsOf lawful shown words_in terms words) (λ e. absurd (cc e));
-        taken = only (TakesOf lawful shown words_in terms) (λ e. absurd (cc e));
+        taken = only (TakesOf lawful shown words_in terms words) (λ e. absurd (cc e));
         home = λ _. (
           body,
           refl,
@@ -171,6 +190,7 @@ module _ {S : Type 0} (lawful : Terms → S → Type 0) (shown : S → Entries)
             keys = λ slot. blank (key_word slot) (omega arith) ∙ sym (clear.keys slot);
             pins = λ slot. blank (pin_word slot) (omega arith) ∙ sym (clear.pins slot);
           },
+          inr (only MadeNoVisit (refl, tt), empty),
         );
         permits = omega arith;
       }

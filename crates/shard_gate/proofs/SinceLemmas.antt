@@ -7,7 +7,7 @@ use Rattle.tex_world.specs.World.{Files}
 use Rattle.tiff_format.specs.declared.shard_count.ShardCount.{ShardCount}
 use Rattle.tile_store.specs.Tile.{CachedTile}
 use Rattle.tile_store.specs.Entry.{EntryState, entry_at}
-use Rattle.tile_store.specs.Changes.{pinned_first, inserted}
+use Rattle.tile_store.specs.Changes.{pinned_first}
 use Rattle.shard_gate.specs.Visit.{Visit, visit, visits_at}
 use Rattle.shard_gate.specs.Given.{GivesBack, Finds, Inserts, Releases, Counts}
 use Rattle.shard_gate.specs.Given.{AtShard}
@@ -51,19 +51,16 @@ module _ (gate : GateState) where
 
     adds_given_back : (old new : List Visit) → GivesBack old new → AddsCalls gate shard old new
     adds_given_back old new w =
-        one_more_visit (visit w.taken w.taken) old new (looks refl) w.left
+        one_more_visit _ old new (looks refl) w.left
 
     adds_found : (key : ℕ) → IsShardOf gate key shard → (tile : Option CachedTile)
         (old new : List Visit) → Finds key tile old new → AddsCalls gate shard old new
-    adds_found key at tile old new w = one_more_visit (visit w.taken (pinned_first key w.taken))
-        old new (pins key at refl) w.left
+    adds_found key at tile old new w = one_more_visit _ old new (pins key at refl) w.left
 
     adds_inserted : (tile result : CachedTile) → IsShardOf gate tile.key shard
         → (old new : List Visit) → Inserts (slots_of gate.passes) tile result old new
         → AddsCalls gate shard old new
-    adds_inserted tile result at old new w = one_more_visit
-        (visit w.taken (inserted tile (slots_of gate.passes) w.taken))
-        old new (inserts tile at refl) w.left
+    adds_inserted tile result at old new w = one_more_visit _ old new (inserts tile at refl) w.left
 
     adds_released : (key : ℕ) → IsShardOf gate key shard → (old new : List Visit)
         → Releases gate.share key old new → AddsCalls gate shard old new
@@ -183,7 +180,7 @@ module _ (gate : GateState) where
   pub misses_pin : (key : ℕ) (old new : PinSeatState) → VisitsAt gate key (Finds key None) old new
       → Misses gate key old new
   misses_pin key old new at = record {
-    missed = visit at.here.taken (pinned_first key at.here.taken);
+    missed = visit at.here.taken at.here.keys (pinned_first key at.here.taken) at.here.keys;
     later = [];
     earlier = [];
     lacks = no_entry (entry_at key at.here.taken) at.here.found;

@@ -45,7 +45,7 @@ module _ {A : Type 0} (value : A → ShardState) where
     pub before : A
     pub slots : now.1 ≡ (0, body) ∷ []
     pub slots_before : old.1 ≡ (0, before) ∷ []
-    pub view : now.0 ≡ record old.0 { known = now.0.known }
+    pub view : now.0 ≡ record old.0 { known = now.0.known; filled = now.0.filled }
     pub entries : (value body).entries ≡ (value before).entries
     pub same : (value body).slots ≡ (value before).slots
     pub behind : AreBehind now.0.known (value body)
@@ -123,7 +123,10 @@ module _ {A : Type 0} (value : A → ShardState) (files : Files) (old now : Me A
           before = told.before;
           slots = ap (λ l. (0, new_body) ∷ l) carried;
           slots_before = told.slots_before;
-          view = λ i. record (told.view i) { known = (with_key slot 0 now.0).known };
+          view = λ i. record (told.view i) {
+            known = (with_key slot 0 now.0).known;
+            filled = (with_key slot 0 now.0).filled;
+          };
           entries = ap (λ (t : ShardState). t.entries) put ∙ (tells.entries
               ∙ (ap (λ (t : ShardState). t.entries) here ∙ told.entries));
           same = ap (λ (t : ShardState). t.slots) put ∙ (tells.slots
@@ -151,6 +154,7 @@ module _ {A : Type 0} (value : A → ShardState) (files : Files) (old now : Me A
         slots_before = told.slots_before;
         view = told.view ∙ (λ i. record old.0 {
           known = (all_told now.0.known s known_behind none ∙ words) i;
+          filled = now.0.filled;
         });
         entries = same_entries;
         home = record {

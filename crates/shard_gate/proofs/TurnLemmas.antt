@@ -6,21 +6,23 @@ use Rattle.std.proofs.Common.{set}
 use Rattle.std.proofs.lemmas.List.{get_or-set_same}
 use Rattle.atomic_table.specs.Table.{Me, rest}
 use Rattle.tex_world.specs.World.{Files}
-use Rattle.tile_store.specs.Entry.{EntryState, tile_at, pin_sum, HasPin}
+use Rattle.tile_store.specs.Entry.{EntryState, Entries, tile_at, pin_sum, HasPin}
 use Rattle.tile_store.specs.Keys.{slot_of}
 use Rattle.tile_store.specs.Slots.{ShardState}
 use Rattle.shard_gate.specs.declared.standing.Standing.{Standing}
 use Rattle.shard_gate.specs.Words.{SlotWords, pinned_words, unpinned_words, keyed_words, AreAmong, AreFewPins}
 use Rattle.shard_gate.specs.Words.{keys_of_pins, pins_on, without_pin_of, max_passes, max_pins, slots_of}
 use Rattle.shard_gate.specs.Turn.{terms_of, with_turn, without_turn}
-use Rattle.shard_gate.specs.Steps.{HasBody, HasOwnPins, AreLawful, MayUnpin}
-use Rattle.shard_gate.specs.Turn.{with_pin, without_pin, with_key}
+use Rattle.shard_gate.specs.Steps.{HasBody, HasOwnPins, ArePinsIn, AreLawful, MayUnpin}
+use Rattle.shard_gate.specs.Turn.{with_pin, without_pin}
 use Rattle.shard_gate.specs.Steps.{entries_of}
 use Rattle.shard_gate.specs.Visit.{begun, ended, visit}
+use Rattle.shard_gate.specs.Given.{HaveSlots}
 use Rattle.shard_gate.specs.Home.{words_of, IsStored, IsHome}
 use Rattle.shard_gate.specs.Work.{PinsSlot, InsertsSlot, AreBehind, MayKeep, IsTellingOf, HasToldOf}
+use Rattle.shard_gate.specs.Work.{with_kept}
 use Rattle.shard_gate.proofs.CountLemmas.{own_in_sum, all_in_sum}
-use Rattle.shard_gate.proofs.HomeLemmas.{few_pins_in}
+use Rattle.shard_gate.proofs.HomeLemmas.{few_pins_in, have_slots}
 use Rattle.shard_gate.proofs.HomeLemmas.{IsThere, is_there}
 use Rattle.shard_gate.proofs.SlotLemmas.{slot_low, slot_word}
 use Rattle.shard_gate.proofs.EntryLemmas.{length_of_keys}
@@ -37,6 +39,7 @@ pub record InTurn (files : Files) {A : Type 0} (old : Standing) (me : Me A Stand
   pub among : AreAmong (words_of s) old.pins
   pub few : AreFewPins old.passes (words_of s)
   pub own : HasOwnPins old (words_of s)
+  pub all : ArePinsIn old.pins (words_of s)
   pub alone : rest me.1 ≡ []
 
 -- A pin of the seat is one of a slot that has the key, and an entry with a pin.
@@ -61,6 +64,7 @@ module _ {A : Type 0} (value : A → ShardState) (files : Files) (old : Standing
         among = subst (λ (t : ShardState). AreAmong (words_of t) old.pins) same has.3;
         few = subst (λ (t : ShardState). AreFewPins old.passes (words_of t)) same has.4;
         own = subst (λ (t : ShardState). HasOwnPins old (words_of t)) same has.5;
+        all = subst (λ (t : ShardState). ArePinsIn old.pins (words_of t)) same has.6;
         alone = ap rest slots;
       }
 
@@ -126,13 +130,28 @@ module _ {A : Type 0} (value : A → ShardState) (files : Files) (old : Standing
         let one : own.slot ≡ slot = cc in
         subst (λ k. 1 ≤ pins_on k old.pins) one own.own
 
-    known : me.0.known ≡ words_of s
+    pub known : me.0.known ≡ words_of s
     known = ap (λ (v : Standing). v.known) turn.view
 
     inside : (slot : ℕ) → slot < length s.slots → slot < slots_of me.0.passes
     inside slot low =
         subst (λ n. slot < slots_of n) (sym (ap (λ (v : Standing). v.passes) turn.view))
         (omega (arith, low, turn.home.stored.count))
+
+    -- the slots of the entries that were taken
+    pub slots_taken : HaveSlots (words_of s).keys s.entries
+    slots_taken = have_slots s turn.home.stored.in_slots
+
+    visits_begun : me.0.visits ≡ begun s.entries (words_of s).keys ∷ old.visits
+    visits_begun = ap (λ (v : Standing). v.visits) turn.view
+
+    -- The visit ends with these entries, in the slots that the seat knows.
+    pub gave_visits : (given last : Standing) (left es : Entries) (keys : List ℕ)
+        → given ≡ without_turn left last → left ≡ es → last.visits ≡ me.0.visits → last.known.keys ≡ keys
+        → given.visits ≡ visit s.entries (words_of s).keys es keys ∷ old.visits
+    gave_visits given last left es keys gave entries same words =
+        ap (λ (v : Standing). v.visits) gave
+        ∙ (λ i. ended (entries i) (words i) ((same ∙ visits_begun) i))
 
     -- ---- the shard that is given back
 
@@ -184,7 +203,7 @@ module _ {A : Type 0} (value : A → ShardState) (files : Files) (old : Standing
 
       pub give_kept : (body : A) → value body ≡ new → IsStored files (terms_of old) new
           → new.left ≡ [] → (now : Me A Standing)
-          → now ≡ (with_pin slot (with_key slot number me.0), (0, body) ∷ rest me.1)
+          → now ≡ (with_kept slot number now.0.filled me.0, (0, body) ∷ rest me.1)
           → AreLawful (λ terms b. IsHome files terms (value b)) (λ b. words_of (value b)) now.0 now.1
       give_kept body is stored left now kept = give_ready now body new is
           (ap (λ (m : Me A Standing). m.1) kept)
@@ -192,6 +211,11 @@ module _ {A : Type 0} (value : A → ShardState) (files : Files) (old : Standing
           (record { stored = stored; left = left })
           (ap (λ (m : Me A Standing). m.0.known) kept
           ∙ ((λ i. pinned_words slot (keyed_words slot (number_is i) (known i))) ∙ sym inserts.words))
+
+      -- The keys that the seat knows are then those of the shard.
+      pub kept_words : (with_kept slot number [] me.0).known.keys ≡ (words_of new).keys
+      kept_words = ap (λ (w : SlotWords). w.keys)
+          ((λ i. pinned_words slot (keyed_words slot (number_is i) (known i))) ∙ sym inserts.words)
 
       -- The pin is of the key.
       pub kept_key : slice_index (set me.0.known.keys slot number) slot ≡ key
@@ -202,7 +226,7 @@ module _ {A : Type 0} (value : A → ShardState) (files : Files) (old : Standing
         inserts.inside,
       )) ∙ number_is
 
-      pub kept_pins : (now : Standing) → now ≡ with_pin slot (with_key slot number me.0)
+      pub kept_pins : (now : Standing) → now ≡ with_kept slot number now.filled me.0
           → keys_of_pins now.pins ≡ key ∷ keys_of_pins old.pins
       kept_pins now is = ap (λ (v : Standing). keys_of_pins v.pins) is
           ∙ (λ i. kept_key i ∷ keys_of_pins ((turn.view i).pins))
@@ -247,32 +271,54 @@ module _ {A : Type 0} (value : A → ShardState) (files : Files) (old : Standing
           (slot_word s s turn.home.stored.in_slots key slot is)
           (keys-without (words_of s) slot old.pins turn.among (own_slot key slot has is))
 
+    -- The seat has the shard after stale tiles were removed, and knows the words of before.
+    pub purging : old.live ≡ true → (new : ShardState) (body : A) → value body ≡ new
+        → AreBehind (words_of s) new → IsStored files (terms_of old) new
+        → IsTellingOf value files (me.0, (0, body) ∷ rest me.1)
+    purging live new body put behind stored = record {
+      body = body;
+      slots = ap (λ l. (0, body) ∷ l) turn.alone;
+      live = ap (λ (v : Standing). v.live) turn.view ∙ live;
+      turn = ap (λ (v : Standing). v.has_turn) turn.view;
+      behind = subst (λ w. AreBehind w (value body)) (sym known)
+          (subst (λ (t : ShardState). AreBehind (words_of s) t) (sym put) behind);
+      stored = subst (λ t. IsStored files t (value body)) (sym (ap terms_of turn.view))
+          (subst (λ (t : ShardState). IsStored files (terms_of old) t) (sym put) stored);
+    }
+
+    pub last_pins : (slot : ℕ) (mid last : Me A Standing) (given : Standing) (slots : List (ℕ × A))
+        (es : Entries) → mid ≡ (without_pin slot me.0, slots) → HasToldOf value files mid last
+        → given ≡ without_turn es last.0 → given.pins ≡ without_pin_of slot old.pins
+    last_pins slot mid last given slots es unpinned told gave = ap (λ (v : Standing). v.pins) gave
+        ∙ (ap (λ (v : Standing). v.pins) told.view
+        ∙ (ap (λ (m : Me A Standing). m.0.pins) unpinned
+        ∙ ap (λ (v : Standing). without_pin_of slot v.pins) turn.view))
+
     -- The seat gives back the shard after each slot was reported.
-    module _ (slot : ℕ) (body : A) (new : ShardState) (put : value body ≡ new)
-        (mid last : Me A Standing) (given : Standing)
-        (unpinned : mid ≡ (without_pin slot me.0, (0, body) ∷ rest me.1))
+    module _ (body : A) (new : ShardState) (put : value body ≡ new) (mid last : Me A Standing)
+        (given : Standing) (at : mid.1 ≡ (0, body) ∷ rest me.1) (same : mid.0.visits ≡ me.0.visits)
         (told : HasToldOf value files mid last)
         (gave : given ≡ without_turn (entries_of (λ b. (value b).entries) last.1) last.0) where
-      pub last_pins : given.pins ≡ without_pin_of slot old.pins
-      last_pins = ap (λ (v : Standing). v.pins) gave
-          ∙ (ap (λ (v : Standing). v.pins) told.view
-          ∙ (ap (λ (m : Me A Standing). m.0.pins) unpinned
-          ∙ ap (λ (v : Standing). without_pin_of slot v.pins) turn.view))
-
       last_before : value told.before ≡ new
       last_before =
-          sym (ap value (one_slot mid.1 (rest me.1) told.before body told.slots_before
-          (ap (λ (m : Me A Standing). m.1) unpinned))) ∙ put
+          sym (ap value (one_slot mid.1 (rest me.1) told.before body told.slots_before at)) ∙ put
 
       last_entries : entries_of (λ b. (value b).entries) last.1 ≡ new.entries
       last_entries = ap (entries_of (λ b. (value b).entries)) told.slots
           ∙ (told.entries ∙ ap (λ (t : ShardState). t.entries) last_before)
 
-      visits_mid : last.0.visits ≡ begun s.entries ∷ old.visits
-      visits_mid = ap (λ (v : Standing). v.visits) told.view
-          ∙ (ap (λ (m : Me A Standing). m.0.visits) unpinned
-          ∙ ap (λ (v : Standing). v.visits) turn.view)
+      last_words : last.0.known.keys ≡ (words_of (value told.body)).keys
+      last_words = ap (λ (v : Standing). v.known.keys) told.view
 
-      pub last_visits : given.visits ≡ visit s.entries new.entries ∷ old.visits
-      last_visits = ap (λ (v : Standing). v.visits) gave
-          ∙ (λ i. ended (last_entries i) (visits_mid i))
+      -- the slots of the entries that are given back
+      pub slots_last : HaveSlots (words_of (value told.body)).keys new.entries
+      slots_last = subst (λ (es : Entries). HaveSlots (words_of (value told.body)).keys es)
+          (told.entries ∙ ap (λ (t : ShardState). t.entries) last_before)
+          (have_slots (value told.body) told.home.stored.in_slots)
+
+      pub last_visits : given.visits ≡ visit s.entries (words_of s).keys new.entries
+          (words_of (value told.body)).keys ∷ old.visits
+      last_visits = gave_visits given last.0 (entries_of (λ b. (value b).entries) last.1) new.entries
+          (words_of (value told.body)).keys gave last_entries
+          (ap (λ (v : Standing). v.visits) told.view ∙ same)
+          last_words

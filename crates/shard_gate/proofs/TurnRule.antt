@@ -1,12 +1,12 @@
 -- A take, a give and a load of the turn word keep the rule of a table.
 use Rattle.std.proofs.Common.{◌≡◌, ℕ, ◌≤◌, ◌==◌, true, cond}
-use Rattle.std.proofs.Common.{[], ◌∷◌, set, refl, subst, sym, ap, ◌∙◌, zero-le}
-use Rattle.std.proofs.Common.{arith}
+use Rattle.std.proofs.Common.{List, [], ◌∷◌, set, refl, subst, sym, ap, ◌∙◌, zero-le}
+use Rattle.std.proofs.Common.{Some, inl, arith}
 use Rattle.std.specs.Prelude.{slice_index}
 use mathlib.Core.Option.{some, none}
 use lib.ListN.{get_elem?}
 use prog.Atomic.{either}
-use Rattle.atomic_table.specs.Table.{Me, Act, keeps, takes, gives, step, rest, put_back}
+use Rattle.atomic_table.specs.Table.{State, Me, Act, keeps, takes, gives, step, rest, put_back}
 use Rattle.atomic_table.specs.Table.{Valid, stepped, carried_after, Allows}
 use Rattle.atomic_table.proofs.Lists.{set_here, exchanged}
 use Rattle.tile_store.specs.Entry.{Entries}
@@ -20,12 +20,38 @@ use Rattle.shard_gate.specs.Turn.{terms_of}
 use Rattle.shard_gate.specs.Turn.{turn_of, permits_of, with_turn, without_turn}
 use Rattle.shard_gate.specs.Steps.{entries_of}
 use Rattle.shard_gate.specs.Seated.{IsIdle}
+use Rattle.shard_gate.specs.Visit.{Visit, begun, ended, GaveLast}
+use Rattle.shard_gate.proofs.EveryoneLemmas.{all_pins}
+use Rattle.shard_gate.proofs.GivenLemmas.{given_still, given_now}
 use Rattle.shard_gate.proofs.SumLemmas.{sum_has}
 use Rattle.shard_gate.proofs.PinLemmas.{among_held}
-use Rattle.shard_gate.proofs.RuleLemmas.{other_view, after, named, few_known, own_known}
+use Rattle.shard_gate.proofs.RuleLemmas.{IsIn, other_view, after, named, few_known, own_known}
+
+-- The visit that ends gave back the entries of the body.
+gave_last : {S : Type 0} (shown : S → Entries) (visits : List Visit) (keys : List ℕ)
+    (slots : List (ℕ × S)) (body : S) → slots ≡ (0, body) ∷ []
+    → {taken : Entries} {at_first : List ℕ} {before : List Visit}
+    → visits ≡ begun taken at_first ∷ before
+    → GaveLast (shown body) (ended (entries_of shown slots) keys visits)
+gave_last shown visits keys slots body has began =
+    subst (λ l. GaveLast (shown body) (ended (entries_of shown slots) keys l)) (sym began)
+    (ap (λ l. Some (entries_of shown l)) has)
 
 module _ {S : Type 0} (lawful : Terms → S → Type 0) (shown : S → Entries)
     (words_in : S → SlotWords) (terms : Terms) where
+  -- the body is still at home after a step that changes no view
+  still_home : (s : State S Standing) (id : ℕ) (v : Standing)
+      → OneTurn lawful shown words_in terms s → get_elem? s.views id ≡ some v
+      → slice_index s.words turn_word ≡ 0
+      → IsIn lawful shown words_in terms s.words s.homes (set s.views id v)
+  still_home s id v kept at free = let body = kept.home free in (
+    body.0,
+    body.1,
+    body.2,
+    body.3,
+    given_still (shown body.0) s.views id v at v (λ gave. gave) (λ none. none) body.4,
+  )
+
   -- ---- the turn
 
   pub take_allowed : (slots id : ℕ) (me : Me S Standing) → IsIdle me
@@ -50,9 +76,16 @@ module _ {S : Type 0} (lawful : Terms → S → Type 0) (shown : S → Entries)
         after lawful shown words_in terms s id 1 me.0 won (set s.homes 0 none) kept at (omega arith)
             (omega (arith, free, none_out)) refl refl
             (other_view lawful shown words_in terms me.0 won right idle.live refl refl refl right.few
-            (λ e. absurd (cc e)))
+            (right.some idle.live) (λ e. absurd (cc e)))
             (λ _. home.3)
-            (λ _. record { body = home.0; before = me.0.visits; right = home.2; last = refl })
+            (λ _. record {
+              body = home.0;
+              before = me.0.visits;
+              right = home.2;
+              last = refl;
+              keys = λ slot out. home.3.keys slot;
+              pins = λ slot out. home.3.pins slot;
+            })
             (λ e. absurd (omega arith)),
         record {
           won = λ _. (
@@ -62,6 +95,8 @@ module _ {S : Type 0} (lawful : Terms → S → Type 0) (shown : S → Entries)
             among_held terms.passes s.words known me.0.pins home.3 (kept.held id me.0 at) own.own,
             few_known lawful shown words_in terms s id me.0 known kept at idle.live home.3,
             own,
+            all_pins s.words known home.3.keys s.views id me.0 at kept.held
+                (λ slot. sym (home.3.pins slot) ∙ kept.pins slot),
           );
           lost = λ e. absurd (e free);
         },
@@ -71,7 +106,8 @@ module _ {S : Type 0} (lawful : Terms → S → Type 0) (shown : S → Entries)
         keeps,
         tt,
         after lawful shown words_in terms s id n me.0 me.0 s.homes kept at kept.most refl refl refl right
-            (kept.known id me.0 at) (kept.taken id me.0 at) kept.home,
+            (kept.known id me.0 at) (kept.taken id me.0 at)
+            (still_home s id me.0 kept at),
         record { won = λ e. absurd (out e); lost = λ _. refl },
       ))
 
@@ -94,13 +130,16 @@ module _ {S : Type 0} (lawful : Terms → S → Type 0) (shown : S → Entries)
         tt,
         after lawful shown words_in terms s id 0 me.0 left (put_back s.homes me.1) kept at zero-le
             (omega (arith, one_out, out, kept.most)) refl refl
-            (other_view lawful shown words_in terms me.0 left view live refl refl refl view.few (λ _. refl))
+            (other_view lawful shown words_in terms me.0 left view live refl refl refl view.few
+            (view.some live) (λ _. refl))
             (λ e. absurd (cc e)) (λ e. absurd (cc e))
             (λ _. (
               body,
               there,
               subst (λ t. lawful t body) (sym (named lawful shown words_in terms me.0 view live)) right,
               subst (λ k. AreWords terms.passes s.words k) same (kept.known id me.0 at turn),
+              given_now (shown body) s.views id me.0 at left (inl (gave_last shown me.0.visits
+              me.0.known.keys me.1 body has (kept.taken id me.0 at turn).last)),
             )),
         record { view = refl; slots = ap rest has },
       )
@@ -115,7 +154,8 @@ module _ {S : Type 0} (lawful : Terms → S → Type 0) (shown : S → Entries)
         keeps,
         tt,
         after lawful shown words_in terms s id n me.0 me.0 s.homes kept at kept.most refl refl refl right
-            (kept.known id me.0 at) (kept.taken id me.0 at) kept.home,
+            (kept.known id me.0 at) (kept.taken id me.0 at)
+            (still_home s id me.0 kept at),
         record {
           same = refl;
           few = omega (

@@ -10,9 +10,12 @@ use Rattle.shard_gate.specs.Seated.{ShardId, SeatAt, shard_of_seat}
 use Rattle.shard_gate.specs.Visit.{Visit, visits_at}
 use Rattle.shard_gate.specs.Given.{AtShard}
 use Rattle.shard_gate.specs.Work.{IsSeatOf}
+use Rattle.shard_gate.specs.Everyone.{times, taken_last, ArePinsOfAll, FindsPinsOfAll}
+use Rattle.shard_gate.proofs.EveryoneLemmas.{times_here}
 use Rattle.shard_gate.specs.Gate.{GateState, PinSeatState, SamePins, IsSameSeat, OnePinMore, OnePinLess}
 use Rattle.shard_gate.specs.Gate.{max_pins, shard_of}
-use Rattle.shard_gate.specs.Kept.{seat_state, gate_state, visits_of_seat, keys_of_seats, IsGate, IsPinSeat}
+use Rattle.shard_gate.specs.Kept.{seat_state, gate_state, visits_of_seat, joined_of_seat}
+use Rattle.shard_gate.specs.Kept.{keys_of_seats, IsGate, IsPinSeat}
 use Rattle.shard_gate.proofs.SeatLemmas.{same_keys, one_key_more, one_key_less, pins-le}
 use Rattle.shard_gate.proofs.SeatLemmas.{at_its_shard, kept_same, kept_more, kept_less}
 use Rattle.shard_gate.proofs.TagLemmas.{share_of-tag_of, cut_of-tag_of}
@@ -102,6 +105,10 @@ module _ (seats : List SeatAt) (permits : ℕ) (p : PinSeatState)
   gate_same stays = map_set_same shard_of_seat seats k new d (stays ∙ ap shard_of_seat here)
       ∙ ap (λ (q : PinSeatState). q.gate) is
 
+  joined_same : new.joined ≡ x.joined → map joined_of_seat (set seats k new) ≡ p.joined
+  joined_same stays = map_set_same joined_of_seat seats k new d (stays ∙ ap joined_of_seat here)
+      ∙ ap (λ (q : PinSeatState). q.joined) is
+
   pub same_pins : IsSeatOf x new → new.pins ≡ x.pins
       → SamePins p (seat_state (set seats k new) permits)
   same_pins seat stay = record {
@@ -109,6 +116,7 @@ module _ (seats : List SeatAt) (permits : ℕ) (p : PinSeatState)
     permits = ap (λ (q : PinSeatState). q.permits) is;
     pins = same_keys seats k new d (stay ∙ ap (λ (s : SeatAt). s.pins) here)
         ∙ ap (λ (q : PinSeatState). q.pins) is;
+    joined = joined_same seat.joined;
   }
 
   pub one_pin_more : (key : ℕ) → IsSeatOf x new → new.pins ≡ key ∷ x.pins
@@ -119,6 +127,7 @@ module _ (seats : List SeatAt) (permits : ℕ) (p : PinSeatState)
     pins = subst
         (λ (q : PinSeatState). IsPermutation (key ∷ q.pins) (keys_of_seats (set seats k new))) is
         (one_key_more seats k key new d inside (more ∙ ap (λ (s : SeatAt). key ∷ s.pins) here));
+    joined = joined_same seat.joined;
   }
 
   pub one_pin_less : (key : ℕ) → IsSeatOf x new → IsPermutation x.pins (key ∷ new.pins)
@@ -130,6 +139,7 @@ module _ (seats : List SeatAt) (permits : ℕ) (p : PinSeatState)
         (λ (q : PinSeatState). IsPermutation q.pins (key ∷ keys_of_seats (set seats k new))) is
         (one_key_less seats k key new d inside
         (subst (λ (s : SeatAt). IsPermutation s.pins (key ∷ new.pins)) here less));
+    joined = joined_same seat.joined;
   }
 
   -- A pin is allowed at the shard if one is allowed for the seat.
@@ -235,6 +245,22 @@ module _ (seats : List SeatAt) (permits : ℕ) (p : PinSeatState)
       subst (λ (m : ℕ). AtShard m Changed p.visits (map visits_of_seat (set seats k new))) is_n
       (at_shard Changed changed)
 
+  -- The entries have the pins that all seats have at the shard, and this seat has its own there.
+  pub finds_all : IsPinSeat seats permits → (after : PinSeatState)
+      → ArePinsOfAll x.pins (taken_last (visits_at k after.visits)) → FindsPinsOfAll k p after
+  finds_all kept after are = record {
+    seats = are.seats;
+    mine = are.mine;
+    inside = are.inside;
+    own = λ key at.
+        ap (times key) (are.own ∙ ap (λ (s : SeatAt). s.pins) here)
+        ∙ (times_here seats k key d inside (λ j low ne has. ne
+        (sym (kept.placed j key d low has)
+        ∙ (ap (λ n. shard_of n key) (as_long ∙ ap length (sym same)) ∙ at)))
+        ∙ ap (λ (q : PinSeatState). times key q.pins) is);
+    all = are.all;
+  }
+
   pub same_seat : new ≡ x → IsSameSeat p (seat_state (set seats k new) permits)
   same_seat stays = record {
     gate = map_set_same shard_of_seat seats k new d (ap shard_of_seat (stays ∙ here))
@@ -244,6 +270,7 @@ module _ (seats : List SeatAt) (permits : ℕ) (p : PinSeatState)
         ∙ ap (λ (q : PinSeatState). q.pins) is;
     visits = map_set_same visits_of_seat seats k new d (ap visits_of_seat (stays ∙ here))
         ∙ ap (λ (q : PinSeatState). q.visits) is;
+    joined = joined_same (ap joined_of_seat stays);
   }
 
 module _ (tables : List ShardId) (share : ℕ) (cut : Cut) (passes : ℕ) (gate : GateState)

@@ -1,13 +1,15 @@
 -- What a word that is written leaves of the other words, and of what is known of them.
 use Rattle.std.proofs.Common.{◌≡◌, ◌≢◌, ℕ, ◌+◌, ◌-◌, ◌*◌, ◌^◌, ◌%◌, ◌<◌, ◌≤◌, cond, List}
 use Rattle.std.proofs.Common.{[], ◌∷◌, zero, suc, nat_eq, set, refl, subst, sym, ap, ◌∙◌}
+use Rattle.std.proofs.Common.{true, false, ◌||◌}
 use Rattle.std.proofs.Common.{arith, length}
 use Rattle.std.specs.Prelude.{slice_index}
-use Rattle.std.proofs.lemmas.Bool.{eq-eqb}
+use Rattle.std.proofs.lemmas.Bool.{eq-eqb, false≢true}
 use Rattle.std.proofs.Common.{ne_eqb}
 use Rattle.std.proofs.lemmas.List.{get_or-set_same, get_or-set_other}
 use mathlib.Core.Logic.{dite}
 use native.Mathlib.Decide.{ℕ_discrete}
+use Rattle.tile_store.specs.Links.{is_in}
 use Rattle.shard_gate.specs.Words.{SlotWords, AreWords}
 use Rattle.shard_gate.specs.Words.{first_word, key_word, pin_word}
 use Rattle.shard_gate.specs.Words.{pins_on, without_pin_of}
@@ -116,3 +118,19 @@ unpin_shift words slot n other pins low is some_pin own = dite (ℕ_discrete oth
       pins_on-without slot pins own other,
       ap (λ b. cond {A = ℕ} b 1 0) (ne_eqb slot other (λ e. ne (sym e))),
     ))
+
+-- ---- slots in a list
+
+pub head_in : (slot : ℕ) (rest : List ℕ) → is_in slot (slot ∷ rest) ≡ true
+head_in slot rest = ap (λ b. b || is_in slot rest) (eq-eqb slot slot refl)
+
+pub tail_in : (k slot : ℕ) (rest : List ℕ) → k ≢ slot → is_in k (slot ∷ rest) ≡ is_in k rest
+tail_in k slot rest ne = ap (λ b. b || is_in k rest) (ne_eqb k slot ne)
+
+-- A slot that is not in a list is not its first and not in the rest.
+pub out_of : (k slot : ℕ) (rest : List ℕ) → is_in k (slot ∷ rest) ≡ false
+    → (k ≢ slot) × (is_in k rest ≡ false)
+out_of k slot rest out = dite (ℕ_discrete k slot)
+    (λ (e : k ≡ slot). absurd (false≢true
+    (sym out ∙ (ap (λ j. is_in j (slot ∷ rest)) e ∙ head_in slot rest))))
+    (λ (ne : k ≢ slot). (ne, sym (tail_in k slot rest ne) ∙ out))

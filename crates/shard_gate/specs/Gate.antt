@@ -1,7 +1,7 @@
 -- How do contracts see a gate and a caller's seat, and what does each call leave of the seat?
 use Rattle.std.specs.Prelude.{◌≡◌, ℕ, ◌+◌, ◌-◌, ◌*◌, ◌/◌, ◌%◌, ◌^◌, ◌≤◌, List, [], ◌∷◌}
-use Rattle.std.specs.Prelude.{cond, nat_eq, length, IsPermutation, Result, Option, IfOk, IfSome}
-use Rattle.std.specs.Prelude.{IfNone}
+use Rattle.std.specs.Prelude.{◌<◌, ◌++◌, cond, nat_eq, length, IsPermutation, Result, Option}
+use Rattle.std.specs.Prelude.{IfOk, IfSome, IfNone}
 use Rattle.std.specs.List.{All, sum_by}
 use Rattle.tex_world.specs.World.{Files}
 use Rattle.tiff_format.specs.declared.cut.Cut.{Cut}
@@ -14,7 +14,7 @@ use Rattle.tile_store.specs.Entry.{Entries}
 use Rattle.tile_store.specs.Tag.{tag_of}
 use Rattle.tile_store.specs.Lawful.{HasCell, FitsCut, Lawful}
 pub use Rattle.shard_gate.specs.Words.{max_passes, max_pins, more_slots, slots_of}
-use Rattle.shard_gate.specs.Visit.{Visit, visits_at}
+use Rattle.shard_gate.specs.Visit.{Visit, visits_at, joined_at}
 use Rattle.shard_gate.specs.Given.{IsCountOf}
 use Rattle.shard_gate.specs.Seated.{ShardId}
 use Rattle.shard_gate.specs.declared.error.NotPinned.{NotPinned}
@@ -61,6 +61,8 @@ pub record PinSeatState : Type 0 where
   pub pins : List ℕ
   -- its visits to each shard, the last one first
   pub visits : List (List Visit)
+  -- those of the seats that it has taken over: for each shard, a list for each seat
+  pub joined : List (List (List Visit))
 
 -- A pin, as contracts see it.
 pub record PinState : Type 0 where
@@ -89,6 +91,7 @@ pub record IsFirstSeat (made : GateState) (seat : PinSeatState) : Type 0 where
   pub permits : seat.permits ≡ made.passes
   pub pins : seat.pins ≡ []
   pub visits : (k : ℕ) → visits_at k seat.visits ≡ []
+  pub joined : (k : ℕ) → joined_at k seat.joined ≡ []
 
 -- in a modelled world, the key names a cell of its file under the cut, and the tile has the cell's
 -- rectangle
@@ -114,23 +117,27 @@ pub record CountsLawful (files : Files) (tag : ℕ) (count : ShardCount) : Type 
   pub numbers : IsCountOf entries count
   pub lawful : Lawful files tag entries
 
--- The seat belongs to the same gate, with the same permits and pins.
+-- The seat belongs to the same gate, with the same permits and pins. It took over no other seat, so
+-- all visits since are its own.
 pub record SamePins (old new : PinSeatState) : Type 0 where
   pub gate : new.gate ≡ old.gate
   pub permits : new.permits ≡ old.permits
   pub pins : new.pins ≡ old.pins
+  pub joined : new.joined ≡ old.joined
 
 -- The seat has one more pin, with this key.
 pub record OnePinMore (key : ℕ) (old new : PinSeatState) : Type 0 where
   pub gate : new.gate ≡ old.gate
   pub permits : new.permits ≡ old.permits
   pub pins : IsPermutation (key ∷ old.pins) new.pins
+  pub joined : new.joined ≡ old.joined
 
 -- The seat has one pin less, with this key.
 pub record OnePinLess (key : ℕ) (old new : PinSeatState) : Type 0 where
   pub gate : new.gate ≡ old.gate
   pub permits : new.permits ≡ old.permits
   pub pins : IsPermutation old.pins (key ∷ new.pins)
+  pub joined : new.joined ≡ old.joined
 
 -- The seat is unchanged.
 pub record IsSameSeat (old new : PinSeatState) : Type 0 where
@@ -138,6 +145,7 @@ pub record IsSameSeat (old new : PinSeatState) : Type 0 where
   pub permits : new.permits ≡ old.permits
   pub pins : new.pins ≡ old.pins
   pub visits : new.visits ≡ old.visits
+  pub joined : new.joined ≡ old.joined
 
 -- The tile comes back if the waiter gave up.
 abbrev pub GivesBackIfBusy : {W B : Type 0} → CachedTile → NotPinned W B → Type 0
@@ -150,6 +158,7 @@ pub record IsSecondSeat (old seat : PinSeatState) : Type 0 where
   pub permits : seat.permits ≡ 1
   pub pins : seat.pins ≡ []
   pub visits : (k : ℕ) → visits_at k seat.visits ≡ []
+  pub joined : (k : ℕ) → joined_at k seat.joined ≡ []
 
 -- The seat keeps all pins, and all permits but one.
 pub record AfterSplit (old new : PinSeatState) : Type 0 where
@@ -157,10 +166,19 @@ pub record AfterSplit (old new : PinSeatState) : Type 0 where
   pub permits : new.permits ≡ old.permits - 1
   pub pins : new.pins ≡ old.pins
   pub visits : new.visits ≡ old.visits
+  pub joined : new.joined ≡ old.joined
 
--- The seat has the permits of both seats, and its own pins.
+-- to each shard, the visits of the seats that were taken over are now those of `other` and of the
+-- seats that it took over, and the earlier ones
+abbrev pub JoinsVisits : PinSeatState → PinSeatState → PinSeatState → Type 0
+JoinsVisits other old new = (k : ℕ) → k < length old.gate → joined_at k new.joined
+    ≡ (visits_at k other.visits ∷ joined_at k other.joined) ++ joined_at k old.joined
+
+-- The seat has the permits of both seats, and its own pins and visits. It lists the visits of the
+-- other seat apart from its own.
 pub record AfterJoin (other old new : PinSeatState) : Type 0 where
   pub gate : new.gate ≡ old.gate
   pub permits : new.permits ≡ old.permits + other.permits
   pub pins : new.pins ≡ old.pins
   pub visits : new.visits ≡ old.visits
+  pub joined : JoinsVisits other old new

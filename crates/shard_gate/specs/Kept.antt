@@ -14,6 +14,10 @@ use Rattle.shard_gate.specs.Gate.{max_shards, max_passes, max_pins, max_budget, 
 abbrev pub visits_of_seat : SeatAt → List Visit
 visits_of_seat s = s.visits
 
+-- the visits of the seats that a seat has taken over
+abbrev pub joined_of_seat : SeatAt → List (List Visit)
+joined_of_seat s = s.joined
+
 -- the keys of the pins of these seats
 abbrev pub keys_of_seats : List SeatAt → List ℕ
 keys_of_seats [] = []
@@ -26,6 +30,7 @@ seat_state seats permits = record {
   permits = permits;
   pins = keys_of_seats seats;
   visits = map visits_of_seat seats;
+  joined = map joined_of_seat seats;
 }
 
 -- The seat at a shard has these permits, and no more than there may be passes.

@@ -10,3 +10,4 @@ pub mod Home
 pub mod Work
 pub mod Calls
 pub mod Since
+pub mod Everyone

@@ -1,5 +1,5 @@
 -- How do contracts see a table, and a seat at it that does not have the lock?
-use Rattle.std.specs.Prelude.{◌≡◌, ℕ, ◌+◌, ◌-◌, ◌≤◌, true, false, List, [], ◌∷◌}
+use Rattle.std.specs.Prelude.{◌≡◌, ℕ, ◌+◌, ◌-◌, ◌≤◌, true, false, List, [], ◌∷◌, ◌++◌}
 use Rattle.atomic_table.specs.Table.{Me}
 use Rattle.atomic_table.specs.Seated.{TableId}
 use Rattle.atomic_table.specs.declared.shared.Seat.{Seat}
@@ -40,6 +40,8 @@ pub record SeatAt : Type 0 where
   pub pins : List ℕ
   -- its visits to the shard, the last one first
   pub visits : List Visit
+  -- those of the seats that it has taken over, a list for each seat
+  pub joined : List (List Visit)
 
 -- The table has all its words, and one place for the body.
 pub record IsLaid (passes : ℕ) (table : TableId) : Type 0 where
@@ -59,6 +61,7 @@ module _ {S : Type 0} where
     permits = seat.me.0.permits;
     pins = keys_of_pins seat.me.0.pins;
     visits = seat.me.0.visits;
+    joined = seat.me.0.joined;
   }
 
   -- The seat has neither the lock nor the body.
@@ -78,7 +81,8 @@ shard_of_seat s = s.shard
 
 -- the first seat at a shard, which has all permits
 abbrev pub first_seat : ShardId → SeatAt
-first_seat id = record { shard = id; permits = id.passes; pins = []; visits = [] }
+first_seat id =
+    record { shard = id; permits = id.passes; pins = []; visits = []; joined = [] }
 
 -- the seat after it gave away one permit
 abbrev pub kept_seat : SeatAt → SeatAt
@@ -86,11 +90,14 @@ kept_seat s = record s { permits = s.permits - 1 }
 
 -- the new seat with that permit, without pins or visits
 abbrev pub new_seat : SeatAt → SeatAt
-new_seat s = record s { permits = 1; pins = []; visits = [] }
+new_seat s = record s { permits = 1; pins = []; visits = []; joined = [] }
 
--- a seat with the permits of both, and its own pins
+-- A seat with the permits of both, and its own pins. It lists the other's visits apart from its own.
 abbrev pub both_seats : SeatAt → SeatAt → SeatAt
-both_seats own other = record own { permits = own.permits + other.permits }
+both_seats own other = record own {
+  permits = own.permits + other.permits;
+  joined = (other.visits ∷ other.joined) ++ own.joined;
+}
 
 -- at each shard, a seat with the permits of both
 abbrev pub joined_seats : List SeatAt → List SeatAt → List SeatAt

@@ -1,6 +1,7 @@
 -- What does each kind of atomic step need, and what does it tell its seat?
 use Rattle.std.specs.Prelude.{◌≡◌, ◌≢◌, ℕ, ◌+◌, ◌*◌, ◌<◌, ◌≤◌, true, List, [], ◌∷◌}
-use Rattle.std.specs.Prelude.{length, slice_index}
+use Rattle.std.specs.Prelude.{length, slice_index, slice_index_or}
+use Rattle.std.specs.List.{sum_by}
 use Rattle.tile_store.specs.Entry.{Entries}
 use Rattle.atomic_table.specs.Table.{Me, Step}
 use Rattle.shard_gate.specs.declared.standing.Standing.{Standing}
@@ -45,15 +46,37 @@ pub record MayFill (slot : ℕ) (v : Standing) : Type 0 where
   pub turn : v.has_turn ≡ true
   pub unpinned : slice_index v.known.pins slot ≡ 0
 
+-- By these numbers, the slot of each pin has the pin's key, which is not 0.
+abbrev pub AreKeyed : SlotWords → List (ℕ × ℕ) → Type 0
+AreKeyed known [] = Unit {0}
+AreKeyed known (p ∷ ps) = (slice_index known.keys p.0 ≡ p.1) × (1 ≤ p.1) × AreKeyed known ps
+
+-- the same for the pins of each seat
+abbrev pub AllKeyed : SlotWords → List (List (ℕ × ℕ)) → Type 0
+AllKeyed known [] = Unit {0}
+AllKeyed known (pins ∷ seats) = AreKeyed known pins × AllKeyed known seats
+
+-- The pins in the words are those of all seats together, of which one has these pins.
+pub record ArePinsIn (own_pins : List (ℕ × ℕ)) (known : SlotWords) : Type 0 where
+  -- the pins of each seat
+  pub seats : List (List (ℕ × ℕ))
+  -- the index of the seat that has the given pins
+  pub mine : ℕ
+  pub inside : mine < length seats
+  pub own : slice_index_or seats mine [] ≡ own_pins
+  pub keyed : AllKeyed known seats
+  pub sum : (slot : ℕ) → slice_index known.pins slot ≡ sum_by (pins_on slot) seats
+
 module _ {S : Type 0} where
   -- The seat has the lock and a lawful body, which began a visit. It knows the words of the slots,
-  -- and they include its own pins.
+  -- whose pins are those of all seats and include its own.
   abbrev pub HasBody : (Terms → S → Type 0) → (S → Entries) → (S → SlotWords) → Standing
       → Me S Standing → Type 0
   HasBody lawful shown words_in old new = (body : S)
       × (new ≡ (with_turn (shown body) (words_in body) old, (0, body) ∷ []))
       × lawful (terms_of old) body × AreAmong (words_in body) old.pins
       × AreFewPins old.passes (words_in body) × HasOwnPins old (words_in body)
+      × ArePinsIn old.pins (words_in body)
 
   -- the entries of the body that a seat has taken
   abbrev pub entries_of : (S → Entries) → List (ℕ × S) → Entries

@@ -1,5 +1,6 @@
 -- What does a visit to a shard answer, and which entries does it leave?
-use Rattle.std.specs.Prelude.{◌≡◌, ◌≢◌, ℕ, ◌+◌, ◌*◌, ◌<◌, ◌≤◌, true, false, [], ◌∷◌, length}
+use Rattle.std.specs.Prelude.{◌≡◌, ◌≢◌, ℕ, ◌+◌, ◌*◌, ◌<◌, ◌≤◌, true, false, List, [], ◌∷◌}
+use Rattle.std.specs.Prelude.{length}
 use Rattle.std.specs.Prelude.{slice_index, Result, Option}
 use Rattle.std.specs.Prelude.{None, IfOk}
 use Rattle.tex_world.specs.World.{Files}
@@ -14,14 +15,15 @@ use Rattle.shard_gate.specs.Seated.{SeatAt}
 use Rattle.shard_gate.specs.Gate.{IsTileOf, IfFound}
 use Rattle.shard_gate.specs.Words.{SlotWords, pinned_words, keyed_words, slots_of, max_pins}
 use Rattle.shard_gate.specs.Home.{words_of, IsStored, IsHome}
-use Rattle.shard_gate.specs.Turn.{terms_of}
+use Rattle.shard_gate.specs.Turn.{terms_of, with_pin, with_key}
 use Rattle.shard_gate.specs.declared.standing.Standing.{Standing}
 use Rattle.atomic_table.specs.Table.{Me}
 
--- The seat is at the same shard, with the same permits.
+-- The seat is at the same shard, with the same permits, and has taken over no other seat.
 pub record IsSeatOf (old new : SeatAt) : Type 0 where
   pub shard : new.shard ≡ old.shard
   pub permits : new.permits ≡ old.permits
+  pub joined : new.joined ≡ old.joined
 
 -- A tile that was found has the key, and fits the cut in the tag.
 abbrev pub FoundUnder
@@ -71,6 +73,10 @@ pub record AreBehind (known : SlotWords) (s : ShardState) : Type 0 where
 
 -- ---- a seat that has the lock
 
+-- the seat with this key and one more pin on the slot, which it has filled or found with the key
+abbrev pub with_kept : ℕ → ℕ → List ℕ → Standing → Standing
+with_kept slot key filled v = record (with_pin slot (with_key slot key v)) { filled = filled }
+
 -- The seat may write this key into the slot and pin it: the slot has the key, or it has no pin.
 pub record MayKeep (slot key : ℕ) (v : Standing) : Type 0 where
   pub inside : slot < slots_of v.passes
@@ -99,6 +105,6 @@ module _ {W : Type 0} (value : W → ShardState) (files : Files) where
     pub before : W
     pub slots : new.1 ≡ (0, body) ∷ []
     pub slots_before : old.1 ≡ (0, before) ∷ []
-    pub view : new.0 ≡ record old.0 { known = words_of (value body) }
+    pub view : new.0 ≡ record old.0 { known = words_of (value body); filled = new.0.filled }
     pub entries : (value body).entries ≡ (value before).entries
     pub home : IsHome files (terms_of old.0) (value body)

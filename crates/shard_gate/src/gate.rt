@@ -6,6 +6,7 @@ ghost use Rattle.shard_gate.specs.Gate.{IsTileOf, HasCellRect, SamePins, OnePinM
 ghost use Rattle.shard_gate.specs.Gate.{IsSameSeat, slots_of, own_pins};
 ghost use Rattle.shard_gate.specs.Given.{Finds, Inserts, Releases, Purges, Counts};
 ghost use Rattle.shard_gate.specs.Given.{AtShard, AtFirst, AtSome};
+ghost use Rattle.shard_gate.specs.Everyone.{FindsPinsOfAll};
 ghost use Rattle.shard_gate.specs.Calls.{tile_of, VisitsAt, IfNotPinned, IfNotInserted};
 ghost use Rattle.shard_gate.specs.Gate.{IfFound, IfNotFound};
 ghost use Rattle.shard_gate.specs.Gate.{IsSecondSeat, AfterSplit, AfterJoin, GivesBackIfBusy};
@@ -208,6 +209,8 @@ impl<W: World> Gate<W> {
             own_pins (length self.now.id) shard p.old.pins ≤ count.pins) }
         ensures alone { IfOk result (λ count. p.old.permits ≡ self.now.passes
             → count.pins ≡ own_pins (length self.now.id) shard p.old.pins) }
+        // Each entry has as many pins as all callers' seats have on its key, and no seat has others.
+        ensures everyone { OnOk result (FindsPinsOfAll shard p.old p.new) }
         // The seat after the call.
         ensures same { SamePins p.old p.new }
         ensures err { OnErr result (IsSameSeat p.old p.new) }

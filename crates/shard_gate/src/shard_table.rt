@@ -8,10 +8,10 @@ ghost use Rattle.crossbeam_utils.specs.Padded.{padded_value};
 ghost use Rattle.tile_store.specs.Tag.{share_in_tag, cut_of};
 ghost use Rattle.tile_store.specs.Lawful.{FitsCut};
 ghost use Rattle.shard_gate.specs.Words.{max_pins, slots_of};
-ghost use Rattle.shard_gate.specs.Turn.{with_pin, with_key};
 ghost use Rattle.shard_gate.specs.Given.{Finds, Inserts, Releases, Purges, Counts};
+ghost use Rattle.shard_gate.specs.Everyone.{ArePinsOfAll, taken_last};
 ghost use Rattle.shard_gate.specs.Work.{IsSeatOf, FoundUnder, KeptUnder, MayKeep};
-ghost use Rattle.shard_gate.specs.Work.{IsTellingOf, HasToldOf};
+ghost use Rattle.shard_gate.specs.Work.{IsTellingOf, HasToldOf, with_kept};
 ghost use Rattle.shard_gate.specs.Calls.{IfNotPinned, IfNotInserted};
 ghost use Rattle.shard_gate.specs.Gate.{GivesBackIfBusy};
 ghost use Rattle.shard_gate.specs.Seated.{seat_at};
@@ -140,7 +140,7 @@ impl<W: World> ShardTable<W> {
         requires table { (seat_at seat.old).shard ≡ self.now }
         requires may { MayKeep slot key seat.old.me.0 }
         ensures seat { seat.new.me
-            ≡ (with_pin slot (with_key slot key seat.old.me.0), seat.old.me.1) }
+            ≡ (with_kept slot key seat.new.me.0.filled seat.old.me.0, seat.old.me.1) }
         ensures table { seat.new.table_id ≡ seat.old.table_id }
     {
         if self.key_in(seat, slot) != key {
@@ -233,6 +233,8 @@ impl<W: World> ShardTable<W> {
         ensures pins { seat.new.pins ≡ seat.old.pins }
         ensures ok { IfOk result (λ count.
             Counts W.files self.now.tag count seat.old.visits seat.new.visits) }
+        ensures everyone { OnOk result
+            (ArePinsOfAll seat.old.pins (taken_last seat.new.visits)) }
         ensures err { OnErr result (seat.new ≡ seat.old) }
     {
         if let Err(busy) = self.take(waiter, &mut seat.seat) {

@@ -36,6 +36,29 @@ impl Model for Known {
     ghost view = { λ k. no_words };
 }
 
+/// Slots that a seat has changed since it took the lock. They take no memory.
+pub(crate) struct Changed {}
+
+impl Model for Changed {
+    ghost use Rattle.std.specs.Prelude.{ℕ, List, []};
+
+    ghost Value = { List ℕ };
+
+    ghost view = { λ c. [] };
+}
+
+/// The visits of the seats that a seat has taken over, a list for each seat. They take no memory.
+pub(crate) struct Joined {}
+
+impl Model for Joined {
+    ghost use Rattle.std.specs.Prelude.{List, []};
+    ghost use Rattle.shard_gate.specs.Visit.{Visit};
+
+    ghost Value = { List (List Visit) };
+
+    ghost view = { λ j. [] };
+}
+
 /// What a seat at a table knows and may do. No value of it is ever made.
 pub(crate) struct Standing {
     /// Whether the seat exists, that is, no other seat has taken it over.
@@ -52,6 +75,12 @@ pub(crate) struct Standing {
     pub pins: Pins,
     /// The words of the slots while the seat has the lock, when no other seat changes them.
     pub known: Known,
+    /// The slots whose keys the seat has written since it took the lock.
+    pub filled: Changed,
+    /// The slots whose pins the seat has changed since it took the lock.
+    pub repinned: Changed,
     /// The visits. A visit begins when the lock is taken, and ends when it is given back.
     pub visits: Visits,
+    /// The visits of the seats that this seat has taken over.
+    pub joined: Joined,
 }

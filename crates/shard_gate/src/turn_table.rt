@@ -69,8 +69,10 @@ impl<S: Drop, L: BodyRule<S>> TurnTable<S, L> {
         body: S,
     ) -> Result<(TurnTable<S, L>, TurnSeat<S>), AllocError>
         requires few { terms.now.passes ≤ max_passes }
+        requires some { 1 ≤ terms.now.passes }
         requires lawful { L.lawful terms.now body }
         requires blank { AreBlank terms.now.passes (L.words body) }
+        requires empty { L.shown body ≡ [] }
         ensures terms { IfOk result (λ made. IsMadeBy terms.now.tag terms.now.passes made.0) }
         ensures seat { IfOk result (λ made. made.1 ≡ first_seat made.0) }
     {

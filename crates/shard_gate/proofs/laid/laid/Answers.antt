@@ -23,6 +23,11 @@ new-requires-in-loop-shard-clause-blank g c =
     (blank_words c.args.terms.now.passes c.in-Ok.shard
     (c.in-Ok.ensures.value ∙ ap empty_shard c.slots.ensures))
 
+pub new-requires-in-loop-shard-clause-empty : goal.new-requires-in-loop-shard-clause-empty
+new-requires-in-loop-shard-clause-empty g c =
+    ap (λ (t : ShardState). t.entries)
+    (c.new.ensures ∙ (c.in-Ok.ensures.value ∙ ap empty_shard c.slots.ensures))
+
 pub loop-shard-preserved : goal.loop-shard-preserved
 loop-shard-preserved g c =
     let so_far = c.loop-shard.invariant in

@@ -2,6 +2,8 @@
 use Rattle.std.proofs.Common.{subst, ℕ, arith}
 use Rattle.shard_gate.specs.Given.{Counts}
 use Rattle.shard_gate.proofs.VisitLemmas.{same_pins, seat_same, at_shard, same_seat, if_ok, on_err}
+use Rattle.shard_gate.specs.Everyone.{ArePinsOfAll, taken_last}
+use Rattle.shard_gate.proofs.VisitLemmas.{on_ok, finds_all}
 use Rattle.shard_gate.proofs.VisitLemmas.{tag_here, share_here, passes_here}
 use Rattle.shard_gate.proofs.OwnLemmas.{own_here, permits_here}
 use Rattle.shard_gate.proofs.gate.Gate.count.Goals as goal
@@ -78,3 +80,17 @@ count-requires-clause-share g c =
     share_here c.self.inside.tables.items c.self.inside.share c.self.inside.cut
     c.self.inside.passes c.args.self.now c.self.view_is c.self.invariant c.args.shard
     c.requires.shard c.index.result.now _ c.index.ensures
+
+pub returns-clause-everyone : goal.returns-clause-everyone
+returns-clause-everyone g c = on_ok c.count.result _ _
+    (λ everyone.
+    let seats = c.p.inside.seats.items in
+    let here = at_shard seats c.p.inside.permits c.args.p.now c.p.view_is c.args.self.now.id
+    c.requires.gate c.args.shard
+    c.requires.shard c.index_mut.result.now c.count.new.seat _ c.index_mut.ensures.value
+    (λ before after. ArePinsOfAll c.index_mut.result.now.pins (taken_last after)) everyone in
+    finds_all seats c.p.inside.permits c.args.p.now c.p.view_is c.args.self.now.id
+    c.requires.gate c.args.shard
+    c.requires.shard c.index_mut.result.now c.count.new.seat _ c.index_mut.ensures.value
+    c.p.invariant _ here.here)
+    c.count.ensures.everyone

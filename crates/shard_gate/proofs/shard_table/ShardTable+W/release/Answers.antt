@@ -1,7 +1,10 @@
 -- The pin belongs to the seat, and each slot that a tile left is reported.
 use Rattle.std.proofs.Common.{◌≡◌, ◌∷◌, ℕ, List, ap, subst, sym, ◌∙◌, refl}
 use Rattle.std.specs.Prelude.{Contains, IsPermutation}
-use Rattle.atomic_table.specs.Table.{rest}
+use Rattle.atomic_table.specs.Table.{Me, rest}
+use Rattle.tile_store.specs.Slots.{ShardState}
+use Rattle.shard_gate.specs.declared.standing.Standing.{Standing}
+use Rattle.shard_gate.specs.Steps.{entries_of}
 use Rattle.crossbeam_utils.specs.Padded.{padded_value, padded_with_value}
 use Rattle.tile_store.specs.Tag.{share_in_tag}
 use Rattle.shard_gate.specs.Visit.{visit}
@@ -9,7 +12,9 @@ use Rattle.shard_gate.specs.Words.{keys_of_pins}
 use Rattle.shard_gate.specs.Seated.{ShardId, SeatAt}
 use Rattle.shard_gate.specs.Turn.{terms_of}
 use Rattle.shard_gate.proofs.TurnLemmas.{in_turn, own_entry, may_unpin, telling, keys_less}
-use Rattle.shard_gate.proofs.TurnLemmas.{last_pins, last_visits}
+use Rattle.shard_gate.specs.Home.{words_of}
+use Rattle.shard_gate.specs.Given.{HaveSlots}
+use Rattle.shard_gate.proofs.TurnLemmas.{last_pins, last_visits, slots_taken, slots_last}
 use Rattle.shard_gate.proofs.shard_table.ShardTable+W.release.Goals as goal
 
 pub release_in-unpinned-requires-clause-pin : goal.release_in-unpinned-requires-clause-pin
@@ -75,35 +80,48 @@ returns-clause-pins g c =
     (in_turn padded_value g.W.World.files c.seat.inside.seat.me.0 c.take.new.seat.me
     c.in_default.ensures.ok c.slot_mut-slot.result.now (rest c.take.new.seat.me.1)
     c.deref_mut.result.now c.slot_mut-slot.ensures.value c.deref_mut.ensures.value)
-    c.release_in-unpinned.result
-    (padded_with_value c.slot_mut-slot.result.now c.release_in-unpinned.new.shard)
-    c.release_in-unpinned.new.shard refl c.unpin_slot.new.seat.me c.tell_left.new.seat.me
-    c.give.new.seat.me.0 c.unpin_slot.ensures.seat c.tell_left.ensures.told c.give.ensures.view in
+    c.release_in-unpinned.result c.unpin_slot.new.seat.me c.tell_left.new.seat.me
+    c.give.new.seat.me.0
+    ((0, padded_with_value c.slot_mut-slot.result.now c.release_in-unpinned.new.shard)
+    ∷ rest c.take.new.seat.me.1)
+    (entries_of (λ b. (padded_value {T = ShardState} b).entries) c.tell_left.new.seat.me.1)
+    c.unpin_slot.ensures.seat c.tell_left.ensures.told c.give.ensures.view in
     subst (λ l. IsPermutation l (c.args.key ∷ keys_of_pins c.give.new.seat.me.0.pins))
     (ap (λ (v : SeatAt). v.pins) c.seat.view_is)
     (subst (λ l. IsPermutation (keys_of_pins c.seat.inside.seat.me.0.pins) (c.args.key ∷ keys_of_pins l))
     (sym last) less)
 
 pub returns-clause-ok : goal.returns-clause-ok
-returns-clause-ok g c = record {
-  taken = c.deref_mut.result.now.entries;
-  pin = own_entry padded_value g.W.World.files c.seat.inside.seat.me.0
-      c.take.new.seat.me c.deref_mut.result.now
-      (in_turn padded_value g.W.World.files c.seat.inside.seat.me.0 c.take.new.seat.me
-      c.in_default.ensures.ok c.slot_mut-slot.result.now (rest c.take.new.seat.me.1)
-      c.deref_mut.result.now c.slot_mut-slot.ensures.value c.deref_mut.ensures.value)
-      c.args.key
-      (subst (λ (l : List ℕ). Contains l c.args.key) (sym (ap (λ (v : SeatAt). v.pins) c.seat.view_is))
-      c.requires.made);
-  left = last_visits padded_value g.W.World.files c.seat.inside.seat.me.0
-      c.take.new.seat.me c.deref_mut.result.now
-      (in_turn padded_value g.W.World.files c.seat.inside.seat.me.0 c.take.new.seat.me
-      c.in_default.ensures.ok c.slot_mut-slot.result.now (rest c.take.new.seat.me.1)
-      c.deref_mut.result.now c.slot_mut-slot.ensures.value c.deref_mut.ensures.value)
-      c.release_in-unpinned.result
-      (padded_with_value c.slot_mut-slot.result.now c.release_in-unpinned.new.shard)
-      c.release_in-unpinned.new.shard refl c.unpin_slot.new.seat.me c.tell_left.new.seat.me
-      c.give.new.seat.me.0 c.unpin_slot.ensures.seat c.tell_left.ensures.told c.give.ensures.view
-      ∙ (λ i. visit c.deref_mut.result.now.entries (c.release_in-unpinned.ensures.entries i)
-      ∷ ap (λ (v : SeatAt). v.visits) c.seat.view_is i);
-}
+returns-clause-ok g c =
+    let old = c.seat.inside.seat.me.0 in
+    let s = c.deref_mut.result.now in
+    let new = c.release_in-unpinned.new.shard in
+    let turn = in_turn padded_value g.W.World.files old c.take.new.seat.me
+    c.in_default.ensures.ok c.slot_mut-slot.result.now (rest c.take.new.seat.me.1)
+    s c.slot_mut-slot.ensures.value c.deref_mut.ensures.value in
+    let body = padded_with_value c.slot_mut-slot.result.now new in
+    let told = c.tell_left.ensures.told in
+    record {
+      taken = s.entries;
+      keys = (words_of s).keys;
+      slots = slots_taken padded_value g.W.World.files old c.take.new.seat.me s turn;
+      pin = own_entry padded_value g.W.World.files old c.take.new.seat.me s turn c.args.key
+          (subst (λ (l : List ℕ). Contains l c.args.key) (sym (ap (λ (v : SeatAt). v.pins) c.seat.view_is))
+          c.requires.made);
+      keys_given = (words_of (padded_value told.body)).keys;
+      slots_given = subst (λ es. HaveSlots (words_of (padded_value told.body)).keys es)
+          c.release_in-unpinned.ensures.entries
+          (slots_last padded_value g.W.World.files old c.take.new.seat.me s turn
+          body new refl c.unpin_slot.new.seat.me c.tell_left.new.seat.me c.give.new.seat.me.0
+          (ap (λ (m : Me _ Standing). m.1) c.unpin_slot.ensures.seat)
+          (ap (λ (m : Me _ Standing). m.0.visits) c.unpin_slot.ensures.seat) told
+          c.give.ensures.view);
+      left = last_visits padded_value g.W.World.files old c.take.new.seat.me s turn
+          body new refl c.unpin_slot.new.seat.me c.tell_left.new.seat.me c.give.new.seat.me.0
+          (ap (λ (m : Me _ Standing). m.1) c.unpin_slot.ensures.seat)
+          (ap (λ (m : Me _ Standing). m.0.visits) c.unpin_slot.ensures.seat) told
+          c.give.ensures.view
+          ∙ (λ i. visit s.entries (words_of s).keys (c.release_in-unpinned.ensures.entries i)
+          (words_of (padded_value told.body)).keys
+          ∷ ap (λ (v : SeatAt). v.visits) c.seat.view_is i);
+    }
