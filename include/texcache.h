@@ -884,8 +884,8 @@ static inline __attribute__((always_inline)) int texc_scaled(double value, doubl
     return (uint64_t)found - (uint64_t)least <= (uint64_t)most - (uint64_t)least;
 }
 
-/* The places of `count` lookups from `first` on, of which the last TEXC_PART are kept. Returns how many are in range
- * before the first that is not. */
+/* Converts the coordinates of `count` lookups from `first` on; `to` keeps the last TEXC_PART of them. Stops at the first
+ * number out of range, and returns how many lookups came before it. */
 static inline size_t texc_places(const texcache_coordinates *at, size_t first, size_t count, texcache_place *to)
 {
     const int64_t side = INT64_C(1) << 46;

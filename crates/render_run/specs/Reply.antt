@@ -18,8 +18,7 @@ use Rattle.texel_values.specs.Region.{AreRegionValues}
 use Rattle.image_cache.specs.Facts.{info_of}
 use Rattle.image_cache.specs.Texel.{IsTexelOf}
 use Rattle.texture_sys.specs.declared.lookup_request.LookupRequest.TheVariants.{Point, Footprint}
-use Rattle.texture_sys.specs.declared.lookup.Lookup.TheVariants.{Coarse}
-use Rattle.texture_sys.specs.declared.lookup.Lookups.TheVariants.{One}
+use Rattle.texture_sys.specs.Asked.{one_point, one_footprint}
 use Rattle.texture_sys.specs.Call.{IsLookupOn}
 use Rattle.request_lang.specs.declared.request.Request.{Request}
 use Rattle.request_lang.specs.declared.answer.Answer.{Answer}
@@ -96,9 +95,9 @@ IsReplyOn cut bytes q (BadFile generation fault) = first_fault bytes ≡ Some fa
 IsReplyOn cut bytes Facts (Info info) =
     (first_fault bytes ≡ None) × (info ≡ info_of info.generation (kept_of bytes) cut)
 IsReplyOn cut bytes (Lookup r) (TileTooLarge generation) = HasLargeCell cut bytes
-IsReplyOn cut bytes (Lookup (Point r)) (Tex generation values) = IsLookupOn cut bytes (One (Coarse (Point r))) values
+IsReplyOn cut bytes (Lookup (Point r)) (Tex generation values) = IsLookupOn cut bytes (one_point r) values
 IsReplyOn cut bytes (Lookup (Footprint r)) (Texd generation values) =
-    IsLookupOn cut bytes (One (Coarse (Footprint r))) values
+    IsLookupOn cut bytes (one_footprint r) values
 IsReplyOn cut bytes (Values r) (TileTooLarge generation) = HasLargeCell cut bytes
 IsReplyOn cut bytes (Values r) (NoLevel generation levels) =
     LacksLevelOn cut bytes r.level levels

@@ -71,8 +71,8 @@ RefusesBatch files b places room done code = RefusesFile files b.file code
 
 -- What a batch answers, and what state it leaves. The values are those of the lookups on the bytes
 -- of the generation that the answer names, and the rest of the buffer is unchanged. After an error
--- the lookups before the one that failed are answered, on one generation, and no other value was
--- written. If the pass keeps a valid record of the file and its microcache has every cell needed,
+-- the lookups before the one that failed are answered, on the generation that the answer names (0 if
+-- the file was not opened), and no other value was written. If the pass keeps a valid record of the file and its microcache has every cell needed,
 -- the lookups succeed or a newer generation was seen.
 pub record SaysBatch (b : TexBatch) (places : Bor (List Place)) (code : ℕ) (answer : TexBatchAnswer)
     (out_old out_new : List ℕ) (old new : ClientState) : Type 0 where
@@ -81,9 +81,11 @@ pub record SaysBatch (b : TexBatch) (places : Bor (List Place)) (code : ℕ) (an
       (Many (batch_of b places)) old.pass.view new.pass.view
       (take (count_of b places.now) out_new) answer.generation
   pub beyond : drop (count_of b places.now) out_new ≡ drop (count_of b places.now) out_old
-  pub part : ¬ (code ≡ 0) → ¬ (code ≡ 4) → 1 ≤ answer.done
+  pub unopened : ¬ (code ≡ 0) → ¬ (code ≡ 4) → answer.generation ≡ 0 → answer.done ≡ 0
+  pub of : ¬ (code ≡ 0) → 1 ≤ answer.generation
       → IsOfGeneration supplied_files b.file old.pass.view new.pass.view answer.generation
-      × ForSome (supplied_files.held b.file answer.generation) (λ bytes.
+  pub first : ¬ (code ≡ 0) → 1 ≤ answer.generation
+      → ForSome (supplied_files.held b.file answer.generation) (λ bytes.
       AreFirstOn (picture_of old.cache.gate.cut bytes) (Many (batch_of b places))
       answer.done (take (count_of b places.now) out_new))
   pub rest : ¬ (code ≡ 0) → (k : ℕ) → answer.done * batch_channels (options_of b) ≤ k

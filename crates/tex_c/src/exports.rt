@@ -1,8 +1,6 @@
 //! The calls for C on files and lookups. Each takes a handle by value and returns it through `to`.
 ghost use Rattle.std.specs.Prelude.{◌≡◌, IsNone, IsSome, IsSomeAnd};
-ghost use Rattle.texture_sys.specs.declared.lookup_request.LookupRequest.TheVariants as asked;
-ghost use Rattle.texture_sys.specs.declared.lookup.Lookup.TheVariants as form;
-ghost use Rattle.texture_sys.specs.declared.lookup.Lookups.TheVariants.{One};
+ghost use Rattle.texture_sys.specs.Asked.{one_point, one_footprint};
 ghost use Rattle.tex_c.specs.Calls.{Hands, SaysLookup, SaysLocally, SaysInfo, SaysRegion};
 ghost use Rattle.tex_c.specs.Calls.{SaysInvalid, SaysAllInvalid};
 ghost use Rattle.tex_c.specs.Exports.{IsMade, IsNotMade, IsSplitOff};
@@ -123,7 +121,7 @@ pub extern "C" fn tex_c_texture(
 ) -> u32
     requires from { IsSome from.value }
     ensures { Hands from.value to.new.value (λ old new.
-        SaysLookup file (IsPoint lookup.now) (One (form.Coarse (asked.Point (point_of lookup.now))))
+        SaysLookup file (IsPoint lookup.now) (one_point (point_of lookup.now))
         lookup.now.channels result answer.new out.old out.new old new) }
 {
     let mut client = from.into_box();
@@ -144,7 +142,7 @@ pub extern "C" fn tex_c_texture_d(
 ) -> u32
     requires from { IsSome from.value }
     ensures { Hands from.value to.new.value (λ old new.
-        SaysLookup file (IsFootprint lookup.now) (One (form.Coarse (asked.Footprint (footprint_of lookup.now))))
+        SaysLookup file (IsFootprint lookup.now) (one_footprint (footprint_of lookup.now))
         lookup.now.channels result answer.new out.old out.new old new) }
 {
     let mut client = from.into_box();
@@ -165,7 +163,7 @@ pub extern "C" fn tex_c_texture_local(
 ) -> u32
     requires from { IsSome from.value }
     ensures { Hands from.value to.new.value (λ old new.
-        SaysLocally file (IsPoint lookup.now) (One (form.Coarse (asked.Point (point_of lookup.now))))
+        SaysLocally file (IsPoint lookup.now) (one_point (point_of lookup.now))
         lookup.now.channels result answer.new out.old out.new old new) }
 {
     let mut client = from.into_box();

@@ -17,9 +17,7 @@ ghost use Rattle.image_cache.specs.InvalidAll.{MakesAllInvalid};
 ghost use Rattle.image_cache.specs.Reading.{pass_tap};
 ghost use Rattle.image_cache.specs.Region.{ReadsRegion};
 ghost use Rattle.texture_sys.specs.Call.{Answers, TextureCause, IsWarm, AnswersWarm, ServesLocally};
-ghost use Rattle.texture_sys.specs.declared.lookup_request.LookupRequest.TheVariants as asked;
-ghost use Rattle.texture_sys.specs.declared.lookup.Lookup.TheVariants as form;
-ghost use Rattle.texture_sys.specs.declared.lookup.Lookups.TheVariants.{One};
+ghost use Rattle.texture_sys.specs.Asked.{one_point, one_footprint};
 ghost use Rattle.tex_c.specs.SuppliedWorld.{supplied_files};
 ghost use Rattle.tex_c.specs.SuppliedTap.{tap_state};
 
@@ -63,12 +61,12 @@ impl Client {
         requires count { length out.old ≡ r.now.nch }
         requires channels { IsChannelCount r.now.nch }
         ensures value { IfOk result (Answers supplied_files file self.old.cache.gate.cut
-            (One (form.Coarse (asked.Point r.now))) self.old.pass.view self.new.pass.view out.new) }
+            (one_point r.now) self.old.pass.view self.new.pass.view out.new) }
         ensures cause { IfErr result (TextureCause supplied_files file self.old.cache.gate.cut
             (sighted self.old.pass.view (tap_state self.old.tap))
             (sighted self.new.pass.view (tap_state self.new.tap))) }
         ensures err { OnErr result (out.new ≡ out.old) }
-        ensures warm { IfSome self.old.pass.latest (λ known. IsWarm file (One (form.Coarse (asked.Point r.now)))
+        ensures warm { IfSome self.old.pass.latest (λ known. IsWarm file (one_point r.now)
             self.old.pass known → AnswersWarm file known.generation
             (sighted self.old.pass.view (tap_state self.old.tap))
             (sighted self.new.pass.view (tap_state self.new.tap)) result) }
@@ -98,12 +96,12 @@ impl Client {
         requires count { length out.old ≡ r.now.nch }
         requires request { IsDerivRequest r.now }
         ensures value { IfOk result (Answers supplied_files file self.old.cache.gate.cut
-            (One (form.Coarse (asked.Footprint r.now))) self.old.pass.view self.new.pass.view out.new) }
+            (one_footprint r.now) self.old.pass.view self.new.pass.view out.new) }
         ensures cause { IfErr result (TextureCause supplied_files file self.old.cache.gate.cut
             (sighted self.old.pass.view (tap_state self.old.tap))
             (sighted self.new.pass.view (tap_state self.new.tap))) }
         ensures err { OnErr result (out.new ≡ out.old) }
-        ensures warm { IfSome self.old.pass.latest (λ known. IsWarm file (One (form.Coarse (asked.Footprint r.now)))
+        ensures warm { IfSome self.old.pass.latest (λ known. IsWarm file (one_footprint r.now)
             self.old.pass known → AnswersWarm file known.generation
             (sighted self.old.pass.view (tap_state self.old.tap))
             (sighted self.new.pass.view (tap_state self.new.tap)) result) }
@@ -133,9 +131,9 @@ impl Client {
         requires count { length out.old ≡ r.now.nch }
         requires channels { IsChannelCount r.now.nch }
         ensures some { IsSome result ↔ IsSomeAnd self.old.pass.latest
-            (ServesLocally file (One (form.Coarse (asked.Point r.now))) self.old.pass self.new.pass) }
+            (ServesLocally file (one_point r.now) self.old.pass self.new.pass) }
         ensures value { IfSome result (Answers supplied_files file self.old.cache.gate.cut
-            (One (form.Coarse (asked.Point r.now))) self.old.pass.view self.new.pass.view out.new) }
+            (one_point r.now) self.old.pass.view self.new.pass.view out.new) }
         ensures none { IsNone result → out.new ≡ out.old }
         ensures cache { self.new.cache ≡ self.old.cache }
         ensures tap { self.new.tap ≡ self.old.tap }

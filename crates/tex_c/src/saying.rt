@@ -1,9 +1,7 @@
 //! The calls as C makes them: they check the numbers of the request and write the answer as
 //! numbers.
 ghost use Rattle.std.specs.Prelude.{◌≡◌, ◌<◌, length, take, drop, IsTrue, IsFalse};
-ghost use Rattle.texture_sys.specs.declared.lookup_request.LookupRequest.TheVariants as asked;
-ghost use Rattle.texture_sys.specs.declared.lookup.Lookup.TheVariants as form;
-ghost use Rattle.texture_sys.specs.declared.lookup.Lookups.TheVariants.{One};
+ghost use Rattle.texture_sys.specs.Asked.{one_point, one_footprint};
 ghost use Rattle.tex_c.specs.Request.{IsPoint, IsFootprint, point_of, footprint_of};
 ghost use Rattle.tex_c.specs.Request.{region_of, told_info};
 ghost use Rattle.tex_c.specs.Calls.{SaysLookup, SaysLocally, SaysInfo, SaysRegion, SaysTile};
@@ -69,7 +67,7 @@ impl Client {
         out: &mut [u16],
         answer: &mut TexAnswer,
     ) -> u32
-        ensures { SaysLookup file (IsPoint lookup.now) (One (form.Coarse (asked.Point (point_of lookup.now))))
+        ensures { SaysLookup file (IsPoint lookup.now) (one_point (point_of lookup.now))
             lookup.now.channels result answer.new out.old out.new self.old self.new }
     {
         *answer = TexAnswer::blank();
@@ -101,7 +99,7 @@ impl Client {
         answer: &mut TexAnswer,
     ) -> u32
         ensures { SaysLookup file (IsFootprint lookup.now)
-            (One (form.Coarse (asked.Footprint (footprint_of lookup.now))))
+            (one_footprint (footprint_of lookup.now))
             lookup.now.channels result answer.new out.old out.new self.old self.new }
     {
         *answer = TexAnswer::blank();
@@ -132,7 +130,7 @@ impl Client {
         out: &mut [u16],
         answer: &mut TexAnswer,
     ) -> u32
-        ensures { SaysLocally file (IsPoint lookup.now) (One (form.Coarse (asked.Point (point_of lookup.now))))
+        ensures { SaysLocally file (IsPoint lookup.now) (one_point (point_of lookup.now))
             lookup.now.channels result answer.new out.old out.new self.old self.new }
     {
         *answer = TexAnswer::blank();

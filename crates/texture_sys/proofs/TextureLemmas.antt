@@ -64,11 +64,12 @@ module _ (files : Files) (file : ℕ) (cut : Cut) (old mid new : ViewState) (k :
       IfErr result (λ s. AreFirstOn (picture_of k.cut bytes) r s.done out))
       → IfErr result (AnswersFirst files file cut r old new out)
   texture_part r out (Ok x) is part = tt
-  texture_part r out (Err s) is part = λ some. (
-    of_generation s.generation is,
-    λ bytes held. subst (λ (c : Cut). AreFirstOn (picture_of c bytes) r s.done out) given.under
-        (part bytes (held_as s.generation bytes is held)),
-  )
+  texture_part r out (Err s) is part = record {
+    unopened = λ none. absurd (omega (arith, none, (of_generation s.generation is).real.low));
+    of = λ _. of_generation s.generation is;
+    first = λ _ bytes held. subst (λ (c : Cut). AreFirstOn (picture_of c bytes) r s.done out)
+        given.under (part bytes (held_as s.generation bytes is held));
+  }
 
   pub texture_cause : {B : Type 0} (tap_old tap_mid tap_new : TapState) (e : CacheError B)
       → NoneFalls tap_old tap_mid → StepCause files k new tap_mid tap_new LookupRefuses e

@@ -7,6 +7,8 @@ use Rattle.texel_filter.specs.Filter.{lookup_value}
 use Rattle.texel_filter.specs.Visits.{lookup_visits}
 use Rattle.texel_filter.specs.Deriv.{IsDerivRequest}
 use Rattle.texel_filter.specs.Fine.{fine_of, IsFineRequest}
+use Rattle.texel_filter.specs.declared.request.TexRequest.{TexRequest}
+use Rattle.texel_filter.specs.declared.request.DerivRequest.{DerivRequest}
 use Rattle.tex_aniso.specs.Mean.{derivs_value, derivs_visits}
 use Rattle.tex_aniso.specs.Line.{IsProbeLine, line_value, line_visits}
 use Rattle.tex_aniso.specs.Shape.{IsEllipseRequest}
@@ -91,6 +93,13 @@ visits_in sizes (Ellipse r) = ellipse_visits sizes r
 
 -- ---- one lookup or many
 
+-- one lookup in 1/65536 of the image: at a place, or along a footprint
+abbrev pub one_point : TexRequest → Lookups
+one_point r = One (Coarse (Point r))
+
+abbrev pub one_footprint : DerivRequest → Lookups
+one_footprint r = One (Coarse (Footprint r))
+
 -- the number of values
 abbrev pub values_in : Lookups → ℕ
 values_in (One r) = channels_in r
@@ -116,9 +125,9 @@ abbrev pub AreFirstOn : Image → Lookups → ℕ → List ℕ → Type 0
 AreFirstOn image (One r) done out = ⊤
 AreFirstOn image (Many b) done out = AreAnswered image b done out
 
--- only these were written
+-- only these were written; one lookup that fails is not answered and writes nothing
 abbrev pub KeepsOthers : Lookups → ℕ → List ℕ → List ℕ → Type 0
-KeepsOthers (One r) done old new = new ≡ old
+KeepsOthers (One r) done old new = (done ≡ 0) × (new ≡ old)
 KeepsOthers (Many b) done old new = KeepsBehind b done old new
 
 -- ---- results

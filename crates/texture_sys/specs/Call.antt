@@ -46,13 +46,14 @@ pub record Answers (files : Files) (file : ℕ) (cut : Cut) (r : Lookups) (old n
   pub of : IsOfGeneration files file old new generation
   pub value : ForSome (files.held file generation) (λ bytes. IsLookupOn cut bytes r out)
 
--- The lookups before the one that failed are answered on one generation, which the error names.
-abbrev pub AnswersFirst : {E : Type 0} → Files → ℕ → Cut → Lookups → ViewState → ViewState → List ℕ
-    → Stopped E → Type 0
-AnswersFirst files file cut r old new out s = 1 ≤ s.done
-    → IsOfGeneration files file old new s.generation
-    × ForSome (files.held file s.generation) (λ bytes.
-    AreFirstOn (picture_of cut bytes) r s.done out)
+-- The error names the generation that was looked up, or 0 if the file was not opened. The lookups
+-- before the one that failed are answered on that generation.
+pub record AnswersFirst {E : Type 0} (files : Files) (file : ℕ) (cut : Cut) (r : Lookups)
+    (old new : ViewState) (out : List ℕ) (s : Stopped E) : Type 0 where
+  pub unopened : s.generation ≡ 0 → s.done ≡ 0
+  pub of : 1 ≤ s.generation → IsOfGeneration files file old new s.generation
+  pub first : 1 ≤ s.generation → ForSome (files.held file s.generation) (λ bytes.
+      AreFirstOn (picture_of cut bytes) r s.done out)
 
 -- ---- causes
 

@@ -11,7 +11,7 @@ ghost use Rattle.image_cache.specs.Cause.{KeepsRecentAt};
 ghost use Rattle.texture_sys.specs.Call.{Answers, TextureCause, MemoryCause, AfterLookup};
 ghost use Rattle.texture_sys.specs.Call.{KeepsRecord};
 ghost use Rattle.texture_sys.specs.Call.{IsWarm, AnswersWarm};
-ghost use Rattle.texture_sys.specs.declared.lookup.Lookups.TheVariants.{One};
+ghost use Rattle.texture_sys.specs.Asked.{one_point, one_footprint};
 
 use crate::lookup::{FileLookups, Lookup, Lookups};
 use crate::lookup_request::LookupRequest;
@@ -39,23 +39,23 @@ pub fn texture<V: Waiter, T: Tap>(
     requires count { length out.old ≡ r.now.nch }
     requires channels { IsChannelCount r.now.nch }
     ensures value { IfOk result (Answers T.W.files file cache.now.gate.cut
-        (One (Lookup.Coarse (LookupRequest.Point r.now))) pass.old.view pass.new.view out.new) }
+        (one_point r.now) pass.old.view pass.new.view out.new) }
     ensures cause { IfErr result (TextureCause T.W.files file cache.now.gate.cut
         (sighted pass.old.view (T.state tap.old)) (sighted pass.new.view (T.state tap.new))) }
     ensures err { OnErr result (out.new ≡ out.old) }
     ensures unread { IfErr result (KeepsRecentAt pass.old pass.new) }
     // The state after the call.
     ensures same { AfterLookup file pass.old pass.new }
-    ensures kept { KeepsRecord T.W.files file cache.now.gate.cut (One (Lookup.Coarse (LookupRequest.Point r.now)))
+    ensures kept { KeepsRecord T.W.files file cache.now.gate.cut (one_point r.now)
         pass.old pass.new (T.state tap.old) (T.state tap.new) result }
     ensures tap { NoneFalls (T.state tap.old) (T.state tap.new) }
     // It visits shards only to pin, unpin and count tiles; it purges nothing.
     ensures visits { PurgesNone cache.now.gate pass.old.pinned.seat pass.new.pinned.seat }
     // If it visits only stored levels, it runs out of memory only while it opens a file.
-    ensures memory { MemoryCause (One (Lookup.Coarse (LookupRequest.Point r.now))) pass.new (T.state tap.old)
+    ensures memory { MemoryCause (one_point r.now) pass.new (T.state tap.old)
         (T.state tap.new) result }
     // If the microcache has every cell that it needs, it makes no call to the tap.
-    ensures warm { IfSome pass.old.latest (λ known. IsWarm file (One (Lookup.Coarse (LookupRequest.Point r.now)))
+    ensures warm { IfSome pass.old.latest (λ known. IsWarm file (one_point r.now)
         pass.old known → AnswersWarm file known.generation
         (sighted pass.old.view (T.state tap.old)) (sighted pass.new.view (T.state tap.new))
         result) }
@@ -82,23 +82,23 @@ pub fn texture_d<V: Waiter, T: Tap>(
     requires count { length out.old ≡ r.now.nch }
     requires request { IsDerivRequest r.now }
     ensures value { IfOk result (Answers T.W.files file cache.now.gate.cut
-        (One (Lookup.Coarse (LookupRequest.Footprint r.now))) pass.old.view pass.new.view out.new) }
+        (one_footprint r.now) pass.old.view pass.new.view out.new) }
     ensures cause { IfErr result (TextureCause T.W.files file cache.now.gate.cut
         (sighted pass.old.view (T.state tap.old)) (sighted pass.new.view (T.state tap.new))) }
     ensures err { OnErr result (out.new ≡ out.old) }
     ensures unread { IfErr result (KeepsRecentAt pass.old pass.new) }
     // The state after the call.
     ensures same { AfterLookup file pass.old pass.new }
-    ensures kept { KeepsRecord T.W.files file cache.now.gate.cut (One (Lookup.Coarse (LookupRequest.Footprint r.now)))
+    ensures kept { KeepsRecord T.W.files file cache.now.gate.cut (one_footprint r.now)
         pass.old pass.new (T.state tap.old) (T.state tap.new) result }
     ensures tap { NoneFalls (T.state tap.old) (T.state tap.new) }
     // It visits shards only to pin, unpin and count tiles; it purges nothing.
     ensures visits { PurgesNone cache.now.gate pass.old.pinned.seat pass.new.pinned.seat }
     // If it visits only stored levels, it runs out of memory only while it opens a file.
-    ensures memory { MemoryCause (One (Lookup.Coarse (LookupRequest.Footprint r.now))) pass.new (T.state tap.old)
+    ensures memory { MemoryCause (one_footprint r.now) pass.new (T.state tap.old)
         (T.state tap.new) result }
     // If the microcache has every cell that it needs, it makes no call to the tap.
-    ensures warm { IfSome pass.old.latest (λ known. IsWarm file (One (Lookup.Coarse (LookupRequest.Footprint r.now)))
+    ensures warm { IfSome pass.old.latest (λ known. IsWarm file (one_footprint r.now)
         pass.old known → AnswersWarm file known.generation
         (sighted pass.old.view (T.state tap.old)) (sighted pass.new.view (T.state tap.new))
         result) }

@@ -10,6 +10,7 @@ ghost use Rattle.image_cache.specs.Pass.{IsPassOf};
 ghost use Rattle.image_cache.specs.Pass.{KeepsAllBut, the_view, recent_and_counts};
 ghost use Rattle.image_cache.specs.Call.{CountsOn};
 ghost use Rattle.texture_sys.specs.Asked.{channels_in, IsInRange};
+ghost use Rattle.texture_sys.specs.Asked.{one_point};
 ghost use Rattle.texture_sys.specs.declared.lookup.Lookups.TheVariants.{One};
 ghost use Rattle.image_cache.specs.Texel.{IsUnder};
 ghost use Rattle.texture_sys.specs.Needs.{visits_on, HasCells, AsksForCells};
@@ -78,9 +79,9 @@ pub fn texture_local<T: Tap>(
     requires count { length out.old ≡ r.now.nch }
     requires channels { IsChannelCount r.now.nch }
     ensures some { IsSome result
-        ↔ IsSomeAnd pass.old.latest (ServesLocally file (One (Lookup.Coarse (LookupRequest.Point r.now))) pass.old pass.new) }
+        ↔ IsSomeAnd pass.old.latest (ServesLocally file (one_point r.now) pass.old pass.new) }
     ensures value { IfSome result (Answers T.W.files file cache.now.gate.cut
-        (One (Lookup.Coarse (LookupRequest.Point r.now))) pass.old.view pass.new.view out.new) }
+        (one_point r.now) pass.old.view pass.new.view out.new) }
     ensures none { IsNone result
         → (out.new ≡ out.old) × KeepsAllBut the_view pass.old pass.new }
     // The state after the call.
@@ -88,7 +89,7 @@ pub fn texture_local<T: Tap>(
     ensures look { AfterStep file (slice_index pass.new.view.seen file)
         pass.old.view pass.new.view }
     ensures kept { IfSome result (λ generation. IsSomeAnd pass.new.latest (IsLookedUp T.W.files
-        file cache.now.gate.cut (One (Lookup.Coarse (LookupRequest.Point r.now))) pass.old pass.new generation)) }
+        file cache.now.gate.cut (one_point r.now) pass.old pass.new generation)) }
     ensures latest { pass.new.latest ≡ pass.old.latest }
 {
     let lookup = Lookup::Coarse(LookupRequest::Point(*r));
