@@ -98,12 +98,14 @@ module _ {S : Type 0} (lawful : Terms → S → Type 0) (shown : S → Entries)
   -- what is known of a view with other numbers of turns, permits and pins
   pub other_view : (old new : Standing) → IsOf terms old → old.live ≡ true → new.live ≡ old.live
       → new.tag ≡ old.tag → new.passes ≡ old.passes → length new.pins ≤ max_pins * new.permits
+      → 1 ≤ new.permits
       → (new.has_turn ≡ false → new.known ≡ record { keys = []; pins = [] }) → IsOf terms new
-  other_view old new right live same tag passes few blind =
+  other_view old new right live same tag passes few enough blind =
       let alive : new.live ≡ true = same ∙ live in
       record {
         tag = λ _. tag ∙ right.tag live;
         passes = λ _. passes ∙ right.passes live;
+        some = λ _. enough;
         permits = λ e. absurd (cc (alive, e));
         turn = λ e. absurd (cc (alive, e));
         few = few;

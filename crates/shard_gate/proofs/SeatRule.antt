@@ -23,7 +23,7 @@ module _ {S : Type 0} (lawful : Terms → S → Type 0) (shown : S → Entries)
   -- ---- seats
 
   pub split_allowed : (id : ℕ) (v : Standing) → v.live ≡ true → v.has_turn ≡ false
-      → 0 < v.permits → length v.pins ≤ max_pins * (v.permits - 1)
+      → 1 < v.permits → length v.pins ≤ max_pins * (v.permits - 1)
       → Splits (OneTurn lawful shown words_in terms) id v (kept_standing v) (new_standing v)
   split_allowed id v live turn enough few s kept at =
       let right : IsOf terms v = kept.views id v at in
@@ -43,8 +43,10 @@ module _ {S : Type 0} (lawful : Terms → S → Type 0) (shown : S → Entries)
         tag = kept.tag;
         views = one_more (IsOf terms) (set s.views id left) new
             (one_view (IsOf terms) (IsOf terms) s.views id left (λ seat w ne there is. is) kept.views
-            (other_view lawful shown words_in terms v left right live refl refl refl few right.blind))
-            (other_view lawful shown words_in terms v new right live refl refl refl (omega arith) right.blind);
+            (other_view lawful shown words_in terms v left right live refl refl refl few (omega (arith, enough))
+            right.blind))
+            (other_view lawful shown words_in terms v new right live refl refl refl (omega arith)
+            (omega arith) right.blind);
         pins = λ slot. omega (
           arith,
           kept.pins slot,
@@ -94,10 +96,12 @@ module _ {S : Type 0} (lawful : Terms → S → Type 0) (shown : S → Entries)
         views = one_view (IsOf terms) (IsOf terms) (set s.views id both) other spent_standing
             (λ seat u ne is_there is. is)
             (one_view (IsOf terms) (IsOf terms) s.views id both (λ seat u ne is_there is. is) kept.views
-            (other_view lawful shown words_in terms v both right live refl refl refl (omega (arith, right.few)) right.blind))
+            (other_view lawful shown words_in terms v both right live refl refl refl (omega (arith, right.few))
+            (omega (arith, right.some live)) right.blind))
             (record {
               tag = λ e. cc e;
               passes = λ e. cc e;
+              some = λ e. absurd (cc e);
               permits = λ _. refl;
               turn = λ _. refl;
               few = omega arith;
@@ -138,10 +142,10 @@ module _ {S : Type 0} (lawful : Terms → S → Type 0) (shown : S → Entries)
 
   pub opened : (words : List ℕ) (body : S) → length words ≡ word_count terms.passes
       → slice_index words turn_word ≡ 0 → slice_index words tag_word ≡ terms.tag
-      → ((k : ℕ) → first_word ≤ k → slice_index words k ≡ 0) → lawful terms body
+      → ((k : ℕ) → first_word ≤ k → slice_index words k ≡ 0) → 1 ≤ terms.passes → lawful terms body
       → AreBlank terms.passes (words_in body)
       → OneTurn lawful shown words_in terms (opening words (body ∷ []) (first_standing terms))
-  opened words body count turn tag blank right clear =
+  opened words body count turn tag blank enough right clear =
       let first = first_standing terms in
       let only : (P : Standing → Type 0) → P first → Each P (first ∷ []) = λ P is. one_only P first is in
       record {
@@ -152,6 +156,7 @@ module _ {S : Type 0} (lawful : Terms → S → Type 0) (shown : S → Entries)
         views = only (IsOf terms) (record {
           tag = λ _. refl;
           passes = λ _. refl;
+          some = λ _. enough;
           permits = λ e. absurd (cc e);
           turn = λ e. absurd (cc e);
           few = zero-le;

@@ -85,7 +85,7 @@ module _ {S : Type 0} (lawful : Terms → S → Type 0) (shown : S → Entries)
         subst (λ m. OneTurn lawful shown words_in terms (stepped s (pin_word slot) m id me.1 new keeps)) (sym more)
             (after_slot lawful shown words_in terms s id (pin_word slot) (n + 1) me.0 new kept at (omega arith) may.turn may.turn refl refl
             (other_view lawful shown words_in terms me.0 new right may.live refl refl refl (omega (arith, may.room))
-            (λ e. absurd (cc (may.turn, e))))
+            (right.some may.live) (λ e. absurd (cc (may.turn, e))))
             (λ other. pin_shift s.words slot n other me.0.pins (slice_index me.0.known.keys slot) low refl)
             (one_view (λ v. AreHeld s.words v.pins) (λ v. AreHeld words v.pins) s.views id new
             (λ seat v ne there is. held_same s.words words v.pins keys is)
@@ -137,7 +137,7 @@ module _ {S : Type 0} (lawful : Terms → S → Type 0) (shown : S → Entries)
             (after_slot lawful shown words_in terms s id (pin_word slot) (n - 1) me.0 new kept at (omega arith) may.turn may.turn refl refl
             (other_view lawful shown words_in terms me.0 new right may.live refl refl refl
             (omega (arith, right.few, length-without slot me.0.pins))
-            (λ e. absurd (cc (may.turn, e))))
+            (right.some may.live) (λ e. absurd (cc (may.turn, e))))
             (λ other. unpin_shift s.words slot n other me.0.pins low refl some_pin may.own)
             (one_view (λ v. AreHeld s.words v.pins) (λ v. AreHeld words v.pins) s.views id new
             (λ seat v ne there is. held_same s.words words v.pins keys is)
@@ -178,7 +178,7 @@ module _ {S : Type 0} (lawful : Terms → S → Type 0) (shown : S → Entries)
         tt,
         after_slot lawful shown words_in terms s id (key_word slot) key me.0 new kept at (omega arith) may.turn may.turn refl refl
             (other_view lawful shown words_in terms me.0 new right may.live refl refl refl right.few
-            (λ e. absurd (cc (may.turn, e))))
+            (right.some may.live) (λ e. absurd (cc (may.turn, e))))
             (λ other. ap (λ m. m + pins_on other me.0.pins) (pins_beside s.words slot key other))
             (one_view (λ v. AreHeld words v.pins) (λ v. AreHeld words v.pins) s.views id new
             (λ seat v ne there is. is) filled (filled id me.0 at))

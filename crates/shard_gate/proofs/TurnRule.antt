@@ -50,7 +50,7 @@ module _ {S : Type 0} (lawful : Terms → S → Type 0) (shown : S → Entries)
         after lawful shown words_in terms s id 1 me.0 won (set s.homes 0 none) kept at (omega arith)
             (omega (arith, free, none_out)) refl refl
             (other_view lawful shown words_in terms me.0 won right idle.live refl refl refl right.few
-            (λ e. absurd (cc e)))
+            (right.some idle.live) (λ e. absurd (cc e)))
             (λ _. home.3)
             (λ _. record { body = home.0; before = me.0.visits; right = home.2; last = refl })
             (λ e. absurd (omega arith)),
@@ -94,7 +94,8 @@ module _ {S : Type 0} (lawful : Terms → S → Type 0) (shown : S → Entries)
         tt,
         after lawful shown words_in terms s id 0 me.0 left (put_back s.homes me.1) kept at zero-le
             (omega (arith, one_out, out, kept.most)) refl refl
-            (other_view lawful shown words_in terms me.0 left view live refl refl refl view.few (λ _. refl))
+            (other_view lawful shown words_in terms me.0 left view live refl refl refl view.few
+            (view.some live) (λ _. refl))
             (λ e. absurd (cc e)) (λ e. absurd (cc e))
             (λ _. (
               body,

@@ -43,11 +43,13 @@ first_standing terms = record {
   visits = [];
 }
 
--- A live seat knows the table's tag and passes. A spent seat has no permit and no lock. A seat has
--- no more pins than its permits allow. Without the lock it knows no word of a slot.
+-- A live seat knows the table's tag and passes, and has at least one permit. A spent seat has no
+-- permit and no lock. A seat has no more pins than its permits allow. Without the lock it knows no
+-- word of a slot.
 pub record IsOf (terms : Terms) (v : Standing) : Type 0 where
   pub tag : v.live ≡ true → v.tag ≡ terms.tag
   pub passes : v.live ≡ true → v.passes ≡ terms.passes
+  pub some : v.live ≡ true → 1 ≤ v.permits
   pub permits : v.live ≡ false → v.permits ≡ 0
   pub turn : v.live ≡ false → v.has_turn ≡ false
   pub few : length v.pins ≤ max_pins * v.permits

@@ -34,7 +34,8 @@ pub(crate) fn laid<W: World>(
     shards: usize,
     terms: &Terms,
 ) -> Result<(Vec<ShardTable<W>>, Vec<ShardSeat<W>>), AllocError>
-    requires { terms.now.passes ≤ max_passes }
+    requires few { terms.now.passes ≤ max_passes }
+    requires some { 1 ≤ terms.now.passes }
     ensures made { IfOk result (λ made. AreMadeBy terms.now made.0.items) }
     ensures count { IfOk result (λ made. length made.0.items ≡ shards) }
     ensures seats { IfOk result (λ made. made.1.items ≡ map first_seat made.0.items) }

@@ -69,6 +69,7 @@ impl<S: Drop, L: BodyRule<S>> TurnTable<S, L> {
         body: S,
     ) -> Result<(TurnTable<S, L>, TurnSeat<S>), AllocError>
         requires few { terms.now.passes ≤ max_passes }
+        requires some { 1 ≤ terms.now.passes }
         requires lawful { L.lawful terms.now body }
         requires blank { AreBlank terms.now.passes (L.words body) }
         ensures terms { IfOk result (λ made. IsMadeBy terms.now.tag terms.now.passes made.0) }

@@ -18,4 +18,4 @@ new-requires g c =
     (opening words l first)) (sym alone)
     (opened g.L.BodyRule.lawful g.L.BodyRule.shown g.L.BodyRule.words terms words c.args.body
     c.in_ok-words.ensures.count c.in_ok-words.ensures.turn c.in_ok-words.ensures.tag
-    c.in_ok-words.ensures.slots c.requires.lawful c.requires.blank))
+    c.in_ok-words.ensures.slots c.requires.some c.requires.lawful c.requires.blank))
