@@ -7,8 +7,8 @@ use Rattle.pinned_tiles.proofs.pinned.Pinned.release_all.Goals as goal
 pub returns-in-Err-release_hand-clause-visits : goal.returns-in-Err-release_hand-clause-visits
 returns-in-Err-release_hand-clause-visits g c =
     visits_round c.args.gate.now c.args.self.now.seat c.holds.self.seat c.take_hold.new.self.seat
-    c.release_hand-in-holds.new.self.seat c.holds.invariant.visits c.take_hold.ensures.seat
-    c.release_hand-in-holds.ensures.visits
+    c.release_hand.new.self.seat c.holds.invariant.visits c.take_hold.ensures.seat
+    c.release_hand.ensures.visits
 
 pub holds-preserved : goal.holds-preserved
 holds-preserved g c = record {
@@ -20,6 +20,6 @@ holds-preserved g c = record {
   same = search rules;
   visits =
       visits_round c.args.gate.now c.args.self.now.seat c.holds.self.seat
-      c.take_hold.new.self.seat c.release_hand-in-holds.new.self.seat c.holds.invariant.visits
-      c.take_hold.ensures.seat c.release_hand-in-holds.ensures.visits;
+      c.take_hold.new.self.seat c.release_hand.new.self.seat c.holds.invariant.visits
+      c.take_hold.ensures.seat c.release_hand.ensures.visits;
 }
