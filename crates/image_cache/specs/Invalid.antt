@@ -4,7 +4,7 @@ use Rattle.std.specs.Prelude.{zero, suc, [], None, length, slice_index, if◌the
 use Rattle.tex_world.specs.Counts.{Rises, RisesByOne, last_count}
 use Rattle.tex_world.specs.World.{Files, IsReal, last_generation}
 use Rattle.tex_world.specs.Tap.{TapState}
-use Rattle.gen_board.specs.View.{ViewState}
+use Rattle.gen_board.specs.View.{ViewState, KeepsLooks}
 use Rattle.file_table.specs.Calls.{KeepsView}
 use Rattle.shard_gate.specs.Gate.{GateState, PinSeatState}
 use Rattle.shard_gate.specs.Given.{AtFirst, Purges}
@@ -53,15 +53,19 @@ pub record KeepsButSight (file : ℕ) (old new : PassState) : Type 0 where
   pub counts : SameCounts old new
 
 -- The board's number for the file, read before, was raised if and only if it was below the answer.
+-- It was not read again.
 pub record RaisesTo (file looked answer : ℕ) (old new : ViewState) : Type 0 where
+  pub looks : KeepsLooks old new
   pub most : looked ≤ answer
   pub steps : slice_index new.steps file
       ≡ slice_index old.steps file + (if nat_lt looked answer then 1 else 0)
   pub seen : answer ≤ slice_index new.seen file
 
--- The board's number for the file was read, with this result, and raised if and only if it was
+-- The board's number for the file was read once, with this result, and raised if and only if it was
 -- below the answer.
 pub record LooksAt (file looked answer : ℕ) (old new : ViewState) : Type 0 where
+  pub once : slice_index new.looks file ≡ slice_index old.looks file + 1
+  pub found : slice_index new.looked file ≡ looked
   pub least : slice_index old.seen file ≤ looked
   pub most : looked ≤ answer
   pub steps : slice_index new.steps file

@@ -10,6 +10,7 @@ use Rattle.gen_board.specs.View.{ViewState}
 use Rattle.file_table.specs.Files.{FilesState}
 use Rattle.file_table.specs.Record.{RecordState}
 use Rattle.shard_gate.specs.Gate.{GateState, IsNewGate}
+use Rattle.shard_gate.specs.Visit.{visits_at}
 use Rattle.pinned_tiles.specs.Pinned.{PinnedState, ArePinned}
 use Rattle.image_cache.specs.declared.options.Options.{Options}
 
@@ -18,6 +19,8 @@ pub record CacheState : Type 0 where
   -- its records and idle handles
   pub files : FilesState
   pub gate : GateState
+  -- the number of its slots for parts of rows
+  pub slots : ℕ
 
 -- A pass, as contracts see it.
 pub record PassState : Type 0 where
@@ -32,8 +35,8 @@ pub record PassState : Type 0 where
   pub hits : ℕ
   pub apart : ℕ
 
-abbrev pub cache_state : FilesState → GateState → CacheState
-cache_state files gate = record { files = files; gate = gate }
+abbrev pub cache_state : FilesState → GateState → ℕ → CacheState
+cache_state files gate slots = record { files = files; gate = gate; slots = slots }
 
 -- The counts of a pass.
 pub record PassCounts : Type 0 where
@@ -111,6 +114,7 @@ pub record IsNewCache (o : Options) (count : ℕ) (cache : CacheState) : Type 0 
   pub cap : cache.files.cap ≡ o.handles
   pub cut : cache.files.cut ≡ o.cut
   pub gate : IsNewGate o.budget o.shards o.passes o.cut cache.gate
+  pub slots : cache.slots ≡ o.slots
 
 -- The pass is empty: no tile, no record, and counts of 0.
 pub record IsFresh (pass : PassState) : Type 0 where
@@ -129,13 +133,14 @@ pub record IsFirstPass (cache : CacheState) (pass : PassState) : Type 0 where
   pub permits : pass.pinned.seat.permits ≡ cache.gate.passes
   pub seen : (file : ℕ) → slice_index pass.view.seen file ≡ 0
 
--- The new pass has one permit, and has seen what the other has seen.
+-- The new pass has one permit and no visit, and has seen what the other has seen.
 pub record IsSecondPass (old pass : PassState) : Type 0 where
   pub board : pass.view.board ≡ old.view.board
   pub gate : pass.pinned.seat.gate ≡ old.pinned.seat.gate
   pub cut : pass.pinned.cut ≡ old.pinned.cut
   pub fresh : IsFresh pass
   pub permits : pass.pinned.seat.permits ≡ 1
+  pub visits : (shard : ℕ) → visits_at shard pass.pinned.seat.visits ≡ []
   pub seen : pass.view.seen ≡ old.view.seen
   pub steps : pass.view.steps ≡ old.view.steps
 

@@ -82,6 +82,9 @@ impl<'a, V: Waiter, T: Tap> Reading<'a, V, T> {
         ensures ok { OnOk result (self.new.pass.now.apart ≡ counted self.old.pass.now.apart) }
         ensures left { Reads T.W.files self.old self.new (refusal result) }
         ensures taken { IsTakenApart self.old.pass.now self.new.pass.now }
+        // An error in a generated level is not counted.
+        ensures refused { (IsStoredAt self.old.known.now at → ⊥)
+            → OnErr result (self.new.pass.now.apart ≡ self.old.pass.now.apart) }
         // If the need is not counted as uncached, the tap was not called.
         ensures uncounted { NoneApart self.old.pass.now self.new.pass.now
             → self.new.tap.now ≡ self.old.tap.now }

@@ -2,7 +2,7 @@
 ghost use Rattle.std.specs.Prelude.{◌≡◌, ◌<◌, ◌≤◌, [], None, length, IfOk, IfErr, OnOk, OnErr};
 ghost use Rattle.tex_world.specs.World.{max_files};
 ghost use Rattle.tile_store.specs.Tag.{tag_of};
-ghost use Rattle.shard_gate.specs.Gate.{max_shards};
+ghost use Rattle.shard_gate.specs.Gate.{IsSameSeat, max_shards};
 ghost use Rattle.shard_gate.specs.Given.{AtShard, Counts};
 ghost use Rattle.image_cache.specs.Options.{NewCause, first_bad};
 ghost use Rattle.image_cache.specs.Pass.{IsPassOf, IsNewCache, IsFirstPass, IsSecondPass};
@@ -43,10 +43,10 @@ impl<T: Tap> Model for Cache<T> {
 
     ghost Value = { CacheState };
 
-    ghost view = { λ c. cache_state c.files c.gate };
+    ghost view = { λ c. cache_state c.files c.gate c.slots };
 
     ghost invariant = { λ c.
-        (IsCache (cache_state c.files c.gate)
+        (IsCache (cache_state c.files c.gate c.slots)
         × ((c.shards ≡ length c.gate.id) × ((0 < c.shards) × (c.shards ≤ max_shards))))
         × (c.cut ≡ c.gate.cut) };
 }
@@ -108,6 +108,7 @@ impl<T: Tap> Cache<T> {
         ensures alone { IfOk result (λ count.
             pass.old.pinned.seat.permits ≡ self.now.gate.passes
             → count.pins ≡ tiles_at (length self.now.gate.id) shard pass.old.pinned) }
+        ensures err { OnErr result (IsSameSeat pass.old.pinned.seat pass.new.pinned.seat) }
         ensures same { KeepsAllBut its_visits pass.old pass.new }
     {
         pass.pinned.count(&self.gate, waiter, shard)

@@ -67,6 +67,11 @@ impl<T: Tap> Cache<T> {
         ensures needs { OnOk result (NoneApart pass.old pass.new
             → NeedsCellAt T.W.files known.now at pass.old pass.new) }
         ensures later { pass.old.apart ≤ pass.new.apart }
+        // Neither a hit nor an error in a generated level is counted as uncached.
+        ensures hit { IsTrue (has_cell_at known.now at pass.old.pinned.recent)
+            → pass.new.apart ≡ pass.old.apart }
+        ensures refused { (IsStoredAt known.now at → ⊥)
+            → OnErr result (pass.new.apart ≡ pass.old.apart) }
         ensures hand { LeavesNoHand V.Busy pass.old pass.new }
         ensures same { AfterNeed known.now.file pass.old pass.new }
         // It visits shards only to pin, unpin and count tiles; it purges nothing. If the world is
@@ -229,6 +234,8 @@ impl<'a, V: Waiter, T: Tap> Reading<'a, V, T> {
             (T.state self.old.tap.now) (T.state self.new.tap.now) result }
         ensures memory { IsStoredAt self.old.known.now at → IfErr result (WantsByOpening
             (T.state self.old.tap.now) (T.state self.new.tap.now)) }
+        ensures refused { (IsStoredAt self.old.known.now at → ⊥)
+            → OnErr result (self.new.pass.now.apart ≡ self.old.pass.now.apart) }
     {
         self.count(false);
         match self.need_tile(cell) {

@@ -3,7 +3,8 @@ ghost use Rattle.std.specs.Prelude.{◌≡◌, ◌↔◌, ◌<◌, ◌≤◌, No
 ghost use Rattle.std.specs.Prelude.{IsSome, IsNone, IfSome, IsSomeAnd, length, slice_index};
 ghost use Rattle.tex_world.specs.World.{IsFile};
 ghost use Rattle.gen_board.specs.View.{AfterStep};
-ghost use Rattle.file_table.specs.Calls.{sighted, GivesRecord, IsAsSeen, LooksOnce, OpensIfAtAll};
+ghost use Rattle.file_table.specs.Calls.{sighted, GivesRecord, IsAsSeen, IsAsNew, IsFaultless};
+ghost use Rattle.file_table.specs.Calls.{LooksOnce, OpensIfAtAll};
 ghost use Rattle.image_cache.specs.Pass.{IsPassOf, IsKeptBy};
 ghost use Rattle.image_cache.specs.Pass.{KeepsAllBut, view_and_record};
 ghost use Rattle.image_cache.specs.Call.{Serves};
@@ -33,6 +34,8 @@ impl<T: Tap> Cache<T> {
         ensures ok { IfOk result (λ r. GivesRecord T.W.files file self.now.gate.cut
             pass.old.view pass.new.view r.value) }
         ensures as_seen { IfOk result (λ r. IsAsSeen 1 file pass.old.view pass.new.view r.value) }
+        ensures as_new { IfOk result (λ r. IsAsNew file pass.new.view r.value) }
+        ensures faultless { OnOk result (IsFaultless (T.state tap.old) (T.state tap.new)) }
         ensures cause { IfErr result (OpeningCause T.W.files file
             (sighted pass.old.view (T.state tap.old)) (sighted pass.new.view (T.state tap.new))) }
         // The state after the call.

@@ -8,6 +8,7 @@ use Rattle.tiff_format.specs.declared.cut.Cut.{Cut}
 use Rattle.tile_store.specs.Tile.{CachedTile}
 use Rattle.tile_store.specs.Lawful.{FitsCut}
 use Rattle.shard_gate.specs.Gate.{GateState, PinSeatState, PinState, one_of_shard}
+use Rattle.shard_gate.specs.Visit.{visits_at}
 use Rattle.micro.specs.Items.{HasKey, key_first}
 use Rattle.micro.specs.Recent.{AreRecent}
 use Rattle.micro.specs.Runs.{IsAsked}
@@ -126,10 +127,11 @@ pub record IsNewPart (seat_given : PinSeatState) (cut_given : Cut) (new : Pinned
   pub holds : new.holds ≡ []
   pub hand : new.hand ≡ None
 
--- It has one permit and nothing pinned, at the same gate and under the same cut.
+-- It has one permit, nothing pinned and no visit, at the same gate and under the same cut.
 pub record IsSecondPart (old new : PinnedState) : Type 0 where
   pub gate : new.seat.gate ≡ old.seat.gate
   pub permits : new.seat.permits ≡ 1
+  pub visits : (shard : ℕ) → visits_at shard new.seat.visits ≡ []
   pub cut : new.cut ≡ old.cut
   pub recent : new.recent ≡ []
   pub holds : new.holds ≡ []

@@ -91,6 +91,7 @@ impl<W: World> Pinned<W> {
         ensures ok { OnOk result (self.new.seat.pins ≡ []) }
         ensures part { LeavesPart self.old self.new }
         ensures same { SameSeat self.old self.new }
+        ensures visits { PurgesNone gate.now self.old.seat self.new.seat }
         ensures are { ArePinned W.files self.new }
     {
         if let Err(busy) = self.release_recent(gate, waiter) {

@@ -2,7 +2,8 @@
 ghost use Rattle.std.specs.Prelude.{◌≡◌, ◌+◌, ◌-◌, ◌<◌, ◌≤◌, [], length, vec_capacity, None};
 ghost use Rattle.std.specs.Prelude.{OnOk, OnErr, IfOk};
 ghost use Rattle.tile_store.specs.Tag.{tag_of};
-ghost use Rattle.shard_gate.specs.Given.{AtShard, AtFirst, Counts, Purges};
+ghost use Rattle.shard_gate.specs.Gate.{IsSameSeat};
+ghost use Rattle.shard_gate.specs.Given.{AtShard, AtFirst, AtSome, Counts, Purges};
 ghost use Rattle.pinned_tiles.specs.Pinned.{max_holds, ArePinned, PinsAt, KeepsTiles, tiles_at};
 ghost use Rattle.pinned_tiles.specs.Pinned.{IsNewPart, IsSecondPart, KeepsAllButPermits};
 
@@ -119,6 +120,7 @@ impl<W: World> Pinned<W> {
             → count.pins ≡ tiles_at (length gate.now.id) shard self.old) }
         // The state after the call.
         ensures pins { self.new.seat.pins ≡ self.old.seat.pins }
+        ensures err { OnErr result (IsSameSeat self.old.seat self.new.seat) }
         ensures hand { self.new.hand ≡ self.old.hand }
         ensures same { KeepsTiles self.old self.new }
         ensures are { ArePinned W.files self.new }
@@ -136,6 +138,8 @@ impl<W: World> Pinned<W> {
     ) -> Result<(), V::Busy>
         requires gate { PinsAt gate.now self.old }
         ensures visits { OnOk result (AtFirst (length gate.now.id) (Purges file below)
+            self.old.seat.visits self.new.seat.visits) }
+        ensures err { OnErr result (AtSome (length gate.now.id) (Purges file below)
             self.old.seat.visits self.new.seat.visits) }
         ensures hand { self.new.hand ≡ self.old.hand }
         ensures same { KeepsTiles self.old self.new }
