@@ -8,7 +8,7 @@ use Rattle.tiff_format.specs.declared.cut.Cut.{Cut}
 use Rattle.tile_store.specs.Tile.{CachedTile}
 use Rattle.tile_store.specs.Lawful.{FitsCut}
 use Rattle.shard_gate.specs.Gate.{GateState, PinSeatState, PinState, one_of_shard}
-use Rattle.shard_gate.specs.Visit.{visits_at}
+use Rattle.shard_gate.specs.Visit.{visits_at, joined_at}
 use Rattle.micro.specs.Items.{HasKey, key_first}
 use Rattle.micro.specs.Recent.{AreRecent}
 use Rattle.micro.specs.Runs.{IsAsked}
@@ -86,10 +86,12 @@ pub record PinsAt (gate : GateState) (p : PinnedState) : Type 0 where
   pub at : p.seat.gate ≡ gate.id
   pub under : p.cut ≡ gate.cut
 
--- The seat belongs to the same gate with the same permits, and the cut is the same.
+-- The seat belongs to the same gate with the same permits and has taken over no other, so that all
+-- visits since are its own. The cut is the same.
 pub record SameSeat (old new : PinnedState) : Type 0 where
   pub gate : new.seat.gate ≡ old.seat.gate
   pub permits : new.seat.permits ≡ old.seat.permits
+  pub joined : new.seat.joined ≡ old.seat.joined
   pub cut : new.cut ≡ old.cut
 
 -- The microcache and the holds are unchanged.
@@ -108,7 +110,7 @@ pub record KeepsHolds (old new : PinnedState) : Type 0 where
   pub seat : SameSeat old new
   pub holds : new.holds ≡ old.holds
 
--- Only the permits may have changed.
+-- Only the permits, and the seats that were taken over, may have changed.
 pub record KeepsAllButPermits (old new : PinnedState) : Type 0 where
   pub gate : new.seat.gate ≡ old.seat.gate
   pub pins : new.seat.pins ≡ old.seat.pins
@@ -132,6 +134,7 @@ pub record IsSecondPart (old new : PinnedState) : Type 0 where
   pub gate : new.seat.gate ≡ old.seat.gate
   pub permits : new.seat.permits ≡ 1
   pub visits : (shard : ℕ) → visits_at shard new.seat.visits ≡ []
+  pub joined : (shard : ℕ) → joined_at shard new.seat.joined ≡ []
   pub cut : new.cut ≡ old.cut
   pub recent : new.recent ≡ []
   pub holds : new.holds ≡ []

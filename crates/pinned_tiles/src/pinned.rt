@@ -2,7 +2,8 @@
 ghost use Rattle.std.specs.Prelude.{◌≡◌, ◌+◌, ◌-◌, ◌<◌, ◌≤◌, [], length, vec_capacity, None};
 ghost use Rattle.std.specs.Prelude.{OnOk, OnErr, IfOk};
 ghost use Rattle.tile_store.specs.Tag.{tag_of};
-ghost use Rattle.shard_gate.specs.Gate.{IsSameSeat};
+ghost use Rattle.shard_gate.specs.Gate.{IsSameSeat, JoinsVisits};
+ghost use Rattle.shard_gate.specs.Everyone.{FindsPinsOfAll};
 ghost use Rattle.shard_gate.specs.Given.{AtShard, AtFirst, AtSome, Counts, Purges};
 ghost use Rattle.pinned_tiles.specs.Pinned.{max_holds, ArePinned, PinsAt, KeepsTiles, tiles_at};
 ghost use Rattle.pinned_tiles.specs.Pinned.{IsNewPart, IsSecondPart, KeepsAllButPermits};
@@ -118,6 +119,8 @@ impl<W: World> Pinned<W> {
             tiles_at (length gate.now.id) shard self.old ≤ count.pins) }
         ensures alone { IfOk result (λ count. self.old.seat.permits ≡ gate.now.passes
             → count.pins ≡ tiles_at (length gate.now.id) shard self.old) }
+        // Each entry has as many pins as all callers' seats have on its key, and no seat has others.
+        ensures everyone { OnOk result (FindsPinsOfAll shard self.old.seat self.new.seat) }
         // The state after the call.
         ensures pins { self.new.seat.pins ≡ self.old.seat.pins }
         ensures err { OnErr result (IsSameSeat self.old.seat self.new.seat) }
@@ -154,6 +157,7 @@ impl<W: World> Pinned<W> {
         requires permits { 1 < self.old.seat.permits }
         ensures ok { IfOk result (IsSecondPart self.old) }
         ensures permits { OnOk result (self.new.seat.permits ≡ self.old.seat.permits - 1) }
+        ensures joined { self.new.seat.joined ≡ self.old.seat.joined }
         ensures err { OnErr result (self.new.seat.permits ≡ self.old.seat.permits) }
         ensures same { KeepsAllButPermits self.old self.new }
         ensures are { ArePinned W.files self.new }
@@ -172,6 +176,7 @@ impl<W: World> Pinned<W> {
         ensures permits { self.new.seat.permits ≡ self.old.seat.permits + other.seat.permits }
         ensures pins { self.new.seat.pins ≡ self.old.seat.pins }
         ensures visits { self.new.seat.visits ≡ self.old.seat.visits }
+        ensures joined { JoinsVisits other.seat self.old.seat self.new.seat }
         ensures same { KeepsAllButPermits self.old self.new }
         ensures are { ArePinned W.files self.new }
     {

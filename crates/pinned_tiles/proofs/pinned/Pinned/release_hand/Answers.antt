@@ -43,7 +43,12 @@ invariant_of-self-in-Err g c =
           (map tile_of_pin c.self.inside.holds.items) (Some c.in-Err.field-0.pin.tile)
           (subst At (sym c.take.ensures.value ∙ (c.in-Some.is ∙ ap Some (sym c.in-Err.ensures.back)))
           c.self.invariant.0)
-          (record { gate = same.gate; permits = same.permits; pins = same.pins }),
+          (record {
+            gate = same.gate;
+            permits = same.permits;
+            pins = same.pins;
+            joined = same.joined;
+          }),
       c.self.invariant.1,
     )
 
