@@ -19,7 +19,7 @@ use Rattle.image_cache.specs.Pass.{KeepsAllBut, recent_and_counts}
 use Rattle.image_cache.specs.Square.{MeetsAt}
 use Rattle.image_cache.specs.Reading.{PassTap, pass_tap}
 use Rattle.image_cache.specs.Fetches.{at_of, AsksForCell, Fetches, Refuses}
-use Rattle.image_cache.proofs.FillLemmas.{none_fell}
+use Rattle.image_cache.proofs.FillLemmas.{none_fell, looks_same}
 
 -- a fact of a function's value, if there is one
 pub at_mapped : {A B : Type 0} (f : A → B) (o : Option A) (y : B) (P : B → Type 0)
@@ -56,6 +56,7 @@ fetches_met files gate state texel tap old new met =
       pass = record {
         place = met.kept.place;
         view = same_view state old.view new.view view;
+        looks = looks_same old.view new.view view;
         steps = rw view (omega arith);
         few = met.kept.tiles.few;
         holds = met.kept.tiles.holds;

@@ -12,7 +12,7 @@ use Rattle.tex_world.specs.Tap.{TapState}
 use Rattle.tiff_format.specs.declared.rect.Rect.{Rect}
 use Rattle.tile_layout.specs.Cell.{HoldsTexel}
 use Rattle.tile_store.specs.Tile.{CachedTile}
-use Rattle.gen_board.specs.View.{ViewState}
+use Rattle.gen_board.specs.View.{ViewState, KeepsLooks}
 use Rattle.file_table.specs.Record.{RecordState}
 use Rattle.file_table.specs.Calls.{KeepsView}
 use Rattle.micro.specs.Runs.{AreAsked}
@@ -58,6 +58,16 @@ keeps_view_chain file a b c ab bc = record {
   steps_others = λ f other. bc.steps_others f other ∙ ab.steps_others f other;
 }
 
+pub looks_chain : (a b c : ViewState) → KeepsLooks a b → KeepsLooks b c → KeepsLooks a c
+looks_chain a b c ab bc = record { looks = bc.looks ∙ ab.looks; looked = bc.looked ∙ ab.looked }
+
+-- the view is the same
+pub looks_same : (a b : ViewState) → b ≡ a → KeepsLooks a b
+looks_same a b same = record {
+  looks = ap (λ (v : ViewState). v.looks) same;
+  looked = ap (λ (v : ViewState). v.looked) same;
+}
+
 pub after_chain : (file : ℕ) (a b c : PassState) → AfterNeed file a b → AfterNeed file b c
     → AfterNeed file a c
 after_chain file a b c ab bc = record {
@@ -68,6 +78,7 @@ after_chain file a b c ab bc = record {
     permits = bc.place.permits ∙ ab.place.permits;
   };
   view = keeps_view_chain file a.view b.view c.view ab.view bc.view;
+  looks = looks_chain a.view b.view c.view ab.looks bc.looks;
   steps = omega (arith, ab.steps, bc.steps);
   few = bc.few;
   holds = bc.holds ∙ ab.holds;
@@ -84,6 +95,7 @@ after_none file pass few = record {
     seen_others = λ f other. refl;
     steps_others = λ f other. refl;
   };
+  looks = record { looks = refl; looked = refl };
   steps = omega arith;
   few = few;
   holds = refl;

@@ -1,5 +1,5 @@
 -- What does a call leave that opens a file, reads by its record and keeps that?
-use Rattle.std.proofs.Common.{◌≡◌, ℕ, ◌<◌, ◌≤◌, ◌∙◌, sym, subst, inl, inr, arith}
+use Rattle.std.proofs.Common.{◌≡◌, ℕ, ◌<◌, ◌≤◌, ◌∙◌, List, sym, ap, subst, inl, inr, arith}
 use Rattle.std.proofs.Common.{Option, Some, Result, Ok, Err, slice_index}
 use Rattle.std.specs.Prelude.{IsSomeAnd, IfErr}
 use Rattle.tex_world.specs.World.{Files}
@@ -12,7 +12,7 @@ use Rattle.file_table.specs.Calls.{KeepsView, LooksOnce, GivesRecord, OpensIfAtA
 use Rattle.file_table.specs.Calls.{sighted}
 use Rattle.image_cache.specs.Pass.{PassState}
 use Rattle.image_cache.specs.Pass.{KeepsAllBut, view_and_record}
-use Rattle.image_cache.specs.Call.{AfterCall, KeepsOne, LeavesNoHand, NoneFalls}
+use Rattle.image_cache.specs.Call.{AfterCall, IsOfLook, KeepsOne, LeavesNoHand, NoneFalls}
 use Rattle.image_cache.specs.declared.error.CacheError.{CacheError}
 use Rattle.image_cache.specs.declared.error.CacheError.TheVariants as refused
 use Rattle.image_cache.specs.Cause.{Around, MetAgain, MetNewer, RestsOnGiven, HasCause}
@@ -72,6 +72,15 @@ module _ {files : Files} {gate : GateState} {known : RecordState} {Busy : Type 0
         subst (λ (n : ℕ). slice_index mid.view.steps n ≤ slice_index after.view.steps n) of
             left.need.steps,
       ))
+
+  pub of_look : (generation : ℕ) → slice_index mid.view.looked file ≤ generation
+      → IsOfLook file old.view new.view generation
+  of_look generation found = record {
+    once = ap (λ (l : List ℕ). slice_index l file)
+        (ap (λ (v : ViewState). v.looks) view ∙ left.need.looks.looks) ∙ looks.looks;
+    found = subst (λ (l : List ℕ). slice_index l file ≤ generation)
+        (sym (ap (λ (v : ViewState). v.looked) view ∙ left.need.looks.looked)) found;
+  }
 
   pub same_holds : new.pinned.holds ≡ old.pinned.holds
   same_holds = kept.tiles.holds ∙ (left.need.holds ∙ opened.tiles.holds)

@@ -8,7 +8,7 @@ use Rattle.tex_world.specs.declared.tap.TapHandle as a_handle
 use Rattle.waiter.specs.declared.waiting.Waiter as a_waiter
 use Rattle.tex_world.specs.World.{Files}
 use Rattle.tex_world.specs.Tap.{TapState}
-use Rattle.gen_board.specs.View.{ViewState}
+use Rattle.gen_board.specs.View.{ViewState, KeepsLooks}
 use Rattle.shard_gate.specs.Gate.{GateState, PinSeatState}
 use Rattle.shard_gate.specs.Since.{PurgesNone, Misses}
 use Rattle.shard_gate.specs.declared.error.PinError.TheVariants as unpinned
@@ -26,7 +26,7 @@ use Rattle.image_cache.specs.Cause.{FetchCause}
 use Rattle.image_cache.specs.Reading.{MeetsOnlyAgain, PassTap, StepsAt, ReadsAt, ReadsOn, HoldsOn, moment}
 use Rattle.image_cache.specs.Reading.{IsSameCall, Steps, Makes, Brings, Reads, IsCold, refusal}
 use Rattle.image_cache.proofs.FillLemmas.{after_chain, after_none, none_fell, none_falls_chain}
-use Rattle.image_cache.proofs.FillLemmas.{hand_chain}
+use Rattle.image_cache.proofs.FillLemmas.{hand_chain, looks_same}
 use Rattle.image_cache.proofs.MakingLemmas.{cause_before}
 use Rattle.image_cache.proofs.VisitLemmas.{visits_same}
 
@@ -103,6 +103,7 @@ pub record OnlySees (file : ℕ) (old new : PassState) : Type 0 where
   pub latest : new.latest ≡ old.latest
   pub counts : SameCounts old new
   pub view : KeepsView file old.view new.view
+  pub looks : KeepsLooks old.view new.view
   pub steps : slice_index old.view.steps file ≤ slice_index new.view.steps file
 
 counts_then : {a b c : PassState} → SameCounts a b → SameCounts b c → SameCounts a c
@@ -225,6 +226,7 @@ module _ {V T Busy W H : Type 0} {v : a_waiter.Ghosts V Busy} {t : a_tap.Ghosts 
             place = pins.place;
             view = subst (λ (x : ViewState). KeepsView file a.pass.now.view x) (sym pins.view)
                 (view_none file a.pass.now.view);
+            looks = looks_same a.pass.now.view b.pass.now.view pins.view;
             steps = subst (λ (x : ViewState).
                 slice_index a.pass.now.view.steps file ≤ slice_index x.steps file) (sym pins.view)
                 (omega arith);
@@ -269,6 +271,7 @@ module _ {V T Busy W H : Type 0} {v : a_waiter.Ghosts V Busy} {t : a_tap.Ghosts 
           permits = ap (λ (p : PinnedState). p.seat.permits) sees.pinned;
         };
         view = sees.view;
+        looks = sees.looks;
         steps = sees.steps;
         few = sees.few;
         holds = ap (λ (p : PinnedState). p.holds) sees.pinned;
@@ -463,6 +466,7 @@ module _ {V T Busy W H : Type 0} {v : a_waiter.Ghosts V Busy} {t : a_tap.Ghosts 
         step = record {
           place = made.steps.left.need.place;
           view = made.steps.left.need.view;
+          looks = made.steps.left.need.looks;
           steps = made.steps.left.need.steps;
           latest = made.steps.left.need.latest;
         };
@@ -491,6 +495,8 @@ module _ {V T Busy W H : Type 0} {v : a_waiter.Ghosts V Busy} {t : a_tap.Ghosts 
           };
           view = subst (λ (x : ViewState). KeepsView a.known.now.file a.pass.now.view x) (sym view)
               first.need.view;
+          looks = subst (λ (x : ViewState). KeepsLooks a.pass.now.view x) (sym view)
+              first.need.looks;
           steps = subst (λ (x : ViewState). slice_index a.pass.now.view.steps a.known.now.file
               ≤ slice_index x.steps a.known.now.file) (sym view) first.need.steps;
           latest = kept.latest ∙ first.need.latest;

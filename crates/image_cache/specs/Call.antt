@@ -1,10 +1,10 @@
 -- What do the cache's calls answer, when may they fail, and what do they leave of the pass?
-use Rattle.std.specs.Prelude.{◌≡◌, ◌⊎◌, ℕ, ◌<◌, ◌≤◌, ◌++◌, Bool, IsTrue, List, ◌∷◌, []}
+use Rattle.std.specs.Prelude.{◌≡◌, ◌⊎◌, ℕ, ◌+◌, ◌<◌, ◌≤◌, ◌++◌, Bool, IsTrue, List, ◌∷◌, []}
 use Rattle.std.specs.Prelude.{length, count_by, slice_index}
 use Rattle.std.specs.Prelude.{if◌then◌else◌, Option, Some, None, Result, Ok, IfOk, IsOkAnd, IsSomeAnd}
 use Rattle.tex_world.specs.World.{Files}
 use Rattle.tex_world.specs.Tap.{TapState}
-use Rattle.gen_board.specs.View.{ViewState}
+use Rattle.gen_board.specs.View.{ViewState, KeepsLooks}
 use Rattle.file_table.specs.Record.{RecordState}
 use Rattle.file_table.specs.Calls.{KeepsView, Sighted, GivesRecord, OpensIfAtAll}
 use Rattle.micro.specs.Items.{key_first, HasKey}
@@ -59,10 +59,11 @@ MovesCellAt state at old new = IfOk state.layout (λ kept.
     new ≡ key_first key_in (cell_of state.generation state.file state.cut kept at).key old)
 
 -- What every need leaves of a pass, also one that fails: only this file's newest generation may
--- have risen, and its holds and its record are unchanged.
+-- have risen, without a read of the board. Its holds and its record are unchanged.
 pub record AfterNeed (file : ℕ) (old new : PassState) : Type 0 where
   pub place : SamePlace old new
   pub view : KeepsView file old.view new.view
+  pub looks : KeepsLooks old.view new.view
   pub steps : slice_index old.view.steps file ≤ slice_index new.view.steps file
   pub few : length new.pinned.recent ≤ 2
   pub holds : new.pinned.holds ≡ old.pinned.holds
@@ -146,12 +147,18 @@ pub record AfterCall (file : ℕ) (old new : PassState) : Type 0 where
   pub counts : CountsOn old new
 
 -- What every step of a call on a record leaves of a pass, also one that fails: only this file's
--- newest generation may have risen, and the pass's record is unchanged.
+-- newest generation may have risen, without a read of the board. The pass's record is unchanged.
 pub record AfterRecordStep (file : ℕ) (old new : PassState) : Type 0 where
   pub place : SamePlace old new
   pub view : KeepsView file old.view new.view
+  pub looks : KeepsLooks old.view new.view
   pub steps : slice_index old.view.steps file ≤ slice_index new.view.steps file
   pub latest : new.latest ≡ old.latest
+
+-- The board's number of the file was read once. The generation is at least as new as that.
+pub record IsOfLook (file : ℕ) (old new : ViewState) (generation : ℕ) : Type 0 where
+  pub once : slice_index new.looks file ≡ slice_index old.looks file + 1
+  pub found : slice_index new.looked file ≤ generation
 
 -- The microcache and the counts are unchanged.
 pub record KeepsRecent (old new : PassState) : Type 0 where

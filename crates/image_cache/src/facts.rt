@@ -5,7 +5,7 @@ ghost use Rattle.file_table.specs.Calls.{LooksOnce, OpensIfAtAll};
 ghost use Rattle.image_cache.specs.Pass.{IsPassOf};
 ghost use Rattle.image_cache.specs.Pass.{KeepsAllBut, view_and_record};
 ghost use Rattle.image_cache.specs.Facts.{info_of};
-ghost use Rattle.image_cache.specs.Call.{KeepsGiven, KeepsOne};
+ghost use Rattle.image_cache.specs.Call.{IsOfLook, KeepsGiven, KeepsOne};
 ghost use Rattle.image_cache.specs.Cause.{around, HasCause, Never, InfoRefuses};
 
 use crate::cache::Cache;
@@ -32,6 +32,8 @@ impl<T: Tap> Cache<T> {
         ensures ok { IfOk result (λ info. KeepsGiven T.W.files file self.now.gate.cut
             pass.old pass.new info.generation (λ r. IsOkAnd r.layout (λ kept.
             info ≡ info_of r.generation kept r.cut))) }
+        ensures as_new { IfOk result (λ info.
+            IsOfLook file pass.old.view pass.new.view info.generation) }
         ensures cause { IfErr result (HasCause (around T.W.files file self.now.gate.cut
             pass.old pass.new (T.state tap.old) (T.state tap.new)) Never InfoRefuses) }
         // The state after the call.

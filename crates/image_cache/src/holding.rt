@@ -8,7 +8,7 @@ ghost use Rattle.image_cache.specs.Pass.{IsPassOf};
 ghost use Rattle.image_cache.specs.Texel.{IsGivenBy, IsCellOf};
 ghost use Rattle.image_cache.specs.Reading.{refusal, moment, IsSameCall, TakesHold, HoldsOn};
 ghost use Rattle.image_cache.specs.Call.{AfterCall, AfterRecordStep, KeepsGiven, KeepsOne, KeepsRecent};
-ghost use Rattle.image_cache.specs.Call.{HoldsCell, LeavesNoHand, NoneFalls};
+ghost use Rattle.image_cache.specs.Call.{HoldsCell, IsOfLook, LeavesNoHand, NoneFalls};
 ghost use Rattle.image_cache.specs.Pass.{KeepsAllBut, its_hand, its_holds};
 ghost use Rattle.image_cache.specs.Cause.{around, HasCause, NoFurtherHold, TileRefuses};
 ghost use Rattle.image_cache.specs.Cause.{StepCause, ReleaseCause};
@@ -41,6 +41,7 @@ impl<T: Tap> Cache<T> {
         requires told { IsFile T.W.files file }
         ensures ok { IfOk result (λ generation. KeepsGiven T.W.files file self.now.gate.cut
             pass.old pass.new generation (HoldsCell T.W.files at pass.old pass.new)) }
+        ensures as_new { IfOk result (IsOfLook file pass.old.view pass.new.view) }
         ensures cause { IfErr result (HasCause (around T.W.files file self.now.gate.cut
             pass.old pass.new (T.state tap.old) (T.state tap.new)) (NoFurtherHold pass.old)
             (TileRefuses at)) }

@@ -2,6 +2,7 @@
 ghost use Rattle.std.specs.Prelude.{◌≡◌, ◌<◌, ◌≤◌, IfOk, IfErr, OnOk, OnErr, IsOkAnd, IsTrue};
 ghost use Rattle.std.specs.Prelude.{length, slice_index};
 ghost use Rattle.tex_world.specs.World.{IsReal};
+ghost use Rattle.gen_board.specs.View.{KeepsLooks};
 ghost use Rattle.file_table.specs.Calls.{KeepsView, OpensIfAtAll};
 ghost use Rattle.tile_layout.specs.Key.{level_of};
 ghost use Rattle.tile_layout.specs.Kept.{stored_count};
@@ -52,6 +53,7 @@ impl<T: Tap> Cache<T> {
             (T.state tap.old) (T.state tap.new)) }
         ensures moves { MovesOnlyAgain (T.state tap.old) (T.state tap.new) result }
         ensures keeps { KeepsView known.now.file view.old view.new }
+        ensures looks { KeepsLooks view.old view.new }
         ensures steps { slice_index view.old.steps known.now.file
             ≤ slice_index view.new.steps known.now.file }
         ensures tap { NoneFalls (T.state tap.old) (T.state tap.new) }
@@ -96,6 +98,7 @@ impl<T: Tap> Cache<T> {
         ensures memory { IfErr result (WantsByOpening (T.state tap.old) (T.state tap.new)) }
         ensures moves { MovesOnlyAgain (T.state tap.old) (T.state tap.new) result }
         ensures keeps { KeepsView known.now.file view.old view.new }
+        ensures looks { KeepsLooks view.old view.new }
         ensures steps { slice_index view.old.steps known.now.file
             ≤ slice_index view.new.steps known.now.file }
         ensures tap { NoneFalls (T.state tap.old) (T.state tap.new) }
@@ -145,6 +148,7 @@ impl<T: Tap> Cache<T> {
         ensures value { result ≡ Again known.now.generation to }
         ensures seen { to ≤ slice_index view.new.seen known.now.file }
         ensures keeps { KeepsView known.now.file view.old view.new }
+        ensures looks { KeepsLooks view.old view.new }
         ensures steps { slice_index view.old.steps known.now.file
             ≤ slice_index view.new.steps known.now.file }
     {
@@ -171,6 +175,7 @@ impl<T: Tap> Cache<T> {
         ensures memory { IfErr result (WantsByOpening (T.state tap.old) (T.state tap.new)) }
         ensures moves { MovesOnlyAgain (T.state tap.old) (T.state tap.new) result }
         ensures keeps { KeepsView known.now.file view.old view.new }
+        ensures looks { KeepsLooks view.old view.new }
         ensures steps { slice_index view.old.steps known.now.file
             ≤ slice_index view.new.steps known.now.file }
         ensures tap { OpensIfAtAll (T.state tap.old) (T.state tap.new) }

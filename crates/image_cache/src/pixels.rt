@@ -14,7 +14,7 @@ ghost use Rattle.shard_gate.specs.Since.{PurgesNone};
 ghost use Rattle.pinned_tiles.specs.Cell.{is_tile_of, StandsFirst};
 ghost use Rattle.image_cache.specs.Pass.{IsPassOf};
 ghost use Rattle.image_cache.specs.Texel.{IsGivenBy, IsCellOf};
-ghost use Rattle.image_cache.specs.Call.{AfterCall, KeepsGiven, KeepsOne};
+ghost use Rattle.image_cache.specs.Call.{AfterCall, IsOfLook, KeepsGiven, KeepsOne};
 ghost use Rattle.image_cache.specs.Call.{LeavesNoHand, Needs, NoneFalls};
 ghost use Rattle.image_cache.specs.Region.{ReadsRegion, HasAreaAt, HasAreaOf, area_keys};
 ghost use Rattle.image_cache.specs.Reading.{refusal, pass_tap, ReadsOn, IsSameCall, Reads};
@@ -75,6 +75,8 @@ impl<T: Tap> Cache<T> {
             + region.now.h * (region.now.w * pixels.channels)) }
         ensures value { IfOk result (λ pixels. ForSome (T.W.files.held file pixels.generation)
             (λ bytes. Appends (AreRegionValues bytes region.now) out.old.items out.new.items)) }
+        ensures as_new { IfOk result (λ pixels.
+            IsOfLook file pass.old.view pass.new.view pixels.generation) }
         // Each error, with its cause and what it leaves of the output.
         ensures cause { IfErr result (HasCause (around T.W.files file self.now.gate.cut
             pass.old pass.new (T.state tap.old) (T.state tap.new))

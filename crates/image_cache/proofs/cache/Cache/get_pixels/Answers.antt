@@ -1,11 +1,11 @@
 -- What was read by the record is read by the one that the pass keeps.
-use Rattle.std.proofs.Common.{◌≡◌, ◌∙◌, ap, sym, subst, Some}
+use Rattle.std.proofs.Common.{◌≡◌, ◌∙◌, ap, sym, subst, Some, arith}
 use Rattle.file_table.specs.Record.{RecordState}
 use Rattle.file_table.specs.Calls.{GivesRecord}
 use Rattle.image_cache.specs.Region.{ReadsRegion}
 use Rattle.image_cache.proofs.FillLemmas.{keeps_given, reads_between}
 use Rattle.image_cache.proofs.OpenLemmas.{after_call, same_holds, no_hand, keeps_one, looked}
-use Rattle.image_cache.proofs.OpenLemmas.{falls_behind}
+use Rattle.image_cache.proofs.OpenLemmas.{falls_behind, of_look}
 use Rattle.image_cache.proofs.cache.Cache.get_pixels.Goals as goal
 
 pub returns-in_err-append-clause-same : goal.returns-in_err-append-clause-same
@@ -69,6 +69,19 @@ returns-clause-looked g c =
     (ap (λ (r : RecordState). r.file) c.deref.ensures ∙ c.in_ok-known.ensures.ok.of_file)
     c.open.ensures.same c.open.ensures.looks c.read_region-answer.ensures.left c.keep.ensures.same
     c.keep.ensures.view
+
+pub returns-clause-as_new : goal.returns-clause-as_new
+returns-clause-as_new g c =
+    of_look c.args.file c.args.pass.now c.open.new.pass c.read_region-answer.new.pass
+    c.keep.new.pass (g.T.Tap.state c.open.new.tap) (g.T.Tap.state c.read_region-answer.new.tap)
+    (ap (λ (r : RecordState). r.file) c.deref.ensures ∙ c.in_ok-known.ensures.ok.of_file)
+    c.open.ensures.same c.open.ensures.looks c.read_region-answer.ensures.left c.keep.ensures.same
+    c.keep.ensures.view c.generation-generation.result (omega (
+      arith,
+      c.in_ok-known.ensures.as_new,
+      c.generation-generation.ensures.value,
+      ap (λ (k : RecordState). k.generation) c.deref-2.ensures,
+    ))
 
 pub returns-clause-ok : goal.returns-clause-ok
 returns-clause-ok g c =
