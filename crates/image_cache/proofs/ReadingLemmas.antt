@@ -269,6 +269,7 @@ module _ {V T Busy W H : Type 0} {v : a_waiter.Ghosts V Busy} {t : a_tap.Ghosts 
           gate = ap (λ (p : PinnedState). p.seat.gate) sees.pinned;
           cut = ap (λ (p : PinnedState). p.cut) sees.pinned;
           permits = ap (λ (p : PinnedState). p.seat.permits) sees.pinned;
+          joined = ap (λ (p : PinnedState). p.seat.joined) sees.pinned;
         };
         view = sees.view;
         looks = sees.looks;

@@ -9,8 +9,9 @@ use Rattle.tiff_format.specs.Cut.{IsCut}
 use Rattle.gen_board.specs.View.{ViewState}
 use Rattle.file_table.specs.Files.{FilesState}
 use Rattle.file_table.specs.Record.{RecordState}
-use Rattle.shard_gate.specs.Gate.{GateState, IsNewGate}
-use Rattle.shard_gate.specs.Visit.{visits_at}
+use Rattle.shard_gate.specs.Gate.{GateState, PinSeatState, IsNewGate, JoinsVisits}
+use Rattle.shard_gate.specs.Since.{PurgesNone}
+use Rattle.shard_gate.specs.Visit.{visits_at, joined_at}
 use Rattle.pinned_tiles.specs.Pinned.{PinnedState, ArePinned}
 use Rattle.image_cache.specs.declared.options.Options.{Options}
 
@@ -141,17 +142,20 @@ pub record IsSecondPass (old pass : PassState) : Type 0 where
   pub fresh : IsFresh pass
   pub permits : pass.pinned.seat.permits ≡ 1
   pub visits : (shard : ℕ) → visits_at shard pass.pinned.seat.visits ≡ []
+  pub joined : (shard : ℕ) → joined_at shard pass.pinned.seat.joined ≡ []
   pub seen : pass.view.seen ≡ old.view.seen
   pub steps : pass.view.steps ≡ old.view.steps
 
 -- ---- what calls leave
 
--- The pass belongs to the same cache, with the same cut and permits.
+-- The pass belongs to the same cache, with the same cut and permits. It has taken over no other, so
+-- all its seat's visits are its own.
 pub record SamePlace (old new : PassState) : Type 0 where
   pub board : new.view.board ≡ old.view.board
   pub gate : new.pinned.seat.gate ≡ old.pinned.seat.gate
   pub cut : new.pinned.cut ≡ old.pinned.cut
   pub permits : new.pinned.seat.permits ≡ old.pinned.seat.permits
+  pub joined : new.pinned.seat.joined ≡ old.pinned.seat.joined
 
 -- The pass has the same tiles.
 pub record SameTiles (old new : PassState) : Type 0 where
@@ -174,6 +178,7 @@ pub record SameView (old new : PassState) : Type 0 where
 pub record SameSeat (old new : PassState) : Type 0 where
   pub pins : new.pinned.seat.pins ≡ old.pinned.seat.pins
   pub visits : new.pinned.seat.visits ≡ old.pinned.seat.visits
+  pub joined : new.pinned.seat.joined ≡ old.pinned.seat.joined
 
 -- What may a call do with the seat: nothing, visit shards, or pin and unpin as well?
 pub data SeatUse : Type 0 where
@@ -303,3 +308,11 @@ pub record PassAfterJoin (other old new : PassState) : Type 0 where
   pub needs : new.needs ≡ counted_together old.needs other.needs
   pub hits : new.hits ≡ counted_together old.hits other.hits
   pub apart : new.apart ≡ counted_together old.apart other.apart
+
+-- The seat of a pass lists the visits of the other one, which gave back its pins and purged nothing,
+-- apart from its own.
+pub record JoinsReleased (gate : GateState) (other old new : PassState) : Type 0 where
+  -- the other seat without its pins
+  pub last : PinSeatState
+  pub released : PurgesNone gate other.pinned.seat last
+  pub joined : JoinsVisits last old.pinned.seat new.pinned.seat

@@ -2,11 +2,13 @@
 ghost use Rattle.std.specs.Prelude.{◌≡◌, ◌<◌, ◌≤◌, [], None, length, IfOk, IfErr, OnOk, OnErr};
 ghost use Rattle.tex_world.specs.World.{max_files};
 ghost use Rattle.tile_store.specs.Tag.{tag_of};
-ghost use Rattle.shard_gate.specs.Gate.{IsSameSeat, max_shards};
+ghost use Rattle.shard_gate.specs.Gate.{IsSameSeat, JoinsVisits, max_shards};
 ghost use Rattle.shard_gate.specs.Given.{AtShard, Counts};
 ghost use Rattle.image_cache.specs.Options.{NewCause, first_bad};
 ghost use Rattle.image_cache.specs.Pass.{IsPassOf, IsNewCache, IsFirstPass, IsSecondPass};
-ghost use Rattle.image_cache.specs.Pass.{PassAfterSplit, PassAfterJoin, SeesBoth};
+ghost use Rattle.image_cache.specs.Pass.{PassAfterSplit, PassAfterJoin, SeesBoth, JoinsReleased};
+ghost use Rattle.shard_gate.specs.Everyone.{FindsPinsOfAll};
+ghost use Rattle.shard_gate.specs.Since.{PurgesNone};
 ghost use Rattle.image_cache.specs.Pass.{KeepsAllBut, nothing, the_view, its_visits, its_tiles};
 ghost use Rattle.image_cache.specs.Cause.{SplitCause};
 ghost use Rattle.pinned_tiles.specs.Pinned.{LeavesPart, tiles_at};
@@ -108,6 +110,9 @@ impl<T: Tap> Cache<T> {
         ensures alone { IfOk result (λ count.
             pass.old.pinned.seat.permits ≡ self.now.gate.passes
             → count.pins ≡ tiles_at (length self.now.gate.id) shard pass.old.pinned) }
+        // Each entry has as many pins as all passes have on its key, and no pass has others.
+        ensures everyone { OnOk result
+            (FindsPinsOfAll shard pass.old.pinned.seat pass.new.pinned.seat) }
         ensures err { OnErr result (IsSameSeat pass.old.pinned.seat pass.new.pinned.seat) }
         ensures same { KeepsAllBut its_visits pass.old pass.new }
     {
@@ -159,10 +164,13 @@ impl<T: Tap> Cache<T> {
         requires keep { IsPassOf self.now keep.old }
         requires other { IsPassOf self.now other }
         ensures ok { OnOk result (PassAfterJoin other keep.old keep.new) }
+        ensures joined { OnOk result (JoinsReleased self.now.gate other keep.old keep.new) }
         ensures err { OnErr result (KeepsAllBut nothing keep.old keep.new) }
         // The other pass, if the waiter gives up.
         ensures back { IfErr result (λ e. KeepsAllBut its_tiles other e.other) }
         ensures part { IfErr result (λ e. LeavesPart other.pinned e.other.pinned) }
+        ensures visits { IfErr result (λ e.
+            PurgesNone self.now.gate other.pinned.seat e.other.pinned.seat) }
     {
         let released = other.pinned.release_all(&self.gate, waiter);
         if let Err(busy) = released {
@@ -177,7 +185,8 @@ impl<T: Tap> Cache<T> {
         requires keep { IsPassOf self.now keep.old }
         requires other { IsPassOf self.now other }
         requires pins { other.pinned.seat.pins ≡ [] }
-        ensures { PassAfterJoin other keep.old keep.new }
+        ensures after { PassAfterJoin other keep.old keep.new }
+        ensures joined { JoinsVisits other.pinned.seat keep.old.pinned.seat keep.new.pinned.seat }
     {
         let Pass {
             view,
