@@ -13,8 +13,8 @@ from pathlib import Path
 
 from texcheck.archive import ARCHIVE, archive_of
 from texcheck.common import TOP, Missing, said
-from texcheck.dist import DIST, dist
-from texcheck.tree import PACKED
+from texcheck.dist import DIST, dist, proved_parts
+from texcheck.tree import PACKED, Parts
 from texcheck.sources import copied, crates_below, dependencies, files_of, proved
 from texcheck.unproved import LIBRARY, PROGRAMS, build
 
@@ -161,7 +161,7 @@ def build_all(args):
     names = PACKED if args.name == DIST else (args.name,)
     is_done = all(build_unproved(it) if args.unproved else build_proved(it, jobs) for it in names)
     if is_done and args.name == DIST:
-        print(*dist(not args.unproved), sep="\n")
+        print(*dist(Parts(True) if args.unproved else proved_parts()), sep="\n")
     return is_done
 
 

@@ -13,7 +13,7 @@ from pathlib import Path
 
 from texcheck.common import TOP, Missing, said
 from texcheck.sources import version_text
-from texcheck.tree import PROGRAMS, SHARED, Parts, commit, lay_out
+from texcheck.tree import PROGRAMS, SHARED, Parts, lay_out
 
 DIST = "dist"
 OUT = TOP / "out" / "dist"
@@ -95,11 +95,16 @@ def summed(path):
     return f"{hashlib.sha256(path.read_bytes()).hexdigest()}  {os.path.relpath(path)}"
 
 
-def dist(is_proved, out=OUT):
-    """Packs everything, and returns what is to be printed: the commit, and the hashes as sha256sum prints them."""
-    parts = Parts(not is_proved)
-    if is_proved and parts.unproved():
+def proved_parts():
+    """The library and the programs to pack, all of them proved."""
+    parts = Parts(False)
+    if parts.unproved():
         raise Missing(f"not proved, or a source has changed since: {', '.join(parts.unproved())}")
+    return parts
+
+
+def dist(parts, out=OUT):
+    """Packs everything, and returns what is to be printed: the commit, and the hashes as sha256sum prints them."""
     version, seconds = version_text(not parts.unproved()), commit_time()
     name = f"texcache-{version}-linux-x86_64"
     out.mkdir(parents=True, exist_ok=True)
@@ -112,4 +117,4 @@ def dist(is_proved, out=OUT):
             made.append(out / f"texcache_{debian_version(version)}_amd64.deb")
             package(tree, Path(room) / "package", made[1], version, seconds)
     more = [] if len(made) == 2 else ["no package of Debian is made: dpkg-deb is not installed"]
-    return [f"commit {commit()}", *map(summed, made), *more]
+    return [f"commit {parts.commit}", *map(summed, made), *more]

@@ -3,7 +3,6 @@ pages, documents and examples. All paths in it are relative, so the tree works w
 """
 import re
 import shutil
-import subprocess
 from pathlib import Path
 
 from texcheck.archive import ARCHIVE, archive_of
@@ -37,6 +36,15 @@ library and liblibc_c.a), for which the toolchain gives no licence. LICENSE is f
 """
 
 
+def commit():
+    """The commit that is built, and whether something was changed since."""
+    status, text = said(["git", "rev-parse", "HEAD"], cwd=TOP)
+    if status:
+        return "unknown"
+    changed = said(["git", "--no-optional-locks", "status", "--porcelain"], cwd=TOP)[1]
+    return text.strip() + (" with changes that are not committed" if changed else "")
+
+
 class Parts:
     """The library and the programs to install, each with its place, and whether it is proved."""
 
@@ -49,6 +57,7 @@ class Parts:
         self.places = {it: place or build(it) for it, place in found.items()}
         self.archive = archive_of(self.places[LIBRARY])
         self.version = version_text(self.is_proved[LIBRARY])
+        self.commit, self.toolchain = commit(), said(["rt", "version"])[1].strip()
 
     def unproved(self):
         """The names of what is not proved."""
@@ -148,19 +157,10 @@ def put_programs(parts, to):
         linked(f"../libexec/texcache/tools/{name}", to / "bin" / name)
 
 
-def commit():
-    """The commit that is built, and what was changed since."""
-    status, text = said(["git", "rev-parse", "HEAD"], cwd=TOP)
-    if status:
-        return "unknown"
-    changed = subprocess.run(["git", "status", "--porcelain"], cwd=TOP, stdout=subprocess.PIPE, check=False).stdout
-    return text.strip() + (" with changes that are not committed" if changed else "")
-
-
 def put_documents(parts, to):
     doc = to / "share" / "doc" / "texcache"
-    version = said(["rt", "version"])[1].strip()
-    written(README.format(version=parts.version, state=parts.state(), commit=commit(), toolchain=version), doc / "README")
+    facts = {"version": parts.version, "state": parts.state(), "commit": parts.commit, "toolchain": parts.toolchain}
+    written(README.format(**facts), doc / "README")
     for name in ("LICENSE", "CHANGELOG.md"):
         copied_to(TOP / name, doc / name)
     for name in DOCUMENTS:
