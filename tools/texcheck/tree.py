@@ -25,7 +25,8 @@ LEFT_OUT = ("texcheck.entry", "texcheck.unproved")
 README = """texcache {version}: a texture cache over a folder of TIFF files, and its C library.
 
 {state}
-Built from commit {commit} by {toolchain}.
+Built from commit {commit}
+by {toolchain}, and {compiler} for the shared library.
 
 bin/ has the programs and the tools, which need Python 3.9 or later. lib/pkgconfig and lib/cmake are for programs that
 use the library. lib/texcache/python has the Python module. docs/EMBEDDING.md shows how to use them. Links in docs/ that
@@ -98,13 +99,18 @@ def filled(name, version):
     return text
 
 
+def compiler():
+    """The C compiler for the shared library."""
+    found = shutil.which("cc") or shutil.which("gcc")
+    if not found:
+        raise Missing("a C compiler is needed for the shared library; tools/setup installs it")
+    return found
+
+
 def shared(archive, target):
     """Builds the shared library, which exports the calls of the header and nothing else."""
-    compiler = shutil.which("cc") or shutil.which("gcc")
-    if not compiler:
-        raise Missing("a C compiler is needed for the shared library; tools/setup installs it")
     target.parent.mkdir(parents=True, exist_ok=True)
-    words = [compiler, "-O2", "-std=gnu11", "-shared", "-fPIC", f"-ffile-prefix-map={TOP}=.", "-Iinclude",
+    words = [compiler(), "-O2", "-std=gnu11", "-shared", "-fPIC", f"-ffile-prefix-map={TOP}=.", "-Iinclude",
              f"-Wl,-soname,{SHARED}", f"-Wl,--version-script={SOURCES / 'exports.map'}", "-Wl,-z,defs", "-Wl,-s",
              "-o", target, "python/texcache_shared.c", archive, "-lm", "-lpthread"]
     status, text = said(words, cwd=TOP)
@@ -159,7 +165,8 @@ def put_programs(parts, to):
 
 def put_documents(parts, to):
     doc = to / "share" / "doc" / "texcache"
-    facts = {"version": parts.version, "state": parts.state(), "commit": parts.commit, "toolchain": parts.toolchain}
+    facts = {"version": parts.version, "state": parts.state(), "commit": parts.commit, "toolchain": parts.toolchain,
+             "compiler": said([compiler(), "--version"])[1].splitlines()[0]}
     written(README.format(**facts), doc / "README")
     for name in ("LICENSE", "CHANGELOG.md"):
         copied_to(TOP / name, doc / name)
