@@ -3,7 +3,7 @@
 It packs twice, and the bytes have to be the same. Tarball and package of Debian are unpacked. From what is in the folder
 alone it runs both programs and the tools, and builds the examples: in C by pkg-config, in C and C++ by CMake, and in
 Python. A header and a Python module of another version have to be refused with a text. What ./install leaves has to be
-what the tarball has. If library and programs are proved and up to date, it packs those, or else unproved builds.
+what the tarball has. What is proved and up to date is packed, and an unproved build of the rest.
 """
 import filecmp
 import os
@@ -14,9 +14,10 @@ import tempfile
 from pathlib import Path
 
 from texcheck.common import TOP, Skips, debian_python, said
-from texcheck.dist import dist, proved_parts
-from texcheck.sources import proved, version_text
-from texcheck.tree import PACKED, SHARED, TOOLS, Parts
+from texcheck.dist import dist
+from texcheck.sources import version_text
+from texcheck.tree import SHARED, TOOLS, Parts
+from texcheck.unproved import LIBRARY
 
 HELP = "what ./build dist packs and ./install installs, without the toolchain"
 MIDDLE = "42919 36494 34759"
@@ -30,9 +31,8 @@ find_package(texcache {demand} REQUIRED)
 class Package:
     """The tests of what is packed, in a temporary folder, and how many passed and failed."""
 
-    def __init__(self, room, is_proved, skips):
-        self.room, self.is_proved, self.skips = room, is_proved, skips
-        self.version = version_text(is_proved)
+    def __init__(self, room, parts, skips):
+        self.room, self.parts, self.skips = room, parts, skips
         self.passed, self.failed = 0, 0
         # a program of this name that fails: nothing that is packed may ask the toolchain
         (room / "bin").mkdir()
@@ -56,13 +56,13 @@ class Package:
     def packed(self):
         """The tarball and, if dpkg-deb is there, the package of Debian. They are packed twice."""
         first, second = self.room / "first", self.room / "second"
-        parts = proved_parts() if self.is_proved else Parts(True)
         for out in (first, second):
-            lines = dist(parts, out)
+            lines = dist(self.parts, out)
         print(lines[0])
         for it in sorted(first.iterdir()):
             self.say(filecmp.cmp(it, second / it.name, shallow=False), f"{it.name} has the same bytes twice")
-            self.say(self.is_proved or "unproved" in it.name, f"the name {it.name} says whether it is proved")
+            is_so = ("unproved" in it.name) == bool(self.parts.unproved())
+            self.say(is_so, f"the name {it.name} says whether all of it is proved")
         return sorted(first.iterdir())
 
     def unpacked(self, packed):
@@ -81,9 +81,11 @@ class Package:
         given, wanted = (demo / "requests.txt").read_bytes(), (demo / "expected.txt").read_text(encoding="ascii")
         ran = subprocess.run([texcache, demo], input=given, env=self.env, capture_output=True, check=False)
         self.say(ran.stdout.decode() == wanted, "texcache answers the demo's list", ran.stdout + ran.stderr)
-        self.say(self.is_proved or b"not proved" in ran.stderr, "texcache says whether it is proved", ran.stderr)
+        is_so = (b"not proved" in ran.stderr) != self.parts.is_proved["texcache"]
+        self.say(is_so, "texcache says whether it is proved", ran.stderr)
         for name, program in (("texcache", texcache), ("texmake", texmake)):
-            self.does(f"{name} --version", [program, "--version"], f"{name} {self.version}\n")
+            version = version_text(self.parts.is_proved[name])
+            self.does(f"{name} --version", [program, "--version"], f"{name} {version}\n")
         self.does("texcache on a folder that does not exist", [texcache, "/nonexistent"], "/nonexistent: No such file", 4)
         self.does("texcache with a bad list", [texcache, demo], "field 1, S", 3, b"tex 0.5 0 0 clamp clamp closest 3 x\n")
         self.does("texmake on a damaged file", [texmake, demo, "cut.tif"], "strip or tile 2 of level 0", 8)
@@ -107,10 +109,10 @@ class Package:
         if self.skips.lacks(None if shutil.which("pkg-config") else "pkg-config", "the example in C"):
             return
         self.env["PKG_CONFIG_PATH"] = str(top / "lib/pkgconfig")
-        self.does("the version for pkg-config", ["pkg-config", "--modversion", "texcache"], f"{self.version}\n")
+        self.does("the version for pkg-config", ["pkg-config", "--modversion", "texcache"], f"{self.parts.version}\n")
         words = ["sh", "-c", 'cc -Wall -Wextra -Werror "$0" -o "$1" $2 $(pkg-config --cflags --libs texcache)']
         if self.does("building the example in C", [*words, examples / "lookup.c", top / "lookup", ""], ""):
-            self.does("the example in C", [top / "lookup", demo, "bricks.tif"], f"{self.version}: {MIDDLE}\n")
+            self.does("the example in C", [top / "lookup", demo, "bricks.tif"], f"{self.parts.version}: {MIDDLE}\n")
         other = top / "other" / "texcache.h"
         other.parent.mkdir()
         text = (top / "include" / "texcache.h").read_text(encoding="utf-8")
@@ -130,7 +132,7 @@ class Package:
         if self.does("CMake finds the library", [*configure, examples, "-B", top / "cmake"], "") \
                 and self.does("building the examples by CMake", ["cmake", "--build", top / "cmake"], ""):
             for name in ("lookup", "lookup_cpp"):
-                self.does(f"CMake's {name}", [top / "cmake" / name, demo, "bricks.tif"], f"{self.version}: {MIDDLE}\n")
+                self.does(f"CMake's {name}", [top / "cmake" / name, demo, "bricks.tif"], f"{self.parts.version}: {MIDDLE}\n")
         for demand, status in (("1.0", 0), ("1.1", 1), ("2.0", 1)):
             source = top / f"demand-{demand}"
             source.mkdir()
@@ -141,7 +143,7 @@ class Package:
         """The example in Python, and a module of another version."""
         examples, demo, python = top / "share/doc/texcache/examples", top / "share/doc/texcache/demo", debian_python()
         own, words = top / "lib/texcache/python", [python, examples / "lookup.py", demo, "bricks.tif"]
-        self.does("the example in Python", words, f"{self.version}: {MIDDLE}\n", PYTHONPATH=str(own))
+        self.does("the example in Python", words, f"{self.parts.version}: {MIDDLE}\n", PYTHONPATH=str(own))
         other = top / "other.py" / "texcache.py"
         other.parent.mkdir()
         text = (own / "texcache.py").read_text(encoding="utf-8")
@@ -176,17 +178,17 @@ class Package:
     def installed(self, packed):
         """What ./install leaves, put over an earlier one too, beside what the tarball has."""
         own = self.room / "own"
-        words = [TOP / "install", own, *([] if self.is_proved else ["--unproved"])]
+        words = [TOP / "install", own, *([] if self.parts.is_proved[LIBRARY] else ["--unproved"])]
         for what in ("into an empty folder", "once more"):
             status, text = said(words)
-            self.say(status == 0 and self.version in text, f"./install {what}", text)
+            self.say(status == 0 and self.parts.version in text, f"./install {what}", text)
         to = self.room / "beside"
         to.mkdir()
         said(["tar", "-xzf", packed, "-C", to])
         # README says whether something is not committed, which another test may change meanwhile
         status, text = said(["diff", "-r", "--exclude=README", own, to / packed.name.removesuffix(".tar.gz")])
         self.say(status == 0, "./install leaves what the tarball has", text)
-        if not proved(PACKED[0]):
+        if not self.parts.is_proved[LIBRARY]:
             status, text = said([TOP / "install", self.room / "nowhere"])
             is_so = status == 1 and "--unproved" in text and not (self.room / "nowhere").exists()
             self.say(is_so, "./install without a proved library is refused, and says what helps", text)
@@ -201,11 +203,10 @@ def run(args):
     lacking = next((it for it in ("cc", "nm", "readelf", "tar") if not shutil.which(it)), None)
     if skips.lacks(lacking, "package"):
         return 1 if skips.failed else 0
-    is_proved = all(map(proved, PACKED))
-    if not is_proved:
-        print("the library or a program is not proved: unproved builds are packed")
+    parts = Parts(True)
+    print(parts.state())
     with tempfile.TemporaryDirectory() as room:
-        tests = Package(Path(room), is_proved, skips)
+        tests = Package(Path(room), parts, skips)
         every = tests.packed()
         skips.lacks(None if len(every) == 2 else "dpkg-deb", "the package of Debian")
         for packed in every:
