@@ -1,9 +1,10 @@
 """Tests what ./build dist packs and ./install installs, each in an empty folder and without the toolchain.
 
-It packs twice, and the bytes have to be the same. Tarball and package of Debian are unpacked. From what is in the folder
-alone it runs both programs and the tools, and builds the examples: in C by pkg-config, in C and C++ by CMake, and in
-Python. A header and a Python module of another version have to be refused with a text. What ./install leaves has to be
-what the tarball has. What is proved and up to date is packed, and an unproved build of the rest.
+It packs twice, and the bytes have to be the same. The tarball is unpacked, and the package of Debian installed. From
+what is in the folder alone it runs both programs and the tools, and builds the examples: in C by pkg-config, in C and
+C++ by CMake, and in Python. A header and a Python module of another version have to be refused with a text. What
+./install leaves has to be what the tarball has. What is proved and up to date is packed, and an unproved build of the
+rest.
 """
 import filecmp
 import os
@@ -70,10 +71,22 @@ class Package:
         to = self.room / f"from-{packed.suffix[1:]}"
         to.mkdir()
         if packed.suffix == ".deb":
-            self.does(f"unpacking {packed.name}", ["dpkg-deb", "-x", packed, to], "")
+            self.put_package(packed, to)
             return to / "usr"
         self.does(f"unpacking {packed.name}", ["tar", "-xzf", packed, "-C", to], "")
         return to / packed.name.removesuffix(".tar.gz")
+
+    def put_package(self, packed, to):
+        """Installs the package of Debian into a system that has no other; only root can, so others unpack it."""
+        if os.geteuid():
+            self.does(f"unpacking {packed.name}", ["dpkg-deb", "-x", packed, to], "")
+            return
+        for it in ("info", "updates", "triggers"):
+            (to / "var/lib/dpkg" / it).mkdir(parents=True)
+        for it in ("status", "available"):
+            (to / "var/lib/dpkg" / it).touch()
+        words = ["dpkg", f"--root={to}", f"--log={to / 'log'}", "--force-depends", "--force-script-chrootless", "-i", packed]
+        self.does(f"installing {packed.name}", words, "Setting up texcache", PATH="/usr/sbin:/usr/bin:/sbin:/bin")
 
     def programs(self, top):
         """Both programs through their wrappers: answers, texts and statuses."""
