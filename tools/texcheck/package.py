@@ -85,8 +85,8 @@ class Package:
             (to / "var/lib/dpkg" / it).mkdir(parents=True)
         for it in ("status", "available"):
             (to / "var/lib/dpkg" / it).touch()
-        words = ["dpkg", f"--root={to}", f"--log={to / 'log'}", "--force-depends", "--force-script-chrootless", "-i", packed]
-        self.does(f"installing {packed.name}", words, "Setting up texcache", PATH="/usr/sbin:/usr/bin:/sbin:/bin")
+        words = ["dpkg", f"--root={to}", f"--log={to / 'log'}", "--force-depends", "--force-script-chrootless", "-i"]
+        self.does(f"installing {packed.name}", [*words, packed], "Setting up texcache", PATH="/usr/sbin:/usr/bin:/sbin:/bin")
 
     def programs(self, top):
         """Both programs through their wrappers: answers, texts and statuses."""
@@ -99,8 +99,9 @@ class Package:
         for name, program in (("texcache", texcache), ("texmake", texmake)):
             version = version_text(self.parts.is_proved[name])
             self.does(f"{name} --version", [program, "--version"], f"{name} {version}\n")
-        self.does("texcache on a folder that does not exist", [texcache, "/nonexistent"], "/nonexistent: No such file", 4)
-        self.does("texcache with a bad list", [texcache, demo], "field 1, S", 3, b"tex 0.5 0 0 clamp clamp closest 3 x\n")
+        self.does("texcache on a folder that does not exist", [texcache, "/nonexistent"], "/nonexistent: No such", 4)
+        bad = b"tex 0.5 0 0 clamp clamp closest 3 x\n"
+        self.does("texcache with a bad list", [texcache, demo], "field 1, S", 3, bad)
         self.does("texmake on a damaged file", [texmake, demo, "cut.tif"], "strip or tile 2 of level 0", 8)
         self.does("texmake -o", [texmake, demo, "hills.tif", "-o", top / "made.tif"], "")
 
@@ -145,7 +146,8 @@ class Package:
         if self.does("CMake finds the library", [*configure, examples, "-B", top / "cmake"], "") \
                 and self.does("building the examples by CMake", ["cmake", "--build", top / "cmake"], ""):
             for name in ("lookup", "lookup_cpp"):
-                self.does(f"CMake's {name}", [top / "cmake" / name, demo, "bricks.tif"], f"{self.parts.version}: {MIDDLE}\n")
+                words = [top / "cmake" / name, demo, "bricks.tif"]
+                self.does(f"CMake's {name}", words, f"{self.parts.version}: {MIDDLE}\n")
         for demand, status in (("1.0", 0), ("1.1", 1), ("2.0", 1)):
             source = top / f"demand-{demand}"
             source.mkdir()

@@ -3,7 +3,6 @@ pages, documents and examples. All paths in it are relative, so the tree works w
 """
 import re
 import shutil
-from pathlib import Path
 
 from texcheck.archive import ARCHIVE, archive_of
 from texcheck.common import TOP, Missing, said
@@ -52,8 +51,8 @@ class Parts:
     def __init__(self, may_be_unproved):
         found = {it: proved(it) for it in PACKED}
         if not found[LIBRARY] and not may_be_unproved:
-            raise Missing(f"{LIBRARY} is not proved, or a source has changed since: ./build {LIBRARY} proves it, in about "
-                          "an hour. With --unproved an unproved build is installed, whose version says so.")
+            raise Missing(f"{LIBRARY} is not proved, or a source has changed since: ./build {LIBRARY} proves it, in "
+                          "about an hour. With --unproved an unproved build is installed, whose version says so.")
         self.is_proved = {it: bool(place) for it, place in found.items()}
         self.places = {it: place or build(it) for it, place in found.items()}
         self.archive = archive_of(self.places[LIBRARY])
