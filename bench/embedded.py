@@ -30,7 +30,7 @@ def output_of(words):
 
 
 def over(library):
-    return ["-lm", "-lpthread"], [library, Path(output_of(["rt", "doc"]).strip()).parent / "c" / "liblibc_c.a"]
+    return ["-lm", "-lpthread"], [library]
 
 
 def programs(words, made):
@@ -122,7 +122,7 @@ def renderer(words, folder):
 
 def main():
     asked = argparse.ArgumentParser(description=__doc__, formatter_class=argparse.RawDescriptionHelpFormatter)
-    asked.add_argument("--library", type=Path, default=TOP / "crates" / "tex_c" / "out" / "libtex_c.a")
+    asked.add_argument("--library", type=Path, default=TOP / "crates" / "tex_c" / "out" / "libtexcache.a")
     asked.add_argument("--folder", type=Path, default=TOP / "demo")
     asked.add_argument("--name", default="hills.tif")
     asked.add_argument("--passes", type=int, default=5)

@@ -55,10 +55,9 @@ def textures(folder):
 
 
 def build(library, made):
-    heap = Path(said("rt", "doc").strip()).parent / "c" / "liblibc_c.a"
     found = said("pkg-config", "--cflags", "--libs", "OpenImageIO").split()
     said("c++", "-std=c++17", "-O2", "-Wall", "-Wextra", f"-I{TOP / 'include'}", "-o", made / "oiio_footprints",
-         TOP / "bench" / "oiio_footprints.cpp", library, heap, *found, "-lpthread")
+         TOP / "bench" / "oiio_footprints.cpp", library, *found, "-lpthread")
     return made / "oiio_footprints"
 
 
@@ -74,8 +73,8 @@ def main():
     asked = argparse.ArgumentParser(description=__doc__, formatter_class=argparse.RawDescriptionHelpFormatter,
                                     allow_abbrev=False)
     asked.add_argument("parts", nargs="*", metavar="PART", help=f"{', '.join(PARTS)}; check; or pictures, with --write")
-    asked.add_argument("--library", type=Path, default=TOP / "crates" / "tex_c" / "out" / "libtex_c.a",
-                       help="the library; crates/tex_c/out/libtex_c.a if it is not given")
+    asked.add_argument("--library", type=Path, default=TOP / "crates" / "tex_c" / "out" / "libtexcache.a",
+                       help="the library; crates/tex_c/out/libtexcache.a if it is not given")
     asked.add_argument("--write", action="store_true", help="write docs/pictures/close_views.png and plane_views.png")
     words = asked.parse_args()
     parts = words.parts or PARTS

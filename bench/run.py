@@ -29,7 +29,7 @@ from rows import ROWS
 HERE = Path(__file__).resolve().parent
 TOP = HERE.parent
 PROGRAM = TOP / "crates" / "texcache" / "out" / "texcache"
-LIBRARY = TOP / "crates" / "tex_c" / "out" / "libtex_c.a"
+LIBRARY = TOP / "crates" / "tex_c" / "out" / "libtexcache.a"
 MOST_LOAD = 2  # per processor
 NAMES = ("program", "c", "oiio")
 
@@ -64,10 +64,9 @@ def build(folder, asked):
             sys.exit(f"run.py: {file} does not exist; {makes} makes it")
     if subprocess.run(["pkg-config", "--exists", "OpenImageIO"], check=False).returncode:
         sys.exit("run.py: OpenImageIO is not installed: apt-get install libopenimageio-dev")
-    heap = Path(output_of(["rt", "doc"])).parent / "c" / "liblibc_c.a"
     flags = ["g++", "-std=c++17", "-O2", "-I", TOP / "include"]
     subprocess.run(["cc", "-O2", "-o", folder / "measure", HERE / "measure.c"], check=True)
-    subprocess.run([*flags, "-o", folder / "c", HERE / "texcache_lists.cpp", asked.library.resolve(), heap, "-lm",
+    subprocess.run([*flags, "-o", folder / "c", HERE / "texcache_lists.cpp", asked.library.resolve(), "-lm",
                     "-lpthread"], check=True)
     found = output_of(["pkg-config", "--cflags", "--libs", "OpenImageIO"]).split()
     subprocess.run([*flags, "-o", folder / "oiio", HERE / "oiio_lists.cpp", "-lpthread", *found], check=True)

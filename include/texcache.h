@@ -1,7 +1,7 @@
 /* texcache.h: textures of a folder of TIFF files, for programs in C and C++.
  *
- * It needs the static library libtex_c.a, which is proved and does no input or output: the library says which
- * bytes it needs, and this header reads and supplies them. How to build and link: docs/EMBEDDING.md.
+ * It needs the static library libtexcache.a, whose cache is proved and does no input or output: the library says
+ * which bytes it needs, and this header reads and supplies them. How to build and link: docs/EMBEDDING.md.
  *
  *     texcache *cache;
  *     texcache_pass *pass = NULL;
@@ -29,7 +29,7 @@
 #ifndef TEXCACHE_H
 #define TEXCACHE_H
 
-/* The version of texcache, as in the file VERSION. */
+/* The version of this header, as in the file VERSION. The library has one too: texcache_version(). */
 #define TEXCACHE_VERSION "1.0.0-rc1"
 
 #ifndef _GNU_SOURCE
@@ -92,7 +92,8 @@ enum texcache_status {
     TEXCACHE_NO_NAME = 42,          /* the folder had no plain file of this name */
     TEXCACHE_IN_USE = 43,           /* another call runs in this pass */
     TEXCACHE_CLOSED = 44,           /* an argument is NULL: a pass, a cache, a place for the result */
-    TEXCACHE_PASSES_LEFT = 45       /* a pass of the cache has not ended */
+    TEXCACHE_PASSES_LEFT = 45,      /* a pass of the cache has not ended */
+    TEXCACHE_OTHER_VERSION = 46     /* the linked library is not of this header's version */
 };
 
 /* The name of an error. */
@@ -105,10 +106,24 @@ TEXCACHE_API const char *texcache_error_string(int status)
         "no memory", "busy", "supply not needed", "supply for another place", "supply of an older version",
         "supply of another version", "supply too short", "supply too long"};
     static const char *const high[] = {"folder cannot be read", "too many files", "no such name", "pass in use",
-                                       "a NULL argument", "a pass has not ended"};
+                                       "a NULL argument", "a pass has not ended",
+                                       "header and library are of different versions"};
     if (status >= 0 && status < (int)(sizeof low / sizeof *low)) return low[status];
     if (status >= 40 && status - 40 < (int)(sizeof high / sizeof *high)) return high[status - 40];
     return "unknown";
+}
+
+/* ---- the version */
+
+/* The version of the linked library: that of the file VERSION, with +unproved behind it if nobody proved the library. */
+const char *texcache_version(void);
+
+/* Whether the library is of this header's version. The structs and calls of another version may differ. */
+static inline int texc_is_own_version(void)
+{
+    const char *library = texcache_version();
+    size_t length = sizeof TEXCACHE_VERSION - 1;
+    return !strncmp(library, TEXCACHE_VERSION, length) && (!library[length] || library[length] == '+');
 }
 
 /* ---- what is passed to the library */
@@ -698,13 +713,15 @@ static inline void texc_free(texcache *cache)
 }
 
 /* A cache of the plain files that the folder has now, without symbolic links. On an error the cache is NULL,
- * and for BAD_OPTIONS *bad, if given, is the number of the first bad option. */
+ * and for BAD_OPTIONS *bad, if given, is the number of the first bad option. If the linked library is of another
+ * version than this header, that is TEXCACHE_OTHER_VERSION. */
 TEXCACHE_API int texcache_open_saying(texcache **out, const char *folder, const texcache_options *options,
                                       uint32_t *bad)
 {
     texcache_answer answer;
     if (!out || !folder) return TEXCACHE_CLOSED;
     *out = NULL;
+    if (!texc_is_own_version()) return TEXCACHE_OTHER_VERSION;
     texcache *cache = (texcache *)calloc(1, sizeof *cache);
     if (!cache) return TEXCACHE_NO_MEMORY;
     pthread_mutex_init(&cache->lock, NULL);

@@ -24,6 +24,8 @@ try:
 except ImportError:
     numpy = None
 
+# the version of this module, as in the file VERSION; the library's is version()
+VERSION = "1.0.0-rc1"
 BLACK, CLAMP, PERIODIC, MIRROR = range(4)
 CLOSEST, BILINEAR, TRILINEAR = range(3)
 OK, BAD_OPTIONS, BAD_REQUEST, SMALL_BUFFER, NOT_LOCAL = 0, 2, 4, 5, 7
@@ -129,7 +131,25 @@ def _declared(library):
     return library
 
 
-_lib = _declared(ctypes.CDLL(os.environ.get("TEXCACHE_LIBRARY", str(Path(__file__).with_name("libtexcache.so")))))
+def _loaded(place):
+    """The library, if it is of this module's version. (The structs and calls of another version may differ.)"""
+    library = ctypes.CDLL(place)
+    try:
+        library.texcache_version.restype = c_char_p
+        found = library.texcache_version().decode()
+    except AttributeError:
+        found = "older"
+    if found.partition("+")[0] != VERSION:
+        raise ImportError(f"texcache.py is of version {VERSION}, and the library {place} of version {found}")
+    return _declared(library)
+
+
+_lib = _loaded(os.environ.get("TEXCACHE_LIBRARY", str(Path(__file__).with_name("libtexcache.so"))))
+
+
+def version():
+    """The version of the library, with +unproved behind it if nobody proved it."""
+    return _lib.texcache_version().decode()
 
 
 def _text(status, answer):

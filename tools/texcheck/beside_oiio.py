@@ -8,9 +8,8 @@ footprint changes slowly. (bench/footprints.py prints the same, and what OpenIma
 import shutil
 from pathlib import Path
 
+from texcheck.archive import archive_of
 from texcheck.common import TOP, Skips, debian_python, said
-from texcheck.sources import is_current
-from texcheck.unproved import LIBRARY, build
 
 HELP = "lookups on doubles and over footprints, beside OpenImageIO"
 
@@ -36,8 +35,7 @@ def run(args):
     skips = Skips(args)
     if skips.lacks(missing(), "beside-oiio"):
         return 1 if skips.failed else 0
-    proved = TOP / "crates" / LIBRARY / "out" / f"lib{LIBRARY}.a"
-    library = args.library or (proved if is_current(proved, LIBRARY) else build(LIBRARY))
-    status, text = said([debian_python(), TOP / "bench" / "footprints.py", "--library", library.resolve(), "check"])
+    library = archive_of(args.library)
+    status, text = said([debian_python(), TOP / "bench" / "footprints.py", "--library", library, "check"])
     print(text, end="")
     return 1 if status else 0

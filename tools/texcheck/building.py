@@ -11,7 +11,10 @@ import tempfile
 import time
 from pathlib import Path
 
+from texcheck.archive import ARCHIVE, archive_of
 from texcheck.common import TOP, Missing, said
+from texcheck.dist import DIST, dist, proved_parts
+from texcheck.tree import PACKED, Parts
 from texcheck.sources import copied, crates_below, dependencies, files_of, proved
 from texcheck.unproved import LIBRARY, PROGRAMS, build
 
@@ -21,7 +24,9 @@ ABOUT = f"""Proves and builds a program, or the library for programs in C ({LIBR
 
 Crates that do not use each other are proved at the same time, if there is enough memory. What an earlier run proved is
 used again if no source has changed. {USUAL[0].upper()}{USUAL[1:]}.
-The program is left in crates/NAME/out/NAME, the library in crates/{LIBRARY}/out/lib{LIBRARY}.a.
+The program is left in crates/NAME/out/NAME, the library in crates/{LIBRARY}/out/{ARCHIVE}: one archive, with
+the toolchain's C part. With {DIST} in place of NAME it packs both programs and the library, which are proved first if
+they are not: texcache-VERSION-linux-x86_64.tar.gz and a package of Debian in out/dist. It prints the commit and hashes.
 """
 # what a check may take, in bytes
 NEED = 4 << 30
@@ -127,31 +132,53 @@ def finish(name):
     return bool(is_made)
 
 
+def build_proved(name, jobs):
+    """Proves and builds it, unless it is built and no source has changed since. Returns whether it is there."""
+    is_done = bool(proved(name))
+    if is_done:
+        say(f"{name} is proved and built, and no source has changed since")
+    else:
+        began = time.monotonic()
+        say(USUAL)
+        with tempfile.TemporaryDirectory(prefix="texcache-build-") as room:
+            is_done = prove(name, jobs, Path(room)) and finish(name)
+        say(f"{name} is {'proved and built' if is_done else 'not proved'}, after {minutes(time.monotonic() - began)}")
+    if is_done and name == LIBRARY:
+        archive_of(proved(LIBRARY))
+    return is_done
+
+
+def build_unproved(name):
+    """Builds it without a proof, and prints its place."""
+    place = build(name)
+    print(os.path.relpath(archive_of(place) if name == LIBRARY else place))
+    return True
+
+
+def build_all(args):
+    """Builds what the arguments name. Returns whether all of it is there."""
+    jobs = args.jobs or side_by_side()
+    names = PACKED if args.name == DIST else (args.name,)
+    is_done = all(build_unproved(it) if args.unproved else build_proved(it, jobs) for it in names)
+    if is_done and args.name == DIST:
+        print(*dist(Parts(True) if args.unproved else proved_parts()), sep="\n")
+    return is_done
+
+
 def main():
     parser = argparse.ArgumentParser(prog="./build", description=ABOUT, allow_abbrev=False,
                                      formatter_class=argparse.RawDescriptionHelpFormatter)
     parser.add_argument("name", nargs="?", default="texcache", metavar="NAME",
-                        help=f"{', '.join(PROGRAMS)}, {LIBRARY}, or another crate; texcache if none is given")
+                        help=f"{', '.join(PROGRAMS)}, {LIBRARY}, {DIST}, or another crate; texcache if none is given")
     parser.add_argument("--unproved", action="store_true", help="build it without a proof, in about a minute")
     parser.add_argument("--jobs", type=int, metavar="N", help="how many crates are proved at once")
     args = parser.parse_args()
-    if args.name not in dependencies():
+    if args.name not in (*dependencies(), DIST):
         parser.error(f"there is no crate {args.name}")
+    if args.unproved and args.name not in (*PROGRAMS, LIBRARY, DIST):
+        parser.error(f"{args.name} is not built unproved; those are {', '.join(PROGRAMS)}, {LIBRARY}, {DIST}")
     try:
-        if args.unproved:
-            if args.name not in (*PROGRAMS, LIBRARY):
-                parser.error(f"{args.name} is not built unproved; those are {', '.join(PROGRAMS)}, {LIBRARY}")
-            print(os.path.relpath(build(args.name)))
-            return 0
-        if proved(args.name):
-            say(f"{args.name} is proved and built, and no source has changed since")
-            return 0
-        began, jobs = time.monotonic(), args.jobs or side_by_side()
-        say(USUAL)
-        with tempfile.TemporaryDirectory(prefix="texcache-build-") as room:
-            done = prove(args.name, jobs, Path(room)) and finish(args.name)
-        say(f"{args.name} is {'proved and built' if done else 'not proved'}, after {minutes(time.monotonic() - began)}")
-        return 0 if done else 1
+        return 0 if build_all(args) else 1
     except (Missing, FileNotFoundError) as error:
         say(error)
         return 1

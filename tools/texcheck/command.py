@@ -17,8 +17,7 @@ from texcheck import words
 from texcheck.common import NotBuilt, NoToolchain
 from texcheck.meanings import fault
 from texcheck.plain_reader import Fault, pages_of
-from texcheck.sources import TOP, proved
-from texcheck.unproved import build
+from texcheck.sources import installed, proved, version_text
 
 NO_TOOLCHAIN, NOT_BUILT, INTERRUPTED = 125, 126, 127
 # the file by which the list comes in
@@ -34,13 +33,26 @@ def say(name, text):
 
 
 def program(name):
-    """The proved program if it is up to date; otherwise the unproved one, and a line on stderr says so."""
-    found = proved(name)
+    """The installed program, or the proved one if it is up to date, or else an unproved build. If the program is not
+    proved, a line on stderr says so."""
+    found = installed(name)
     if found:
+        if found.parent.name != "proved":
+            say(name, "this program is not proved")
         return found
-    found = build(name)
-    say(name, f"this program is not proved; ./build {name} proves it")
+    found = proved(name)
+    if not found:
+        # an installed tree does not have this module
+        from texcheck.unproved import build
+        found = build(name)
+        say(name, f"this program is not proved; ./build {name} proves it")
     return found
+
+
+def version(name):
+    """The version of the repository; of an installed program it says whether that is proved."""
+    found = installed(name)
+    return version_text(not found or found.parent.name == "proved")
 
 
 class Given:
@@ -232,7 +244,7 @@ def main(name, arguments):
         print(usage(name), end="")
         return 0
     if "--version" in options:
-        print(name, (TOP / "VERSION").read_text(encoding="ascii").strip())
+        print(name, version(name))
         return 0
     signal.signal(signal.SIGTERM, stopped)
     try:

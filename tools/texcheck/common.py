@@ -4,7 +4,7 @@ import subprocess
 import sys
 from pathlib import Path
 
-from texcheck.sources import TOP
+from texcheck.sources import TOP, installed
 
 
 class Missing(Exception):
@@ -44,11 +44,15 @@ def add_program(parser, name, option="--program"):
 
 def program_of(args, name, option="program"):
     """The program that a check runs."""
-    from texcheck.unproved import usual
     given = getattr(args, option)
     if given and not given.is_file():
         raise Missing(f"there is no program {given}; ./build {name} builds it")
-    return (given or usual(name)).resolve()
+    found = given or installed(name)
+    if not found:
+        # an installed tree does not have this module
+        from texcheck.unproved import usual
+        found = usual(name)
+    return found.resolve()
 
 
 def debian_python():

@@ -14,8 +14,8 @@ import tempfile
 from operator import ge
 from pathlib import Path
 
+from texcheck.archive import archive_of
 from texcheck.common import TOP, Skips, add_program, debian_python, program_of, said
-from texcheck.unproved import LIBRARY, kit, usual
 
 HELP = "the library for C, and the C, C++ and Python that use it"
 HERE = TOP / "tools" / "embedding"
@@ -59,8 +59,8 @@ class Tests:
     """The tests of one library, in a temporary folder, and how many passed and failed."""
 
     def __init__(self, library, program, made, skips):
-        self.library, self.program, self.made, self.skips = library.resolve(), program, made, skips
-        self.heap, self.passed, self.failed = kit() / "c" / "liblibc_c.a", 0, 0
+        self.library, self.program, self.made, self.skips = library, program, made, skips
+        self.passed, self.failed = 0, 0
         self.cc = shutil.which(os.environ.get("CC", "cc")) or shutil.which("gcc")
         self.cxx = shutil.which(os.environ.get("CXX", "c++")) or shutil.which("g++")
         self.valgrind = shutil.which("valgrind")
@@ -74,7 +74,7 @@ class Tests:
     def built(self, name, source, *flags, compiler=None, over=None):
         """Builds a program, and returns whether that worked. Warnings count as a failure."""
         status, text = said([compiler or self.cc, *FLAGS, *flags, "-o", self.made / name, source,
-                             *(over or [self.library, self.heap]), "-lm", "-lpthread"])
+                             *(over or [self.library]), "-lm", "-lpthread"])
         if status or text:
             self.say(False, f"building {name}", text or f"status {status}")
         return status == 0
@@ -164,7 +164,7 @@ class Tests:
         # the library hands its blocks from thread to thread by atomic steps of its own, which the sanitizer does not
         # see; in a shared object it can be told to look at the C side alone
         core = self.made / "libtex_c_core.so"
-        said([self.cc, "-shared", "-o", core, "-Wl,--whole-archive", self.library, "-Wl,--no-whole-archive", self.heap])
+        said([self.cc, "-shared", "-o", core, "-Wl,--whole-archive", self.library, "-Wl,--no-whole-archive"])
         (self.made / "library").write_text(f"called_from_lib:{core.name}\n")
         more = {"env": {**os.environ, "TSAN_OPTIONS": f"suppressions={self.made / 'library'} exitcode=66"}}
         over = [core, f"-Wl,-rpath,{self.made}"]
@@ -223,7 +223,7 @@ def add_arguments(parser):
 def run(args):
     skips = Skips(args)
     with tempfile.TemporaryDirectory() as made:
-        tests = Tests(args.library or usual(LIBRARY), program_of(args, "texcache"), Path(made), skips)
+        tests = Tests(archive_of(args.library), program_of(args, "texcache"), Path(made), skips)
         if skips.lacks(None if tests.cc else "a C compiler", "embedding"):
             return 1 if skips.failed else 0
         for step in (tests.in_c, tests.in_cxx, tests.in_python, tests.under_valgrind, tests.with_races, tests.render):

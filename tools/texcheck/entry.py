@@ -19,6 +19,8 @@ SUBCOMMANDS = {
     "replaced-files": "replaced_files",
     "textures": "textures",
     "embedding": "embedding",
+    "interface": "interface",
+    "package": "package",
     "fine": "fine",
     "beside-oiio": "beside_oiio",
     "user-tools": "user_tools",

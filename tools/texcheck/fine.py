@@ -18,10 +18,9 @@ from math import cos, pi, sin
 from pathlib import Path
 
 from texcheck import fine_model as model
+from texcheck.archive import archive_of
 from texcheck.common import TOP, Skips, said
-from texcheck.sources import is_current
 from texcheck.tiff import LITTLE, LONG, LONG8, MARKS, SHORT, WIDE, directory
-from texcheck.unproved import LIBRARY, build, kit
 
 HELP = "lookups on doubles and over footprints, beside a plain program"
 LOOKUPS, FOOTPRINTS, FULL_LOOKUPS, FULL_FOOTPRINTS = 5000, 1000, 100000, 20000
@@ -274,15 +273,13 @@ def run(args):
     skips, cc = Skips(args), shutil.which(os.environ.get("CC", "cc")) or shutil.which("gcc")
     if skips.lacks(None if cc else "a C compiler", "fine"):
         return 1 if skips.failed else 0
-    proved = TOP / "crates" / LIBRARY / "out" / f"lib{LIBRARY}.a"
-    library = args.library or (proved if is_current(proved, LIBRARY) else build(LIBRARY))
+    library = archive_of(args.library)
     lookups, footprints = (FULL_LOOKUPS, FULL_FOOTPRINTS) if args.full else (LOOKUPS, FOOTPRINTS)
     with tempfile.TemporaryDirectory() as made:
         made, every = Path(made), list(pictures())
         os.environ["TEXCACHE_LIBRARY"] = str(made / "libtexcache.so")
         status, text = said([cc, "-O2", "-shared", "-fPIC", f"-I{TOP / 'include'}", "-o", made / "libtexcache.so",
-                             TOP / "python" / "texcache_shared.c", library.resolve(), kit() / "c" / "liblibc_c.a",
-                             "-lpthread"])
+                             TOP / "python" / "texcache_shared.c", library, "-lpthread"])
         if status:
             print(f"fine: {text}")
             return 1

@@ -15,7 +15,7 @@ from texcheck.unproved import LIBRARY, PROGRAMS
 HELP = "each script's --help, a misspelt option, and paths that do not exist"
 LEFT_OUT = shutil.ignore_patterns(".git", "out", "__pycache__")
 # the scripts that do not end in .py or .sh
-OTHERS = ("build", "test", "texcache", "texmake", ".ci/run", "tools/check", "tools/setup")
+OTHERS = ("build", "install", "test", "texcache", "texmake", ".ci/run", "tools/check", "tools/setup")
 NOWHERE = "/nonexistent/x"
 TOO_LONG = 124
 TOOLS = {"tools/explain.py": [NOWHERE, NOWHERE], "tools/folder_info.py": [NOWHERE],

@@ -78,6 +78,16 @@ def proved(name):
     return next((it for it in (out / name, out / f"lib{name}.a") if is_current(it, name)), None)
 
 
+def installed(name):
+    """The place of a program in an installed tree, in a folder that says whether it is proved; None in the repository."""
+    return next((it for it in (TOP / "proved" / name, TOP / "unproved" / name) if it.is_file()), None)
+
+
+def version_text(is_proved):
+    """The version of what is built from these sources. Nobody is to take an unproved build for a proved one."""
+    return (TOP / "VERSION").read_text(encoding="ascii").strip() + ("" if is_proved else "+unproved")
+
+
 def is_proved_by_ci(name):
     """Whether `rt ci` has proved a library for C since its sources changed. It does not link the library, but makes the
     folder `out` anew. (It does so too if the proof fails, but then .ci/run ends.)"""

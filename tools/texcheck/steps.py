@@ -7,9 +7,10 @@ import sys
 import time
 from concurrent.futures import ThreadPoolExecutor
 
+from texcheck.archive import archive_of
 from texcheck.common import TOP, Missing, said
 from texcheck.sources import is_proved_by_ci, proved
-from texcheck.unproved import LIBRARY, PROGRAMS, build, try_tests, usual
+from texcheck.unproved import LIBRARY, PROGRAMS, build, try_tests
 
 ABOUT = """Runs all tests that need no prover: the tests of the crates, the programs' stored runs, lists and files, the
 library for C, the tools, the documents and the drawings. It proves nothing: bash .ci/run is the full check.
@@ -70,6 +71,8 @@ def steps(args, programs, library):
         ("textures", "--program", texmake, "--texcache", texcache, *readers),
         ("embedding", "--program", texcache, "--library", library, *skip),
         ("fine", "--library", library, *(["--full"] if args.proved else []), *skip),
+        ("package", *skip),
+        ("interface", "--library", library, *skip),
         ("beside-oiio", "--library", library, *skip),
         ("lists", "--program", texcache, "--texsample", texsample),
         ("failed-allocations", "--program", texcache, *skip),
@@ -109,7 +112,7 @@ def what_is_built(args):
     if not args.proved:
         with ThreadPoolExecutor(processors()) as pool:
             *programs, library = pool.map(lambda it: build(it, args.checked and it != LIBRARY), (*PROGRAMS, LIBRARY))
-        return dict(zip(PROGRAMS, programs)), library
+        return dict(zip(PROGRAMS, programs)), archive_of(library)
     programs = {it: proved(it) for it in PROGRAMS}
     missing = [it for it, place in programs.items() if not place]
     missing += [] if proved(LIBRARY) or is_proved_by_ci(LIBRARY) else [LIBRARY]
@@ -119,7 +122,7 @@ def what_is_built(args):
     if not proved(LIBRARY):
         print(f"test: {LIBRARY} is an unproved build of the proved sources; ./build {LIBRARY} makes the proved one",
               flush=True)
-    return programs, usual(LIBRARY)
+    return programs, archive_of()
 
 
 def main():

@@ -1,0 +1,105 @@
+"""Compares what programs are compiled against with the list src/c/interface.txt.
+
+The list has the calls of include/texcache.h with their types, the sizes of the structs and the places of their fields,
+the values of the enums, and what libtexcache.so.1 and libtexcache.a export. A change needs another version: the
+header refuses a library of another version, and so no program runs with the structs of an older one. After VERSION was
+raised, --write writes the list anew.
+"""
+import difflib
+import re
+import shutil
+import tempfile
+from pathlib import Path
+
+from texcheck import header
+from texcheck.archive import archive_of
+from texcheck.common import TOP, Missing, Skips, said
+from texcheck.sources import version_text
+from texcheck.tree import SHARED, SOURCES, shared
+
+HELP = "calls, structs and symbols of the library, against the list src/c/interface.txt"
+LIST = SOURCES / "interface.txt"
+HEAD = """# What programs are compiled against. tools/check interface compares it with header and library, and writes it.
+# A change needs another version in the file VERSION.
+"""
+# what the toolchain's part of the archive defines
+FOREIGN = re.compile(r"rattle_\w+")
+
+
+def types(call):
+    """A call without the names of its parameters, which no program depends on."""
+    before, parameters = call.declaration.removesuffix(")").split("(", 1)
+    without = [re.sub(r"(?<=[\s*])\w+$", "", it.strip()).strip() or it.strip() for it in parameters.split(",")]
+    return f"call {before}({', '.join(without)})"
+
+
+def sized():
+    """The sizes of the structs, the places of their fields and the values of the enums, as the compiler has them."""
+    lines = []
+    for name, fields in header.structs():
+        places = "".join(f" {it} %zu" for it in fields)
+        numbers = "".join(f", offsetof({name}, {it})" for it in fields)
+        lines.append(f'printf("struct {name} %zu:{places}\\n", sizeof({name}){numbers});')
+    lines += [f'printf("value {it} %d\\n", {it});' for it in header.values()]
+    program = '#include "texcache.h"\n#include <stdio.h>\nint main(void)\n{\n' + "\n".join(lines) + "\nreturn 0;\n}\n"
+    with tempfile.TemporaryDirectory() as room:
+        source, made = Path(room) / "sizes.c", Path(room) / "sizes"
+        source.write_text(program, encoding="ascii")
+        status, text = said(["cc", f"-I{TOP / 'include'}", "-o", made, source])
+        if status:
+            raise Missing(f"the sizes cannot be printed: {text[-2000:]}")
+        return said([made])[1].splitlines()
+
+
+def symbols(words):
+    """The names that a library exports."""
+    text = said(["nm", "--defined-only", "--extern-only", *words])[1]
+    return sorted({it.split()[2] for it in text.splitlines() if len(it.split()) == 3})
+
+
+def found(archive):
+    """The interface, line by line."""
+    with tempfile.TemporaryDirectory() as room:
+        shared(archive, Path(room) / SHARED)
+        exported = symbols(["-D", Path(room) / SHARED])
+    return [f"version {version_text(True)}", *sorted(map(types, header.own_calls() + header.lower_calls())), *sized(),
+            *(f"shared {it}" for it in exported),
+            *(f"archive {it}" for it in symbols([archive]) if not FOREIGN.fullmatch(it))]
+
+
+def listed():
+    lines = LIST.read_text(encoding="ascii").splitlines() if LIST.is_file() else []
+    return [it for it in lines if not it.startswith("#")]
+
+
+def faults(now, before):
+    """What is wrong with the list."""
+    if now[0] != before[0]:
+        return [f"the list has {before[0] or 'no version'}, and the file VERSION has {now[0]}: "
+                "tools/check interface --write writes the list anew"]
+    if now[1:] == before[1:]:
+        return []
+    changes = [it for it in difflib.ndiff(before[1:], now[1:]) if it.startswith(("+ ", "- "))]
+    return ["the interface changed, and the version did not: raise it in the file VERSION, and then write the list by "
+            "tools/check interface --write", *changes]
+
+
+def add_arguments(parser):
+    parser.add_argument("--library", type=Path, metavar="FILE",
+                        help="the library; else the proved one if it is up to date, or an unproved build")
+    parser.add_argument("--write", action="store_true", help="write the list anew, if its version is another one")
+    Skips.add_argument(parser)
+
+
+def run(args):
+    skips = Skips(args)
+    lacking = next((it for it in ("cc", "nm") if not shutil.which(it)), None)
+    if skips.lacks(lacking, "interface"):
+        return 1 if skips.failed else 0
+    now, before = found(archive_of(args.library)), listed()
+    if args.write and now[:1] != before[:1]:
+        LIST.write_text(HEAD + "\n".join(now) + "\n", encoding="ascii")
+        before = now
+    wrong = faults(now, before or [""])
+    print(*wrong, f"interface: {len(now)} lines {'differ from the list' if wrong else 'are as the list says'}", sep="\n")
+    return 1 if wrong else 0
