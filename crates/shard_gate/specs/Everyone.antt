@@ -2,15 +2,19 @@
 use Rattle.std.specs.Prelude.{◌≡◌, ℕ, ◌+◌, ◌<◌, cond, nat_eq, List, [], ◌∷◌, length}
 use Rattle.std.specs.Prelude.{slice_index_or}
 use Rattle.std.specs.List.{sum_by}
-use Rattle.tile_store.specs.Entry.{Entries}
+use Rattle.std.specs.Option.{option_map_or}
+use Rattle.tile_store.specs.Entry.{Entries, entry_at}
 use Rattle.shard_gate.specs.Visit.{Visit, visits_at}
-use Rattle.shard_gate.specs.Home.{pins_at}
 use Rattle.shard_gate.specs.Gate.{PinSeatState, shard_of}
 
 -- how often a key is in a list
 abbrev pub times : ℕ → List ℕ → ℕ
 times key [] = 0
 times key (k ∷ keys) = cond (nat_eq k key) 1 0 + times key keys
+
+-- the pins of the entry with a key; 0 if none exists
+abbrev pub pins_at : ℕ → Entries → ℕ
+pins_at key es = option_map_or (λ entry. entry.pins) (entry_at key es) 0
 
 -- Each entry has as many pins as the seats, whose pinned keys these are, have on its key. No seat
 -- has a pin on a key without an entry.

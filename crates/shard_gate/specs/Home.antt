@@ -1,21 +1,17 @@
 -- Which shards may be in a table, and what do the table's words say of them?
 use Rattle.std.specs.Prelude.{◌≡◌, ℕ, [], length, map, Option, Some, None}
-use Rattle.std.specs.Option.{option_map_or}
 use Rattle.tex_world.specs.World.{Files}
-use Rattle.tile_store.specs.Entry.{Entries, entry_at}
+use Rattle.tile_store.specs.Entry.{Entries}
 use Rattle.tile_store.specs.Lawful.{Lawful}
 use Rattle.tile_store.specs.Slots.{ShardState, AreInSlots}
 use Rattle.shard_gate.specs.Words.{SlotWords, slots_of}
 use Rattle.shard_gate.specs.declared.rule.Terms.{Terms}
+pub use Rattle.shard_gate.specs.Everyone.{pins_at}
 
 -- the key of a slot as a number; 0 if it has none, because no key is 0
 abbrev pub key_number : Option ℕ → ℕ
 key_number None = 0
 key_number (Some key) = key
-
--- the pins of the entry with a key; 0 if none exists
-abbrev pub pins_at : ℕ → Entries → ℕ
-pins_at key es = option_map_or (λ entry. entry.pins) (entry_at key es) 0
 
 -- the pins of the entry in a slot with this key
 abbrev pub pins_in : Entries → Option ℕ → ℕ
