@@ -95,15 +95,27 @@ module _ (es : Entries) (views : List Standing) (id : ℕ) (own : Standing) (oth
   -- the seat has taken over another one
   pub given_joined : WereGiven es views → WereGiven es joined_views
   given_joined (inl t) = dite (ℕ_discrete t.0 id)
-      (λ (e : t.0 ≡ id). inl (id, both_standings own w, both_there,
-      of_own (subst (λ (u : Standing). GaveOf es u) (is_old es views id own at t.0 t.1 e t.2) t.3)))
+      (λ (e : t.0 ≡ id). inl (
+        id,
+        both_standings own w,
+        both_there,
+        of_own (subst (λ (u : Standing). GaveOf es u) (is_old es views id own at t.0 t.1 e t.2) t.3),
+      ))
       (λ (ne : t.0 ≢ id). dite (ℕ_discrete t.0 other)
-      (λ (e : t.0 ≡ other). inl (id, both_standings own w, both_there,
-      of_other (subst (λ (u : Standing). GaveOf es u)
-      (is_old es views other w w_was t.0 t.1 e t.2) t.3)))
-      (λ (ne_other : t.0 ≢ other). inl (t.0, t.1,
-      set_else (set views id (both_standings own w)) other t.0 spent_standing ne_other
-      ∙ (set_else views id t.0 (both_standings own w) ne ∙ t.2), t.3)))
+      (λ (e : t.0 ≡ other). inl (
+        id,
+        both_standings own w,
+        both_there,
+        of_other (subst (λ (u : Standing). GaveOf es u)
+            (is_old es views other w w_was t.0 t.1 e t.2) t.3),
+      ))
+      (λ (ne_other : t.0 ≢ other). inl (
+        t.0,
+        t.1,
+        set_else (set views id (both_standings own w)) other t.0 spent_standing ne_other
+            ∙ (set_else views id t.0 (both_standings own w) ne ∙ t.2),
+        t.3,
+      )))
   given_joined (inr t) =
       let mine = t.0 id own at in
       let theirs = t.0 other w w_was in

@@ -66,8 +66,12 @@ has_slot s in_slots key (Some slot) is some =
     let keys = (words_of s).keys in
     let low : slot < length keys =
     omega (arith, long_as key_number s.slots, slot_low s s in_slots key slot is) in
-    Contains-from_at keys key (slot, low, λ d. get_or_default keys slot d 0 low
-    ∙ slot_word s s in_slots key slot is)
+    Contains-from_at keys key (
+      slot,
+      low,
+      λ d. get_or_default keys slot d 0 low
+          ∙ slot_word s s in_slots key slot is,
+    )
 
 -- The slots' keys say where each entry is.
 pub have_slots : (s : ShardState) → AreInSlots s → HaveSlots (words_of s).keys s.entries

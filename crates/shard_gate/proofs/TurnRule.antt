@@ -139,7 +139,7 @@ module _ {S : Type 0} (lawful : Terms → S → Type 0) (shown : S → Entries)
               subst (λ t. lawful t body) (sym (named lawful shown words_in terms me.0 view live)) right,
               subst (λ k. AreWords terms.passes s.words k) same (kept.known id me.0 at turn),
               given_now (shown body) s.views id me.0 at left (inl (gave_last shown me.0.visits
-              me.0.known.keys me.1 body has (kept.taken id me.0 at turn).last)),
+                  me.0.known.keys me.1 body has (kept.taken id me.0 at turn).last)),
             )),
         record { view = refl; slots = ap rest has },
       )

@@ -83,7 +83,7 @@ returns-clause-everyone g c =
     subst (λ es. ArePinsOfAll c.args.seat.now.pins es)
     (sym (ap taken_last (gave_visits padded_value g.W.World.files old c.take.new.seat.me s turn
     c.give.new.seat.me.0 c.take.new.seat.me.0
-          (padded_value c.slot_mut-slot.result.now).entries s.entries (words_of s).keys c.give.ensures.view
+    (padded_value c.slot_mut-slot.result.now).entries s.entries (words_of s).keys c.give.ensures.view
     (ap (λ (t : ShardState). t.entries) (sym c.deref.ensures)) refl
     (ap (λ (w : SlotWords). w.keys)
     (known padded_value g.W.World.files old c.take.new.seat.me s turn)))))
