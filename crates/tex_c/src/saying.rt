@@ -1,7 +1,8 @@
 //! The calls as C makes them: they check the numbers of the request and write the answer as
 //! numbers.
-ghost use Rattle.std.specs.Prelude.{◌≡◌, ◌<◌, length, take, drop, IsTrue, IsFalse};
+ghost use Rattle.std.specs.Prelude.{◌≡◌, ◌⊎◌, ◌<◌, length, take, drop, IsTrue, IsFalse};
 ghost use Rattle.texture_sys.specs.Asked.{one_point, one_footprint};
+ghost use Rattle.tex_c.specs.Client.{LeavesFile, LeavesChecked, IsRepeated};
 ghost use Rattle.tex_c.specs.Request.{IsPoint, IsFootprint, point_of, footprint_of};
 ghost use Rattle.tex_c.specs.Request.{region_of, told_info};
 ghost use Rattle.tex_c.specs.Calls.{SaysLookup, SaysLocally, SaysInfo, SaysRegion, SaysTile};
@@ -42,18 +43,18 @@ pub struct TexRegion {
 impl Client {
     /// Answers `info`.
     pub(crate) fn say_info(&mut self, file: u32, out: &mut TexInfo, answer: &mut TexAnswer) -> u32
-        ensures { SaysInfo file result answer.new out.new self.old self.new }
+        ensures says { SaysInfo file result answer.new out.new self.old self.new }
+        ensures left { LeavesFile file result (IsRepeated result) self.old self.new }
     {
         *answer = TexAnswer::blank();
         if self.files() <= file {
-            return NO_FILE;
+            return self.end_with(NO_FILE);
         }
         match self.info(file) {
             Ok(info) => {
                 *answer = TexAnswer::of(info.generation);
                 *out = TexInfo::of(&info);
-                self.end();
-                ANSWERED
+                self.end_with(ANSWERED)
             }
             Err(e) => self.refuse(&e, answer),
         }
@@ -67,24 +68,24 @@ impl Client {
         out: &mut [u16],
         answer: &mut TexAnswer,
     ) -> u32
-        ensures { SaysLookup file (IsPoint lookup.now) (one_point (point_of lookup.now))
+        ensures says { SaysLookup file (IsPoint lookup.now) (one_point (point_of lookup.now))
             lookup.now.channels result answer.new out.old out.new self.old self.new }
+        ensures left { LeavesFile file result (IsRepeated result) self.old self.new }
     {
         *answer = TexAnswer::blank();
         if self.files() <= file {
-            return NO_FILE;
+            return self.end_with(NO_FILE);
         }
         let Some(r) = lookup.point() else {
-            return BAD_REQUEST;
+            return self.end_with(BAD_REQUEST);
         };
         if out.len() < r.nch as usize {
-            return SMALL_BUFFER;
+            return self.end_with(SMALL_BUFFER);
         }
         match self.texture(file, &r, &mut out[..r.nch as usize]) {
             Ok(generation) => {
                 answer.generation = generation;
-                self.end();
-                ANSWERED
+                self.end_with(ANSWERED)
             }
             Err(e) => self.refuse(&e, answer),
         }
@@ -98,25 +99,25 @@ impl Client {
         out: &mut [u16],
         answer: &mut TexAnswer,
     ) -> u32
-        ensures { SaysLookup file (IsFootprint lookup.now)
+        ensures says { SaysLookup file (IsFootprint lookup.now)
             (one_footprint (footprint_of lookup.now))
             lookup.now.channels result answer.new out.old out.new self.old self.new }
+        ensures left { LeavesFile file result (IsRepeated result) self.old self.new }
     {
         *answer = TexAnswer::blank();
         if self.files() <= file {
-            return NO_FILE;
+            return self.end_with(NO_FILE);
         }
         let Some(r) = lookup.footprint() else {
-            return BAD_REQUEST;
+            return self.end_with(BAD_REQUEST);
         };
         if out.len() < r.nch as usize {
-            return SMALL_BUFFER;
+            return self.end_with(SMALL_BUFFER);
         }
         match self.texture_d(file, &r, &mut out[..r.nch as usize]) {
             Ok(generation) => {
                 answer.generation = generation;
-                self.end();
-                ANSWERED
+                self.end_with(ANSWERED)
             }
             Err(e) => self.refuse(&e, answer),
         }
@@ -160,11 +161,13 @@ impl Client {
         out: &mut [u16],
         answer: &mut TexAnswer,
     ) -> u32
-        ensures { SaysRegion file region.now result answer.new out.old out.new self.old self.new }
+        ensures says { SaysRegion file region.now result answer.new out.old out.new self.old self.new }
+        ensures left { LeavesFile file result (IsRepeated result ⊎ (result ≡ 5))
+            self.old self.new }
     {
         *answer = TexAnswer::blank();
         if self.files() <= file {
-            return NO_FILE;
+            return self.end_with(NO_FILE);
         }
         let mut values = Vec::new(self.alloc);
         match self.pixels(file, &region.region(), &mut values) {
@@ -172,12 +175,10 @@ impl Client {
                 answer.generation = pixels.generation;
                 answer.channels = pixels.channels;
                 answer.value = values.len() as u64;
-                self.end();
                 if copy_out(&values, out) {
-                    return ANSWERED;
+                    return self.end_with(ANSWERED);
                 }
-                self.count_twice();
-                SMALL_BUFFER
+                self.end_repeated(SMALL_BUFFER)
             }
             Err(e) => self.refuse(&e, answer),
         }
@@ -185,17 +186,17 @@ impl Client {
 
     /// Answers `get_tile`.
     pub(crate) fn say_get_tile(&mut self, file: u32, at: TexelAt, answer: &mut TexAnswer) -> u32
-        ensures { SaysTile file at result answer.new self.old self.new }
+        ensures says { SaysTile file at result answer.new self.old self.new }
+        ensures left { LeavesFile file result (IsRepeated result) self.old self.new }
     {
         *answer = TexAnswer::blank();
         if self.files() <= file {
-            return NO_FILE;
+            return self.end_with(NO_FILE);
         }
         match self.get_tile(file, at) {
             Ok(generation) => {
                 answer.generation = generation;
-                self.end();
-                ANSWERED
+                self.end_with(ANSWERED)
             }
             Err(e) => self.refuse(&e, answer),
         }
@@ -203,17 +204,17 @@ impl Client {
 
     /// Answers `invalidate`.
     pub(crate) fn say_invalidate(&mut self, file: u32, force: bool, answer: &mut TexAnswer) -> u32
-        ensures { SaysInvalid file force result answer.new self.old self.new }
+        ensures says { SaysInvalid file force result answer.new self.old self.new }
+        ensures left { LeavesChecked result self.old self.new }
     {
         *answer = TexAnswer::blank();
         if self.files() <= file {
-            return NO_FILE;
+            return self.end_with(NO_FILE);
         }
         match self.invalidate(file, force) {
             Ok(generation) => {
                 answer.generation = generation;
-                self.end();
-                ANSWERED
+                self.end_with(ANSWERED)
             }
             Err(e) => self.refuse(&e, answer),
         }
@@ -221,13 +222,13 @@ impl Client {
 
     /// Answers `invalidate_all`.
     pub(crate) fn say_invalidate_all(&mut self, answer: &mut TexAnswer) -> u32
-        ensures { SaysAllInvalid result answer.new self.old self.new }
+        ensures says { SaysAllInvalid result answer.new self.old self.new }
+        ensures left { LeavesChecked result self.old self.new }
     {
         *answer = TexAnswer::blank();
         match self.invalidate_all() {
             Ok(()) => {
-                self.end();
-                ANSWERED
+                self.end_with(ANSWERED)
             }
             Err(e) => self.refuse(&e, answer),
         }
