@@ -73,9 +73,10 @@ told_counts c = counts_without (counts_of c.pass) c.twice
 abbrev pub told_before : ClientState → PassCounts
 told_before c = counts_without c.begun c.twice
 
--- C makes the same call again: it needs something, or the waiter gave up on a lock.
+-- C makes the same call again: it needs something, its buffer is too small, or the waiter gave up on
+-- a lock.
 abbrev pub IsRepeated : ℕ → Type 0
-IsRepeated code = (code ≡ 1) ⊎ (code ≡ 19)
+IsRepeated code = (code ≡ 1) ⊎ ((code ≡ 5) ⊎ (code ≡ 19))
 
 -- ---- what a call leaves
 
@@ -89,28 +90,37 @@ pub record LeavesRound (file : ℕ) (old new : ClientState) : Type 0 where
   pub begun : new.begun ≡ counts_of old.pass
   pub twice : new.twice ≡ old.twice
 
--- What the end of a round leaves. Unless the call needs something, nothing is supplied any more. If
--- the call will be repeated, what this round counted is not told.
-pub record EndsRound (code : ℕ) (Repeated : Type 0) (old new : ClientState) : Type 0 where
+-- Nothing is supplied any more, and nothing else has changed.
+pub record DropsSupplies (old new : ClientState) : Type 0 where
+  pub cache : new.cache ≡ old.cache
+  pub pass : new.pass ≡ old.pass
+  pub state : tap_state new.tap ≡ tap_state old.tap
+  pub none : HasNoSupplies new.tap
+  pub begun : new.begun ≡ old.begun
+  pub twice : new.twice ≡ old.twice
+
+-- What the end of a round leaves that was not answered. Unless the call needs something, nothing is
+-- supplied any more. If C repeats the call, what this round counted is not told.
+pub record EndsRound (code : ℕ) (old new : ClientState) : Type 0 where
   pub cache : new.cache ≡ old.cache
   pub pass : new.pass ≡ old.pass
   pub state : tap_state new.tap ≡ tap_state old.tap
   pub none : ¬ (code ≡ 1) → HasNoSupplies new.tap
-  pub repeated : Repeated → AreSame (told_counts new) (told_before old)
-  pub done : ¬ Repeated → new.twice ≡ old.twice
+  pub repeated : IsRepeated code → AreSame (told_counts new) (told_before old)
+  pub done : ¬ IsRepeated code → new.twice ≡ old.twice
 
 -- What a call on a file leaves, whatever it answers. Of the pass only what it has seen of the file,
 -- its tiles, its counts and its record may have changed, and no tile was purged. Unless it needs
 -- something, nothing is supplied any more. What C is told of the counts changes only once, however
 -- often the call is repeated.
-pub record LeavesFile (file code : ℕ) (Repeated : Type 0) (old new : ClientState) : Type 0 where
+pub record LeavesFile (file code : ℕ) (old new : ClientState) : Type 0 where
   pub cache : new.cache ≡ old.cache
   pub pass : AfterCall file old.pass new.pass
   pub visits : PurgesNone old.cache.gate old.pass.pinned.seat new.pass.pinned.seat
   pub tap : NoneFalls (tap_state old.tap) (tap_state new.tap)
   pub none : ¬ (code ≡ 1) → HasNoSupplies new.tap
-  pub repeated : Repeated → AreSame (told_counts new) (told_counts old)
-  pub done : ¬ Repeated → new.twice ≡ old.twice
+  pub repeated : IsRepeated code → AreSame (told_counts new) (told_counts old)
+  pub done : ¬ IsRepeated code → new.twice ≡ old.twice
 
 -- What a round of a freshness check leaves: the pass has no record and an empty microcache. The
 -- counts before it are noted.

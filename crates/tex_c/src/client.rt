@@ -1,13 +1,14 @@
 //! The state behind a C handle: a shared cache, a pass of it, and the bytes supplied for the
 //! current call.
-ghost use Rattle.std.specs.Prelude.{◌≡◌, ◌-◌, ◌≤◌, IfOk, IfErr, OnOk, OnErr};
+ghost use Rattle.std.specs.Prelude.{◌≡◌, ℕ, ◌-◌, ◌≤◌, IfOk, IfErr, OnOk, OnErr};
 ghost use Rattle.std.specs.Arc.{arc_value};
 ghost use Rattle.tex_world.specs.World.{max_files};
 ghost use Rattle.image_cache.specs.Pass.{IsNewCache, IsFirstPass, IsSecondPass, no_counts};
 ghost use Rattle.image_cache.specs.Pass.{KeepsAllBut, PassAfterSplit, nothing};
-ghost use Rattle.image_cache.specs.Cause.{IsBusy};
 ghost use Rattle.image_cache.specs.Options.{NewCause};
-ghost use Rattle.tex_c.specs.Client.{KeepsAllButPass, EndsRound, IsRepeated, AreSame, counts_of};
+ghost use Rattle.tex_c.specs.Client.{KeepsAllButPass, DropsSupplies, EndsRound, IsRepeated};
+ghost use Rattle.tex_c.specs.Client.{AreSame, counts_of};
+ghost use Rattle.tex_c.specs.Code as spec;
 ghost use Rattle.tex_c.specs.Client.{told_counts, told_before};
 ghost use Rattle.tex_c.specs.SuppliedTap.{tap_state, HasNoSupplies, KeepsSupplies};
 ghost use Rattle.tex_c.specs.Unanswered.{Says};
@@ -143,41 +144,21 @@ impl Client {
         self.begun = self.counted();
     }
 
-    /// Ends a call that was answered or failed, and drops what was supplied for it.
+    /// Ends a call that was answered, or refused before it reached the cache. What was supplied for
+    /// it is dropped.
     #[inline(always)]
     pub(crate) fn end(&mut self)
-        ensures cache { self.new.cache ≡ self.old.cache }
-        ensures pass { self.new.pass ≡ self.old.pass }
-        ensures tap { tap_state self.new.tap ≡ tap_state self.old.tap }
-        ensures none { HasNoSupplies self.new.tap }
-        ensures begun { self.new.begun ≡ self.old.begun }
-        ensures twice { self.new.twice ≡ self.old.twice }
+        ensures { DropsSupplies self.old self.new }
     {
         self.tap.end();
     }
 
-    /// Ends a call that is answered, or refused before it reaches the cache. Returns the code.
-    #[inline(always)]
-    pub(crate) fn end_with(&mut self, code: u32) -> u32
-        ensures value { result ≡ code }
-        ensures ended { EndsRound code ⊥ self.old self.new }
-    {
-        self.end();
-        code
-    }
-
-    /// Ends a call whose answer did not fit its buffer. C repeats it. Returns the code.
-    pub(crate) fn end_repeated(&mut self, code: u32) -> u32
-        ensures value { result ≡ code }
-        ensures cache { self.new.cache ≡ self.old.cache }
-        ensures pass { self.new.pass ≡ self.old.pass }
-        ensures tap { tap_state self.new.tap ≡ tap_state self.old.tap }
-        ensures none { HasNoSupplies self.new.tap }
-        ensures told { AreSame (told_counts self.new) (told_before self.old) }
+    /// Ends a call that C repeats although it needs nothing: its counts will be subtracted.
+    pub(crate) fn end_repeated(&mut self)
+        ensures { (code : ℕ) → IsRepeated code → EndsRound code self.old self.new }
     {
         self.end();
         self.count_twice();
-        code
     }
 
     /// Ends a round that will be repeated: its counts will be subtracted.
@@ -235,7 +216,7 @@ impl Client {
     pub(crate) fn refuse(&mut self, e: &CacheError<GaveUp>, answer: &mut TexAnswer) -> u32
         ensures says { Says e.now self.new.tap result answer.new }
         ensures other { ¬ (result ≡ 0) }
-        ensures ended { EndsRound result (IsRepeated result) self.old self.new }
+        ensures ended { EndsRound result self.old self.new }
     {
         if let (CacheError::ReadFault, Some(need)) = (e, self.tap.need()) {
             *answer = TexAnswer::of_need(need);
@@ -249,16 +230,11 @@ impl Client {
 
     /// Ends a call that failed. If its waiter gave up, C repeats it.
     fn end_refused(&mut self, e: &CacheError<GaveUp>)
-        ensures cache { self.new.cache ≡ self.old.cache }
-        ensures pass { self.new.pass ≡ self.old.pass }
-        ensures tap { tap_state self.new.tap ≡ tap_state self.old.tap }
-        ensures none { HasNoSupplies self.new.tap }
-        ensures busy { IsBusy e.now → AreSame (told_counts self.new) (told_before self.old) }
-        ensures other { ¬ IsBusy e.now → self.new.twice ≡ self.old.twice }
+        ensures { EndsRound (spec.code_of e.now) self.old self.new }
     {
-        self.end();
-        if let CacheError::Busy(_) = e {
-            self.count_twice();
+        match e {
+            CacheError::Busy(_) => self.end_repeated(),
+            _ => self.end(),
         }
     }
 }

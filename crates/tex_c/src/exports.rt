@@ -1,10 +1,10 @@
 //! The calls for C on files and lookups. Each takes a handle by value and returns it through `to`.
-ghost use Rattle.std.specs.Prelude.{◌≡◌, ◌⊎◌, IsNone, IsSome, IsSomeAnd};
+ghost use Rattle.std.specs.Prelude.{◌≡◌, IsNone, IsSome, IsSomeAnd};
 ghost use Rattle.texture_sys.specs.Asked.{one_point, one_footprint};
 ghost use Rattle.tex_c.specs.Calls.{Hands, SaysLookup, SaysLocally, SaysInfo, SaysRegion};
 ghost use Rattle.tex_c.specs.Calls.{SaysInvalid, SaysAllInvalid};
 ghost use Rattle.tex_c.specs.Exports.{IsMade, IsNotMade, IsSplitOff, SaysSplit};
-ghost use Rattle.tex_c.specs.Client.{LeavesFile, LeavesChecked, IsRepeated};
+ghost use Rattle.tex_c.specs.Client.{LeavesFile, LeavesChecked};
 ghost use Rattle.tex_c.specs.Request.{IsPoint, IsFootprint, point_of, footprint_of};
 
 use crate::answer::{ANSWERED, BAD_OPTIONS, BAD_REQUEST, NO_MEMORY, NO_PERMIT, TexAnswer};
@@ -101,7 +101,7 @@ pub extern "C" fn tex_c_info(
     requires from { IsSome from.value }
     ensures { Hands from.value to.new.value (λ old new.
         SaysInfo file result answer.new info.new old new
-        × LeavesFile file result (IsRepeated result) old new) }
+        × LeavesFile file result old new) }
 {
     let mut client = from.into_box();
     let code = client.say_info(file, info, answer);
@@ -123,7 +123,7 @@ pub extern "C" fn tex_c_texture(
     ensures { Hands from.value to.new.value (λ old new.
         SaysLookup file (IsPoint lookup.now) (one_point (point_of lookup.now))
         lookup.now.channels result answer.new out.old out.new old new
-        × LeavesFile file result (IsRepeated result) old new) }
+        × LeavesFile file result old new) }
 {
     let mut client = from.into_box();
     let code = client.say_texture(file, lookup, out, answer);
@@ -145,7 +145,7 @@ pub extern "C" fn tex_c_texture_d(
     ensures { Hands from.value to.new.value (λ old new.
         SaysLookup file (IsFootprint lookup.now) (one_footprint (footprint_of lookup.now))
         lookup.now.channels result answer.new out.old out.new old new
-        × LeavesFile file result (IsRepeated result) old new) }
+        × LeavesFile file result old new) }
 {
     let mut client = from.into_box();
     let code = client.say_texture_d(file, lookup, out, answer);
@@ -187,7 +187,7 @@ pub extern "C" fn tex_c_pixels(
     requires from { IsSome from.value }
     ensures { Hands from.value to.new.value (λ old new.
         SaysRegion file region.now result answer.new out.old out.new old new
-        × LeavesFile file result (IsRepeated result ⊎ (result ≡ 5)) old new) }
+        × LeavesFile file result old new) }
 {
     let mut client = from.into_box();
     let code = client.say_pixels(file, region, out, answer);

@@ -2,7 +2,7 @@
 ghost use Rattle.std.specs.Prelude.{◌≡◌, IsSome};
 ghost use Rattle.tex_c.specs.Calls.{Hands, SaysTile, SaysHeld, SaysRow, SaysRelease};
 ghost use Rattle.tex_c.specs.Calls.{SaysCounts, SaysShard};
-ghost use Rattle.tex_c.specs.Client.{LeavesFile, IsRepeated};
+ghost use Rattle.tex_c.specs.Client.{LeavesFile};
 ghost use Rattle.tex_c.specs.Request.{texel_of};
 
 use crate::answer::TexAnswer;
@@ -21,7 +21,7 @@ pub extern "C" fn tex_c_get_tile(
     requires from { IsSome from.value }
     ensures { Hands from.value to.new.value (λ old new.
         SaysTile file (texel_of at.now) result answer.new old new
-        × LeavesFile file result (IsRepeated result) old new) }
+        × LeavesFile file result old new) }
 {
     let mut client = from.into_box();
     let code = client.say_get_tile(file, at.texel(), answer);

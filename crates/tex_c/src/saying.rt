@@ -1,8 +1,8 @@
 //! The calls as C makes them: they check the numbers of the request and write the answer as
 //! numbers.
-ghost use Rattle.std.specs.Prelude.{◌≡◌, ◌⊎◌, ◌<◌, length, take, drop, IsTrue, IsFalse};
+ghost use Rattle.std.specs.Prelude.{◌≡◌, ◌<◌, length, take, drop, IsTrue, IsFalse};
 ghost use Rattle.texture_sys.specs.Asked.{one_point, one_footprint};
-ghost use Rattle.tex_c.specs.Client.{LeavesFile, LeavesChecked, IsRepeated};
+ghost use Rattle.tex_c.specs.Client.{LeavesFile, LeavesChecked};
 ghost use Rattle.tex_c.specs.Request.{IsPoint, IsFootprint, point_of, footprint_of};
 ghost use Rattle.tex_c.specs.Request.{region_of, told_info};
 ghost use Rattle.tex_c.specs.Calls.{SaysLookup, SaysLocally, SaysInfo, SaysRegion, SaysTile};
@@ -44,17 +44,19 @@ impl Client {
     /// Answers `info`.
     pub(crate) fn say_info(&mut self, file: u32, out: &mut TexInfo, answer: &mut TexAnswer) -> u32
         ensures says { SaysInfo file result answer.new out.new self.old self.new }
-        ensures left { LeavesFile file result (IsRepeated result) self.old self.new }
+        ensures left { LeavesFile file result self.old self.new }
     {
         *answer = TexAnswer::blank();
         if self.files() <= file {
-            return self.end_with(NO_FILE);
+            self.end();
+            return NO_FILE;
         }
         match self.info(file) {
             Ok(info) => {
                 *answer = TexAnswer::of(info.generation);
                 *out = TexInfo::of(&info);
-                self.end_with(ANSWERED)
+                self.end();
+                ANSWERED
             }
             Err(e) => self.refuse(&e, answer),
         }
@@ -70,22 +72,26 @@ impl Client {
     ) -> u32
         ensures says { SaysLookup file (IsPoint lookup.now) (one_point (point_of lookup.now))
             lookup.now.channels result answer.new out.old out.new self.old self.new }
-        ensures left { LeavesFile file result (IsRepeated result) self.old self.new }
+        ensures left { LeavesFile file result self.old self.new }
     {
         *answer = TexAnswer::blank();
         if self.files() <= file {
-            return self.end_with(NO_FILE);
+            self.end();
+            return NO_FILE;
         }
         let Some(r) = lookup.point() else {
-            return self.end_with(BAD_REQUEST);
+            self.end();
+            return BAD_REQUEST;
         };
         if out.len() < r.nch as usize {
-            return self.end_with(SMALL_BUFFER);
+            self.end();
+            return SMALL_BUFFER;
         }
         match self.texture(file, &r, &mut out[..r.nch as usize]) {
             Ok(generation) => {
                 answer.generation = generation;
-                self.end_with(ANSWERED)
+                self.end();
+                ANSWERED
             }
             Err(e) => self.refuse(&e, answer),
         }
@@ -102,22 +108,26 @@ impl Client {
         ensures says { SaysLookup file (IsFootprint lookup.now)
             (one_footprint (footprint_of lookup.now))
             lookup.now.channels result answer.new out.old out.new self.old self.new }
-        ensures left { LeavesFile file result (IsRepeated result) self.old self.new }
+        ensures left { LeavesFile file result self.old self.new }
     {
         *answer = TexAnswer::blank();
         if self.files() <= file {
-            return self.end_with(NO_FILE);
+            self.end();
+            return NO_FILE;
         }
         let Some(r) = lookup.footprint() else {
-            return self.end_with(BAD_REQUEST);
+            self.end();
+            return BAD_REQUEST;
         };
         if out.len() < r.nch as usize {
-            return self.end_with(SMALL_BUFFER);
+            self.end();
+            return SMALL_BUFFER;
         }
         match self.texture_d(file, &r, &mut out[..r.nch as usize]) {
             Ok(generation) => {
                 answer.generation = generation;
-                self.end_with(ANSWERED)
+                self.end();
+                ANSWERED
             }
             Err(e) => self.refuse(&e, answer),
         }
@@ -162,12 +172,12 @@ impl Client {
         answer: &mut TexAnswer,
     ) -> u32
         ensures says { SaysRegion file region.now result answer.new out.old out.new self.old self.new }
-        ensures left { LeavesFile file result (IsRepeated result ⊎ (result ≡ 5))
-            self.old self.new }
+        ensures left { LeavesFile file result self.old self.new }
     {
         *answer = TexAnswer::blank();
         if self.files() <= file {
-            return self.end_with(NO_FILE);
+            self.end();
+            return NO_FILE;
         }
         let mut values = Vec::new(self.alloc);
         match self.pixels(file, &region.region(), &mut values) {
@@ -176,9 +186,11 @@ impl Client {
                 answer.channels = pixels.channels;
                 answer.value = values.len() as u64;
                 if copy_out(&values, out) {
-                    return self.end_with(ANSWERED);
+                    self.end();
+                    return ANSWERED;
                 }
-                self.end_repeated(SMALL_BUFFER)
+                self.end_repeated();
+                SMALL_BUFFER
             }
             Err(e) => self.refuse(&e, answer),
         }
@@ -187,16 +199,18 @@ impl Client {
     /// Answers `get_tile`.
     pub(crate) fn say_get_tile(&mut self, file: u32, at: TexelAt, answer: &mut TexAnswer) -> u32
         ensures says { SaysTile file at result answer.new self.old self.new }
-        ensures left { LeavesFile file result (IsRepeated result) self.old self.new }
+        ensures left { LeavesFile file result self.old self.new }
     {
         *answer = TexAnswer::blank();
         if self.files() <= file {
-            return self.end_with(NO_FILE);
+            self.end();
+            return NO_FILE;
         }
         match self.get_tile(file, at) {
             Ok(generation) => {
                 answer.generation = generation;
-                self.end_with(ANSWERED)
+                self.end();
+                ANSWERED
             }
             Err(e) => self.refuse(&e, answer),
         }
@@ -209,12 +223,14 @@ impl Client {
     {
         *answer = TexAnswer::blank();
         if self.files() <= file {
-            return self.end_with(NO_FILE);
+            self.end();
+            return NO_FILE;
         }
         match self.invalidate(file, force) {
             Ok(generation) => {
                 answer.generation = generation;
-                self.end_with(ANSWERED)
+                self.end();
+                ANSWERED
             }
             Err(e) => self.refuse(&e, answer),
         }
@@ -228,7 +244,8 @@ impl Client {
         *answer = TexAnswer::blank();
         match self.invalidate_all() {
             Ok(()) => {
-                self.end_with(ANSWERED)
+                self.end();
+                ANSWERED
             }
             Err(e) => self.refuse(&e, answer),
         }

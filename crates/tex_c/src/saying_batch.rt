@@ -5,7 +5,7 @@ ghost use Rattle.texture_sys.specs.Asked.{KeepsOthers, whole};
 ghost use Rattle.texture_sys.specs.Batch.{IsBatchInRange, batch_len};
 ghost use Rattle.texture_sys.specs.Call.{Answers, AnswersFirst, TextureCause, IsWarm, AnswersWarm};
 ghost use Rattle.texture_sys.specs.declared.lookup.Lookups.TheVariants.{Many};
-ghost use Rattle.tex_c.specs.Client.{LeavesRound, LeavesFile, IsRepeated};
+ghost use Rattle.tex_c.specs.Client.{LeavesRound, LeavesFile};
 ghost use Rattle.tex_c.specs.SuppliedWorld.{supplied_files};
 ghost use Rattle.tex_c.specs.SuppliedTap.{tap_state};
 ghost use Rattle.tex_c.specs.Batch.{SaysBatch};
@@ -64,30 +64,36 @@ impl Client {
     ) -> u32
         ensures says { SaysBatch batch.now places.entry result answer.new out.old out.new
             self.old self.new }
-        ensures left { LeavesFile batch.now.file result (IsRepeated result) self.old self.new }
+        ensures left { LeavesFile batch.now.file result self.old self.new }
     {
         *answer = TexBatchAnswer::blank();
         if self.files() <= batch.file {
-            return self.end_with(NO_FILE);
+            self.end();
+            return NO_FILE;
         }
         let Some(options) = batch.options() else {
-            return self.end_with(BAD_REQUEST);
+            self.end();
+            return BAD_REQUEST;
         };
         let asked = Batch { options, places };
         if let Some(i) = asked.first_out_of_range() {
             answer.done = i as u64;
-            return self.end_with(BAD_REQUEST);
+            self.end();
+            return BAD_REQUEST;
         }
         let Some(count) = places.len().checked_mul(options.channels() as usize) else {
-            return self.end_with(SMALL_BUFFER);
+            self.end();
+            return SMALL_BUFFER;
         };
         if out.len() < count {
-            return self.end_with(SMALL_BUFFER);
+            self.end();
+            return SMALL_BUFFER;
         }
         match self.texture_many(batch.file, asked, &mut out[..count]) {
             Ok(generation) => {
                 answer.generation = generation;
-                self.end_with(ANSWERED)
+                self.end();
+                ANSWERED
             }
             Err(stopped) => {
                 answer.done = stopped.done as u64;
