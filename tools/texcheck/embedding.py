@@ -2,16 +2,15 @@
 
 The demo's list and the stored run of texcache are answered by 1 and by 8 threads. Each answer must be the line of
 expected.txt or of the run's stdout; requests for UDIM textures are left out, because the library does not have them.
-One thread needs the same cells as the program's worker, and each of 8 threads at least those. Then come wrong calls,
-lookups on doubles, files that are replaced while they are read, and the renderer's picture, which must be the same for
-1 and 8 threads. The demo's list and the wrong calls also run under valgrind, and the C side with the compiler's thread
-sanitizer. `tools/check fine` tests which values lookups on doubles have.
+Each thread needs the same cells as the program's worker. Then come wrong calls, lookups on doubles, files that are
+replaced while they are read, and the renderer's picture, which must be the same for 1 and 8 threads. The demo's list
+and the wrong calls also run under valgrind, and the C side with the compiler's thread sanitizer. `tools/check fine`
+tests which values lookups on doubles have.
 """
 import os
 import shutil
 import sys
 import tempfile
-from operator import ge
 from pathlib import Path
 
 from texcheck.archive import archive_of
@@ -86,10 +85,8 @@ class Tests:
         self.say(not wrong, what, wrong)
         if threads and not wrong and needs(got) and b"<UDIM>" not in given:
             _, other = said([self.program, folder, "--workers", threads], given)
-            least, seen = needs(other), needs(got)
-            # a call that is repeated because another thread had its shard counts its needs once more
-            is_so = seen == least if threads == "1" else len(seen) == len(least) and all(map(ge, seen, least))
-            self.say(is_so, f"{what}: the needs of each thread", f"{seen}, wanted {least}, or more by several threads")
+            wanted_needs, seen = needs(other), needs(got)
+            self.say(seen == wanted_needs, f"{what}: the needs of each thread", f"{seen}, wanted {wanted_needs}")
 
     def over_a_folder(self, what, name, *more, before=()):
         with tempfile.TemporaryDirectory() as folder:

@@ -14,7 +14,12 @@ use Rattle.shard_gate.specs.Gate.{GateState, PinSeatState}
 use Rattle.shard_gate.proofs.SinceLemmas.{purges_none}
 use Rattle.image_cache.specs.declared.error.CacheError.{CacheError}
 use Rattle.image_cache.specs.Pass.{CacheState, PassState, IsPassOf}
-use Rattle.image_cache.specs.Call.{CountsNeed}
+use Rattle.std.specs.Prelude.{IsTrue, OnOk}
+use Rattle.shard_gate.specs.Since.{PurgesNone}
+use Rattle.file_table.specs.Calls.{sighted}
+use Rattle.image_cache.specs.Call.{CountsNeed, NoneApart, MayBeApart, AsksForCellAt, MovesCellAt}
+use Rattle.image_cache.specs.Call.{NeedsCellAt, AfterNeed, NoneFalls, AnswersWarm}
+use Rattle.image_cache.specs.Texel.{has_cell_at}
 use Rattle.image_cache.specs.Pass.{KeepsAllBut, recent_and_counts}
 use Rattle.image_cache.specs.Square.{MeetsAt}
 use Rattle.image_cache.specs.Reading.{PassTap, pass_tap}
@@ -67,6 +72,39 @@ fetches_met files gate state texel tap old new met =
           (ap (λ (s : PinSeatState). s.visits) met.kept.seat);
       warm = λ has. record { tap = refl; view = view; moved = met.moved };
     }
+
+-- what `fetch` ensures if it answers, in one record
+pub fetches_ok : {E : Type 0} (files : Files) (gate : GateState) (known state : RecordState)
+    (texel : Texel) (old new : PassTap) (result : Result (Unit {0}) E) → known ≡ state
+    → CountsNeed (has_cell_at known (at_of texel) old.pass.pinned.recent) old.pass new.pass
+    → OnOk result (MayBeApart files old.pass new.pass)
+    → OnOk result (NoneApart old.pass new.pass → AsksForCellAt known (at_of texel)
+    old.pass.pinned.recent new.pass.pinned.recent)
+    → OnOk result (NoneApart old.pass new.pass
+    → NeedsCellAt files known (at_of texel) old.pass new.pass)
+    → AfterNeed known.file old.pass new.pass → NoneFalls old.tap new.tap
+    → PurgesNone gate old.pass.pinned.seat new.pass.pinned.seat
+    → (IsTrue (has_cell_at known (at_of texel) old.pass.pinned.recent) → AnswersWarm
+    (sighted old.pass.view old.tap) (sighted new.pass.view new.tap) result)
+    → (IsTrue (has_cell_at known (at_of texel) old.pass.pinned.recent) → MovesCellAt known
+    (at_of texel) old.pass.pinned.recent new.pass.pinned.recent)
+    → OnOk result (Fetches files gate state old texel new)
+fetches_ok files gate known state texel old new (Ok x) is need apart asked needs same tap visits
+    warm moved = subst (λ (r : RecordState). Fetches files gate r old texel new) is (record {
+      asks = record { need = need; apart = apart; asked = asked; needs = needs };
+      pass = same;
+      tap = tap;
+      visits = visits;
+      warm = λ has. record { tap = (warm has).tap; view = (warm has).view; moved = moved has };
+    })
+fetches_ok files gate known state texel old new (Err e) is need apart asked needs same tap visits
+    warm moved = tt
+
+-- a fact that follows, of a call that succeeds
+pub on_ok : {A E : Type 0} {P Q : Type 0} (result : Result A E) → (P → Q) → OnOk result P
+    → OnOk result Q
+on_ok (Ok x) use_of p = use_of p
+on_ok (Err e) use_of p = tt
 
 -- the pass is one of the cache's still
 pub same_cache : (cache : CacheState) (old new : PassState) → KeepsAllBut recent_and_counts old new

@@ -76,6 +76,7 @@ after_chain file a b c ab bc = record {
     gate = bc.place.gate ∙ ab.place.gate;
     cut = bc.place.cut ∙ ab.place.cut;
     permits = bc.place.permits ∙ ab.place.permits;
+    joined = bc.place.joined ∙ ab.place.joined;
   };
   view = keeps_view_chain file a.view b.view c.view ab.view bc.view;
   looks = looks_chain a.view b.view c.view ab.looks bc.looks;
@@ -88,7 +89,7 @@ after_chain file a b c ab bc = record {
 pub after_none : (file : ℕ) (pass : PassState) → length pass.pinned.recent ≤ 2
     → AfterNeed file pass pass
 after_none file pass few = record {
-  place = record { board = refl; gate = refl; cut = refl; permits = refl };
+  place = record { board = refl; gate = refl; cut = refl; permits = refl; joined = refl };
   view = record {
     board = refl;
     later = λ f. omega arith;

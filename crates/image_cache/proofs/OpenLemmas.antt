@@ -55,6 +55,7 @@ module _ {files : Files} {gate : GateState} {known : RecordState} {Busy : Type 0
       gate = kept.place.gate ∙ (left.need.place.gate ∙ opened.place.gate);
       cut = kept.place.cut ∙ (left.need.place.cut ∙ opened.place.cut);
       permits = kept.place.permits ∙ (left.need.place.permits ∙ opened.place.permits);
+      joined = kept.place.joined ∙ (left.need.place.joined ∙ opened.place.joined);
     };
     view = keeps_view_chain file old.view mid.view new.view looks.keeps keeps;
     counts = record {

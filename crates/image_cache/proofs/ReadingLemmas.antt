@@ -327,7 +327,7 @@ module _ {V T Busy W H : Type 0} {v : a_waiter.Ghosts V Busy} {t : a_tap.Ghosts 
   no_makes {files} {a} {refused} few want empty =
       makes_pinned (record { cache = refl; known = refl; pass_name = refl; tap_name = refl }) refl
       (record {
-        place = record { board = refl; gate = refl; cut = refl; permits = refl };
+        place = record { board = refl; gate = refl; cut = refl; permits = refl; joined = refl };
         view = refl;
         few = few;
         holds = refl;
@@ -422,7 +422,7 @@ module _ {V T Busy W H : Type 0} {v : a_waiter.Ghosts V Busy} {t : a_tap.Ghosts 
     call = same_call {a = a};
     left = record {
       steps = (steps_pinned {files = files} {a = a} {b = a} {refused = refused} (same_call {a = a}) refl (record {
-        place = record { board = refl; gate = refl; cut = refl; permits = refl };
+        place = record { board = refl; gate = refl; cut = refl; permits = refl; joined = refl };
         view = refl;
         few = few;
         holds = refl;
@@ -493,6 +493,7 @@ module _ {V T Busy W H : Type 0} {v : a_waiter.Ghosts V Busy} {t : a_tap.Ghosts 
             gate = kept.place.gate ∙ first.need.place.gate;
             cut = kept.place.cut ∙ first.need.place.cut;
             permits = kept.place.permits ∙ first.need.place.permits;
+            joined = kept.place.joined ∙ first.need.place.joined;
           };
           view = subst (λ (x : ViewState). KeepsView a.known.now.file a.pass.now.view x) (sym view)
               first.need.view;

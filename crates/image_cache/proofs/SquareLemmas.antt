@@ -147,7 +147,7 @@ with_counts pass n h = record pass { needs = n; hits = h }
 same_but_counts : (pass : PassState) (n h m k : ℕ) → length pass.pinned.recent ≤ 2
     → KeepsAllBut recent_and_counts (with_counts pass n h) (with_counts pass m k)
 same_but_counts pass n h m k few = record {
-  place = record { board = refl; gate = refl; cut = refl; permits = refl };
+  place = record { board = refl; gate = refl; cut = refl; permits = refl; joined = refl };
   seat = refl;
   view = refl;
   tiles = record { few = few; holds = refl; hand = refl };
@@ -190,6 +190,7 @@ meets_square files state square cell old new is one has asked asks first stays k
               gate = kept.place.gate;
               cut = kept.place.cut;
               permits = kept.place.permits;
+              joined = kept.place.joined;
             };
             seat = kept.seat;
             view = kept.view;
@@ -244,6 +245,7 @@ meets_rest files state square cell old new is one has asked asks first stays kep
               gate = kept.place.gate;
               cut = kept.place.cut;
               permits = kept.place.permits;
+              joined = kept.place.joined;
             };
             seat = kept.seat;
             view = kept.view;

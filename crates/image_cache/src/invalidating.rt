@@ -61,8 +61,9 @@ impl<T: Tap> Cache<T> {
         if let Err(busy) = self.empty(waiter, pass) {
             return Err(CacheError::Busy(busy));
         }
-        let looked = self.files.board().look(&mut pass.view, file);
-        self.renew(waiter, pass, tap, Invalid { file, force }, looked)
+        let asked = Invalid { file, force };
+        let looked = self.files.board().look(&mut pass.view, asked.file);
+        self.renew(waiter, pass, tap, asked, looked)
     }
 
     /// Calls `invalidate`, without force, for each known file in the order of their numbers. It

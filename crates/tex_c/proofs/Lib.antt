@@ -1,3 +1,4 @@
 pub mod AsBox
 pub mod AsRoom
 pub mod Causes
+pub mod RoundLemmas

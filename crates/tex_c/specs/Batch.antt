@@ -91,6 +91,7 @@ pub record SaysBatch (b : TexBatch) (places : Bor (List Place)) (code : ℕ) (an
   pub rest : ¬ (code ≡ 0) → (k : ℕ) → answer.done * batch_channels (options_of b) ≤ k
       → slice_index out_new k ≡ slice_index out_old k
   pub unwritten : code ≡ 4 → out_new ≡ out_old
+  pub holds : new.pass.pinned.holds ≡ old.pass.pinned.holds
   pub cause : ¬ (code ≡ 0) → IsUnanswered
       (RefusesBatch (files_of old) b places (length out_old) answer.done)
       (TextureCause supplied_files b.file old.cache.gate.cut

@@ -32,10 +32,19 @@ LookCause need file generation refused.OtherGeneration =
 LookCause need file generation refused.NoMemory = ⊤
 LookCause need file generation e = ⊥
 
+-- the first of these looks is what the call needs
+abbrev pub FitsLooks : Option Need → List Seen → Type 0
+FitsLooks need [] = ⊥
+FitsLooks need (first ∷ more) = FitsLook need first.file first.generation
+
 -- why several looks are not accepted: there are none, or the first is not accepted
 abbrev pub LooksCause : Option Need → List Seen → SupplyError → Type 0
 LooksCause need [] e = e ≡ refused.Short
 LooksCause need (first ∷ more) e = LookCause need first.file first.generation e
+
+-- why a fault is not accepted: nothing is needed
+abbrev pub FaultCause : Option Need → SupplyError → Type 0
+FaultCause need e = (e ≡ refused.NotNeeded) × (need ≡ None)
 
 -- The call needs bytes. `P` holds of the file, the generation, the place, and the least and the
 -- greatest number of bytes.

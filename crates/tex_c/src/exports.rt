@@ -3,7 +3,8 @@ ghost use Rattle.std.specs.Prelude.{◌≡◌, IsNone, IsSome, IsSomeAnd};
 ghost use Rattle.texture_sys.specs.Asked.{one_point, one_footprint};
 ghost use Rattle.tex_c.specs.Calls.{Hands, SaysLookup, SaysLocally, SaysInfo, SaysRegion};
 ghost use Rattle.tex_c.specs.Calls.{SaysInvalid, SaysAllInvalid};
-ghost use Rattle.tex_c.specs.Exports.{IsMade, IsNotMade, IsSplitOff};
+ghost use Rattle.tex_c.specs.Exports.{IsMade, IsNotMade, IsSplitOff, SaysSplit};
+ghost use Rattle.tex_c.specs.Client.{LeavesFile, LeavesChecked};
 ghost use Rattle.tex_c.specs.Request.{IsPoint, IsFootprint, point_of, footprint_of};
 
 use crate::answer::{ANSWERED, BAD_OPTIONS, BAD_REQUEST, NO_MEMORY, NO_PERMIT, TexAnswer};
@@ -57,11 +58,9 @@ pub extern "C" fn tex_c_new(
 pub extern "C" fn tex_c_split(alloc: Global, from: Held, to: &mut Held, second: &mut Held) -> u32
     requires from { IsSome from.value }
     requires none { IsNone second.old.value }
-    ensures same { Hands from.value to.new.value (λ old new. new.cache ≡ old.cache) }
+    ensures same { Hands from.value to.new.value (λ old new. SaysSplit result old new) }
     ensures ok { result ≡ 0 → Hands from.value second.new.value IsSplitOff }
     ensures err { ¬ (result ≡ 0) → IsNone second.new.value }
-    ensures cause { result ≡ 6 → IsSomeAnd from.value (λ old.
-        old.pass.pinned.seat.permits ≡ 1) }
 {
     let mut client = from.into_box();
     let split = client.split();
@@ -101,7 +100,8 @@ pub extern "C" fn tex_c_info(
 ) -> u32
     requires from { IsSome from.value }
     ensures { Hands from.value to.new.value (λ old new.
-        SaysInfo file result answer.new info.new old new) }
+        SaysInfo file result answer.new info.new old new
+        × LeavesFile file result old new) }
 {
     let mut client = from.into_box();
     let code = client.say_info(file, info, answer);
@@ -122,7 +122,8 @@ pub extern "C" fn tex_c_texture(
     requires from { IsSome from.value }
     ensures { Hands from.value to.new.value (λ old new.
         SaysLookup file (IsPoint lookup.now) (one_point (point_of lookup.now))
-        lookup.now.channels result answer.new out.old out.new old new) }
+        lookup.now.channels result answer.new out.old out.new old new
+        × LeavesFile file result old new) }
 {
     let mut client = from.into_box();
     let code = client.say_texture(file, lookup, out, answer);
@@ -143,7 +144,8 @@ pub extern "C" fn tex_c_texture_d(
     requires from { IsSome from.value }
     ensures { Hands from.value to.new.value (λ old new.
         SaysLookup file (IsFootprint lookup.now) (one_footprint (footprint_of lookup.now))
-        lookup.now.channels result answer.new out.old out.new old new) }
+        lookup.now.channels result answer.new out.old out.new old new
+        × LeavesFile file result old new) }
 {
     let mut client = from.into_box();
     let code = client.say_texture_d(file, lookup, out, answer);
@@ -184,7 +186,8 @@ pub extern "C" fn tex_c_pixels(
 ) -> u32
     requires from { IsSome from.value }
     ensures { Hands from.value to.new.value (λ old new.
-        SaysRegion file region.now result answer.new out.old out.new old new) }
+        SaysRegion file region.now result answer.new out.old out.new old new
+        × LeavesFile file result old new) }
 {
     let mut client = from.into_box();
     let code = client.say_pixels(file, region, out, answer);
@@ -203,7 +206,7 @@ pub extern "C" fn tex_c_invalidate(
 ) -> u32
     requires from { IsSome from.value }
     ensures { Hands from.value to.new.value (λ old new.
-        SaysInvalid file force result answer.new old new) }
+        SaysInvalid file force result answer.new old new × LeavesChecked result old new) }
 {
     let mut client = from.into_box();
     let code = client.say_invalidate(file, force, answer);
@@ -216,7 +219,7 @@ pub extern "C" fn tex_c_invalidate(
 pub extern "C" fn tex_c_invalidate_all(from: Held, to: &mut Held, answer: &mut TexAnswer) -> u32
     requires from { IsSome from.value }
     ensures { Hands from.value to.new.value (λ old new.
-        SaysAllInvalid result answer.new old new) }
+        SaysAllInvalid result answer.new old new × LeavesChecked result old new) }
 {
     let mut client = from.into_box();
     let code = client.say_invalidate_all(answer);

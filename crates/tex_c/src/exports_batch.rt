@@ -2,6 +2,7 @@
 ghost use Rattle.std.specs.Prelude.{IsSome};
 ghost use Rattle.tex_c.specs.Calls.{Hands};
 ghost use Rattle.tex_c.specs.Batch.{SaysBatch};
+ghost use Rattle.tex_c.specs.Client.{LeavesFile};
 
 use crate::batch::{TexBatch, TexBatchAnswer};
 use crate::held::Held;
@@ -20,7 +21,8 @@ pub extern "C" fn tex_c_texture_many(
 ) -> u32
     requires from { IsSome from.value }
     ensures { Hands from.value to.new.value (λ old new.
-        SaysBatch batch.now places.entry result answer.new out.old out.new old new) }
+        SaysBatch batch.now places.entry result answer.new out.old out.new old new
+        × LeavesFile batch.now.file result old new) }
 {
     let mut client = from.into_box();
     let code = client.say_many(batch, places, out, answer);

@@ -1,10 +1,9 @@
 //! The calls for C that supply what a call needs, and the buffers for it.
 ghost use Rattle.std.specs.Prelude.{◌≡◌, length, IfSome, IsNone, IsSome, IsSomeAnd};
 ghost use Rattle.tex_c.specs.Calls.{Hands};
-ghost use Rattle.tex_c.specs.Exports.{KeepsRest, HasBytes};
+ghost use Rattle.tex_c.specs.Exports.{KeepsClient, HasBytes, IsLent, SaysFault};
 ghost use Rattle.tex_c.specs.Exports.{SaysLook, SaysLooks, SaysBytes, SaysRows};
 ghost use Rattle.tex_c.specs.Supply.{FitsLook, FitsBytes, FitsRows};
-ghost use Rattle.tex_c.specs.SuppliedTap.{KeepsSupplies};
 ghost use Rattle.tex_c.specs.Truth.{IsTrueLook, AreTrueLooks, AreTrueBytes, AreTrueRows};
 
 use crate::answer::{ANSWERED, NO_MEMORY};
@@ -26,7 +25,7 @@ pub extern "C" fn tex_c_supply_look(
     requires told { IfSome from.value (λ old. FitsLook old.tap.need file generation
         → IsTrueLook file generation len) }
     ensures { Hands from.value to.new.value (λ old new.
-        SaysLook file generation result old new) }
+        SaysLook file generation len result old new) }
 {
     let mut client = from.into_box();
     let code = client.supply_look(file, generation, len);
@@ -62,9 +61,8 @@ pub extern "C" fn tex_c_room(
 ) -> u32
     requires from { IsSome from.value }
     requires none { IsNone room.old.value }
-    ensures same { Hands from.value to.new.value (λ old new.
-        KeepsRest old new × KeepsSupplies old.tap new.tap) }
-    ensures ok { result ≡ 0 → IsSomeAnd room.new.value (λ b. length b.items.items ≡ size) }
+    ensures same { Hands from.value to.new.value KeepsClient }
+    ensures ok { result ≡ 0 → IsSomeAnd room.new.value (IsLent size bytes.new) }
     ensures err { ¬ (result ≡ 0) → IsNone room.new.value }
 {
     let mut client = from.into_box();
@@ -89,8 +87,7 @@ pub extern "C" fn tex_c_room(
 pub extern "C" fn tex_c_give_back(from: Held, to: &mut Held, room: Room)
     requires from { IsSome from.value }
     requires room { IsSome room.value }
-    ensures { Hands from.value to.new.value (λ old new.
-        KeepsRest old new × KeepsSupplies old.tap new.tap) }
+    ensures { Hands from.value to.new.value KeepsClient }
 {
     let mut client = from.into_box();
     client.give_back(room.into_bytes());
@@ -114,7 +111,7 @@ pub extern "C" fn tex_c_supply_bytes(
         FitsBytes old.tap.need file generation at (length b.items.items)
         → AreTrueBytes file generation at b.items.items)) }
     ensures { Hands from.value to.new.value (λ old new. HasBytes room.value (λ bytes.
-        SaysBytes file generation at (length bytes) result old new)) }
+        SaysBytes file generation at bytes result old new)) }
 {
     let mut client = from.into_box();
     let code = client.supply_bytes(file, generation, at, room.into_bytes());
@@ -131,7 +128,7 @@ pub extern "C" fn tex_c_supply_rows(from: Held, to: &mut Held, place: &RowsAt, r
         FitsRows old.tap.need place.now (length b.items.items)
         → AreTrueRows place.now b.items.items)) }
     ensures { Hands from.value to.new.value (λ old new. HasBytes room.value (λ bytes.
-        SaysRows place.now (length bytes) result old new)) }
+        SaysRows place.now bytes result old new)) }
 {
     let mut client = from.into_box();
     let code = client.supply_rows(*place, room.into_bytes());
@@ -143,8 +140,7 @@ pub extern "C" fn tex_c_supply_rows(from: Held, to: &mut Held, place: &RowsAt, r
 #[unsafe(no_mangle)]
 pub extern "C" fn tex_c_supply_fault(from: Held, to: &mut Held) -> u32
     requires from { IsSome from.value }
-    ensures { Hands from.value to.new.value (λ old new.
-        KeepsRest old new × KeepsSupplies old.tap new.tap) }
+    ensures { Hands from.value to.new.value (λ old new. SaysFault result old new) }
 {
     let mut client = from.into_box();
     let code = client.supply_fault();

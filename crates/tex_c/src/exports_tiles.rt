@@ -1,6 +1,8 @@
 //! The calls for C on held tiles and on counts.
 ghost use Rattle.std.specs.Prelude.{◌≡◌, IsSome};
 ghost use Rattle.tex_c.specs.Calls.{Hands, SaysTile, SaysHeld, SaysRow, SaysRelease};
+ghost use Rattle.tex_c.specs.Calls.{SaysCounts, SaysShard};
+ghost use Rattle.tex_c.specs.Client.{LeavesFile};
 ghost use Rattle.tex_c.specs.Request.{texel_of};
 
 use crate::answer::TexAnswer;
@@ -18,7 +20,8 @@ pub extern "C" fn tex_c_get_tile(
 ) -> u32
     requires from { IsSome from.value }
     ensures { Hands from.value to.new.value (λ old new.
-        SaysTile file (texel_of at.now) result answer.new old new) }
+        SaysTile file (texel_of at.now) result answer.new old new
+        × LeavesFile file result old new) }
 {
     let mut client = from.into_box();
     let code = client.say_get_tile(file, at.texel(), answer);
@@ -75,7 +78,7 @@ pub extern "C" fn tex_c_release_tile(from: Held, to: &mut Held, place: usize) ->
 #[unsafe(no_mangle)]
 pub extern "C" fn tex_c_counts(from: Held, to: &mut Held, out: &mut TexCounts)
     requires from { IsSome from.value }
-    ensures { Hands from.value to.new.value (λ old new. new ≡ old) }
+    ensures { Hands from.value to.new.value (λ old new. SaysCounts out.new old × (new ≡ old)) }
 {
     let mut client = from.into_box();
     client.say_counts(out);
@@ -87,7 +90,7 @@ pub extern "C" fn tex_c_counts(from: Held, to: &mut Held, out: &mut TexCounts)
 pub extern "C" fn tex_c_shard(from: Held, to: &mut Held, shard: u32, out: &mut TexShard) -> u32
     requires from { IsSome from.value }
     ensures { Hands from.value to.new.value (λ old new.
-        new.cache ≡ old.cache) }
+        SaysShard shard result out.old out.new old new) }
 {
     let mut client = from.into_box();
     let code = client.say_shard(shard, out);

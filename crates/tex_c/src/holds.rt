@@ -4,6 +4,7 @@ ghost use Rattle.std.specs.Prelude.{IsTrue, IsFalse, IsSomeAnd};
 ghost use Rattle.std.specs.List.{remove};
 ghost use Rattle.tile_store.specs.Row.{samples_of};
 ghost use Rattle.tex_c.specs.Calls.{SaysRow, SaysTileRow, SaysHeld, SaysRelease};
+ghost use Rattle.tex_c.specs.Calls.{SaysCounts, SaysShard};
 ghost use Rattle.tex_c.specs.Request.{texel_of};
 
 use crate::answer::{ANSWERED, BUSY, NO_PART, NOTHING_HELD, SMALL_BUFFER};
@@ -123,7 +124,8 @@ impl Client {
 
     /// Writes the counts of the pass.
     pub(crate) fn say_counts(&mut self, out: &mut TexCounts)
-        ensures { self.new ≡ self.old }
+        ensures says { SaysCounts out.new self.old }
+        ensures same { self.new ≡ self.old }
     {
         *out = TexCounts {
             needs: self.needs(),
@@ -136,7 +138,7 @@ impl Client {
 
     /// Writes the counts and the memory of one shard.
     pub(crate) fn say_shard(&mut self, shard: u32, out: &mut TexShard) -> u32
-        ensures cache { self.new.cache ≡ self.old.cache }
+        ensures { SaysShard shard result out.old out.new self.old self.new }
     {
         if self.cache.shards() <= shard {
             return NO_PART;

@@ -8,16 +8,21 @@ ghost use Rattle.texel_filter.specs.Image.{IsChannelCount};
 ghost use Rattle.texel_filter.specs.Deriv.{IsDerivRequest};
 ghost use Rattle.file_table.specs.Calls.{sighted};
 ghost use Rattle.texel_values.specs.Region.{AreRegionValues};
-ghost use Rattle.image_cache.specs.Call.{KeepsGiven, HoldsCell};
+ghost use Rattle.gen_board.specs.View.{IsLater};
+ghost use Rattle.file_table.specs.Calls.{KeepsView};
+ghost use Rattle.shard_gate.specs.Since.{PurgesNone};
+ghost use Rattle.image_cache.specs.Pass.{KeepsAllBut, view_and_record, its_holds};
+ghost use Rattle.image_cache.specs.Call.{AfterCall, IsOfLook, KeepsGiven, KeepsRecent, HoldsCell};
 ghost use Rattle.image_cache.specs.Cause.{around, HasCause, Never, InfoRefuses, PixelsRefuses};
 ghost use Rattle.image_cache.specs.Cause.{TooManyTexels, NoFurtherHold, TileRefuses, ReleaseCause};
 ghost use Rattle.image_cache.specs.Facts.{info_of};
 ghost use Rattle.image_cache.specs.Invalid.{invalid, MakesInvalid, InvalidCause};
-ghost use Rattle.image_cache.specs.InvalidAll.{MakesAllInvalid};
+ghost use Rattle.image_cache.specs.InvalidAll.{MakesAllInvalid, EndsAtFault, AtReadFault};
 ghost use Rattle.image_cache.specs.Reading.{pass_tap};
 ghost use Rattle.image_cache.specs.Region.{ReadsRegion};
 ghost use Rattle.texture_sys.specs.Call.{Answers, TextureCause, IsWarm, AnswersWarm, ServesLocally};
 ghost use Rattle.texture_sys.specs.Asked.{one_point, one_footprint};
+ghost use Rattle.tex_c.specs.Client.{LeavesRound, LeavesCheck, KeepsAllButPass};
 ghost use Rattle.tex_c.specs.SuppliedWorld.{supplied_files};
 ghost use Rattle.tex_c.specs.SuppliedTap.{tap_state};
 
@@ -41,7 +46,10 @@ impl Client {
         ensures cause { IfErr result (HasCause (around supplied_files file self.old.cache.gate.cut
             self.old.pass self.new.pass (tap_state self.old.tap) (tap_state self.new.tap))
             Never InfoRefuses) }
-        ensures cache { self.new.cache ≡ self.old.cache }
+        ensures as_new { IfOk result (λ info. IsOfLook file self.old.pass.view
+            self.new.pass.view info.generation) }
+        ensures same { KeepsAllBut view_and_record self.old.pass self.new.pass }
+        ensures left { LeavesRound file self.old self.new }
     {
         self.begin();
         let waiter = Tries::new(TRIES);
@@ -70,7 +78,8 @@ impl Client {
             self.old.pass known → AnswersWarm file known.generation
             (sighted self.old.pass.view (tap_state self.old.tap))
             (sighted self.new.pass.view (tap_state self.new.tap)) result) }
-        ensures cache { self.new.cache ≡ self.old.cache }
+        ensures holds { self.new.pass.pinned.holds ≡ self.old.pass.pinned.holds }
+        ensures left { LeavesRound file self.old self.new }
     {
         self.begin();
         let waiter = Tries::new(TRIES);
@@ -105,7 +114,8 @@ impl Client {
             self.old.pass known → AnswersWarm file known.generation
             (sighted self.old.pass.view (tap_state self.old.tap))
             (sighted self.new.pass.view (tap_state self.new.tap)) result) }
-        ensures cache { self.new.cache ≡ self.old.cache }
+        ensures holds { self.new.pass.pinned.holds ≡ self.old.pass.pinned.holds }
+        ensures left { LeavesRound file self.old self.new }
     {
         self.begin();
         let waiter = Tries::new(TRIES);
@@ -135,8 +145,10 @@ impl Client {
         ensures value { IfSome result (Answers supplied_files file self.old.cache.gate.cut
             (one_point r.now) self.old.pass.view self.new.pass.view out.new) }
         ensures none { IsNone result → out.new ≡ out.old }
-        ensures cache { self.new.cache ≡ self.old.cache }
-        ensures tap { self.new.tap ≡ self.old.tap }
+        ensures pass { AfterCall file self.old.pass self.new.pass }
+        ensures latest { self.new.pass.latest ≡ self.old.pass.latest }
+        ensures holds { self.new.pass.pinned.holds ≡ self.old.pass.pinned.holds }
+        ensures rest { KeepsAllButPass self.old self.new }
     {
         texture_local(&self.cache, &mut self.pass, file, r, out)
     }
@@ -159,7 +171,10 @@ impl Client {
         ensures cause { IfErr result (HasCause (around supplied_files file self.old.cache.gate.cut
             self.old.pass self.new.pass (tap_state self.old.tap) (tap_state self.new.tap))
             (TooManyTexels region.now.w region.now.h) (PixelsRefuses region.now.level)) }
-        ensures cache { self.new.cache ≡ self.old.cache }
+        ensures as_new { IfOk result (λ pixels. IsOfLook file self.old.pass.view
+            self.new.pass.view pixels.generation) }
+        ensures holds { self.new.pass.pinned.holds ≡ self.old.pass.pinned.holds }
+        ensures left { LeavesRound file self.old self.new }
     {
         self.begin();
         let waiter = Tries::new(TRIES);
@@ -177,7 +192,10 @@ impl Client {
         ensures cause { IfErr result (HasCause (around supplied_files file self.old.cache.gate.cut
             self.old.pass self.new.pass (tap_state self.old.tap) (tap_state self.new.tap))
             (NoFurtherHold self.old.pass) (TileRefuses at)) }
-        ensures cache { self.new.cache ≡ self.old.cache }
+        ensures as_new { IfOk result (IsOfLook file self.old.pass.view self.new.pass.view) }
+        ensures err { OnErr result (self.new.pass.pinned.holds ≡ self.old.pass.pinned.holds) }
+        ensures recent { KeepsRecent self.old.pass self.new.pass }
+        ensures left { LeavesRound file self.old self.new }
     {
         self.begin();
         let waiter = Tries::new(TRIES);
@@ -190,8 +208,11 @@ impl Client {
         ensures ok { OnOk result
             (self.new.pass.pinned.holds ≡ remove self.old.pass.pinned.holds place) }
         ensures cause { IfErr result (ReleaseCause place self.old.pass) }
-        ensures cache { self.new.cache ≡ self.old.cache }
-        ensures tap { self.new.tap ≡ self.old.tap }
+        ensures err { OnErr result (self.new.pass.pinned.holds ≡ self.old.pass.pinned.holds) }
+        ensures same { KeepsAllBut its_holds self.old.pass self.new.pass }
+        ensures visits { PurgesNone self.old.cache.gate
+            self.old.pass.pinned.seat self.new.pass.pinned.seat }
+        ensures rest { KeepsAllButPass self.old self.new }
     {
         let waiter = Tries::new(TRIES);
         self.cache.release_tile(&waiter, &mut self.pass, place)
@@ -205,7 +226,10 @@ impl Client {
             (tap_state self.old.tap) (tap_state self.new.tap)) }
         ensures cause { IfErr result
             (InvalidCause (tap_state self.old.tap) (tap_state self.new.tap)) }
-        ensures cache { self.new.cache ≡ self.old.cache }
+        ensures view { KeepsView file self.old.pass.view self.new.pass.view }
+        ensures failed { IfErr result (AtReadFault (PurgesNone self.old.cache.gate
+            self.old.pass.pinned.seat self.new.pass.pinned.seat)) }
+        ensures left { LeavesCheck self.old self.new }
     {
         self.begin();
         let waiter = Tries::new(TRIES);
@@ -220,7 +244,12 @@ impl Client {
             (pass_tap self.new.pass (tap_state self.new.tap))) }
         ensures cause { IfErr result
             (InvalidCause (tap_state self.old.tap) (tap_state self.new.tap)) }
-        ensures cache { self.new.cache ≡ self.old.cache }
+        ensures later { IsLater self.old.pass.view.seen self.new.pass.view.seen }
+        ensures failed { IfErr result (AtReadFault (EndsAtFault supplied_files
+            self.old.cache.gate self.old.cache.files.board.files
+            (pass_tap self.old.pass (tap_state self.old.tap))
+            (pass_tap self.new.pass (tap_state self.new.tap)))) }
+        ensures left { LeavesCheck self.old self.new }
     {
         self.begin();
         let waiter = Tries::new(TRIES);

@@ -2,6 +2,7 @@
 //! numbers.
 ghost use Rattle.std.specs.Prelude.{◌≡◌, ◌<◌, length, take, drop, IsTrue, IsFalse};
 ghost use Rattle.texture_sys.specs.Asked.{one_point, one_footprint};
+ghost use Rattle.tex_c.specs.Client.{LeavesFile, LeavesChecked};
 ghost use Rattle.tex_c.specs.Request.{IsPoint, IsFootprint, point_of, footprint_of};
 ghost use Rattle.tex_c.specs.Request.{region_of, told_info};
 ghost use Rattle.tex_c.specs.Calls.{SaysLookup, SaysLocally, SaysInfo, SaysRegion, SaysTile};
@@ -42,10 +43,12 @@ pub struct TexRegion {
 impl Client {
     /// Answers `info`.
     pub(crate) fn say_info(&mut self, file: u32, out: &mut TexInfo, answer: &mut TexAnswer) -> u32
-        ensures { SaysInfo file result answer.new out.new self.old self.new }
+        ensures says { SaysInfo file result answer.new out.new self.old self.new }
+        ensures left { LeavesFile file result self.old self.new }
     {
         *answer = TexAnswer::blank();
         if self.files() <= file {
+            self.end();
             return NO_FILE;
         }
         match self.info(file) {
@@ -67,17 +70,21 @@ impl Client {
         out: &mut [u16],
         answer: &mut TexAnswer,
     ) -> u32
-        ensures { SaysLookup file (IsPoint lookup.now) (one_point (point_of lookup.now))
+        ensures says { SaysLookup file (IsPoint lookup.now) (one_point (point_of lookup.now))
             lookup.now.channels result answer.new out.old out.new self.old self.new }
+        ensures left { LeavesFile file result self.old self.new }
     {
         *answer = TexAnswer::blank();
         if self.files() <= file {
+            self.end();
             return NO_FILE;
         }
         let Some(r) = lookup.point() else {
+            self.end();
             return BAD_REQUEST;
         };
         if out.len() < r.nch as usize {
+            self.end();
             return SMALL_BUFFER;
         }
         match self.texture(file, &r, &mut out[..r.nch as usize]) {
@@ -98,18 +105,22 @@ impl Client {
         out: &mut [u16],
         answer: &mut TexAnswer,
     ) -> u32
-        ensures { SaysLookup file (IsFootprint lookup.now)
+        ensures says { SaysLookup file (IsFootprint lookup.now)
             (one_footprint (footprint_of lookup.now))
             lookup.now.channels result answer.new out.old out.new self.old self.new }
+        ensures left { LeavesFile file result self.old self.new }
     {
         *answer = TexAnswer::blank();
         if self.files() <= file {
+            self.end();
             return NO_FILE;
         }
         let Some(r) = lookup.footprint() else {
+            self.end();
             return BAD_REQUEST;
         };
         if out.len() < r.nch as usize {
+            self.end();
             return SMALL_BUFFER;
         }
         match self.texture_d(file, &r, &mut out[..r.nch as usize]) {
@@ -160,10 +171,12 @@ impl Client {
         out: &mut [u16],
         answer: &mut TexAnswer,
     ) -> u32
-        ensures { SaysRegion file region.now result answer.new out.old out.new self.old self.new }
+        ensures says { SaysRegion file region.now result answer.new out.old out.new self.old self.new }
+        ensures left { LeavesFile file result self.old self.new }
     {
         *answer = TexAnswer::blank();
         if self.files() <= file {
+            self.end();
             return NO_FILE;
         }
         let mut values = Vec::new(self.alloc);
@@ -172,11 +185,11 @@ impl Client {
                 answer.generation = pixels.generation;
                 answer.channels = pixels.channels;
                 answer.value = values.len() as u64;
-                self.end();
                 if copy_out(&values, out) {
+                    self.end();
                     return ANSWERED;
                 }
-                self.count_twice();
+                self.end_repeated();
                 SMALL_BUFFER
             }
             Err(e) => self.refuse(&e, answer),
@@ -185,10 +198,12 @@ impl Client {
 
     /// Answers `get_tile`.
     pub(crate) fn say_get_tile(&mut self, file: u32, at: TexelAt, answer: &mut TexAnswer) -> u32
-        ensures { SaysTile file at result answer.new self.old self.new }
+        ensures says { SaysTile file at result answer.new self.old self.new }
+        ensures left { LeavesFile file result self.old self.new }
     {
         *answer = TexAnswer::blank();
         if self.files() <= file {
+            self.end();
             return NO_FILE;
         }
         match self.get_tile(file, at) {
@@ -203,10 +218,12 @@ impl Client {
 
     /// Answers `invalidate`.
     pub(crate) fn say_invalidate(&mut self, file: u32, force: bool, answer: &mut TexAnswer) -> u32
-        ensures { SaysInvalid file force result answer.new self.old self.new }
+        ensures says { SaysInvalid file force result answer.new self.old self.new }
+        ensures left { LeavesChecked result self.old self.new }
     {
         *answer = TexAnswer::blank();
         if self.files() <= file {
+            self.end();
             return NO_FILE;
         }
         match self.invalidate(file, force) {
@@ -221,7 +238,8 @@ impl Client {
 
     /// Answers `invalidate_all`.
     pub(crate) fn say_invalidate_all(&mut self, answer: &mut TexAnswer) -> u32
-        ensures { SaysAllInvalid result answer.new self.old self.new }
+        ensures says { SaysAllInvalid result answer.new self.old self.new }
+        ensures left { LeavesChecked result self.old self.new }
     {
         *answer = TexAnswer::blank();
         match self.invalidate_all() {

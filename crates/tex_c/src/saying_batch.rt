@@ -5,6 +5,7 @@ ghost use Rattle.texture_sys.specs.Asked.{KeepsOthers, whole};
 ghost use Rattle.texture_sys.specs.Batch.{IsBatchInRange, batch_len};
 ghost use Rattle.texture_sys.specs.Call.{Answers, AnswersFirst, TextureCause, IsWarm, AnswersWarm};
 ghost use Rattle.texture_sys.specs.declared.lookup.Lookups.TheVariants.{Many};
+ghost use Rattle.tex_c.specs.Client.{LeavesRound, LeavesFile};
 ghost use Rattle.tex_c.specs.SuppliedWorld.{supplied_files};
 ghost use Rattle.tex_c.specs.SuppliedTap.{tap_state};
 ghost use Rattle.tex_c.specs.Batch.{SaysBatch};
@@ -40,7 +41,8 @@ impl Client {
             self.old.pass known → AnswersWarm file known.generation
             (sighted self.old.pass.view (tap_state self.old.tap))
             (sighted self.new.pass.view (tap_state self.new.tap)) (whole result)) }
-        ensures cache { self.new.cache ≡ self.old.cache }
+        ensures holds { self.new.pass.pinned.holds ≡ self.old.pass.pinned.holds }
+        ensures left { LeavesRound file self.old self.new }
     {
         self.begin();
         let waiter = Tries::new(TRIES);
@@ -60,25 +62,31 @@ impl Client {
         out: &mut [u16],
         answer: &mut TexBatchAnswer,
     ) -> u32
-        ensures { SaysBatch batch.now places.entry result answer.new out.old out.new
+        ensures says { SaysBatch batch.now places.entry result answer.new out.old out.new
             self.old self.new }
+        ensures left { LeavesFile batch.now.file result self.old self.new }
     {
         *answer = TexBatchAnswer::blank();
         if self.files() <= batch.file {
+            self.end();
             return NO_FILE;
         }
         let Some(options) = batch.options() else {
+            self.end();
             return BAD_REQUEST;
         };
         let asked = Batch { options, places };
         if let Some(i) = asked.first_out_of_range() {
             answer.done = i as u64;
+            self.end();
             return BAD_REQUEST;
         }
         let Some(count) = places.len().checked_mul(options.channels() as usize) else {
+            self.end();
             return SMALL_BUFFER;
         };
         if out.len() < count {
+            self.end();
             return SMALL_BUFFER;
         }
         match self.texture_many(batch.file, asked, &mut out[..count]) {

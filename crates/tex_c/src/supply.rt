@@ -1,5 +1,5 @@
 //! What a call needs, and what the caller can supply.
-ghost use Rattle.std.specs.Prelude.{◌≡◌, ◌≤◌, length, IfSome};
+ghost use Rattle.std.specs.Prelude.{◌≡◌, ◌≤◌, length, IfSome, IsNone};
 ghost use Rattle.tex_world.specs.World.{last_generation};
 ghost use Rattle.tex_c.specs.Truth.{IsTrueLook, AreTrueBytes, AreTrueRows};
 
@@ -92,11 +92,15 @@ pub struct Part {
 }
 
 impl Part {
+    ghost use Rattle.tex_c.specs.SuppliedTap.{Covers};
+
     /// The `size` bytes of a handle's file at `at`, if this part has all of them.
-    fn slice(&self, handle: &SuppliedHandle, at: u64, size: usize) -> Option<&[u8]>
+    pub(crate) fn slice(&self, handle: &SuppliedHandle, at: u64, size: usize) -> Option<&[u8]>
         ensures long { IfSome result (λ bytes. length bytes.now ≡ size) }
         ensures told { IfSome result (λ bytes.
             AreTrueBytes handle.now.file handle.now.generation at bytes.now) }
+        ensures none { IsNone result
+            → ¬ Covers self.now handle.now.file handle.now.generation at size }
     {
         if self.file != handle.file() || self.generation != handle.generation() {
             return None;
@@ -110,25 +114,6 @@ impl Part {
     }
 }
 
-/// The `size` bytes of a handle's file at `at`, if one of the parts has all of them.
-pub(crate) fn supplied<'a>(
-    parts: &'a [Part],
-    handle: &SuppliedHandle,
-    at: u64,
-    size: usize,
-) -> Option<&'a [u8]>
-    ensures long { IfSome result (λ bytes. length bytes.now ≡ size) }
-    ensures told { IfSome result (λ bytes.
-        AreTrueBytes handle.now.file handle.now.generation at bytes.now) }
-{
-    for part in parts {
-        if let Some(bytes) = part.slice(handle, at, size) {
-            return Some(bytes);
-        }
-    }
-    None
-}
-
 /// Supplied rows.
 #[derive(Drop)]
 pub struct RowsPart {
@@ -137,19 +122,22 @@ pub struct RowsPart {
     ghost told: { AreTrueRows place bytes.items },
 }
 
-/// The bytes of these rows, `size` together, if they were supplied.
-pub(crate) fn supplied_rows<'a>(
-    parts: &'a [RowsPart],
-    place: &RowsAt,
-    size: usize,
-) -> Option<&'a [u8]>
-    ensures long { IfSome result (λ bytes. length bytes.now ≡ size) }
-    ensures told { IfSome result (λ bytes. AreTrueRows place.now bytes.now) }
-{
-    for part in parts {
-        if part.place == *place && part.bytes.len() == size {
-            return Some(&part.bytes[..]);
+impl RowsPart {
+    ghost use Rattle.tex_c.specs.SuppliedTap.{HasRows};
+
+    /// The bytes, if they are those of these rows, `size` together.
+    pub(crate) fn all(&self, place: &RowsAt, size: usize) -> Option<&[u8]>
+        ensures long { IfSome result (λ bytes. length bytes.now ≡ size) }
+        ensures told { IfSome result (λ bytes. AreTrueRows place.now bytes.now) }
+        ensures none { IsNone result → ¬ HasRows self.now place.now size }
+    {
+        if self.place != *place {
+            return None;
         }
+        let bytes = &self.bytes[..];
+        if bytes.len() != size {
+            return None;
+        }
+        Some(bytes)
     }
-    None
 }

@@ -2,8 +2,8 @@
 ghost use Rattle.std.specs.Prelude.{◌≡◌, length, IfSome};
 ghost use Rattle.tex_c.specs.Truth.{IsTrueLook, AreTrueLooks, AreTrueBytes, AreTrueRows};
 ghost use Rattle.tex_c.specs.Supply.{FitsLook, FitsBytes, FitsRows};
-ghost use Rattle.tex_c.specs.Exports.{KeepsRest, SaysLook, SaysLooks, SaysBytes, SaysRows};
-ghost use Rattle.tex_c.specs.SuppliedTap.{KeepsSupplies};
+ghost use Rattle.tex_c.specs.Exports.{KeepsClient, SaysLook, SaysLooks, SaysBytes, SaysRows};
+ghost use Rattle.tex_c.specs.Exports.{SaysFault};
 
 use crate::answer::{ANSWERED, supply_code_of};
 use crate::bytes::Bytes;
@@ -15,7 +15,7 @@ impl Client {
     pub(crate) fn supply_look(&mut self, file: u32, generation: u32, len: u64) -> u32
         requires told { FitsLook self.old.tap.need file generation
             → IsTrueLook file generation len }
-        ensures { SaysLook file generation result self.old self.new }
+        ensures { SaysLook file generation len result self.old self.new }
     {
         match self.tap.supply_look(file, generation, len) {
             Ok(()) => ANSWERED,
@@ -37,8 +37,7 @@ impl Client {
     /// Makes a buffer of `size` bytes. `None` if out of memory.
     pub(crate) fn room(&mut self, size: usize) -> Option<Bytes>
         ensures size { IfSome result (λ bytes. length bytes.items.items ≡ size) }
-        ensures rest { KeepsRest self.old self.new }
-        ensures same { KeepsSupplies self.old.tap self.new.tap }
+        ensures same { KeepsClient self.old self.new }
     {
         match self.tap.room(size) {
             Some(items) => Some(Bytes { items }),
@@ -48,8 +47,7 @@ impl Client {
 
     /// Takes back a buffer that is not needed.
     pub(crate) fn give_back(&mut self, bytes: Bytes)
-        ensures rest { KeepsRest self.old self.new }
-        ensures same { KeepsSupplies self.old.tap self.new.tap }
+        ensures same { KeepsClient self.old self.new }
     {
         self.tap.give_back(bytes.items);
     }
@@ -58,7 +56,7 @@ impl Client {
     pub(crate) fn supply_bytes(&mut self, file: u32, generation: u32, at: u64, bytes: Bytes) -> u32
         requires told { FitsBytes self.old.tap.need file generation at (length bytes.items.items)
             → AreTrueBytes file generation at bytes.items.items }
-        ensures { SaysBytes file generation at (length bytes.items.items) result self.old self.new }
+        ensures { SaysBytes file generation at bytes.items.items result self.old self.new }
     {
         if let Err(e) = self.tap.supply_bytes(file, generation, at, bytes.items) {
             return supply_code_of(e);
@@ -70,7 +68,7 @@ impl Client {
     pub(crate) fn supply_rows(&mut self, place: RowsAt, bytes: Bytes) -> u32
         requires told { FitsRows self.old.tap.need place (length bytes.items.items)
             → AreTrueRows place bytes.items.items }
-        ensures { SaysRows place (length bytes.items.items) result self.old self.new }
+        ensures { SaysRows place bytes.items.items result self.old self.new }
     {
         if let Err(e) = self.tap.supply_rows(place, bytes.items) {
             return supply_code_of(e);
@@ -80,8 +78,7 @@ impl Client {
 
     /// Says that what the call needs cannot be read.
     pub(crate) fn supply_fault(&mut self) -> u32
-        ensures rest { KeepsRest self.old self.new }
-        ensures same { KeepsSupplies self.old.tap self.new.tap }
+        ensures { SaysFault result self.old self.new }
     {
         match self.tap.supply_fault() {
             Ok(()) => ANSWERED,

@@ -1,11 +1,13 @@
 //! Checks each supply against what the current call needs, and keeps it.
 ghost use Rattle.std.specs.Prelude.{◌≡◌, ◌⊎◌, ◌+◌, ◌<◌, ◌≤◌, None, length, IsTrue, IsFalse};
-ghost use Rattle.std.specs.Prelude.{IfErr, IfSome, IsNone, OnErr, OnOk};
+ghost use Rattle.std.specs.Prelude.{IfErr, IfSome, IsNone, IsSome, OnErr, OnOk};
 ghost use Rattle.tex_world.specs.World.{last_generation};
 ghost use Rattle.tex_c.specs.Truth.{IsTrueLook, AreTrueLooks, AreTrueBytes, AreTrueRows};
-ghost use Rattle.tex_c.specs.Supply.{FitsLook, FitsBytes, FitsRows, LacksLook, AreElsewhere};
-ghost use Rattle.tex_c.specs.Supply.{LookCause, LooksCause, BytesCause, RowsCause};
-ghost use Rattle.tex_c.specs.SuppliedTap.{tap_state, KeepsBytes, KeepsSupplies};
+ghost use Rattle.tex_c.specs.Supply.{FitsLook, FitsLooks, FitsBytes, FitsRows, LacksLook};
+ghost use Rattle.tex_c.specs.Supply.{AreElsewhere};
+ghost use Rattle.tex_c.specs.Supply.{LookCause, LooksCause, BytesCause, RowsCause, FaultCause};
+ghost use Rattle.tex_c.specs.SuppliedTap.{KeepsTap, TakesLook, TakesLooks, TakesBytes, TakesRows};
+ghost use Rattle.tex_c.specs.SuppliedTap.{TakesFault, Extends};
 
 use crate::supply::{Look, Need, Part, RowsAt, RowsPart, Seen, SupplyError};
 use crate::tap::{SuppliedTap, keep_spare};
@@ -21,7 +23,10 @@ struct Wanted {
 impl SuppliedTap {
     /// Says that what the call needs cannot be read.
     pub fn supply_fault(&mut self) -> Result<(), SupplyError>
-        ensures same { KeepsSupplies self.old self.new }
+        ensures ok { OnOk result (TakesFault self.old self.new) }
+        ensures needed { OnOk result (IsSome self.old.need) }
+        ensures cause { IfErr result (FaultCause self.old.need) }
+        ensures err { OnErr result (KeepsTap self.old self.new) }
     {
         if self.need.is_none() {
             return Err(SupplyError::NotNeeded);
@@ -35,9 +40,10 @@ impl SuppliedTap {
     /// newer.
     pub fn supply_look(&mut self, file: u32, generation: u32, len: u64) -> Result<(), SupplyError>
         requires told { FitsLook self.old.need file generation → IsTrueLook file generation len }
-        ensures same { KeepsSupplies self.old self.new }
+        ensures ok { OnOk result (TakesLook file generation len self.old self.new) }
         ensures fits { OnOk result (FitsLook self.old.need file generation) }
         ensures cause { IfErr result (LookCause self.old.need file generation) }
+        ensures err { OnErr result (KeepsTap self.old self.new) }
     {
         let Some(wanted) = wanted_look(self.need) else {
             return Err(SupplyError::NotNeeded);
@@ -69,8 +75,10 @@ impl SuppliedTap {
     /// call needs next, and ignored if their generation is out of range.
     pub fn supply_looks(&mut self, looks: &[Seen]) -> Result<(), SupplyError>
         requires told { AreTrueLooks looks.now }
-        ensures same { KeepsSupplies self.old self.new }
+        ensures ok { OnOk result (TakesLooks looks.now self.old self.new) }
+        ensures fits { OnOk result (FitsLooks self.old.need looks.now) }
         ensures cause { IfErr result (LooksCause self.old.need looks.now) }
+        ensures err { OnErr result (KeepsTap self.old self.new) }
     {
         let Some(first) = looks.first() else {
             return Err(SupplyError::Short);
@@ -83,7 +91,7 @@ impl SuppliedTap {
     /// A buffer of `size` bytes, a used one if possible. `None` if out of memory.
     pub fn room(&mut self, size: usize) -> Option<Vec<u8>>
         ensures size { IfSome result (λ bytes. length bytes.items ≡ size) }
-        ensures same { KeepsSupplies self.old self.new }
+        ensures same { KeepsTap self.old self.new }
     {
         let mut bytes = match self.spare.pop() {
             Some(bytes) => bytes,
@@ -97,7 +105,7 @@ impl SuppliedTap {
 
     /// Takes back a buffer that is not needed.
     pub fn give_back(&mut self, bytes: Vec<u8>)
-        ensures same { KeepsSupplies self.old self.new }
+        ensures same { KeepsTap self.old self.new }
     {
         keep_spare(&mut self.spare, bytes);
     }
@@ -113,12 +121,12 @@ impl SuppliedTap {
     ) -> Result<(), SupplyError>
         requires told { FitsBytes self.old.need file generation at (length bytes.items)
             → AreTrueBytes file generation at bytes.items }
-        ensures state { tap_state self.new ≡ tap_state self.old }
-        ensures err { OnErr result (KeepsBytes self.old self.new) }
+        ensures ok { OnOk result (TakesBytes file generation at bytes.items self.old self.new) }
         ensures fits { OnOk result
             (FitsBytes self.old.need file generation at (length bytes.items)) }
         ensures cause { IfErr result
             (BytesCause self.old.need file generation at (length bytes.items)) }
+        ensures err { OnErr result (KeepsTap self.old self.new) }
     {
         if let Err(e) = fits_bytes(self.need, file, generation, at, bytes.len() as u64) {
             keep_spare(&mut self.spare, bytes);
@@ -130,35 +138,31 @@ impl SuppliedTap {
             at,
             bytes,
         };
-        match self.parts.push(part) {
-            Ok(()) => {
-                self.need = None;
-                Ok(())
-            }
-            Err(_) => Err(SupplyError::NoMemory),
+        if let Err(_refused) = self.parts.push(part) {
+            return Err(SupplyError::NoMemory);
         }
+        self.need = None;
+        Ok(())
     }
 
     /// Supplies rows. The tap keeps the buffer even if they are not accepted.
     pub fn supply_rows(&mut self, place: RowsAt, bytes: Vec<u8>) -> Result<(), SupplyError>
         requires told { FitsRows self.old.need place (length bytes.items)
             → AreTrueRows place bytes.items }
-        ensures state { tap_state self.new ≡ tap_state self.old }
-        ensures err { OnErr result (KeepsBytes self.old self.new) }
+        ensures ok { OnOk result (TakesRows place bytes.items self.old self.new) }
         ensures fits { OnOk result (FitsRows self.old.need place (length bytes.items)) }
         ensures cause { IfErr result (RowsCause self.old.need place (length bytes.items)) }
+        ensures err { OnErr result (KeepsTap self.old self.new) }
     {
         if let Err(e) = fits_rows(self.need, &place, bytes.len() as u64) {
             keep_spare(&mut self.spare, bytes);
             return Err(e);
         }
-        match self.rows.push(RowsPart { place, bytes }) {
-            Ok(()) => {
-                self.need = None;
-                Ok(())
-            }
-            Err(_) => Err(SupplyError::NoMemory),
+        if let Err(_refused) = self.rows.push(RowsPart { place, bytes }) {
+            return Err(SupplyError::NoMemory);
         }
+        self.need = None;
+        Ok(())
     }
 }
 
@@ -173,6 +177,7 @@ fn is_generation(generation: u32) -> bool
 /// Keeps the looks whose generation is in range. Those for which memory is short are dropped.
 fn keep_looks(kept: &mut Vec<Look>, looks: &[Seen])
     requires told { AreTrueLooks looks.now }
+    ensures { Extends kept.old.items kept.new.items }
 {
     for seen in looks {
         if is_generation(seen.generation) {

@@ -1,13 +1,23 @@
 //! A tap whose bytes the caller supplies.
-ghost use Rattle.std.specs.Prelude.{◌≡◌, ◌+◌, ◌≤◌, [], IsTrue, IfSome};
-ghost use Rattle.tex_world.specs.Tap.{IsNew};
+ghost use Rattle.std.specs.Prelude.{◌≡◌, ◌+◌, ◌≤◌, [], true, false, IsTrue, IsFalse, IfSome};
+ghost use Rattle.std.specs.Prelude.{IsNone, length, slice_index, IfOk, IfErr, OnOk, OnErr};
+ghost use Rattle.std.specs.List.{EachIndex};
+ghost use Rattle.std.specs.Option.{ForSome};
+ghost use Rattle.tex_world.specs.Counts.{Rises};
+ghost use Rattle.tex_world.specs.World.{IsReal};
+ghost use Rattle.tex_world.specs.Tap.{IsNew, Opens, OpenCause, AfterOpen, AfterNewest, AfterRead};
+ghost use Rattle.tex_world.specs.Tap.{ReadCause, IsFault, AreRows, HoldsRows};
 ghost use Rattle.tex_c.specs.Truth.{AreTrueBytes, AreTrueRows};
-ghost use Rattle.tex_c.specs.SuppliedTap.{tap_state, parts_of, rows_of};
+ghost use Rattle.tex_c.specs.SuppliedHandle.{handle_named};
+ghost use Rattle.tex_c.specs.SuppliedWorld.{supplied_files};
+ghost use Rattle.tex_c.specs.SuppliedTap.{tap_state, looks_of, parts_of, rows_of, HasNoSupplies};
+ghost use Rattle.tex_c.specs.SuppliedTap.{IsOneOf, LacksLookAt, LacksPartAt, LacksRowsAt, IsUnread};
+ghost use Rattle.tex_c.specs.SuppliedTap.{KeepsLooks, rows_at, bytes_needed};
 ghost use Rattle.tex_c.specs.SuppliedTap.{AddsFault, AddsMove, AddsLoss};
 ghost use Rattle.tex_c.specs.SuppliedTap.{KeepsBytes, KeepsSupplies};
 
 use crate::handle::SuppliedHandle;
-use crate::supply::{Look, Need, Part, RowsAt, RowsPart, supplied, supplied_rows};
+use crate::supply::{Look, Need, Part, RowsAt, RowsPart};
 use crate::world::SuppliedWorld;
 use std::alloc::Global;
 use tex_world::{Failed, OpenError, ReadError, Tap, TapHandle};
@@ -43,8 +53,7 @@ impl SuppliedTap {
     /// A tap without calls and supplies.
     pub fn new(alloc: Global) -> SuppliedTap
         ensures new { IsNew (tap_state result) }
-        ensures parts { parts_of result ≡ [] }
-        ensures rows { rows_of result ≡ [] }
+        ensures none { HasNoSupplies result }
     {
         SuppliedTap {
             alloc,
@@ -74,7 +83,9 @@ impl SuppliedTap {
     /// Begins a call, or continues it with what was supplied.
     #[inline(always)]
     pub fn begin(&mut self)
-        ensures same { KeepsSupplies self.old self.new }
+        ensures state { tap_state self.new ≡ tap_state self.old }
+        ensures need { self.new.need ≡ None }
+        ensures supplies { KeepsSupplies self.old self.new }
     {
         // rarely set: testing is cheaper than writing
         if self.need.is_some() {
@@ -86,8 +97,7 @@ impl SuppliedTap {
     #[inline(always)]
     pub fn end(&mut self)
         ensures state { tap_state self.new ≡ tap_state self.old }
-        ensures parts { parts_of self.new ≡ [] }
-        ensures rows { rows_of self.new ≡ [] }
+        ensures none { HasNoSupplies self.new }
     {
         self.begin();
         self.failed = false;
@@ -105,7 +115,8 @@ impl SuppliedTap {
     /// Counts an I/O error.
     fn count_fault(&mut self)
         ensures adds { AddsFault (tap_state self.old) (tap_state self.new) }
-        ensures bytes { KeepsBytes self.old self.new }
+        ensures supplies { KeepsSupplies self.old self.new }
+        ensures need { self.new.need ≡ self.old.need }
     {
         self.faults = self.faults.saturating_add(1);
     }
@@ -113,7 +124,7 @@ impl SuppliedTap {
     /// Counts that a newer generation was met.
     fn count_move(&mut self)
         ensures adds { AddsMove (tap_state self.old) (tap_state self.new) }
-        ensures bytes { KeepsBytes self.old self.new }
+        ensures supplies { KeepsSupplies self.old self.new }
     {
         self.moves = self.moves.saturating_add(1);
     }
@@ -121,7 +132,7 @@ impl SuppliedTap {
     /// Counts a read that failed because a newer generation was met.
     fn count_loss(&mut self)
         ensures adds { AddsLoss (tap_state self.old) (tap_state self.new) }
-        ensures bytes { KeepsBytes self.old self.new }
+        ensures supplies { KeepsSupplies self.old self.new }
     {
         self.moves = self.moves.saturating_add(1);
         self.lost = self.lost.saturating_add(1);
@@ -130,7 +141,9 @@ impl SuppliedTap {
     /// Records what is needed, unless the caller said that it cannot be read. Counts an I/O error.
     fn lack(&mut self, need: Need)
         ensures adds { AddsFault (tap_state self.old) (tap_state self.new) }
-        ensures bytes { KeepsBytes self.old self.new }
+        ensures supplies { KeepsSupplies self.old self.new }
+        ensures need { self.old.failed ≡ false → self.new.need ≡ Some need }
+        ensures failed { self.old.failed ≡ true → self.new.need ≡ self.old.need }
     {
         if !self.failed {
             self.need = Some(need);
@@ -140,14 +153,18 @@ impl SuppliedTap {
 
     /// The last supplied look at this file whose generation is at least `least`.
     fn look(&self, file: u32, least: u32) -> Option<Look>
-        ensures { IfSome result (λ look. (look.file ≡ file) × (least ≤ look.generation)) }
+        ensures some { IfSome result (λ look. IsOneOf look (looks_of self.now)
+            × (look.file ≡ file) × (least ≤ look.generation)) }
+        ensures none { IsNone result → LacksLookAt (looks_of self.now) file least }
     {
         latest_look(&self.looks, file, least)
     }
 
     /// Copies supplied bytes to the buffer. False if they were not supplied.
     fn fill(&self, h: &SuppliedHandle, at: u64, buf: &mut [u8]) -> bool
-        ensures { IsTrue result → AreTrueBytes h.now.file h.now.generation at buf.new }
+        ensures told { IsTrue result → AreTrueBytes h.now.file h.now.generation at buf.new }
+        ensures none { IsFalse result
+            → LacksPartAt (parts_of self.now) (handle_named h.now) at (length buf.old) }
     {
         match supplied(&self.parts, h, at, buf.len()) {
             Some(bytes) => {
@@ -160,7 +177,9 @@ impl SuppliedTap {
 
     /// Copies supplied rows to the buffer. False if they were not supplied.
     fn fill_rows(&self, place: &RowsAt, buf: &mut [u8]) -> bool
-        ensures { IsTrue result → AreTrueRows place.now buf.new }
+        ensures told { IsTrue result → AreTrueRows place.now buf.new }
+        ensures none { IsFalse result
+            → LacksRowsAt (rows_of self.now) place.now (length buf.old) }
     {
         match supplied_rows(&self.rows, place, buf.len()) {
             Some(bytes) => {
@@ -174,11 +193,53 @@ impl SuppliedTap {
 
 /// The last of the looks at this file whose generation is at least `least`.
 fn latest_look(looks: &[Look], file: u32, least: u32) -> Option<Look>
-    ensures { IfSome result (λ look. (look.file ≡ file) × (least ≤ look.generation)) }
+    ensures some { IfSome result (λ look. IsOneOf look looks.now
+        × (look.file ≡ file) × (least ≤ look.generation)) }
+    ensures none { IsNone result → LacksLookAt looks.now file least }
 {
-    for look in looks.iter().rev() {
+    let count = looks.len();
+    'looks: for k in 0..count {
+        let look = looks[count - 1 - k];
         if look.file == file && least <= look.generation {
-            return Some(*look);
+            return Some(look);
+        }
+    }
+    None
+}
+
+/// The `size` bytes of a handle's file at `at`, if one of the parts has all of them.
+fn supplied<'a>(
+    parts: &'a [Part],
+    handle: &SuppliedHandle,
+    at: u64,
+    size: usize,
+) -> Option<&'a [u8]>
+    ensures long { IfSome result (λ bytes. length bytes.now ≡ size) }
+    ensures told { IfSome result (λ bytes.
+        AreTrueBytes handle.now.file handle.now.generation at bytes.now) }
+    ensures none { IsNone result → LacksPartAt parts.now (handle_named handle.now) at size }
+{
+    for part in parts {
+        if let Some(bytes) = part.slice(handle, at, size) {
+            return Some(bytes);
+        }
+    }
+    None
+}
+
+/// The bytes of these rows, `size` together, if they were supplied.
+fn supplied_rows<'a>(
+    parts: &'a [RowsPart],
+    place: &RowsAt,
+    size: usize,
+) -> Option<&'a [u8]>
+    ensures long { IfSome result (λ bytes. length bytes.now ≡ size) }
+    ensures told { IfSome result (λ bytes. AreTrueRows place.now bytes.now) }
+    ensures none { IsNone result → LacksRowsAt parts.now place.now size }
+{
+    for part in parts {
+        if let Some(bytes) = part.all(place, size) {
+            return Some(bytes);
         }
     }
     None
@@ -223,7 +284,17 @@ impl Tap for SuppliedTap {
     ghost state = { tap_state };
 
     /// Answers from the last supplied look at the file.
-    fn open(&mut self, _alloc: Global, file: u32, least: u32) -> Result<SuppliedHandle, OpenError> {
+    fn open(&mut self, _alloc: Global, file: u32, least: u32) -> Result<SuppliedHandle, OpenError>
+        ensures ok { IfOk result (λ h. Opens supplied_files file least (handle_named h)) }
+        ensures cause { IfErr result (OpenCause (tap_state self.old) (tap_state self.new)) }
+        ensures counts { AfterOpen handle_named least
+            (tap_state self.old) (tap_state self.new) result }
+        // It fails only if no such look was supplied. What was supplied stays.
+        ensures lacks { OnErr result (LacksLookAt (looks_of self.old) file least) }
+        ensures needs { OnErr result (self.old.failed ≡ false
+            → self.new.need ≡ Some (Need.Look file least)) }
+        ensures supplies { KeepsSupplies self.old self.new }
+    {
         self.calls = self.calls.saturating_add(1);
         self.opens = self.opens.saturating_add(1);
         match self.look(file, least) {
@@ -241,7 +312,18 @@ impl Tap for SuppliedTap {
     }
 
     /// Answers from the last supplied look at the file.
-    fn newest(&mut self, file: u32, least: u32) -> Result<u32, Failed> {
+    fn newest(&mut self, file: u32, least: u32) -> Result<u32, Failed>
+        ensures real { IfOk result (IsReal supplied_files file) }
+        ensures least { IfOk result (λ g. least ≤ g) }
+        ensures cause { IfErr result (λ _.
+            Rises (tap_state self.old).faults (tap_state self.new).faults) }
+        ensures counts { AfterNewest file (tap_state self.old) (tap_state self.new) result }
+        // It fails only if no such look was supplied. What was supplied stays.
+        ensures lacks { OnErr result (LacksLookAt (looks_of self.old) file least) }
+        ensures needs { OnErr result (self.old.failed ≡ false
+            → self.new.need ≡ Some (Need.Look file least)) }
+        ensures supplies { KeepsSupplies self.old self.new }
+    {
         self.calls = self.calls.saturating_add(1);
         match self.look(file, least) {
             Some(look) => {
@@ -263,7 +345,25 @@ impl Tap for SuppliedTap {
         h: &mut SuppliedHandle,
         at: u64,
         buf: &mut [u8],
-    ) -> Result<(), ReadError> {
+    ) -> Result<(), ReadError>
+        requires { at + length buf.old ≤ (handle_named h.old).len }
+        ensures bytes { OnOk result (ForSome
+            (supplied_files.held (handle_named h.old).file (handle_named h.old).generation)
+            (λ bytes. EachIndex buf.new (λ k.
+            slice_index buf.new k ≡ slice_index bytes (at + k)))) }
+        ensures handle { handle_named h.new ≡ handle_named h.old }
+        ensures cause { IfErr result (ReadCause supplied_files (handle_named h.old)
+            (tap_state self.old) (tap_state self.new)) }
+        ensures counts { AfterRead (tap_state self.old) (tap_state self.new) result }
+        // It fails only if the bytes were not supplied, or a newer generation was. What was supplied
+        // stays.
+        ensures unread { IfErr result (IsUnread self.old (handle_named h.old).file
+            (LacksPartAt (parts_of self.old) (handle_named h.old) at (length buf.old))) }
+        ensures needs { IfErr result (λ e. IsFault e → self.old.failed ≡ false → self.new.need
+            ≡ Some (bytes_needed (handle_named h.old) at (length buf.old))) }
+        ensures keeps { KeepsBytes self.old self.new }
+        ensures looks { KeepsLooks self.old self.new }
+    {
         self.calls = self.calls.saturating_add(1);
         if let Some(look) = self.look(h.file(), h.generation() + 1) {
             self.count_loss();
@@ -284,7 +384,25 @@ impl Tap for SuppliedTap {
         stride: u64,
         row: usize,
         buf: &mut [u8],
-    ) -> Result<(), ReadError> {
+    ) -> Result<(), ReadError>
+        requires { AreRows at stride row (length buf.old) (handle_named h.old).len }
+        ensures bytes { OnOk result (ForSome
+            (supplied_files.held (handle_named h.old).file (handle_named h.old).generation)
+            (λ bytes. HoldsRows bytes at stride row buf.new)) }
+        ensures handle { handle_named h.new ≡ handle_named h.old }
+        ensures cause { IfErr result (ReadCause supplied_files (handle_named h.old)
+            (tap_state self.old) (tap_state self.new)) }
+        ensures counts { AfterRead (tap_state self.old) (tap_state self.new) result }
+        // It fails only if the rows were not supplied, or a newer generation was. What was supplied
+        // stays.
+        ensures unread { IfErr result (IsUnread self.old (handle_named h.old).file
+            (LacksRowsAt (rows_of self.old) (rows_at (handle_named h.old) at stride row)
+            (length buf.old))) }
+        ensures needs { IfErr result (λ e. IsFault e → self.old.failed ≡ false → self.new.need
+            ≡ Some (Need.Rows (rows_at (handle_named h.old) at stride row) (length buf.old))) }
+        ensures keeps { KeepsBytes self.old self.new }
+        ensures looks { KeepsLooks self.old self.new }
+    {
         self.calls = self.calls.saturating_add(1);
         if let Some(look) = self.look(h.file(), h.generation() + 1) {
             self.count_loss();
@@ -314,8 +432,11 @@ impl SuppliedTap {
     /// are kept too, so that the repeated call can open the file again.
     fn lack_bytes(&mut self, h: &SuppliedHandle, at: u64, size: usize)
         requires inside { at + size ≤ h.now.len }
+        ensures needs { self.old.failed ≡ false
+            → self.new.need ≡ Some (bytes_needed (handle_named h.now) at size) }
         ensures adds { AddsFault (tap_state self.old) (tap_state self.new) }
         ensures bytes { KeepsBytes self.old self.new }
+        ensures looks { KeepsLooks self.old self.new }
     {
         self.remember(h);
         self.lack(Need::Bytes {
@@ -329,7 +450,10 @@ impl SuppliedTap {
 
     /// Keeps the handle's generation and length, if none are kept and memory is there.
     fn remember(&mut self, h: &SuppliedHandle)
-        ensures same { KeepsSupplies self.old self.new }
+        ensures state { tap_state self.new ≡ tap_state self.old }
+        ensures bytes { KeepsBytes self.old self.new }
+        ensures looks { KeepsLooks self.old self.new }
+        ensures need { self.new.need ≡ self.old.need }
     {
         if self.look(h.file(), h.generation()).is_some() {
             return;

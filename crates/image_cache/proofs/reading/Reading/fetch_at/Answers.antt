@@ -1,12 +1,14 @@
 -- The values are those that `fetch` promises.
-use Rattle.std.proofs.Common.{subst}
+use Rattle.std.proofs.Common.{refl, subst}
 use Rattle.std.specs.Prelude.{OnOk}
 use Rattle.std.specs.Option.{ForSome}
 use Rattle.file_table.specs.Record.{RecordState}
 use Rattle.texel_values.specs.Values.{AreValuesAt}
 use Rattle.tile_layout.specs.Value.{channel_value_of}
 use Rattle.texel_filter.specs.Image.{Values, AreValues}
-use Rattle.image_cache.proofs.FetchLemmas.{at_mapped}
+use Rattle.texel_filter.specs.Image.{texel_of}
+use Rattle.image_cache.specs.Reading.{pass_tap}
+use Rattle.image_cache.proofs.FetchLemmas.{at_mapped, fetches_ok, on_ok}
 use Rattle.image_cache.proofs.reading.Reading.fetch_at.Goals as goal
 
 pub returns-clause-told : goal.returns-clause-told
@@ -18,3 +20,17 @@ returns-clause-told g c values is =
     (λ bytes. OnOk c.fetch.result (AreValuesAt bytes
     (record { level = c.args.level; x = c.args.x; y = c.args.y }) c.fetch.new.out)))
     c.record-known.ensures.value c.fetch.ensures.value)
+
+pub returns-clause-ok : goal.returns-clause-ok
+returns-clause-ok g c =
+    let self = c.args.self.now in
+    let done = c.fetch.ensures in
+    on_ok c.fetch.result (λ left. record {
+      call = record { cache = refl; known = refl; pass_name = refl; tap_name = refl };
+      left = left;
+    }) (fetches_ok g.T.W.World.files self.cache.now.gate c.record-known.result.now self.known.now
+    (texel_of c.args.level c.args.x c.args.y)
+    (pass_tap self.pass.now (g.T.Tap.state self.tap.now))
+    (pass_tap c.fetch.new.pass (g.T.Tap.state c.fetch.new.tap)) c.fetch.result
+    c.record-known.ensures.value done.need done.apart done.asked done.needs done.same done.tap
+    done.visits done.warm done.moved)
