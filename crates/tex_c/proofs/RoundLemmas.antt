@@ -56,7 +56,7 @@ told_dropped a c drops =
 
 call_none : (file : ℕ) (pass : PassState) → AfterCall file pass pass
 call_none file pass = record {
-  place = record { board = refl; gate = refl; cut = refl; permits = refl };
+  place = record { board = refl; gate = refl; cut = refl; permits = refl; joined = refl };
   view = record {
     board = refl;
     later = λ f. omega arith;
