@@ -11,7 +11,6 @@ use Rattle.tex_world.specs.Tap.{TapState}
 use Rattle.gen_board.specs.View.{ViewState, KeepsLooks}
 use Rattle.shard_gate.specs.Gate.{GateState, PinSeatState}
 use Rattle.shard_gate.specs.Since.{PurgesNone, Misses}
-use Rattle.shard_gate.specs.declared.error.PinError.TheVariants as unpinned
 use Rattle.shard_gate.proofs.SinceLemmas.{purges_none_chain, misses_before}
 use Rattle.file_table.specs.Calls.{KeepsView}
 use Rattle.file_table.specs.Record.{RecordState}

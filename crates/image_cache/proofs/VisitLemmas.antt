@@ -1,6 +1,6 @@
 -- Which visits do the steps of a call make, one after another, and did one of them miss a cell?
-use Rattle.std.proofs.Common.{◌≡◌, ◌⊎◌, ℕ, inl, inr, sym, ap, subst, List, [], ◌∷◌}
-use Rattle.std.specs.Prelude.{IsTrue, IfOk}
+use Rattle.std.proofs.Common.{◌≡◌, ◌⊎◌, inl, inr, sym, ap, subst, List, [], ◌∷◌}
+use Rattle.std.specs.Prelude.{IsTrue}
 use Rattle.std.specs.List.{All}
 use Rattle.std.proofs.lemmas.List.Elements.{All-head}
 use Rattle.tex_world.specs.World.{Files}
@@ -10,13 +10,12 @@ use Rattle.tile_store.specs.Lawful.{FitsCut}
 use Rattle.shard_gate.specs.Gate.{GateState, PinSeatState}
 use Rattle.shard_gate.specs.Since.{PurgesNone, Misses}
 use Rattle.shard_gate.proofs.SinceLemmas.{purges_none}
-use Rattle.shard_gate.proofs.SinceLemmas.{misses_before}
 use Rattle.file_table.specs.Record.{RecordState, IsRecord}
 use Rattle.texel_values.specs.declared.texel_at.TexelAt.{TexelAt}
 use Rattle.pinned_tiles.specs.declared.cell.CellAt.{CellAt}
 use Rattle.pinned_tiles.specs.Cell.{HasFirst, StandsFirst}
 use Rattle.image_cache.specs.Pass.{PassState}
-use Rattle.image_cache.specs.Texel.{IsCellIn, IsCellOf, cell_of}
+use Rattle.image_cache.specs.Texel.{IsCellIn, IsCellOf}
 use Rattle.image_cache.specs.Call.{HasNoCall, MissesCellAt}
 use Rattle.image_cache.proofs.TexelLemmas.{at_cell}
 use Rattle.image_cache.proofs.NeedLemmas.{told_is_tile}

@@ -2,7 +2,6 @@
 use Rattle.std.proofs.Common.{◌≡◌, None, ◌+◌, ◌*◌}
 use Rattle.tile_layout.specs.Key.{level_of}
 use Rattle.tile_load.specs.Halving.{part_count}
-use Rattle.image_cache.specs.declared.error.CacheError.{CacheError}
 use Rattle.image_cache.specs.Making.{Halves}
 use Rattle.image_cache.specs.Reading.{Makes}
 use Rattle.image_cache.proofs.reading.Reading.+making.Given as goal

@@ -1,5 +1,5 @@
 -- The tile is taken in hand, and then placed.
-use Rattle.std.proofs.Common.{◌∙◌, ap, inl, sym, subst, List}
+use Rattle.std.proofs.Common.{◌∙◌, ap, sym, subst, List}
 use Rattle.micro.specs.Items.{HasKey}
 use Rattle.tile_store.specs.Tile.{CachedTile}
 use Rattle.pinned_tiles.specs.Pinned.{key_in}

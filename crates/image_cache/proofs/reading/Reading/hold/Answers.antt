@@ -1,7 +1,4 @@
 -- The tile is taken in hand, and then held.
-use Rattle.std.proofs.Common.{◌≡◌, ◌∙◌, ◌++◌, ◌∷◌, [], List, Option, None, Some, ap}
-use Rattle.std.specs.Prelude.{IsSomeAnd, IfSome}
-use Rattle.tile_store.specs.Tile.{CachedTile}
 use Rattle.image_cache.proofs.HoldLemmas.{takes_hold}
 use Rattle.image_cache.proofs.ReadingLemmas.{call_then, holds_refused, holds_kept}
 use Rattle.image_cache.proofs.reading.Reading.hold.Goals as goal

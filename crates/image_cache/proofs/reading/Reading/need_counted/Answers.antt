@@ -1,10 +1,9 @@
 -- In a modelled world, the key alone decides whether it is a hit.
-use Rattle.std.proofs.Common.{◌≡◌, ◌∷◌, [], ◌∙◌, sym, subst, refl}
+use Rattle.std.proofs.Common.{◌≡◌, ◌∷◌, [], ◌∙◌, sym, subst}
 use Rattle.std.specs.List.{All}
 use Rattle.tiff_format.specs.declared.cut.Cut.{Cut}
 use Rattle.tile_store.specs.Lawful.{FitsCut}
 use Rattle.pinned_tiles.specs.Pinned.{IsAskedFor}
-use Rattle.pinned_tiles.specs.Cell.{has_cell}
 use Rattle.image_cache.specs.Call.{Needs}
 use Rattle.image_cache.proofs.NeedLemmas.{on_ok, needs_one}
 use Rattle.image_cache.proofs.ReadingLemmas.{reads_then, reads_brought}
