@@ -77,7 +77,7 @@ leaves_failed file code a b c round ends = record {
   tap = subst (λ (s : TapState). NoneFalls (tap_state a.tap) s) (sym ends.state) round.tap;
   none = ends.none;
   repeated = λ again. told_first (told_counts c) a b round.begun round.twice (ends.repeated again);
-  done = λ no. ends.done no ∙ round.twice;
+  done = λ never. ends.done never ∙ round.twice;
 }
 
 -- a round that was answered
@@ -134,7 +134,7 @@ told_checked code a b c round ends = by (repeated_or_not code)
     by : IsRepeated code ⊎ (IsRepeated code → ⊥) → AreSame (told_counts c) (told_counts a)
     by (inl again) =
         told_first (told_counts c) a b round.begun round.twice (ends.repeated again)
-    by (inr no) = told_emptied a b c round ends.pass (ends.done no)
+    by (inr none) = told_emptied a b c round ends.pass (ends.done none)
 
 pub checks_failed : (code : ℕ) (a b c : ClientState) → LeavesCheck a b → EndsRound code b c
     → LeavesChecked code a c
@@ -176,12 +176,12 @@ checks_none code a c drops = record {
 -- of a call that failed for another cause than its waiter
 pub ends_other : (code : ℕ) (a c : ClientState) → (IsRepeated code → ⊥) → DropsSupplies a c
     → EndsRound code a c
-ends_other code a c no drops = record {
+ends_other code a c never drops = record {
   cache = drops.cache;
   pass = drops.pass;
   state = drops.state;
   none = λ _. drops.none;
-  repeated = λ again. absurd (no again);
+  repeated = λ again. absurd (never again);
   done = λ _. drops.twice;
 }
 
