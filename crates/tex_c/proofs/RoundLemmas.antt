@@ -39,7 +39,7 @@ repeated_or_not code = dite (ℕ_discrete code 1) (λ needs. inl (inl needs)) (�
     dite (ℕ_discrete code 5) (λ small. inl (inr (inl small))) (λ five.
     dite (ℕ_discrete code 19) (λ busy. inl (inr (inr busy))) (λ nineteen.
     inr (λ (again : IsRepeated code). elim again [
-      inl needs ↦ one needs
+      | inl needs ↦ one needs
       | inr (inl small) ↦ five small
       | inr (inr busy) ↦ nineteen busy
     ]))))
@@ -91,7 +91,7 @@ leaves_answered file a b c round drops = record {
   tap = subst (λ (s : TapState). NoneFalls (tap_state a.tap) s) (sym drops.state) round.tap;
   none = λ _. drops.none;
   repeated = λ (again : IsRepeated 0). elim again [
-    inl one ↦ absurd (omega (arith, one))
+    | inl one ↦ absurd (omega (arith, one))
     | inr (inl five) ↦ absurd (omega (arith, five))
     | inr (inr nineteen) ↦ absurd (omega (arith, nineteen))
   ];
@@ -188,7 +188,7 @@ ends_other code a c never drops = record {
 -- of a number that is none of the three
 other_code : (n : ℕ) → (n ≡ 1 → ⊥) → (n ≡ 5 → ⊥) → (n ≡ 19 → ⊥) → IsRepeated n → ⊥
 other_code n one five nineteen again = elim again [
-  inl needs ↦ one needs
+  | inl needs ↦ one needs
   | inr (inl small) ↦ five small
   | inr (inr busy) ↦ nineteen busy
 ]
@@ -224,7 +224,7 @@ at_fault P refused.ReadFault old new tap code answer cause says codes p = p
 at_fault P (refused.Busy b) old new tap code answer cause (inl lacks) codes p =
     absurd (cc lacks.0)
 at_fault P (refused.Busy b) old new tap code answer cause (inr says) codes p = elim codes [
-  inl one ↦ absurd (omega (arith, one, says.code_is))
+  | inl one ↦ absurd (omega (arith, one, says.code_is))
   | inr fault ↦ absurd (omega (arith, fault, says.code_is))
 ]
 at_fault P (refused.BadFile generation fault) old new tap code answer cause says codes p = absurd cause
