@@ -39,7 +39,7 @@ repeated_or_not code = dite (ℕ_discrete code 1) (λ needs. inl (inl needs)) (�
     dite (ℕ_discrete code 5) (λ small. inl (inr (inl small))) (λ five.
     dite (ℕ_discrete code 19) (λ busy. inl (inr (inr busy))) (λ nineteen.
     inr (λ (again : IsRepeated code). elim again [
-      inl needs ↦ one needs
+      | inl needs ↦ one needs
       | inr (inl small) ↦ five small
       | inr (inr busy) ↦ nineteen busy
     ]))))
@@ -77,7 +77,7 @@ leaves_failed file code a b c round ends = record {
   tap = subst (λ (s : TapState). NoneFalls (tap_state a.tap) s) (sym ends.state) round.tap;
   none = ends.none;
   repeated = λ again. told_first (told_counts c) a b round.begun round.twice (ends.repeated again);
-  done = λ no. ends.done no ∙ round.twice;
+  done = λ never. ends.done never ∙ round.twice;
 }
 
 -- a round that was answered
@@ -91,7 +91,7 @@ leaves_answered file a b c round drops = record {
   tap = subst (λ (s : TapState). NoneFalls (tap_state a.tap) s) (sym drops.state) round.tap;
   none = λ _. drops.none;
   repeated = λ (again : IsRepeated 0). elim again [
-    inl one ↦ absurd (omega (arith, one))
+    | inl one ↦ absurd (omega (arith, one))
     | inr (inl five) ↦ absurd (omega (arith, five))
     | inr (inr nineteen) ↦ absurd (omega (arith, nineteen))
   ];
@@ -134,7 +134,7 @@ told_checked code a b c round ends = by (repeated_or_not code)
     by : IsRepeated code ⊎ (IsRepeated code → ⊥) → AreSame (told_counts c) (told_counts a)
     by (inl again) =
         told_first (told_counts c) a b round.begun round.twice (ends.repeated again)
-    by (inr no) = told_emptied a b c round ends.pass (ends.done no)
+    by (inr none) = told_emptied a b c round ends.pass (ends.done none)
 
 pub checks_failed : (code : ℕ) (a b c : ClientState) → LeavesCheck a b → EndsRound code b c
     → LeavesChecked code a c
@@ -176,19 +176,19 @@ checks_none code a c drops = record {
 -- of a call that failed for another cause than its waiter
 pub ends_other : (code : ℕ) (a c : ClientState) → (IsRepeated code → ⊥) → DropsSupplies a c
     → EndsRound code a c
-ends_other code a c no drops = record {
+ends_other code a c never drops = record {
   cache = drops.cache;
   pass = drops.pass;
   state = drops.state;
   none = λ _. drops.none;
-  repeated = λ again. absurd (no again);
+  repeated = λ again. absurd (never again);
   done = λ _. drops.twice;
 }
 
 -- of a number that is none of the three
 other_code : (n : ℕ) → (n ≡ 1 → ⊥) → (n ≡ 5 → ⊥) → (n ≡ 19 → ⊥) → IsRepeated n → ⊥
 other_code n one five nineteen again = elim again [
-  inl needs ↦ one needs
+  | inl needs ↦ one needs
   | inr (inl small) ↦ five small
   | inr (inr busy) ↦ nineteen busy
 ]
@@ -224,7 +224,7 @@ at_fault P refused.ReadFault old new tap code answer cause says codes p = p
 at_fault P (refused.Busy b) old new tap code answer cause (inl lacks) codes p =
     absurd (cc lacks.0)
 at_fault P (refused.Busy b) old new tap code answer cause (inr says) codes p = elim codes [
-  inl one ↦ absurd (omega (arith, one, says.code_is))
+  | inl one ↦ absurd (omega (arith, one, says.code_is))
   | inr fault ↦ absurd (omega (arith, fault, says.code_is))
 ]
 at_fault P (refused.BadFile generation fault) old new tap code answer cause says codes p = absurd cause

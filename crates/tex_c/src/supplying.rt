@@ -17,10 +17,10 @@ impl Client {
             → IsTrueLook file generation len }
         ensures { SaysLook file generation len result self.old self.new }
     {
-        match self.tap.supply_look(file, generation, len) {
-            Ok(()) => ANSWERED,
-            Err(e) => supply_code_of(e),
+        if let Err(e) = self.tap.supply_look(file, generation, len) {
+            return supply_code_of(e);
         }
+        ANSWERED
     }
 
     /// Supplies the generations and lengths of several files.

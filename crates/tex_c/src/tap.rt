@@ -228,11 +228,7 @@ fn supplied<'a>(
 }
 
 /// The bytes of these rows, `size` together, if they were supplied.
-fn supplied_rows<'a>(
-    parts: &'a [RowsPart],
-    place: &RowsAt,
-    size: usize,
-) -> Option<&'a [u8]>
+fn supplied_rows<'a>(parts: &'a [RowsPart], place: &RowsAt, size: usize) -> Option<&'a [u8]>
     ensures long { IfSome result (λ bytes. length bytes.now ≡ size) }
     ensures told { IfSome result (λ bytes. AreTrueRows place.now bytes.now) }
     ensures none { IsNone result → LacksRowsAt parts.now place.now size }
@@ -340,12 +336,7 @@ impl Tap for SuppliedTap {
 
     /// Answers with supplied bytes of the handle's generation. They are `Gone` if a newer
     /// generation was supplied.
-    fn read_at(
-        &mut self,
-        h: &mut SuppliedHandle,
-        at: u64,
-        buf: &mut [u8],
-    ) -> Result<(), ReadError>
+    fn read_at(&mut self, h: &mut SuppliedHandle, at: u64, buf: &mut [u8]) -> Result<(), ReadError>
         requires { at + length buf.old ≤ (handle_named h.old).len }
         ensures bytes { OnOk result (ForSome
             (supplied_files.held (handle_named h.old).file (handle_named h.old).generation)
