@@ -71,9 +71,10 @@ RefusesBatch files b places room done code = RefusesFile files b.file code
 
 -- What a batch answers, and what state it leaves. The values are those of the lookups on the bytes
 -- of the generation that the answer names, and the rest of the buffer is unchanged. After an error
--- the lookups before the one that failed are answered, on the generation that the answer names (0 if
--- the file was not opened), and no other value was written. If the pass keeps a valid record of the file and its microcache has every cell needed,
--- the lookups succeed or a newer generation was seen.
+-- the lookups before the one that failed are answered, on the generation that the answer names,
+-- and no other value was written. That generation is 0 if the file was not opened. If the pass
+-- keeps a valid record of the file and its microcache has every cell needed, the lookups succeed or
+-- a newer generation was seen.
 pub record SaysBatch (b : TexBatch) (places : Bor (List Place)) (code : ℕ) (answer : TexBatchAnswer)
     (out_old out_new : List ℕ) (old new : ClientState) : Type 0 where
   pub cache : new.cache ≡ old.cache
