@@ -1,9 +1,9 @@
 """Compares what programs are compiled against with the list src/c/interface.txt.
 
-The list has the calls of include/texcache.h with their types, the sizes of the structs and the places of their fields,
-the values of the enums, and what libtexcache.so.1 and libtexcache.a export. A change needs another version: the
-header refuses a library of another version, and so no program runs with the structs of an older one. After VERSION was
-raised, --write writes the list anew.
+The list has the calls of include/texcache.h and texcache_supply.h with their types, the sizes of the structs and the
+places of their fields, the values of the enums, and what libtexcache.so.1 and libtexcache.a export. A change needs
+another version: the symbols of the calls that open a cache have the version in them, and so no program links with the
+structs of an older one. After VERSION was raised, --write writes the list anew. The headers must have that version.
 """
 import difflib
 import re
@@ -22,8 +22,8 @@ LIST = SOURCES / "interface.txt"
 HEAD = """# What programs are compiled against. tools/check interface compares it with header and library, and writes it.
 # A change needs another version in the file VERSION.
 """
-# what the toolchain's part of the archive defines
-FOREIGN = re.compile(r"rattle_\w+")
+# what the toolchain's part of the archive defines, and what our C files share and the shared library hides
+FOREIGN = re.compile(r"rattle_\w+|texc_\w+")
 
 
 def types(call):
@@ -41,7 +41,7 @@ def sized():
         numbers = "".join(f", offsetof({name}, {it})" for it in fields)
         lines.append(f'printf("struct {name} %zu:{places}\\n", sizeof({name}){numbers});')
     lines += [f'printf("value {it} %d\\n", {it});' for it in header.values()]
-    program = '#include "texcache.h"\n#include <stdio.h>\nint main(void)\n{\n' + "\n".join(lines) + "\nreturn 0;\n}\n"
+    program = '#include "texcache_supply.h"\n#include <stdio.h>\nint main(void)\n{\n' + "\n".join(lines) + "\nreturn 0;\n}\n"
     with tempfile.TemporaryDirectory() as room:
         source, made = Path(room) / "sizes.c", Path(room) / "sizes"
         source.write_text(program, encoding="ascii")
@@ -74,6 +74,9 @@ def listed():
 
 def faults(now, before):
     """What is wrong with the list."""
+    symbol = re.sub(r"\W", "_", version_text(True))
+    if f'"_{symbol}"' not in header.HEADER.read_text(encoding="utf-8"):
+        return [f"TEXCACHE_SYMBOL of include/texcache.h does not end in _{symbol}"]
     if now[0] != before[0]:
         return [f"the list has {before[0] or 'no version'}, and the file VERSION has {now[0]}: "
                 "tools/check interface --write writes the list anew"]
