@@ -26,24 +26,24 @@ namespace texcache_cpp {
 // A refused call.
 class Refused : public std::runtime_error {
 public:
-    explicit Refused(int status, const texcache_answer &answer = texcache_answer())
-        : std::runtime_error(text(status, answer)), status(status), answer(answer) {}
+    explicit Refused(int number, const texcache_answer &said = texcache_answer())
+        : std::runtime_error(text(number, said)), status(number), answer(said) {}
 
     int status;              // enum texcache_status
     texcache_answer answer;  // the generation, the fault and what else belongs to it
 
 private:
     // The name of an error, and which option or number it was, if the answer says so.
-    static std::string text(int status, const texcache_answer &answer)
+    static std::string text(int number, const texcache_answer &said)
     {
         static const char *const options[] = {"budget", "shards", "passes", "handles", "autotile", "slots"};
         static const char *const numbers[] = {"swrap", "twrap", "channels", "filter", "lod", "max_probes"};
-        std::string text = texcache_error_string(status);
-        if (status == TEXCACHE_BAD_OPTIONS && answer.detail - 1 < 6) return text + ": " + options[answer.detail - 1];
-        if (status != TEXCACHE_BAD_REQUEST) return text;
-        if (answer.detail == TEXCACHE_BAD_PLACE) return text + ": lookup " + std::to_string(answer.value);
-        if (answer.detail == TEXCACHE_BAD_STEP) return text + ": step";
-        return answer.detail - 1 < 6 ? text + ": " + numbers[answer.detail - 1] : text;
+        std::string name = texcache_error_string(number);
+        if (number == TEXCACHE_BAD_OPTIONS && said.detail - 1 < 6) return name + ": " + options[said.detail - 1];
+        if (number != TEXCACHE_BAD_REQUEST) return name;
+        if (said.detail == TEXCACHE_BAD_PLACE) return name + ": lookup " + std::to_string(said.value);
+        if (said.detail == TEXCACHE_BAD_STEP) return name + ": step";
+        return said.detail - 1 < 6 ? name + ": " + numbers[said.detail - 1] : name;
     }
 };
 

@@ -1,6 +1,6 @@
 /* Passes, threads and forks: passes FOLDER, an empty folder that it may write to. A thread finds its pass again, and the
  * pass ends with it; ended passes, passes in use, and caches and passes of a parent process are refused; new passes
- * count from zero; and every call fills its answer. */
+ * count from zero; every call fills its answer; and a thread that waits sleeps. */
 #define _XOPEN_SOURCE 700
 #include "texcache_inside.h"
 #include <errno.h>
@@ -8,6 +8,7 @@
 #include <stdlib.h>
 #include <string.h>
 #include <sys/wait.h>
+#include <time.h>
 #include <unistd.h>
 
 static int failures;
@@ -258,6 +259,27 @@ static void two_in_one_pass(void)
     SAYS(texcache_end(&pass), TEXCACHE_OK);
 }
 
+/* ---- waiting */
+
+static double seconds(clockid_t clock)
+{
+    struct timespec at;
+    clock_gettime(clock, &at);
+    return (double)at.tv_sec + (double)at.tv_nsec / 1e9;
+}
+
+/* A thread that waits sleeps, up to a millisecond each time, and gives up. */
+static void waits(void)
+{
+    unsigned tries = 0;
+    double wall = seconds(CLOCK_MONOTONIC), used = seconds(CLOCK_THREAD_CPUTIME_ID);
+    while (texc_pauses(&tries, 400)) {}
+    wall = seconds(CLOCK_MONOTONIC) - wall;
+    used = seconds(CLOCK_THREAD_CPUTIME_ID) - used;
+    IS(tries == 401);
+    IS(wall > 0.3 && used < wall / 4);
+}
+
 /* ---- a forked child */
 
 static int in_the_child(const char *folder, texcache_pass *pass, texcache_pass *own)
@@ -312,6 +334,7 @@ int main(int count, char **words)
     threads();
     ended_passes();
     two_in_one_pass();
+    waits();
     fork_it(words[1]);
     /* the main thread's own pass ends with the cache */
     SAYS(texcache_close(&cache), TEXCACHE_OK);

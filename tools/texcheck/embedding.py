@@ -126,9 +126,9 @@ class Tests:
         if self.built("lookups_fast", HERE / "lookups.c", *INSIDE, WRAP, "-O3", "-ffast-math"):
             self.over_a_folder("lookups on doubles with -ffast-math", "lookups_fast")
 
-    def is_clean(self, what, source, *flags):
+    def is_clean(self, what, source, *flags, compiler=None):
         """Compiles a file, alone; no warning is right."""
-        status, text = said([self.cc, *FLAGS, *flags, "-o", self.made / "part.o", source])
+        status, text = said([compiler or self.cc, *FLAGS, *flags, "-o", self.made / "part.o", source])
         self.wrong += [f"{what}: {text or status}"] if status or text else []
 
     def headers(self):
@@ -141,6 +141,10 @@ class Tests:
             source.write_text(text + "typedef int unused;\n")
             for standard in ("c99", "c11", "c17", "gnu11"):
                 self.is_clean(f"{source.name} in {standard}", source, f"-std={standard}", *strict)
+        source = self.made / "header.cpp"
+        source.write_text(others + '#include "texcache.hpp"\n#include "texcache_supply.h"\n')
+        for standard in ("c++14", "c++17", "c++20") if self.cxx else ():
+            self.is_clean(f"texcache.hpp in {standard}", source, f"-std={standard}", *strict, compiler=self.cxx)
         for source in c_files():
             self.is_clean(source.name, source, *C_FLAGS, defines("0"), *strict)
         self.say(not self.wrong, "headers and the C part compile without a warning", "\n".join(self.wrong))

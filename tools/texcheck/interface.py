@@ -4,6 +4,7 @@ The list has the calls of include/texcache.h and texcache_supply.h with their ty
 places of their fields, the values of the enums, and what libtexcache.so.1 and libtexcache.a export. A change needs
 another version: the symbols of the calls that open a cache have the version in them, and so no program links with the
 structs of an older one. After VERSION was raised, --write writes the list anew. The headers must have that version.
+docs/EMBEDDING.md must say how many lines of C are trusted.
 """
 import difflib
 import re
@@ -67,6 +68,22 @@ def found(archive):
             *(f"archive {it}" for it in symbols([archive]) if not FOREIGN.fullmatch(it))]
 
 
+def trusted():
+    """What docs/EMBEDDING.md has to say of the C part: how many lines it has, without comments and blank lines."""
+    counts = {it.name: sum(bool(line.strip()) for line in
+                           header.without_comments(it.read_text(encoding="utf-8")).splitlines())
+              for it in sorted(SOURCES.glob("*.[ch]"))}
+    small = [it for it in counts if not it.startswith("texcache_") or it.endswith(".h")]
+    return [f"It has {sum(counts.values())} lines of C", *(f"| `{it}` | {counts[it]} |" for it in counts if it not in small),
+            f"| {', '.join(f'`{it}`' for it in small)} | {sum(counts[it] for it in small)} |"]
+
+
+def unsaid():
+    """What docs/EMBEDDING.md does not say of the C part, or says wrongly."""
+    page = (TOP / "docs" / "EMBEDDING.md").read_text(encoding="utf-8")
+    return [f"docs/EMBEDDING.md does not say: {it}" for it in trusted() if it not in page]
+
+
 def listed():
     lines = LIST.read_text(encoding="ascii").splitlines() if LIST.is_file() else []
     return [it for it in lines if not it.startswith("#")]
@@ -103,6 +120,6 @@ def run(args):
     if args.write and now[:1] != before[:1]:
         LIST.write_text(HEAD + "\n".join(now) + "\n", encoding="ascii")
         before = now
-    wrong = faults(now, before or [""])
+    wrong = faults(now, before or [""]) + unsaid()
     print(*wrong, f"interface: {len(now)} lines {'differ from the list' if wrong else 'are as the list says'}", sep="\n")
     return 1 if wrong else 0
