@@ -2,7 +2,10 @@
  * within one cell. KIND is many (64 in a call), single or fixed (in 1/65536). Prints nanoseconds a lookup, of the
  * whole time of all threads side by side. */
 #include "texcache.h"
+#include <pthread.h>
 #include <stdio.h>
+#include <stdlib.h>
+#include <string.h>
 #include <time.h>
 
 static texcache *cache;
@@ -59,7 +62,7 @@ static void *work(void *sum)
     texcache_lookup r = texcache_lookup_at(4000, 4000, 0, 3);
     uint16_t rgb[3];
     uint64_t total = 0;
-    int refused = texcache_perthread(cache, &pass);
+    int refused = texcache_new_pass(cache, &pass);
     if (!refused) refused = texcache_texture_fixed(pass, file, &r, rgb, 3, NULL);
     pthread_barrier_wait(&ready);
     if (!refused) refused = look_up(pass, &total);

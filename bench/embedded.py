@@ -73,7 +73,7 @@ IN_PYTHON = """
 import sys, time
 sys.path.insert(0, sys.argv[1])
 import numpy, texcache
-with texcache.Cache(sys.argv[2]) as cache, cache.perthread() as textures:
+with texcache.Cache(sys.argv[2]) as cache, cache.new_pass() as textures:
     file, n = cache.find(sys.argv[3]), numpy.arange(4096)
     s, t = 0.06 + n % 64 / 65536, 0.06 + n // 64 / 65536
     round_ = (s, t, 0 * s + 0.01, 0 * s, 0 * s, 0 * s + 0.01)
@@ -96,8 +96,7 @@ def in_python(words):
     with tempfile.TemporaryDirectory() as made:
         last, linked = over(words.library)
         shared = Path(made) / "libtexcache.so"
-        output_of(["cc", "-O2", "-shared", "-fPIC", f"-I{TOP / 'include'}", "-o", shared, TOP / "python" / "texcache_shared.c",
-              *linked, *last])
+        output_of(["cc", "-shared", "-o", shared, "-Wl,--whole-archive", *linked, "-Wl,--no-whole-archive", *last])
         os.environ["TEXCACHE_LIBRARY"] = str(shared)
         print(output_of([sys.executable, "-c", IN_PYTHON, TOP / "python", words.folder, words.name]), end="")
 

@@ -460,7 +460,7 @@ int main(int count, char **words)
     oiio_system = TextureSystem::create(false);
     oiio_system->attribute("max_memory_MB", 512.0f);
     if (int error = texcache_open(&cache, words[1], nullptr)) stop(texcache_error_string(error));
-    if (int error = texcache_perthread(cache, &pass)) stop(texcache_error_string(error));
+    if (int error = texcache_new_pass(cache, &pass)) stop(texcache_error_string(error));
     const std::string mode = words[2];
     if (mode == "magnified") magnified();
     else if (mode == "ramp") ramp();

@@ -20,7 +20,7 @@ class Worker {
 
   void begin() {
     if (pass) return;
-    if (int error = texcache_perthread(cache, &pass)) stop(texcache_error_string(error), 4);
+    if (int error = texcache_new_pass(cache, &pass)) stop(texcache_error_string(error), 4);
   }
 
   Answer answer(const Request& request) {

@@ -1,12 +1,12 @@
 // texcache.hpp: textures of a folder of TIFF files, for programs in C++14 or later. Header only, over texcache.h.
 //
 //     texcache_cpp::Cache cache("textures");
-//     texcache_cpp::Pass pass(cache);                    // one for each thread
+//     texcache_cpp::Pass pass = cache.this_thread();     // the calling thread's
 //     std::uint16_t rgb[3];
 //     pass.texture(cache.find("wall.tif"), texcache_default_texture_options(3), 0.5, 0.5, rgb);
 //
-// A refusal is thrown as a Refused, which has its number, its text and what belongs to it. A pass ends before
-// its cache does. What a caller must see to is in texcache.h.
+// A refusal is thrown as a Refused, which has its number, its text and what belongs to it. A Pass that you make ends
+// before its cache does. What a caller must see to is in texcache.h.
 #ifndef TEXCACHE_HPP
 #define TEXCACHE_HPP
 
@@ -26,24 +26,24 @@ namespace texcache_cpp {
 // A refused call.
 class Refused : public std::runtime_error {
 public:
-    explicit Refused(int status, const texcache_answer &answer = texcache_answer())
-        : std::runtime_error(text(status, answer)), status(status), answer(answer) {}
+    explicit Refused(int number, const texcache_answer &said = texcache_answer())
+        : std::runtime_error(text(number, said)), status(number), answer(said) {}
 
     int status;              // enum texcache_status
     texcache_answer answer;  // the generation, the fault and what else belongs to it
 
 private:
     // The name of an error, and which option or number it was, if the answer says so.
-    static std::string text(int status, const texcache_answer &answer)
+    static std::string text(int number, const texcache_answer &said)
     {
         static const char *const options[] = {"budget", "shards", "passes", "handles", "autotile", "slots"};
         static const char *const numbers[] = {"swrap", "twrap", "channels", "filter", "lod", "max_probes"};
-        std::string text = texcache_error_string(status);
-        if (status == TEXCACHE_BAD_OPTIONS && answer.detail - 1 < 6) return text + ": " + options[answer.detail - 1];
-        if (status != TEXCACHE_BAD_REQUEST) return text;
-        if (answer.detail == TEXCACHE_BAD_PLACE) return text + ": lookup " + std::to_string(answer.value);
-        if (answer.detail == TEXCACHE_BAD_STEP) return text + ": step";
-        return answer.detail - 1 < 6 ? text + ": " + numbers[answer.detail - 1] : text;
+        std::string name = texcache_error_string(number);
+        if (number == TEXCACHE_BAD_OPTIONS && said.detail - 1 < 6) return name + ": " + options[said.detail - 1];
+        if (number != TEXCACHE_BAD_REQUEST) return name;
+        if (said.detail == TEXCACHE_BAD_PLACE) return name + ": lookup " + std::to_string(said.value);
+        if (said.detail == TEXCACHE_BAD_STEP) return name + ": step";
+        return said.detail - 1 < 6 ? name + ": " + numbers[said.detail - 1] : name;
     }
 };
 
@@ -70,6 +70,8 @@ private:
     std::size_t size_;
 };
 
+class Pass;
+
 // A cache of the plain files of a folder.
 class Cache {
 public:
@@ -94,6 +96,9 @@ public:
         return file;
     }
 
+    // The pass of the calling thread. It ends with the thread or the cache, not with the Pass.
+    Pass this_thread() const;
+
     std::uint32_t file_count() const { return texcache_file_count(cache_); }
     texcache *get() const { return cache_; }
 
@@ -110,13 +115,17 @@ struct Pixels {
 // What one thread has of a cache.
 class Pass {
 public:
-    explicit Pass(const Cache &cache) { check(texcache_perthread(cache.get(), &pass_)); }
+    // A new pass, which ends with this object.
+    explicit Pass(const Cache &cache) : is_own_(true) { check(texcache_new_pass(cache.get(), &pass_)); }
 
-    Pass(Pass &&other) noexcept : pass_(std::exchange(other.pass_, nullptr)) {}
+    Pass(Pass &&other) noexcept : pass_(std::exchange(other.pass_, nullptr)), is_own_(other.is_own_) {}
     Pass(const Pass &) = delete;
     Pass &operator=(const Pass &) = delete;
     Pass &operator=(Pass &&) = delete;
-    ~Pass() { texcache_end(&pass_); }
+    ~Pass()
+    {
+        if (is_own_) texcache_end(&pass_);
+    }
 
     texcache_info info(std::uint32_t file, texcache_answer *said = nullptr)
     {
@@ -177,7 +186,7 @@ public:
     // The values of a lookup in the units of the program's requests, 1/65536 of the image; and along a footprint.
     std::vector<std::uint16_t> texture_fixed(std::uint32_t file, const texcache_lookup &r, texcache_answer *said = nullptr)
     {
-        std::vector<std::uint16_t> out(r.channels);
+        std::vector<std::uint16_t> out(room_of(r));
         called([&](texcache_answer *answer) {
             return texcache_texture_fixed(pass_, file, &r, out.data(), out.size(), answer); }, said);
         return out;
@@ -186,7 +195,7 @@ public:
     std::vector<std::uint16_t> texture_d_fixed(std::uint32_t file, const texcache_lookup &r,
                                                texcache_answer *said = nullptr)
     {
-        std::vector<std::uint16_t> out(r.channels);
+        std::vector<std::uint16_t> out(room_of(r));
         called([&](texcache_answer *answer) {
             return texcache_texture_d_fixed(pass_, file, &r, out.data(), out.size(), answer); }, said);
         return out;
@@ -195,7 +204,7 @@ public:
     // Whether the two latest tiles of the pass had all that the lookup at S, T and LOD needs.
     bool texture_local_fixed(std::uint32_t file, const texcache_lookup &r, std::vector<std::uint16_t> &out)
     {
-        out.resize(r.channels);
+        out.resize(room_of(r));
         int status = texcache_texture_local_fixed(pass_, file, &r, out.data(), out.size(), nullptr);
         if (status == TEXCACHE_NOT_LOCAL) return false;
         check(status);
@@ -242,7 +251,7 @@ public:
 
     texcache_tile tile_at(std::size_t place)
     {
-        texcache_tile tile;
+        texcache_tile tile = texcache_tile();
         check(texcache_tile_at(pass_, place, &tile));
         return tile;
     }
@@ -267,6 +276,12 @@ public:
     texcache_pass *get() const { return pass_; }
 
 private:
+    friend class Cache;
+    explicit Pass(texcache_pass *pass) noexcept : pass_(pass), is_own_(false) {}
+
+    // How many values a lookup has. Numbers that the call refuses need no room for that many.
+    static std::size_t room_of(const texcache_lookup &r) { return r.channels - 1 < 8 ? r.channels : 1; }
+
     template <class Call> static std::uint32_t generation(Call call)
     {
         texcache_answer answer;  // always filled
@@ -295,7 +310,15 @@ private:
     }
 
     texcache_pass *pass_ = nullptr;
+    bool is_own_;
 };
+
+inline Pass Cache::this_thread() const
+{
+    texcache_pass *pass = nullptr;
+    check(texcache_this_thread(cache_, &pass));
+    return Pass(pass);
+}
 
 }  // namespace texcache_cpp
 #endif

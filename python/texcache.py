@@ -1,18 +1,19 @@
-"""Textures of a folder of TIFF files, over include/texcache.h and the proved library tex_c.
+"""Textures of a folder of TIFF files, over include/texcache.h and the proved library below it.
 
     import texcache
-    with texcache.Cache("textures") as cache, cache.perthread() as textures:
-        wall = cache.find("wall.tif")
+    with texcache.Cache("textures") as cache:
+        textures, wall = cache.this_thread(), cache.find("wall.tif")
         print(textures.info(wall).width)
         print(textures.texture(wall, 0.5, 0.5, channels=3))
 
-The shared object is libtexcache.so beside this file, or what TEXCACHE_LIBRARY names (docs/EMBEDDING.md). Each
-thread has a pass of its own. A call that fails raises Refused, with its number, its text and its details. Values are
+The shared object is libtexcache.so beside this file, or what TEXCACHE_LIBRARY names (docs/INSTALL.md). Each
+thread uses a pass of its own. A call that fails raises Refused, with its number, its text and its details. Values are
 whole numbers, 0 to 65535, or floats from 0 to 1. With numpy, many lookups take and give arrays, and regions and tiles
 are arrays; without numpy they are lists.
 """
 import ctypes
 import os
+import re
 from array import array
 from ctypes import (POINTER, byref, c_bool, c_char_p, c_double, c_int, c_int32, c_size_t, c_uint16, c_uint32, c_uint64,
                     c_void_p)
@@ -25,9 +26,12 @@ except ImportError:
     numpy = None
 
 # the version of this module, as in the file VERSION; the library's is version()
-VERSION = "1.0.0-rc1"
+VERSION = "1.0.0-rc2"
+# the call that opens a cache, which has the version in its name
+OPEN = "open_saying_" + re.sub(r"\W", "_", VERSION)
 BLACK, CLAMP, PERIODIC, MIRROR = range(4)
 CLOSEST, BILINEAR, TRILINEAR = range(3)
+OPTIONS = ("budget", "shards", "passes", "handles", "autotile", "slots", "automip")
 OK, BAD_OPTIONS, BAD_REQUEST, SMALL_BUFFER, NOT_LOCAL = 0, 2, 4, 5, 7
 
 
@@ -38,22 +42,23 @@ class _Struct(ctypes.Structure):
 
 class Options(_Struct):
     """The options of a cache: texcache_options."""
-    _fields_ = [("budget", c_uint64), ("shards", c_uint32), ("passes", c_uint32), ("handles", c_uint32),
+    _fields_ = [("size", c_size_t), ("budget", c_uint64), ("shards", c_uint32), ("passes", c_uint32), ("handles", c_uint32),
                 ("autotile", c_uint32), ("slots", c_uint32), ("automip", c_bool)]
 
 
 class Answer(_Struct):
     """The details of a result or an error: texcache_answer."""
     _fields_ = [("generation", c_uint32), ("newer", c_uint32), ("detail", c_uint32), ("part", c_uint32),
-                ("value", c_uint64), ("channels", c_uint32), ("need", c_uint32), ("need_file", c_uint32),
-                ("need_generation", c_uint32), ("need_at", c_uint64), ("need_least", c_uint64),
-                ("need_most", c_uint64), ("need_stride", c_uint64), ("need_row", c_uint64)]
+                ("value", c_uint64), ("channels", c_uint32)]
 
 
 class TextureOptions(_Struct):
     """How coordinates become values: texcache_texture_options."""
-    _fields_ = [("swrap", c_uint32), ("twrap", c_uint32), ("channels", c_uint32), ("filter", c_uint32),
-                ("lod", c_double), ("max_probes", c_uint32)]
+    _fields_ = [("size", c_size_t), ("swrap", c_uint32), ("twrap", c_uint32), ("channels", c_uint32),
+                ("filter", c_uint32), ("lod", c_double), ("max_probes", c_uint32)]
+
+    def __init__(self, *values):
+        super().__init__(ctypes.sizeof(TextureOptions), *values)
 
 
 class Coordinates(_Struct):
@@ -102,8 +107,9 @@ def _declared(library):
     lookup = [c_void_p, c_uint32, POINTER(Lookup), values, c_size_t, answer]
     fine = [c_void_p, c_uint32, POINTER(TextureOptions)]
     calls = {
-        "open_saying": [POINTER(c_void_p), c_char_p, POINTER(Options), POINTER(c_uint32)],
-        "close": [POINTER(c_void_p)], "perthread": [c_void_p, POINTER(c_void_p)], "end": [POINTER(c_void_p)],
+        OPEN: [POINTER(c_void_p), c_char_p, POINTER(Options), POINTER(c_uint32)],
+        "close": [POINTER(c_void_p)], "end": [POINTER(c_void_p)],
+        "new_pass": [c_void_p, POINTER(c_void_p)], "this_thread": [c_void_p, POINTER(c_void_p)],
         "find": [c_void_p, c_char_p, POINTER(c_uint32)],
         "get_info": [c_void_p, c_uint32, POINTER(Info), answer],
         "texture": [*fine, *[c_double] * 2, values, c_size_t, answer],
@@ -156,7 +162,7 @@ def _text(status, answer):
     """The name of an error, and which option or number it was, if the answer says so."""
     text, names = _lib.texcache_error_string(status).decode(), ()
     if status == BAD_OPTIONS:
-        names = ("budget", "shards", "passes", "handles", "autotile", "slots")
+        names = OPTIONS[:6]
     elif status == BAD_REQUEST:
         names = ("swrap", "twrap", "channels", "filter", "lod", "max_probes", f"lookup {answer.value}", "step")
     return f"{text}: {names[answer.detail - 1]}" if 0 < answer.detail <= len(names) else text
@@ -212,16 +218,16 @@ class Cache:
     def __init__(self, folder, **options):
         self._at, made, bad = c_void_p(), _lib.texcache_default_options(), Answer()
         for name, value in options.items():
-            if not hasattr(made, name):
+            if name not in OPTIONS:
                 raise TypeError(f"no option is named {name}")
             setattr(made, name, value)
         detail = c_uint32()
-        status = _lib.texcache_open_saying(byref(self._at), os.fsencode(folder), byref(made), byref(detail))
+        status = getattr(_lib, "texcache_" + OPEN)(byref(self._at), os.fsencode(folder), byref(made), byref(detail))
         bad.detail = detail.value
         _check(status, bad)
 
     def close(self):
-        """Closes the cache. All its passes must have ended."""
+        """Closes the cache. All passes of new_pass must have ended; those of this_thread end here."""
         if self._at:
             _check(_lib.texcache_close(byref(self._at)))
 
@@ -241,17 +247,21 @@ class Cache:
         """The names of the files, in the order of their numbers."""
         return [os.fsdecode(_lib.texcache_file_name(self._at, n)) for n in range(_lib.texcache_file_count(self._at))]
 
-    def perthread(self):
-        """A pass, for one thread at a time."""
-        return Pass(self)
+    def new_pass(self):
+        """A new pass, for one thread at a time, which you end."""
+        return Pass(self, _lib.texcache_new_pass)
+
+    def this_thread(self):
+        """The pass of the calling thread, which ends with the thread."""
+        return Pass(self, _lib.texcache_this_thread)
 
 
 class Pass:
     """One thread's access to a cache."""
 
-    def __init__(self, cache):
+    def __init__(self, cache, make):
         self._cache, self._at, self.answer = cache, c_void_p(), Answer()
-        _check(_lib.texcache_perthread(cache._at, byref(self._at)))
+        _check(make(cache._at, byref(self._at)))
 
     def end(self):
         """Ends the pass and releases its tiles."""
@@ -385,7 +395,7 @@ class Pass:
         return self.answer.generation
 
     def invalidate_all(self):
-        """Checks each known file."""
+        """Checks each known file. After a failure answer.part is the first file that failed, and answer.value how many."""
         self._called(_lib.texcache_invalidate_all)
 
     def stats(self):

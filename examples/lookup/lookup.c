@@ -19,10 +19,9 @@ int main(int count, char **arguments)
         return 2;
     }
     refused = texcache_open(&cache, arguments[1], NULL);
-    if (!refused) refused = texcache_perthread(cache, &pass);
+    if (!refused) refused = texcache_this_thread(cache, &pass);
     if (!refused) refused = texcache_find(cache, arguments[2], &file);
     if (!refused) refused = texcache_texture(pass, file, &options, 0.5, 0.5, rgb, 3, NULL);
-    texcache_end(&pass);
     texcache_close(&cache);
     if (refused) {
         fprintf(stderr, "lookup: %s\n", texcache_error_string(refused));

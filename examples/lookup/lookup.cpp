@@ -12,7 +12,7 @@ int main(int count, char **arguments)
     }
     try {
         texcache_cpp::Cache cache(arguments[1]);
-        texcache_cpp::Pass pass(cache);
+        texcache_cpp::Pass pass = cache.this_thread();
         std::uint16_t rgb[3];
         pass.texture(cache.find(arguments[2]), texcache_default_texture_options(3), 0.5, 0.5, rgb);
         std::cout << texcache_version() << ": " << rgb[0] << ' ' << rgb[1] << ' ' << rgb[2] << '\n';

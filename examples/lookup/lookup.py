@@ -9,8 +9,8 @@ def main():
     parser.add_argument("name", metavar="NAME")
     args = parser.parse_args()
     import texcache  # once the arguments are right: it loads the library
-    with texcache.Cache(args.folder) as cache, cache.perthread() as textures:
-        values = textures.texture(cache.find(args.name), 0.5, 0.5)
+    with texcache.Cache(args.folder) as cache:
+        values = cache.this_thread().texture(cache.find(args.name), 0.5, 0.5)
     print(f"{texcache.version()}: {' '.join(map(str, values))}")
 
 

@@ -9,9 +9,13 @@
  * t63.tif, which textures.py makes, and the floor shows all. The picture is the same for any number of threads.
  * The counts go to standard error.
  */
+#define _XOPEN_SOURCE 700
 #include "texcache.h"
 #include <math.h>
+#include <pthread.h>
 #include <stdio.h>
+#include <stdlib.h>
+#include <string.h>
 #include <sys/resource.h>
 
 typedef struct vec {
@@ -202,7 +206,7 @@ static void *render(void *unused)
 {
     texcache_pass *pass;
     texcache_statistics counts;
-    int status = texcache_perthread(cache, &pass);
+    int status = texcache_this_thread(cache, &pass);
     (void)unused;
     if (status) fail("a pass", status);
     for (;;) {
@@ -228,7 +232,6 @@ static void *render(void *unused)
         totals.bytes = counts.bytes;
     }
     pthread_mutex_unlock(&lock);
-    texcache_end(&pass);
     return NULL;
 }
 
@@ -256,7 +259,7 @@ static void read_words(int count, char **words)
         else if (plain++ == 0) asked.folder = word;
         else asked.out = word;
     }
-    if (plain != 2 || asked.threads < 1 || asked.threads > 15 || asked.width < 1 || asked.width > 16384 || asked.height < 1
+    if (plain != 2 || asked.threads < 1 || asked.threads > 14 || asked.width < 1 || asked.width > 16384 || asked.height < 1
         || asked.height > 16384)
         usage();
 }
@@ -317,7 +320,7 @@ int main(int count, char **words)
     read_words(count, words);
     lay_out();
     int status = texcache_open(&cache, asked.folder, &asked.options);
-    if (!status) status = texcache_perthread(cache, &pass);
+    if (!status) status = texcache_this_thread(cache, &pass);
     if (status) fail(asked.folder, status);
     find_textures(pass);
     pixels = calloc((size_t)asked.width * asked.height, 3);
@@ -327,7 +330,6 @@ int main(int count, char **words)
         replace(pass);
     }
     render_rows(asked.height);
-    texcache_end(&pass);
     write_picture();
     getrusage(RUSAGE_SELF, &used);
     fprintf(stderr, "needs %llu hits %llu looks %llu opens %llu reads %llu bytes %llu, %ld KB at most\n",

@@ -1,9 +1,17 @@
 /* Bad use and bad input, each with its refusal: bad_use FOLDER, an empty folder that it may write to.
- * The library alone is driven by hand first, and then texcache.h. (Lookups on doubles are in lookups.c.) */
-#include "texcache.h"
+ * The proved library is driven by hand first, and then the calls of texcache.h. (Lookups on doubles are in lookups.c,
+ * passes, threads and forks in passes.c, and open files in descriptors.c.) */
+#define _XOPEN_SOURCE 700
+#include "texcache_inside.h"
 #include <stdio.h>
+#include <stdlib.h>
+#include <string.h>
+#include <sys/stat.h>
+#include <time.h>
+#include <unistd.h>
 
 static int failures;
+static const texcache_supply_options usual = {UINT64_C(268435456), 16, 16, 100, 64, 1024, true};
 
 #define SAYS(call, wanted)                                                                                          \
     do {                                                                                                            \
@@ -47,6 +55,13 @@ static void write_file(const char *folder, const char *name, const uint8_t *byte
     if (!to || fwrite(bytes, 1, count, to) != count || fclose(to)) exit(2);
 }
 
+/* Waits until a file that is written now has another time than before. */
+static void wait_a_little(void)
+{
+    struct timespec pause = {0, 20000000};
+    nanosleep(&pause, NULL);
+}
+
 /* Bytes are copied to room of the library and supplied. */
 static uint32_t supply(texcache_held *held, uint32_t file, uint32_t generation, uint64_t at, const uint8_t *bytes, size_t count)
 {
@@ -73,9 +88,9 @@ static void batch_by_hand(void)
     uint8_t bytes[200];
     size_t size = picture(bytes, 7);
     const int64_t half = INT64_C(1) << 31, side = INT64_C(1) << 47;
-    texcache_options o = texcache_default_options();
+    texcache_supply_options o = usual;
     texcache_held held = {NULL}, none = {NULL};
-    texcache_answer a;
+    texcache_supply_answer a;
     texcache_batch_answer b;
     texcache_batch batch = {0, 0, 0, TEXCACHE_BILINEAR, TEXCACHE_PERIODIC, TEXCACHE_PERIODIC, 1}, bad = batch;
     texcache_place at[4] = {{half, half, 0, 0, 0, 0}, {0, -1, 0, 0, 0, 0}, {side - 1, -side, 0, 0, 0, 0}, {1, 1, 0, 0, 0, 0}};
@@ -121,9 +136,9 @@ static void by_hand(void)
 {
     uint8_t bytes[200], other[200];
     size_t size = picture(bytes, 7);
-    texcache_options o = texcache_default_options();
+    texcache_supply_options o = usual;
     texcache_held held = {NULL}, second = {NULL};
-    texcache_answer a;
+    texcache_supply_answer a;
     texcache_info info;
     texcache_lookup r = texcache_lookup_at(32768, 32768, 0, 1);
     uint16_t out[8];
@@ -244,9 +259,9 @@ static void rows_by_hand(void)
 {
     static uint8_t bytes[WIDE_SIZE], given[WIDE_SIZE];
     size_t size = WIDE_SIZE;
-    texcache_options o = texcache_default_options();
+    texcache_supply_options o = usual;
     texcache_held held = {NULL}, none = {NULL};
-    texcache_answer a;
+    texcache_supply_answer a;
     texcache_lookup r = texcache_lookup_at(32768, 32768, 0, 1);
     uint16_t out[8];
     uint32_t code;
@@ -307,7 +322,13 @@ static void options_out_of_range(const char *folder)
         IS(bad == i + 1 && !cache);
     }
     SAYS(texcache_open(&cache, "no such folder", NULL), TEXCACHE_NO_FOLDER);
-    SAYS(texcache_open(NULL, folder, NULL), TEXCACHE_CLOSED);
+    IS(!cache);
+    SAYS(texcache_open(NULL, folder, NULL), TEXCACHE_BAD_ARGUMENT);
+    SAYS(texcache_open(&cache, NULL, NULL), TEXCACHE_BAD_ARGUMENT);
+    o[0] = texcache_default_options();
+    o[0].size--;
+    SAYS(texcache_open_saying(&cache, folder, &o[0], &bad), TEXCACHE_BAD_ARGUMENT);
+    IS(bad == 0);
 }
 
 static void over_a_folder(const char *folder)
@@ -315,6 +336,7 @@ static void over_a_folder(const char *folder)
     texcache *cache;
     texcache_pass *pass, *more[16];
     texcache_answer a;
+    texcache_supply_answer need;
     texcache_info info;
     texcache_tile tile;
     texcache_region region = {0, -1, 0, 3, 2};
@@ -342,33 +364,39 @@ static void over_a_folder(const char *folder)
     SAYS(texcache_find(cache, "link.tif", &link), TEXCACHE_OK);
     SAYS(texcache_find(cache, "late.tif", &late), TEXCACHE_OK);
     SAYS(texcache_find(cache, "moon.tif", &gone), TEXCACHE_NO_NAME);
-    SAYS(texcache_find(NULL, "moon.tif", &gone), TEXCACHE_CLOSED);
-    SAYS(texcache_perthread(cache, &pass), TEXCACHE_OK);
-    SAYS(texcache_perthread(cache, &more[0]), TEXCACHE_OK);
-    SAYS(texcache_perthread(cache, &more[1]), TEXCACHE_NO_PERMIT);
+    SAYS(texcache_find(NULL, "moon.tif", &gone), TEXCACHE_BAD_ARGUMENT);
+    SAYS(texcache_new_pass(cache, &pass), TEXCACHE_OK);
+    SAYS(texcache_new_pass(cache, &more[0]), TEXCACHE_OK);
+    SAYS(texcache_new_pass(cache, &more[1]), TEXCACHE_NO_PERMIT);
     IS(!more[1]);
     SAYS(texcache_close(&cache), TEXCACHE_PASSES_LEFT);
     /* a call in a pass that runs another, and in none */
-    pass->in_use = 1;
+    pass->state = TEXC_USED;
     SAYS(texcache_texture_fixed(pass, grey, &r, out, 8, &a), TEXCACHE_IN_USE);
     SAYS(texcache_end(&pass), TEXCACHE_IN_USE);
-    pass->in_use = 0;
-    SAYS(texcache_texture_fixed(NULL, grey, &r, out, 8, &a), TEXCACHE_CLOSED);
+    pass->state = TEXC_FREE;
+    SAYS(texcache_texture_fixed(NULL, grey, &r, out, 8, &a), TEXCACHE_BAD_ARGUMENT);
     /* numbers out of range, and buffers that are too small */
     SAYS(texcache_texture_fixed(pass, 6, &r, out, 8, &a), TEXCACHE_NO_FILE);
     SAYS(texcache_get_info(pass, UINT32_MAX, &info, &a), TEXCACHE_NO_FILE);
     bad.channels = 9;
     SAYS(texcache_texture_fixed(pass, grey, &bad, out, 8, &a), TEXCACHE_BAD_REQUEST);
+    IS(a.detail == TEXCACHE_BAD_CHANNELS);
     bad.channels = 0;
     SAYS(texcache_texture_d_fixed(pass, grey, &bad, out, 8, &a), TEXCACHE_BAD_REQUEST);
+    IS(a.detail == TEXCACHE_BAD_CHANNELS);
     bad = r, bad.swrap = 4;
     SAYS(texcache_texture_fixed(pass, grey, &bad, out, 8, &a), TEXCACHE_BAD_REQUEST);
+    IS(a.detail == TEXCACHE_BAD_SWRAP);
     bad = r, bad.filter = 3;
     SAYS(texcache_texture_local_fixed(pass, grey, &bad, out, 8, &a), TEXCACHE_BAD_REQUEST);
+    IS(a.detail == TEXCACHE_BAD_FILTER);
     bad = r, bad.dsdx = 1 << 30;
     SAYS(texcache_texture_d_fixed(pass, grey, &bad, out, 8, &a), TEXCACHE_BAD_REQUEST);
+    IS(a.detail == TEXCACHE_BAD_PLACE);
     bad = r, bad.channels = 3;
     SAYS(texcache_texture_fixed(pass, grey, &bad, out, 2, &a), TEXCACHE_SMALL_BUFFER);
+    IS(a.value == 3);
     SAYS(texcache_get_pixels(pass, grey, &region, out, 5, &a), TEXCACHE_SMALL_BUFFER);
     IS(a.value == 6);
     SAYS(texcache_get_pixels(pass, grey, &region, out, 6, &a), TEXCACHE_OK);
@@ -413,28 +441,28 @@ static void over_a_folder(const char *folder)
     IS(out[0] == 1799);
     /* a file that changes, or vanishes, after the library asked for bytes and before they are supplied */
     SAYS(texcache_invalidate(pass, late, true, &a), TEXCACHE_OK);
-    while (tex_c_texture(pass->held, &pass->held, late, &r, out, 8, &a) == TEXCACHE_NEEDED && a.need == 1) texc_supply(pass, &a);
-    IS(a.need == 2 && a.need_file == late);
-    uint32_t before = a.need_generation;
+    while (tex_c_texture(pass->held, &pass->held, late, &r, out, 8, &need) == TEXCACHE_NEEDED && need.need == 1) texc_supply(pass, &need);
+    IS(need.need == 2 && need.need_file == late);
+    uint32_t before = need.need_generation;
     picture(bytes, 11);
-    usleep(20000);
+    wait_a_little();
     write_file(folder, "late.tif", bytes, size);
-    texc_supply(pass, &a);
+    texc_supply(pass, &need);
     SAYS(texcache_texture_fixed(pass, late, &r, out, 8, &a), TEXCACHE_OK);
     IS(out[0] == 11 * 257 && a.generation > before);
     SAYS(texcache_invalidate(pass, late, true, &a), TEXCACHE_OK);
-    while (tex_c_texture(pass->held, &pass->held, late, &r, out, 8, &a) == TEXCACHE_NEEDED && a.need == 1) texc_supply(pass, &a);
-    IS(a.need == 2 && a.need_file == late);
+    while (tex_c_texture(pass->held, &pass->held, late, &r, out, 8, &need) == TEXCACHE_NEEDED && need.need == 1) texc_supply(pass, &need);
+    IS(need.need == 2 && need.need_file == late);
     unlink(path);
-    texc_supply(pass, &a);
-    SAYS(tex_c_texture(pass->held, &pass->held, late, &r, out, 8, &a), TEXCACHE_READ_FAULT);
+    texc_supply(pass, &need);
+    SAYS(tex_c_texture(pass->held, &pass->held, late, &r, out, 8, &need), TEXCACHE_READ_FAULT);
     /* a file that is cut short meanwhile */
     write_file(folder, "late.tif", bytes, size);
-    while (tex_c_texture(pass->held, &pass->held, late, &r, out, 8, &a) == TEXCACHE_NEEDED && a.need == 1) texc_supply(pass, &a);
-    IS(a.need == 2 && a.need_file == late);
-    usleep(20000);
+    while (tex_c_texture(pass->held, &pass->held, late, &r, out, 8, &need) == TEXCACHE_NEEDED && need.need == 1) texc_supply(pass, &need);
+    IS(need.need == 2 && need.need_file == late);
+    wait_a_little();
     write_file(folder, "late.tif", bytes, size - 30);
-    texc_supply(pass, &a);
+    texc_supply(pass, &need);
     SAYS(texcache_texture_fixed(pass, late, &r, out, 8, &a), TEXCACHE_BAD_FILE);
     IS(a.detail == 12);
     picture(bytes, 7);
@@ -454,7 +482,7 @@ static void over_a_folder(const char *folder)
     SAYS(texcache_tile_at(pass, 3, &tile), TEXCACHE_NOTHING_HELD);
     /* a replaced file is noticed when its version is checked */
     size = picture(bytes, 9);
-    usleep(20000);
+    wait_a_little();
     write_file(folder, "grey.tif", bytes, size);
     SAYS(texcache_texture_fixed(pass, grey, &r, out, 8, &a), TEXCACHE_OK);
     IS(out[0] == 1799 && a.generation == 1);
@@ -473,13 +501,13 @@ static void over_a_folder(const char *folder)
     IS(shard.share == o.budget / 16 && shard.loose <= shard.share);
     /* ends */
     SAYS(texcache_end(&pass), TEXCACHE_OK);
-    SAYS(texcache_end(&pass), TEXCACHE_CLOSED);
-    SAYS(texcache_perthread(cache, &pass), TEXCACHE_OK);
+    SAYS(texcache_end(&pass), TEXCACHE_BAD_ARGUMENT);
+    SAYS(texcache_new_pass(cache, &pass), TEXCACHE_OK);
     SAYS(texcache_tile_at(pass, 0, &tile), TEXCACHE_NOTHING_HELD);
     SAYS(texcache_end(&pass), TEXCACHE_OK);
     SAYS(texcache_end(&more[0]), TEXCACHE_OK);
     SAYS(texcache_close(&cache), TEXCACHE_OK);
-    SAYS(texcache_close(&cache), TEXCACHE_CLOSED);
+    SAYS(texcache_close(&cache), TEXCACHE_BAD_ARGUMENT);
 }
 
 int main(int count, char **words)

@@ -4,8 +4,13 @@
  * i mod THREADS. A request of another kind, or of a texture in tiles, is the line `-`. The closing lines of the
  * threads are those of the program. MODE is local where each lookup is first tried with texcache_texture_local_fixed.
  */
+#define _XOPEN_SOURCE 700
 #include "texcache.h"
+#include <pthread.h>
 #include <stdio.h>
+#include <stdlib.h>
+#include <string.h>
+#include <sys/types.h>
 
 typedef struct request {
     char *line, *answer;
@@ -108,7 +113,7 @@ static void *work(void *given)
     unsigned thread = (unsigned)(uintptr_t)given, round;
     texcache_pass *pass;
     size_t at = 0;
-    int status = texcache_perthread(cache, &pass);
+    int status = texcache_new_pass(cache, &pass);
     if (status) {
         fprintf(stderr, "lines: %s\n", texcache_error_string(status));
         exit(2);
@@ -128,7 +133,7 @@ int main(int count, char **words)
     char *line = NULL;
     size_t room = 0, in_round = 0;
     ssize_t size;
-    int status = count < 3 ? TEXCACHE_CLOSED : texcache_open(&cache, words[1], NULL);
+    int status = count < 3 ? TEXCACHE_BAD_ARGUMENT : texcache_open(&cache, words[1], NULL);
     if (status) {
         fprintf(stderr, "lines: %s\n", texcache_error_string(status));
         return 2;

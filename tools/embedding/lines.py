@@ -54,7 +54,7 @@ def answered(cache, textures, line):
 
 def part(cache, lines, first, step):
     said = {}
-    with cache.perthread() as textures:
+    with cache.new_pass() as textures:
         for at in range(first, len(lines), step):
             try:
                 said[at] = answered(cache, textures, lines[at])

@@ -1,15 +1,21 @@
 /* Lookups on doubles: lookups FOLDER, an empty folder that it may write to. Ranges and bad use; many lookups equal as
  * many single ones, by one thread and by eight; and files that are replaced or vanish between two parts of a call. */
-#define tex_c_texture_many spied_texture_many
-#include "texcache.h"
-#undef tex_c_texture_many
+#define _XOPEN_SOURCE 700
+#include "texcache_inside.h"
 #include <math.h>
 #include <stdio.h>
+#include <stdlib.h>
+#include <string.h>
+#include <unistd.h>
 
 enum { WIDTH = 300, HEIGHT = 200, CHANNELS = 3, HEAD = 140, MOST = 200, THREADS = 8 };
 
-uint32_t tex_c_texture_many(texcache_held from, texcache_held *to, const texcache_batch *batch, const texcache_place *places,
-                            size_t count, uint16_t *out, size_t room, texcache_batch_answer *answer);
+uint32_t __real_tex_c_texture_many(texcache_held from, texcache_held *to, const texcache_batch *batch,
+                                   const texcache_place *places, size_t count, uint16_t *out, size_t room,
+                                   texcache_batch_answer *answer);
+uint32_t __wrap_tex_c_texture_many(texcache_held from, texcache_held *to, const texcache_batch *batch,
+                                   const texcache_place *places, size_t count, uint16_t *out, size_t room,
+                                   texcache_batch_answer *answer);
 
 static int failures;
 static const char *folder;
@@ -35,11 +41,12 @@ static unsigned calls;
         }                                                           \
     } while (0)
 
-uint32_t spied_texture_many(texcache_held from, texcache_held *to, const texcache_batch *batch, const texcache_place *places,
-                            size_t count, uint16_t *out, size_t room, texcache_batch_answer *answer)
+uint32_t __wrap_tex_c_texture_many(texcache_held from, texcache_held *to, const texcache_batch *batch,
+                                   const texcache_place *places, size_t count, uint16_t *out, size_t room,
+                                   texcache_batch_answer *answer)
 {
     if (between) between(calls++, out);
-    return tex_c_texture_many(from, to, batch, places, count, out, room, answer);
+    return __real_tex_c_texture_many(from, to, batch, places, count, out, room, answer);
 }
 
 /* Writes a picture of 300 by 200 in strips of 20 rows, noise or one value, with `more` bytes behind it. It takes the
@@ -170,6 +177,8 @@ static void bad_use(texcache_pass *pass, uint32_t file)
         SAYS(texcache_texture_many(pass, file, &bad, i < 6 ? &along : &at, 0, out, 0, &done, &a),
              i < 4 ? TEXCACHE_BAD_REQUEST : TEXCACHE_OK);
     }
+    bad = good, bad.size++;
+    SAYS(texcache_texture(pass, file, &bad, 0, 0, out, 8, &a), TEXCACHE_BAD_ARGUMENT);
     bad = good, bad.channels = 0;
     SAYS(texcache_texture(pass, file, &bad, 0, 0, out, 8, &a), TEXCACHE_BAD_REQUEST);
     IS(a.detail == TEXCACHE_BAD_CHANNELS);
@@ -187,24 +196,24 @@ static void bad_use(texcache_pass *pass, uint32_t file)
     SAYS(texcache_texture(pass, 99, &good, 0, 0, out, 3, &a), TEXCACHE_NO_FILE);
     SAYS(texcache_texture_many(pass, 99, &good, &at, COUNT, out, 8 * COUNT, &done, &a), TEXCACHE_NO_FILE);
     IS(done == 0);
-    SAYS(texcache_texture(NULL, file, &good, 0, 0, out, 3, &a), TEXCACHE_CLOSED);
-    SAYS(texcache_texture(pass, file, NULL, 0, 0, out, 3, &a), TEXCACHE_CLOSED);
-    SAYS(texcache_texture(pass, file, &good, 0, 0, NULL, 3, &a), TEXCACHE_CLOSED);
-    SAYS(texcache_texture(NULL, file, &good, 0, 0, out, 3, NULL), TEXCACHE_CLOSED);
-    SAYS(texcache_texture_many(pass, file, &good, NULL, 1, out, 3, &done, &a), TEXCACHE_CLOSED);
+    SAYS(texcache_texture(NULL, file, &good, 0, 0, out, 3, &a), TEXCACHE_BAD_ARGUMENT);
+    SAYS(texcache_texture(pass, file, NULL, 0, 0, out, 3, &a), TEXCACHE_BAD_ARGUMENT);
+    SAYS(texcache_texture(pass, file, &good, 0, 0, NULL, 3, &a), TEXCACHE_BAD_ARGUMENT);
+    SAYS(texcache_texture(NULL, file, &good, 0, 0, out, 3, NULL), TEXCACHE_BAD_ARGUMENT);
+    SAYS(texcache_texture_many(pass, file, &good, NULL, 1, out, 3, &done, &a), TEXCACHE_BAD_ARGUMENT);
     for (int i = 0; i < 6; i++) {
         texcache_coordinates some = along;
         const double **each[] = {&some.s, &some.t, &some.dsdx, &some.dtdx, &some.dsdy, &some.dtdy};
         *each[i] = NULL;
-        SAYS(texcache_texture_many(pass, file, &good, &some, 1, out, 3, &done, &a), TEXCACHE_CLOSED);
+        SAYS(texcache_texture_many(pass, file, &good, &some, 1, out, 3, &done, &a), TEXCACHE_BAD_ARGUMENT);
     }
-    pass->in_use = 1;
+    pass->state = TEXC_USED;
     memset(&a, 255, sizeof a);
     SAYS(texcache_texture(pass, file, &good, 0, 0, out, 3, &a), TEXCACHE_IN_USE);
     IS(a.generation == 0 && a.detail == 0);
     SAYS(texcache_texture_many(pass, file, &good, &at, COUNT, out, 3 * COUNT, &done, &a), TEXCACHE_IN_USE);
     IS(done == 0);
-    pass->in_use = 0;
+    pass->state = TEXC_FREE;
     /* a bad number at each index of many, in each of the arrays: nothing is written, before it or behind */
     const double wrong[] = {NAN, INFINITY, -INFINITY, 40000, -1e30};
     for (size_t i = 0; i < COUNT; i++)
@@ -317,7 +326,7 @@ static void as_fixed(texcache_pass *pass, uint32_t file)
 static void *thread(void *given)
 {
     texcache_pass *pass;
-    if (texcache_perthread(cache, &pass)) exit(2);
+    if (texcache_new_pass(cache, &pass)) exit(2);
     many_as_single(pass, file_of("noise.tif"), 100 + (uintptr_t)given);
     texcache_end(&pass);
     return NULL;
@@ -425,7 +434,7 @@ int main(int count, char **words)
     put("flat.tif", 1, 1);
     put("gone.tif", 9, 0);
     options.budget = 500000;
-    if (texcache_open(&cache, folder, &options) || texcache_perthread(cache, &pass) || texcache_perthread(cache, &other)) return 2;
+    if (texcache_open(&cache, folder, &options) || texcache_new_pass(cache, &pass) || texcache_new_pass(cache, &other)) return 2;
     ranges(pass, file_of("noise.tif"));
     bad_use(pass, file_of("noise.tif"));
     as_fixed(pass, file_of("noise.tif"));

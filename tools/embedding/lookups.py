@@ -70,7 +70,7 @@ def arguments():
 
 
 def main(folder):
-    with texcache.Cache(folder) as cache, cache.perthread() as textures:
+    with texcache.Cache(folder) as cache, cache.new_pass() as textures:
         wrong = [what for is_so, what in compared(textures, cache.find("bricks.tif")) if not is_so]
     print(*(f"not so: {it}" for it in wrong), f"{len(wrong)} failed", sep="\n")
     return 1 if wrong else 0

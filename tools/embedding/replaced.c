@@ -1,8 +1,12 @@
 /* Files that are replaced while they are read never mix within an answer: replaced FOLDER THREADS MILLISECONDS,
  * where FOLDER is empty. Each file has one value in all its texels, and each version another; a version is put in
  * the place of the one before by a rename. */
+#define _XOPEN_SOURCE 700
 #include "texcache.h"
+#include <pthread.h>
 #include <stdio.h>
+#include <stdlib.h>
+#include <string.h>
 #include <time.h>
 
 enum { FILES = 4, SIDE = 200, MANY = 200 };
@@ -39,7 +43,7 @@ static void *reads(void *given)
     texcache_pass *pass;
     texcache_answer a;
     uint16_t *out = malloc(SIDE * SIDE * sizeof *out);
-    if (texcache_perthread(cache, &pass)) exit(2);
+    if (texcache_new_pass(cache, &pass)) exit(2);
     while (!__atomic_load_n(&ends, __ATOMIC_RELAXED)) {
         random = random * 1664525u + 1013904223u;
         uint32_t file = (random >> 24) % FILES;

@@ -1,23 +1,40 @@
-"""Makes libtexcache.a, the one archive that programs link: the library tex_c, the toolchain's C part and the version.
+"""Makes libtexcache.a, the one archive that programs link: the library tex_c, the C part in src/c, the toolchain's C part
+and the version.
 
-The toolchain's own compiler and archiver make it. So the archive does not depend on the compiler of this machine, and
-the same parts give the same bytes.
+The machine's C compiler compiles src/c, because the toolchain's clang comes without the headers of C. The toolchain's
+archiver makes the archive. The same compiler and the same parts give the same bytes.
 """
 import os
+import shutil
 import tempfile
 from pathlib import Path
 
-from texcheck.common import TOP
+from texcheck.common import TOP, Missing
 from texcheck.sources import proved, version_text
 from texcheck.unproved import LIBRARY, called, kit, usual
 
 ARCHIVE = "libtexcache.a"
-VERSION_FILE = TOP / "src" / "c" / "version.c"
+SOURCES = TOP / "src" / "c"
+# C99 as POSIX has it; warnings are errors in tools/check embedding alone
+C_FLAGS = ("-std=c99", "-fPIC", f"-I{TOP / 'include'}", f"-I{SOURCES}")
+
+
+def compiler():
+    """The C compiler for the C part and the shared library."""
+    found = shutil.which("cc") or shutil.which("gcc")
+    if not found:
+        raise Missing("a C compiler is needed for the C part of the library; tools/setup installs it")
+    return found
+
+
+def c_files():
+    return sorted(SOURCES.glob("*.c"))
 
 
 def parts_of(library):
     """The files that an archive is made of, beside the toolchain's tools."""
-    return library, kit() / "c" / "liblibc_c.a", VERSION_FILE, TOP / "VERSION"
+    headers = (*SOURCES.glob("*.h"), *(TOP / "include").glob("*.h"))
+    return library, kit() / "c" / "liblibc_c.a", TOP / "VERSION", *c_files(), *headers
 
 
 def is_made(archive, library):
@@ -35,12 +52,22 @@ def archive_of(library=None):
     return archive
 
 
+def defines(version):
+    return f'-DTEXCACHE_LIBRARY_VERSION="{version}"'
+
+
+def compiled(version, room):
+    """The objects of the C part."""
+    made = [room / f"{it.stem}.o" for it in c_files()]
+    for source, target in zip(c_files(), made):
+        called(compiler(), "-O2", *C_FLAGS, f"-ffile-prefix-map={TOP}=.", defines(version), "-c", source, "-o", target)
+    return made
+
+
 def make(library, archive, version):
-    tools = kit() / "toolchain" / "bin"
-    own, heap, source, _ = parts_of(library)
     with tempfile.TemporaryDirectory(dir=archive.parent) as room:
-        made, part = Path(room) / "version.o", Path(room) / ARCHIVE
-        called(tools / "clang", "-O2", "-fPIC", f'-DTEXCACHE_LIBRARY_VERSION="{version}"', "-c", source, "-o", made)
+        part = Path(room) / ARCHIVE
         # the members of the archives, with fixed times and owners
-        called(tools / "llvm-ar", "qcLsD", part, own, heap, made)
+        called(kit() / "toolchain" / "bin" / "llvm-ar", "qcLsD", part, *parts_of(library)[:2],
+               *compiled(version, Path(room)))
         os.replace(part, archive)

@@ -2,10 +2,11 @@
 
 The demo's list and the stored run of texcache are answered by 1 and by 8 threads. Each answer must be the line of
 expected.txt or of the run's stdout; requests for UDIM textures are left out, because the library does not have them.
-Each thread needs the same cells as the program's worker. Then come wrong calls, lookups on doubles, files that are
-replaced while they are read, and the renderer's picture, which must be the same for 1 and 8 threads. The demo's list
-and the wrong calls also run under valgrind, and the C side with the compiler's thread sanitizer. `tools/check fine`
-tests which values lookups on doubles have.
+Each thread needs the same cells as the program's worker. Then come wrong calls, passes, threads and forks, open files,
+lookups on doubles, files that are replaced while they are read, and the renderer's picture, which must be the same for
+1 and 8 threads. All but the picture also run under valgrind and with the compiler's sanitizers, of addresses, of
+undefined behaviour and of threads, which then see the C part too. `tools/check fine` tests which values lookups on
+doubles have.
 """
 import os
 import shutil
@@ -13,14 +14,26 @@ import sys
 import tempfile
 from pathlib import Path
 
-from texcheck.archive import archive_of
+from texcheck.archive import C_FLAGS, SOURCES, archive_of, c_files, defines
 from texcheck.common import TOP, Skips, add_program, debian_python, program_of, said
+from texcheck.sources import version_text
+from texcheck.tree import SHARED, shared
 
 HELP = "the library for C, and the C, C++ and Python that use it"
 HERE = TOP / "tools" / "embedding"
 RUN = TOP / "crates" / "texcache"
 FLAGS = ["-O2", "-Wall", "-Wextra", f"-I{TOP / 'include'}"]
+# for tests that look into the C part
+INSIDE = ["-std=c99", f"-I{SOURCES}"]
+# the library's calls for many lookups come through the test
+WRAP = "-Wl,--wrap=tex_c_texture_many"
 THREADS = ("1", "8")
+# each test in C over an empty folder: its name, what it is about, its flags, and its arguments beside the folder
+OVER_FOLDERS = [("bad_use", "bad use and bad input", INSIDE, []),
+                ("passes", "passes, threads and forks", INSIDE, []),
+                ("descriptors", "open files", INSIDE, []),
+                ("lookups", "lookups on doubles, and many in one call", [*INSIDE, WRAP], []),
+                ("replaced", "files that are replaced while they are read", ["-std=c99"], ["8", "4000"])]
 
 
 def lists():
@@ -59,11 +72,12 @@ class Tests:
 
     def __init__(self, library, program, made, skips):
         self.library, self.program, self.made, self.skips = library, program, made, skips
-        self.passed, self.failed = 0, 0
+        self.passed, self.failed, self.wrong = 0, 0, []
         self.cc = shutil.which(os.environ.get("CC", "cc")) or shutil.which("gcc")
         self.cxx = shutil.which(os.environ.get("CXX", "c++")) or shutil.which("g++")
         self.valgrind = shutil.which("valgrind")
-        self.shared = made / "libtexcache.so"
+        self.shared = made / SHARED
+        shared(library, self.shared)
 
     def say(self, is_so, what, more=""):
         self.passed += bool(is_so)
@@ -73,7 +87,7 @@ class Tests:
     def built(self, name, source, *flags, compiler=None, over=None):
         """Builds a program, and returns whether that worked. Warnings count as a failure."""
         status, text = said([compiler or self.cc, *FLAGS, *flags, "-o", self.made / name, source,
-                             *(over or [self.library]), "-lm", "-lpthread"])
+                             *(over or [self.library]), "-lm", "-lpthread"], seconds=600)
         if status or text:
             self.say(False, f"building {name}", text or f"status {status}")
         return status == 0
@@ -88,31 +102,49 @@ class Tests:
             wanted_needs, seen = needs(other), needs(got)
             self.say(seen == wanted_needs, f"{what}: the needs of each thread", f"{seen}, wanted {wanted_needs}")
 
-    def over_a_folder(self, what, name, *more, before=()):
+    def over_a_folder(self, what, name, *arguments, before=(), **more):
         with tempfile.TemporaryDirectory() as folder:
-            status, text = said([*before, self.made / name, folder, *more], seconds=600)
+            status, text = said([*before, self.made / name, folder, *arguments], seconds=600, **more)
             self.say(status == 0, what, text)
 
     def in_c(self):
-        if self.built("lines", HERE / "lines.c", "-std=gnu11"):
+        if self.built("lines", HERE / "lines.c", "-std=c99", "-Wpedantic"):
             for name, *one in lists():
                 for threads in THREADS:
                     self.compare(f"C, {name}, {threads} threads", [self.made / "lines"], *one, threads)
         page = (TOP / "docs" / "EMBEDDING.md").read_text(encoding="utf-8")
         (self.made / "page.c").write_text(page.split("```c\n")[1].split("```")[0])
-        if self.built("page", self.made / "page.c"):
+        if self.built("page", self.made / "page.c", "-std=c99", "-Wpedantic"):
             status, text = said([self.made / "page"], cwd=TOP)
             self.say((status, text) == (0, "ok 42919 36494 34759\n"), "the lines of C of docs/EMBEDDING.md", text)
-        if self.built("bad_use", HERE / "bad_use.c", "-std=gnu11"):
-            self.over_a_folder("bad use and bad input", "bad_use")
-        if self.built("lookups", HERE / "lookups.c", "-std=gnu11"):
-            self.over_a_folder("lookups on doubles, and many in one call", "lookups")
-        if self.built("lookups_fast", HERE / "lookups.c", "-std=gnu11", "-O3", "-ffast-math"):
+        for name, what, flags, words in OVER_FOLDERS:
+            if self.built(name, HERE / f"{name}.c", *flags):
+                self.over_a_folder(what, name, *words)
+        if self.built("lookups_fast", HERE / "lookups.c", *INSIDE, WRAP, "-O3", "-ffast-math"):
             self.over_a_folder("lookups on doubles with -ffast-math", "lookups_fast")
-        for standard in ("c11", "c17"):
-            self.built(f"alone in {standard}", HERE / "bad_use.c", f"-std={standard}", "-Wpedantic")
-        if self.built("replaced", HERE / "replaced.c", "-std=gnu11"):
-            self.over_a_folder("files that are replaced while they are read", "replaced", "8", "4000")
+
+    def is_clean(self, what, source, *flags, compiler=None):
+        """Compiles a file, alone; no warning is right."""
+        status, text = said([compiler or self.cc, *FLAGS, *flags, "-o", self.made / "part.o", source])
+        self.wrong += [f"{what}: {text or status}"] if status or text else []
+
+    def headers(self):
+        """The headers in all standards, alone, before and behind those of the system; and the C part without warnings."""
+        strict = ["-Wpedantic", "-Wshadow", "-Wconversion", "-Wno-sign-conversion", "-c"]
+        own = [f'#include "{it}"\n' for it in ("texcache.h", "texcache_supply.h")]
+        others = "#include <stdio.h>\n#include <unistd.h>\n#include <pthread.h>\n"
+        for number, text in enumerate([*own, *(others + it for it in own), *(it + others for it in own)]):
+            source = self.made / f"header{number}.c"
+            source.write_text(text + "typedef int unused;\n")
+            for standard in ("c99", "c11", "c17", "gnu11"):
+                self.is_clean(f"{source.name} in {standard}", source, f"-std={standard}", *strict)
+        source = self.made / "header.cpp"
+        source.write_text(others + '#include "texcache.hpp"\n#include "texcache_supply.h"\n')
+        for standard in ("c++14", "c++17", "c++20") if self.cxx else ():
+            self.is_clean(f"texcache.hpp in {standard}", source, f"-std={standard}", *strict, compiler=self.cxx)
+        for source in c_files():
+            self.is_clean(source.name, source, *C_FLAGS, defines("0"), *strict)
+        self.say(not self.wrong, "headers and the C part compile without a warning", "\n".join(self.wrong))
 
     def in_cxx(self):
         if self.skips.lacks(None if self.cxx else "a C++ compiler", "C++"):
@@ -126,8 +158,6 @@ class Tests:
                 self.say(status == 0, f"C++, lookups on doubles, {standard}", text)
 
     def in_python(self):
-        if not self.built(self.shared.name, TOP / "python" / "texcache_shared.c", "-shared", "-fPIC"):
-            return
         more = {"env": {**os.environ, "TEXCACHE_LIBRARY": str(self.shared)}}
         has_numpy = said([debian_python(), "-c", "import numpy"])[0] == 0
         pythons = {"Python": [sys.executable, "-S"], "Python with numpy": [debian_python()]}
@@ -152,30 +182,40 @@ class Tests:
         name, *one = next(lists())
         for threads in THREADS:
             self.compare(f"valgrind, {name}, {threads} threads", [*grind, self.made / "lines"], *one, threads)
-        self.over_a_folder("valgrind, bad use", "bad_use", before=grind)
-        self.over_a_folder("valgrind, lookups on doubles", "lookups", before=grind)
-        self.over_a_folder("valgrind, files that are replaced", "replaced", "4", "1500", before=grind)
+        for name, what, _, words in OVER_FOLDERS:
+            self.over_a_folder(f"valgrind, {what}", name, *(["4", "1500"] if words else []), before=grind)
+
+    def sanitized(self, kind, flags, over, **more):
+        """The tests, built with the C part by a sanitizer, over a library that it does not see."""
+        flags = [*flags, "-g", *C_FLAGS, defines(version_text(False))]
+        if self.built(f"lines_{kind}", HERE / "lines.c", *flags, over=[*c_files(), *over]):
+            for name, *one in lists():
+                self.compare(f"{kind}, {name}, 8 threads", [self.made / f"lines_{kind}"], *one, "8", **more)
+        for name, what, own, words in OVER_FOLDERS:
+            if self.built(f"{name}_{kind}", HERE / f"{name}.c", *flags, *own, over=[*c_files(), *over]):
+                self.over_a_folder(f"{kind}, {what}", f"{name}_{kind}", *(["8", "3000"] if words else []), **more)
+
+    def with_addresses(self):
+        flags = ["-fsanitize=address,undefined", "-fno-sanitize-recover=all"]
+        self.sanitized("addresses", flags, [self.library])
 
     def with_races(self):
-        flags = ["-std=gnu11", "-g", "-fsanitize=thread"]
         # the library hands its blocks from thread to thread by atomic steps of its own, which the sanitizer does not
         # see; in a shared object it can be told to look at the C side alone
         core = self.made / "libtex_c_core.so"
         said([self.cc, "-shared", "-o", core, "-Wl,--whole-archive", self.library, "-Wl,--no-whole-archive"])
         (self.made / "library").write_text(f"called_from_lib:{core.name}\n")
-        more = {"env": {**os.environ, "TSAN_OPTIONS": f"suppressions={self.made / 'library'} exitcode=66"}}
-        over = [core, f"-Wl,-rpath,{self.made}"]
-        if self.built("lines_races", HERE / "lines.c", *flags, over=over):
-            for name, *one in lists():
-                self.compare(f"races, {name}, 8 threads", [self.made / "lines_races"], *one, "8", **more)
-        if self.built("lookups_races", HERE / "lookups.c", *flags, over=over):
-            with tempfile.TemporaryDirectory() as folder:
-                status, text = said([self.made / "lookups_races", folder], seconds=600, **more)
-                self.say(status == 0, "races, lookups on doubles", text)
-        if self.built("replaced_races", HERE / "replaced.c", *flags, over=over):
-            with tempfile.TemporaryDirectory() as folder:
-                status, text = said([self.made / "replaced_races", folder, "8", "3000"], seconds=600, **more)
-                self.say(status == 0, "races, files that are replaced", text)
+        options = lambda supp: {"env": {**os.environ, "TSAN_OPTIONS": f"suppressions={supp} exitcode=66"}}
+        self.sanitized("races", ["-fsanitize=thread"], [core, f"-Wl,-rpath,{self.made}"], **options(self.made / "library"))
+        # programs of others, over the archive and the shared library as they are, with the file that is installed
+        installed = options(SOURCES / "tsan.supp")
+        for what, over in (("archive", [self.library]), ("shared library", [self.shared, f"-Wl,-rpath,{self.made}"])):
+            if self.built("lines_user", HERE / "lines.c", "-fsanitize=thread", "-g", over=over):
+                name, *one = next(lists())
+                self.compare(f"races, the {what} with tsan.supp", [self.made / "lines_user"], *one, "8", **installed)
+            if self.built("replaced_user", HERE / "replaced.c", "-fsanitize=thread", "-g", over=over):
+                self.over_a_folder(f"races, the {what} with tsan.supp, files that are replaced", "replaced_user", "8",
+                                   "2000", **installed)
 
     def picture(self, what, name, folder, *more):
         """The picture of a run of the renderer."""
@@ -185,7 +225,7 @@ class Tests:
         return out.read_bytes() if out.is_file() else b""
 
     def render(self):
-        if not self.built("renderer", TOP / "examples" / "renderer" / "renderer.c", "-std=gnu11"):
+        if not self.built("renderer", TOP / "examples" / "renderer" / "renderer.c", "-std=c99"):
             return
         demo = TOP / "demo"
         one, eight, closest = (
@@ -223,7 +263,8 @@ def run(args):
         tests = Tests(archive_of(args.library), program_of(args, "texcache"), Path(made), skips)
         if skips.lacks(None if tests.cc else "a C compiler", "embedding"):
             return 1 if skips.failed else 0
-        for step in (tests.in_c, tests.in_cxx, tests.in_python, tests.under_valgrind, tests.with_races, tests.render):
+        for step in (tests.headers, tests.in_c, tests.in_cxx, tests.in_python, tests.under_valgrind,
+                     tests.with_addresses, tests.with_races, tests.render):
             step()
     print(f"{tests.passed} passed, {tests.failed} failed")
     return 1 if tests.failed or skips.failed else 0

@@ -1,5 +1,5 @@
 """Compares lookups on doubles, at places and over footprints, with a plain program that is written from the definitions
-alone (fine_model.py). They go through python/texcache.py, and so through include/texcache.h and the library.
+alone (fine_model.py). They go through python/texcache.py, and so through the C part and the proved library.
 
 The pictures are 3, 100, 2048, 8192 and 131072 texels wide, with noise in all their levels; the largest is a sparse file
 with noise in some tiles. Coordinates are drawn from all over their ranges, near the edges and the middles of texels
@@ -19,8 +19,9 @@ from pathlib import Path
 
 from texcheck import fine_model as model
 from texcheck.archive import archive_of
-from texcheck.common import TOP, Skips, said
+from texcheck.common import TOP, Skips
 from texcheck.tiff import LITTLE, LONG, LONG8, MARKS, SHORT, WIDE, directory
+from texcheck.tree import shared
 
 HELP = "lookups on doubles and over footprints, beside a plain program"
 LOOKUPS, FOOTPRINTS, FULL_LOOKUPS, FULL_FOOTPRINTS = 5000, 1000, 100000, 20000
@@ -235,7 +236,7 @@ def compared(folder, picture, lookups, footprints):
     room = folder / picture.name[:-4]
     room.mkdir()
     picture.write(room)
-    with texcache.Cache(room) as cache, cache.perthread() as textures:
+    with texcache.Cache(room) as cache, cache.new_pass() as textures:
         found = Comparison(textures, cache.find(picture.name), picture)
         while found.compared < lookups:
             found.points()
@@ -255,7 +256,7 @@ def worked(folder):
     picture.kept[0, 0, 0] = bytes(16 * y + x & 255 for y in range(16) for x in range(16))
     picture.sizes = picture.sizes[:1]
     picture.write(folder / "worked")
-    with texcache.Cache(folder / "worked") as cache, cache.perthread() as textures:
+    with texcache.Cache(folder / "worked") as cache, cache.new_pass() as textures:
         for numbers, wanted in WORKED:
             got = textures.texture_footprint(0, *numbers, 16, texcache.CLAMP, texcache.CLAMP, 1)
             if got != [wanted]:
@@ -270,19 +271,15 @@ def add_arguments(parser):
 
 
 def run(args):
-    skips, cc = Skips(args), shutil.which(os.environ.get("CC", "cc")) or shutil.which("gcc")
-    if skips.lacks(None if cc else "a C compiler", "fine"):
+    skips = Skips(args)
+    if skips.lacks(None if shutil.which("cc") else "a C compiler", "fine"):
         return 1 if skips.failed else 0
     library = archive_of(args.library)
     lookups, footprints = (FULL_LOOKUPS, FULL_FOOTPRINTS) if args.full else (LOOKUPS, FOOTPRINTS)
     with tempfile.TemporaryDirectory() as made:
         made, every = Path(made), list(pictures())
         os.environ["TEXCACHE_LIBRARY"] = str(made / "libtexcache.so")
-        status, text = said([cc, "-O2", "-shared", "-fPIC", f"-I{TOP / 'include'}", "-o", made / "libtexcache.so",
-                             TOP / "python" / "texcache_shared.c", library, "-lpthread"])
-        if status:
-            print(f"fine: {text}")
-            return 1
+        shared(library, made / "libtexcache.so")
         with ProcessPoolExecutor(len(os.sched_getaffinity(0))) as pool:
             each = partial(compared, made, lookups=lookups // len(every), footprints=footprints // len(every))
             found = list(pool.map(each, reversed(every)))

@@ -1,15 +1,18 @@
-"""Reads include/texcache.h: its calls, structs and named values, for the man page and the list of the interface."""
+"""Reads include/texcache.h and include/texcache_supply.h: their calls, structs and named values, for the man page and
+the list of the interface."""
 import re
 from collections import namedtuple
 
 from texcheck.common import TOP
 
 HEADER = TOP / "include" / "texcache.h"
+SUPPLY = TOP / "include" / "texcache_supply.h"
 # a call with its result and parameters, and the comment above it, if there is one
 Call = namedtuple("Call", "declaration name comment")
 COMMENT = r"(?:/\*(?P<comment>(?:(?!\*/).)*)\*/\n)?"
-DEFINED = re.compile(COMMENT + r"TEXCACHE_API (?P<declaration>[^{};]*?(?P<name>texcache_\w+)\([^{};]*\))\n\{", re.S)
-DECLARED = re.compile(COMMENT + r"^(?P<declaration>\w[^{};()#]*?(?P<name>(?:texcache|tex_c)_\w+)\([^{};]*?\));", re.S | re.M)
+# a call may have another symbol, which follows it
+DECLARED = re.compile(COMMENT + r"^(?P<declaration>\w[^{};()#]*?(?P<name>(?:texcache|tex_c)_\w+)\([^{};()]*\))"
+                      r"(?:\s+TEXCACHE_SYMBOL\([^()]*\))?;", re.S | re.M)
 STRUCT = re.compile(r"typedef struct (?P<name>texcache_\w+) \{(?P<fields>[^{}]*)\} (?P=name);")
 ENUM = re.compile(r"enum (texcache_\w+) \{([^{}]*)\};")
 
@@ -22,27 +25,27 @@ def on_one_line(text):
     return " ".join(text.split())
 
 
-def calls(pattern, text):
-    """The calls that a pattern finds. A comment loses the stars at its left."""
-    for it in pattern.finditer(text):
+def calls(path):
+    """The calls that a header declares. A comment loses the stars at its left."""
+    for it in DECLARED.finditer(path.read_text(encoding="utf-8")):
         comment = re.sub(r"^ *\*", "", it["comment"] or "", flags=re.M)
         yield Call(on_one_line(it["declaration"]), it["name"], on_one_line(comment))
 
 
 def own_calls():
-    """The calls for programs: those that the header defines, and those that the library does."""
-    text = HEADER.read_text(encoding="utf-8")
-    return [*calls(DEFINED, text), *(it for it in calls(DECLARED, text) if it.name.startswith("texcache_"))]
+    """The calls for programs."""
+    return list(calls(HEADER))
 
 
 def lower_calls():
-    """The calls of the proved library, which the header makes."""
-    return [it for it in calls(DECLARED, HEADER.read_text(encoding="utf-8")) if it.name.startswith("tex_c_")]
+    """The calls of the proved library."""
+    return list(calls(SUPPLY))
 
 
 def structs():
     """The public structs, each with the names of its fields."""
-    for it in STRUCT.finditer(without_comments(HEADER.read_text(encoding="utf-8"))):
+    text = HEADER.read_text(encoding="utf-8") + SUPPLY.read_text(encoding="utf-8")
+    for it in STRUCT.finditer(without_comments(text)):
         fields = [re.findall(r"\w+", name)[-1] for line in it["fields"].split(";") for name in line.split(",")
                   if name.strip()]
         yield it["name"], fields

@@ -1,9 +1,10 @@
 """Compares what programs are compiled against with the list src/c/interface.txt.
 
-The list has the calls of include/texcache.h with their types, the sizes of the structs and the places of their fields,
-the values of the enums, and what libtexcache.so.1 and libtexcache.a export. A change needs another version: the
-header refuses a library of another version, and so no program runs with the structs of an older one. After VERSION was
-raised, --write writes the list anew.
+The list has the calls of include/texcache.h and texcache_supply.h with their types, the sizes of the structs and the
+places of their fields, the values of the enums, and what libtexcache.so.1 and libtexcache.a export. A change needs
+another version: the symbols of the calls that open a cache have the version in them, and so no program links with the
+structs of an older one. After VERSION was raised, --write writes the list anew. The headers must have that version.
+docs/EMBEDDING.md must say how many lines of C are trusted.
 """
 import difflib
 import re
@@ -22,8 +23,8 @@ LIST = SOURCES / "interface.txt"
 HEAD = """# What programs are compiled against. tools/check interface compares it with header and library, and writes it.
 # A change needs another version in the file VERSION.
 """
-# what the toolchain's part of the archive defines
-FOREIGN = re.compile(r"rattle_\w+")
+# what the toolchain's part of the archive defines, and what our C files share and the shared library hides
+FOREIGN = re.compile(r"rattle_\w+|texc_\w+")
 
 
 def types(call):
@@ -41,7 +42,7 @@ def sized():
         numbers = "".join(f", offsetof({name}, {it})" for it in fields)
         lines.append(f'printf("struct {name} %zu:{places}\\n", sizeof({name}){numbers});')
     lines += [f'printf("value {it} %d\\n", {it});' for it in header.values()]
-    program = '#include "texcache.h"\n#include <stdio.h>\nint main(void)\n{\n' + "\n".join(lines) + "\nreturn 0;\n}\n"
+    program = '#include "texcache_supply.h"\n#include <stdio.h>\nint main(void)\n{\n' + "\n".join(lines) + "\nreturn 0;\n}\n"
     with tempfile.TemporaryDirectory() as room:
         source, made = Path(room) / "sizes.c", Path(room) / "sizes"
         source.write_text(program, encoding="ascii")
@@ -67,6 +68,22 @@ def found(archive):
             *(f"archive {it}" for it in symbols([archive]) if not FOREIGN.fullmatch(it))]
 
 
+def trusted():
+    """What docs/EMBEDDING.md has to say of the C part: how many lines it has, without comments and blank lines."""
+    counts = {it.name: sum(bool(line.strip()) for line in
+                           header.without_comments(it.read_text(encoding="utf-8")).splitlines())
+              for it in sorted(SOURCES.glob("*.[ch]"))}
+    small = [it for it in counts if not it.startswith("texcache_") or it.endswith(".h")]
+    return [f"It has {sum(counts.values())} lines of C", *(f"| `{it}` | {counts[it]} |" for it in counts if it not in small),
+            f"| {', '.join(f'`{it}`' for it in small)} | {sum(counts[it] for it in small)} |"]
+
+
+def unsaid():
+    """What docs/EMBEDDING.md does not say of the C part, or says wrongly."""
+    page = (TOP / "docs" / "EMBEDDING.md").read_text(encoding="utf-8")
+    return [f"docs/EMBEDDING.md does not say: {it}" for it in trusted() if it not in page]
+
+
 def listed():
     lines = LIST.read_text(encoding="ascii").splitlines() if LIST.is_file() else []
     return [it for it in lines if not it.startswith("#")]
@@ -74,6 +91,9 @@ def listed():
 
 def faults(now, before):
     """What is wrong with the list."""
+    symbol = re.sub(r"\W", "_", version_text(True))
+    if f'"_{symbol}"' not in header.HEADER.read_text(encoding="utf-8"):
+        return [f"TEXCACHE_SYMBOL of include/texcache.h does not end in _{symbol}"]
     if now[0] != before[0]:
         return [f"the list has {before[0] or 'no version'}, and the file VERSION has {now[0]}: "
                 "tools/check interface --write writes the list anew"]
@@ -100,6 +120,6 @@ def run(args):
     if args.write and now[:1] != before[:1]:
         LIST.write_text(HEAD + "\n".join(now) + "\n", encoding="ascii")
         before = now
-    wrong = faults(now, before or [""])
+    wrong = faults(now, before or [""]) + unsaid()
     print(*wrong, f"interface: {len(now)} lines {'differ from the list' if wrong else 'are as the list says'}", sep="\n")
     return 1 if wrong else 0

@@ -4,7 +4,7 @@ pages, documents and examples. All paths in it are relative, so the tree works w
 import re
 import shutil
 
-from texcheck.archive import ARCHIVE, archive_of
+from texcheck.archive import ARCHIVE, SOURCES, archive_of, compiler
 from texcheck.common import TOP, Missing, said
 from texcheck.manuals import manuals
 from texcheck.sources import proved, version_text
@@ -14,10 +14,9 @@ PROGRAMS = ("texcache", "texmake")
 # what has to be built first
 PACKED = (LIBRARY, *PROGRAMS)
 SHARED = "libtexcache.so.1"
-SOURCES = TOP / "src" / "c"
 # the tools for people, which need no toolchain
 TOOLS = ("prepare.py", "explain.py", "folder_info.py", "uv.py", "hit_curve.py")
-DOCUMENTS = ("EMBEDDING", "REQUESTS", "TEXTURES", "PICTURES", "FILTERING", "FORMAT", "CACHE", "GLOSSARY")
+DOCUMENTS = ("INSTALL", "EMBEDDING", "REQUESTS", "TEXTURES", "PICTURES", "FILTERING", "FORMAT", "CACHE", "GLOSSARY")
 # the modules that the wrappers and tools import; none of these needs the toolchain
 IMPORT = re.compile(r"^\s*from (texcheck|texprepare)(?:\.(\w+))? import (.+)$", re.M)
 LEFT_OUT = ("texcheck.entry", "texcheck.unproved")
@@ -25,11 +24,11 @@ README = """texcache {version}: a texture cache over a folder of TIFF files, and
 
 {state}
 Built from commit {commit}
-by {toolchain}, and {compiler} for the shared library.
+by {toolchain}, and {compiler} for the C part.
 
 bin/ has the programs and the tools, which need Python 3.9 or later. lib/pkgconfig and lib/cmake are for programs that
-use the library. lib/texcache/python has the Python module. docs/EMBEDDING.md shows how to use them. Links in docs/ that
-lead out of that folder lead into the source repository.
+use the library. lib/texcache/python has the Python module. docs/INSTALL.md and docs/EMBEDDING.md show how to use them.
+Links in docs/ that lead out of that folder lead into the source repository.
 
 For local use: do not hand this on. The library and the programs contain code of the Rattle toolchain (its standard
 library and liblibc_c.a), for which the toolchain gives no licence. LICENSE is for texcache's own code.
@@ -98,20 +97,12 @@ def filled(name, version):
     return text
 
 
-def compiler():
-    """The C compiler for the shared library."""
-    found = shutil.which("cc") or shutil.which("gcc")
-    if not found:
-        raise Missing("a C compiler is needed for the shared library; tools/setup installs it")
-    return found
-
-
 def shared(archive, target):
-    """Builds the shared library, which exports the calls of the header and nothing else."""
+    """Links the objects of the archive to the shared library, which exports the calls of texcache.h and nothing else."""
     target.parent.mkdir(parents=True, exist_ok=True)
-    words = [compiler(), "-O2", "-std=gnu11", "-shared", "-fPIC", f"-ffile-prefix-map={TOP}=.", "-Iinclude",
-             f"-Wl,-soname,{SHARED}", f"-Wl,--version-script={SOURCES / 'exports.map'}", "-Wl,-z,defs", "-Wl,-s",
-             "-o", target, "python/texcache_shared.c", archive, "-lm", "-lpthread"]
+    words = [compiler(), "-shared", f"-Wl,-soname,{SHARED}", f"-Wl,--version-script={SOURCES / 'exports.map'}",
+             "-Wl,-z,defs", "-Wl,-s", "-o", target, "-Wl,--whole-archive", archive, "-Wl,--no-whole-archive", "-lm",
+             "-lpthread"]
     status, text = said(words, cwd=TOP)
     if status:
         raise Missing(f"the shared library could not be built: {text[-2000:]}")
@@ -119,7 +110,7 @@ def shared(archive, target):
 
 
 def put_library(parts, to):
-    for name in ("texcache.h", "texcache.hpp"):
+    for name in ("texcache.h", "texcache.hpp", "texcache_supply.h"):
         copied_to(TOP / "include" / name, to / "include" / name)
     copied_to(parts.archive, to / "lib" / ARCHIVE)
     shared(parts.archive, to / "lib" / SHARED)
@@ -127,6 +118,7 @@ def put_library(parts, to):
     cmake = to / "lib" / "cmake" / "texcache"
     copied_to(SOURCES / "texcacheConfig.cmake", cmake / "texcacheConfig.cmake")
     written(filled("texcacheConfigVersion.cmake.in", parts.version), cmake / "texcacheConfigVersion.cmake")
+    copied_to(SOURCES / "tsan.supp", to / "share" / "texcache" / "tsan.supp")
     python = to / "lib" / "texcache" / "python"
     copied_to(TOP / "python" / "texcache.py", python / "texcache.py")
     linked(f"../../{SHARED}", python / "libtexcache.so")

@@ -1,0 +1,388 @@
+/* texcache_posix.c: reads the files of a folder for the proved library: it looks at a file, opens it, reads what the
+ * library says it needs, and supplies that. */
+#define _POSIX_C_SOURCE 200809L
+#include "texcache_inside.h"
+
+#include <dirent.h>
+#include <errno.h>
+#include <fcntl.h>
+#include <stdlib.h>
+#include <string.h>
+#include <sys/resource.h>
+#include <sys/stat.h>
+#include <unistd.h>
+
+/* The most files of a folder. */
+#define TEXC_MOST_FILES 4096
+/* A generation is a version of a file, 1 to this. Its stamp is (length + 1000003 * time) mod 2^44. */
+#define TEXC_LAST_GENERATION 1048575u
+#define TEXC_STAMP_MASK ((UINT64_C(1) << 44) - 1)
+/* The least number of bytes that is read at once, if the file has them. */
+#define TEXC_BLOCK 16384
+/* How often a file is opened anew because it was closed before it was read. */
+#define TEXC_OPENS 8
+/* How often a thread waits for a descriptor, at most a millisecond each time. */
+#define TEXC_WAITS 1000
+
+static void texc_add(uint64_t *count, uint64_t by)
+{
+    __atomic_fetch_add(count, by, __ATOMIC_RELAXED);
+}
+
+/* ---- descriptors. Idle files stay open, up to a number; then the one that was used longest ago is closed. */
+
+/* Takes an open file out of the list of idle ones; open_lock is held. */
+static void texc_take_out(texcache *cache, texc_open *open)
+{
+    *(open->older ? &open->older->newer : &cache->oldest) = open->newer;
+    *(open->newer ? &open->newer->older : &cache->newest) = open->older;
+    cache->idle--;
+}
+
+/* Puts an open file behind the other idle ones; open_lock is held. */
+static void texc_put_newest(texcache *cache, texc_open *open)
+{
+    open->older = cache->newest;
+    open->newer = NULL;
+    *(cache->newest ? &cache->newest->newer : &cache->oldest) = open;
+    cache->newest = open;
+    cache->idle++;
+}
+
+/* The idle file that was used longest ago, to be closed, or NULL; open_lock is held. */
+static texc_open *texc_take_oldest(texcache *cache)
+{
+    texc_open *open = cache->oldest;
+    if (!open) return NULL;
+    texc_take_out(cache, open);
+    open->file->open = NULL;
+    return open;
+}
+
+static bool texc_close(texc_open *open)
+{
+    if (!open) return false;
+    close(open->fd);
+    free(open);
+    return true;
+}
+
+/* Closes one idle file. Returns whether there was one. */
+static bool texc_close_oldest(texcache *cache)
+{
+    pthread_mutex_lock(&cache->open_lock);
+    texc_open *open = texc_take_oldest(cache);
+    pthread_mutex_unlock(&cache->open_lock);
+    return texc_close(open);
+}
+
+/* Closes a file, at once or when nobody reads it any more. */
+static void texc_forget(texcache *cache, texc_file *file)
+{
+    pthread_mutex_lock(&cache->open_lock);
+    texc_open *open = file->open;
+    file->open = NULL;
+    if (open && open->users) {
+        open->is_old = true;
+        open = NULL;
+    } else if (open) {
+        texc_take_out(cache, open);
+    }
+    pthread_mutex_unlock(&cache->open_lock);
+    texc_close(open);
+}
+
+/* Gives a file back that was read. Returns whether it still is its file's. */
+static bool texc_give_back(texcache *cache, texc_open *open)
+{
+    texc_open *closed = NULL;
+    pthread_mutex_lock(&cache->open_lock);
+    bool is_old = open->is_old;
+    if (--open->users == 0) {
+        if (is_old) closed = open;
+        else texc_put_newest(cache, open);
+        if (cache->idle > cache->most_idle) closed = texc_take_oldest(cache);
+    }
+    pthread_mutex_unlock(&cache->open_lock);
+    texc_close(closed);
+    return !is_old;
+}
+
+/* How many idle files may stay open: as the options say, but half of what the process may have is for others. */
+static unsigned texc_most_idle(unsigned handles)
+{
+    struct rlimit limit;
+    if (getrlimit(RLIMIT_NOFILE, &limit) || limit.rlim_cur / 2 >= handles) return handles;
+    return (unsigned)(limit.rlim_cur / 2);
+}
+
+/* ---- files */
+
+static uint64_t texc_stamp(const struct stat *seen)
+{
+    uint64_t nanos = seen->st_mtim.tv_sec < 0
+        ? 0 : (uint64_t)seen->st_mtim.tv_sec * 1000000000u + (uint64_t)seen->st_mtim.tv_nsec;
+    return ((uint64_t)seen->st_size + UINT64_C(1000003) * nanos) & TEXC_STAMP_MASK;
+}
+
+/* Looks at a file and settles its generation; its lock is held. Returns whether it is a plain file. */
+static bool texc_settle(texcache *cache, texc_file *file)
+{
+    struct stat seen;
+    texc_add(&cache->looks, 1);
+    if (fstatat(cache->folder, file->name, &seen, AT_SYMLINK_NOFOLLOW) || !S_ISREG(seen.st_mode)) return false;
+    uint64_t stamp = texc_stamp(&seen);
+    if (file->generation && file->stamp == stamp) return true;
+    if (file->generation == TEXC_LAST_GENERATION) return false;
+    texc_forget(cache, file);
+    file->generation++;
+    file->stamp = stamp;
+    file->len = (uint64_t)seen.st_size;
+    return true;
+}
+
+/* A descriptor of a file. If the process has no more, idle files are closed, or other threads get time to finish. */
+static int texc_descriptor(texcache *cache, const char *name)
+{
+    unsigned tries = 0;
+    for (;;) {
+        int fd = openat(cache->folder, name, O_RDONLY | O_CLOEXEC | O_NOFOLLOW | O_NONBLOCK | O_NOCTTY);
+        if (fd >= 0) return fd;
+        if (errno == EINTR) continue;
+        if (errno != EMFILE && errno != ENFILE) return -1;
+        if (!texc_close_oldest(cache) && !texc_pauses(&tries, TEXC_WAITS)) return -1;
+    }
+}
+
+/* Opens a file at its latest generation, or returns NULL; its lock is held. */
+static texc_open *texc_open_file(texcache *cache, texc_file *file)
+{
+    struct stat seen;
+    int fd = texc_descriptor(cache, file->name);
+    if (fd < 0) return NULL;
+    texc_add(&cache->opens, 1);
+    texc_open *open = calloc(1, sizeof *open);
+    if (!open || fstat(fd, &seen) || !S_ISREG(seen.st_mode) || texc_stamp(&seen) != file->stamp) {
+        close(fd);
+        free(open);
+        return NULL;
+    }
+    open->fd = fd;
+    open->users = 1;
+    open->file = file;
+    pthread_mutex_lock(&cache->open_lock);
+    file->open = open;
+    pthread_mutex_unlock(&cache->open_lock);
+    return open;
+}
+
+/* The file, open at its latest generation, to be read; its lock is held. */
+static texc_open *texc_take(texcache *cache, texc_file *file)
+{
+    pthread_mutex_lock(&cache->open_lock);
+    texc_open *open = file->open;
+    if (open && open->users++ == 0) texc_take_out(cache, open);
+    pthread_mutex_unlock(&cache->open_lock);
+    return open ? open : texc_open_file(cache, file);
+}
+
+/* Closes a file, so that the next reading opens what has its name then. */
+void texc_close_file(texcache *cache, uint32_t file)
+{
+    if (file < cache->count) texc_forget(cache, &cache->files[file]);
+}
+
+/* Whether a file has been looked at. */
+bool texc_is_known(texcache *cache, uint32_t file)
+{
+    pthread_mutex_lock(&cache->files[file].lock);
+    bool is_known = cache->files[file].generation != 0;
+    pthread_mutex_unlock(&cache->files[file].lock);
+    return is_known;
+}
+
+/* ---- what the library needs */
+
+/* Rows, and how many bytes they have together. A single stretch is one row. */
+typedef struct texc_wanted {
+    texcache_rows rows;
+    size_t size;
+} texc_wanted;
+
+static texc_wanted texc_want(const texcache_supply_answer *need)
+{
+    texc_wanted w = {{need->need_file, need->need_generation, need->need_at, need->need_stride, need->need_row},
+                     (size_t)need->need_least};
+    if (need->need == 2) {
+        uint64_t wanted = need->need_least < TEXC_BLOCK ? TEXC_BLOCK : need->need_least;
+        w.size = (size_t)(wanted < need->need_most ? wanted : need->need_most);
+        w.rows.stride = w.rows.row = w.size;
+    }
+    return w;
+}
+
+/* Reads until the buffer is full or the file ends; how many bytes were read. */
+static size_t texc_pread(int fd, uint8_t *to, size_t count, uint64_t at)
+{
+    size_t done = 0;
+    while (done < count) {
+        ssize_t got = pread(fd, to + done, count - done, (off_t)(at + done));
+        if (got < 0 && errno == EINTR) continue;
+        if (got <= 0) break;
+        done += (size_t)got;
+    }
+    return done;
+}
+
+/* Reads what the library needs from an open file into the buffer. Returns whether all was read. */
+static bool texc_read(texcache *cache, int fd, const texc_wanted *w, uint8_t *to)
+{
+    size_t row = w->rows.stride == w->rows.row ? w->size : (size_t)w->rows.row;
+    uint64_t at = w->rows.at;
+    for (size_t done = 0; done < w->size; done += row, at += w->rows.stride) {
+        texc_add(&cache->reads, 1);
+        if (texc_pread(fd, to + done, row, at) != row) return false;
+    }
+    texc_add(&cache->bytes, w->size);
+    return true;
+}
+
+/* Reads from a file while it has the generation that is needed; its lock is held, and given up while it reads. `is_there`
+ * says whether the file exists then. Returns whether the bytes are those of that generation. If the file was closed
+ * meanwhile, because it is to be opened anew, it is read again. */
+static bool texc_read_version(texcache *cache, texc_file *file, const texc_wanted *w, uint8_t *to, bool *is_there)
+{
+    bool is_read, is_own;
+    unsigned tries = 0;
+    *is_there = texc_settle(cache, file);
+    do {
+        texc_open *open = *is_there && file->generation == w->rows.generation ? texc_take(cache, file) : NULL;
+        is_read = is_own = false;
+        if (open) {
+            pthread_mutex_unlock(&file->lock);
+            is_read = texc_read(cache, open->fd, w, to);
+            pthread_mutex_lock(&file->lock);
+            is_own = texc_give_back(cache, open);
+        }
+        *is_there = texc_settle(cache, file);
+        if (!open) return false;
+    } while (!is_own && ++tries < TEXC_OPENS);
+    return *is_there && is_read && is_own && file->generation == w->rows.generation;
+}
+
+/* Reads the bytes or rows that the library needs into one of its buffers, and supplies them. If the file has a newer
+ * generation, that is supplied instead; if it cannot be read, nothing is. */
+static uint32_t texc_supply_bytes(texcache_pass *pass, const texcache_supply_answer *need)
+{
+    texcache *cache = pass->cache;
+    texc_file *file = &cache->files[need->need_file];
+    texc_wanted w = texc_want(need);
+    texcache_room room = {NULL};
+    uint8_t *bytes;
+    bool is_there;
+    uint32_t code = tex_c_room(pass->held, &pass->held, w.size, &room, &bytes);
+    if (code) return code;
+    pthread_mutex_lock(&file->lock);
+    bool is_read = texc_read_version(cache, file, &w, bytes, &is_there);
+    uint32_t generation = file->generation;
+    uint64_t len = file->len;
+    pthread_mutex_unlock(&file->lock);
+    if (is_read && need->need == 2)
+        return tex_c_supply_bytes(pass->held, &pass->held, w.rows.file, generation, w.rows.at, room);
+    if (is_read) return tex_c_supply_rows(pass->held, &pass->held, &w.rows, room);
+    tex_c_give_back(pass->held, &pass->held, room);
+    if (is_there && generation > need->need_generation)
+        return tex_c_supply_look(pass->held, &pass->held, need->need_file, generation, len);
+    return TEXCACHE_READ_FAULT;
+}
+
+/* Looks at a file, and supplies its generation and length. */
+static uint32_t texc_supply_look(texcache_pass *pass, uint32_t number)
+{
+    texc_file *file = &pass->cache->files[number];
+    pthread_mutex_lock(&file->lock);
+    bool is_there = texc_settle(pass->cache, file);
+    uint32_t generation = file->generation;
+    uint64_t len = file->len;
+    pthread_mutex_unlock(&file->lock);
+    if (!is_there) return TEXCACHE_READ_FAULT;
+    return tex_c_supply_look(pass->held, &pass->held, number, generation, len);
+}
+
+/* Supplies what the library needs, or says that it cannot be read. */
+void texc_supply(texcache_pass *pass, const texcache_supply_answer *need)
+{
+    uint32_t code = need->need == 1 ? texc_supply_look(pass, need->need_file) : texc_supply_bytes(pass, need);
+    if (code) tex_c_supply_fault(pass->held, &pass->held);
+}
+
+/* ---- the folder */
+
+static int texc_by_name(const void *a, const void *b)
+{
+    return strcmp(((const texc_file *)a)->name, ((const texc_file *)b)->name);
+}
+
+/* Adds a file to the list, which has room for `room`. */
+static int texc_add_file(texcache *cache, const char *name, size_t *room)
+{
+    if (cache->count == TEXC_MOST_FILES) return TEXCACHE_TOO_MANY_FILES;
+    if (cache->count == *room) {
+        size_t more = *room ? 2 * *room : 64;
+        texc_file *files = realloc(cache->files, more * sizeof *files);
+        if (!files) return TEXCACHE_NO_MEMORY;
+        cache->files = files;
+        *room = more;
+    }
+    texc_file *file = &cache->files[cache->count];
+    memset(file, 0, sizeof *file);
+    if (!(file->name = strdup(name))) return TEXCACHE_NO_MEMORY;
+    cache->count++;
+    return TEXCACHE_OK;
+}
+
+/* Adds the plain files of an open folder. */
+static int texc_add_files(texcache *cache, DIR *dir)
+{
+    size_t room = 0;
+    for (;;) {
+        struct stat seen;
+        errno = 0;
+        struct dirent *entry = readdir(dir);
+        if (!entry) return errno ? TEXCACHE_NO_FOLDER : TEXCACHE_OK;
+        if (fstatat(cache->folder, entry->d_name, &seen, AT_SYMLINK_NOFOLLOW) || !S_ISREG(seen.st_mode)) continue;
+        int refused = texc_add_file(cache, entry->d_name, &room);
+        if (refused) return refused;
+    }
+}
+
+/* Opens the folder and lists its plain files, in the order of their names. */
+int texc_list(texcache *cache, const char *folder)
+{
+    cache->most_idle = texc_most_idle(cache->most_idle);
+    cache->folder = open(folder, O_RDONLY | O_DIRECTORY | O_CLOEXEC);
+    if (cache->folder < 0) return TEXCACHE_NO_FOLDER;
+    int copy = openat(cache->folder, ".", O_RDONLY | O_DIRECTORY | O_CLOEXEC);
+    DIR *dir = copy < 0 ? NULL : fdopendir(copy);
+    if (!dir) {
+        if (copy >= 0) close(copy);
+        return TEXCACHE_NO_FOLDER;
+    }
+    int refused = texc_add_files(cache, dir);
+    closedir(dir);
+    if (cache->count) qsort(cache->files, cache->count, sizeof *cache->files, texc_by_name);
+    for (uint32_t n = 0; n < cache->count; n++) pthread_mutex_init(&cache->files[n].lock, NULL);
+    return refused;
+}
+
+/* Closes all files, and frees what is known of them. */
+void texc_end_files(texcache *cache)
+{
+    while (texc_close_oldest(cache)) {}
+    for (uint32_t n = 0; n < cache->count; n++) {
+        pthread_mutex_destroy(&cache->files[n].lock);
+        free(cache->files[n].name);
+    }
+    free(cache->files);
+    if (cache->folder >= 0) close(cache->folder);
+}
