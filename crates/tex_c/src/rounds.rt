@@ -33,8 +33,10 @@ use texture_sys::{texture, texture_d, texture_local};
 use tiff_format::Info;
 use waiter::{GaveUp, Tries};
 
-/// How often a call tries to get a lock before it answers `BUSY`.
-pub(crate) const TRIES: u64 = 1 << 20;
+/// How often a call tries to get a lock before it answers `BUSY`. A lock is held for less than a
+/// microsecond, unless its thread has lost the processor. So a caller that waits longer should yield
+/// the processor rather than try on.
+pub(crate) const TRIES: u64 = 1 << 8;
 
 impl Client {
     /// The size, depth, channels and levels of a file.
