@@ -2,7 +2,7 @@
 """What a warm lookup through texcache.h costs, beside OpenImageIO, and the renderer with textures of 1 GB.
 
     python3 bench/embedded.py [--library FILE] [--folder FOLDER] [--name FILE] [--passes N]
-    python3 bench/embedded.py --python               # 4,096 lookups in a call of python/texcache.py, with numpy
+    python3 bench/embedded.py --python               # 4,096 lookups in a call of the Python package, with numpy
     python3 bench/embedded.py --renderer [FOLDER]    # 64 textures of 1.07 GB, made in FOLDER or a folder that goes again
 
 It measures bilinear lookups of three channels within one cell of a file, with 1, 4 and 8 threads, over the library that

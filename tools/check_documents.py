@@ -7,7 +7,7 @@
   title, in a document, a source or a script: `docs/FORMAT.md`, "Levels".
 - Each crate of crates.txt has a README; each crate of tests is in crates/TESTS.md; crates/README.md and
   docs/DECISIONS.md are what tools/crate_maps.py makes, and docs/BENCHMARK.md shows bench/figures.json.
-- README.md, CHANGELOG.md, include/texcache.h and python/texcache.py name the version of the file VERSION.
+- README.md, CHANGELOG.md, include/texcache.h and python/texcache/_version.py name the version of the file VERSION.
 - Each file in backticks exists; the end of its path is enough.
 - Each clause that a crate's README names, as `read_dirs` (told), belongs to a public call.
 - Plain English: no sentence has more than 35 words, nine of ten sentences of a document have at most 28, and none of
@@ -191,7 +191,7 @@ def ends_of_paths():
 def other_versions():
     """What does not name the version."""
     version = (TOP / "VERSION").read_text(encoding="utf-8").strip()
-    for path in ("README.md", "CHANGELOG.md", "include/texcache.h", "python/texcache.py"):
+    for path in ("README.md", "CHANGELOG.md", "include/texcache.h", "python/texcache/_version.py"):
         if version not in (TOP / path).read_text(encoding="utf-8"):
             yield f"{path} does not name the version {version}"
 

@@ -1,4 +1,4 @@
-"""Answers a list of requests through python/texcache.py, as lines.c does in C. A request that the library does not
+"""Answers a list of requests through the Python package, as lines.c does in C. A request that the library does not
 have is answered `-`."""
 import argparse
 import sys
@@ -12,7 +12,7 @@ FILTERS = ["closest", "bilinear", "trilinear"]
 
 
 def refusal(e):
-    a, text = e.answer, str(e)
+    a, text = e.answer, e.reason
     if text == "no such name":
         return "no such file"
     if text == "bad file":

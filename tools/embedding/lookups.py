@@ -1,4 +1,4 @@
-"""Lookups on floats through python/texcache.py, one and many: lookups FOLDER, the demo's. With numpy they take and give
+"""Lookups on floats through the Python package, one and many: lookups FOLDER, the demo's. With numpy they take and give
 arrays, without it lists."""
 import argparse
 import math

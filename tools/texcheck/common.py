@@ -60,6 +60,11 @@ def debian_python():
     return "/usr/bin/python3" if Path("/usr/bin/python3").is_file() else sys.executable
 
 
+def lacking_module(*names):
+    """The first of these modules that Debian's Python does not have, in words; None if it has all."""
+    return next((f"Python's {it}" for it in names if said([debian_python(), "-c", f"import {it}"])[0]), None)
+
+
 class Skips:
     """What a check does if a package of the system is not installed: it fails, or with --skip-missing it prints what it
     skips. (A program or library of this repository is never skipped: that is Missing.)"""

@@ -1,5 +1,5 @@
 """Compares lookups on doubles, at places and over footprints, with a plain program that is written from the definitions
-alone (fine_model.py). They go through python/texcache.py, and so through the C part and the proved library.
+alone (fine_model.py). They go through the Python package, and so through the C part and the proved library.
 
 The pictures are 3, 100, 2048, 8192 and 131072 texels wide, with noise in all their levels; the largest is a sparse file
 with noise in some tiles. Coordinates are drawn from all over their ranges, near the edges and the middles of texels

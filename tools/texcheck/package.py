@@ -14,7 +14,7 @@ import subprocess
 import tempfile
 from pathlib import Path
 
-from texcheck.common import TOP, Skips, debian_python, said
+from texcheck.common import TOP, Skips, debian_python, lacking_module, said
 from texcheck.dist import dist
 from texcheck.sources import version_text
 from texcheck.tree import SHARED, TOOLS, Parts
@@ -154,16 +154,23 @@ class Package:
             self.does(f"CMake's demand of version {demand}", [*configure, source, "-B", source / "build"], "", status)
 
     def in_python(self, top):
-        """The example in Python, and a module of another version."""
+        """The example in Python, by the package and by a wheel of it, and a package of another version."""
         examples, demo, python = top / "share/doc/texcache/examples", top / "share/doc/texcache/demo", debian_python()
         own, words = top / "lib/texcache/python", [python, examples / "lookup.py", demo, "bricks.tif"]
         self.does("the example in Python", words, f"{self.parts.version}: {MIDDLE}\n", PYTHONPATH=str(own))
-        other = top / "other.py" / "texcache.py"
-        other.parent.mkdir()
-        text = (own / "texcache.py").read_text(encoding="utf-8")
-        other.write_text(re.sub(r"(?m)^VERSION = .*$", f'VERSION = "{OTHER}"', text), encoding="utf-8")
-        self.does("a Python module of another version is refused", words, f"texcache.py is of version {OTHER}", 1,
-                  PYTHONPATH=str(other.parent), TEXCACHE_LIBRARY=str(top / "lib" / SHARED))
+        other = top / "other.py"
+        shutil.copytree(own, other, symlinks=True)
+        (other / "texcache" / "_version.py").write_text(f'VERSION = "{OTHER}"\n', encoding="utf-8")
+        self.does("a Python package of another version is refused", words,
+                  f"the Python package texcache is of version {OTHER}", 1, PYTHONPATH=str(other),
+                  TEXCACHE_LIBRARY=str(top / "lib" / SHARED))
+        if self.skips.lacks(lacking_module("pip", "setuptools", "wheel"), "a wheel of what is installed"):
+            return
+        wheel = [python, "-m", "pip", "wheel", "-q", "--no-deps", "--no-build-isolation", "-w", top / "wheels", "."]
+        before = sorted(own.rglob("*"))
+        self.does("a wheel of what is installed", ["sh", "-c", 'cd "$0" && exec "$@"', own, *wheel], "")
+        self.say(len(list((top / "wheels").glob("*.whl"))) == 1 and sorted(own.rglob("*")) == before,
+                 "it is there, and nothing else is left")
 
     def files(self, top):
         """The shared library's exports, the man pages, and that no file names a folder of the build."""

@@ -1,4 +1,4 @@
-"""Lays out what is installed: the library with its headers, both programs with their tools, the Python module, man
+"""Lays out what is installed: the library with its headers, both programs with their tools, the Python package, man
 pages, documents and examples. All paths in it are relative, so the tree works wherever it lies.
 """
 import re
@@ -16,7 +16,9 @@ PACKED = (LIBRARY, *PROGRAMS)
 SHARED = "libtexcache.so.1"
 # the tools for people, which need no toolchain
 TOOLS = ("prepare.py", "explain.py", "folder_info.py", "uv.py", "hit_curve.py")
-DOCUMENTS = ("INSTALL", "EMBEDDING", "REQUESTS", "TEXTURES", "PICTURES", "FILTERING", "FORMAT", "CACHE", "GLOSSARY")
+DOCUMENTS = ("INSTALL", "EMBEDDING", "OIIO", "REQUESTS", "TEXTURES", "PICTURES", "FILTERING", "FORMAT", "CACHE", "GLOSSARY")
+# what makes a wheel of the Python package
+PYTHON = ("pyproject.toml", "setup.py")
 # the modules that the wrappers and tools import; none of these needs the toolchain
 IMPORT = re.compile(r"^\s*from (texcheck|texprepare)(?:\.(\w+))? import (.+)$", re.M)
 LEFT_OUT = ("texcheck.entry", "texcheck.unproved")
@@ -27,7 +29,7 @@ Built from commit {commit}
 by {toolchain}, and {compiler} for the C part.
 
 bin/ has the programs and the tools, which need Python 3.9 or later. lib/pkgconfig and lib/cmake are for programs that
-use the library. lib/texcache/python has the Python module. docs/INSTALL.md and docs/EMBEDDING.md show how to use them.
+use the library. lib/texcache/python has the Python package. docs/INSTALL.md and docs/EMBEDDING.md show how to use them.
 Links in docs/ that lead out of that folder lead into the source repository.
 
 For local use: do not hand this on. The library and the programs contain code of the Rattle toolchain (its standard
@@ -110,8 +112,8 @@ def shared(archive, target):
 
 
 def put_library(parts, to):
-    for name in ("texcache.h", "texcache.hpp", "texcache_supply.h"):
-        copied_to(TOP / "include" / name, to / "include" / name)
+    for it in sorted((TOP / "include").iterdir()):
+        copied_to(it, to / "include" / it.name)
     copied_to(parts.archive, to / "lib" / ARCHIVE)
     shared(parts.archive, to / "lib" / SHARED)
     written(filled("texcache.pc.in", parts.version), to / "lib" / "pkgconfig" / "texcache.pc")
@@ -119,9 +121,15 @@ def put_library(parts, to):
     copied_to(SOURCES / "texcacheConfig.cmake", cmake / "texcacheConfig.cmake")
     written(filled("texcacheConfigVersion.cmake.in", parts.version), cmake / "texcacheConfigVersion.cmake")
     copied_to(SOURCES / "tsan.supp", to / "share" / "texcache" / "tsan.supp")
-    python = to / "lib" / "texcache" / "python"
-    copied_to(TOP / "python" / "texcache.py", python / "texcache.py")
-    linked(f"../../{SHARED}", python / "libtexcache.so")
+    put_python(to / "lib" / "texcache" / "python")
+
+
+def put_python(to):
+    """The Python package, with a link to the library, and what makes a wheel of both."""
+    for it in (*sorted((TOP / "python" / "texcache").iterdir()), *(TOP / "python" / it for it in PYTHON)):
+        if it.suffix in (".py", ".typed", ".toml"):
+            copied_to(it, to / it.relative_to(TOP / "python"))
+    linked(f"../../../{SHARED}", to / "texcache" / "libtexcache.so")
 
 
 def modules():

@@ -1,0 +1,399 @@
+"""Caches and passes: the calls of texcache.h as methods."""
+from __future__ import annotations
+
+import difflib
+import os
+import threading
+import weakref
+from ctypes import byref, c_size_t, c_uint16, c_uint32, c_void_p
+from numbers import Real
+from types import TracebackType
+from typing import Any, List, Optional, Sequence, Type, Union
+
+from ._arrays import Columns, Values, one_row
+from ._library import lib, open_cache
+from ._structs import (BAD_OPTIONS, BAD_REQUEST, CLOSED, NOT_LOCAL, OK, SMALL_BUFFER, Answer, Filter, Info, Lookup,
+                       Region, Shard, Statistics, TextureOptions, Tile, Wrap, Coordinates, file_number, flag, real,
+                       signed, texture_options, unsigned, whole)
+
+OPTIONS = ("budget", "shards", "passes", "handles", "autotile", "slots", "automip")
+MOST_TEXELS = 1048576  # of a region
+
+# numbers of lookups: one number, a numpy array or what numpy makes one of; without numpy a list
+Numbers = Any
+# a list of channels for one lookup; an array, or without numpy a list of lists, for many
+Found = Any
+
+
+def _reason(status: int, answer: Answer) -> str:
+    """The name of an error, and which option or number it was, if the answer says so."""
+    text = lib.texcache_error_string(status).decode()
+    names: Sequence[str] = ()
+    if status == BAD_OPTIONS:
+        names = OPTIONS[:6]
+    elif status == BAD_REQUEST:
+        names = ("swrap", "twrap", "channels", "filter", "lod", "max_probes", f"lookup {answer.value}", "step")
+    return f"{text}: {names[answer.detail - 1]}" if 0 < answer.detail <= len(names) else text
+
+
+class Refused(Exception):
+    """A failed call.
+
+    status: the number of the error, as in enum texcache_status of texcache.h
+    reason: its text
+    answer: the details, an Answer
+    values: of texture and texture_footprint for many places, the values of the first lookups, which are valid
+    """
+
+    def __init__(self, status: int, answer: Optional[Answer] = None, values: Found = None, of: Any = None) -> None:
+        self.status, self.answer, self.values = status, answer or Answer(), values
+        self.reason = _reason(status, self.answer)
+        super().__init__(self.reason if of is None else f"{self.reason}: {of}")
+
+
+class Closed(Refused):
+    """A call of a closed cache, or of a pass that has ended."""
+
+    def __init__(self, what: str) -> None:
+        super().__init__(CLOSED)
+        self.reason, self.args = what, (what,)
+
+
+def _check(status: int, answer: Optional[Answer] = None, of: Any = None) -> None:
+    if status != OK:
+        raise Refused(status, answer, of=of)
+
+
+def _path(what: str, name: Union[str, bytes, "os.PathLike[Any]"]) -> bytes:
+    """A name as C takes it."""
+    try:
+        found = os.fsencode(name)
+    except TypeError:
+        raise TypeError(f"{what} is {name!r}, and has to be a text or a path") from None
+    if b"\0" in found:
+        raise ValueError(f"{what} is {name!r}, and no name has a zero byte")
+    return found
+
+
+def _ended(pass_: "Pass") -> None:
+    """Ends a pass that nobody has any more. What fails here nobody could hear of."""
+    if pass_._at:
+        lib.texcache_end(byref(pass_._at))
+
+
+class Cache:
+    """A cache of the plain files that a folder has when it is opened.
+
+    budget:   the bytes that tiles may take, 0 to 4294967296
+    shards:   1 to 64
+    passes:   how many threads may use it, 1 to 16; the cache keeps one for itself
+    handles:  idle files that stay open, 1 to 1024
+    autotile: the side of the cells of a stripped image: 0, or a multiple of 16 up to 4096
+    slots:    rows kept when a tile finds no memory, 0 to 65536
+    automip:  whether levels that a file does not have are generated
+
+    What is not given has the library's default. A cache can be a context: `with texcache.Cache("textures") as cache`.
+    Any thread may call it; each thread looks up through its own pass.
+    """
+
+    _at: Any = None
+
+    def __init__(self, folder: Union[str, bytes, "os.PathLike[Any]"], *, budget: Optional[int] = None,
+                 shards: Optional[int] = None, passes: Optional[int] = None, handles: Optional[int] = None,
+                 autotile: Optional[int] = None, slots: Optional[int] = None, automip: Optional[bool] = None,
+                 **unknown: Any) -> None:
+        for name in unknown:
+            near = difflib.get_close_matches(name, OPTIONS, 1)
+            raise TypeError(f"a cache has no option {name}" + (f"; is it {near[0]}?" if near else f": {', '.join(OPTIONS)}"))
+        options = lib.texcache_default_options()
+        if budget is not None:
+            options.budget = whole("budget", budget, 0, 2 ** 64 - 1)
+        for name, value in (("shards", shards), ("passes", passes), ("handles", handles), ("autotile", autotile),
+                            ("slots", slots)):
+            if value is not None:
+                setattr(options, name, unsigned(name, value))
+        if automip is not None:
+            options.automip = flag("automip", automip)
+        self._folder, self._local, self._thread_passes = folder, threading.local(), weakref.WeakSet()  # type: ignore
+        at, bad, answer = c_void_p(), c_uint32(), Answer()
+        status = open_cache(byref(at), _path("folder", folder), byref(options), byref(bad))
+        answer.detail = bad.value
+        _check(status, answer, None if status == BAD_OPTIONS else os.fsdecode(folder))
+        self._at = at
+
+    def __repr__(self) -> str:
+        state = f"{lib.texcache_file_count(self._at)} files" if self._at else "closed"
+        return f"<texcache.Cache of {os.fsdecode(self._folder)!r}, {state}>"
+
+    def _open(self) -> c_void_p:
+        if not self._at:
+            raise Closed("the cache is closed")
+        return self._at
+
+    def close(self) -> None:
+        """Closes the cache, if it is open. All passes of new_pass must have ended; those of this_thread end here. No
+        other thread may be in a call."""
+        if self._at:
+            for it in list(self._thread_passes):
+                it.end()
+            _check(lib.texcache_close(byref(self._at)))
+
+    def __enter__(self) -> "Cache":
+        self._open()
+        return self
+
+    def __exit__(self, kind: Optional[Type[BaseException]], error: Optional[BaseException],
+                 trace: Optional[TracebackType]) -> None:
+        self.close()
+
+    def __del__(self) -> None:
+        if self._at:
+            for it in list(self._thread_passes):
+                _ended(it)
+            lib.texcache_close(byref(self._at))
+
+    def __len__(self) -> int:
+        """How many files the folder has."""
+        return lib.texcache_file_count(self._open())
+
+    def find(self, name: Union[str, bytes, "os.PathLike[Any]"]) -> int:
+        """The number of the file of this name."""
+        file = c_uint32()
+        _check(lib.texcache_find(self._open(), _path("name", name), byref(file)), of=os.fsdecode(name))
+        return file.value
+
+    def names(self) -> List[str]:
+        """The names of the files, in the order of their numbers."""
+        return [os.fsdecode(lib.texcache_file_name(self._at, n)) for n in range(len(self))]
+
+    def new_pass(self) -> "Pass":
+        """A new pass, for one thread at a time, which you end. It is a context: `with cache.new_pass() as textures`."""
+        return Pass(self)
+
+    def this_thread(self) -> "Pass":
+        """The pass of the calling thread: the same one at each call. It ends with the thread, or with the cache."""
+        found = getattr(self._local, "own", None)
+        if found is None or not found._at:
+            found = self._local.own = Pass(self)
+            self._thread_passes.add(found)
+        return found
+
+
+class Pass:
+    """One thread's access to a cache: Cache.this_thread and Cache.new_pass make it.
+
+    `answer` has the details of the latest call: answer.generation is the version of the file that the values are of.
+
+    What a lookup takes:
+    - file: the number that Cache.find gives.
+    - s, t: fractions of the image, s from its left edge across, t from its upper edge down. They are numbers for one
+      lookup, and arrays of one shape for many; a number among arrays counts for all.
+    - channels: how many values, 1 to 8, from channel 0 on. A channel that the file does not have is 0.
+    - swrap, twrap: BLACK, CLAMP, PERIODIC or MIRROR.
+    - floats: whether values are floats from 0 to 1 in place of 0 to 65535.
+    - out: an array of yours that gets the values, of uint16 or float32, with one axis more than s and t for the channels.
+
+    What it gives is `out` if you gave one; else a list of channels for one lookup, and an array of uint16 or float32 with
+    one axis more for many. Without numpy, many lookups take and give lists.
+
+    A call that fails raises Refused. A number that no option can have is a ValueError or a TypeError.
+    """
+
+    _at: Any = None
+
+    def __init__(self, cache: Cache) -> None:
+        self._cache, self.answer = cache, Answer()
+        at = c_void_p()
+        _check(lib.texcache_new_pass(cache._open(), byref(at)))
+        self._at = at
+
+    def __repr__(self) -> str:
+        return f"<texcache.Pass of {os.fsdecode(self._cache._folder)!r}{'' if self._at else ', ended'}>"
+
+    def _open(self) -> c_void_p:
+        if not self._at:
+            raise Closed("the pass has ended" if self._cache._at else "the cache is closed")
+        return self._at
+
+    def end(self) -> None:
+        """Ends the pass, if it has not ended, and releases its tiles."""
+        if self._at:
+            _check(lib.texcache_end(byref(self._at)))
+
+    def __enter__(self) -> "Pass":
+        self._open()
+        return self
+
+    def __exit__(self, kind: Optional[Type[BaseException]], error: Optional[BaseException],
+                 trace: Optional[TracebackType]) -> None:
+        self.end()
+
+    def __del__(self) -> None:
+        _ended(self)
+
+    def _called(self, call: Any, *words: Any) -> None:
+        self.answer = Answer()
+        _check(call(self._open(), *words, byref(self.answer)), self.answer)
+
+    # ---- lookups
+
+    def _many(self, file: int, options: TextureOptions, columns: Columns, floats: bool, out: Any) -> Found:
+        # the call refuses other numbers of channels, and reads them first
+        values = Values((*columns.shape, min(max(options.channels, 1), 8)), out, floats)
+        self.answer = Answer()
+        pass_ = self._open()
+        if not columns.count:
+            return values.all()
+        done, at = c_size_t(), Coordinates(*columns.places, step=1)
+        status = lib.texcache_texture_many(pass_, file, byref(options), byref(at), columns.count, values.place,
+                                           values.room, byref(done), byref(self.answer))
+        if status != OK:
+            raise Refused(status, self.answer, values.first(done.value))
+        return values.all()
+
+    def _one(self, call: Any, file: int, options: TextureOptions, numbers: Sequence[Any], floats: bool, out: Any) -> Found:
+        values = (c_uint16 * 8)()
+        self._called(call, file, byref(options), *numbers, values, 8)
+        return one_row(values[:options.channels], floats, out)
+
+    def texture(self, file: int, s: Numbers, t: Numbers, lod: float = 0.0, swrap: int = Wrap.PERIODIC,
+                twrap: int = Wrap.PERIODIC, filter: int = Filter.BILINEAR, channels: int = 3, floats: bool = False,
+                *, out: Any = None) -> Found:
+        """The values at s and t, in level `lod` (0 is the largest), by CLOSEST, BILINEAR or TRILINEAR. See Pass.
+
+        All values of a call are of one version of the file, answer.generation. If the call fails, `values` of the Refused
+        has those of the first lookups, which are valid.
+        """
+        options = texture_options(swrap, twrap, channels, filter, lod, 16)
+        if isinstance(s, Real) and isinstance(t, Real):
+            return self._one(lib.texcache_texture, file_number(file), options, (real("s", s), real("t", t)), floats, out)
+        return self._many(file_number(file), options, Columns("st", (s, t)), floats, out)
+
+    def texture_footprint(self, file: int, s: Numbers, t: Numbers, dsdx: Numbers, dtdx: Numbers, dsdy: Numbers,
+                          dtdy: Numbers, max_probes: int = 16, swrap: int = Wrap.PERIODIC, twrap: int = Wrap.PERIODIC,
+                          channels: int = 3, floats: bool = False, *, out: Any = None) -> Found:
+        """The values over the footprints of pixels. See Pass.
+
+        The derivatives are those of s and t to the next pixel at the right (dsdx, dtdx) and to the one below (dsdy,
+        dtdy). `max_probes` is the most probes over a footprint, 1 to 32.
+        """
+        options = texture_options(swrap, twrap, channels, 0, 0, max_probes)
+        names, numbers = ("s", "t", "dsdx", "dtdx", "dsdy", "dtdy"), (s, t, dsdx, dtdx, dsdy, dtdy)
+        if all(isinstance(it, Real) for it in numbers):
+            numbers = tuple(map(real, names, numbers))
+            return self._one(lib.texcache_texture_footprint, file_number(file), options, numbers, floats, out)
+        return self._many(file_number(file), options, Columns(names, numbers), floats, out)
+
+    # ---- lookups in the units of the program's requests
+
+    def _fixed(self, call: Any, file: int, lookup: Lookup) -> List[int]:
+        values = (c_uint16 * 8)()
+        self._called(call, file_number(file), byref(lookup), values, 8)
+        return values[:lookup.channels]
+
+    @staticmethod
+    def _lookup(s: int, t: int, lod: int, swrap: int, twrap: int, by: int, channels: int, steps: Sequence[int]) -> Lookup:
+        names = ("dsdx", "dtdx", "dsdy", "dtdy")
+        return Lookup(signed("s", s), signed("t", t), unsigned("lod", lod), unsigned("swrap", swrap),
+                      unsigned("twrap", twrap), unsigned("filter", by), unsigned("channels", channels),
+                      *map(signed, names, steps))
+
+    def texture_fixed(self, file: int, s: int, t: int, lod: int = 0, swrap: int = Wrap.PERIODIC,
+                      twrap: int = Wrap.PERIODIC, filter: int = Filter.BILINEAR, channels: int = 3) -> List[int]:
+        """The values at S, T and LOD, whole numbers in 1/65536, as a request `tex` of the program."""
+        return self._fixed(lib.texcache_texture_fixed, file,
+                           self._lookup(s, t, lod, swrap, twrap, filter, channels, ()))
+
+    def texture_d_fixed(self, file: int, s: int, t: int, dsdx: int, dtdx: int, dsdy: int, dtdy: int,
+                        swrap: int = Wrap.PERIODIC, twrap: int = Wrap.PERIODIC, channels: int = 3) -> List[int]:
+        """The values along the footprint of these derivatives, in 1/65536, as a request `texd` of the program."""
+        return self._fixed(lib.texcache_texture_d_fixed, file,
+                           self._lookup(s, t, 0, swrap, twrap, 0, channels, (dsdx, dtdx, dsdy, dtdy)))
+
+    def texture_local_fixed(self, file: int, s: int, t: int, lod: int = 0, swrap: int = Wrap.PERIODIC,
+                            twrap: int = Wrap.PERIODIC, filter: int = Filter.BILINEAR,
+                            channels: int = 3) -> Optional[List[int]]:
+        """The values at S, T and LOD if the pass's two latest tiles have all texels; otherwise None. Never reads."""
+        try:
+            return self._fixed(lib.texcache_texture_local_fixed, file,
+                               self._lookup(s, t, lod, swrap, twrap, filter, channels, ()))
+        except Refused as refused:
+            if refused.status == NOT_LOCAL:
+                return None
+            raise
+
+    # ---- files, regions and tiles
+
+    def info(self, file: int) -> Info:
+        """Size, channels, depth and levels of a file."""
+        info = Info()
+        self._called(lib.texcache_get_info, file_number(file), byref(info))
+        return info
+
+    def pixels(self, file: int, level: int, x: int, y: int, w: int, h: int, *, out: Any = None) -> Found:
+        """The values of a region of a level, 0 to 65535: an array of uint16 of rows, columns and channels, or `out`.
+        Outside the level they are 0. Without numpy it is one list. A region has at most 1048576 texels."""
+        region = Region(unsigned("level", level), signed("x", x), signed("y", y), unsigned("w", w), unsigned("h", h))
+        file, fits = file_number(file), region.w * region.h <= MOST_TEXELS
+        channels = self.info(file).channels if fits else 1
+        while True:
+            values = Values((h, w, channels) if fits else (0, 0, 1), out if fits else None)
+            self.answer = Answer()
+            status = lib.texcache_get_pixels(self._open(), file, byref(region), values.place, values.room,
+                                             byref(self.answer))
+            if status != SMALL_BUFFER and (status != OK or self.answer.channels == channels):
+                break
+            # the file was replaced, and has other channels
+            channels = self.answer.channels or self.answer.value // max(1, w * h)
+        _check(status, self.answer)
+        return values.flat()
+
+    def get_tile(self, file: int, level: int, x: int, y: int) -> int:
+        """Holds the cell of a texel, and returns its generation. A pass holds at most four; the oldest is at place 0."""
+        self._called(lib.texcache_get_tile, file_number(file), unsigned("level", level), unsigned("x", x),
+                     unsigned("y", y))
+        return self.answer.generation
+
+    def tile_at(self, place: int) -> Tile:
+        """The rectangle and the channels of the tile that is held at a place."""
+        tile = Tile()
+        _check(lib.texcache_tile_at(self._open(), whole("place", place, 0, 2 ** 64 - 1), byref(tile)))
+        return tile
+
+    def tile_texels(self, place: int, *, out: Any = None) -> Found:
+        """The samples of a held tile, in the depth of the file: an array of uint16 of rows, columns and channels, or
+        `out`. Without numpy it is one list."""
+        tile = self.tile_at(place)
+        values = Values((tile.h, tile.w, tile.channels), out)
+        _check(lib.texcache_tile_texels(self._open(), place, values.place, values.room))
+        return values.flat()
+
+    def release_tile(self, place: int) -> None:
+        """Releases the tile that is held at a place. The later ones move up."""
+        _check(lib.texcache_release_tile(self._open(), whole("place", place, 0, 2 ** 64 - 1)))
+
+    # ---- replaced files
+
+    def invalidate(self, file: int, force: bool = False) -> int:
+        """Checks whether the file was replaced, and returns its newest generation. With `force` its tiles are dropped and
+        it is opened again in any case."""
+        self._called(lib.texcache_invalidate, file_number(file), flag("force", force))
+        return self.answer.generation
+
+    def invalidate_all(self) -> None:
+        """Checks each known file. After a failure answer.part is the first file that failed, and answer.value how many."""
+        self._called(lib.texcache_invalidate_all)
+
+    # ---- counts
+
+    def stats(self) -> Statistics:
+        """What the pass has counted, and what all passes of the cache looked at, opened and read."""
+        found = Statistics()
+        _check(lib.texcache_stats(self._open(), byref(found)))
+        return found
+
+    def shard_stats(self, shard: int) -> Shard:
+        """Tiles, pins and bytes of a shard."""
+        found = Shard()
+        _check(lib.texcache_shard_stats(self._open(), unsigned("shard", shard), byref(found)))
+        return found
