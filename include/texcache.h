@@ -11,7 +11,7 @@
  *         && texcache_this_thread(cache, &pass) == TEXCACHE_OK
  *         && texcache_find(cache, "wall.tif", &file) == TEXCACHE_OK) {
  *         int refused = texcache_texture(pass, file, &options, 0.5, 0.5, rgb, 3, NULL);
- *         if (refused) fprintf(stderr, "%s\n", texcache_error_string(refused));
+ *         if (refused) fprintf(stderr, "%s\n", texcache_last_error());
  *     }
  *     texcache_close(&cache);
  *
@@ -34,11 +34,11 @@
 #include <stdint.h>
 
 /* The version of this header, as in the file VERSION. The library has one too: texcache_version(). */
-#define TEXCACHE_VERSION "1.0.0-rc2"
+#define TEXCACHE_VERSION "1.0.0-rc3"
 
 /* The calls that open a cache have the version in their symbol. So a program does not link with a library of another
- * version, whose structs and calls may differ: texcache_open_1_0_0_rc2 is then undefined. */
-#define TEXCACHE_SYMBOL(name) __asm__(name "_1_0_0_rc2")
+ * version, whose structs and calls may differ: texcache_open_1_0_0_rc3 is then undefined. */
+#define TEXCACHE_SYMBOL(name) __asm__(name "_1_0_0_rc3")
 
 #ifdef __cplusplus
 extern "C" {
@@ -85,8 +85,15 @@ enum texcache_status {
     TEXCACHE_OTHER_THREAD = 48      /* only the thread whose pass texcache_this_thread made may end it */
 };
 
-/* The name of an error. */
+/* The name of an error, in a few words. */
 const char *texcache_error_string(int status);
+
+/* Why the calling thread's latest failed call failed: a sentence with the file's name, the system's error if there was
+ * one, and for a file that is not accepted its fault and what helps. Empty if no call of the thread has failed.
+ *
+ * It has at most 2047 bytes and a final 0. A call that succeeds leaves it as it is. The text belongs to the library; it
+ * stays until the thread's next failed call, or its end. A name's control characters are shown as question marks. */
+const char *texcache_last_error(void);
 
 /* The version of the linked library: that of the file VERSION, with +unproved behind it if nobody proved the library. */
 const char *texcache_version(void);
@@ -184,14 +191,23 @@ enum texcache_wrap { TEXCACHE_BLACK, TEXCACHE_CLAMP, TEXCACHE_PERIODIC, TEXCACHE
 
 enum texcache_filter { TEXCACHE_CLOSEST, TEXCACHE_BILINEAR, TEXCACHE_TRILINEAR };
 
-/* How texture coordinates become values, for one lookup or many. texcache_default_texture_options sets all of it. */
+/* How texture coordinates become values, for one lookup or many. texcache_default_texture_options sets all of it.
+ * docs/OPTIONS.md has examples and says exactly what each does. */
 typedef struct texcache_texture_options {
     size_t size;            /* sizeof(texcache_texture_options) */
     uint32_t swrap, twrap;  /* enum texcache_wrap */
-    uint32_t channels;      /* 1 to 8, from channel 0 on; a channel that the file lacks is 0 */
+    uint32_t channels;      /* 1 to 8 */
     uint32_t filter;        /* without derivatives: enum texcache_filter */
     double lod;             /* without derivatives: the level, 0 the largest, -32768 to 65535.99; below 0 it counts as 0 */
     uint32_t max_probes;    /* with derivatives: the most probes along the footprint, 1 to 32, usually 1, 8, 16 or 32 */
+    uint32_t first_channel; /* the file's channel that comes first in the results, 0 to 7 */
+    double lod_bias;        /* added to the level, -32 to 32. With derivatives the footprint is 2^lod_bias times as large */
+    double swidth, twidth;  /* with derivatives: those of s, and of t, are multiplied by this, 0 to 16384 */
+    double sblur, tblur;    /* with derivatives: the footprint is longer by this, in fractions of the image, 0 to 16384 */
+    uint32_t grey_to_rgb;   /* not 0: a file of one or two channels has grey in its first three, and then alpha */
+    float fill;             /* the value of a channel that the file lacks */
+    float fill_alpha;       /* the value of channel 3, if the file lacks it */
+    const float *missing_color; /* NULL, or `channels` values for files that cannot be read, in place of an error */
 } texcache_texture_options;
 
 /* Which number of a lookup is out of range: `detail` of TEXCACHE_BAD_REQUEST. */
@@ -203,7 +219,12 @@ enum texcache_bad_number {
     TEXCACHE_BAD_LOD,
     TEXCACHE_BAD_MAX_PROBES,
     TEXCACHE_BAD_PLACE, /* a coordinate or a derivative; value: the index of the first such lookup */
-    TEXCACHE_BAD_STEP   /* the step of several lookups is 0 */
+    TEXCACHE_BAD_STEP,  /* the step of several lookups is 0 */
+    TEXCACHE_BAD_FIRST_CHANNEL,
+    TEXCACHE_BAD_LOD_BIAS,
+    TEXCACHE_BAD_WIDTH,
+    TEXCACHE_BAD_BLUR,
+    TEXCACHE_BAD_TYPE
 };
 
 /* The coordinates of many lookups, and their derivatives, or NULL for all four. Those of lookup i are at i * step:
@@ -215,7 +236,8 @@ typedef struct texcache_coordinates {
     size_t step;
 } texcache_coordinates;
 
-/* Options with periodic wraps, the bilinear filter, level 0 and 16 probes. */
+/* Options with periodic wraps, the bilinear filter, level 0 and 16 probes. A channel that the file lacks is 0, widths
+ * are 1, and a file that cannot be read is an error. */
 texcache_texture_options texcache_default_texture_options(uint32_t channels);
 
 /* The values of a lookup at a place, by the filter and in the level of the options: OpenImageIO's `texture` without
@@ -242,6 +264,37 @@ int texcache_texture_footprint(texcache_pass *pass, uint32_t file, const texcach
 int texcache_texture_many(texcache_pass *pass, uint32_t file, const texcache_texture_options *options,
                           const texcache_coordinates *at, size_t count, uint16_t *out, size_t room, size_t *done,
                           texcache_answer *answer);
+
+/* What the values of texcache_texture_results are. */
+enum texcache_type {
+    TEXCACHE_UINT16,  /* uint16_t, 0 to 65535 */
+    TEXCACHE_FLOAT,   /* float, 0 to 1: texcache_float of the value */
+    TEXCACHE_HALF     /* half floats, each in a uint16_t: the nearest to the float */
+};
+
+/* Where results go: `room` values of this type, and of each derivative `room` floats. */
+typedef struct texcache_results {
+    size_t size;       /* sizeof(texcache_results) */
+    uint32_t type;     /* enum texcache_type */
+    size_t room;
+    void *values;
+    float *dresultds, *dresultdt;  /* both, or both NULL: how much a value changes per image across, and down */
+} texcache_results;
+
+/* The lookups of texcache_texture_many, as values of any type, with their derivatives if you ask for them: differences
+ * of lookups on both sides. docs/OPTIONS.md says over which distance. Such a lookup takes five times as long. */
+int texcache_texture_results(texcache_pass *pass, uint32_t file, const texcache_texture_options *options,
+                             const texcache_coordinates *at, size_t count, const texcache_results *results, size_t *done,
+                             texcache_answer *answer);
+
+/* texcache_texture with floats for values. */
+int texcache_texture_float(texcache_pass *pass, uint32_t file, const texcache_texture_options *options, double s, double t,
+                           float *out, size_t room, texcache_answer *answer);
+
+/* texcache_texture_footprint with floats for values. */
+int texcache_texture_footprint_float(texcache_pass *pass, uint32_t file, const texcache_texture_options *options, double s,
+                                     double t, double dsdx, double dtdx, double dsdy, double dtdy, float *out, size_t room,
+                                     texcache_answer *answer);
 
 /* A value as a float from 0 to 1. */
 float texcache_float(uint16_t value);
@@ -351,6 +404,17 @@ int texcache_stats(texcache_pass *pass, texcache_statistics *out);
 
 /* What one shard has. */
 int texcache_shard_stats(texcache_pass *pass, uint32_t shard, texcache_shard *out);
+
+/* What a cache has done since it was opened, as a text for people: OpenImageIO's getstats. Level 1 has totals; level 2
+ * and above has a line per used file too, those with the most bytes first. docs/OPTIONS.md says what each number means.
+ *
+ * `buffer` has `room` bytes; it may be NULL if `room` is 0. `needed`, which may be NULL, says how many bytes the whole
+ * text takes, its final 0 included. If `room` is less, and not 0, the text is cut there, and that is
+ * TEXCACHE_SMALL_BUFFER. Threads may go on: their counts are those of a moment during the call. */
+int texcache_statistics_text(texcache *cache, uint32_t level, char *buffer, size_t room, size_t *needed);
+
+/* The numbers of texcache_statistics_text as JSON, for programs. */
+int texcache_statistics_json(texcache *cache, uint32_t level, char *buffer, size_t room, size_t *needed);
 
 #ifdef __cplusplus
 }

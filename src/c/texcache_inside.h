@@ -6,14 +6,24 @@
 #include "texcache_supply.h"
 
 #include <pthread.h>
+#include <string.h>
 
 /* Functions of one of these files that another one calls, and that the library does not export. */
 #define TEXC_HIDDEN __attribute__((visibility("hidden")))
+/* So that a call for one lookup has no loops over many: they are compiled for each of the calls. */
+#define TEXC_INLINE static inline __attribute__((always_inline))
 
 /* What different threads write is at least this many bytes apart. */
 #define TEXC_LINE 128
 /* How often a call is repeated because its file was replaced. */
 #define TEXC_AGAIN 64
+/* How many lookups the library makes at once. */
+#define TEXC_PART 64
+/* The file of a call on no file. */
+#define TEXC_NO_FILE UINT32_MAX
+/* How much of a name is kept for the text of an error, and how long that is at most. */
+#define TEXC_NAME 512
+#define TEXC_ERROR 2048
 
 typedef struct texc_file texc_file;
 
@@ -26,11 +36,29 @@ typedef struct texc_open {
     struct texc_open *older, *newer;  /* the idle ones before and behind it */
 } texc_open;
 
+/* What was counted of the reading of a file. Times are in nanoseconds. */
+typedef struct texc_tally {
+    uint64_t looks, opens, reads, bytes;
+    uint64_t rows;        /* reads of a part of a row: only of stripped files */
+    uint64_t again;       /* bytes read more than once in one generation, estimated by texc_sample */
+    uint64_t input_time;  /* in looks, opens and reads */
+    uint64_t lock_time;   /* waiting for another thread that looks at the file */
+} texc_tally;
+
+/* Which bytes of a generation were read: a bit for one byte of each block of `block` bytes. */
+typedef struct texc_sampled {
+    uint64_t block;
+    uint8_t *bits;  /* NULL if nothing was read, or there is no memory */
+} texc_sampled;
+
 struct texc_file {
     char *name;
-    pthread_mutex_t lock;  /* guards the next three */
+    uint64_t errors;       /* calls that failed because of this file */
+    pthread_mutex_t lock;  /* guards the next five */
     uint32_t generation;   /* the latest one, 0 before the first look */
     uint64_t stamp, len;   /* the stamp and length of that generation */
+    texc_tally tally;
+    texc_sampled sampled;
     texc_open *open;       /* open at that generation, or NULL; the cache's open_lock guards it */
 };
 
@@ -39,7 +67,10 @@ struct texcache {
     int folder;
     texc_file *files;
     uint32_t count;
+    texcache_options options;
     uint64_t looks, opens, reads, bytes;
+    uint64_t wait_time;  /* nanoseconds in which calls waited for a shard */
+    uint64_t lookups;    /* of passes whose memory is used again */
 
     pthread_mutex_t open_lock;   /* guards the open files; it may be taken while a file's lock is held */
     texc_open *oldest, *newest;  /* the idle ones, by their latest use */
@@ -55,13 +86,23 @@ struct texcache {
     pthread_key_t key;          /* of the threads' own passes */
 };
 
-enum { TEXC_FREE, TEXC_USED, TEXC_ENDED };
+/* TEXC_COUNTED: another thread reads the pass's counts, which a call that begins waits for. */
+enum { TEXC_FREE, TEXC_USED, TEXC_ENDED, TEXC_COUNTED };
+
+/* What a lookup has to know of a file: the facts of one generation, 0 if none is known. */
+typedef struct texc_known {
+    uint32_t file, generation;
+    texcache_info info;
+} texc_known;
 
 struct texcache_pass {
     texcache *cache;
     texcache_held held;
-    int state;                /* TEXC_FREE; TEXC_USED while a call runs in it; TEXC_ENDED */
+    int state;                /* TEXC_FREE; TEXC_USED while a call runs in it; TEXC_ENDED; TEXC_COUNTED */
     unsigned forks;           /* the cache's */
+    uint64_t lookups;         /* written by the pass's thread, read by any */
+    texcache_counts counted;  /* what the handle had counted when that was last read; the cache's lock guards it */
+    texc_known known;
     bool is_threads;          /* made by texcache_this_thread for its owner */
     pthread_t owner;
     texcache_counts before;   /* what the handle had counted when the pass was made */
@@ -74,10 +115,59 @@ typedef struct texc_tries {
     unsigned again, busy;
 } texc_tries;
 
+/* A text of bounded length. What does not fit in `room` bytes is only counted. */
+typedef struct texc_text {
+    char *to;
+    size_t room, size;
+} texc_text;
+
+/* Why a call failed. texcache_last_error makes words of it. */
+typedef struct texc_fact {
+    int status, error_number;
+    texcache_answer answer;
+    const char *what;         /* what is wrong: an argument, an option or a number; or what failed */
+    const char *range;        /* what the number may be */
+    double number;            /* what it is; the number of a file, place or shard */
+    uint64_t given;           /* how many values there is room for, or how many lookups or files there are */
+    char name[TEXC_NAME];     /* of the file or folder; empty if there is none */
+} texc_fact;
+
 /* How many forks lie between the first process and this one. */
 extern unsigned texc_forks TEXC_HIDDEN;
 
+/* texcache_errors.c */
+TEXC_HIDDEN void texc_notes(const char *what, int error_number);
+TEXC_HIDDEN texc_fact *texc_keep(int status, const char *what);
+TEXC_HIDDEN texc_fact *texc_keep_reading(int status);
+TEXC_HIDDEN void texc_keep_name(texc_fact *fact, const char *name);
+TEXC_HIDDEN int texc_refuse(const texc_fact *fact, texcache_answer *answer);
+TEXC_HIDDEN int texc_refuse_number(uint32_t bad, double number, texcache_answer *answer);
+TEXC_HIDDEN texc_fact *texc_keep_place(const char *name, const char *range, uint64_t index, uint64_t count);
+TEXC_HIDDEN texc_fact *texc_keep_answer(texcache_pass *pass, uint32_t file, uint32_t code, const texcache_supply_answer *said);
+TEXC_HIDDEN void texc_keep_room(uint64_t room);
+TEXC_HIDDEN void texc_keep_sizes(uint64_t room, uint64_t needed);
+TEXC_HIDDEN void texc_count_error(texcache_pass *pass, uint32_t file, uint32_t code);
+TEXC_HIDDEN bool texc_is_of_file(uint32_t code);
+TEXC_HIDDEN void texc_put(texc_text *text, const char *format, ...) __attribute__((format(printf, 2, 3)));
+TEXC_HIDDEN void texc_put_name(texc_text *text, const char *name);
+TEXC_HIDDEN void texc_put_quoted(texc_text *text, const char *name);
+TEXC_HIDDEN void texc_put_error(texc_text *text, uint32_t code, const texcache_answer *answer, const char *name);
+
+/* texcache_lookups.c */
+TEXC_HIDDEN uint32_t texc_check_options(const texcache_texture_options *o, bool is_footprint, double *number);
+TEXC_HIDDEN uint32_t texc_look_up_part(texcache_pass *pass, const texcache_batch *batch, const texcache_place *places,
+                                       size_t count, uint16_t *out, texcache_supply_answer *said);
+
+/* texcache_results.c */
+TEXC_HIDDEN int texc_results(texcache_pass *pass, uint32_t file, const texcache_texture_options *options,
+                             const texcache_coordinates *at, size_t count, const texcache_results *results, size_t *done,
+                             texcache_answer *answer);
+TEXC_HIDDEN int texc_give_missing(const texcache_texture_options *o, const texcache_results *results, size_t count,
+                                  uint32_t code, texcache_answer *answer);
+
 /* texcache_posix.c */
+TEXC_HIDDEN uint64_t texc_now(void);
+TEXC_HIDDEN void texc_add(uint64_t *count, uint64_t by);
 TEXC_HIDDEN int texc_list(texcache *cache, const char *folder);
 TEXC_HIDDEN void texc_end_files(texcache *cache);
 TEXC_HIDDEN void texc_supply(texcache_pass *pass, const texcache_supply_answer *need);
@@ -85,6 +175,7 @@ TEXC_HIDDEN bool texc_is_known(texcache *cache, uint32_t file);
 TEXC_HIDDEN void texc_close_file(texcache *cache, uint32_t file);
 
 /* texcache_passes.c */
+TEXC_HIDDEN int texc_enter_later(texcache_pass *pass);
 TEXC_HIDDEN bool texc_pauses(unsigned *tries, unsigned most);
 TEXC_HIDDEN bool texc_waits(unsigned *tries);
 TEXC_HIDDEN bool texc_goes_on(texcache_pass *pass, uint32_t code, const texcache_supply_answer *said, texc_tries *tries);
@@ -95,14 +186,94 @@ static inline int texc_enter(texcache_pass *pass)
     int state = TEXC_FREE;
     if (!pass) return TEXCACHE_BAD_ARGUMENT;
     if (__builtin_expect(pass->forks != texc_forks, 0)) return TEXCACHE_FORKED;
-    if (__atomic_compare_exchange_n(&pass->state, &state, TEXC_USED, 0, __ATOMIC_ACQUIRE, __ATOMIC_RELAXED))
+    if (__builtin_expect(__atomic_compare_exchange_n(&pass->state, &state, TEXC_USED, 0, __ATOMIC_ACQUIRE,
+                                                     __ATOMIC_RELAXED), 1))
         return TEXCACHE_OK;
-    return state == TEXC_ENDED ? TEXCACHE_CLOSED : TEXCACHE_IN_USE;
+    return state == TEXC_COUNTED ? texc_enter_later(pass) : state == TEXC_ENDED ? TEXCACHE_CLOSED : TEXCACHE_IN_USE;
 }
 
 static inline void texc_leave(texcache_pass *pass)
 {
     __atomic_store_n(&pass->state, TEXC_FREE, __ATOMIC_RELEASE);
+}
+
+/* What belongs to a result or an error, as a program sees it. */
+TEXC_INLINE void texc_fill_answer(const texcache_supply_answer *said, texcache_answer *answer)
+{
+    answer->generation = said->generation;
+    answer->newer = said->newer;
+    answer->detail = said->detail;
+    answer->part = said->part;
+    answer->value = said->value;
+    answer->channels = said->channels;
+}
+
+/* Begins a call in a pass, unless an argument is wrong, which is said by a text. */
+TEXC_INLINE int texc_begin(texcache_pass *pass, const char *wrong, texcache_answer *answer)
+{
+    int status = wrong ? TEXCACHE_BAD_ARGUMENT : texc_enter(pass);
+    if (__builtin_expect(status, 0)) return texc_refuse(texc_keep(status, wrong ? wrong : "pass is NULL"), answer);
+    return status;
+}
+
+/* Ends a call on a file, fills its answer and keeps why it failed. */
+TEXC_INLINE int texc_finish(texcache_pass *pass, uint32_t file, uint32_t code, const texcache_supply_answer *said,
+                            texcache_answer *answer)
+{
+    if (__builtin_expect(code != 0, 0)) texc_keep_answer(pass, file, code, said);
+    texc_leave(pass);
+    if (answer) texc_fill_answer(said, answer);
+    return (int)code;
+}
+
+/* floor(scale * value + 0.5) in `out`, if it is from least to most; scale is a power of 2. NaN and infinity have large
+ * exponents, which are tested by their bits. */
+TEXC_INLINE int texc_scaled(double value, double scale, int64_t least, int64_t most, int64_t *out)
+{
+    uint64_t bits;
+    memcpy(&bits, &value, sizeof bits);
+    if (__builtin_expect(bits << 1 >= (uint64_t)(1023 + 17) << 53, 0)) return 0;
+    double at = value * scale + 0.5;
+    int64_t found = (int64_t)at;
+    found -= (double)found > at;
+    *out = found;
+    return (uint64_t)found - (uint64_t)least <= (uint64_t)most - (uint64_t)least;
+}
+
+/* The options as the library takes them; they are in range. */
+TEXC_INLINE void texc_set_batch(const texcache_texture_options *o, uint32_t file, bool is_footprint, texcache_batch *to)
+{
+    int64_t lod = 0;
+    uint32_t channels = o->first_channel + o->channels;
+    if (!is_footprint) texc_scaled(o->lod + o->lod_bias, 65536.0, INT32_MIN, UINT32_MAX, &lod);
+    to->file = file;
+    to->max_probes = is_footprint ? o->max_probes : 0;
+    to->lod = lod < 0 ? 0 : (uint32_t)lod;
+    to->filter = is_footprint ? 0 : o->filter;
+    to->swrap = o->swrap;
+    to->twrap = o->twrap;
+    to->channels = channels < 8 ? channels : 8;
+}
+
+/* What is wrong with the arrays of many lookups, or NULL. */
+TEXC_INLINE const char *texc_wrong_coordinates(const texcache_coordinates *at)
+{
+    if (!at || !at->s || !at->t) return "the coordinates, or their s or t, are NULL";
+    if (!at->dsdx != !at->dtdx || !at->dsdx != !at->dsdy || !at->dsdx != !at->dtdy)
+        return "some of the derivatives are NULL, and others are not";
+    return NULL;
+}
+
+/* Counts lookups of a pass, in which a call runs. Other threads read the number. */
+TEXC_INLINE void texc_count_lookups(texcache_pass *pass, size_t count)
+{
+    __atomic_store_n(&pass->lookups, pass->lookups + count, __ATOMIC_RELAXED);
+}
+
+/* Whether the missing colour stands in place of an error. */
+TEXC_INLINE bool texc_gives_missing(const texcache_texture_options *o, uint32_t code)
+{
+    return o->missing_color && (code == TEXCACHE_NO_FILE || texc_is_of_file(code));
 }
 
 #endif

@@ -4,7 +4,6 @@
 
 #include <sched.h>
 #include <stdlib.h>
-#include <string.h>
 #include <time.h>
 
 /* How often a thread only yields the processor before it sleeps, and how long it sleeps at most, in nanoseconds. */
@@ -46,7 +45,24 @@ bool texc_goes_on(texcache_pass *pass, uint32_t code, const texcache_supply_answ
         return true;
     }
     if (code == TEXCACHE_AGAIN) return ++tries->again < TEXC_AGAIN;
-    return code == TEXCACHE_BUSY && texc_waits(&tries->busy);
+    if (code != TEXCACHE_BUSY) return false;
+    uint64_t from = texc_now();
+    bool goes_on = texc_waits(&tries->busy);
+    texc_add(&pass->cache->wait_time, texc_now() - from);
+    return goes_on;
+}
+
+/* Begins a call in a pass whose counts another thread reads, which takes it less than a microsecond. */
+int texc_enter_later(texcache_pass *pass)
+{
+    int state = TEXC_COUNTED;
+    unsigned tries = 0;
+    while (state == TEXC_COUNTED && texc_waits(&tries)) {
+        state = TEXC_FREE;
+        if (__atomic_compare_exchange_n(&pass->state, &state, TEXC_USED, 0, __ATOMIC_ACQUIRE, __ATOMIC_RELAXED))
+            return TEXCACHE_OK;
+    }
+    return state == TEXC_ENDED ? TEXCACHE_CLOSED : TEXCACHE_IN_USE;
 }
 
 /* ---- forks. A child has none of the other threads, and their locks may be taken for ever. */
@@ -83,6 +99,7 @@ static texcache_pass *texc_blank_pass(texcache *cache)
         texcache_pass *made_before = pass->made_before;
         if (!(cache->spent = pass->next)) cache->spent_end = &cache->spent;
         cache->spent_count--;
+        cache->lookups += pass->lookups;
         memset(pass, 0, sizeof *pass);
         pass->made_before = made_before;
     } else {
@@ -129,6 +146,7 @@ static int texc_make_pass(texcache *cache, bool is_threads, texcache_pass **out)
         pass->is_threads = is_threads;
         pass->owner = pthread_self();
         tex_c_counts(pass->held, &pass->held, &pass->before);
+        pass->counted = pass->before;
         texc_leave(pass);
         *out = pass;
     }
@@ -158,21 +176,28 @@ static void texc_end_pass(texcache_pass *pass)
     pthread_mutex_unlock(&cache->lock);
 }
 
+/* Ends a call on a cache or pass, and keeps why it failed. */
+static int texc_ends(int status, const char *what)
+{
+    if (status) texc_keep(status, what);
+    return status;
+}
+
 int texcache_new_pass(texcache *cache, texcache_pass **pass)
 {
-    if (!cache || !pass) return TEXCACHE_BAD_ARGUMENT;
-    *pass = NULL;
-    return cache->forks == texc_forks ? texc_make_pass(cache, false, pass) : TEXCACHE_FORKED;
+    if (pass) *pass = NULL;
+    if (!cache || !pass) return texc_ends(TEXCACHE_BAD_ARGUMENT, cache ? "pass is NULL" : "cache is NULL");
+    return texc_ends(cache->forks == texc_forks ? texc_make_pass(cache, false, pass) : TEXCACHE_FORKED, NULL);
 }
 
 int texcache_end(texcache_pass **pass)
 {
     int refused = texc_enter(pass ? *pass : NULL);
-    if (refused) return refused;
+    if (refused) return texc_ends(refused, "pass is NULL");
     texcache_pass *ending = *pass;
     if (ending->is_threads && !pthread_equal(ending->owner, pthread_self())) {
         texc_leave(ending);
-        return TEXCACHE_OTHER_THREAD;
+        return texc_ends(TEXCACHE_OTHER_THREAD, NULL);
     }
     if (ending->is_threads) pthread_setspecific(ending->cache->key, NULL);
     texc_end_pass(ending);
@@ -215,11 +240,11 @@ static int texc_make_threads_pass(texcache *cache, texcache_pass **pass)
 
 int texcache_this_thread(texcache *cache, texcache_pass **pass)
 {
-    if (!cache || !pass) return TEXCACHE_BAD_ARGUMENT;
-    *pass = NULL;
-    if (cache->forks != texc_forks) return TEXCACHE_FORKED;
+    if (pass) *pass = NULL;
+    if (!cache || !pass) return texc_ends(TEXCACHE_BAD_ARGUMENT, cache ? "pass is NULL" : "cache is NULL");
+    if (cache->forks != texc_forks) return texc_ends(TEXCACHE_FORKED, NULL);
     if (__atomic_load_n(&cache->has_key, __ATOMIC_ACQUIRE) && (*pass = pthread_getspecific(cache->key))) return TEXCACHE_OK;
-    return texc_make_threads_pass(cache, pass);
+    return texc_ends(texc_make_threads_pass(cache, pass), NULL);
 }
 
 /* ---- caches */
@@ -247,17 +272,46 @@ static void texc_free(texcache *cache)
     free(cache);
 }
 
-/* Lists the folder, and has the library make its cache. */
-static int texc_fill(texcache *cache, const char *folder, const texcache_options *o, uint32_t *bad)
+/* Keeps which option is out of range, its value and what it may be. */
+static void texc_keep_option(const texcache_options *o, uint32_t bad)
 {
+    static const struct { const char *name, *range; } options[] = {
+        {"budget", "0 to 4294967296"}, {"shards", "1 to 64"}, {"passes", "1 to 16"}, {"handles", "1 to 1024"},
+        {"autotile", "0, or a multiple of 16 up to 4096"}, {"slots", "0 to 65536"}};
+    const double values[] = {(double)o->budget, o->shards, o->passes, o->handles, o->autotile, o->slots};
+    if (bad - 1 >= sizeof options / sizeof *options) return;
+    texc_fact *fact = texc_keep(TEXCACHE_BAD_OPTIONS, options[bad - 1].name);
+    fact->range = options[bad - 1].range;
+    fact->number = values[bad - 1];
+    fact->answer.detail = bad;
+}
+
+/* Lists the folder, and has the library make its cache. */
+static int texc_fill(texcache *cache, const char *folder, uint32_t *bad)
+{
+    const texcache_options *o = &cache->options;
     texcache_supply_options given = {o->budget, o->shards, o->passes, o->handles, o->autotile, o->slots, o->automip};
     texcache_supply_answer answer;
     cache->most_idle = o->handles;
     int refused = texc_list(cache, folder);
-    if (refused) return refused;
+    if (refused) {
+        texc_keep_name(texc_keep_reading(refused), folder);
+        return refused;
+    }
     refused = (int)tex_c_new(&cache->first, &given, cache->count, &answer);
+    if (refused == TEXCACHE_BAD_OPTIONS) texc_keep_option(o, answer.detail);
+    else if (refused) texc_keep(refused, NULL);
     if (bad) *bad = answer.detail;
     return refused;
+}
+
+/* What is wrong with the arguments of the calls that open a cache, or NULL. */
+static const char *texc_wrong_open(texcache **cache, const char *folder, const texcache_options *options)
+{
+    if (!cache) return "cache is NULL";
+    if (!folder) return "folder is NULL";
+    if (options->size != sizeof *options) return "the options have another size: texcache_default_options sets it";
+    return NULL;
 }
 
 int texcache_open_saying(texcache **cache, const char *folder, const texcache_options *options, uint32_t *bad)
@@ -266,16 +320,18 @@ int texcache_open_saying(texcache **cache, const char *folder, const texcache_op
     if (bad) *bad = 0;
     if (cache) *cache = NULL;
     if (!options) options = &usual;
-    if (!cache || !folder || options->size != sizeof *options) return TEXCACHE_BAD_ARGUMENT;
+    const char *wrong = texc_wrong_open(cache, folder, options);
+    if (wrong) return texc_ends(TEXCACHE_BAD_ARGUMENT, wrong);
     pthread_once(&texc_once, texc_watch_forks);
     texcache *made = texc_is_watching ? calloc(1, sizeof *made) : NULL;
-    if (!made) return TEXCACHE_NO_MEMORY;
+    if (!made) return texc_ends(TEXCACHE_NO_MEMORY, NULL);
     pthread_mutex_init(&made->open_lock, NULL);
     pthread_mutex_init(&made->lock, NULL);
     made->forks = texc_forks;
     made->folder = -1;
     made->spent_end = &made->spent;
-    int refused = texc_fill(made, folder, options, bad);
+    made->options = *options;
+    int refused = texc_fill(made, folder, bad);
     if (refused) texc_free(made);
     else *cache = made;
     return refused;
@@ -293,7 +349,7 @@ static bool texc_has_passes(texcache *cache)
     pthread_mutex_lock(&cache->lock);
     for (texcache_pass *pass = cache->made; pass && !has; pass = pass->made_before) {
         int state = __atomic_load_n(&pass->state, __ATOMIC_ACQUIRE);
-        has = state == TEXC_USED || (state == TEXC_FREE && !pass->is_threads);
+        has = state == TEXC_USED || (state != TEXC_ENDED && !pass->is_threads);
     }
     pthread_mutex_unlock(&cache->lock);
     return has;
@@ -301,9 +357,9 @@ static bool texc_has_passes(texcache *cache)
 
 int texcache_close(texcache **cache)
 {
-    if (!cache || !*cache) return TEXCACHE_BAD_ARGUMENT;
-    if ((*cache)->forks != texc_forks) return TEXCACHE_FORKED;
-    if (texc_has_passes(*cache)) return TEXCACHE_PASSES_LEFT;
+    if (!cache || !*cache) return texc_ends(TEXCACHE_BAD_ARGUMENT, "cache is NULL");
+    if ((*cache)->forks != texc_forks) return texc_ends(TEXCACHE_FORKED, NULL);
+    if (texc_has_passes(*cache)) return texc_ends(TEXCACHE_PASSES_LEFT, NULL);
     for (texcache_pass *pass = (*cache)->made; pass; pass = pass->made_before)
         if (!texc_enter(pass)) texc_release_all(pass);
     texc_free(*cache);

@@ -7,9 +7,9 @@
 #include <errno.h>
 #include <fcntl.h>
 #include <stdlib.h>
-#include <string.h>
 #include <sys/resource.h>
 #include <sys/stat.h>
+#include <time.h>
 #include <unistd.h>
 
 /* The most files of a folder. */
@@ -23,10 +23,67 @@
 #define TEXC_OPENS 8
 /* How often a thread waits for a descriptor, at most a millisecond each time. */
 #define TEXC_WAITS 1000
+/* The least block of which one byte is sampled, and how many bits a file has for its blocks at most. */
+#define TEXC_SAMPLED 4096
+#define TEXC_BITS 65536
 
-static void texc_add(uint64_t *count, uint64_t by)
+/* ---- counts */
+
+void texc_add(uint64_t *count, uint64_t by)
 {
     __atomic_fetch_add(count, by, __ATOMIC_RELAXED);
+}
+
+/* Nanoseconds since some moment. */
+uint64_t texc_now(void)
+{
+    struct timespec now;
+    clock_gettime(CLOCK_MONOTONIC, &now);
+    return (uint64_t)now.tv_sec * 1000000000u + (uint64_t)now.tv_nsec;
+}
+
+/* Locks a file, and counts how long another thread had it. */
+static void texc_lock(texc_file *file)
+{
+    if (!pthread_mutex_trylock(&file->lock)) return;
+    uint64_t from = texc_now();
+    pthread_mutex_lock(&file->lock);
+    file->tally.lock_time += texc_now() - from;
+}
+
+/* The byte of a block that is sampled: another place in each, or a column of an image might have all of them. */
+static uint64_t texc_sample(const texc_sampled *sampled, uint64_t number)
+{
+    return number * sampled->block + (number * 2654435761u >> 7) % sampled->block;
+}
+
+/* Marks the sampled bytes that a reading has. Returns how many bytes the ones that were marked before stand for. The
+ * file's lock is held. */
+static uint64_t texc_mark(texc_file *file, uint64_t at, uint64_t size)
+{
+    texc_sampled *sampled = &file->sampled;
+    uint64_t again = 0;
+    if (!sampled->bits) {
+        sampled->block = TEXC_SAMPLED;
+        while (file->len / sampled->block >= TEXC_BITS) sampled->block *= 2;
+        sampled->bits = calloc((size_t)(file->len / sampled->block / 8 + 1), 1);
+    }
+    if (!sampled->bits || !size || at + size > file->len) return 0;
+    for (uint64_t number = at / sampled->block; number <= (at + size - 1) / sampled->block; number++) {
+        uint64_t place = texc_sample(sampled, number);
+        uint8_t bit = (uint8_t)(1 << number % 8);
+        if (place < at || place >= at + size) continue;
+        if (sampled->bits[number / 8] & bit) again += sampled->block;
+        sampled->bits[number / 8] |= bit;
+    }
+    return again;
+}
+
+/* Forgets which bytes were read, because the file has another generation. */
+static void texc_unmark(texc_file *file)
+{
+    free(file->sampled.bits);
+    file->sampled.bits = NULL;
 }
 
 /* ---- descriptors. Idle files stay open, up to a number; then the one that was used longest ago is closed. */
@@ -125,16 +182,30 @@ static uint64_t texc_stamp(const struct stat *seen)
     return ((uint64_t)seen->st_size + UINT64_C(1000003) * nanos) & TEXC_STAMP_MASK;
 }
 
+/* Notes what failed. */
+static bool texc_fails(const char *what, int error_number)
+{
+    texc_notes(what, error_number);
+    return false;
+}
+
 /* Looks at a file and settles its generation; its lock is held. Returns whether it is a plain file. */
 static bool texc_settle(texcache *cache, texc_file *file)
 {
     struct stat seen;
+    uint64_t from = texc_now();
     texc_add(&cache->looks, 1);
-    if (fstatat(cache->folder, file->name, &seen, AT_SYMLINK_NOFOLLOW) || !S_ISREG(seen.st_mode)) return false;
+    file->tally.looks++;
+    int failed = fstatat(cache->folder, file->name, &seen, AT_SYMLINK_NOFOLLOW);
+    int error_number = errno;
+    file->tally.input_time += texc_now() - from;
+    if (failed) return texc_fails("the file cannot be looked at", error_number);
+    if (!S_ISREG(seen.st_mode)) return texc_fails("it is not a plain file any more", 0);
     uint64_t stamp = texc_stamp(&seen);
     if (file->generation && file->stamp == stamp) return true;
-    if (file->generation == TEXC_LAST_GENERATION) return false;
+    if (file->generation == TEXC_LAST_GENERATION) return texc_fails("it was replaced 1048575 times", 0);
     texc_forget(cache, file);
+    texc_unmark(file);
     file->generation++;
     file->stamp = stamp;
     file->len = (uint64_t)seen.st_size;
@@ -158,11 +229,16 @@ static int texc_descriptor(texcache *cache, const char *name)
 static texc_open *texc_open_file(texcache *cache, texc_file *file)
 {
     struct stat seen;
+    uint64_t from = texc_now();
     int fd = texc_descriptor(cache, file->name);
+    if (fd < 0) texc_notes("the file cannot be opened", errno);
+    file->tally.input_time += texc_now() - from;
     if (fd < 0) return NULL;
     texc_add(&cache->opens, 1);
+    file->tally.opens++;
     texc_open *open = calloc(1, sizeof *open);
     if (!open || fstat(fd, &seen) || !S_ISREG(seen.st_mode) || texc_stamp(&seen) != file->stamp) {
+        texc_notes(open ? "the file was replaced while it was opened" : "there is no memory to open it", 0);
         close(fd);
         free(open);
         return NULL;
@@ -195,7 +271,7 @@ void texc_close_file(texcache *cache, uint32_t file)
 /* Whether a file has been looked at. */
 bool texc_is_known(texcache *cache, uint32_t file)
 {
-    pthread_mutex_lock(&cache->files[file].lock);
+    texc_lock(&cache->files[file]);
     bool is_known = cache->files[file].generation != 0;
     pthread_mutex_unlock(&cache->files[file].lock);
     return is_known;
@@ -221,29 +297,54 @@ static texc_wanted texc_want(const texcache_supply_answer *need)
     return w;
 }
 
-/* Reads until the buffer is full or the file ends; how many bytes were read. */
-static size_t texc_pread(int fd, uint8_t *to, size_t count, uint64_t at)
+/* Reads until the buffer is full. Returns whether it is, and notes why not. */
+static bool texc_pread(int fd, uint8_t *to, size_t count, uint64_t at)
 {
     size_t done = 0;
     while (done < count) {
         ssize_t got = pread(fd, to + done, count - done, (off_t)(at + done));
         if (got < 0 && errno == EINTR) continue;
-        if (got <= 0) break;
+        if (got < 0) return texc_fails("the file cannot be read", errno);
+        if (got == 0) return texc_fails("the file ended before the bytes that are needed", 0);
         done += (size_t)got;
     }
-    return done;
+    return true;
+}
+
+/* The bytes of a row of what is wanted, or of the single stretch. */
+static size_t texc_row(const texc_wanted *w)
+{
+    return w->rows.stride == w->rows.row ? w->size : (size_t)w->rows.row;
 }
 
 /* Reads what the library needs from an open file into the buffer. Returns whether all was read. */
 static bool texc_read(texcache *cache, int fd, const texc_wanted *w, uint8_t *to)
 {
-    size_t row = w->rows.stride == w->rows.row ? w->size : (size_t)w->rows.row;
+    size_t row = texc_row(w);
     uint64_t at = w->rows.at;
     for (size_t done = 0; done < w->size; done += row, at += w->rows.stride) {
         texc_add(&cache->reads, 1);
-        if (texc_pread(fd, to + done, row, at) != row) return false;
+        if (!texc_pread(fd, to + done, row, at)) return false;
     }
     texc_add(&cache->bytes, w->size);
+    return true;
+}
+
+/* Counts what was read from a file; its lock is held. Returns what texc_read did. */
+static bool texc_count_read(texc_file *file, const texc_wanted *w, uint64_t time, bool is_read)
+{
+    texc_tally *tally = &file->tally;
+    size_t row = texc_row(w);
+    uint64_t at = w->rows.at;
+    bool is_latest = file->generation == w->rows.generation;
+    tally->input_time += time;
+    if (!is_read) return false;
+    tally->bytes += w->size;
+    for (size_t done = 0; done < w->size; done += row, at += w->rows.stride) {
+        tally->reads++;
+        tally->rows += row < w->rows.stride;
+        if (is_latest) tally->again += texc_mark(file, at, row);
+    }
     return true;
 }
 
@@ -260,8 +361,11 @@ static bool texc_read_version(texcache *cache, texc_file *file, const texc_wante
         is_read = is_own = false;
         if (open) {
             pthread_mutex_unlock(&file->lock);
+            uint64_t from = texc_now();
             is_read = texc_read(cache, open->fd, w, to);
-            pthread_mutex_lock(&file->lock);
+            from = texc_now() - from;
+            texc_lock(file);
+            is_read = texc_count_read(file, w, from, is_read);
             is_own = texc_give_back(cache, open);
         }
         *is_there = texc_settle(cache, file);
@@ -281,8 +385,9 @@ static uint32_t texc_supply_bytes(texcache_pass *pass, const texcache_supply_ans
     uint8_t *bytes;
     bool is_there;
     uint32_t code = tex_c_room(pass->held, &pass->held, w.size, &room, &bytes);
+    if (code) texc_notes("there is no memory for the bytes of the file", 0);
     if (code) return code;
-    pthread_mutex_lock(&file->lock);
+    texc_lock(file);
     bool is_read = texc_read_version(cache, file, &w, bytes, &is_there);
     uint32_t generation = file->generation;
     uint64_t len = file->len;
@@ -300,7 +405,7 @@ static uint32_t texc_supply_bytes(texcache_pass *pass, const texcache_supply_ans
 static uint32_t texc_supply_look(texcache_pass *pass, uint32_t number)
 {
     texc_file *file = &pass->cache->files[number];
-    pthread_mutex_lock(&file->lock);
+    texc_lock(file);
     bool is_there = texc_settle(pass->cache, file);
     uint32_t generation = file->generation;
     uint64_t len = file->len;
@@ -312,6 +417,7 @@ static uint32_t texc_supply_look(texcache_pass *pass, uint32_t number)
 /* Supplies what the library needs, or says that it cannot be read. */
 void texc_supply(texcache_pass *pass, const texcache_supply_answer *need)
 {
+    texc_notes(NULL, 0);
     uint32_t code = need->need == 1 ? texc_supply_look(pass, need->need_file) : texc_supply_bytes(pass, need);
     if (code) tex_c_supply_fault(pass->held, &pass->held);
 }
@@ -349,6 +455,7 @@ static int texc_add_files(texcache *cache, DIR *dir)
         struct stat seen;
         errno = 0;
         struct dirent *entry = readdir(dir);
+        if (!entry && errno) texc_notes("the folder cannot be read", errno);
         if (!entry) return errno ? TEXCACHE_NO_FOLDER : TEXCACHE_OK;
         if (fstatat(cache->folder, entry->d_name, &seen, AT_SYMLINK_NOFOLLOW) || !S_ISREG(seen.st_mode)) continue;
         int refused = texc_add_file(cache, entry->d_name, &room);
@@ -361,10 +468,10 @@ int texc_list(texcache *cache, const char *folder)
 {
     cache->most_idle = texc_most_idle(cache->most_idle);
     cache->folder = open(folder, O_RDONLY | O_DIRECTORY | O_CLOEXEC);
-    if (cache->folder < 0) return TEXCACHE_NO_FOLDER;
-    int copy = openat(cache->folder, ".", O_RDONLY | O_DIRECTORY | O_CLOEXEC);
+    int copy = cache->folder < 0 ? -1 : openat(cache->folder, ".", O_RDONLY | O_DIRECTORY | O_CLOEXEC);
     DIR *dir = copy < 0 ? NULL : fdopendir(copy);
     if (!dir) {
+        texc_notes("the folder cannot be opened", errno);
         if (copy >= 0) close(copy);
         return TEXCACHE_NO_FOLDER;
     }
@@ -382,6 +489,7 @@ void texc_end_files(texcache *cache)
     for (uint32_t n = 0; n < cache->count; n++) {
         pthread_mutex_destroy(&cache->files[n].lock);
         free(cache->files[n].name);
+        texc_unmark(&cache->files[n]);
     }
     free(cache->files);
     if (cache->folder >= 0) close(cache->folder);

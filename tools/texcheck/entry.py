@@ -20,6 +20,7 @@ SUBCOMMANDS = {
     "textures": "textures",
     "embedding": "embedding",
     "interface": "interface",
+    "fault-words": "fault_words",
     "package": "package",
     "fine": "fine",
     "beside-oiio": "beside_oiio",

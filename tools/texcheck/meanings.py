@@ -1,5 +1,5 @@
-"""Explains the answers of texcache in words and says what helps: for explain.py, folder_info.py and ./texmake. The
-numbers of fields and values are from TIFF 6.0 and the register of compressions."""
+"""Explains the answers of texcache in words and says what helps: for explain.py, folder_info.py and ./texmake, and for
+the errors of the C library. The numbers of fields and values are from TIFF 6.0 and the register of compressions."""
 
 FIELDS = {256: "ImageWidth", 257: "ImageLength", 258: "BitsPerSample", 259: "Compression",
           262: "PhotometricInterpretation", 273: "StripOffsets", 277: "SamplesPerPixel", 278: "RowsPerStrip",
@@ -25,46 +25,48 @@ def counted(number, noun):
     return f"{number} {noun}{'' if int(number) == 1 else 's'}"
 
 
-def unsupported(tag, value):
-    """What fault 7, a field with an unsupported value, means, and what helps."""
-    if tag == 259:
-        known = COMPRESSIONS.get(value, "an unknown method")
-        return f"Compression is {value}, {known}", "tiffcp -c none {name} OUT.tif"
-    if tag == 262:
-        return (f"its PhotometricInterpretation is {value}, {COLOURS.get(value, 'an unknown kind')}",
-                SRGB if value in (5, 8, 9, 10) else PLAIN)
-    if tag == 258:
-        return f"its samples must all have 8 bits, or all 16: one has {value}", PLAIN + ", or -d uint16"
-    if tag == 339:
-        return f"its SampleFormat is {value}, {FORMATS.get(value, 'an unknown kind')}", PLAIN + ", or -d uint16"
-    return f"{FIELDS.get(tag, f'field {tag}')} is {value}", AGAIN
+def _unsupported():
+    """The rows of fault 7, a field with an unsupported value. A row whose value is None is for all other values."""
+    wide = PLAIN + ", or -d uint16"
+    for value, known in [*COMPRESSIONS.items(), (None, "an unknown method")]:
+        yield 7, 259, value, f"Compression is {{value}}, {known}", "tiffcp -c none {name} OUT.tif"
+    for value, known in [*COLOURS.items(), (None, "an unknown kind")]:
+        helps = SRGB if value in (5, 8, 9, 10) else PLAIN
+        yield 7, 262, value, f"its PhotometricInterpretation is {{value}}, {known}", helps
+    yield 7, 258, None, "its samples must all have 8 bits, or all 16: one has {value}", wide
+    for value, known in [*FORMATS.items(), (None, "an unknown kind")]:
+        yield 7, 339, value, f"its SampleFormat is {{value}}, {known}", wide
+    yield 7, None, None, "{field} is {value}", AGAIN
+
+
+# Each fault: its number, its field and value (None for any), what it means and what helps. The first row that fits
+# counts. tools/check fault-words makes the table of the C library of these rows.
+FAULTS = [
+    (1, None, None, "it is shorter than a header", "if it is a TIFF, " + ANEW),
+    (2, None, None, "it begins neither with II nor with MM, so it is not a TIFF", PLAIN),
+    (3, None, None, "it begins like a TIFF, but its version is neither 42 nor 43", PLAIN),
+    (4, None, None, "its directory is not completely in the file: the file was cut short", ANEW),
+    (5, None, None, "it has no {field}", AGAIN),
+    (6, None, None, "its {field} has an unsupported type, no value, or values outside the file", AGAIN),
+    *_unsupported(),
+    (8, None, None, "its width, its height, the number of its channels or the rows of a strip are 0", AGAIN),
+    (9, None, None, "a side is longer than 131072 texels, or it has more than 8 channels",
+     "oiiotool {name} --resize 131072x0 (or --ch R,G,B) -d uint8 --compression none -o OUT.tif"),
+    (10, None, None, "the sides of its tiles are not multiples of 16",
+     "oiiotool {name} -d uint8 --compression none --tile 64 64 -o OUT.tif"),
+    (11, None, None, "it has fewer strips or tiles than its width and height need", AGAIN),
+    (12, None, None, "strip or tile {value} of level {part} is not completely in the file: the file was cut short, or "
+     "its writer left this block out (a sparse file)", ANEW),
+]
 
 
 def fault(numbers):
     """What a fault of a file means, and what helps. `numbers` are those that follow the generation in the answer."""
-    code, *rest = numbers
-    field = FIELDS.get(rest[0], f"field {rest[0]}") if rest else ""
-    if code == 7:
-        return unsupported(*rest)
-    if code == 12:
-        level, index = rest
-        return (f"strip or tile {index} of level {level} is not completely in the file: the file was cut short, or "
-                "its writer left this block out (a sparse file)", ANEW)
-    means = {
-        1: ("it is shorter than a header", "if it is a TIFF, " + ANEW),
-        2: ("it begins neither with II nor with MM, so it is not a TIFF", PLAIN),
-        3: ("it begins like a TIFF, but its version is neither 42 nor 43", PLAIN),
-        4: ("its directory is not completely in the file: the file was cut short", ANEW),
-        5: (f"it has no {field}", AGAIN),
-        6: (f"its {field} has an unsupported type, no value, or values outside the file", AGAIN),
-        8: ("its width, its height, the number of its channels or the rows of a strip are 0", AGAIN),
-        9: ("a side is longer than 131072 texels, or it has more than 8 channels",
-            "oiiotool {name} --resize 131072x0 (or --ch R,G,B) -d uint8 --compression none -o OUT.tif"),
-        10: ("the sides of its tiles are not multiples of 16",
-             "oiiotool {name} -d uint8 --compression none --tile 64 64 -o OUT.tif"),
-        11: ("it has fewer strips or tiles than its width and height need", AGAIN),
-    }
-    return means[code]
+    code, part, value = [*numbers, 0, 0][:3]
+    for number, field, of_value, means, helps in FAULTS:
+        if number == code and field in (None, part) and of_value in (None, value):
+            return means.format(field=FIELDS.get(part, f"field {part}"), part=part, value=value), helps
+    raise KeyError(code)
 
 
 # What a run prints if it answers no request, and the causes of a bad list (docs/REQUESTS.md, "Causes").
