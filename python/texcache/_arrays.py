@@ -3,9 +3,9 @@ from __future__ import annotations
 
 from array import array
 from math import prod
-from typing import Any, List, Optional, Sequence, Tuple
+from typing import Any, List, Sequence, Tuple
 
-from ._library import lib
+from ._structs import FLOAT, HALF, UINT16
 
 try:
     import numpy
@@ -74,35 +74,39 @@ class Columns:
 
 # ---- values
 
-def _checked_out(out: Any, shape: Shape, kinds: Sequence[str]) -> None:
-    """Whether the array of a caller has room for these values, and is of one of these types."""
+# the type of an array's elements, by C's number, and that of Python's own arrays
+TYPES = {UINT16: ("uint16", "H"), FLOAT: ("float32", "f"), HALF: ("float16", "")}
+
+
+def _kind_of(out: Any, shape: Shape, kinds: Sequence[int]) -> int:
+    """The type of values that the array of a caller takes, if it has room for these."""
+    names = [TYPES[it][0] for it in kinds]
     if numpy is None:
         raise TypeError("out is for numpy arrays, and numpy is not installed")
     if not isinstance(out, numpy.ndarray):
         raise TypeError(f"out is a {type(out).__name__}, and has to be a numpy array")
-    if out.dtype not in kinds:
-        raise TypeError(f"out is an array of {out.dtype}, and has to be one of {' or '.join(kinds)}")
+    if out.dtype not in names:
+        raise TypeError(f"out is an array of {out.dtype}, and has to be one of {' or '.join(names)}")
     if out.shape != shape:
         raise ValueError(f"out has the shape {out.shape}, and has to have {shape}")
     if not out.flags.writeable:
         raise ValueError("out cannot be written to")
+    return kinds[names.index(out.dtype.name)]
 
 
 class Values:
-    """Room for the 16-bit values of a call, and what the caller gets of them."""
+    """Room for the values of a call, and what the caller gets of them: C writes into `out` itself if it can."""
 
-    def __init__(self, shape: Shape, out: Any = None, floats: bool = False) -> None:
+    def __init__(self, shape: Shape, out: Any = None, kinds: Sequence[int] = (UINT16,)) -> None:
         self.shape, self.out, self.room = shape, out, prod(shape)
-        if out is not None:
-            _checked_out(out, shape, ("float32",) if floats else ("uint16", "float32"))
-            floats = out.dtype == numpy.float32
-        self.floats = floats
+        self.kind = kinds[0] if out is None else _kind_of(out, shape, kinds)
+        name, code = TYPES[self.kind]
         if numpy is None:
-            self.kept: Any = array("H", bytes(2 * self.room))
-        elif out is not None and not floats and out.flags.c_contiguous and out.dtype.isnative:
+            self.kept: Any = array(code, bytes(array(code).itemsize * self.room))
+        elif out is not None and out.flags.c_contiguous and out.dtype.isnative:
             self.kept = out
         else:
-            self.kept = numpy.empty(shape, dtype=numpy.uint16)
+            self.kept = numpy.empty(shape, dtype=name)
 
     @property
     def place(self) -> int:
@@ -110,44 +114,24 @@ class Values:
         return self.kept.ctypes.data if numpy else self.kept.buffer_info()[0]
 
     def all(self) -> Any:
-        """The values: `out` if there is one."""
+        """The values: `out` if there is one; an array; without numpy a list of lists."""
         if numpy is None:
             return self._rows(self.room)
-        if self.kept is self.out:
-            return self.out
-        if self.out is None:
-            return self._as_floats(numpy.empty(self.shape, dtype=numpy.float32)) if self.floats else self.kept
-        if self.floats and self.out.flags.c_contiguous and self.out.dtype.isnative:
-            return self._as_floats(self.out)
-        self.out[...] = self._as_floats(numpy.empty(self.shape, dtype=numpy.float32)) if self.floats else self.kept
+        if self.out is None or self.kept is self.out:
+            return self.kept
+        self.out[...] = self.kept
         return self.out
 
     def first(self, count: int) -> Any:
         """The values of the first `count` lookups, a row each."""
         if numpy is None:
             return self._rows(count * self.shape[-1])
-        values = self.kept.reshape(-1, self.shape[-1])[:count]
-        return values / numpy.float32(65535) if self.floats else values
-
-    def _as_floats(self, to: Any) -> Any:
-        lib.texcache_floats(self.place, self.room, to.ctypes.data)
-        return to
+        return self.kept.reshape(-1, self.shape[-1])[:count]
 
     def _rows(self, count: int) -> List[list]:
-        """A list of lists, without numpy."""
-        channels = self.shape[-1]
-        values = [it / 65535 for it in self.kept[:count]] if self.floats else self.kept[:count].tolist()
+        channels, values = self.shape[-1], self.kept.tolist()
         return [values[at:at + channels] for at in range(0, count, channels)]
 
     def flat(self) -> Any:
         """The values of a region or a tile: an array, or without numpy one list."""
         return self.kept.tolist() if numpy is None else self.all()
-
-
-def one_row(values: Sequence[int], floats: bool, out: Optional[Any]) -> Any:
-    """The values of one lookup: a list, or `out`."""
-    if out is None:
-        return [it / 65535 for it in values] if floats else values
-    _checked_out(out, (len(values),), ("float32",) if floats else ("uint16", "float32"))
-    out[:] = [it / 65535 for it in values] if out.dtype == numpy.float32 else values
-    return out

@@ -2,22 +2,27 @@
 from __future__ import annotations
 
 import difflib
+import json
 import os
 import threading
 import weakref
-from ctypes import byref, c_size_t, c_uint16, c_uint32, c_void_p
+from ctypes import byref, c_float, c_size_t, c_uint16, c_uint32, c_void_p, create_string_buffer, sizeof
 from numbers import Real
 from types import TracebackType
-from typing import Any, List, Optional, Sequence, Type, Union
+from typing import Any, Dict, List, Optional, Sequence, Type, Union
 
-from ._arrays import Columns, Values, one_row
+from ._arrays import Columns, Values
 from ._library import lib, open_cache
-from ._structs import (BAD_OPTIONS, BAD_REQUEST, CLOSED, NOT_LOCAL, OK, SMALL_BUFFER, Answer, Filter, Info, Lookup,
-                       Region, Shard, Statistics, TextureOptions, Tile, Wrap, Coordinates, file_number, flag, real,
+from ._structs import (CLOSED, FLOAT, HALF, NOT_LOCAL, OK, SMALL_BUFFER, UINT16, Answer, Coordinates, Filter, Info,
+                       Lookup, Region, Results, Shard, Statistics, TextureOptions, Tile, Wrap, file_number, flag, real,
                        signed, texture_options, unsigned, whole)
 
 OPTIONS = ("budget", "shards", "passes", "handles", "autotile", "slots", "automip")
 MOST_TEXELS = 1048576  # of a region
+
+# the calls for one lookup, with 16-bit values and with floats
+ONE = lib.texcache_texture, lib.texcache_texture_float
+OVER_ONE = lib.texcache_texture_footprint, lib.texcache_texture_footprint_float
 
 # numbers of lookups: one number, a numpy array or what numpy makes one of; without numpy a list
 Numbers = Any
@@ -25,30 +30,20 @@ Numbers = Any
 Found = Any
 
 
-def _reason(status: int, answer: Answer) -> str:
-    """The name of an error, and which option or number it was, if the answer says so."""
-    text = lib.texcache_error_string(status).decode()
-    names: Sequence[str] = ()
-    if status == BAD_OPTIONS:
-        names = OPTIONS[:6]
-    elif status == BAD_REQUEST:
-        names = ("swrap", "twrap", "channels", "filter", "lod", "max_probes", f"lookup {answer.value}", "step")
-    return f"{text}: {names[answer.detail - 1]}" if 0 < answer.detail <= len(names) else text
-
-
 class Refused(Exception):
-    """A failed call.
+    """A failed call. Its text says what failed and what helps, with the file's name.
 
     status: the number of the error, as in enum texcache_status of texcache.h
-    reason: its text
+    reason: the name of the error, in a few words
     answer: the details, an Answer
     values: of texture and texture_footprint for many places, the values of the first lookups, which are valid
     """
 
-    def __init__(self, status: int, answer: Optional[Answer] = None, values: Found = None, of: Any = None) -> None:
+    def __init__(self, status: int, answer: Optional[Answer] = None, values: Found = None) -> None:
         self.status, self.answer, self.values = status, answer or Answer(), values
-        self.reason = _reason(status, self.answer)
-        super().__init__(self.reason if of is None else f"{self.reason}: {of}")
+        self.reason = lib.texcache_error_string(status).decode()
+        # the text of the calling thread's latest failed call, which is this one
+        super().__init__(lib.texcache_last_error().decode(errors="replace") or self.reason)
 
 
 class Closed(Refused):
@@ -59,9 +54,9 @@ class Closed(Refused):
         self.reason, self.args = what, (what,)
 
 
-def _check(status: int, answer: Optional[Answer] = None, of: Any = None) -> None:
+def _check(status: int, answer: Optional[Answer] = None) -> None:
     if status != OK:
-        raise Refused(status, answer, of=of)
+        raise Refused(status, answer)
 
 
 def _path(what: str, name: Union[str, bytes, "os.PathLike[Any]"]) -> bytes:
@@ -115,10 +110,9 @@ class Cache:
         if automip is not None:
             options.automip = flag("automip", automip)
         self._folder, self._local, self._thread_passes = folder, threading.local(), weakref.WeakSet()  # type: ignore
-        at, bad, answer = c_void_p(), c_uint32(), Answer()
+        at, bad = c_void_p(), c_uint32()
         status = open_cache(byref(at), _path("folder", folder), byref(options), byref(bad))
-        answer.detail = bad.value
-        _check(status, answer, None if status == BAD_OPTIONS else os.fsdecode(folder))
+        _check(status, Answer(detail=bad.value))
         self._at = at
 
     def __repr__(self) -> str:
@@ -159,12 +153,29 @@ class Cache:
     def find(self, name: Union[str, bytes, "os.PathLike[Any]"]) -> int:
         """The number of the file of this name."""
         file = c_uint32()
-        _check(lib.texcache_find(self._open(), _path("name", name), byref(file)), of=os.fsdecode(name))
+        _check(lib.texcache_find(self._open(), _path("name", name), byref(file)))
         return file.value
 
     def names(self) -> List[str]:
         """The names of the files, in the order of their numbers."""
         return [os.fsdecode(lib.texcache_file_name(self._at, n)) for n in range(len(self))]
+
+    def _report(self, call: Any, level: int) -> str:
+        needed = c_size_t(4096)
+        while True:
+            buffer = create_string_buffer(needed.value)
+            status = call(self._open(), unsigned("level", level), buffer, len(buffer), byref(needed))
+            if status != SMALL_BUFFER:
+                _check(status)
+                return buffer.value.decode(errors="replace")
+
+    def statistics(self, level: int = 1) -> str:
+        """What the cache has done since it was opened, as a text. Level 2 has a line for each used file too."""
+        return self._report(lib.texcache_statistics_text, level)
+
+    def statistics_json(self, level: int = 1) -> Dict[str, Any]:
+        """The numbers of `statistics`, as a dictionary."""
+        return json.loads(self._report(lib.texcache_statistics_json, level))
 
     def new_pass(self) -> "Pass":
         """A new pass, for one thread at a time, which you end. It is a context: `with cache.new_pass() as textures`."""
@@ -188,13 +199,23 @@ class Pass:
     - file: the number that Cache.find gives.
     - s, t: fractions of the image, s from its left edge across, t from its upper edge down. They are numbers for one
       lookup, and arrays of one shape for many; a number among arrays counts for all.
-    - channels: how many values, 1 to 8, from channel 0 on. A channel that the file does not have is 0.
     - swrap, twrap: BLACK, CLAMP, PERIODIC or MIRROR.
+    - channels: how many values, 1 to 8.
     - floats: whether values are floats from 0 to 1 in place of 0 to 65535.
-    - out: an array of yours that gets the values, of uint16 or float32, with one axis more than s and t for the channels.
+    - out: an array of yours that gets the values, of uint16, float32 or float16, with one axis more than s and t for the
+      channels. C writes into it; one whose elements do not lie side by side costs a copy.
 
-    What it gives is `out` if you gave one; else a list of channels for one lookup, and an array of uint16 or float32 with
-    one axis more for many. Without numpy, many lookups take and give lists.
+    and, by name alone:
+    - first_channel: the channel of the file that comes first, 0 to 7.
+    - fill: the value of channels that the file does not have, 0 if it is not given; fill_alpha: that of channel 3.
+    - grey_to_rgb: whether a file of one or two channels has its grey three times, and then its alpha.
+    - missing_color: a value for each channel, for a file that cannot be read, in place of an error.
+    - lod_bias: added to the level. Footprints are 2**lod_bias times as large.
+    - width, blur: of footprints, the factor of the derivatives, and what is added to the footprint in parts of the image;
+      a number, or one for s and one for t.
+
+    What a lookup gives is `out` if you gave one; else a list of channels for one lookup, and an array of uint16 or
+    float32 with one axis more for many. Without numpy, many lookups take and give lists.
 
     A call that fails raises Refused. A number that no option can have is a ValueError or a TypeError.
     """
@@ -239,50 +260,55 @@ class Pass:
 
     def _many(self, file: int, options: TextureOptions, columns: Columns, floats: bool, out: Any) -> Found:
         # the call refuses other numbers of channels, and reads them first
-        values = Values((*columns.shape, min(max(options.channels, 1), 8)), out, floats)
+        kinds = (FLOAT, HALF) if floats else (UINT16,) if out is None else (UINT16, FLOAT, HALF)
+        values = Values((*columns.shape, min(max(options.channels, 1), 8)), out, kinds)
         self.answer = Answer()
         pass_ = self._open()
         if not columns.count:
             return values.all()
         done, at = c_size_t(), Coordinates(*columns.places, step=1)
-        status = lib.texcache_texture_many(pass_, file, byref(options), byref(at), columns.count, values.place,
-                                           values.room, byref(done), byref(self.answer))
+        words = (pass_, file, byref(options), byref(at), columns.count)
+        if values.kind == UINT16:
+            status = lib.texcache_texture_many(*words, values.place, values.room, byref(done), byref(self.answer))
+        else:
+            results = Results(sizeof(Results), values.kind, values.room, values.place)
+            status = lib.texcache_texture_results(*words, byref(results), byref(done), byref(self.answer))
         if status != OK:
             raise Refused(status, self.answer, values.first(done.value))
         return values.all()
 
-    def _one(self, call: Any, file: int, options: TextureOptions, numbers: Sequence[Any], floats: bool, out: Any) -> Found:
-        values = (c_uint16 * 8)()
-        self._called(call, file, byref(options), *numbers, values, 8)
-        return one_row(values[:options.channels], floats, out)
+    def _one(self, calls: Sequence[Any], file: int, options: TextureOptions, numbers: Sequence[float], floats: bool) -> Found:
+        values = (c_float * 8)() if floats else (c_uint16 * 8)()
+        self._called(calls[floats], file, byref(options), *numbers, values, 8)
+        return values[:options.channels]
 
     def texture(self, file: int, s: Numbers, t: Numbers, lod: float = 0.0, swrap: int = Wrap.PERIODIC,
                 twrap: int = Wrap.PERIODIC, filter: int = Filter.BILINEAR, channels: int = 3, floats: bool = False,
-                *, out: Any = None) -> Found:
-        """The values at s and t, in level `lod` (0 is the largest), by CLOSEST, BILINEAR or TRILINEAR. See Pass.
+                *, out: Any = None, **more: Any) -> Found:
+        """The values at s and t, in level `lod` (0 is the largest), by CLOSEST, BILINEAR or TRILINEAR. Pass says what the
+        arguments are, and which others there are.
 
         All values of a call are of one version of the file, answer.generation. If the call fails, `values` of the Refused
         has those of the first lookups, which are valid.
         """
-        options = texture_options(swrap, twrap, channels, filter, lod, 16)
-        if isinstance(s, Real) and isinstance(t, Real):
-            return self._one(lib.texcache_texture, file_number(file), options, (real("s", s), real("t", t)), floats, out)
-        return self._many(file_number(file), options, Columns("st", (s, t)), floats, out)
+        options, file = texture_options((swrap, twrap, channels, filter, lod, 16), more), file_number(file)
+        if out is None and isinstance(s, Real) and isinstance(t, Real):
+            return self._one(ONE, file, options, (real("s", s), real("t", t)), flag("floats", floats))
+        return self._many(file, options, Columns("st", (s, t)), flag("floats", floats), out)
 
     def texture_footprint(self, file: int, s: Numbers, t: Numbers, dsdx: Numbers, dtdx: Numbers, dsdy: Numbers,
                           dtdy: Numbers, max_probes: int = 16, swrap: int = Wrap.PERIODIC, twrap: int = Wrap.PERIODIC,
-                          channels: int = 3, floats: bool = False, *, out: Any = None) -> Found:
-        """The values over the footprints of pixels. See Pass.
+                          channels: int = 3, floats: bool = False, *, out: Any = None, **more: Any) -> Found:
+        """The values over the footprints of pixels. Pass says what the arguments are, and which others there are.
 
         The derivatives are those of s and t to the next pixel at the right (dsdx, dtdx) and to the one below (dsdy,
         dtdy). `max_probes` is the most probes over a footprint, 1 to 32.
         """
-        options = texture_options(swrap, twrap, channels, 0, 0, max_probes)
+        options, file = texture_options((swrap, twrap, channels, 0, 0, max_probes), more), file_number(file)
         names, numbers = ("s", "t", "dsdx", "dtdx", "dsdy", "dtdy"), (s, t, dsdx, dtdx, dsdy, dtdy)
-        if all(isinstance(it, Real) for it in numbers):
-            numbers = tuple(map(real, names, numbers))
-            return self._one(lib.texcache_texture_footprint, file_number(file), options, numbers, floats, out)
-        return self._many(file_number(file), options, Columns(names, numbers), floats, out)
+        if out is None and all(isinstance(it, Real) for it in numbers):
+            return self._one(OVER_ONE, file, options, tuple(map(real, names, numbers)), flag("floats", floats))
+        return self._many(file, options, Columns(names, numbers), flag("floats", floats), out)
 
     # ---- lookups in the units of the program's requests
 

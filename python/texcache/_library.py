@@ -12,7 +12,8 @@ from ctypes import POINTER, c_bool, c_char_p, c_double, c_float, c_int, c_size_t
 from pathlib import Path
 from typing import List
 
-from ._structs import (Answer, Coordinates, Info, Lookup, Options, Region, Shard, Statistics, TextureOptions, Tile)
+from ._structs import (Answer, Coordinates, Info, Lookup, Options, Region, Results, Shard, Statistics, TextureOptions,
+                       Tile)
 from ._version import VERSION
 
 # the call that opens a cache, which has the version in its name
@@ -41,9 +42,10 @@ def _found() -> Path:
 
 
 def _declared(library: ctypes.CDLL) -> ctypes.CDLL:
-    values, answer = POINTER(c_uint16), POINTER(Answer)
+    values, floats, answer = POINTER(c_uint16), POINTER(c_float), POINTER(Answer)
     lookup = [c_void_p, c_uint32, POINTER(Lookup), values, c_size_t, answer]
     fine = [c_void_p, c_uint32, POINTER(TextureOptions)]
+    report = [c_void_p, c_uint32, c_char_p, c_size_t, POINTER(c_size_t)]
     calls = {
         OPEN: [POINTER(c_void_p), c_char_p, POINTER(Options), POINTER(c_uint32)],
         "texcache_close": [POINTER(c_void_p)], "texcache_end": [POINTER(c_void_p)],
@@ -52,7 +54,11 @@ def _declared(library: ctypes.CDLL) -> ctypes.CDLL:
         "texcache_get_info": [c_void_p, c_uint32, POINTER(Info), answer],
         "texcache_texture": [*fine, *[c_double] * 2, values, c_size_t, answer],
         "texcache_texture_footprint": [*fine, *[c_double] * 6, values, c_size_t, answer],
+        "texcache_texture_float": [*fine, *[c_double] * 2, floats, c_size_t, answer],
+        "texcache_texture_footprint_float": [*fine, *[c_double] * 6, floats, c_size_t, answer],
         "texcache_texture_many": [*fine, POINTER(Coordinates), c_size_t, c_void_p, c_size_t, POINTER(c_size_t), answer],
+        "texcache_texture_results": [*fine, POINTER(Coordinates), c_size_t, POINTER(Results), POINTER(c_size_t), answer],
+        "texcache_statistics_text": report, "texcache_statistics_json": report,
         "texcache_texture_fixed": lookup, "texcache_texture_d_fixed": lookup, "texcache_texture_local_fixed": lookup,
         "texcache_get_pixels": [c_void_p, c_uint32, POINTER(Region), c_void_p, c_size_t, answer],
         "texcache_get_tile": [c_void_p, c_uint32, c_uint32, c_uint32, c_uint32, answer],
@@ -66,9 +72,9 @@ def _declared(library: ctypes.CDLL) -> ctypes.CDLL:
         call = getattr(library, name)
         call.argtypes, call.restype = given, c_int
     others = {"texcache_error_string": ([c_int], c_char_p), "texcache_version": ([], c_char_p),
+              "texcache_last_error": ([], c_char_p),
               "texcache_default_options": ([], Options), "texcache_file_count": ([c_void_p], c_uint32),
-              "texcache_file_name": ([c_void_p, c_uint32], c_char_p),
-              "texcache_floats": ([c_void_p, c_size_t, c_void_p], None)}
+              "texcache_file_name": ([c_void_p, c_uint32], c_char_p)}
     for name, (given, result) in others.items():
         call = getattr(library, name)
         call.argtypes, call.restype = given, result

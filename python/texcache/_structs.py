@@ -7,10 +7,11 @@ from __future__ import annotations
 
 import ctypes
 import operator
-from ctypes import c_bool, c_double, c_int32, c_size_t, c_uint32, c_uint64, c_void_p
+from ctypes import POINTER, c_bool, c_double, c_float, c_int32, c_size_t, c_uint32, c_uint64, c_void_p
+from difflib import get_close_matches
 from enum import IntEnum
 from functools import lru_cache
-from typing import Any
+from typing import Any, Sequence
 
 
 class Wrap(IntEnum):
@@ -28,6 +29,8 @@ class Filter(IntEnum):
     TRILINEAR = 2
 
 
+# what values are, in C's numbers
+UINT16, FLOAT, HALF = range(3)
 OK, BAD_OPTIONS, BAD_REQUEST, SMALL_BUFFER, NOT_LOCAL, CLOSED = 0, 2, 4, 5, 7, 44
 
 
@@ -110,13 +113,22 @@ class Answer(Struct):
 class TextureOptions(Struct):
     """How coordinates become values: texcache_texture_options."""
     _fields_ = [("size", c_size_t), ("swrap", c_uint32), ("twrap", c_uint32), ("channels", c_uint32),
-                ("filter", c_uint32), ("lod", c_double), ("max_probes", c_uint32)]
+                ("filter", c_uint32), ("lod", c_double), ("max_probes", c_uint32), ("first_channel", c_uint32),
+                ("lod_bias", c_double), ("swidth", c_double), ("twidth", c_double), ("sblur", c_double),
+                ("tblur", c_double), ("grey_to_rgb", c_uint32), ("fill", c_float), ("fill_alpha", c_float),
+                ("missing_color", POINTER(c_float))]
     channels: int
 
 
 class Coordinates(Struct):
     """Where many lookups are: texcache_coordinates."""
     _fields_ = [*((n, c_void_p) for n in ("s", "t", "dsdx", "dtdx", "dsdy", "dtdy")), ("step", c_size_t)]
+
+
+class Results(Struct):
+    """Where values go that are not 16-bit numbers: texcache_results."""
+    _fields_ = [("size", c_size_t), ("type", c_uint32), ("room", c_size_t), ("values", c_void_p),
+                ("dresultds", c_void_p), ("dresultdt", c_void_p)]
 
 
 class Lookup(Struct):
@@ -185,18 +197,59 @@ class Shard(Struct):
 
 # ---- options of lookups
 
+# the options that a lookup has beside its filter, each with its default
+MORE = {"first_channel": 0, "lod_bias": 0.0, "fill": 0.0, "fill_alpha": None, "missing_color": None, "grey_to_rgb": False,
+        "width": 1.0, "blur": 0.0}
+
+
+def _pair(name: str, value: Any) -> Sequence[float]:
+    """A number for s and t, or one for each."""
+    try:
+        s, t = value
+    except TypeError:
+        s = t = value
+    except ValueError:
+        raise ValueError(f"{name} is {value!r}, and has to be a number, or one for s and one for t") from None
+    return real(name, s), real(name, t)
+
+
 def _made_options(swrap: Any, twrap: Any, channels: Any, by: Any, lod: Any, max_probes: Any) -> TextureOptions:
     return TextureOptions(ctypes.sizeof(TextureOptions), unsigned("swrap", swrap), unsigned("twrap", twrap),
                           unsigned("channels", channels), unsigned("filter", by), real("lod", lod),
-                          unsigned("max_probes", max_probes))
+                          unsigned("max_probes", max_probes), swidth=1, twidth=1)
 
 
 # most programs use few options, and making them takes longer than a lookup
 _kept_options = lru_cache(maxsize=256, typed=True)(_made_options)
 
 
-def texture_options(*words: Any) -> TextureOptions:
-    """The options of these numbers: swrap, twrap, channels, filter, lod, max_probes. Nobody may change them."""
+def _with_more(made: TextureOptions, more: dict) -> TextureOptions:
+    """The options with those of MORE that are not the default."""
+    made.first_channel = unsigned("first_channel", more["first_channel"])
+    made.lod_bias = real("lod_bias", more["lod_bias"])
+    made.fill = real("fill", more["fill"])
+    made.fill_alpha = made.fill if more["fill_alpha"] is None else real("fill_alpha", more["fill_alpha"])
+    made.grey_to_rgb = flag("grey_to_rgb", more["grey_to_rgb"])
+    made.swidth, made.twidth = _pair("width", more["width"])
+    made.sblur, made.tblur = _pair("blur", more["blur"])
+    if more["missing_color"] is not None:
+        color = [real("missing_color", it) for it in more["missing_color"]]
+        if len(color) < min(made.channels, 8):
+            raise ValueError(f"missing_color has {len(color)} values for {made.channels} channels")
+        # ctypes keeps the array as long as the struct
+        made.missing_color = (c_float * max(8, len(color)))(*color)
+    return made
+
+
+def texture_options(words: Sequence[Any], more: dict) -> TextureOptions:
+    """The options of these numbers: swrap, twrap, channels, filter, lod, max_probes; and of `more`. Nobody may change
+    them."""
+    for name in more:
+        if name not in MORE:
+            near = get_close_matches(name, MORE, 1)
+            raise TypeError(f"a lookup has no option {name}" + (f"; is it {near[0]}?" if near else f": {', '.join(MORE)}"))
+    if more:
+        return _with_more(_made_options(*words), {**MORE, **more})
     try:
         return _kept_options(*words)
     except TypeError:
