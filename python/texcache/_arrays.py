@@ -85,7 +85,7 @@ def _kind_of(out: Any, shape: Shape, kinds: Sequence[int]) -> int:
         raise TypeError("out is for numpy arrays, and numpy is not installed")
     if not isinstance(out, numpy.ndarray):
         raise TypeError(f"out is a {type(out).__name__}, and has to be a numpy array")
-    if out.dtype not in names:
+    if out.dtype.name not in names:
         raise TypeError(f"out is an array of {out.dtype}, and has to be one of {' or '.join(names)}")
     if out.shape != shape:
         raise ValueError(f"out has the shape {out.shape}, and has to have {shape}")

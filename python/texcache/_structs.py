@@ -47,14 +47,21 @@ def whole(name: str, value: Any, low: int, high: int) -> int:
     return number
 
 
+def _fitting(name: str, value: Any, low: int, high: int) -> int:
+    try:
+        return whole(name, value, low, high)
+    except ValueError:
+        raise ValueError(f"{name} is {value}, and that is out of range") from None
+
+
 def unsigned(name: str, value: Any) -> int:
     """A number that fits into 32 bits. The library knows narrower ranges, and says what it refuses."""
-    return whole(name, value, 0, 2 ** 32 - 1)
+    return _fitting(name, value, 0, 2 ** 32 - 1)
 
 
 def signed(name: str, value: Any) -> int:
     """A number that fits into 32 bits with a sign."""
-    return whole(name, value, -2 ** 31, 2 ** 31 - 1)
+    return _fitting(name, value, -2 ** 31, 2 ** 31 - 1)
 
 
 def real(name: str, value: Any) -> float:
@@ -197,6 +204,8 @@ class Shard(Struct):
 
 # ---- options of lookups
 
+# the names of the arguments of lookups, for those who misspell one
+WORDS = ("lod", "swrap", "twrap", "filter", "channels", "floats", "out", "max_probes")
 # the options that a lookup has beside its filter, each with its default
 MORE = {"first_channel": 0, "lod_bias": 0.0, "fill": 0.0, "fill_alpha": None, "missing_color": None, "grey_to_rgb": False,
         "width": 1.0, "blur": 0.0}
@@ -246,7 +255,7 @@ def texture_options(words: Sequence[Any], more: dict) -> TextureOptions:
     them."""
     for name in more:
         if name not in MORE:
-            near = get_close_matches(name, MORE, 1)
+            near = get_close_matches(name, [*WORDS, *MORE], 1)
             raise TypeError(f"a lookup has no option {name}" + (f"; is it {near[0]}?" if near else f": {', '.join(MORE)}"))
     if more:
         return _with_more(_made_options(*words), {**MORE, **more})

@@ -19,6 +19,8 @@ SUBCOMMANDS = {
     "replaced-files": "replaced_files",
     "textures": "textures",
     "embedding": "embedding",
+    "python": "python_package",
+    "bridge": "bridge",
     "interface": "interface",
     "fault-words": "fault_words",
     "package": "package",

@@ -71,6 +71,8 @@ def steps(args, programs, library):
         ("textures", "--program", texmake, "--texcache", texcache, *readers),
         ("embedding", "--program", texcache, "--library", library, *skip),
         ("fine", "--library", library, *(["--full"] if args.proved else []), *skip),
+        ("python", "--library", library, *skip),
+        ("bridge", "--library", library, *skip),
         ("package", *skip),
         ("interface", "--library", library, *skip),
         ("beside-oiio", "--library", library, *skip),

@@ -1,0 +1,4 @@
+"""x"""
+HELP = "x"
+def run(args):
+    return 1
