@@ -271,6 +271,9 @@ namespace detail {
 
 template <class...> inline constexpr bool never = false;
 
+// The options of a lookup that none of OpenImageIO's changes.
+inline const texcache_texture_options usual = texcache_default_texture_options(1);
+
 // What a version of a file is.
 struct Facts {
     texcache_info info = texcache_info();
@@ -302,6 +305,28 @@ struct Place {
 struct Levels {
     int first = 0, second = 0;
     double blend = 0;
+};
+
+// Why the thread's latest failed call failed, with the whole path: the library knows the name alone.
+inline std::string latest(const std::string &path)
+{
+    std::string text = texcache_last_error(), name = path.substr(path.rfind('/') + 1);
+    return text.compare(0, name.size(), name) ? path + ": " + text : path + text.substr(name.size());
+}
+
+// Where the values of a lookup go, and the derivatives that are wanted or NULL. One value is `step` from the next.
+struct Result {
+    float *values, *ds, *dt;
+    int nchannels, step;
+};
+
+// A lookup as the library takes it.
+struct Sampling {
+    texcache_texture_options how = usual;
+    Place at = Place();
+    Levels levels;               // of a blended one
+    bool is_footprint = false;
+    bool is_blended = false;     // the nearest texels of two levels
 };
 
 // A folder's part and a name's part of a path.
@@ -515,15 +540,14 @@ public:
                  float dtdx, float dsdy, float dtdy, int nchannels, float *result, float *dresultds = nullptr,
                  float *dresultdt = nullptr)
     {
-        const char *why = refused(options, dresultds || dresultdt);
-        if (why || !texture_handle || nchannels < 1 || !result)
-            return fails(texture_handle, why ? why : "an argument is NULL, or nchannels is below 1", options.fill, nullptr,
-                         nchannels, result, 1);
+        const detail::Result to = {result, dresultds, dresultdt, nchannels, 1};
+        const char *why = refused(options);
+        if (why || !texture_handle || nchannels < 1 || !result) return fails(texture_handle, why, options, to);
         Perthread *own = thread_info ? thread_info : get_perthread_info();
         const detail::Facts *facts = texture_handle->facts_.load(std::memory_order_acquire);
-        if (!facts) return is_missing(texture_handle, options, nchannels, result, 1);
+        if (!facts) return is_missing(texture_handle, options, to);
         detail::Place place = {s, t, dsdx, dtdx, dsdy, dtdy};
-        return look_up(*texture_handle, access(own, *texture_handle->folder_), facts, options, place, nchannels, result, 1);
+        return look_up(*texture_handle, access(own, *texture_handle->folder_), facts, options, place, to);
     }
 
     // A batch: result has all values of channel 0, then those of channel 1, and so on, BatchWidth of each.
@@ -542,26 +566,27 @@ public:
     {
         TextureOpt first = options.at(0);
         Perthread *own = thread_info ? thread_info : get_perthread_info();
-        const char *why = refused(first, dresultds || dresultdt);
+        const char *why = refused(first);
         const detail::Facts *facts = texture_handle ? texture_handle->facts_.load(std::memory_order_acquire) : nullptr;
-        if (!why && facts && nchannels > 0 && nchannels <= 8 && result
-            && together(*texture_handle, own, facts, options, first, mask, {s, t, dsdx, dtdx, dsdy, dtdy}, nchannels, result))
+        bool is_plain = !why && facts && nchannels > 0 && nchannels <= 8 && result && !dresultds && !dresultdt;
+        if (is_plain && together(*texture_handle, own, facts, options, first, mask, {s, t, dsdx, dtdx, dsdy, dtdy}, nchannels,
+                                 result))
             return true;
-        // one by one: levels differ, or something was refused
+        // one by one: levels differ, derivatives are wanted, or something failed
         bool is_good = true;
         for (int i = 0; i < Tex::BatchWidth; i++) {
             if (!(mask >> i & 1)) continue;
             TextureOpt one = options.at(i);
+            const detail::Result to = {result ? result + i : nullptr, dresultds ? dresultds + i : nullptr,
+                                       dresultdt ? dresultdt + i : nullptr, nchannels, Tex::BatchWidth};
             if (why || !texture_handle || nchannels < 1 || !result) {
-                is_good = fails(texture_handle, why ? why : "an argument is NULL, or nchannels is below 1", one.fill,
-                                nullptr, nchannels, result ? result + i : result, Tex::BatchWidth);
+                is_good = fails(texture_handle, why, one, to);
                 continue;
             }
             facts = texture_handle->facts_.load(std::memory_order_acquire);
             detail::Place place = {s[i], t[i], dsdx[i], dtdx[i], dsdy[i], dtdy[i]};
-            if (!facts) is_good &= is_missing(texture_handle, one, nchannels, result + i, Tex::BatchWidth);
-            else is_good &= look_up(*texture_handle, access(own, *texture_handle->folder_), facts, one, place, nchannels,
-                                    result + i, Tex::BatchWidth);
+            if (!facts) is_good &= is_missing(texture_handle, one, to);
+            else is_good &= look_up(*texture_handle, access(own, *texture_handle->folder_), facts, one, place, to);
         }
         return is_good;
     }
@@ -804,21 +829,20 @@ public:
         return name == "max_memory_MB" ? TypeFloat : name.substr(0, 5) == "stat:" ? TypeInt64 : TypeInt;
     }
 
-    // Counts in words: what all threads opened and read, and the cells that the calling thread needed.
+    // What the cache of each folder has done, in words. From level 2 on with a line for each used file.
     std::string getstats(int level = 1, bool icstats = true) const
     {
         (void)icstats;
-        std::string text = "texcache " + std::string(texcache_version()) + " through texcache_oiio.hpp\n";
-        if (level < 1) return std::string();
+        std::string all;
         std::lock_guard<std::mutex> guard(state_->lock);
         for (const auto &it : state_->folders) {
-            texcache_statistics found = statistics(*it);
-            text += "  folder " + it->path + ": " + std::to_string(found.opens) + " files opened, "
-                    + std::to_string(found.reads) + " reads of " + std::to_string(found.bytes) + " bytes, "
-                    + std::to_string(found.looks) + " freshness checks\n";
+            std::size_t needed = 0;
+            if (level > 0) texcache_statistics_text(it->cache, std::uint32_t(level), nullptr, 0, &needed);
+            std::string text(needed + 1024, 0);
+            if (needed) texcache_statistics_text(it->cache, std::uint32_t(level), &text[0], text.size(), nullptr);
+            all += "folder " + it->path + "\n" + text.c_str() + "\n";
         }
-        return text + "  files asked for: " + std::to_string(state_->handles.size()) + ", threads: "
-               + std::to_string(state_->perthreads.size()) + "\n";
+        return level > 0 ? all : std::string();
     }
 
     // Counts go on: texcache has no call that sets them to 0.
@@ -965,14 +989,6 @@ private:
         return handle->error_;
     }
 
-    static std::string text_of(int status, const texcache_answer &answer)
-    {
-        std::string text = texcache_error_string(status);
-        if (status != TEXCACHE_BAD_FILE) return text;
-        return text + ": fault " + std::to_string(answer.detail) + " of docs/FORMAT.md, part " + std::to_string(answer.part)
-               + ", value " + std::to_string(answer.value);
-    }
-
     // -- files and folders
 
     TextureHandle *handle_of(ustring filename, Perthread *own)
@@ -1008,7 +1024,7 @@ private:
             if (!status) status = texcache_find(handle.folder_->cache, name.c_str(), &handle.file_);
             if (status) {
                 handle.folder_ = nullptr;
-                handle.error_ = handle.path_ + ": " + texcache_error_string(status);
+                handle.error_ = detail::latest(handle.path_);
                 return;
             }
         }
@@ -1044,7 +1060,7 @@ private:
         std::lock_guard<std::mutex> guard(state_->lock);
         const detail::Facts *kept = handle.facts_.load();
         if (status) {
-            handle.error_ = handle.path_ + ": " + text_of(status, answer);
+            handle.error_ = detail::latest(handle.path_);
             kept = nullptr;
         } else if (!kept || kept->generation != found.generation) {
             found.spec = spec_of(found.info);
@@ -1069,7 +1085,7 @@ private:
         detail::Access &by = access(own, *folder);
         texcache_answer answer;
         int status = called(by, [&] { return texcache_invalidate(by.pass, handle.file_, force, &answer); });
-        if (status) says(handle.path_ + ": " + text_of(status, answer));
+        if (status) says(detail::latest(handle.path_));
         refresh(handle, by);
     }
 
@@ -1108,7 +1124,7 @@ private:
     // -- lookups
 
     // Why a lookup with these options cannot be done, or NULL.
-    static const char *refused(const TextureOpt &options, bool wants_derivatives)
+    static const char *refused(const TextureOpt &options)
     {
         if (options.interpmode == TextureOpt::InterpBicubic) return "InterpBicubic: texcache has no cubic filter";
         if (options.interpmode < TextureOpt::InterpClosest || options.interpmode > TextureOpt::InterpSmartBicubic)
@@ -1121,7 +1137,6 @@ private:
         }
         if (options.subimage || !options.subimagename.empty()) return "a file of texcache has one subimage, number 0";
         if (options.firstchannel < 0) return "firstchannel is below 0";
-        if (wants_derivatives) return "texcache has no derivatives of results: pass NULL for dresultds and dresultdt";
         return nullptr;
     }
 
@@ -1133,21 +1148,24 @@ private:
     }
 
     // Fills a result for which there are no texels.
-    static void fill_all(float fill, const float *colors, int nchannels, float *result, int step)
+    static void fill_all(float fill, const float *colors, const detail::Result &to)
     {
-        for (int c = 0; result && c < nchannels; c++) result[c * step] = colors ? colors[c] : fill;
+        for (int c = 0; c < to.nchannels; c++) {
+            if (to.values) to.values[c * to.step] = colors ? colors[c] : fill;
+            if (to.ds) to.ds[c * to.step] = 0;
+            if (to.dt) to.dt[c * to.step] = 0;
+        }
     }
 
-    bool fails(const TextureHandle *handle, const std::string &why, float fill, const float *colors, int nchannels,
-               float *result, int step) const
+    bool fails(const TextureHandle *handle, const char *why, const TextureOpt &options, const detail::Result &to) const
     {
-        fill_all(fill, colors, nchannels, result, step);
-        return says(name_of(handle) + ": " + why);
+        fill_all(options.fill, nullptr, to);
+        return says(name_of(handle) + ": " + (why ? why : "an argument is NULL, or nchannels is below 1"));
     }
 
-    bool is_missing(const TextureHandle *handle, const TextureOpt &options, int nchannels, float *result, int step) const
+    bool is_missing(const TextureHandle *handle, const TextureOpt &options, const detail::Result &to) const
     {
-        fill_all(options.fill, options.missingcolor, nchannels, result, step);
+        fill_all(options.fill, options.missingcolor, to);
         return options.missingcolor ? true : says(why_not(handle));
     }
 
@@ -1177,70 +1195,111 @@ private:
         return std::uint32_t(std::max<std::uint64_t>(1, std::min<std::uint64_t>(last, info.channels)));
     }
 
-    // Values of the channels from 0 on as the caller's floats.
-    void put(const texcache_info &info, const TextureOpt &options, const std::uint16_t *values, int nchannels,
-             float *result, int step) const
+    // Values of the channels from 0 on as the caller's floats; `missing` is for channels that the file does not have.
+    template <class Value, class Convert>
+    void put(const texcache_info &info, int from, const Value *values, float *to, int nchannels, int step, float missing,
+             Convert convert) const
     {
-        int from = options.firstchannel, has = int(info.channels);
-        for (int c = 0; c < nchannels; c++)
-            result[c * step] = from + c < has ? float(values[from + c]) / 65535.0f : options.fill;
+        int has = int(info.channels);
+        for (int c = 0; c < nchannels; c++) to[c * step] = from + c < has ? convert(values[from + c]) : missing;
         if (has == 1 && from == 0 && state_->gray_to_rgb.load(std::memory_order_relaxed))
-            for (int c = 1; c < std::min(nchannels, 3); c++) result[c * step] = result[0];
+            for (int c = 1; c < std::min(nchannels, 3); c++) to[c * step] = to[0];
+    }
+
+    void put_values(const texcache_info &info, const TextureOpt &options, const std::uint16_t *values,
+                    const detail::Result &to) const
+    {
+        put(info, options.firstchannel, values, to.values, to.nchannels, to.step, options.fill,
+            [](std::uint16_t it) { return float(it) / 65535.0f; });
+    }
+
+    void put_slopes(const texcache_info &info, const TextureOpt &options, const float *ds, const float *dt,
+                    const detail::Result &to) const
+    {
+        float down = state_->flip_t.load(std::memory_order_relaxed) ? -1.0f : 1.0f;
+        if (to.ds) put(info, options.firstchannel, ds, to.ds, to.nchannels, to.step, 0, [](float it) { return it; });
+        if (to.dt) put(info, options.firstchannel, dt, to.dt, to.nchannels, to.step, 0, [=](float it) { return down * it; });
     }
 
     // One lookup.
     bool look_up(TextureHandle &handle, detail::Access &by, const detail::Facts *facts, const TextureOpt &options,
-                 detail::Place place, int nchannels, float *result, int step)
+                 detail::Place place, const detail::Result &to)
     {
-        if (!adjust(place, options))
-            return fails(&handle, "s or t is no finite number", options.fill, nullptr, nchannels, result, step);
+        if (!adjust(place, options)) return fails(&handle, "s or t is no finite number", options, to);
         for (int tries = 0;; tries++) {
             std::uint16_t values[8];
-            texcache_answer answer;
-            texcache_texture_options how = {sizeof how, wrap_of(options.swrap), wrap_of(options.twrap),
-                                            channels_of(facts->info, options, nchannels), TEXCACHE_BILINEAR, 0, 16};
-            int status = called(by, [&] { return values_at(handle, by.pass, facts->info, options, how, place, values, answer); });
+            float ds[8] = {0}, dt[8] = {0};
+            texcache_answer answer, sloped;
+            detail::Sampling how = sampling(facts->info, options, place, to.nchannels);
+            int status = called(by, [&] { return values_of(handle, by.pass, how, values, answer); });
+            sloped.generation = answer.generation;
+            if (!status && (to.ds || to.dt)) status = called(by, [&] { return slopes_of(handle, by.pass, how, ds, dt, sloped); });
             if (status) {
-                std::string why = text_of(status, answer);
-                fill_all(options.fill, options.missingcolor, nchannels, result, step);
-                return options.missingcolor ? true : says(handle.path_ + ": " + why);
+                fill_all(options.fill, options.missingcolor, to);
+                return options.missingcolor ? true : says(detail::latest(handle.path_));
             }
-            if (answer.generation == facts->generation || tries == 8) {
-                put(facts->info, options, values, nchannels, result, step);
+            if ((answer.generation == facts->generation && sloped.generation == facts->generation) || tries == 8) {
+                put_values(facts->info, options, values, to);
+                put_slopes(facts->info, options, ds, dt, to);
                 return true;
             }
             // the file was replaced, and may have other channels and levels
             facts = refresh(handle, by);
-            if (!facts) return is_missing(&handle, options, nchannels, result, step);
+            if (!facts) return is_missing(&handle, options, to);
         }
     }
 
-    // The values of one lookup by its filter and its levels.
-    int values_at(TextureHandle &handle, texcache_pass *pass, const texcache_info &info, const TextureOpt &options,
-                  texcache_texture_options &how, detail::Place p, std::uint16_t *values, texcache_answer &answer)
+    // What a lookup reads: its filter and its levels.
+    static detail::Sampling sampling(const texcache_info &info, const TextureOpt &options, const detail::Place &place,
+                                     int nchannels)
     {
+        detail::Sampling to;
+        detail::Place &p = to.at = place;
         bool is_closest = options.interpmode == TextureOpt::InterpClosest, has_blur = options.sblur != 0 || options.tblur != 0;
-        if (is_closest) how.filter = TEXCACHE_CLOSEST;
-        if (options.mipmode == TextureOpt::MipModeNoMIP || (!has_blur && is_point(p)))
-            return texcache_texture(pass, handle.file_, &how, p.s, p.t, values, 8, &answer);
+        to.how.swrap = wrap_of(options.swrap), to.how.twrap = wrap_of(options.twrap);
+        to.how.channels = channels_of(info, options, nchannels);
+        to.how.filter = is_closest ? TEXCACHE_CLOSEST : TEXCACHE_BILINEAR;
+        if (options.mipmode == TextureOpt::MipModeNoMIP || (!has_blur && is_point(p))) return to;
         if (is_aniso(options)) {
             detail::shape(p, options.sblur, options.tblur, std::max(options.anisotropic, 1));
             p.dsdx = detail::bounded(p.dsdx), p.dtdx = detail::bounded(p.dtdx);
             p.dsdy = detail::bounded(p.dsdy), p.dtdy = detail::bounded(p.dtdy);
         }
-        if (is_aniso(options) && !is_closest && options.anisotropic > 1) {
-            how.max_probes = std::uint32_t(std::min(options.anisotropic, 32));
-            return texcache_texture_footprint(pass, handle.file_, &how, p.s, p.t, p.dsdx, p.dtdx, p.dsdy, p.dtdy, values, 8,
-                                              &answer);
-        }
+        to.is_footprint = is_aniso(options) && !is_closest && options.anisotropic > 1;
+        to.how.max_probes = std::uint32_t(std::min(std::max(options.anisotropic, 1), 32));
+        if (to.is_footprint) return to;
         double width = is_aniso(options) ? detail::axes_of(p, false).minor : width_of(p, options);
-        detail::Levels at = detail::levels_of(info, width, options.mipmode == TextureOpt::MipModeOneLevel);
-        how.lod = at.first + at.blend;
-        if (at.blend == 0 || !is_closest) {
-            if (at.blend != 0) how.filter = TEXCACHE_TRILINEAR;
-            return texcache_texture(pass, handle.file_, &how, p.s, p.t, values, 8, &answer);
-        }
-        return blended(handle, pass, how, at, p, values, answer);
+        to.levels = detail::levels_of(info, width, options.mipmode == TextureOpt::MipModeOneLevel);
+        to.is_blended = is_closest && to.levels.blend != 0;
+        to.how.lod = to.levels.first + to.levels.blend;
+        if (!is_closest && to.levels.blend != 0) to.how.filter = TEXCACHE_TRILINEAR;
+        return to;
+    }
+
+    static int values_of(TextureHandle &handle, texcache_pass *pass, detail::Sampling &by, std::uint16_t *values,
+                         texcache_answer &answer)
+    {
+        const detail::Place &p = by.at;
+        if (by.is_blended) return blended(handle, pass, by, values, answer);
+        if (!by.is_footprint) return texcache_texture(pass, handle.file_, &by.how, p.s, p.t, values, 8, &answer);
+        return texcache_texture_footprint(pass, handle.file_, &by.how, p.s, p.t, p.dsdx, p.dtdx, p.dsdy, p.dtdy, values, 8,
+                                          &answer);
+    }
+
+    // How much the values change per image across and down. The nearest texels have no slope.
+    static int slopes_of(TextureHandle &handle, texcache_pass *pass, const detail::Sampling &by, float *ds, float *dt,
+                         texcache_answer &answer)
+    {
+        const detail::Place &p = by.at;
+        float values[8];
+        if (by.how.filter == TEXCACHE_CLOSEST) return TEXCACHE_OK;
+        texcache_results results = texcache_results();
+        results.size = sizeof results, results.type = TEXCACHE_FLOAT, results.room = 8;
+        results.values = values, results.dresultds = ds, results.dresultdt = dt;
+        bool d = by.is_footprint;
+        texcache_coordinates at = {&p.s, &p.t, d ? &p.dsdx : nullptr, d ? &p.dtdx : nullptr, d ? &p.dsdy : nullptr,
+                                   d ? &p.dtdy : nullptr, 1};
+        return texcache_texture_results(pass, handle.file_, &by.how, &at, 1, &results, nullptr, &answer);
     }
 
     // The width of a lookup without anisotropy.
@@ -1252,22 +1311,22 @@ private:
     }
 
     // The nearest texels of two levels, weighted.
-    static int blended(TextureHandle &handle, texcache_pass *pass, texcache_texture_options &how, const detail::Levels &at,
-                       const detail::Place &p, std::uint16_t *values, texcache_answer &answer)
+    static int blended(TextureHandle &handle, texcache_pass *pass, detail::Sampling &by, std::uint16_t *values,
+                       texcache_answer &answer)
     {
         std::uint16_t coarse[8];
         std::uint32_t generation;
         do {
-            how.lod = at.first;
-            int status = texcache_texture(pass, handle.file_, &how, p.s, p.t, values, 8, &answer);
+            by.how.lod = by.levels.first;
+            int status = texcache_texture(pass, handle.file_, &by.how, by.at.s, by.at.t, values, 8, &answer);
             if (status) return status;
             generation = answer.generation;
-            how.lod = at.second;
-            status = texcache_texture(pass, handle.file_, &how, p.s, p.t, coarse, 8, &answer);
+            by.how.lod = by.levels.second;
+            status = texcache_texture(pass, handle.file_, &by.how, by.at.s, by.at.t, coarse, 8, &answer);
             if (status) return status;
         } while (answer.generation != generation);
-        for (std::uint32_t c = 0; c < how.channels; c++)
-            values[c] = std::uint16_t(values[c] + at.blend * (double(coarse[c]) - values[c]) + 0.5);
+        for (std::uint32_t c = 0; c < by.how.channels; c++)
+            values[c] = std::uint16_t(values[c] + by.levels.blend * (double(coarse[c]) - values[c]) + 0.5);
         return TEXCACHE_OK;
     }
 
@@ -1300,10 +1359,11 @@ private:
         if (!as_points && (is_closest || !is_aniso(first) || first.anisotropic < 2)) return false;
         std::uint16_t values[W * 8];
         texcache_answer answer;
-        texcache_texture_options how = {sizeof how, wrap_of(first.swrap), wrap_of(first.twrap),
-                                        channels_of(facts->info, first, nchannels),
-                                        is_closest ? std::uint32_t(TEXCACHE_CLOSEST) : std::uint32_t(TEXCACHE_BILINEAR), 0,
-                                        std::uint32_t(std::min(std::max(first.anisotropic, 1), 32))};
+        texcache_texture_options how = detail::usual;
+        how.swrap = wrap_of(first.swrap), how.twrap = wrap_of(first.twrap);
+        how.channels = channels_of(facts->info, first, nchannels);
+        how.filter = is_closest ? TEXCACHE_CLOSEST : TEXCACHE_BILINEAR;
+        how.max_probes = std::uint32_t(std::min(std::max(first.anisotropic, 1), 32));
         const double *d = as_points ? nullptr : at[0] + 2;
         texcache_coordinates places = {at[0], at[0] + 1, d, d ? d + 1 : d, d ? d + 2 : d, d ? d + 3 : d, 6};
         detail::Access &by = access(own, *handle.folder_);
@@ -1312,7 +1372,7 @@ private:
                                          &answer); });
         if (status || answer.generation != facts->generation) return false;
         for (int k = 0; k < count; k++)
-            put(facts->info, first, values + std::size_t(k) * how.channels, nchannels, result + lane[k], W);
+            put_values(facts->info, first, values + std::size_t(k) * how.channels, {result + lane[k], nullptr, nullptr, nchannels, W});
         return true;
     }
 
@@ -1330,7 +1390,7 @@ private:
                 return texcache_get_pixels(by.pass, handle.file_, &region, values.data(), values.size(), &answer); });
             if (status == TEXCACHE_SMALL_BUFFER) values.resize(std::size_t(answer.value));
         } while (status == TEXCACHE_SMALL_BUFFER);
-        if (status) return says(handle.path_ + ": " + text_of(status, answer));
+        if (status) return says(detail::latest(handle.path_));
         int channels = int(answer.channels), wanted = chend - chbegin;
         for (std::uint64_t n = 0; n < count; n++)
             for (int c = 0; c < wanted; c++) {
