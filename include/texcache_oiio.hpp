@@ -73,7 +73,7 @@ public:
 private:
     static const std::string *nothing()
     {
-        static const std::string empty;
+        static const std::string &empty = *new std::string;
         return &empty;
     }
 
@@ -1085,8 +1085,15 @@ private:
         detail::Access &by = access(own, *folder);
         texcache_answer answer;
         int status = called(by, [&] { return texcache_invalidate(by.pass, handle.file_, force, &answer); });
-        if (status) says(detail::latest(handle.path_));
-        refresh(handle, by);
+        if (!status) {
+            refresh(handle, by);
+            return;
+        }
+        // what is cached of it would still be found
+        says(detail::latest(handle.path_));
+        std::lock_guard<std::mutex> guard(state_->lock);
+        handle.error_ = detail::latest(handle.path_);
+        handle.facts_.store(nullptr, std::memory_order_release);
     }
 
     // -- passes
