@@ -9,7 +9,7 @@ from texcheck.common import Missing
 from texcheck.tree import Parts, lay_out
 
 ABOUT = """Installs texcache into the folder PREFIX, for example /usr/local or an empty folder of your own: the library
-with its headers, pkg-config file, CMake package and Python module, both programs with their tools, man pages and
+with its headers, pkg-config file, CMake package and Python package, both programs with their tools, man pages and
 documents. The folder can be moved afterwards.
 
 The library has to be proved: ./build tex_c proves it. A program that is not proved is installed all the same, and says

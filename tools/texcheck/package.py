@@ -2,7 +2,7 @@
 
 It packs twice, and the bytes have to be the same. The tarball is unpacked, and the package of Debian installed. From
 what is in the folder alone it runs both programs and the tools, and builds the examples: in C by pkg-config, in C and
-C++ by CMake, and in Python. A program with a header of another version must not link, and a Python module of another
+C++ by CMake, and in Python. A program with a header of another version must not link, and a Python package of another
 version has to be refused with a text. What ./install leaves has to be what the tarball has. What is proved and up to
 date is packed, and an unproved build of the rest.
 """
