@@ -15,8 +15,8 @@ import ctypes
 import os
 import re
 from array import array
-from ctypes import (POINTER, byref, c_bool, c_char_p, c_double, c_int, c_int32, c_size_t, c_uint16, c_uint32, c_uint64,
-                    c_void_p)
+from ctypes import (POINTER, byref, c_bool, c_char_p, c_double, c_float, c_int, c_int32, c_size_t, c_uint16, c_uint32,
+                    c_uint64, c_void_p)
 from numbers import Real
 from pathlib import Path
 
@@ -26,7 +26,7 @@ except ImportError:
     numpy = None
 
 # the version of this module, as in the file VERSION; the library's is version()
-VERSION = "1.0.0-rc2"
+VERSION = "1.0.0-rc3"
 # the call that opens a cache, which has the version in its name
 OPEN = "open_saying_" + re.sub(r"\W", "_", VERSION)
 BLACK, CLAMP, PERIODIC, MIRROR = range(4)
@@ -55,10 +55,13 @@ class Answer(_Struct):
 class TextureOptions(_Struct):
     """How coordinates become values: texcache_texture_options."""
     _fields_ = [("size", c_size_t), ("swrap", c_uint32), ("twrap", c_uint32), ("channels", c_uint32),
-                ("filter", c_uint32), ("lod", c_double), ("max_probes", c_uint32)]
+                ("filter", c_uint32), ("lod", c_double), ("max_probes", c_uint32), ("first_channel", c_uint32),
+                ("lod_bias", c_double), ("swidth", c_double), ("twidth", c_double), ("sblur", c_double),
+                ("tblur", c_double), ("grey_to_rgb", c_uint32), ("fill", c_float), ("fill_alpha", c_float),
+                ("missing_color", POINTER(c_float))]
 
     def __init__(self, *values):
-        super().__init__(ctypes.sizeof(TextureOptions), *values)
+        super().__init__(ctypes.sizeof(TextureOptions), *values, swidth=1, twidth=1)
 
 
 class Coordinates(_Struct):

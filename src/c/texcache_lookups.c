@@ -39,10 +39,10 @@ uint32_t texc_check_options(const texcache_texture_options *o, bool is_footprint
          o->lod + o->lod_bias},
         {is_footprint && o->max_probes - 1 > 31, TEXCACHE_BAD_MAX_PROBES, o->max_probes},
         {o->first_channel > 7, TEXCACHE_BAD_FIRST_CHANNEL, o->first_channel},
-        {!(o->swidth >= 0 && o->swidth <= 16384), TEXCACHE_BAD_WIDTH, o->swidth},
-        {!(o->twidth >= 0 && o->twidth <= 16384), TEXCACHE_BAD_WIDTH, o->twidth},
-        {!(o->sblur >= 0 && o->sblur <= 16384), TEXCACHE_BAD_BLUR, o->sblur},
-        {!(o->tblur >= 0 && o->tblur <= 16384), TEXCACHE_BAD_BLUR, o->tblur},
+        {!(o->swidth >= 0 && o->swidth <= 16384), TEXCACHE_BAD_SWIDTH, o->swidth},
+        {!(o->twidth >= 0 && o->twidth <= 16384), TEXCACHE_BAD_TWIDTH, o->twidth},
+        {!(o->sblur >= 0 && o->sblur <= 16384), TEXCACHE_BAD_SBLUR, o->sblur},
+        {!(o->tblur >= 0 && o->tblur <= 16384), TEXCACHE_BAD_TBLUR, o->tblur},
     };
     for (size_t i = 0; i < sizeof checks / sizeof *checks; i++)
         if (checks[i].is_bad) {

@@ -115,8 +115,8 @@ static void numbers(void)
     texcache_coordinates at = {s, t, NULL, NULL, NULL, NULL, 1};
     texcache_lookup r = texcache_lookup_at(0, 0, 0, 1);
     static const char *const names[] = {"swrap is 4", "twrap is 9", "channels is 0", "filter is 3", "lod is 70000",
-                                        "max_probes is 33", "first_channel is 8", "lod_bias is -33", "width is -1",
-                                        "width is not a number", "blur is inf", "blur is 16385"};
+                                        "max_probes is 33", "first_channel is 8", "lod_bias is -33", "swidth is -1",
+                                        "twidth is not a number", "sblur is inf", "tblur is 16385"};
     for (int i = 0; i < 12; i++) bad[i] = good;
     bad[0].swrap = 4, bad[1].twrap = 9, bad[2].channels = 0, bad[3].filter = 3, bad[4].lod = 70000, bad[5].max_probes = 33;
     bad[6].first_channel = 8, bad[7].lod_bias = -33, bad[8].swidth = -1, bad[9].twidth = NAN, bad[10].sblur = INFINITY;
