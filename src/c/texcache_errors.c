@@ -76,7 +76,7 @@ static const struct { const char *name, *range; } texc_numbers[] = {
     {"", ""}, {"swrap", "0 to 3"}, {"twrap", "0 to 3"}, {"channels", "1 to 8"}, {"filter", "0 to 2"},
     {"lod", "-32768 to 65535.99"}, {"max_probes", "1 to 32"}, {"a coordinate or a derivative", "in its range"},
     {"step", "at least 1 for several lookups"}, {"first_channel", "0 to 7"}, {"lod_bias", "-32 to 32"},
-    {"swidth or twidth", "0 to 16384"}, {"sblur or tblur", "0 to 16384"}, {"type", "0 to 2"},
+    {"swidth", "0 to 16384"}, {"twidth", "0 to 16384"}, {"sblur", "0 to 16384"}, {"tblur", "0 to 16384"}, {"type", "0 to 2"},
 };
 
 static __thread texc_fact texc_latest;

@@ -240,12 +240,18 @@ TEXC_INLINE int texc_scaled(double value, double scale, int64_t least, int64_t m
     return (uint64_t)found - (uint64_t)least <= (uint64_t)most - (uint64_t)least;
 }
 
-/* The options as the library takes them; they are in range. */
-TEXC_INLINE void texc_set_batch(const texcache_texture_options *o, uint32_t file, bool is_footprint, texcache_batch *to)
+/* The options as the library takes them. Returns whether those that are for the library are in range. */
+TEXC_INLINE bool texc_set_batch(const texcache_texture_options *o, uint32_t file, bool is_footprint, texcache_batch *to)
 {
+    const uint32_t channels = o->first_channel + o->channels;
     int64_t lod = 0;
-    uint32_t channels = o->first_channel + o->channels;
-    if (!is_footprint) texc_scaled(o->lod + o->lod_bias, 65536.0, INT32_MIN, UINT32_MAX, &lod);
+    if (o->swrap > TEXCACHE_MIRROR || o->twrap > TEXCACHE_MIRROR || o->channels - 1 > 7) return false;
+    if (is_footprint) {
+        if (o->max_probes - 1 > 31) return false;
+    } else if (o->filter > TEXCACHE_TRILINEAR
+               || !texc_scaled(o->lod + o->lod_bias, 65536.0, INT32_MIN, UINT32_MAX, &lod)) {
+        return false;
+    }
     to->file = file;
     to->max_probes = is_footprint ? o->max_probes : 0;
     to->lod = lod < 0 ? 0 : (uint32_t)lod;
@@ -253,6 +259,7 @@ TEXC_INLINE void texc_set_batch(const texcache_texture_options *o, uint32_t file
     to->swrap = o->swrap;
     to->twrap = o->twrap;
     to->channels = channels < 8 ? channels : 8;
+    return true;
 }
 
 /* What is wrong with the arrays of many lookups, or NULL. */

@@ -39,10 +39,10 @@ uint32_t texc_check_options(const texcache_texture_options *o, bool is_footprint
          o->lod + o->lod_bias},
         {is_footprint && o->max_probes - 1 > 31, TEXCACHE_BAD_MAX_PROBES, o->max_probes},
         {o->first_channel > 7, TEXCACHE_BAD_FIRST_CHANNEL, o->first_channel},
-        {!(o->swidth >= 0 && o->swidth <= 16384), TEXCACHE_BAD_WIDTH, o->swidth},
-        {!(o->twidth >= 0 && o->twidth <= 16384), TEXCACHE_BAD_WIDTH, o->twidth},
-        {!(o->sblur >= 0 && o->sblur <= 16384), TEXCACHE_BAD_BLUR, o->sblur},
-        {!(o->tblur >= 0 && o->tblur <= 16384), TEXCACHE_BAD_BLUR, o->tblur},
+        {!(o->swidth >= 0 && o->swidth <= 16384), TEXCACHE_BAD_SWIDTH, o->swidth},
+        {!(o->twidth >= 0 && o->twidth <= 16384), TEXCACHE_BAD_TWIDTH, o->twidth},
+        {!(o->sblur >= 0 && o->sblur <= 16384), TEXCACHE_BAD_SBLUR, o->sblur},
+        {!(o->tblur >= 0 && o->tblur <= 16384), TEXCACHE_BAD_TBLUR, o->tblur},
     };
     for (size_t i = 0; i < sizeof checks / sizeof *checks; i++)
         if (checks[i].is_bad) {
@@ -52,20 +52,16 @@ uint32_t texc_check_options(const texcache_texture_options *o, bool is_footprint
     return 0;
 }
 
-/* Whether all options but those of the sampling are the default ones. */
+/* Whether the options that texc_results is for have their default values, tested by their bits. */
 TEXC_INLINE bool texc_is_usual(const texcache_texture_options *o, bool is_footprint)
 {
-    if ((o->first_channel | o->grey_to_rgb) || o->fill != 0 || o->fill_alpha != 0 || o->lod_bias != 0) return false;
+    uint32_t fill, fill_alpha;
+    uint64_t bias;
+    memcpy(&fill, &o->fill, sizeof fill);
+    memcpy(&fill_alpha, &o->fill_alpha, sizeof fill_alpha);
+    memcpy(&bias, &o->lod_bias, sizeof bias);
+    if (o->first_channel | o->grey_to_rgb | fill | fill_alpha | bias) return false;
     return !is_footprint || (o->swidth == 1 && o->twidth == 1 && o->sblur == 0 && o->tblur == 0);
-}
-
-/* Whether the options of the sampling are in range. */
-TEXC_INLINE bool texc_is_in_range(const texcache_texture_options *o, bool is_footprint)
-{
-    int64_t lod;
-    if (o->swrap > TEXCACHE_MIRROR || o->twrap > TEXCACHE_MIRROR || o->channels - 1 > 7) return false;
-    if (is_footprint) return o->max_probes - 1 <= 31;
-    return o->filter <= TEXCACHE_TRILINEAR && texc_scaled(o->lod, 65536.0, INT32_MIN, UINT32_MAX, &lod);
 }
 
 /* ---- lookups */
@@ -118,10 +114,9 @@ TEXC_INLINE uint32_t texc_part(texcache_pass *pass, const texcache_batch *batch,
 /* Makes lookups whose numbers are in range, part by part, all on one generation: if the file is replaced between two
  * parts, all begin anew. `places` has the first TEXC_PART. Returns the error; `done` and what is said are filled. */
 TEXC_INLINE uint32_t texc_parts(texcache_pass *pass, const texcache_batch *batch, const texcache_coordinates *at,
-                                  size_t count, texcache_place *places, uint16_t *out, size_t *done,
-                                  texcache_supply_answer *to)
+                               size_t count, texcache_place *places, uint16_t *out, size_t *done,
+                               texcache_batch_answer *said)
 {
-    texcache_batch_answer said;
     size_t from = 0, size = TEXC_PART;
     uint32_t generation = 0, code;
     unsigned anew = 0;
@@ -129,27 +124,26 @@ TEXC_INLINE uint32_t texc_parts(texcache_pass *pass, const texcache_batch *batch
         size_t part = count - from < size ? count - from : size, planned = part;
         texcache_place *first = places + from;
         if (count > TEXC_PART) texc_places(at, from, part, first = places);
-        code = texc_part(pass, batch, first, &part, out + from * batch->channels, &said);
-        if (from && said.generation && said.generation != generation) {
+        code = texc_part(pass, batch, first, &part, out + from * batch->channels, said);
+        if (from && said->generation && said->generation != generation) {
             /* the file was replaced since the part before */
             if (++anew < TEXC_AGAIN) {
                 from = 0;
                 continue;
             }
-            memset(&said.error, 0, sizeof said.error);
-            said.error.newer = said.generation;
+            memset(&said->error, 0, sizeof said->error);
+            said->error.newer = said->generation;
             code = TEXCACHE_AGAIN;
             break;
         }
-        if (said.generation) generation = said.generation;
-        from += code ? (size_t)said.done : part;
+        if (said->generation) generation = said->generation;
+        from += code ? (size_t)said->done : part;
         if (code || from == count) break;
         /* a part that lacked bytes is made twice, so the next one is small */
         size = part < planned ? TEXC_FEW : 2 * size < TEXC_PART ? 2 * size : TEXC_PART;
     }
     if (done) *done = from;
-    *to = said.error;
-    if (!to->generation) to->generation = generation;
+    if (!said->error.generation) said->error.generation = generation;
     return code;
 }
 
@@ -157,36 +151,41 @@ TEXC_INLINE uint32_t texc_parts(texcache_pass *pass, const texcache_batch *batch
 uint32_t texc_look_up_part(texcache_pass *pass, const texcache_batch *batch, const texcache_place *places, size_t count,
                            uint16_t *out, texcache_supply_answer *said)
 {
-    return texc_parts(pass, batch, NULL, count, (texcache_place *)places, out, NULL, said);
+    texcache_batch_answer all;
+    uint32_t code = texc_parts(pass, batch, NULL, count, (texcache_place *)places, out, NULL, &all);
+    *said = all.error;
+    return code;
 }
 
 /* Makes lookups, of which `count` is 1 in the calls for one. If the options are not the usual ones, or something is out
- * of range or too small, it is a matter of texc_results. */
+ * of range or too small, texc_results does it. */
 TEXC_INLINE int texc_look_up(texcache_pass *pass, uint32_t file, const texcache_texture_options *options,
                              const texcache_coordinates *at, size_t count, uint16_t *out, size_t room, size_t *done,
                              texcache_place *places, texcache_answer *answer)
 {
-    const texcache_results results = {sizeof results, TEXCACHE_UINT16, room, out, NULL, NULL};
     const bool is_footprint = at->dsdx != NULL;
-    texcache_supply_answer said;
+    texcache_batch_answer said;
     texcache_batch batch;
-    if (__builtin_expect(!pass || !options || !out || options->size != sizeof *options, 0)
-        || !texc_is_usual(options, is_footprint) || !texc_is_in_range(options, is_footprint)
-        || room / options->channels < count || texc_places(at, 0, count, places) < count)
-        return texc_results(pass, file, options, at, count, &results, done, answer);
-    int refused = texc_begin(pass, NULL, answer);
+    if (__builtin_expect(!pass || !options || !out || options->size != sizeof *options
+                         || !texc_is_usual(options, is_footprint) || !texc_set_batch(options, file, is_footprint, &batch)
+                         || room / batch.channels < count || texc_places(at, 0, count, places) < count, 0)) {
+        const texcache_results results = {sizeof results, TEXCACHE_UINT16, room, out, NULL, NULL};
+        const texcache_coordinates copy = *at;
+        return texc_results(pass, file, options, &copy, count, &results, done, answer);
+    }
     if (done) *done = 0;
+    int refused = texc_begin(pass, NULL, answer);
     if (refused) return refused;
-    texc_set_batch(options, file, is_footprint, &batch);
     texc_count_lookups(pass, count);
     uint32_t code = texc_parts(pass, &batch, at, count, places, out, done, &said);
     if (__builtin_expect(code && texc_gives_missing(options, code), 0)) {
+        const texcache_results results = {sizeof results, TEXCACHE_UINT16, room, out, NULL, NULL};
         texc_count_error(pass, file, code);
         texc_leave(pass);
         if (done) *done = count;
         return texc_give_missing(options, &results, count, code, answer);
     }
-    return texc_finish(pass, file, code, &said, answer);
+    return texc_finish(pass, file, code, &said.error, answer);
 }
 
 int texcache_texture(texcache_pass *pass, uint32_t file, const texcache_texture_options *options, double s, double t,
@@ -210,8 +209,8 @@ int texcache_texture_many(texcache_pass *pass, uint32_t file, const texcache_tex
                           const texcache_coordinates *at, size_t count, uint16_t *out, size_t room, size_t *done,
                           texcache_answer *answer)
 {
-    const texcache_results results = {sizeof results, TEXCACHE_UINT16, room, out, NULL, NULL};
     texcache_place places[TEXC_PART];
+    const texcache_results results = {sizeof results, TEXCACHE_UINT16, room, out, NULL, NULL};
     if (texc_wrong_coordinates(at) || (!at->step && count > 1))
         return texc_results(pass, file, options, at, count, &results, done, answer);
     return texc_look_up(pass, file, options, at, count, out, room, done, places, answer);

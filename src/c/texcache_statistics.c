@@ -3,16 +3,24 @@
 #define _POSIX_C_SOURCE 200809L
 #include "texcache_inside.h"
 
+#include <fcntl.h>
 #include <inttypes.h>
 #include <stdlib.h>
 #include <sys/resource.h>
+#include <unistd.h>
 
 /* How often a pass or shard that is busy is tried. Then its older counts are taken, or none. */
 #define TEXC_COUNTS 100
+/* The most entries of a directory that are read. */
+#define TEXC_ENTRIES 1000
+
+/* How a file's first directory stores its image, as far as that is known. */
+enum texc_form { TEXC_UNKNOWN, TEXC_STRIPS, TEXC_TILES };
 
 /* What is known of a used file. `code` is that of its facts: 0, an error, or TEXCACHE_NEEDED if they are not in memory. */
 typedef struct texc_line {
     uint32_t file, generation, code;
+    enum texc_form form;
     uint64_t errors;
     texc_tally tally;
     texcache_info info;
@@ -35,6 +43,45 @@ typedef struct texc_number {
     uint64_t value;
     bool is_time;  /* in nanoseconds, shown in seconds */
 } texc_number;
+
+/* ---- the form of a file, for a remark. The library does not say it, so the file is read as it is now. */
+
+/* A number of a TIFF, of 2 to 8 bytes. */
+static uint64_t texc_number_in(const uint8_t *at, size_t size, bool is_big)
+{
+    uint64_t number = 0;
+    for (size_t i = 0; i < size; i++) number = number << 8 | at[is_big ? i : size - 1 - i];
+    return number;
+}
+
+/* Whether the first directory of an open file has TileWidth, or else StripOffsets. */
+static enum texc_form texc_form_in(int fd)
+{
+    uint8_t head[16], entry[8];
+    if (pread(fd, head, sizeof head, 0) != sizeof head) return TEXC_UNKNOWN;
+    const bool is_big = head[0] == 'M', is_wide = texc_number_in(head + 2, 2, is_big) == 43;
+    const size_t before = is_wide ? 8 : 2, size = is_wide ? 20 : 12;
+    uint64_t at = is_wide ? texc_number_in(head + 8, 8, is_big) : texc_number_in(head + 4, 4, is_big);
+    enum texc_form form = TEXC_UNKNOWN;
+    if (at > INT64_MAX / 2 || pread(fd, entry, before, (off_t)at) != (ssize_t)before) return TEXC_UNKNOWN;
+    uint64_t count = texc_number_in(entry, before, is_big);
+    for (uint64_t i = 0; i < count && i < TEXC_ENTRIES; i++) {
+        if (pread(fd, entry, 2, (off_t)(at + before + i * size)) != 2) return TEXC_UNKNOWN;
+        uint64_t tag = texc_number_in(entry, 2, is_big);
+        if (tag == 322) return TEXC_TILES;
+        if (tag == 273) form = TEXC_STRIPS;
+    }
+    return form;
+}
+
+static enum texc_form texc_form_of(const texcache *cache, uint32_t file)
+{
+    int fd = openat(cache->folder, cache->files[file].name, O_RDONLY | O_CLOEXEC | O_NOFOLLOW | O_NONBLOCK | O_NOCTTY);
+    if (fd < 0) return TEXC_UNKNOWN;
+    enum texc_form form = texc_form_in(fd);
+    close(fd);
+    return form;
+}
 
 /* ---- collecting. The cache's lock is held. */
 
@@ -122,7 +169,7 @@ static int texc_by_bytes(const void *a, const void *b)
     return one->file < other->file ? -1 : one->file > other->file;
 }
 
-static int texc_collect(texcache *cache, texc_report *report)
+static int texc_collect(texcache *cache, uint32_t level, texc_report *report)
 {
     report->cache = cache;
     report->lines = malloc(((size_t)cache->count + 1) * sizeof *report->lines);
@@ -138,6 +185,8 @@ static int texc_collect(texcache *cache, texc_report *report)
         report->used++;
     }
     pthread_mutex_unlock(&cache->lock);
+    for (uint32_t i = 0; level >= 2 && i < report->used; i++)
+        if (!report->lines[i].code) report->lines[i].form = texc_form_of(cache, report->lines[i].file);
     qsort(report->lines, report->used, sizeof *report->lines, texc_by_bytes);
     return TEXCACHE_OK;
 }
@@ -194,9 +243,10 @@ static void texc_put_value(texc_text *text, uint64_t value, bool is_time)
 /* Adds why a file would be better as a texture; nothing if it would not. */
 static void texc_put_remark(texc_text *text, const texc_line *line, const char *name)
 {
-    bool has_one = !line->code && line->info.stored == 1 && (line->info.width > 1 || line->info.height > 1);
-    if (!line->tally.rows && !has_one) return;
-    texc_put(text, "%s%s%s: texmake FOLDER ", line->tally.rows ? "stripped" : "", line->tally.rows && has_one ? ", " : "",
+    bool is_small = line->info.width <= 1 && line->info.height <= 1;
+    bool has_one = line->info.stored == 1 && !is_small, has_strips = line->form == TEXC_STRIPS && !is_small;
+    if (line->code || (!has_one && !has_strips)) return;
+    texc_put(text, "%s%s%s: texmake FOLDER ", has_strips ? "stripped" : "", has_strips && has_one ? ", " : "",
              has_one ? "one level" : "");
     texc_put_quoted(text, name);
 }
@@ -209,14 +259,16 @@ static void texc_put_refusal(texc_text *text, const texc_line *line, const char 
 
 /* ---- text */
 
+static const char *const texc_forms[] = {"-", "strips", "tiles"};
+
 static void texc_put_text_line(texc_text *text, const texc_line *line, const char *name)
 {
     const texc_tally *t = &line->tally;
     texc_put(text, "%7" PRIu64 " %9" PRIu64 " %13" PRIu64 " %13" PRIu64 " %8" PRIu32 " %7" PRIu64, t->opens, t->reads,
              t->bytes, t->again, line->generation, line->errors);
-    if (line->code) texc_put(text, "%22s  ", "-");
-    else texc_put(text, " %6" PRIu32 "x%-6" PRIu32 " %3" PRIu32 "/%-3" PRIu32 "  ", line->info.width, line->info.height,
-                  line->info.stored, line->info.levels);
+    if (line->code) texc_put(text, "%29s  ", "-");
+    else texc_put(text, " %6" PRIu32 "x%-6" PRIu32 " %3" PRIu32 "/%-3" PRIu32 " %-6s  ", line->info.width, line->info.height,
+                  line->info.stored, line->info.levels, texc_forms[line->form]);
     texc_put_name(text, name);
     texc_put(text, "  ");
     texc_put_remark(text, line, name);
@@ -235,8 +287,8 @@ static void texc_put_text(texc_text *text, const texc_report *report, uint32_t l
         texc_put(text, "\n");
     }
     if (level < 2) return;
-    texc_put(text, "%7s %9s %13s %13s %8s %7s %13s %7s  file\n", "opens", "reads", "bytes", "read before", "versions",
-             "errors", "size", "levels");
+    texc_put(text, "%7s %9s %13s %13s %8s %7s %13s %7s %-6s  file\n", "opens", "reads", "bytes", "read before", "versions",
+             "errors", "size", "levels", "form");
     for (uint32_t i = 0; i < report->used; i++)
         texc_put_text_line(text, &report->lines[i], report->cache->files[report->lines[i].file].name);
 }
@@ -301,6 +353,7 @@ static void texc_put_json_line(texc_text *text, const texc_line *line, const cha
         texc_put(text, ", \"width\": %" PRIu32 ", \"height\": %" PRIu32 ", \"channels\": %" PRIu32 ", \"depth\": %" PRIu32
                  ", \"stored\": %" PRIu32 ", \"levels\": %" PRIu32, info->width, info->height, info->channels, info->depth,
                  info->stored, info->levels);
+    texc_put(text, ", \"form\": \"%s\"", texc_forms[line->form]);
     texc_put_made(text, "remark", line, name, texc_put_remark);
     texc_put_made(text, "error", line, name, texc_put_refusal);
     texc_put(text, "}");
@@ -336,7 +389,7 @@ static int texc_statistics(texc_puts *put, texcache *cache, uint32_t level, texc
     if (text->room) text->to[0] = 0;
     if (cache->forks != texc_forks) return texc_refuse(texc_keep(TEXCACHE_FORKED, NULL), NULL);
     memset(&report, 0, sizeof report);
-    int refused = texc_collect(cache, &report);
+    int refused = texc_collect(cache, level, &report);
     if (refused) return texc_refuse(texc_keep(refused, NULL), NULL);
     put(text, &report, level);
     free(report.lines);

@@ -20,7 +20,7 @@ static std::string refusal(const Refused &e)
 {
     std::ostringstream said;
     const texcache_answer &a = e.answer;
-    said << e.what();
+    said << texcache_error_string(e.status);
     if (e.status == TEXCACHE_NO_NAME) return "no such file";
     if (e.status == TEXCACHE_BAD_FILE) {
         said << ' ' << a.generation << ' ' << a.detail;
@@ -41,7 +41,8 @@ static std::string answered(const Cache &cache, Pass &pass, const std::string &l
     std::ostringstream said;
     std::string word, swrap, twrap, filter, name;
     texcache_lookup r = texcache_lookup();
-    texcache_answer a;
+    const texcache_answer &a = pass.answer();
+    std::uint16_t values[8];
     from >> word;
     auto file = [&] {
         from.get();
@@ -57,9 +58,10 @@ static std::string answered(const Cache &cache, Pass &pass, const std::string &l
         r.twrap = number_of(twrap, {"black", "clamp", "periodic", "mirror"});
         r.filter = number_of(filter, {"closest", "bilinear", "trilinear"});
         std::uint32_t number = file();
-        auto values = word == "tex" ? pass.texture_fixed(number, r, &a) : pass.texture_d_fixed(number, r, &a);
+        if (word == "tex") pass.texture_fixed(number, r, values);
+        else pass.texture_d_fixed(number, r, values);
         said << word << ' ' << a.generation;
-        for (auto value : values) said << ' ' << value;
+        for (unsigned i = 0; i < r.channels; i++) said << ' ' << values[i];
     } else if (word == "pixels") {
         texcache_region region;
         from >> region.level >> region.x >> region.y >> region.w >> region.h;
@@ -67,7 +69,7 @@ static std::string answered(const Cache &cache, Pass &pass, const std::string &l
         said << word << ' ' << pixels.generation << ' ' << pixels.channels;
         for (auto value : pixels.values) said << ' ' << value;
     } else if (word == "info") {
-        texcache_info info = pass.info(file(), &a);
+        texcache_info info = pass.info(file());
         said << word << ' ' << a.generation << ' ' << info.width << ' ' << info.height << ' ' << info.channels << ' ' << info.depth
              << ' ' << info.stored << ' ' << info.levels;
     } else {

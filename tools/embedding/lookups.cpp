@@ -83,7 +83,8 @@ int main(int count, char **words)
     try {
         pass.texture_many(bricks, options, s, std::vector<double>(99), points);
         is(false, "arrays of different lengths are refused");
-    } catch (const std::invalid_argument &) {
+    } catch (const Refused &refused) {
+        is(refused.status == TEXCACHE_BAD_ARGUMENT, "as a bad argument");
     }
     std::printf("%d failed\n", failures);
     return failures != 0;

@@ -27,12 +27,17 @@ FLAGS = ["-O2", "-Wall", "-Wextra", f"-I{TOP / 'include'}"]
 INSIDE = ["-std=c99", f"-I{SOURCES}"]
 # the library's calls for many lookups come through the test
 WRAP = "-Wl,--wrap=tex_c_texture_many"
+# what the C part reads comes through the test
+WRAP_INPUT = "-Wl,--wrap=openat,--wrap=pread,--wrap=fstatat"
 THREADS = ("1", "8")
 # each test in C over an empty folder: its name, what it is about, its flags, and its arguments beside the folder
 OVER_FOLDERS = [("bad_use", "bad use and bad input", INSIDE, []),
                 ("passes", "passes, threads and forks", INSIDE, []),
                 ("descriptors", "open files", INSIDE, []),
                 ("lookups", "lookups on doubles, and many in one call", [*INSIDE, WRAP], []),
+                ("errors", "errors in words", ["-std=c99"], []),
+                ("options", "options of lookups, and types of results", ["-std=c99"], []),
+                ("statistics", "statistics", ["-std=c99", WRAP_INPUT], []),
                 ("replaced", "files that are replaced while they are read", ["-std=c99"], ["8", "4000"])]
 
 

@@ -1,0 +1,252 @@
+// All calls of texcache.hpp, used well and badly: calls FOLDER, the demo's. By exceptions and by error codes; moved
+// objects; passes that outlive their cache; and bad arguments, which take no memory.
+#include "texcache.hpp"
+#include <array>
+#include <cmath>
+#include <cstdio>
+#include <cstdlib>
+#include <cstring>
+#include <new>
+#include <thread>
+#if __cplusplus >= 202002L
+#include <span>
+#endif
+
+using namespace texcache_cpp;
+
+static std::size_t taken;
+
+// out of line, or the compiler warns of a pair that does not match
+__attribute__((noinline)) void *operator new(std::size_t size)
+{
+    taken += size;
+    if (void *at = std::malloc(size)) return at;
+    throw std::bad_alloc();
+}
+
+__attribute__((noinline)) void operator delete(void *at) noexcept { std::free(at); }
+__attribute__((noinline)) void operator delete(void *at, std::size_t) noexcept { std::free(at); }
+
+static int failures;
+
+static void is(bool holds, const char *what)
+{
+    if (holds) return;
+    std::printf("not so: %s\n", what);
+    failures++;
+}
+
+// The call throws this status, and its text has the words.
+template <class Call> static void throws(int status, const char *words, Call call)
+{
+    try {
+        call();
+        std::printf("not thrown: %s\n", words);
+        failures++;
+    } catch (const Refused &refused) {
+        is(refused.status == status && refused.code() == std::error_code(status, category()), words);
+        if (std::strstr(refused.what(), words)) return;
+        std::printf("'%s' lacks '%s'\n", refused.what(), words);
+        failures++;
+    }
+}
+
+static const texcache_texture_options three = texcache_default_texture_options(3);
+
+static void opening(const char *folder)
+{
+    texcache_options bad = texcache_default_options();
+    std::error_code code;
+    bad.shards = 99;
+    throws(TEXCACHE_NO_FOLDER, "nowhere: the folder cannot be opened", [] { Cache cache("nowhere"); });
+    throws(TEXCACHE_BAD_OPTIONS, "shards is 99; it may be 1 to 64", [&] { Cache cache(folder, bad); });
+    Cache none("nowhere", code);
+    is(code.value() == TEXCACHE_NO_FOLDER && code.message() == "folder cannot be read", "the code says so");
+    is(!none && none.file_count() == 0 && none.file_name(0).empty(), "there is no cache");
+    is(std::strcmp(code.category().name(), "texcache") == 0, "the category has a name");
+    none.find("bricks.tif", code);
+    is(code.value() == TEXCACHE_BAD_ARGUMENT, "nothing is found in no cache");
+    Pass pass(none, code);
+    is(code && !pass, "it has no pass");
+    throws(TEXCACHE_BAD_ARGUMENT, "cache is NULL", [&] { none.this_thread(); });
+    throws(TEXCACHE_BAD_ARGUMENT, "cache is NULL", [&] { none.close(); });
+    is(none.statistics_text(2, code).empty() && code, "it has no statistics");
+    Cache good(folder, code);
+    is(!code && bool(good), "the code is cleared by success");
+    throws(TEXCACHE_NO_NAME, "moon.tif: the folder had no plain file", [&] { good.find("moon.tif"); });
+    is(good.find("moon.tif", code) == UINT32_MAX && code.value() == TEXCACHE_NO_NAME, "a name that is not there");
+    is(good.file_name(good.find("bricks.tif")) == "bricks.tif" && good.file_name(9999).empty(), "names of files");
+}
+
+static void moves(const char *folder)
+{
+    float rgb[3];
+    Cache first(folder), second(std::move(first));
+    is(!first && bool(second), "a cache is moved");
+    first = std::move(second);
+    is(bool(first) && !second, "and back");
+    Pass pass(first), other(std::move(pass));
+    is(!pass && bool(other), "a pass is moved");
+    throws(TEXCACHE_BAD_ARGUMENT, "pass is NULL", [&] { pass.texture(0, three, 0, 0, rgb); });
+    pass = std::move(other);
+    is(bool(pass) && !other, "and back");
+    Pass more(first);
+    pass = std::move(more);
+    throws(TEXCACHE_PASSES_LEFT, "end all passes first", [&] { first.close(); });
+    is(bool(first), "a cache that cannot be closed stays");
+    // the pass that was moved over has ended, so there are 15 for others
+    std::vector<Pass> all;
+    for (int i = 0; i < 14; i++) all.emplace_back(first);
+    std::error_code code;
+    Pass refused(first, code);
+    is(code.value() == TEXCACHE_NO_PERMIT && !refused, "there are 15 passes");
+    // a cache is closed with the last of its passes
+    std::uint32_t bricks = first.find("bricks.tif");
+    { Cache gone(std::move(first)); }
+    is(pass.texture(bricks, three, 0.5, 0.5, rgb) == 1, "a pass keeps its cache");
+    all.clear();
+    pass.end();
+    throws(TEXCACHE_BAD_ARGUMENT, "pass is NULL", [&] { pass.end(); });
+    Cache again(folder);
+    Pass own = again.this_thread();
+    is(own.get() == again.this_thread().get(), "a thread has one pass");
+    own = Pass(again);
+    own.end();
+    again.close();
+    is(!again, "a cache is closed");
+}
+
+static void values(Cache &cache, Pass &pass)
+{
+    const std::uint32_t bricks = cache.find("bricks.tif");
+    std::uint16_t units[3];
+    float floats[3];
+    std::array<float, 6> two;
+    std::vector<double> s = {0.5, 0.25}, t = {0.5, 0.75}, d = {0.05, 0.05}, none = {0, 0};
+    std::size_t done = 0;
+    std::error_code code;
+    is(pass.texture(bricks, three, 0.5, 0.5, units) == 1 && units[0] == 42919 && units[1] == 36494 && units[2] == 34759,
+       "the middle of the bricks");
+    is(pass.texture(bricks, three, 0.5, 0.5, floats) == 1 && floats[2] == texcache_float(34759), "as floats");
+    is(pass.answer().generation == 1, "the answer has the generation");
+    pass.texture_many(bricks, three, s, t, two, &done);
+    is(done == 2 && two[0] == floats[0] && two[2] == floats[2], "many floats");
+    pass.texture_footprint(bricks, three, 0.5, 0.5, 0.05, 0, 0, 0.05, floats);
+    pass.texture_footprint(bricks, three, 0.5, 0.5, 0.05, 0, 0, 0.05, units);
+    pass.texture_many(bricks, three, s, t, d, none, none, d, two, &done);
+    is(done == 2 && two[1] == floats[1] && two[1] == texcache_float(units[1]), "many footprints as floats");
+#if __cplusplus >= 202002L
+    pass.texture_many(bricks, three, std::span<const double>(s), std::span<const double>(t), std::span<float>(two));
+#endif
+    float ds[6], dt[6];
+    texcache_coordinates at = {s.data(), t.data(), nullptr, nullptr, nullptr, nullptr, 1};
+    const texcache_results results = {sizeof results, TEXCACHE_FLOAT, 6, two.data(), ds, dt};
+    is(pass.texture_results(bricks, three, at, 2, results, &done) == 1 && std::isfinite(ds[5]), "derivatives");
+    throws(TEXCACHE_BAD_REQUEST, "lookup 1: s is not a number", [&] {
+        s[1] = std::nan("");
+        pass.texture_many(bricks, three, s, t, two, &done);
+    });
+    is(done == 0 && pass.answer().value == 1, "the answer has the index");
+    is(pass.texture_many(bricks, three, s, t, two, &done, code) == 0 && code.value() == TEXCACHE_BAD_REQUEST, "as a code");
+    throws(TEXCACHE_BAD_ARGUMENT, "different lengths", [&] { pass.texture_many(bricks, three, s, none.empty() ? s : std::vector<double>(3), two); });
+    done = 7;
+    pass.texture_many(bricks, three, s, std::vector<double>(1), two, &done, code);
+    is(code.value() == TEXCACHE_BAD_ARGUMENT && done == 0, "different lengths as a code");
+    throws(TEXCACHE_SMALL_BUFFER, "room for 2 values, and 3 are needed", [&] { pass.texture(bricks, three, 0, 0, {units, 2}); });
+    throws(TEXCACHE_SMALL_BUFFER, "room for 0 values", [&] { pass.texture(bricks, three, 0, 0, std::vector<float>()); });
+    throws(TEXCACHE_BAD_ARGUMENT, "NULL", [&] { pass.texture(bricks, three, 0, 0, Span<float>(nullptr, 3)); });
+    pass.texture_many(bricks, three, std::vector<double>(), std::vector<double>(), std::vector<float>(), &done);
+    is(done == 0, "no lookup at all");
+    throws(TEXCACHE_NO_FILE, "number 9999", [&] { pass.info(9999); });
+    is(pass.info(bricks).channels == 3, "the size of a file");
+}
+
+static void bad_fixed(Pass &pass, std::uint32_t bricks)
+{
+    std::uint16_t out[8];
+    std::error_code code;
+    texcache_lookup r = texcache_lookup_at(32768, 32768, 0, 3);
+    is(pass.texture_fixed(bricks, r, out) == 1 && out[0] == 42919, "a lookup in the program's units");
+    is(pass.texture_local_fixed(bricks, r, out, code) && !code && out[2] == 34759, "from the latest tiles");
+    r.lod = 5 * 65536;
+    is(!pass.texture_local_fixed(bricks, r, out, code) && !code, "which do not have another level");
+    is(pass.texture_d_fixed(bricks, r, out) == 1, "along a footprint");
+    // what D14 was: a status of a bad number, with a filled answer, and no memory
+    for (std::uint32_t channels : {0u, 9u, 4294967295u}) {
+        r.channels = channels;
+        std::size_t before = taken;
+        pass.texture_fixed(bricks, r, out, code);
+        is(code.value() == TEXCACHE_BAD_REQUEST && pass.answer().detail == TEXCACHE_BAD_CHANNELS && pass.answer().generation == 0,
+           "a bad number of channels is refused");
+        is(pass.texture_local_fixed(bricks, r, out, code) == false && code.value() == TEXCACHE_BAD_REQUEST, "from the tiles too");
+        is(taken == before, "and takes no memory");
+    }
+}
+
+static void regions_and_tiles(Cache &cache, Pass &pass)
+{
+    const std::uint32_t bricks = cache.find("bricks.tif"), cut = cache.find("cut.tif");
+    std::error_code code;
+    Pixels pixels = pass.pixels(bricks, {0, 0, 0, 4, 2});
+    std::uint16_t some[24];
+    is(pixels.values.size() == 24 && pixels.channels == 3 && pixels.generation == 1, "a region");
+    is(pass.pixels(bricks, {0, 0, 0, 4, 2}, some) == 1 && !std::memcmp(some, pixels.values.data(), sizeof some), "into an array");
+    throws(TEXCACHE_SMALL_BUFFER, "room for 23 values, and 24 are needed", [&] { pass.pixels(bricks, {0, 0, 0, 4, 2}, {some, 23}); });
+    std::size_t before = taken;
+    is(pass.pixels(bricks, {99, 0, 0, 1024, 1024}, code).values.empty() && code.value() == TEXCACHE_NO_LEVEL, "no such level");
+    is(pass.pixels(bricks, {0, 0, 0, 4294967295u, 4294967295u}, code).values.empty() && code.value() == TEXCACHE_REGION_TOO_LARGE,
+       "a region that is too large");
+    is(pass.pixels(cut, {0, 0, 0, 1024, 1024}, code).values.empty() && code.value() == TEXCACHE_BAD_FILE, "of a bad file");
+    is(pass.pixels(9999, {0, 0, 0, 1024, 1024}, code).values.empty() && code.value() == TEXCACHE_NO_FILE, "of no file");
+    is(taken == before, "a bad region takes no memory");
+    throws(TEXCACHE_BAD_FILE, "cut.tif: the file is not accepted: strip or tile 2 of level 0", [&] { pass.info(cut); });
+    is(pass.answer().detail == 12 && pass.answer().value == 2, "the answer has the fault");
+    is(pass.get_tile(bricks, 0, 1, 1) == 1 && pass.stats().pass.holds == 1, "a tile is held");
+    texcache_tile tile = pass.tile_at(0);
+    std::vector<std::uint16_t> texels = pass.tile_texels(0), same(texels.size());
+    pass.tile_texels(0, same);
+    is(texels.size() == std::size_t(tile.w) * tile.h * tile.channels && texels == same, "its texels");
+    throws(TEXCACHE_SMALL_BUFFER, "are needed", [&] { pass.tile_texels(0, some); });
+    pass.release_tile(0);
+    throws(TEXCACHE_NOTHING_HELD, "no tile at place 0", [&] { pass.release_tile(0); });
+    is(pass.tile_texels(0, code).empty() && code.value() == TEXCACHE_NOTHING_HELD, "of no tile");
+    pass.tile_at(3, code);
+    is(code.value() == TEXCACHE_NOTHING_HELD && pass.get_tile(bricks, 0, 99999, 0, code) == 0 && code.value() == TEXCACHE_OUTSIDE,
+       "outside");
+    is(pass.invalidate(bricks) == 1 && pass.invalidate(bricks, true) == 1, "a file is checked");
+    pass.invalidate_all();
+    is(pass.shard_stats(0).share > 0, "a shard");
+    throws(TEXCACHE_NO_PART, "no shard 99", [&] { pass.shard_stats(99); });
+}
+
+static void texts(Cache &cache, Pass &pass)
+{
+    std::string text = cache.statistics_text(), json = cache.statistics_json();
+    is(text.find("bricks.tif") != std::string::npos && text.back() == '\n' && text.find('\0') == std::string::npos, "a text");
+    is(json.front() == '{' && json.find("\"lookups\": ") != std::string::npos && json.back() == '\n', "JSON");
+    is(cache.statistics_text(1).find("bricks.tif") == std::string::npos, "totals alone");
+    // the text while another thread counts, which makes it longer
+    std::thread other([&] {
+        Pass own = cache.this_thread();
+        std::uint16_t rgb[3];
+        for (int i = 0; i < 20000; i++) own.texture(cache.find("rings.tif"), three, i / 997.0, i / 991.0, rgb);
+    });
+    for (int i = 0; i < 100; i++) cache.statistics_json();
+    other.join();
+    is(bool(pass), "the pass is as it was");
+}
+
+int main(int count, char **words)
+{
+    if (count != 2) return 2;
+    opening(words[1]);
+    moves(words[1]);
+    Cache cache(words[1]);
+    Pass pass(cache);
+    values(cache, pass);
+    bad_fixed(pass, cache.find("bricks.tif"));
+    regions_and_tiles(cache, pass);
+    texts(cache, pass);
+    std::printf("%d failed\n", failures);
+    return failures != 0;
+}
