@@ -441,6 +441,7 @@ public:
         std::vector<detail::Access> accesses_;
         std::unordered_map<const char *, TextureHandle *> names_;
         unsigned resolved_ = 0;   // which search path the names are of
+        texcache_texture_options how_ = detail::usual;
     };
 
     // The system that all callers share, or one of your own. Each create needs a destroy.
@@ -547,6 +548,9 @@ public:
         const detail::Facts *facts = texture_handle->facts_.load(std::memory_order_acquire);
         if (!facts) return is_missing(texture_handle, options, to);
         detail::Place place = {s, t, dsdx, dtdx, dsdy, dtdy};
+        bool is_at_place = options.mipmode == TextureOpt::MipModeNoMIP
+                           || (is_point(place) && options.sblur == 0 && options.tblur == 0);
+        if (is_at_place && !dresultds && !dresultdt && is_quick(*texture_handle, own, *facts, options, s, t, to)) return true;
         return look_up(*texture_handle, access(own, *texture_handle->folder_), facts, options, place, to);
     }
 
@@ -1226,6 +1230,28 @@ private:
         float down = state_->flip_t.load(std::memory_order_relaxed) ? -1.0f : 1.0f;
         if (to.ds) put(info, options.firstchannel, ds, to.ds, to.nchannels, to.step, 0, [](float it) { return it; });
         if (to.dt) put(info, options.firstchannel, dt, to.dt, to.nchannels, to.step, 0, [=](float it) { return down * it; });
+    }
+
+    // A usual lookup in the largest level, with as few steps as possible. Returns false, and has done nothing, if anything is
+    // not usual or fails.
+    bool is_quick(TextureHandle &handle, Perthread *own, const detail::Facts &facts, const TextureOpt &options, float s,
+                  float t, const detail::Result &to) const
+    {
+        detail::Folder &folder = *handle.folder_;
+        std::uint16_t values[8];
+        texcache_answer answer;
+        bool is_near = s >= -16000 && s <= 16000 && t >= -16000 && t <= 16000;
+        if (folder.index >= own->accesses_.size() || !is_near || state_->flip_t.load(std::memory_order_relaxed)) return false;
+        const detail::Access &by = own->accesses_[folder.index];
+        if (!by.pass || by.lock) return false;
+        texcache_texture_options &how = own->how_;
+        how.swrap = wrap_of(options.swrap), how.twrap = wrap_of(options.twrap);
+        how.channels = channels_of(facts.info, options, to.nchannels);
+        how.filter = options.interpmode == TextureOpt::InterpClosest ? TEXCACHE_CLOSEST : TEXCACHE_BILINEAR;
+        if (texcache_texture(by.pass, handle.file_, &how, s, t, values, 8, &answer)) return false;
+        if (answer.generation != facts.generation) return false;
+        put_values(facts.info, options, values, to);
+        return true;
     }
 
     // One lookup.
