@@ -259,6 +259,36 @@ static void two_in_one_pass(void)
     SAYS(texcache_end(&pass), TEXCACHE_OK);
 }
 
+/* ---- a cache that is closed while another thread looks up */
+
+static void *looks_up_long(void *given)
+{
+    enum { COUNT = 400000 };
+    double *numbers = calloc(COUNT, sizeof *numbers);
+    uint16_t *out = calloc(COUNT, sizeof *out);
+    texcache_texture_options o = texcache_default_texture_options(1);
+    texcache_coordinates at = {numbers, numbers, NULL, NULL, NULL, NULL, 1};
+    texcache_pass *pass;
+    SAYS(texcache_this_thread(cache, &pass), TEXCACHE_OK);
+    __atomic_store_n((texcache_pass **)given, pass, __ATOMIC_RELEASE);
+    SAYS(texcache_texture_many(pass, file, &o, &at, COUNT, out, COUNT, NULL, NULL), TEXCACHE_OK);
+    free(numbers);
+    free(out);
+    return NULL;
+}
+
+static void close_under_a_call(void)
+{
+    texcache_pass *pass = NULL, *own;
+    pthread_t id;
+    SAYS(texcache_this_thread(cache, &own), TEXCACHE_OK);
+    if (pthread_create(&id, NULL, looks_up_long, &pass)) exit(2);
+    while (!__atomic_load_n(&pass, __ATOMIC_ACQUIRE) || !__atomic_load_n(&pass->lookups, __ATOMIC_RELAXED)) {}
+    SAYS(texcache_close(&cache), TEXCACHE_PASSES_LEFT);
+    SAYS(looks_up(own), TEXCACHE_OK);
+    pthread_join(id, NULL);
+}
+
 /* ---- waiting */
 
 static double seconds(clockid_t clock)
@@ -334,6 +364,7 @@ int main(int count, char **words)
     threads();
     ended_passes();
     two_in_one_pass();
+    close_under_a_call();
     waits();
     fork_it(words[1]);
     /* the main thread's own pass ends with the cache */

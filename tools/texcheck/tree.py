@@ -16,7 +16,8 @@ PACKED = (LIBRARY, *PROGRAMS)
 SHARED = "libtexcache.so.1"
 # the tools for people, which need no toolchain
 TOOLS = ("prepare.py", "explain.py", "folder_info.py", "uv.py", "hit_curve.py")
-DOCUMENTS = ("INSTALL", "EMBEDDING", "REQUESTS", "TEXTURES", "PICTURES", "FILTERING", "FORMAT", "CACHE", "GLOSSARY")
+DOCUMENTS = ("INSTALL", "EMBEDDING", "OPTIONS", "SUPPLY", "REQUESTS", "TEXTURES", "PICTURES", "FILTERING", "FORMAT",
+             "CACHE", "GLOSSARY")
 # the modules that the wrappers and tools import; none of these needs the toolchain
 IMPORT = re.compile(r"^\s*from (texcheck|texprepare)(?:\.(\w+))? import (.+)$", re.M)
 LEFT_OUT = ("texcheck.entry", "texcheck.unproved")
