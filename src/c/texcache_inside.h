@@ -240,6 +240,18 @@ TEXC_INLINE int texc_scaled(double value, double scale, int64_t least, int64_t m
     return (uint64_t)found - (uint64_t)least <= (uint64_t)most - (uint64_t)least;
 }
 
+/* Whether the options that texc_results is for have their default values, tested by their bits. */
+TEXC_INLINE bool texc_is_usual(const texcache_texture_options *o, bool is_footprint)
+{
+    uint32_t fill, fill_alpha;
+    uint64_t bias;
+    memcpy(&fill, &o->fill, sizeof fill);
+    memcpy(&fill_alpha, &o->fill_alpha, sizeof fill_alpha);
+    memcpy(&bias, &o->lod_bias, sizeof bias);
+    if (o->first_channel | o->grey_to_rgb | fill | fill_alpha | bias) return false;
+    return !is_footprint || (o->swidth == 1 && o->twidth == 1 && o->sblur == 0 && o->tblur == 0);
+}
+
 /* The options as the library takes them. Returns whether those that are for the library are in range. */
 TEXC_INLINE bool texc_set_batch(const texcache_texture_options *o, uint32_t file, bool is_footprint, texcache_batch *to)
 {

@@ -158,11 +158,14 @@ static void texc_numbers(const texc_job *job, size_t lookup, double d[6])
 /* Converts the numbers of a lookup. Returns how many are in range before the first that is not, 6 if all are. */
 static int texc_convert(const double d[6], bool is_footprint, texcache_place *place)
 {
-    const int64_t side = INT64_C(1) << 46;
-    int64_t *to[6] = {&place->s, &place->t, &place->dsdx, &place->dtdx, &place->dsdy, &place->dtdy};
-    for (int k = 0; k < 6; k++) {
-        int64_t most = k > 1 ? side - 1 : is_footprint ? side : 2 * side - 1;
-        if (!texc_scaled(d[k], TEXC_FINE, k > 1 || is_footprint ? -side : -2 * side, most, to[k])) return k;
+    const int64_t side = INT64_C(1) << 46, least = is_footprint ? -side : -2 * side;
+    const int64_t most = is_footprint ? side : 2 * side - 1;
+    int64_t *to[4] = {&place->dsdx, &place->dtdx, &place->dsdy, &place->dtdy};
+    if (!texc_scaled(d[0], TEXC_FINE, least, most, &place->s)) return 0;
+    if (!texc_scaled(d[1], TEXC_FINE, least, most, &place->t)) return 1;
+    for (int k = 0; k < 4; k++) {
+        *to[k] = 0;
+        if (is_footprint && !texc_scaled(d[k + 2], TEXC_FINE, -side, side - 1, to[k])) return k + 2;
     }
     return 6;
 }
@@ -372,21 +375,4 @@ int texcache_texture_results(texcache_pass *pass, uint32_t file, const texcache_
                              texcache_answer *answer)
 {
     return texc_results(pass, file, options, at, count, results, done, answer);
-}
-
-int texcache_texture_float(texcache_pass *pass, uint32_t file, const texcache_texture_options *options, double s, double t,
-                           float *out, size_t room, texcache_answer *answer)
-{
-    const texcache_results results = {sizeof results, TEXCACHE_FLOAT, room, out, NULL, NULL};
-    const texcache_coordinates at = {&s, &t, NULL, NULL, NULL, NULL, 1};
-    return texc_results(pass, file, options, &at, 1, &results, NULL, answer);
-}
-
-int texcache_texture_footprint_float(texcache_pass *pass, uint32_t file, const texcache_texture_options *options, double s,
-                                     double t, double dsdx, double dtdx, double dsdy, double dtdy, float *out, size_t room,
-                                     texcache_answer *answer)
-{
-    const texcache_results results = {sizeof results, TEXCACHE_FLOAT, room, out, NULL, NULL};
-    const texcache_coordinates at = {&s, &t, &dsdx, &dtdx, &dsdy, &dtdy, 1};
-    return texc_results(pass, file, options, &at, 1, &results, NULL, answer);
 }
