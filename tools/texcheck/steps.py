@@ -73,6 +73,7 @@ def steps(args, programs, library):
         ("fine", "--library", library, *(["--full"] if args.proved else []), *skip),
         ("package", *skip),
         ("interface", "--library", library, *skip),
+        ("fault-words",),
         ("beside-oiio", "--library", library, *skip),
         ("lists", "--program", texcache, "--texsample", texsample),
         ("failed-allocations", "--program", texcache, *skip),
