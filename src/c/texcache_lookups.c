@@ -41,10 +41,10 @@ uint32_t texc_check_options(const texcache_texture_options *o, bool is_footprint
          o->lod + o->lod_bias},
         {is_footprint && o->max_probes - 1 > 31, TEXCACHE_BAD_MAX_PROBES, o->max_probes},
         {o->first_channel > 7, TEXCACHE_BAD_FIRST_CHANNEL, o->first_channel},
-        {!(o->swidth >= 0 && o->swidth <= 16384), TEXCACHE_BAD_SWIDTH, o->swidth},
-        {!(o->twidth >= 0 && o->twidth <= 16384), TEXCACHE_BAD_TWIDTH, o->twidth},
-        {!(o->sblur >= 0 && o->sblur <= 16384), TEXCACHE_BAD_SBLUR, o->sblur},
-        {!(o->tblur >= 0 && o->tblur <= 16384), TEXCACHE_BAD_TBLUR, o->tblur},
+        {is_footprint && !(o->swidth >= 0 && o->swidth <= 16384), TEXCACHE_BAD_SWIDTH, o->swidth},
+        {is_footprint && !(o->twidth >= 0 && o->twidth <= 16384), TEXCACHE_BAD_TWIDTH, o->twidth},
+        {is_footprint && !(o->sblur >= 0 && o->sblur <= 16384), TEXCACHE_BAD_SBLUR, o->sblur},
+        {is_footprint && !(o->tblur >= 0 && o->tblur <= 16384), TEXCACHE_BAD_TBLUR, o->tblur},
     };
     for (size_t i = 0; i < sizeof checks / sizeof *checks; i++)
         if (checks[i].is_bad) {
@@ -149,7 +149,7 @@ uint32_t texc_look_up_part(texcache_pass *pass, const texcache_batch *batch, con
 
 /* Makes lookups, of which `count` is 1 in the calls for one. `raw` gets 16-bit values: it is where the results go, or a
  * place for those of one lookup, which then become floats. If the options are not the usual ones, or something is out of
- * range or too small, texc_results does it. */
+ * range or too small, texcache_texture_results does it. */
 TEXC_INLINE int texc_look_up(texcache_pass *pass, uint32_t file, const texcache_texture_options *options,
                              const texcache_coordinates *at, size_t count, const texcache_results *results, uint16_t *raw,
                              size_t *done, texcache_place *places, texcache_answer *answer)
@@ -162,7 +162,7 @@ TEXC_INLINE int texc_look_up(texcache_pass *pass, uint32_t file, const texcache_
                          || results->room / batch.channels < count || texc_places(at, 0, count, places) < count, 0)) {
         const texcache_results to = *results;
         const texcache_coordinates from = *at;
-        return texc_results(pass, file, options, &from, count, &to, done, answer);
+        return texcache_texture_results(pass, file, options, &from, count, &to, done, answer);
     }
     if (done) *done = 0;
     int refused = texc_begin(pass, NULL, answer);
@@ -227,7 +227,7 @@ int texcache_texture_many(texcache_pass *pass, uint32_t file, const texcache_tex
     const texcache_results results = {sizeof results, TEXCACHE_UINT16, room, out, NULL, NULL};
     texcache_place places[TEXC_PART];
     if (texc_wrong_coordinates(at) || (!at->step && count > 1))
-        return texc_results(pass, file, options, at, count, &results, done, answer);
+        return texcache_texture_results(pass, file, options, at, count, &results, done, answer);
     return texc_look_up(pass, file, options, at, count, &results, out, done, places, answer);
 }
 

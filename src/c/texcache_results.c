@@ -217,15 +217,16 @@ static void texc_spread(const texc_job *job, const texcache_place *from, texcach
 /* Learns the file's channels and size, of its newest generation or, unless `is_anew`, of one that the pass knows. */
 static uint32_t texc_learn(texcache_pass *pass, texc_job *job, bool is_anew, texcache_supply_answer *said)
 {
-    const uint32_t file = job->batch.file;
+    const uint32_t file = job->batch.file, forced = __atomic_load_n(&pass->cache->forced, __ATOMIC_RELAXED);
     texc_known *known = &pass->known;
     texc_tries tries = {0, 0};
     uint32_t code = TEXCACHE_OK;
-    if (is_anew || !known->generation || known->file != file) {
+    if (is_anew || !known->generation || known->file != file || known->forced != forced) {
         do {
             code = tex_c_info(pass->held, &pass->held, file, &known->info, said);
         } while (code && texc_goes_on(pass, code, said, &tries));
         known->file = file;
+        known->forced = forced;
         known->generation = code ? 0 : said->generation;
     }
     job->known = *known;
@@ -343,8 +344,9 @@ static int texc_refuse_numbers(const texc_job *job, texcache_place *places, texc
     return texc_refuse(fact, answer);
 }
 
-int texc_results(texcache_pass *pass, uint32_t file, const texcache_texture_options *options, const texcache_coordinates *at,
-                 size_t count, const texcache_results *results, size_t *done, texcache_answer *answer)
+int texcache_texture_results(texcache_pass *pass, uint32_t file, const texcache_texture_options *options,
+                             const texcache_coordinates *at, size_t count, const texcache_results *results, size_t *done,
+                             texcache_answer *answer)
 {
     texcache_place places[TEXC_PART];
     texcache_supply_answer said;
@@ -352,7 +354,7 @@ int texc_results(texcache_pass *pass, uint32_t file, const texcache_texture_opti
     if (done) *done = 0;
     const char *wrong = texc_wrong_arguments(pass, options, at, results);
     if (wrong) return texc_refuse(texc_keep(TEXCACHE_BAD_ARGUMENT, wrong), answer);
-    texc_job job = {options, at, results, count, {0, 0, 0, 0, 0, 0, 0}, 1, results->dresultds != NULL, {0, 0, {0}}, {0}};
+    texc_job job = {options, at, results, count, {0}, 1, results->dresultds != NULL, {0}, {0}};
     if (options->lod_bias != 0) job.scale = exp2(options->lod_bias);
     int refused = texc_refuse_numbers(&job, places, answer);
     if (!refused) refused = texc_begin(pass, NULL, answer);
@@ -368,11 +370,4 @@ int texc_results(texcache_pass *pass, uint32_t file, const texcache_texture_opti
     texc_count_error(pass, file, code);
     texc_leave(pass);
     return texc_give_missing(options, results, count, code, answer);
-}
-
-int texcache_texture_results(texcache_pass *pass, uint32_t file, const texcache_texture_options *options,
-                             const texcache_coordinates *at, size_t count, const texcache_results *results, size_t *done,
-                             texcache_answer *answer)
-{
-    return texc_results(pass, file, options, at, count, results, done, answer);
 }

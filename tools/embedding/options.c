@@ -2,8 +2,10 @@
  * compared with those of a plain reader of the test's own images, and of formulas. */
 #define _XOPEN_SOURCE 700
 #include "images.h"
+#include <fcntl.h>
 #include <math.h>
 #include <pthread.h>
+#include <sys/stat.h>
 #include <time.h>
 #include <unistd.h>
 
@@ -403,6 +405,29 @@ static void many(void)
     }
 }
 
+/* ---- a file with other channels, and the length and time of the one before, which force alone notices */
+
+static void forced(void)
+{
+    const image grey = {16, 16, 1, 0, 0, two}, wide = {24, 16, 1, 0, 0, two}, colour = {8, 16, 3, 0, 0, two};
+    texcache_texture_options o = texcache_default_texture_options(3);
+    const struct timespec times[2] = {{1000000000, 5}, {1000000000, 5}};
+    char path[4096];
+    uint16_t out[3];
+    texcache_answer a;
+    uint32_t file = file_of(cache, "forced.tif");
+    snprintf(path, sizeof path, "%s/forced.tif", folder);
+    put_image(folder, "forced.tif", grey);
+    o.fill = 1;
+    for (int n = 0; n < 4; n++) {
+        put_image(folder, "forced.tif", n % 2 ? colour : wide);
+        if (utimensat(AT_FDCWD, path, times, 0)) exit(2);
+        SAYS(texcache_invalidate(pass, file, true, NULL), TEXCACHE_OK);
+        SAYS(texcache_texture(pass, file, &o, 0.5, 0.5, out, 3, &a), TEXCACHE_OK);
+        IS(out[0] == 25700 && out[1] == (n % 2 ? 51400 : 65535) && out[2] == (n % 2 ? 51400 : 65535));
+    }
+}
+
 /* ---- files that are replaced, by ones with other channels: no answer mixes them */
 
 static int ends;
@@ -459,7 +484,7 @@ int main(int count, char **words)
     static const struct { const char *name; image image; } images[] = {
         {"noise.tif", {SIDE, SIDE, CHANNELS, 16, 0, noise}}, {"one.tif", {8, 8, 1, 0, 0, two}}, {"two.tif", {8, 8, 2, 0, 0, two}},
         {"three.tif", {8, 8, 3, 0, 0, two}}, {"ramp.tif", {SIDE, SIDE, 3, 0, 0, ramp}}, {"packed.tif", {8, 8, 3, 0, 8, two}},
-        {"gone.tif", {8, 8, 3, 0, 0, two}}, {"changes.tif", {200, 100, 1, 16, 0, value_of}}};
+        {"gone.tif", {8, 8, 3, 0, 0, two}}, {"forced.tif", {16, 16, 1, 0, 0, two}}, {"changes.tif", {200, 100, 1, 16, 0, value_of}}};
     char gone[4096];
     if (count != 2) return 2;
     folder = words[1];
@@ -477,6 +502,7 @@ int main(int count, char **words)
     missing();
     bad_use();
     many();
+    forced();
     replaced();
     SAYS(texcache_close(&cache), TEXCACHE_OK);
     printf("%d failed\n", failures);
