@@ -144,7 +144,8 @@ TEXC_HIDDEN void texc_keep_name(texc_fact *fact, const char *name);
 TEXC_HIDDEN int texc_refuse(const texc_fact *fact, texcache_answer *answer);
 TEXC_HIDDEN int texc_refuse_number(uint32_t bad, double number, texcache_answer *answer);
 TEXC_HIDDEN texc_fact *texc_keep_place(const char *name, const char *range, uint64_t index, uint64_t count);
-TEXC_HIDDEN texc_fact *texc_keep_answer(texcache_pass *pass, uint32_t file, uint32_t code, const texcache_supply_answer *said);
+TEXC_HIDDEN texc_fact *texc_keep_answer(texcache_pass *pass, uint32_t file, uint32_t code,
+                                        const texcache_supply_answer *said);
 TEXC_HIDDEN void texc_keep_room(uint64_t room);
 TEXC_HIDDEN void texc_keep_sizes(uint64_t room, uint64_t needed);
 TEXC_HIDDEN void texc_count_error(texcache_pass *pass, uint32_t file, uint32_t code);

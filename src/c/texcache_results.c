@@ -242,8 +242,8 @@ static bool texc_has_to_know(const texc_job *job)
 }
 
 /* Makes some lookups, at most a part, and writes their values if they are of the known generation. */
-static uint32_t texc_chunk(texcache_pass *pass, const texc_job *job, size_t from, size_t count, const texcache_place *places,
-                           texcache_supply_answer *said)
+static uint32_t texc_chunk(texcache_pass *pass, const texc_job *job, size_t from, size_t count,
+                           const texcache_place *places, texcache_supply_answer *said)
 {
     texcache_place sides[TEXC_PART];
     uint16_t raw[8 * TEXC_PART + 8];

@@ -245,6 +245,8 @@ class Tests:
             if self.built("replaced_user", HERE / "replaced.c", "-fsanitize=thread", "-g", over=over):
                 self.over_a_folder(f"races, the {what} with tsan.supp, files that are replaced", "replaced_user", "8",
                                    "2000", **installed)
+            if self.built("options_user", HERE / "options.c", "-std=c99", "-fsanitize=thread", "-g", over=over):
+                self.over_a_folder(f"races, the {what} with tsan.supp, options", "options_user", **installed)
 
     def picture(self, what, name, folder, *more):
         """The picture of a run of the renderer."""
