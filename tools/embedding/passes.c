@@ -138,7 +138,9 @@ static void refuses(texcache_pass *pass, int status)
     texcache_lookup r = texcache_lookup_at(0, 0, 0, 1);
     texcache_region region = {0, 0, 0, 1, 1};
     texcache_coordinates at = {&o.lod, &o.lod, NULL, NULL, NULL, NULL, 1};
-    texcache_answer a[11];
+    texcache_answer a[14];
+    float real = 77;
+    texcache_results to = {sizeof to, TEXCACHE_FLOAT, 1, &real, NULL, NULL};
     texcache_info info;
     texcache_tile tile;
     texcache_statistics stats;
@@ -150,6 +152,9 @@ static void refuses(texcache_pass *pass, int status)
     SAYS(texcache_texture(pass, file, &o, 0, 0, &out, 1, &a[i++]), status);
     SAYS(texcache_texture_footprint(pass, file, &o, 0, 0, 0, 0, 0, 0, &out, 1, &a[i++]), status);
     SAYS(texcache_texture_many(pass, file, &o, &at, 1, &out, 1, &done, &a[i++]), status);
+    SAYS(texcache_texture_float(pass, file, &o, 0, 0, &real, 1, &a[i++]), status);
+    SAYS(texcache_texture_footprint_float(pass, file, &o, 0, 0, 0, 0, 0, 0, &real, 1, &a[i++]), status);
+    SAYS(texcache_texture_results(pass, file, &o, &at, 1, &to, &done, &a[i++]), status);
     SAYS(texcache_texture_fixed(pass, file, &r, &out, 1, &a[i++]), status);
     SAYS(texcache_texture_d_fixed(pass, file, &r, &out, 1, &a[i++]), status);
     SAYS(texcache_texture_local_fixed(pass, file, &r, &out, 1, &a[i++]), status);
@@ -164,7 +169,7 @@ static void refuses(texcache_pass *pass, int status)
     SAYS(texcache_stats(pass, &stats), status);
     SAYS(texcache_shard_stats(pass, 0, &shard), status);
     SAYS(texcache_end(&pass), status);
-    IS(out == 77 && done == 0);
+    IS(out == 77 && real == 77 && done == 0);
 }
 
 /* NULL in place of each argument. */
