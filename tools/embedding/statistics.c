@@ -9,7 +9,7 @@
 #include <time.h>
 #include <unistd.h>
 
-enum { THREADS = 4, LOOKUPS = 4000, TEXT = 1 << 20 };
+enum { THREADS = 4, LOOKUPS = 1600, TEXT = 1 << 20 };
 
 /* What went through the calls of the system, but for those of a report, which looks whether a file has strips. */
 static __thread bool reports;
