@@ -141,8 +141,9 @@ int texcache_open(texcache **cache, const char *folder, const texcache_options *
 int texcache_open_saying(texcache **cache, const char *folder, const texcache_options *options, uint32_t *bad)
     TEXCACHE_SYMBOL("texcache_open_saying");
 
-/* Closes a cache and sets the pointer to NULL. Passes of texcache_new_pass must have ended; those of texcache_this_thread
- * end here. No other call of the cache may run, and no thread that has a pass of it may end meanwhile. */
+/* Closes a cache and sets the pointer to NULL. Passes of texcache_new_pass must have ended, and no call may run in a pass;
+ * otherwise that is TEXCACHE_PASSES_LEFT. Passes of texcache_this_thread end here. No other call of the cache may begin,
+ * and no thread that has a pass of it may end meanwhile. */
 int texcache_close(texcache **cache);
 
 /* The pass of the calling thread, which is made at the first call and ends with the thread. */

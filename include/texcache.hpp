@@ -328,14 +328,16 @@ public:
     }
 
     // Whether the two latest tiles of the pass had all that the lookup at S, T and LOD needs.
-    bool texture_local_fixed(std::uint32_t file, const texcache_lookup &r, Span<std::uint16_t> out, Errors errors = Errors())
+    bool texture_local_fixed(std::uint32_t file, const texcache_lookup &r, Span<std::uint16_t> out,
+                             Errors errors = Errors())
     {
         int status = texcache_texture_local_fixed(pass_, file, &r, at(out), out.size(), &answer_);
         return status == TEXCACHE_NOT_LOCAL ? !errors.take(TEXCACHE_OK) : said(status, errors) != 0;
     }
 
     // Writes the values of a region to `out`, and returns their generation; answer() has the channels.
-    std::uint32_t pixels(std::uint32_t file, const texcache_region &region, Span<std::uint16_t> out, Errors errors = Errors())
+    std::uint32_t pixels(std::uint32_t file, const texcache_region &region, Span<std::uint16_t> out,
+                         Errors errors = Errors())
     {
         return said(texcache_get_pixels(pass_, file, &region, at(out), out.size(), &answer_), errors);
     }

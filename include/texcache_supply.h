@@ -1,8 +1,8 @@
 /* texcache_supply.h: the calls of the proved library, for programs that read files in their own way.
  *
  * The library does no input or output. A call that lacks bytes answers TEXCACHE_NEEDED and says which; supply them and
- * make the same call again. docs/EMBEDDING.md, "A file system of your own", says how. These calls are in libtexcache.a
- * alone. src/c/texcache_posix.c is the loop over them that texcache.h has.
+ * make the same call again. docs/SUPPLY.md says how. These calls are in libtexcache.a alone. src/c/texcache_posix.c is
+ * the loop over them that texcache.h has.
  *
  * A handle goes in by value, and the call gives it back through `to`. It serves one call at a time.
  */

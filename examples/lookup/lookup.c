@@ -22,11 +22,8 @@ int main(int count, char **arguments)
     if (!refused) refused = texcache_this_thread(cache, &pass);
     if (!refused) refused = texcache_find(cache, arguments[2], &file);
     if (!refused) refused = texcache_texture(pass, file, &options, 0.5, 0.5, rgb, 3, NULL);
+    if (refused) fprintf(stderr, "lookup: %s\n", texcache_last_error());
+    else printf("%s: %u %u %u\n", texcache_version(), rgb[0], rgb[1], rgb[2]);
     texcache_close(&cache);
-    if (refused) {
-        fprintf(stderr, "lookup: %s\n", texcache_error_string(refused));
-        return 1;
-    }
-    printf("%s: %u %u %u\n", texcache_version(), rgb[0], rgb[1], rgb[2]);
-    return 0;
+    return refused != 0;
 }

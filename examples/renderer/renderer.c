@@ -165,9 +165,9 @@ static double step(int object, double from, double to, int is_round)
     return bounded(by);
 }
 
-static void fail(const char *what, int status)
+static void fail(const char *what, const char *why)
 {
-    fprintf(stderr, "renderer: %s: %s\n", what, texcache_error_string(status));
+    fprintf(stderr, "renderer: %s: %s\n", what, why);
     exit(1);
 }
 
@@ -190,7 +190,7 @@ static void shade(texcache_pass *pass, int x, int y, double colour[3])
         int status = asked.is_closest
             ? texcache_texture(pass, files[object], &options, u, v, values, 3, NULL)
             : texcache_texture_footprint(pass, files[object], &options, u, v, dux, dvx, duy, dvy, values, 3, NULL);
-        if (status) fail(object == BALL ? ball_name : planes[object].name, status);
+        if (status) fail(object == BALL ? ball_name : planes[object].name, texcache_last_error());
         if (options.channels == 1) values[1] = values[2] = values[0];
         if (object == BALL) {
             double facing = dot(unit(sub(times(ray, far), ball)), unit(light));
@@ -208,7 +208,7 @@ static void *render(void *unused)
     texcache_statistics counts;
     int status = texcache_this_thread(cache, &pass);
     (void)unused;
-    if (status) fail("a pass", status);
+    if (status) fail("a pass", texcache_last_error());
     for (;;) {
         pthread_mutex_lock(&lock);
         int y = next_row < end_row ? next_row++ : end_row;
@@ -272,7 +272,7 @@ static void find_textures(texcache_pass *pass)
         if (i >= plane_count && i < BALL) continue;
         int status = texcache_find(cache, name, &files[i]);
         if (!status) status = texcache_get_info(pass, files[i], &infos[i], NULL);
-        if (status) fail(name, status);
+        if (status) fail(name, texcache_last_error());
     }
 }
 
@@ -282,7 +282,7 @@ static void render_rows(int end)
     pthread_t threads[16];
     end_row = end;
     for (int i = 0; i < asked.threads; i++)
-        if (pthread_create(&threads[i], NULL, render, NULL)) fail("a thread", TEXCACHE_NO_MEMORY);
+        if (pthread_create(&threads[i], NULL, render, NULL)) fail("a thread", "there is not enough memory");
     for (int i = 0; i < asked.threads; i++) pthread_join(threads[i], NULL);
 }
 
@@ -295,10 +295,10 @@ static void replace(texcache_pass *pass)
     snprintf(name, sizeof name, "%s/%s", asked.folder, asked.replaced);
     FILE *from = fopen(asked.by, "rb"), *to = fopen(part, "wb");
     while (from && to && (count = fread(block, 1, sizeof block, from)) > 0)
-        if (fwrite(block, 1, count, to) != count) fail(part, TEXCACHE_READ_FAULT);
-    if (!from || !to || fclose(from) || fclose(to) || rename(part, name)) fail(name, TEXCACHE_READ_FAULT);
+        if (fwrite(block, 1, count, to) != count) fail(part, "it cannot be written");
+    if (!from || !to || fclose(from) || fclose(to) || rename(part, name)) fail(name, "it cannot be copied");
     int status = texcache_invalidate_all(pass, NULL);
-    if (status) fail("looking again", status);
+    if (status) fail("looking again", texcache_last_error());
     find_textures(pass);
 }
 
@@ -321,10 +321,10 @@ int main(int count, char **words)
     lay_out();
     int status = texcache_open(&cache, asked.folder, &asked.options);
     if (!status) status = texcache_this_thread(cache, &pass);
-    if (status) fail(asked.folder, status);
+    if (status) fail(asked.folder, texcache_last_error());
     find_textures(pass);
     pixels = calloc((size_t)asked.width * asked.height, 3);
-    if (!pixels) fail("the picture", TEXCACHE_NO_MEMORY);
+    if (!pixels) fail("the picture", "there is not enough memory");
     if (asked.replaced) {
         render_rows(asked.height / 2);
         replace(pass);

@@ -161,6 +161,7 @@ int texcache_invalidate(texcache_pass *pass, uint32_t file, bool force, texcache
     if (refused) return refused;
     if (force) texc_close_file(pass->cache, file);
     uint32_t code = texc_invalidate(pass, file, force, &said);
+    if (force) __atomic_fetch_add(&pass->cache->forced, 1, __ATOMIC_RELAXED);
     return texc_finish(pass, file, code, &said, answer);
 }
 

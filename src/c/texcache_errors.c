@@ -76,7 +76,8 @@ static const struct { const char *name, *range; } texc_numbers[] = {
     {"", ""}, {"swrap", "0 to 3"}, {"twrap", "0 to 3"}, {"channels", "1 to 8"}, {"filter", "0 to 2"},
     {"lod", "-32768 to 65535.99"}, {"max_probes", "1 to 32"}, {"a coordinate or a derivative", "in its range"},
     {"step", "at least 1 for several lookups"}, {"first_channel", "0 to 7"}, {"lod_bias", "-32 to 32"},
-    {"swidth", "0 to 16384"}, {"twidth", "0 to 16384"}, {"sblur", "0 to 16384"}, {"tblur", "0 to 16384"}, {"type", "0 to 2"},
+    {"swidth", "0 to 16384"}, {"twidth", "0 to 16384"}, {"sblur", "0 to 16384"}, {"tblur", "0 to 16384"},
+    {"type", "0 to 2"},
 };
 
 static __thread texc_fact texc_latest;
@@ -288,7 +289,9 @@ static void texc_put_facts(texc_text *text, const texc_fact *fact)
     switch (fact->status) {
     case TEXCACHE_BAD_OPTIONS:
     case TEXCACHE_BAD_REQUEST: texc_put_number(text, fact); break;
-    case TEXCACHE_NO_FILE: texc_put(text, "no file has the number %.0f: there are %" PRIu64, fact->number, fact->given); break;
+    case TEXCACHE_NO_FILE:
+        texc_put(text, "no file has the number %.0f: there are %" PRIu64, fact->number, fact->given);
+        break;
     case TEXCACHE_SMALL_BUFFER:
         texc_put(text, "the buffer has room for %" PRIu64 " %s, and %" PRIu64 " are needed", fact->given,
                  fact->what ? fact->what : "values", a->value);

@@ -71,6 +71,7 @@ struct texcache {
     uint64_t looks, opens, reads, bytes;
     uint64_t wait_time;  /* nanoseconds in which calls waited for a shard */
     uint64_t lookups;    /* of passes whose memory is used again */
+    uint32_t forced;     /* how often a file was opened anew, whose facts may then be others in the same generation */
 
     pthread_mutex_t open_lock;   /* guards the open files; it may be taken while a file's lock is held */
     texc_open *oldest, *newest;  /* the idle ones, by their latest use */
@@ -91,7 +92,7 @@ enum { TEXC_FREE, TEXC_USED, TEXC_ENDED, TEXC_COUNTED };
 
 /* What a lookup has to know of a file: the facts of one generation, 0 if none is known. */
 typedef struct texc_known {
-    uint32_t file, generation;
+    uint32_t file, generation, forced;  /* the cache's `forced` then */
     texcache_info info;
 } texc_known;
 
@@ -143,7 +144,8 @@ TEXC_HIDDEN void texc_keep_name(texc_fact *fact, const char *name);
 TEXC_HIDDEN int texc_refuse(const texc_fact *fact, texcache_answer *answer);
 TEXC_HIDDEN int texc_refuse_number(uint32_t bad, double number, texcache_answer *answer);
 TEXC_HIDDEN texc_fact *texc_keep_place(const char *name, const char *range, uint64_t index, uint64_t count);
-TEXC_HIDDEN texc_fact *texc_keep_answer(texcache_pass *pass, uint32_t file, uint32_t code, const texcache_supply_answer *said);
+TEXC_HIDDEN texc_fact *texc_keep_answer(texcache_pass *pass, uint32_t file, uint32_t code,
+                                        const texcache_supply_answer *said);
 TEXC_HIDDEN void texc_keep_room(uint64_t room);
 TEXC_HIDDEN void texc_keep_sizes(uint64_t room, uint64_t needed);
 TEXC_HIDDEN void texc_count_error(texcache_pass *pass, uint32_t file, uint32_t code);
@@ -159,9 +161,6 @@ TEXC_HIDDEN uint32_t texc_look_up_part(texcache_pass *pass, const texcache_batch
                                        size_t count, uint16_t *out, texcache_supply_answer *said);
 
 /* texcache_results.c */
-TEXC_HIDDEN int texc_results(texcache_pass *pass, uint32_t file, const texcache_texture_options *options,
-                             const texcache_coordinates *at, size_t count, const texcache_results *results, size_t *done,
-                             texcache_answer *answer);
 TEXC_HIDDEN int texc_give_missing(const texcache_texture_options *o, const texcache_results *results, size_t count,
                                   uint32_t code, texcache_answer *answer);
 
@@ -238,6 +237,18 @@ TEXC_INLINE int texc_scaled(double value, double scale, int64_t least, int64_t m
     found -= (double)found > at;
     *out = found;
     return (uint64_t)found - (uint64_t)least <= (uint64_t)most - (uint64_t)least;
+}
+
+/* Whether the options that texcache_texture_results is for have their default values, tested by their bits. */
+TEXC_INLINE bool texc_is_usual(const texcache_texture_options *o, bool is_footprint)
+{
+    uint32_t fill, fill_alpha;
+    uint64_t bias;
+    memcpy(&fill, &o->fill, sizeof fill);
+    memcpy(&fill_alpha, &o->fill_alpha, sizeof fill_alpha);
+    memcpy(&bias, &o->lod_bias, sizeof bias);
+    if (o->first_channel | o->grey_to_rgb | fill | fill_alpha | bias) return false;
+    return !is_footprint || (o->swidth == 1 && o->twidth == 1 && o->sblur == 0 && o->tblur == 0);
 }
 
 /* The options as the library takes them. Returns whether those that are for the library are in range. */

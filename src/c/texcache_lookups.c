@@ -28,7 +28,9 @@ void texcache_floats(const uint16_t *values, size_t count, float *out)
 /* Which number of the options is out of range, and that number; or 0. */
 uint32_t texc_check_options(const texcache_texture_options *o, bool is_footprint, double *number)
 {
+    texcache_batch unused;
     int64_t lod;
+    if (texc_is_usual(o, is_footprint) && texc_set_batch(o, 0, is_footprint, &unused)) return 0;
     const struct { bool is_bad; uint32_t bad; double number; } checks[] = {
         {o->swrap > TEXCACHE_MIRROR, TEXCACHE_BAD_SWRAP, o->swrap},
         {o->twrap > TEXCACHE_MIRROR, TEXCACHE_BAD_TWRAP, o->twrap},
@@ -39,10 +41,10 @@ uint32_t texc_check_options(const texcache_texture_options *o, bool is_footprint
          o->lod + o->lod_bias},
         {is_footprint && o->max_probes - 1 > 31, TEXCACHE_BAD_MAX_PROBES, o->max_probes},
         {o->first_channel > 7, TEXCACHE_BAD_FIRST_CHANNEL, o->first_channel},
-        {!(o->swidth >= 0 && o->swidth <= 16384), TEXCACHE_BAD_SWIDTH, o->swidth},
-        {!(o->twidth >= 0 && o->twidth <= 16384), TEXCACHE_BAD_TWIDTH, o->twidth},
-        {!(o->sblur >= 0 && o->sblur <= 16384), TEXCACHE_BAD_SBLUR, o->sblur},
-        {!(o->tblur >= 0 && o->tblur <= 16384), TEXCACHE_BAD_TBLUR, o->tblur},
+        {is_footprint && !(o->swidth >= 0 && o->swidth <= 16384), TEXCACHE_BAD_SWIDTH, o->swidth},
+        {is_footprint && !(o->twidth >= 0 && o->twidth <= 16384), TEXCACHE_BAD_TWIDTH, o->twidth},
+        {is_footprint && !(o->sblur >= 0 && o->sblur <= 16384), TEXCACHE_BAD_SBLUR, o->sblur},
+        {is_footprint && !(o->tblur >= 0 && o->tblur <= 16384), TEXCACHE_BAD_TBLUR, o->tblur},
     };
     for (size_t i = 0; i < sizeof checks / sizeof *checks; i++)
         if (checks[i].is_bad) {
@@ -50,18 +52,6 @@ uint32_t texc_check_options(const texcache_texture_options *o, bool is_footprint
             return checks[i].bad;
         }
     return 0;
-}
-
-/* Whether the options that texc_results is for have their default values, tested by their bits. */
-TEXC_INLINE bool texc_is_usual(const texcache_texture_options *o, bool is_footprint)
-{
-    uint32_t fill, fill_alpha;
-    uint64_t bias;
-    memcpy(&fill, &o->fill, sizeof fill);
-    memcpy(&fill_alpha, &o->fill_alpha, sizeof fill_alpha);
-    memcpy(&bias, &o->lod_bias, sizeof bias);
-    if (o->first_channel | o->grey_to_rgb | fill | fill_alpha | bias) return false;
-    return !is_footprint || (o->swidth == 1 && o->twidth == 1 && o->sblur == 0 && o->tblur == 0);
 }
 
 /* ---- lookups */
@@ -157,63 +147,88 @@ uint32_t texc_look_up_part(texcache_pass *pass, const texcache_batch *batch, con
     return code;
 }
 
-/* Makes lookups, of which `count` is 1 in the calls for one. If the options are not the usual ones, or something is out
- * of range or too small, texc_results does it. */
+/* Makes lookups, of which `count` is 1 in the calls for one. `raw` gets 16-bit values: it is where the results go, or a
+ * place for those of one lookup, which then become floats. If the options are not the usual ones, or something is out of
+ * range or too small, texcache_texture_results does it. */
 TEXC_INLINE int texc_look_up(texcache_pass *pass, uint32_t file, const texcache_texture_options *options,
-                             const texcache_coordinates *at, size_t count, uint16_t *out, size_t room, size_t *done,
-                             texcache_place *places, texcache_answer *answer)
+                             const texcache_coordinates *at, size_t count, const texcache_results *results, uint16_t *raw,
+                             size_t *done, texcache_place *places, texcache_answer *answer)
 {
     const bool is_footprint = at->dsdx != NULL;
     texcache_batch_answer said;
     texcache_batch batch;
-    if (__builtin_expect(!pass || !options || !out || options->size != sizeof *options
+    if (__builtin_expect(!pass || !options || !results->values || options->size != sizeof *options
                          || !texc_is_usual(options, is_footprint) || !texc_set_batch(options, file, is_footprint, &batch)
-                         || room / batch.channels < count || texc_places(at, 0, count, places) < count, 0)) {
-        const texcache_results results = {sizeof results, TEXCACHE_UINT16, room, out, NULL, NULL};
-        const texcache_coordinates copy = *at;
-        return texc_results(pass, file, options, &copy, count, &results, done, answer);
+                         || results->room / batch.channels < count || texc_places(at, 0, count, places) < count, 0)) {
+        const texcache_results to = *results;
+        const texcache_coordinates from = *at;
+        return texcache_texture_results(pass, file, options, &from, count, &to, done, answer);
     }
     if (done) *done = 0;
     int refused = texc_begin(pass, NULL, answer);
     if (refused) return refused;
     texc_count_lookups(pass, count);
-    uint32_t code = texc_parts(pass, &batch, at, count, places, out, done, &said);
+    uint32_t code = texc_parts(pass, &batch, at, count, places, raw, done, &said);
     if (__builtin_expect(code && texc_gives_missing(options, code), 0)) {
-        const texcache_results results = {sizeof results, TEXCACHE_UINT16, room, out, NULL, NULL};
+        const texcache_results to = *results;
         texc_count_error(pass, file, code);
         texc_leave(pass);
         if (done) *done = count;
-        return texc_give_missing(options, &results, count, code, answer);
+        return texc_give_missing(options, &to, count, code, answer);
     }
+    if (!code && results->type == TEXCACHE_FLOAT) texcache_floats(raw, batch.channels, results->values);
     return texc_finish(pass, file, code, &said.error, answer);
 }
 
 int texcache_texture(texcache_pass *pass, uint32_t file, const texcache_texture_options *options, double s, double t,
                      uint16_t *out, size_t room, texcache_answer *answer)
 {
-    texcache_coordinates at = {&s, &t, NULL, NULL, NULL, NULL, 1};
+    const texcache_results results = {sizeof results, TEXCACHE_UINT16, room, out, NULL, NULL};
+    const texcache_coordinates at = {&s, &t, NULL, NULL, NULL, NULL, 1};
     texcache_place place;
-    return texc_look_up(pass, file, options, &at, 1, out, room, NULL, &place, answer);
+    return texc_look_up(pass, file, options, &at, 1, &results, out, NULL, &place, answer);
+}
+
+int texcache_texture_float(texcache_pass *pass, uint32_t file, const texcache_texture_options *options, double s, double t,
+                           float *out, size_t room, texcache_answer *answer)
+{
+    const texcache_results results = {sizeof results, TEXCACHE_FLOAT, room, out, NULL, NULL};
+    const texcache_coordinates at = {&s, &t, NULL, NULL, NULL, NULL, 1};
+    texcache_place place;
+    uint16_t raw[8];
+    return texc_look_up(pass, file, options, &at, 1, &results, raw, NULL, &place, answer);
 }
 
 int texcache_texture_footprint(texcache_pass *pass, uint32_t file, const texcache_texture_options *options, double s,
                                double t, double dsdx, double dtdx, double dsdy, double dtdy, uint16_t *out, size_t room,
                                texcache_answer *answer)
 {
-    texcache_coordinates at = {&s, &t, &dsdx, &dtdx, &dsdy, &dtdy, 1};
+    const texcache_results results = {sizeof results, TEXCACHE_UINT16, room, out, NULL, NULL};
+    const texcache_coordinates at = {&s, &t, &dsdx, &dtdx, &dsdy, &dtdy, 1};
     texcache_place place;
-    return texc_look_up(pass, file, options, &at, 1, out, room, NULL, &place, answer);
+    return texc_look_up(pass, file, options, &at, 1, &results, out, NULL, &place, answer);
+}
+
+int texcache_texture_footprint_float(texcache_pass *pass, uint32_t file, const texcache_texture_options *options, double s,
+                                     double t, double dsdx, double dtdx, double dsdy, double dtdy, float *out, size_t room,
+                                     texcache_answer *answer)
+{
+    const texcache_results results = {sizeof results, TEXCACHE_FLOAT, room, out, NULL, NULL};
+    const texcache_coordinates at = {&s, &t, &dsdx, &dtdx, &dsdy, &dtdy, 1};
+    texcache_place place;
+    uint16_t raw[8];
+    return texc_look_up(pass, file, options, &at, 1, &results, raw, NULL, &place, answer);
 }
 
 int texcache_texture_many(texcache_pass *pass, uint32_t file, const texcache_texture_options *options,
                           const texcache_coordinates *at, size_t count, uint16_t *out, size_t room, size_t *done,
                           texcache_answer *answer)
 {
-    texcache_place places[TEXC_PART];
     const texcache_results results = {sizeof results, TEXCACHE_UINT16, room, out, NULL, NULL};
+    texcache_place places[TEXC_PART];
     if (texc_wrong_coordinates(at) || (!at->step && count > 1))
-        return texc_results(pass, file, options, at, count, &results, done, answer);
-    return texc_look_up(pass, file, options, at, count, out, room, done, places, answer);
+        return texcache_texture_results(pass, file, options, at, count, &results, done, answer);
+    return texc_look_up(pass, file, options, at, count, &results, out, done, places, answer);
 }
 
 /* ---- lookups in the units of the program's requests */

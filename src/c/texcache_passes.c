@@ -342,26 +342,29 @@ int texcache_open(texcache **cache, const char *folder, const texcache_options *
     return texcache_open_saying(cache, folder, options, NULL);
 }
 
-/* Whether a pass is left that its thread's end does not end, or that has a call. */
-static bool texc_has_passes(texcache *cache)
+/* Takes all passes that have not ended, so that no call begins in them. Takes none, and returns false, if one is left
+ * that its thread's end does not end, or that has a call. */
+static bool texc_take_passes(texcache *cache)
 {
-    bool has = false;
+    texcache_pass *pass;
     pthread_mutex_lock(&cache->lock);
-    for (texcache_pass *pass = cache->made; pass && !has; pass = pass->made_before) {
-        int state = __atomic_load_n(&pass->state, __ATOMIC_ACQUIRE);
-        has = state == TEXC_USED || (state != TEXC_ENDED && !pass->is_threads);
+    for (pass = cache->made; pass; pass = pass->made_before) {
+        bool is_ended = __atomic_load_n(&pass->state, __ATOMIC_ACQUIRE) == TEXC_ENDED;
+        if (!is_ended && (!pass->is_threads || texc_enter(pass))) break;
     }
+    for (texcache_pass *taken = cache->made; pass && taken != pass; taken = taken->made_before)
+        if (__atomic_load_n(&taken->state, __ATOMIC_RELAXED) != TEXC_ENDED) texc_leave(taken);
     pthread_mutex_unlock(&cache->lock);
-    return has;
+    return !pass;
 }
 
 int texcache_close(texcache **cache)
 {
     if (!cache || !*cache) return texc_ends(TEXCACHE_BAD_ARGUMENT, "cache is NULL");
     if ((*cache)->forks != texc_forks) return texc_ends(TEXCACHE_FORKED, NULL);
-    if (texc_has_passes(*cache)) return texc_ends(TEXCACHE_PASSES_LEFT, NULL);
+    if (!texc_take_passes(*cache)) return texc_ends(TEXCACHE_PASSES_LEFT, NULL);
     for (texcache_pass *pass = (*cache)->made; pass; pass = pass->made_before)
-        if (!texc_enter(pass)) texc_release_all(pass);
+        if (pass->state != TEXC_ENDED) texc_release_all(pass);
     texc_free(*cache);
     *cache = NULL;
     return TEXCACHE_OK;

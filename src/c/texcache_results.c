@@ -158,11 +158,14 @@ static void texc_numbers(const texc_job *job, size_t lookup, double d[6])
 /* Converts the numbers of a lookup. Returns how many are in range before the first that is not, 6 if all are. */
 static int texc_convert(const double d[6], bool is_footprint, texcache_place *place)
 {
-    const int64_t side = INT64_C(1) << 46;
-    int64_t *to[6] = {&place->s, &place->t, &place->dsdx, &place->dtdx, &place->dsdy, &place->dtdy};
-    for (int k = 0; k < 6; k++) {
-        int64_t most = k > 1 ? side - 1 : is_footprint ? side : 2 * side - 1;
-        if (!texc_scaled(d[k], TEXC_FINE, k > 1 || is_footprint ? -side : -2 * side, most, to[k])) return k;
+    const int64_t side = INT64_C(1) << 46, least = is_footprint ? -side : -2 * side;
+    const int64_t most = is_footprint ? side : 2 * side - 1;
+    int64_t *to[4] = {&place->dsdx, &place->dtdx, &place->dsdy, &place->dtdy};
+    if (!texc_scaled(d[0], TEXC_FINE, least, most, &place->s)) return 0;
+    if (!texc_scaled(d[1], TEXC_FINE, least, most, &place->t)) return 1;
+    for (int k = 0; k < 4; k++) {
+        *to[k] = 0;
+        if (is_footprint && !texc_scaled(d[k + 2], TEXC_FINE, -side, side - 1, to[k])) return k + 2;
     }
     return 6;
 }
@@ -214,15 +217,16 @@ static void texc_spread(const texc_job *job, const texcache_place *from, texcach
 /* Learns the file's channels and size, of its newest generation or, unless `is_anew`, of one that the pass knows. */
 static uint32_t texc_learn(texcache_pass *pass, texc_job *job, bool is_anew, texcache_supply_answer *said)
 {
-    const uint32_t file = job->batch.file;
+    const uint32_t file = job->batch.file, forced = __atomic_load_n(&pass->cache->forced, __ATOMIC_RELAXED);
     texc_known *known = &pass->known;
     texc_tries tries = {0, 0};
     uint32_t code = TEXCACHE_OK;
-    if (is_anew || !known->generation || known->file != file) {
+    if (is_anew || !known->generation || known->file != file || known->forced != forced) {
         do {
             code = tex_c_info(pass->held, &pass->held, file, &known->info, said);
         } while (code && texc_goes_on(pass, code, said, &tries));
         known->file = file;
+        known->forced = forced;
         known->generation = code ? 0 : said->generation;
     }
     job->known = *known;
@@ -238,8 +242,8 @@ static bool texc_has_to_know(const texc_job *job)
 }
 
 /* Makes some lookups, at most a part, and writes their values if they are of the known generation. */
-static uint32_t texc_chunk(texcache_pass *pass, const texc_job *job, size_t from, size_t count, const texcache_place *places,
-                           texcache_supply_answer *said)
+static uint32_t texc_chunk(texcache_pass *pass, const texc_job *job, size_t from, size_t count,
+                           const texcache_place *places, texcache_supply_answer *said)
 {
     texcache_place sides[TEXC_PART];
     uint16_t raw[8 * TEXC_PART + 8];
@@ -340,8 +344,9 @@ static int texc_refuse_numbers(const texc_job *job, texcache_place *places, texc
     return texc_refuse(fact, answer);
 }
 
-int texc_results(texcache_pass *pass, uint32_t file, const texcache_texture_options *options, const texcache_coordinates *at,
-                 size_t count, const texcache_results *results, size_t *done, texcache_answer *answer)
+int texcache_texture_results(texcache_pass *pass, uint32_t file, const texcache_texture_options *options,
+                             const texcache_coordinates *at, size_t count, const texcache_results *results, size_t *done,
+                             texcache_answer *answer)
 {
     texcache_place places[TEXC_PART];
     texcache_supply_answer said;
@@ -349,7 +354,7 @@ int texc_results(texcache_pass *pass, uint32_t file, const texcache_texture_opti
     if (done) *done = 0;
     const char *wrong = texc_wrong_arguments(pass, options, at, results);
     if (wrong) return texc_refuse(texc_keep(TEXCACHE_BAD_ARGUMENT, wrong), answer);
-    texc_job job = {options, at, results, count, {0, 0, 0, 0, 0, 0, 0}, 1, results->dresultds != NULL, {0, 0, {0}}, {0}};
+    texc_job job = {options, at, results, count, {0}, 1, results->dresultds != NULL, {0}, {0}};
     if (options->lod_bias != 0) job.scale = exp2(options->lod_bias);
     int refused = texc_refuse_numbers(&job, places, answer);
     if (!refused) refused = texc_begin(pass, NULL, answer);
@@ -365,28 +370,4 @@ int texc_results(texcache_pass *pass, uint32_t file, const texcache_texture_opti
     texc_count_error(pass, file, code);
     texc_leave(pass);
     return texc_give_missing(options, results, count, code, answer);
-}
-
-int texcache_texture_results(texcache_pass *pass, uint32_t file, const texcache_texture_options *options,
-                             const texcache_coordinates *at, size_t count, const texcache_results *results, size_t *done,
-                             texcache_answer *answer)
-{
-    return texc_results(pass, file, options, at, count, results, done, answer);
-}
-
-int texcache_texture_float(texcache_pass *pass, uint32_t file, const texcache_texture_options *options, double s, double t,
-                           float *out, size_t room, texcache_answer *answer)
-{
-    const texcache_results results = {sizeof results, TEXCACHE_FLOAT, room, out, NULL, NULL};
-    const texcache_coordinates at = {&s, &t, NULL, NULL, NULL, NULL, 1};
-    return texc_results(pass, file, options, &at, 1, &results, NULL, answer);
-}
-
-int texcache_texture_footprint_float(texcache_pass *pass, uint32_t file, const texcache_texture_options *options, double s,
-                                     double t, double dsdx, double dtdx, double dsdy, double dtdy, float *out, size_t room,
-                                     texcache_answer *answer)
-{
-    const texcache_results results = {sizeof results, TEXCACHE_FLOAT, room, out, NULL, NULL};
-    const texcache_coordinates at = {&s, &t, &dsdx, &dtdx, &dsdy, &dtdy, 1};
-    return texc_results(pass, file, options, &at, 1, &results, NULL, answer);
 }

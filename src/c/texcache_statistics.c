@@ -264,11 +264,12 @@ static const char *const texc_forms[] = {"-", "strips", "tiles"};
 static void texc_put_text_line(texc_text *text, const texc_line *line, const char *name)
 {
     const texc_tally *t = &line->tally;
+    const texcache_info *info = &line->info;
     texc_put(text, "%7" PRIu64 " %9" PRIu64 " %13" PRIu64 " %13" PRIu64 " %8" PRIu32 " %7" PRIu64, t->opens, t->reads,
              t->bytes, t->again, line->generation, line->errors);
     if (line->code) texc_put(text, "%29s  ", "-");
-    else texc_put(text, " %6" PRIu32 "x%-6" PRIu32 " %3" PRIu32 "/%-3" PRIu32 " %-6s  ", line->info.width, line->info.height,
-                  line->info.stored, line->info.levels, texc_forms[line->form]);
+    else texc_put(text, " %6" PRIu32 "x%-6" PRIu32 " %3" PRIu32 "/%-3" PRIu32 " %-6s  ", info->width, info->height,
+                  info->stored, info->levels, texc_forms[line->form]);
     texc_put_name(text, name);
     texc_put(text, "  ");
     texc_put_remark(text, line, name);
@@ -384,8 +385,8 @@ static int texc_statistics(texc_puts *put, texcache *cache, uint32_t level, texc
 {
     texc_report report;
     if (needed) *needed = 0;
-    if (!cache || (!text->to && text->room))
-        return texc_refuse(texc_keep(TEXCACHE_BAD_ARGUMENT, cache ? "buffer is NULL, and room is not 0" : "cache is NULL"), NULL);
+    const char *wrong = !cache ? "cache is NULL" : !text->to && text->room ? "buffer is NULL, and room is not 0" : NULL;
+    if (wrong) return texc_refuse(texc_keep(TEXCACHE_BAD_ARGUMENT, wrong), NULL);
     if (text->room) text->to[0] = 0;
     if (cache->forks != texc_forks) return texc_refuse(texc_keep(TEXCACHE_FORKED, NULL), NULL);
     memset(&report, 0, sizeof report);

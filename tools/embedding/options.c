@@ -2,8 +2,10 @@
  * compared with those of a plain reader of the test's own images, and of formulas. */
 #define _XOPEN_SOURCE 700
 #include "images.h"
+#include <fcntl.h>
 #include <math.h>
 #include <pthread.h>
+#include <sys/stat.h>
 #include <time.h>
 #include <unistd.h>
 
@@ -232,13 +234,19 @@ static unsigned ramp(unsigned x, unsigned y, unsigned channel)
     return channel == 0 ? 4 * x : channel == 1 ? 3 * y : 77;
 }
 
+static unsigned edge(unsigned x, unsigned y, unsigned channel)
+{
+    (void)x, (void)channel;
+    return y < 16 ? 0 : 200;
+}
+
 /* On a ramp they are its slope; a channel that the file lacks, or one of one value, has none. */
 static void slopes(void)
 {
     enum { COUNT = 100 };
     static double s[COUNT], t[COUNT], round[COUNT], none[COUNT];
     static float values[5 * COUNT], ds[5 * COUNT], dt[5 * COUNT];
-    uint32_t file = file_of(cache, "ramp.tif"), noisy = file_of(cache, "noise.tif");
+    uint32_t file = file_of(cache, "ramp.tif"), noisy = file_of(cache, "noise.tif"), half = file_of(cache, "half.tif");
     texcache_texture_options o = texcache_default_texture_options(5);
     texcache_coordinates at = {s, t, NULL, NULL, NULL, NULL, 1};
     texcache_results r = {sizeof r, TEXCACHE_FLOAT, 5 * COUNT, values, ds, dt};
@@ -248,18 +256,21 @@ static void slopes(void)
         s[n] = 0.25 + 0.5 * random_number(), t[n] = 0.25 + 0.5 * random_number();
         round[n] = 4.0 / SIDE, none[n] = 0;
     }
-    for (int kind = 0; kind < 2; kind++) {
-        SAYS(texcache_texture_results(pass, file, &o, &at, COUNT, &r, &done, NULL), TEXCACHE_OK);
+    for (int kind = 0; kind < 4; kind++) {
+        /* points, then footprints; on 64 by 64 texels, then on 64 by 32 */
+        int height = kind < 2 ? SIDE : SIDE / 2;
+        at.dsdx = kind % 2 ? round : NULL, at.dtdy = at.dsdx;
+        at.dtdx = kind % 2 ? none : NULL, at.dsdy = at.dtdx;
+        SAYS(texcache_texture_results(pass, kind < 2 ? file : half, &o, &at, COUNT, &r, &done, NULL), TEXCACHE_OK);
         IS(done == COUNT);
         for (int n = 0; n < COUNT; n++) {
             /* a value is rounded to 1/65535, and so is each side */
             double error = 1.001 * SIDE / 65535;
             IS(fabs(ds[5 * n] - 4.0 * SIDE / 255) < error && fabs(dt[5 * n]) < error);
-            IS(fabs(dt[5 * n + 1] - 3.0 * SIDE / 255) < error && fabs(ds[5 * n + 1]) < error);
+            IS(fabs(dt[5 * n + 1] - 3.0 * height / 255) < error && fabs(ds[5 * n + 1]) < error);
             IS(ds[5 * n + 2] == 0 && dt[5 * n + 2] == 0 && ds[5 * n + 3] == 0 && values[5 * n + 4] == 0.5f && dt[5 * n + 4] == 0);
             IS(fabs(values[5 * n] - (s[n] * SIDE - 0.5) * 4 / 255) < 2.0 / 255);
         }
-        at.dsdx = round, at.dtdx = none, at.dsdy = none, at.dtdy = round;
     }
     /* on noise: the difference of the bilinear values half a texel of the level before and behind */
     for (int level = 0; level < 3; level++) {
@@ -276,6 +287,10 @@ static void slopes(void)
             IS(ds[n] == (float)(across / (2 * reach * 65535)) && dt[n] == (float)(below / (2 * reach * 65535)));
         }
     }
+    /* beside an edge, in an image of 64 by 32: a quarter of a texel behind it, the sides are 50 and 200 of 255 */
+    s[0] = 0.5, t[0] = 16.25 / 32, o.lod = 0;
+    SAYS(texcache_texture_results(pass, file_of(cache, "edge.tif"), &o, &at, 1, &r, &done, NULL), TEXCACHE_OK);
+    IS(fabs(dt[0] - 150 / 255.0 * 32) < 1.001 * 32 / 65535 && ds[0] == 0);
     /* at the end of the range, where one side is missing, and with a reach of many images */
     s[0] = -32768, t[0] = 32768 - 1 / 4294967296.0;
     SAYS(texcache_texture_results(pass, file, &o, &at, 1, &r, &done, NULL), TEXCACHE_OK);
@@ -403,6 +418,29 @@ static void many(void)
     }
 }
 
+/* ---- a file with other channels, and the length and time of the one before, which force alone notices */
+
+static void forced(void)
+{
+    const image grey = {16, 16, 1, 0, 0, two}, wide = {24, 16, 1, 0, 0, two}, colour = {8, 16, 3, 0, 0, two};
+    texcache_texture_options o = texcache_default_texture_options(3);
+    const struct timespec times[2] = {{1000000000, 5}, {1000000000, 5}};
+    char path[4096];
+    uint16_t out[3];
+    texcache_answer a;
+    uint32_t file = file_of(cache, "forced.tif");
+    snprintf(path, sizeof path, "%s/forced.tif", folder);
+    put_image(folder, "forced.tif", grey);
+    o.fill = 1;
+    for (int n = 0; n < 4; n++) {
+        put_image(folder, "forced.tif", n % 2 ? colour : wide);
+        if (utimensat(AT_FDCWD, path, times, 0)) exit(2);
+        SAYS(texcache_invalidate(pass, file, true, NULL), TEXCACHE_OK);
+        SAYS(texcache_texture(pass, file, &o, 0.5, 0.5, out, 3, &a), TEXCACHE_OK);
+        IS(out[0] == 25700 && out[1] == (n % 2 ? 51400 : 65535) && out[2] == (n % 2 ? 51400 : 65535));
+    }
+}
+
 /* ---- files that are replaced, by ones with other channels: no answer mixes them */
 
 static int ends;
@@ -458,8 +496,9 @@ int main(int count, char **words)
 {
     static const struct { const char *name; image image; } images[] = {
         {"noise.tif", {SIDE, SIDE, CHANNELS, 16, 0, noise}}, {"one.tif", {8, 8, 1, 0, 0, two}}, {"two.tif", {8, 8, 2, 0, 0, two}},
-        {"three.tif", {8, 8, 3, 0, 0, two}}, {"ramp.tif", {SIDE, SIDE, 3, 0, 0, ramp}}, {"packed.tif", {8, 8, 3, 0, 8, two}},
-        {"gone.tif", {8, 8, 3, 0, 0, two}}, {"changes.tif", {200, 100, 1, 16, 0, value_of}}};
+        {"three.tif", {8, 8, 3, 0, 0, two}}, {"ramp.tif", {SIDE, SIDE, 3, 0, 0, ramp}}, {"half.tif", {SIDE, SIDE / 2, 3, 16, 0, ramp}}, {"edge.tif", {SIDE, 32, 1, 16, 0, edge}},
+        {"packed.tif", {8, 8, 3, 0, 8, two}},
+        {"gone.tif", {8, 8, 3, 0, 0, two}}, {"forced.tif", {16, 16, 1, 0, 0, two}}, {"changes.tif", {200, 100, 1, 16, 0, value_of}}};
     char gone[4096];
     if (count != 2) return 2;
     folder = words[1];
@@ -477,6 +516,7 @@ int main(int count, char **words)
     missing();
     bad_use();
     many();
+    forced();
     replaced();
     SAYS(texcache_close(&cache), TEXCACHE_OK);
     printf("%d failed\n", failures);

@@ -138,7 +138,9 @@ static void refuses(texcache_pass *pass, int status)
     texcache_lookup r = texcache_lookup_at(0, 0, 0, 1);
     texcache_region region = {0, 0, 0, 1, 1};
     texcache_coordinates at = {&o.lod, &o.lod, NULL, NULL, NULL, NULL, 1};
-    texcache_answer a[11];
+    texcache_answer a[14];
+    float real = 77;
+    texcache_results to = {sizeof to, TEXCACHE_FLOAT, 1, &real, NULL, NULL};
     texcache_info info;
     texcache_tile tile;
     texcache_statistics stats;
@@ -150,6 +152,9 @@ static void refuses(texcache_pass *pass, int status)
     SAYS(texcache_texture(pass, file, &o, 0, 0, &out, 1, &a[i++]), status);
     SAYS(texcache_texture_footprint(pass, file, &o, 0, 0, 0, 0, 0, 0, &out, 1, &a[i++]), status);
     SAYS(texcache_texture_many(pass, file, &o, &at, 1, &out, 1, &done, &a[i++]), status);
+    SAYS(texcache_texture_float(pass, file, &o, 0, 0, &real, 1, &a[i++]), status);
+    SAYS(texcache_texture_footprint_float(pass, file, &o, 0, 0, 0, 0, 0, 0, &real, 1, &a[i++]), status);
+    SAYS(texcache_texture_results(pass, file, &o, &at, 1, &to, &done, &a[i++]), status);
     SAYS(texcache_texture_fixed(pass, file, &r, &out, 1, &a[i++]), status);
     SAYS(texcache_texture_d_fixed(pass, file, &r, &out, 1, &a[i++]), status);
     SAYS(texcache_texture_local_fixed(pass, file, &r, &out, 1, &a[i++]), status);
@@ -164,7 +169,7 @@ static void refuses(texcache_pass *pass, int status)
     SAYS(texcache_stats(pass, &stats), status);
     SAYS(texcache_shard_stats(pass, 0, &shard), status);
     SAYS(texcache_end(&pass), status);
-    IS(out == 77 && done == 0);
+    IS(out == 77 && real == 77 && done == 0);
 }
 
 /* NULL in place of each argument. */
@@ -259,6 +264,36 @@ static void two_in_one_pass(void)
     SAYS(texcache_end(&pass), TEXCACHE_OK);
 }
 
+/* ---- a cache that is closed while another thread looks up */
+
+static void *looks_up_long(void *given)
+{
+    enum { COUNT = 400000 };
+    double *numbers = calloc(COUNT, sizeof *numbers);
+    uint16_t *out = calloc(COUNT, sizeof *out);
+    texcache_texture_options o = texcache_default_texture_options(1);
+    texcache_coordinates at = {numbers, numbers, NULL, NULL, NULL, NULL, 1};
+    texcache_pass *pass;
+    SAYS(texcache_this_thread(cache, &pass), TEXCACHE_OK);
+    __atomic_store_n((texcache_pass **)given, pass, __ATOMIC_RELEASE);
+    SAYS(texcache_texture_many(pass, file, &o, &at, COUNT, out, COUNT, NULL, NULL), TEXCACHE_OK);
+    free(numbers);
+    free(out);
+    return NULL;
+}
+
+static void close_under_a_call(void)
+{
+    texcache_pass *pass = NULL, *own;
+    pthread_t id;
+    SAYS(texcache_this_thread(cache, &own), TEXCACHE_OK);
+    if (pthread_create(&id, NULL, looks_up_long, &pass)) exit(2);
+    while (!__atomic_load_n(&pass, __ATOMIC_ACQUIRE) || !__atomic_load_n(&pass->lookups, __ATOMIC_RELAXED)) {}
+    SAYS(texcache_close(&cache), TEXCACHE_PASSES_LEFT);
+    SAYS(looks_up(own), TEXCACHE_OK);
+    pthread_join(id, NULL);
+}
+
 /* ---- waiting */
 
 static double seconds(clockid_t clock)
@@ -334,6 +369,7 @@ int main(int count, char **words)
     threads();
     ended_passes();
     two_in_one_pass();
+    close_under_a_call();
     waits();
     fork_it(words[1]);
     /* the main thread's own pass ends with the cache */

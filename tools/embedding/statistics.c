@@ -9,7 +9,7 @@
 #include <time.h>
 #include <unistd.h>
 
-enum { THREADS = 4, LOOKUPS = 4000, TEXT = 1 << 20 };
+enum { THREADS = 4, LOOKUPS = 1600, TEXT = 1 << 20 };
 
 /* What went through the calls of the system, but for those of a report, which looks whether a file has strips. */
 static __thread bool reports;
@@ -123,7 +123,7 @@ static void threads(void)
     for (int round = 0; round < 2; round++) {
         for (int i = 0; i < THREADS; i++)
             if (pthread_create(&ids[i], NULL, looks_up, i % 2 ? "tiled.tif" : "stripped.tif")) exit(2);
-        for (int n = 0; n < 200; n++) report("tiled.tif");
+        for (int n = 0; n < 60; n++) report("tiled.tif");
         for (int i = 0; i < THREADS; i++) pthread_join(ids[i], NULL);
         report("tiled.tif");
         IS(number_at(json, "lookups") == (uint64_t)(round + 1) * THREADS * LOOKUPS);

@@ -3,10 +3,10 @@
 The demo's list and the stored run of texcache are answered by 1 and by 8 threads. Each answer must be the line of
 expected.txt or of the run's stdout; requests for UDIM textures are left out, because the library does not have them.
 Each thread needs the same cells as the program's worker. Then come wrong calls, passes, threads and forks, open files,
-lookups on doubles, files that are replaced while they are read, and the renderer's picture, which must be the same for
-1 and 8 threads. All but the picture also run under valgrind and with the compiler's sanitizers, of addresses, of
-undefined behaviour and of threads, which then see the C part too. `tools/check fine` tests which values lookups on
-doubles have.
+lookups on doubles, their options and the types of results, errors in words, statistics, files that are replaced while
+they are read, and the renderer's picture, which must be the same for 1 and 8 threads. All but the picture also run
+under valgrind and with the compiler's sanitizers, of addresses, of undefined behaviour and of threads, which then see
+the C part too. `tools/check fine` tests which values lookups on doubles have.
 """
 import os
 import shutil
@@ -39,6 +39,8 @@ OVER_FOLDERS = [("bad_use", "bad use and bad input", INSIDE, []),
                 ("options", "options of lookups, and types of results", ["-std=c99"], []),
                 ("statistics", "statistics", ["-std=c99", WRAP_INPUT], []),
                 ("replaced", "files that are replaced while they are read", ["-std=c99"], ["8", "4000"])]
+# each test in C++ over the demo, and what it is about
+IN_CXX = [("lookups", "lookups on doubles"), ("calls", "all calls, by exceptions and by error codes")]
 
 
 def lists():
@@ -112,6 +114,10 @@ class Tests:
             status, text = said([*before, self.made / name, folder, *arguments], seconds=600, **more)
             self.say(status == 0, what, text)
 
+    def over_the_demo(self, what, name, before=(), **more):
+        status, text = said([*before, self.made / name, TOP / "demo"], seconds=600, **more)
+        self.say(status == 0, what, text)
+
     def in_c(self):
         if self.built("lines", HERE / "lines.c", "-std=c99", "-Wpedantic"):
             for name, *one in lists():
@@ -158,9 +164,9 @@ class Tests:
             for name, *one in lists():
                 self.compare(f"C++, {name}", [self.made / "lines_cpp"], *one)
         for standard in ("c++14", "c++17", "c++20"):
-            if self.built("lookups_cpp", HERE / "lookups.cpp", f"-std={standard}", "-Wpedantic", compiler=self.cxx):
-                status, text = said([self.made / "lookups_cpp", TOP / "demo"])
-                self.say(status == 0, f"C++, lookups on doubles, {standard}", text)
+            for name, what in IN_CXX:
+                if self.built(f"{name}_cpp", HERE / f"{name}.cpp", f"-std={standard}", "-Wpedantic", compiler=self.cxx):
+                    self.over_the_demo(f"C++, {what}, {standard}", f"{name}_cpp")
 
     def in_python(self):
         more = {"env": {**os.environ, "TEXCACHE_LIBRARY": str(self.shared)}}
@@ -189,6 +195,8 @@ class Tests:
             self.compare(f"valgrind, {name}, {threads} threads", [*grind, self.made / "lines"], *one, threads)
         for name, what, _, words in OVER_FOLDERS:
             self.over_a_folder(f"valgrind, {what}", name, *(["4", "1500"] if words else []), before=grind)
+        for name, what in IN_CXX if self.cxx else ():
+            self.over_the_demo(f"valgrind, C++, {what}", f"{name}_cpp", before=grind)
 
     def sanitized(self, kind, flags, over, **more):
         """The tests, built with the C part by a sanitizer, over a library that it does not see."""
@@ -199,6 +207,22 @@ class Tests:
         for name, what, own, words in OVER_FOLDERS:
             if self.built(f"{name}_{kind}", HERE / f"{name}.c", *flags, *own, over=[*c_files(), *over]):
                 self.over_a_folder(f"{kind}, {what}", f"{name}_{kind}", *(["8", "3000"] if words else []), **more)
+        if self.cxx:
+            self.sanitized_cxx(kind, flags, over, **more)
+
+    def sanitized_cxx(self, kind, flags, over, **more):
+        """The tests in C++, linked with the C part as a C compiler made it."""
+        objects = [self.made / f"{it.stem}_{kind}.o" for it in c_files()]
+        for source, target in zip(c_files(), objects):
+            status, text = said([self.cc, *FLAGS, *flags, "-c", "-o", target, source], seconds=600)
+            if status or text:
+                self.say(False, f"building {target.name}", text or f"status {status}")
+                return
+        own = [it for it in flags if it.startswith(("-f", "-g"))]
+        for name, what in IN_CXX:
+            if self.built(f"{name}_cpp_{kind}", HERE / f"{name}.cpp", "-std=c++17", *own, compiler=self.cxx,
+                          over=[*objects, *over]):
+                self.over_the_demo(f"{kind}, C++, {what}", f"{name}_cpp_{kind}", **more)
 
     def with_addresses(self):
         flags = ["-fsanitize=address,undefined", "-fno-sanitize-recover=all"]
@@ -221,6 +245,8 @@ class Tests:
             if self.built("replaced_user", HERE / "replaced.c", "-fsanitize=thread", "-g", over=over):
                 self.over_a_folder(f"races, the {what} with tsan.supp, files that are replaced", "replaced_user", "8",
                                    "2000", **installed)
+            if self.built("options_user", HERE / "options.c", "-std=c99", "-fsanitize=thread", "-g", over=over):
+                self.over_a_folder(f"races, the {what} with tsan.supp, options", "options_user", **installed)
 
     def picture(self, what, name, folder, *more):
         """The picture of a run of the renderer."""

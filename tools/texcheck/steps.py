@@ -75,6 +75,7 @@ def steps(args, programs, library):
         ("bridge", "--library", library, *skip),
         ("package", *skip),
         ("interface", "--library", library, *skip),
+        ("fault-words",),
         ("beside-oiio", "--library", library, *skip),
         ("lists", "--program", texcache, "--texsample", texsample),
         ("failed-allocations", "--program", texcache, *skip),

@@ -16,7 +16,8 @@ PACKED = (LIBRARY, *PROGRAMS)
 SHARED = "libtexcache.so.1"
 # the tools for people, which need no toolchain
 TOOLS = ("prepare.py", "explain.py", "folder_info.py", "uv.py", "hit_curve.py")
-DOCUMENTS = ("INSTALL", "EMBEDDING", "OIIO", "REQUESTS", "TEXTURES", "PICTURES", "FILTERING", "FORMAT", "CACHE", "GLOSSARY")
+DOCUMENTS = ("INSTALL", "EMBEDDING", "OIIO", "OPTIONS", "SUPPLY", "REQUESTS", "TEXTURES", "PICTURES", "FILTERING", "FORMAT",
+             "CACHE", "GLOSSARY")
 # what makes a wheel of the Python package
 PYTHON = ("pyproject.toml", "setup.py")
 # the modules that the wrappers and tools import; none of these needs the toolchain
