@@ -127,6 +127,10 @@ class Package:
         words = ["sh", "-c", 'cc -Wall -Wextra -Werror "$0" -o "$1" $2 $(pkg-config --cflags --libs texcache)']
         if self.does("building the example in C", [*words, examples / "lookup.c", top / "lookup", ""], ""):
             self.does("the example in C", [top / "lookup", demo, "bricks.tif"], f"{self.parts.version}: {MIDDLE}\n")
+        words_cpp = ["sh", "-c", 'c++ -std=c++17 -Wall -Wextra -Werror "$0" -o "$1" $(pkg-config --cflags --libs texcache)']
+        if not self.skips.lacks(None if shutil.which("c++") else "a C++ compiler", "the example for OpenImageIO users"):
+            self.does("building the example for OpenImageIO users", [*words_cpp, examples / "picture.cpp", top / "picture"], "")
+            self.does("it starts", [top / "picture"], "usage: picture", 2)
         other = top / "other" / "texcache.h"
         other.parent.mkdir()
         text = (top / "include" / "texcache.h").read_text(encoding="utf-8")

@@ -172,7 +172,7 @@ def put_documents(parts, to):
         copied_to(TOP / name, doc / name)
     for name in DOCUMENTS:
         copied_to(TOP / "docs" / f"{name}.md", doc / "docs" / f"{name}.md")
-    for it in sorted((TOP / "examples" / "lookup").iterdir()):
+    for it in (*sorted((TOP / "examples" / "lookup").iterdir()), *sorted((TOP / "examples" / "bridge").iterdir())):
         if it.is_file():
             copied_to(it, doc / "examples" / it.name)
     for it in [*sorted((TOP / "demo").glob("*.tif")), TOP / "demo" / "requests.txt", TOP / "demo" / "expected.txt"]:
