@@ -16,15 +16,15 @@ many lookups take and give lists. help(texcache.Pass) has the lookups.
 
 The library is libtexcache.so in this package, or the one that TEXCACHE_LIBRARY names.
 """
-from ._arrays import numpy
+from ._arrays import numpy as numpy
 from ._cache import OPTIONS, Cache, Closed, Pass, Refused
 from ._library import version
 from ._structs import (BAD_OPTIONS, BAD_REQUEST, CLOSED, NOT_LOCAL, OK, SMALL_BUFFER, Answer, Counts, Filter, Info,
                        Shard, Statistics, Tile, Wrap)
 from ._version import VERSION
 
-BLACK, CLAMP, PERIODIC, MIRROR = Wrap
-CLOSEST, BILINEAR, TRILINEAR = Filter
+BLACK, CLAMP, PERIODIC, MIRROR = Wrap.BLACK, Wrap.CLAMP, Wrap.PERIODIC, Wrap.MIRROR
+CLOSEST, BILINEAR, TRILINEAR = Filter.CLOSEST, Filter.BILINEAR, Filter.TRILINEAR
 
 __version__ = VERSION
 __all__ = ["Cache", "Pass", "Refused", "Closed", "Wrap", "BLACK", "CLAMP", "PERIODIC", "MIRROR", "Filter", "CLOSEST",

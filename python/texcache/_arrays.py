@@ -48,7 +48,7 @@ class Columns:
         self.count = prod(self.shape)
 
     @staticmethod
-    def _listed(name: str, numbers: Any) -> array:
+    def _listed(name: str, numbers: Any) -> Any:
         if isinstance(numbers, array) and numbers.typecode == "d":
             return numbers
         try:
@@ -61,7 +61,7 @@ class Columns:
 
     def _common(self, names: Sequence[str]) -> Shape:
         """The shape of all; what has another one is repeated, if numpy can."""
-        shape = self.kept[0].shape
+        shape: Shape = self.kept[0].shape
         if any(it.shape != shape for it in self.kept):
             try:
                 shape = numpy.broadcast_shapes(*(it.shape for it in self.kept))
@@ -111,7 +111,7 @@ class Values:
     @property
     def place(self) -> int:
         """Where C writes."""
-        return self.kept.ctypes.data if numpy else self.kept.buffer_info()[0]
+        return int(self.kept.ctypes.data if numpy else self.kept.buffer_info()[0])
 
     def all(self) -> Any:
         """The values: `out` if there is one; an array; without numpy a list of lists."""
@@ -128,7 +128,7 @@ class Values:
             return self._rows(count * self.shape[-1])
         return self.kept.reshape(-1, self.shape[-1])[:count]
 
-    def _rows(self, count: int) -> List[list]:
+    def _rows(self, count: int) -> List[List[Any]]:
         channels, values = self.shape[-1], self.kept.tolist()
         return [values[at:at + channels] for at in range(0, count, channels)]
 

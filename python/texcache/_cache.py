@@ -119,7 +119,7 @@ class Cache:
         state = f"{lib.texcache_file_count(self._at)} files" if self._at else "closed"
         return f"<texcache.Cache of {os.fsdecode(self._folder)!r}, {state}>"
 
-    def _open(self) -> c_void_p:
+    def _open(self) -> Any:
         if not self._at:
             raise Closed("the cache is closed")
         return self._at
@@ -148,7 +148,7 @@ class Cache:
 
     def __len__(self) -> int:
         """How many files the folder has."""
-        return lib.texcache_file_count(self._open())
+        return int(lib.texcache_file_count(self._open()))
 
     def find(self, name: Union[str, bytes, "os.PathLike[Any]"]) -> int:
         """The number of the file of this name."""
@@ -175,7 +175,8 @@ class Cache:
 
     def statistics_json(self, level: int = 1) -> Dict[str, Any]:
         """The numbers of `statistics`, as a dictionary."""
-        return json.loads(self._report(lib.texcache_statistics_json, level))
+        found: Dict[str, Any] = json.loads(self._report(lib.texcache_statistics_json, level))
+        return found
 
     def new_pass(self) -> "Pass":
         """A new pass, for one thread at a time, which you end. It is a context: `with cache.new_pass() as textures`."""
@@ -231,7 +232,7 @@ class Pass:
     def __repr__(self) -> str:
         return f"<texcache.Pass of {os.fsdecode(self._cache._folder)!r}{'' if self._at else ', ended'}>"
 
-    def _open(self) -> c_void_p:
+    def _open(self) -> Any:
         if not self._at:
             raise Closed("the pass has ended" if self._cache._at else "the cache is closed")
         return self._at
@@ -278,7 +279,7 @@ class Pass:
         return values.all()
 
     def _one(self, calls: Sequence[Any], file: int, options: TextureOptions, numbers: Sequence[float], floats: bool) -> Found:
-        values = (c_float * 8)() if floats else (c_uint16 * 8)()
+        values: Any = (c_float * 8)() if floats else (c_uint16 * 8)()
         self._called(calls[floats], file, byref(options), *numbers, values, 8)
         return values[:options.channels]
 

@@ -104,4 +104,4 @@ open_cache = getattr(lib, OPEN)
 
 def version() -> str:
     """The version of the library, with +unproved behind it if nobody proved it."""
-    return lib.texcache_version().decode()
+    return str(lib.texcache_version().decode())

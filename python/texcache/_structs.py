@@ -11,7 +11,7 @@ from ctypes import POINTER, c_bool, c_double, c_float, c_int32, c_size_t, c_uint
 from difflib import get_close_matches
 from enum import IntEnum
 from functools import lru_cache
-from typing import Any, Sequence
+from typing import Any, Dict, Sequence
 
 
 class Wrap(IntEnum):
@@ -232,7 +232,7 @@ def _made_options(swrap: Any, twrap: Any, channels: Any, by: Any, lod: Any, max_
 _kept_options = lru_cache(maxsize=256, typed=True)(_made_options)
 
 
-def _with_more(made: TextureOptions, more: dict) -> TextureOptions:
+def _with_more(made: TextureOptions, more: Dict[str, Any]) -> TextureOptions:
     """The options with those of MORE that are not the default."""
     made.first_channel = unsigned("first_channel", more["first_channel"])
     made.lod_bias = real("lod_bias", more["lod_bias"])
@@ -250,7 +250,7 @@ def _with_more(made: TextureOptions, more: dict) -> TextureOptions:
     return made
 
 
-def texture_options(words: Sequence[Any], more: dict) -> TextureOptions:
+def texture_options(words: Sequence[Any], more: Dict[str, Any]) -> TextureOptions:
     """The options of these numbers: swrap, twrap, channels, filter, lod, max_probes; and of `more`. Nobody may change
     them."""
     for name in more:
