@@ -282,6 +282,12 @@ TEXC_INLINE const char *texc_wrong_coordinates(const texcache_coordinates *at)
     return NULL;
 }
 
+/* A value as a float from 0 to 1. */
+TEXC_INLINE float texc_float(uint16_t value)
+{
+    return (float)value / 65535.0f;
+}
+
 /* Counts lookups of a pass, in which a call runs. Other threads read the number. */
 TEXC_INLINE void texc_count_lookups(texcache_pass *pass, size_t count)
 {

@@ -17,12 +17,12 @@ texcache_texture_options texcache_default_texture_options(uint32_t channels)
 
 float texcache_float(uint16_t value)
 {
-    return (float)value / 65535.0f;
+    return texc_float(value);
 }
 
 void texcache_floats(const uint16_t *values, size_t count, float *out)
 {
-    for (size_t i = 0; i < count; i++) out[i] = texcache_float(values[i]);
+    for (size_t i = 0; i < count; i++) out[i] = texc_float(values[i]);
 }
 
 /* Which number of the options is out of range, and that number; or 0. */

@@ -80,7 +80,7 @@ static void texc_write_values(const texc_job *job, size_t lookup, const uint16_t
         uint8_t channel = job->channels[i];
         if (channel == TEXC_MISSING) texc_write(job->results, at + i, o->first_channel + i == 3 ? o->fill_alpha : o->fill);
         else if (job->results->type == TEXCACHE_UINT16) ((uint16_t *)job->results->values)[at + i] = raw[channel];
-        else texc_write(job->results, at + i, texcache_float(raw[channel]));
+        else texc_write(job->results, at + i, texc_float(raw[channel]));
     }
 }
 
@@ -143,19 +143,19 @@ static void texc_reshape(const texc_job *job, double d[4])
 
 /* ---- places */
 
-/* The numbers of a lookup; without derivatives the last four are 0. */
+/* The numbers of a lookup: two, or with derivatives six. */
 static void texc_numbers(const texc_job *job, size_t lookup, double d[6])
 {
     const texcache_coordinates *at = job->at;
     const size_t k = lookup * at->step;
-    memset(d, 0, 6 * sizeof *d);
     d[0] = at->s[k], d[1] = at->t[k];
     if (!at->dsdx) return;
     d[2] = at->dsdx[k], d[3] = at->dtdx[k], d[4] = at->dsdy[k], d[5] = at->dtdy[k];
     texc_reshape(job, d + 2);
 }
 
-/* Converts the numbers of a lookup. Returns how many are in range before the first that is not, 6 if all are. */
+/* Converts the numbers of a lookup. Returns how many are in range before the first that is not, 6 if all are. Without
+ * derivatives these are 0. */
 static int texc_convert(const double d[6], bool is_footprint, texcache_place *place)
 {
     const int64_t side = INT64_C(1) << 46, least = is_footprint ? -side : -2 * side;

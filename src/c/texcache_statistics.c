@@ -9,8 +9,8 @@
 #include <sys/resource.h>
 #include <unistd.h>
 
-/* How often a pass or shard that is busy is tried. Then its older counts are taken, or none. */
-#define TEXC_COUNTS 100
+/* How often a pass or shard that is busy is tried, in some five milliseconds. Then its older counts are taken, or none. */
+#define TEXC_COUNTS 48
 /* The most entries of a directory that are read. */
 #define TEXC_ENTRIES 1000
 
@@ -254,7 +254,7 @@ static void texc_put_remark(texc_text *text, const texc_line *line, const char *
 /* Adds the error of a file that is not accepted. */
 static void texc_put_refusal(texc_text *text, const texc_line *line, const char *name)
 {
-    if (line->code && line->code != TEXCACHE_NEEDED) texc_put_error(text, line->code, &line->answer, name);
+    if (texc_is_of_file(line->code)) texc_put_error(text, line->code, &line->answer, name);
 }
 
 /* ---- text */
