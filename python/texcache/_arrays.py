@@ -8,7 +8,7 @@ from typing import Any, List, Sequence, Tuple
 from ._structs import FLOAT, HALF, UINT16
 
 try:
-    import numpy
+    import numpy as numpy
 except ImportError:
     numpy = None  # type: ignore[assignment]
 
