@@ -129,7 +129,7 @@ def main():
     parser.add_argument("--library", type=Path, help="the library; else the proved one if it is up to date, or an unproved build")
     parser.add_argument("--passes", type=int, default=5)
     parser.add_argument("--lookups", type=int, default=2000000)
-    parser.add_argument("--no-instructions", action="store_true", help="count no instructions, which takes a minute")
+    parser.add_argument("--no-instructions", action="store_true", help="count no instructions, which takes some minutes")
     args = parser.parse_args()
     from texcheck.archive import archive_of
     if args.library and not args.library.is_file():
