@@ -1,7 +1,6 @@
 """Caches and passes: the calls of texcache.h as methods."""
 from __future__ import annotations
 
-import difflib
 import json
 import os
 import threading
@@ -95,11 +94,7 @@ class Cache:
 
     def __init__(self, folder: Union[str, bytes, "os.PathLike[Any]"], *, budget: Optional[int] = None,
                  shards: Optional[int] = None, passes: Optional[int] = None, handles: Optional[int] = None,
-                 autotile: Optional[int] = None, slots: Optional[int] = None, automip: Optional[bool] = None,
-                 **unknown: Any) -> None:
-        for name in unknown:
-            near = difflib.get_close_matches(name, OPTIONS, 1)
-            raise TypeError(f"a cache has no option {name}" + (f"; is it {near[0]}?" if near else f": {', '.join(OPTIONS)}"))
+                 autotile: Optional[int] = None, slots: Optional[int] = None, automip: Optional[bool] = None) -> None:
         options = lib.texcache_default_options()
         if budget is not None:
             options.budget = whole("budget", budget, 0, 2 ** 64 - 1)
@@ -285,13 +280,15 @@ class Pass:
 
     def texture(self, file: int, s: Numbers, t: Numbers, lod: float = 0.0, swrap: int = Wrap.PERIODIC,
                 twrap: int = Wrap.PERIODIC, filter: int = Filter.BILINEAR, channels: int = 3, floats: bool = False,
-                *, out: Any = None, **more: Any) -> Found:
-        """The values at s and t, in level `lod` (0 is the largest), by CLOSEST, BILINEAR or TRILINEAR. Pass says what the
-        arguments are, and which others there are.
+                *, out: Any = None, first_channel: int = 0, fill: float = 0.0, fill_alpha: Optional[float] = None,
+                grey_to_rgb: bool = False, missing_color: Optional[Sequence[float]] = None, lod_bias: float = 0.0) -> Found:
+        """The values at s and t, in level `lod` (0 is the largest), by CLOSEST, BILINEAR or TRILINEAR. help(Pass) says what
+        the other arguments are.
 
         All values of a call are of one version of the file, answer.generation. If the call fails, `values` of the Refused
         has those of the first lookups, which are valid.
         """
+        more = (first_channel, fill, fill_alpha, grey_to_rgb, missing_color, lod_bias, 1.0, 0.0)
         options, file = texture_options((swrap, twrap, channels, filter, lod, 16), more), file_number(file)
         if out is None and isinstance(s, Real) and isinstance(t, Real):
             return self._one(ONE, file, options, (real("s", s), real("t", t)), flag("floats", floats))
@@ -299,12 +296,16 @@ class Pass:
 
     def texture_footprint(self, file: int, s: Numbers, t: Numbers, dsdx: Numbers, dtdx: Numbers, dsdy: Numbers,
                           dtdy: Numbers, max_probes: int = 16, swrap: int = Wrap.PERIODIC, twrap: int = Wrap.PERIODIC,
-                          channels: int = 3, floats: bool = False, *, out: Any = None, **more: Any) -> Found:
-        """The values over the footprints of pixels. Pass says what the arguments are, and which others there are.
+                          channels: int = 3, floats: bool = False, *, out: Any = None, first_channel: int = 0,
+                          fill: float = 0.0, fill_alpha: Optional[float] = None, grey_to_rgb: bool = False,
+                          missing_color: Optional[Sequence[float]] = None, lod_bias: float = 0.0,
+                          width: Union[float, Sequence[float]] = 1.0, blur: Union[float, Sequence[float]] = 0.0) -> Found:
+        """The values over the footprints of pixels. help(Pass) says what the other arguments are.
 
         The derivatives are those of s and t to the next pixel at the right (dsdx, dtdx) and to the one below (dsdy,
         dtdy). `max_probes` is the most probes over a footprint, 1 to 32.
         """
+        more = (first_channel, fill, fill_alpha, grey_to_rgb, missing_color, lod_bias, width, blur)
         options, file = texture_options((swrap, twrap, channels, 0, 0, max_probes), more), file_number(file)
         names, numbers = ("s", "t", "dsdx", "dtdx", "dsdy", "dtdy"), (s, t, dsdx, dtdx, dsdy, dtdy)
         if out is None and all(isinstance(it, Real) for it in numbers):

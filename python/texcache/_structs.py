@@ -8,10 +8,9 @@ from __future__ import annotations
 import ctypes
 import operator
 from ctypes import POINTER, c_bool, c_double, c_float, c_int32, c_size_t, c_uint32, c_uint64, c_void_p
-from difflib import get_close_matches
 from enum import IntEnum
 from functools import lru_cache
-from typing import Any, Dict, Sequence
+from typing import Any, Sequence
 
 
 class Wrap(IntEnum):
@@ -204,11 +203,8 @@ class Shard(Struct):
 
 # ---- options of lookups
 
-# the names of the arguments of lookups, for those who misspell one
-WORDS = ("lod", "swrap", "twrap", "filter", "channels", "floats", "out", "max_probes")
-# the options that a lookup has beside its filter, each with its default
-MORE = {"first_channel": 0, "lod_bias": 0.0, "fill": 0.0, "fill_alpha": None, "missing_color": None, "grey_to_rgb": False,
-        "width": 1.0, "blur": 0.0}
+# first_channel, fill, fill_alpha, grey_to_rgb, missing_color, lod_bias, width and blur of usual lookups
+USUAL = (0, 0.0, None, False, None, 0.0, 1.0, 0.0)
 
 
 def _pair(name: str, value: Any) -> Sequence[float]:
@@ -232,17 +228,22 @@ def _made_options(swrap: Any, twrap: Any, channels: Any, by: Any, lod: Any, max_
 _kept_options = lru_cache(maxsize=256, typed=True)(_made_options)
 
 
-def _with_more(made: TextureOptions, more: Dict[str, Any]) -> TextureOptions:
-    """The options with those of MORE that are not the default."""
-    made.first_channel = unsigned("first_channel", more["first_channel"])
-    made.lod_bias = real("lod_bias", more["lod_bias"])
-    made.fill = real("fill", more["fill"])
-    made.fill_alpha = made.fill if more["fill_alpha"] is None else real("fill_alpha", more["fill_alpha"])
-    made.grey_to_rgb = flag("grey_to_rgb", more["grey_to_rgb"])
-    made.swidth, made.twidth = _pair("width", more["width"])
-    made.sblur, made.tblur = _pair("blur", more["blur"])
-    if more["missing_color"] is not None:
-        color = [real("missing_color", it) for it in more["missing_color"]]
+def _with_more(made: TextureOptions, first_channel: Any, fill: Any, fill_alpha: Any, grey_to_rgb: Any, missing_color: Any,
+               lod_bias: Any, width: Any, blur: Any) -> TextureOptions:
+    """The options with those that are seldom given."""
+    made.first_channel = unsigned("first_channel", first_channel)
+    made.fill = real("fill", fill)
+    made.fill_alpha = made.fill if fill_alpha is None else real("fill_alpha", fill_alpha)
+    made.grey_to_rgb = flag("grey_to_rgb", grey_to_rgb)
+    made.lod_bias = real("lod_bias", lod_bias)
+    made.swidth, made.twidth = _pair("width", width)
+    made.sblur, made.tblur = _pair("blur", blur)
+    if missing_color is not None:
+        try:
+            values = list(missing_color)
+        except TypeError:
+            raise TypeError(f"missing_color is {missing_color!r}, and has to be a value for each channel") from None
+        color = [real("missing_color", it) for it in values]
         if len(color) < min(made.channels, 8):
             raise ValueError(f"missing_color has {len(color)} values for {made.channels} channels")
         # ctypes keeps the array as long as the struct
@@ -250,15 +251,19 @@ def _with_more(made: TextureOptions, more: Dict[str, Any]) -> TextureOptions:
     return made
 
 
-def texture_options(words: Sequence[Any], more: Dict[str, Any]) -> TextureOptions:
-    """The options of these numbers: swrap, twrap, channels, filter, lod, max_probes; and of `more`. Nobody may change
-    them."""
-    for name in more:
-        if name not in MORE:
-            near = get_close_matches(name, [*WORDS, *MORE], 1)
-            raise TypeError(f"a lookup has no option {name}" + (f"; is it {near[0]}?" if near else f": {', '.join(MORE)}"))
-    if more:
-        return _with_more(_made_options(*words), {**MORE, **more})
+def _is_usual(more: Sequence[Any]) -> bool:
+    try:
+        return more[4] is None and more == USUAL
+    except ValueError:
+        # arrays have no one answer
+        return False
+
+
+def texture_options(words: Sequence[Any], more: Sequence[Any]) -> TextureOptions:
+    """The options of these numbers: swrap, twrap, channels, filter, lod, max_probes; and of `more`, in the order of USUAL.
+    Nobody may change them."""
+    if not _is_usual(more):
+        return _with_more(_made_options(*words), *more)
     try:
         return _kept_options(*words)
     except TypeError:

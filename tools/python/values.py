@@ -86,6 +86,8 @@ def of_any_python(texcache, textures, file, picture, columns):
     yield lists(found) == wanted, "width"
     few = textures.texture_footprint(file, *columns, max_probes=5, channels=channels, **how)
     yield lists(few) == footprints(picture, columns, channels, 5), "max_probes"
+    blurred = textures.texture_footprint(file, *columns, channels=channels, blur=(0, 0.0), **how)
+    yield lists(blurred) == wanted, "no blur"
     more = textures.texture(file, *columns[:2], channels=8, fill=0.25, fill_alpha=0.5, floats=True, **how)
     yield all([it[c] for c in range(channels, 8)] == [0.5 if c == 3 else 0.25 for c in range(channels, 8)]
               for it in lists(more)), "fill"
@@ -120,6 +122,8 @@ def of_arrays(texcache, textures, file, picture, columns):
                 found = call(file, *numbers, out=out, **how)
                 is_so = np.abs(found.astype(float) - values.astype(float) / scale).max() <= most
                 yield found is out and is_so, f"out, {out.dtype}, {'' if out.flags.c_contiguous else 'not '}side by side"
+    pair = textures.texture_footprint(file, s, t, *(it / 2 for it in steps), width=np.array([2, 2]), **how)
+    yield (pair == over).all(), "a width for s and one for t"
     one = np.empty(picture.channels, np.float32)
     yield textures.texture(file, s[0, 0], t[0, 0], out=one, **how) is one and is_near([one], [wanted[0, 0]], 1e-7), "one, out"
     yield (textures.texture(file, s[::2, ::3], t[::2, ::3], **how) == wanted[::2, ::3]).all(), "a part of an array"
