@@ -9,6 +9,8 @@ import time
 
 # how many steps of a millisecond the other thread makes at least, while a call waits for some 60
 LEAST = 15
+# how often a call is tried: on a busy machine the other thread may not get a processor in that time
+TRIES = 20
 
 
 class Counter(threading.Thread):
@@ -46,21 +48,32 @@ def calls(texcache, folder):
     yield "invalidate_all", lambda textures, file: textures.invalidate_all()
 
 
+def steps_during(texcache, folder, named, slow, counter):
+    """How many steps the other thread makes while a call reads from a new cache."""
+    name, call = named
+    with texcache.Cache(folder) as cache, cache.new_pass() as textures:
+        file = cache.find("bricks.tif")
+        if name.startswith("invalidate"):
+            textures.info(file)
+        slow.value, before = 1, counter.count
+        call(textures, file)
+        slow.value = 0
+        return counter.count - before
+
+
 def main(texcache, folder):
     slow = ctypes.c_int.in_dll(ctypes.CDLL(None), "texcache_slow")
     counter, wrong, tried = Counter(), [], 0
     counter.start()
     for name, call in calls(texcache, folder):
-        with texcache.Cache(folder) as cache, cache.new_pass() as textures:
-            file = cache.find("bricks.tif")
-            if name.startswith("invalidate"):
-                textures.info(file)
-            slow.value, before = 1, counter.count
-            call(textures, file)
-            slow.value, steps = 0, counter.count - before
-            tried += 1
-            if steps < LEAST:
-                wrong.append(f"{name}: the other thread made {steps} steps")
+        tried += 1
+        most = 0
+        for _ in range(TRIES):
+            most = max(most, steps_during(texcache, folder, (name, call), slow, counter))
+            if most >= LEAST:
+                break
+        else:
+            wrong.append(f"{name}: the other thread made at most {most} steps")
     print(*wrong, f"{tried} calls, {len(wrong)} keep the lock", sep="\n")
     return 1 if wrong or tried != 15 else 0
 
