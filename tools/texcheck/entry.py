@@ -21,6 +21,7 @@ SUBCOMMANDS = {
     "embedding": "embedding",
     "python": "python_package",
     "bridge": "bridge",
+    "viewer": "viewer",
     "interface": "interface",
     "fault-words": "fault_words",
     "package": "package",

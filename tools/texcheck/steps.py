@@ -73,6 +73,7 @@ def steps(args, programs, library):
         ("fine", "--library", library, *(["--full"] if args.proved else []), *skip),
         ("python", "--library", library, *skip),
         ("bridge", "--library", library, *skip),
+        ("viewer", "--library", library, *skip),
         ("package", *skip),
         ("interface", "--library", library, *skip),
         ("fault-words",),
