@@ -190,7 +190,7 @@ def switches(tests, browser):
     choose(browser, "channel", "1")
     time.sleep(0.2)
     until(lambda: are_loaded(browser), 30)
-    at = place_of(browser, 2050.5, 1026.5)
+    at = place_of(browser, 1300, 700)
     pixel = browser.screenshot().getpixel(tuple(map(int, at)))
     tests.say(len(set(pixel)) == 1, "one channel is grey", pixel)
     choose(browser, "channel", "rgb")
