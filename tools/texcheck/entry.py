@@ -22,6 +22,7 @@ SUBCOMMANDS = {
     "python": "python_package",
     "bridge": "bridge",
     "viewer": "viewer",
+    "baker": "baker",
     "interface": "interface",
     "fault-words": "fault_words",
     "package": "package",

@@ -74,6 +74,7 @@ def steps(args, programs, library):
         ("python", "--library", library, *skip),
         ("bridge", "--library", library, *skip),
         ("viewer", "--library", library, *skip),
+        ("baker", "--program", texmake, "--library", library, *skip),
         ("package", *skip),
         ("interface", "--library", library, *skip),
         ("fault-words",),
