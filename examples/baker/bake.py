@@ -25,7 +25,6 @@ except ImportError as error:
     numpy, LACKING = None, error
 ROWS, TRIES = 32, 4    # the rows of a batch; how often a tile begins again if its image is replaced
 
-
 def batch(cache, file, shape, args, tile, top, out):
     """Fills some rows of a tile; returns the generation of the image that they were read from, 0 if they are empty."""
     size, (row, column) = args.size, divmod(tile - 1001, 10)

@@ -21,6 +21,8 @@ FILES = [Formula("rgb.tif", 700, 500, 3, 8, 64), Formula("deep.tif", 300, 200, 3
 SMOOTH, BLOCKS = Smooth("smooth.tif", 512, 512, 3, 8, 64), Blocks("blocks.tif", 128, 64, 3, 8, 64, levels=1)
 ODD = Formula("a b#ü%.tif", 40, 30, 3, 8, 16)
 ODD_ID = "a%20b%23%C3%BC%25.tif"
+# a name that is no UTF-8
+BYTES = Formula(os.fsdecode(b"odd\xff.tif"), 40, 30, 3, 8, 16)
 WRAPS = {"periodic": lambda it: it % 1, "mirror": lambda it: 1 - abs(it % 2 - 1),
          "clamp": lambda it: min(max(it, Fraction(0)), Fraction(1)), "black": lambda it: it if 0 <= it < 1 else None}
 
@@ -127,7 +129,7 @@ def values(tests, viewer):
 
 def facts(tests, viewer):
     found = {it["name"]: it for it in viewer.json("/api/files")["files"]}
-    tests.say(set(found) == {it.name for it in (*FILES, SMOOTH, BLOCKS, ODD)} | {"text.tif", "secret.tif"}, "the files", list(found))
+    tests.say(set(found) == {it.name for it in (*FILES, SMOOTH, BLOCKS, ODD, BYTES)} | {"text.tif", "secret.tif"}, "the files", list(found))
     it = found["deep.tif"]
     tests.say([it[key] for key in ("width", "height", "channels", "depth", "stored", "levels")] == [300, 200, 3, 16, 9, 9],
               "facts of a file", it)
@@ -139,6 +141,8 @@ def facts(tests, viewer):
     tests.say(status == 404 and b"no alpha" in body, "alpha of a file without one", body)
     status, headers, _ = viewer.get(f"/file/{ODD_ID}")
     tests.say(status == 200 and found[ODD.name]["id"] == ODD_ID, "a name with signs of addresses", (status, found[ODD.name]))
+    found, _ = viewer.image("/tile/odd%FF.tif/3/0/0.png")
+    tests.say((found[:30, :, :3] == BYTES.whole(0)[:, :32]).all(), "a name that is no UTF-8", found.shape)
     status, headers, body = viewer.get("/", "HEAD")
     tests.say(status == 200 and not body and int(headers["Content-Length"]) > 100, "HEAD", body)
     it = viewer.json("/api/statistics")
@@ -285,15 +289,17 @@ def replaced(tests):
 
 def same_stamp(tests, viewer, listener):
     """A file of the same size and time: only its number in the file system differs."""
-    before = os.stat(tests.folder / "now.tif")
-    beside = tests.room / "beside"
-    Plain("now.tif", 512, 512, 3, 8, 64, seed=77).write(beside)
-    os.utime(beside / "now.tif", ns=(before.st_atime_ns, before.st_mtime_ns))
-    count = len(listener.found)
-    os.replace(beside / "now.tif", tests.folder / "now.tif")
-    wait = until(lambda: len(listener.found) > count, 5)
-    found, _ = viewer.image("/tile/now.tif/0/0/0.png")
-    tests.say(wait is not None and wait < 2 and (found == 77).all(), "a new file with the size and time of the old one", (wait, found[0, 0]))
+    before, beside, wrong = os.stat(tests.folder / "now.tif"), tests.room / "beside", []
+    for colour in (77, 78, 79, 80):
+        Plain("now.tif", 512, 512, 3, 8, 64, seed=colour).write(beside)
+        os.utime(beside / "now.tif", ns=(before.st_atime_ns, before.st_mtime_ns))
+        count = len(listener.found)
+        os.replace(beside / "now.tif", tests.folder / "now.tif")
+        wait = until(lambda: len(listener.found) > count, 5)
+        found = numpy.concatenate([viewer.image(f"/tile/now.tif/0/{it % 2}/{it // 2}.png")[0] for it in range(4)])
+        if wait is None or wait > 2 or not (found == colour).all():
+            wrong.append((colour, wait, set(found.ravel().tolist())))
+    tests.say(not wrong, "a new file with the size and time of the old one, four times", wrong)
 
 
 def slow_clients(tests):
@@ -349,7 +355,7 @@ def command(tests):
 
 def run(tests):
     folder = tests.folder
-    for it in (*FILES, SMOOTH, BLOCKS, ODD):
+    for it in (*FILES, SMOOTH, BLOCKS, ODD, BYTES):
         it.write(folder)
     FILES[3].__class__("secret.tif", 32, 32, 1, 8, 16).write(folder)
     (folder / "text.tif").write_text("this is no image")

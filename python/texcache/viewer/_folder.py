@@ -294,19 +294,20 @@ class Folder:
 
     def _reopened(self, textures: Pass, number: int) -> None:
         """Opens a new file that has the size and the time of the old one, which are all that the library compares. Its
-        generation stays. So no request may run meanwhile, and no pass may keep its two latest tiles."""
-        kept: List[Pass] = []
+        generation stays. So no request may run meanwhile, and the tiles that passes keep have to go first."""
+        held: List[Pass] = []
         try:
             for _ in range(PASSES):
-                kept.append(self.passes.get(WAIT))
+                held.append(self.passes.get(WAIT))
+                # whatever comes, this call gives up the pass's two latest tiles
+                held[-1].invalidate(number)
             textures.invalidate(number, force=True)
         except queue.Empty:
             # the next round tries again
             self.stamps[number] = None
         finally:
-            for it in kept:
-                it.end()
-                self.passes.put(self.cache.new_pass())
+            for it in held:
+                self.passes.put(it)
 
 
 def _read(textures: Pass, number: int, level: int, info: Info, across: Any, down: Any, wrap: Optional[str]) -> Any:

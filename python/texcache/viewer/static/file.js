@@ -81,7 +81,7 @@ function show(found) {
 // asks for all facts; several calls at once are one
 let asking = null;
 function again() {
-  asking = asking || fetch(`/api/file/${id}`).then((it) => it.ok ? it.json() : it.text().then((reason) => ({name: decodeURI(id), reason})))
+  asking = asking || fetch(`/api/file/${id}`).then((it) => it.ok ? it.json() : it.text().then((reason) => ({id: facts && facts.id, name: facts ? facts.name : id, reason})))
     .then((found) => {
       if (!facts || facts.reason || found.reason || found.generation !== facts.generation) show(found);
     }).finally(() => { asking = null; });
@@ -116,4 +116,4 @@ async function value(s, t) {
 
 at('channel').addEventListener('change', draw);
 at('wrap').addEventListener('change', draw);
-live.listen((file) => { if (decodeURIComponent(file.id) === decodeURIComponent(id)) show(file); }, again);
+live.listen((file) => { if (facts && file.id === facts.id) show(file); }, again);
