@@ -26,6 +26,7 @@ POLL = 0.5           # seconds between two checks of the folder
 TRIES = 32           # how often a request begins again if its file is replaced meanwhile
 MOST = 1 << 20       # texels of one region, the library's limit
 THUMBNAIL = 256      # the longer side of a thumbnail
+BLOCK = 128          # the side of what is looked up at once in a scaled image
 WRAPS = {"black": BLACK, "clamp": CLAMP, "periodic": PERIODIC, "mirror": MIRROR}
 REMEDY = " What helps: "
 # the statuses of texcache.h for a file that the library does not accept
@@ -227,10 +228,8 @@ class Folder:
             info = textures.info(number)
             generation = textures.answer.generation
             columns, rows, level = size(info)
-            s, t = numpy.meshgrid((numpy.arange(columns) + 0.5) / columns, (numpy.arange(rows) + 0.5) / rows)
-            values = textures.texture(number, s, t, lod=level, swrap=CLAMP, twrap=CLAMP, filter=TRILINEAR,
-                                      channels=min(info.channels, 8))
-            if textures.answer.generation == generation:
+            values = numpy.empty((rows, columns, min(info.channels, 8)), numpy.uint16)
+            if all(it == generation for it in _scaled(textures, number, values, level)):
                 return Texels(values, info, generation)
         raise Busy("the file is replaced each time it is read; try again")
 
@@ -308,6 +307,20 @@ class Folder:
         finally:
             for it in held:
                 self.passes.put(it)
+
+
+def _scaled(textures: Pass, number: int, values: Any, level: float) -> Iterator[int]:
+    """Fills the values, and gives the generation of each block. A block is near: in rows as long as the image, levels
+    that are generated would be generated again for each row."""
+    rows, columns = values.shape[:2]
+    for top in range(0, rows, BLOCK):
+        for left in range(0, columns, BLOCK):
+            part = values[top:top + BLOCK, left:left + BLOCK]
+            s, t = numpy.meshgrid((numpy.arange(left, left + part.shape[1]) + 0.5) / columns,
+                                  (numpy.arange(top, top + part.shape[0]) + 0.5) / rows)
+            textures.texture(number, s, t, lod=level, swrap=CLAMP, twrap=CLAMP, filter=TRILINEAR, channels=values.shape[2],
+                             out=part)
+            yield textures.answer.generation
 
 
 def _read(textures: Pass, number: int, level: int, info: Info, across: Any, down: Any, wrap: Optional[str]) -> Any:

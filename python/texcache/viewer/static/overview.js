@@ -29,6 +29,8 @@ function fill(card, file) {
   const levels = file.stored === file.levels ? `${file.levels} levels` : `${file.levels} levels, ${file.stored} stored`;
   made('small', `${file.width} x ${file.height}, ${file.depth} bits, ${file.channels} channels`, card);
   made('small', `${levels}; generation ${file.generation}`, card);
+  // a level that is generated reads all of the levels below it
+  if (file.stored < file.levels && file.width * file.height > 4e6) made('small', 'slow: texmake would store its levels', card);
 }
 
 async function all() {
