@@ -211,6 +211,24 @@ def bad_paths(tests, viewer, secret):
     tests.say(status == 403 and len(body) > 20, "the name of another site", (status, body))
     status, _, body = viewer.get("/", "POST")
     tests.say(status == 501 and b"<" not in body, "POST", (status, body))
+    drawn, host = random.Random("garbage"), f"Host: {viewer.host}\r\n".encode()
+    for what, given in (("HTTP 0.9", b"GET /\r\n\r\n"), ("no host", b"GET / HTTP/1.0\r\n\r\n"), ("one word", b"GET\r\n\r\n"),
+                        ("HTTP 3", b"GET / HTTP/3.0\r\n" + host + b"\r\n"), ("noise", drawn.randbytes(3000) + b"\r\n\r\n"),
+                        ("200 headers", b"GET / HTTP/1.1\r\n" + host + b"A: b\r\n" * 200 + b"\r\n"),
+                        ("a long header", b"GET / HTTP/1.1\r\n" + host + b"A: " + b"b" * 70000 + b"\r\n\r\n"),
+                        ("a body", b"GET / HTTP/1.1\r\n" + host + b"Content-Length: 9\r\n\r\nGET /nope")):
+        with socket.create_connection((viewer.host, viewer.port), timeout=30) as it:
+            it.sendall(given)
+            it.shutdown(socket.SHUT_WR)
+            found = b""
+            try:
+                while part := it.recv(65536):
+                    found += part
+            except ConnectionResetError:
+                # it did not read all that was sent
+                pass
+        tests.say(found and (what == "a body") == found.startswith(b"HTTP/1.1 200") and found.count(b"HTTP/1.1") <= 1,
+                  f"a request with {what}", found[:300])
     # a plain file that became a link out of the folder
     os.symlink(secret, viewer_link := tests.folder / "new-link")
     os.replace(viewer_link, tests.folder / "secret.tif")

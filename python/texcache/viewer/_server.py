@@ -110,8 +110,9 @@ class Handler(BaseHTTPRequestHandler):
             self.send_header(name.replace("_", "-"), str(value))
         if self.close_connection:
             self.send_header("Connection", "close")
-        self._headers_buffer.append(b"\r\n")
-        head, self._headers_buffer = b"".join(self._headers_buffer), []
+        # a request of HTTP 0.9 gets no header
+        lines, self._headers_buffer = getattr(self, "_headers_buffer", []), []
+        head = b"".join([*lines, b"\r\n"]) if lines else b""
         # in one piece: a header alone would be a packet of its own
         self.wfile.write(head if self.command == "HEAD" else head + reply.body)
 
