@@ -21,6 +21,8 @@ SUBCOMMANDS = {
     "embedding": "embedding",
     "python": "python_package",
     "bridge": "bridge",
+    "viewer": "viewer",
+    "baker": "baker",
     "interface": "interface",
     "fault-words": "fault_words",
     "package": "package",

@@ -162,6 +162,11 @@ class Package:
         examples, demo, python = top / "share/doc/texcache/examples", top / "share/doc/texcache/demo", debian_python()
         own, words = top / "lib/texcache/python", [python, examples / "lookup.py", demo, "bricks.tif"]
         self.does("the example in Python", words, f"{self.parts.version}: {MIDDLE}\n", PYTHONPATH=str(own))
+        if not self.skips.lacks(lacking_module("numpy", "PIL"), "the viewer of what is installed"):
+            self.does("the viewer without Leaflet", [python, "-m", "texcache.viewer", demo, "--leaflet", top], "libjs-leaflet", 1,
+                      PYTHONPATH=str(own))
+        pages = {it.name for it in (own / "texcache" / "viewer" / "static").iterdir()}
+        self.say({"file.html", "file.js", "viewer.css"} <= pages, "the viewer's pages are installed", pages)
         other = top / "other.py"
         shutil.copytree(own, other, symlinks=True)
         (other / "texcache" / "_version.py").write_text(f'VERSION = "{OTHER}"\n', encoding="utf-8")

@@ -65,6 +65,8 @@ class Tests:
             return None
         names = {it.name for it in (to / "texcache").iterdir()}
         self.say({NAME, "py.typed", "__init__.py"} <= names, "library and type hints are in the wheel", names)
+        pages = {it.name for it in (to / "texcache" / "viewer" / "static").iterdir()}
+        self.say(pages == {it.name for it in (PACKAGE / "texcache" / "viewer" / "static").iterdir()}, "the viewer's pages are in it", pages)
         self.does("the package alone", [python, TOP / "examples/lookup/lookup.py", TOP / "demo", "bricks.tif"], MIDDLE,
                   PYTHONPATH=str(to))
         self.does("it is the installed one", [python, "-c", "import texcache; print(texcache.__file__)"], str(to),

@@ -73,6 +73,8 @@ def steps(args, programs, library):
         ("fine", "--library", library, *(["--full"] if args.proved else []), *skip),
         ("python", "--library", library, *skip),
         ("bridge", "--library", library, *skip),
+        ("viewer", "--library", library, *skip),
+        ("baker", "--program", texmake, "--library", library, *skip),
         ("package", *skip),
         ("interface", "--library", library, *skip),
         ("fault-words",),

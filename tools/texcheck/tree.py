@@ -127,8 +127,8 @@ def put_library(parts, to):
 
 def put_python(to):
     """The Python package, with a link to the library, and what makes a wheel of both."""
-    for it in (*sorted((TOP / "python" / "texcache").iterdir()), *(TOP / "python" / it for it in PYTHON)):
-        if it.suffix in (".py", ".typed", ".toml"):
+    for it in (*sorted((TOP / "python" / "texcache").rglob("*")), *(TOP / "python" / it for it in PYTHON)):
+        if it.suffix in (".py", ".typed", ".toml", ".html", ".js", ".css"):
             copied_to(it, to / it.relative_to(TOP / "python"))
     linked(f"../../../{SHARED}", to / "texcache" / "libtexcache.so")
 
