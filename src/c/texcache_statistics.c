@@ -296,7 +296,7 @@ static void texc_put_text(texc_text *text, const texc_report *report, uint32_t l
 
 /* ---- JSON */
 
-/* How many bytes a character of UTF-8 has, 0 if it is none. */
+/* The number of bytes of a UTF-8 character, or 0 if these bytes are not one. */
 static size_t texc_character(const unsigned char *at)
 {
     size_t size = *at < 0x80 ? 1 : *at < 0xc2 ? 0 : *at < 0xe0 ? 2 : *at < 0xf0 ? 3 : *at < 0xf5 ? 4 : 0;
