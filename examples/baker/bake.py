@@ -6,6 +6,7 @@ texel of an output is one lookup over its footprint. README.md says more.
 """
 import argparse
 import os
+import re
 import shlex
 import shutil
 import struct
@@ -98,6 +99,11 @@ def arguments():
     parser.add_argument("--list", action="store_true", help="print a command for each texture to make, and make none")
     parser.add_argument("--texmake", default=shutil.which("texmake") or HERE.parents[2] / "texmake")
     args = parser.parse_args()
+    if not re.fullmatch("[1-9][0-9]*x[1-9][0-9]*", args.udims):
+        parser.error(f"--udims is {args.udims}, and may be as 2x1")
+    for name, low, high in (("size", 1, 32768), ("jobs", 1, 14), ("budget", 0, 4095)):
+        if not low <= getattr(args, name) <= high:
+            parser.error(f"--{name} is {getattr(args, name)}, and may be {low} to {high}")
     args.name = f"{Path(args.image).stem}.{{}}.tif"
     return args
 
@@ -124,7 +130,7 @@ def run(args):
     done, show = len(tiles) - len(left), sys.stderr.isatty()
     try:
         with texcache.Cache(args.folder, budget=args.budget << 20, passes=16) as cache, \
-                ThreadPoolExecutor(min(args.jobs, 14)) as pool:
+                ThreadPoolExecutor(args.jobs) as pool:
             for tile in left:
                 bake(cache, pool, shape, args, tile, lambda part, it=tile: show and print(
                     f"\rtile {it}: {100 * part:3.0f}%; {done} of {len(tiles)} are there ", end="", file=sys.stderr, flush=True))

@@ -24,6 +24,17 @@ class Surface:
         return across, 1 - v / self.high
 
 
+def _corner(path, word, points, uvs):
+    """The numbers of the point and the UV of a corner, from 0 on. OBJ counts from 1, or backwards from the latest: -1."""
+    numbers = [int(it) if it else 0 for it in word.split("/")[:2]]
+    found = [it - 1 if it > 0 else count + it for it, count in zip(numbers, (points, uvs))]
+    if len(numbers) < 2 or not numbers[1]:
+        raise ValueError(f"{path} has a face without UVs, at {word}")
+    if not all(0 <= it < count for it, count in zip(found, (points, uvs))):
+        raise ValueError(f"{path} has a face with a point or a UV that does not come before it, at {word}")
+    return found
+
+
 class Mesh:
     """The triangles of an OBJ file with UVs; the image covers its extent in x and y."""
 
@@ -35,8 +46,10 @@ class Mesh:
             elif words[:1] == ["vt"]:
                 uvs.append([float(it) for it in words[1:3]])
             elif words[:1] == ["f"]:
-                face = [[int(it) - (int(it) > 0) for it in word.split("/")[:2]] for word in words[1:]]
+                face = [_corner(path, word, len(points), len(uvs)) for word in words[1:]]
                 corners += [(face[0], *face[n:n + 2]) for n in range(1, len(face) - 1)]
+        if not corners:
+            raise ValueError(f"{path} has no faces")
         points, corners = numpy.array(points), numpy.array(corners)
         low, high = points.min(axis=0), points.max(axis=0)
         self.uvs = numpy.array(uvs)[corners[:, :, 1]]

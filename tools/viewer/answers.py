@@ -202,7 +202,8 @@ def bad_paths(tests, viewer, secret):
         status, headers, body = viewer.get(path)
         tests.say(status == 404 and headers["Content-Type"].startswith("text/plain") and len(body.split()) > 3
                   and b"hidden" not in body, f"404 in words: {path[:60]}", (status, body[:200]))
-    for path, wanted in (("/tile/rgb.tif/0/0/0.png?channel=9", 400), ("/tile/rgb.tif/0/0/0.png?wrap=round", 400),
+    for path, wanted in (("/tile/rgb.tif/0/0/0.png?channel=9", 400), ("/tile/rgb.tif/0/0/0.png?channel=alpha", 400),
+                         ("/tile/rgb.tif/0/0/0.png?channel=rgba", 400), ("/tile/rgb.tif/0/0/0.png?wrap=round", 400),
                          ("/value/rgb.tif", 400), ("/value/rgb.tif?s=nan&t=0", 400), ("/value/rgb.tif?s=1e300&t=0", 400),
                          ("/value/rgb.tif?s=x&t=0", 400), (f"/file/{'a' * 70000}", 414)):
         status, _, body = viewer.get(path)

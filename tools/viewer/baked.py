@@ -198,12 +198,21 @@ def again(tests, has_parallel):
 
 
 def mistakes(tests):
+    points = "v 0 0 0\nv 1 0 0\nv 1 1 0\n"
+    for name, text in (("bare", points + "f 1 2 3\n"), ("empty", points), ("far", points + "vt 0 0\nf 1/1 2/1 4/1\n")):
+        (tests.room / f"{name}.obj").write_text(text)
     for what, words, wanted in (("an image that does not exist", ["none.tif", "plane", "bad"], "none.tif: the folder had no"),
                                 ("a mesh that does not exist", ["ramp.tif", "none.obj", "bad"], "none.obj"),
-                                ("tiles that are no numbers", ["ramp.tif", "plane", "bad", "--udims", "x"], "bake.py: "),
+                                ("a mesh without UVs", ["ramp.tif", tests.room / "bare.obj", "bad"], "bare.obj has a face without UVs"),
+                                ("a mesh without faces", ["ramp.tif", tests.room / "empty.obj", "bad"], "empty.obj has no faces"),
+                                ("a point that is not there", ["ramp.tif", tests.room / "far.obj", "bad"], "far.obj has a face with a point"),
+                                ("tiles that are no numbers", ["ramp.tif", "plane", "bad", "--udims", "x"], "--udims is x"),
+                                ("one number of tiles", ["ramp.tif", "plane", "bad", "--udims", "2"], "--udims is 2"),
+                                ("a size of 0", ["ramp.tif", "plane", "bad", "--size", 0], "--size is 0"),
+                                ("no thread", ["ramp.tif", "plane", "bad", "--jobs", 0], "--jobs is 0"),
                                 ("a texmake that does not exist", ["ramp.tif", "plane", "bad", "--size", 16, "--texmake", "/none/x"], "/none/x")):
         ran = subprocess.run(tests.words(*words), capture_output=True, text=True, check=False)
-        tests.say(ran.returncode == 1 and wanted in ran.stderr and "Traceback" not in ran.stderr, what, ran)
+        tests.say(ran.returncode in (1, 2) and wanted in ran.stderr and "Traceback" not in ran.stderr, what, ran)
     tests.say(not list((tests.room / "bad").iterdir()), "they leave nothing", list((tests.room / "bad").iterdir()))
 
 

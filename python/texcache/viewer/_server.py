@@ -37,7 +37,7 @@ KINDS = {".html": "text/html; charset=utf-8", ".js": "text/javascript; charset=u
          ".png": "image/png"}
 PAGES = {"overview": "overview.html", "file": "file.html"}
 WHOLE = re.compile(r"-?\d{1,9}\Z")
-CHANNEL = re.compile(r"rgb|a|[0-7]\Z")
+CHANNEL = re.compile(r"(rgb|a|[0-7])\Z")
 HOST = re.compile(r"[\w.\-]+(:\d+)?\Z|\[[0-9a-fA-F:.]+\](:\d+)?\Z")
 POLICY = "default-src 'self'; img-src 'self' data: blob:; frame-ancestors 'none'"
 LOCAL = {"localhost", "127.0.0.1", "[::1]"}
