@@ -1,7 +1,7 @@
 //! Makes caches and their passes.
 ghost use Rattle.std.specs.Prelude.{◌≡◌, ◌≤◌, length, IfOk};
 ghost use Rattle.tex_world.specs.World.{max_files};
-ghost use Rattle.image_cache.specs.Pass.{IsPassOf};
+ghost use Rattle.tile_source.specs.Pass.{IsPassOf};
 
 use image_cache::{Cache, Options, Pass};
 use std::alloc::Global;

@@ -2,7 +2,7 @@
 ghost use Rattle.std.specs.Prelude.{ℕ, ◌≡◌, ◌<◌, IfSome, IsSome};
 ghost use Rattle.std.specs.Bool.{OnTrue};
 ghost use Rattle.tex_world.specs.World.{IsFile};
-ghost use Rattle.image_cache.specs.Texel.{IsTexelIn, IsRecordOf};
+ghost use Rattle.tile_source.specs.Texel.{IsTexelIn, IsRecordOf};
 
 use crate::asks::{Answer, refusal};
 use crate::planned::ONE_SHARD;

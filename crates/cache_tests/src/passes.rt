@@ -1,7 +1,7 @@
 //! Two passes of a cache, one of which is joined to the other.
 ghost use Rattle.std.specs.Prelude.{ℕ, ◌≡◌, ◌<◌, length};
 ghost use Rattle.tex_world.specs.World.{IsFile};
-ghost use Rattle.image_cache.specs.Pass.{IsPassOf};
+ghost use Rattle.tile_source.specs.Pass.{IsPassOf};
 
 use crate::asks::Answer::{Again, Facts, Of, Shard, Texels};
 use crate::asks::Ask::{Count, Hold, Info, Pixels};

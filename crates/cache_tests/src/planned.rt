@@ -1,5 +1,5 @@
 //! Callers over files in memory, with taps whose calls fail and whose files change as planned.
-ghost use Rattle.std.specs.Prelude.{ℕ, ◌≡◌, ◌<◌, false};
+ghost use Rattle.std.specs.Prelude.{ℕ, ◌<◌, false};
 ghost use Rattle.tex_world.specs.World.{IsFile};
 
 use crate::folder::cache_of;

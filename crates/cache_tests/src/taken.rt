@@ -2,7 +2,7 @@
 //! kind of call gives up sooner or later, changes nothing then, and succeeds when it waits.
 ghost use Rattle.std.specs.Prelude.{ℕ, ◌≡◌, ◌<◌, length, IfOk};
 ghost use Rattle.tex_world.specs.World.{IsFile};
-ghost use Rattle.image_cache.specs.Pass.{IsPassOf};
+ghost use Rattle.tile_source.specs.Pass.{IsPassOf};
 
 use crate::asks::Answer::{Busy, Of, Rectangle, Released, Shard};
 use crate::asks::Ask::{Count, Held, Hold, Release};

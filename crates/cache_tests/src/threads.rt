@@ -1,7 +1,7 @@
 //! Two threads over one cache with a budget of 0, with files that change under their taps.
 ghost use Rattle.std.specs.Prelude.{ℕ, ◌≡◌, ◌<◌, length};
 ghost use Rattle.tex_world.specs.World.{IsFile};
-ghost use Rattle.image_cache.specs.Pass.{IsPassOf};
+ghost use Rattle.tile_source.specs.Pass.{IsPassOf};
 
 use crate::asks::{Answer, Ask};
 use crate::caller::Caller;

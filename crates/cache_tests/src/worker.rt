@@ -1,7 +1,7 @@
 //! One caller of a cache, and the calls as the tests make them.
 ghost use Rattle.std.specs.Prelude.{◌≡◌, ℕ, ◌<◌, length};
 ghost use Rattle.tex_world.specs.World.{IsFile};
-ghost use Rattle.image_cache.specs.Pass.{IsPassOf};
+ghost use Rattle.tile_source.specs.Pass.{IsPassOf};
 
 use crate::asks::{Answer, Ask, Look, refusal};
 use file_table::Record;

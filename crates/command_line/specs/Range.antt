@@ -1,7 +1,7 @@
 -- Which numbers does an option take, and what is its default?
 use Rattle.std.specs.Prelude.{◌≡◌, ℕ, ◌≤◌, ◌%◌, ◌==◌, ◌&&◌, ◌^◌, nat_le, List, Option, Some, None}
 use Rattle.std.specs.Prelude.{if◌then◌else◌, option_and_then}
-use Rattle.request_lang.specs.LineField.{digits_number}
+use Rattle.short_text.specs.Digits.{digits_number}
 use Rattle.tiff_format.specs.Cut.{autotile_step, max_autotile}
 use Rattle.command_line.specs.declared.range.NumberRange.{NumberRange}
 

@@ -78,8 +78,6 @@ pub fn invocation_of<'a>(alloc: Global, words: &'a [String]) -> Result<Invocatio
     ensures exact { spec.IsAsked (spec.invocation_of (map string_bytes words.entry.now)) result }
     ensures in_range { IfOk result (λ i. IsInRange i.options) }
 {
-    match taken(command(alloc)?, words) {
-        Ok(matches) => asked_for(&matches).ok_or(WordsError::Bad),
-        Err(error) => Err(error),
-    }
+    let matches = taken(command(alloc)?, words)?;
+    asked_for(&matches).ok_or(WordsError::Bad)
 }

@@ -4,7 +4,7 @@ ghost use Rattle.std.specs.Prelude.{◌≡◌, ◌≤◌, ◌<◌};
 ghost use Rattle.std.specs.Option.{IfSome, option_map};
 ghost use Rattle.command_line.specs.Range as spec;
 
-use request_lang::digits_number;
+use short_text::digits_number;
 use tiff_format::{AUTOTILE_STEP, MAX_AUTOTILE};
 
 /// The range of a numeric option, and its default.

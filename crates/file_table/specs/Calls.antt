@@ -7,6 +7,7 @@ use Rattle.tex_world.specs.World.{Files, IsReal}
 use Rattle.tex_world.specs.Tap.{Named, TapState}
 use Rattle.gen_board.specs.View.{ViewState, IsLater, KeepsLooks}
 use Rattle.tiff_format.specs.declared.cut.Cut.{Cut}
+use Rattle.tap_reader.specs.ReadAhead.{AheadState, IsOf}
 use Rattle.file_table.specs.Record.{RecordState, IsRecord}
 use Rattle.tex_world.specs.declared.fault.OpenError.{OpenError}
 use Rattle.tex_world.specs.declared.fault.OpenError.TheVariants as opening
@@ -135,6 +136,11 @@ RecordCause files file old new (refused.Busy b) = new.tap ≡ old.tap
 pub record IsOfExactly (file generation : ℕ) (handle : Named) : Type 0 where
   pub of_file : handle.file ≡ file
   pub of_generation : handle.generation ≡ generation
+
+-- Handle and read-ahead are of exactly this generation of this file.
+pub record IsLentFor (file generation : ℕ) (handle : Named) (ahead : AheadState) : Type 0 where
+  pub opened : IsOfExactly file generation handle
+  pub read : IsOf file generation ahead
 
 -- Why a handle cannot be lent. If a newer generation was met, the view has now seen it; otherwise
 -- the view is unchanged. If memory ran out, the file had been opened. If the waiter gave up, the

@@ -3,3 +3,4 @@ pub mod Files
 pub mod Calls
 pub mod Idle
 pub mod Aheads
+pub mod Picture

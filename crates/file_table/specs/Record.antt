@@ -2,7 +2,7 @@
 use Rattle.std.specs.Prelude.{◌≡◌, ◌↔◌, ℕ, ◌<◌, ◌≤◌, Bool, IsTrue, List, length, slice_index_or}
 use Rattle.std.specs.Prelude.{Result, Ok, Err, IfOk, IsOkAnd}
 use Rattle.std.specs.Option.{ForSome, option_map_or}
-use Rattle.tex_world.specs.World.{Files, IsReal, max_files}
+use Rattle.tex_world.specs.World.{Files, IsFile, IsReal, max_files}
 use Rattle.tiff_format.specs.Facts.{IsChannelCount}
 use Rattle.tiff_format.specs.Fault.{first_fault}
 use Rattle.tiff_format.specs.Level.{max_levels}
@@ -35,9 +35,10 @@ record_state file generation cut layout = record {
 abbrev pub layout_of : List ℕ → Result Kept TiffFault
 layout_of bytes = option_map_or Err (first_fault bytes) (Ok (kept_of bytes))
 
--- The generation exists. If the world is modelled, the layout is that of the bytes of this file and
--- generation.
+-- The file is one of the world's, and the generation exists. If the world is modelled, the layout is
+-- that of the bytes of this file and generation.
 pub record IsRecord (files : Files) (state : RecordState) : Type 0 where
+  pub file : IsFile files state.file
   pub real : IsReal files state.file state.generation
   pub layout : ForSome (files.held state.file state.generation) (λ bytes.
       state.layout ≡ layout_of bytes)

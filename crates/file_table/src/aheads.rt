@@ -82,7 +82,7 @@ impl<W: World> Aheads<W> {
         match self.forget(ahead.file()) {
             Some(kept) => {
                 let (stays, left) = ahead.over(kept);
-                let _out = self.put(stays);
+                let _ = self.put(stays);
                 Some(left)
             }
             None => self.put(ahead),
@@ -95,7 +95,7 @@ impl<W: World> Aheads<W> {
             Some((file, _)) => *file,
             None => return,
         };
-        let _dropped = self.forget(oldest);
+        let _ = self.forget(oldest);
     }
 
     /// Whether `size` bytes of one more file may be kept.

@@ -1,5 +1,5 @@
 //! The table of files: their newest records, shared by many workers.
-ghost use Rattle.std.specs.Prelude.{◌≡◌, ℕ, ◌<◌, ◌≤◌, IfOk, IfErr, IfSome, OnOk, slice_index};
+ghost use Rattle.std.specs.Prelude.{◌≡◌, ◌<◌, ◌≤◌, IfOk, IfErr, IfSome, OnOk, slice_index};
 ghost use Rattle.tex_world.specs.World.{IsFile, IsReal};
 ghost use Rattle.gen_board.specs.View.{IsNewView};
 ghost use Rattle.tiff_format.specs.Cut.{IsCut};
@@ -9,10 +9,10 @@ ghost use Rattle.file_table.specs.Calls.{GivesRecord, IsAsSeen, IsAsNew, IsFault
 ghost use Rattle.file_table.specs.Calls.{OpensIfAtAll, RecordCause};
 
 use crate::error::FileError;
-use crate::home::put_back;
-use crate::idle_files::{IdleFiles, SoMany};
-use crate::known::{KnownRecord, OfFile};
+use crate::idle_files::{HandleLimit, IdleFiles};
+use crate::known::{KnownRecord, SameFile};
 use crate::open::{Opened, open_record};
+use crate::put_back::put_back;
 use crate::record::Record;
 use gen_board::{Board, View};
 use std::alloc::{AllocError, Global};
@@ -24,11 +24,11 @@ use tiff_format::Cut;
 use waiter::Waiter;
 
 /// The lock of a file's record. Its tag is the file's number.
-type RecordLock<W> = TagLock<KnownRecord<W>, OfFile<W>>;
+type RecordLock<W> = TagLock<KnownRecord<W>, SameFile<W>>;
 
 /// The lock of the idle handles and of the read-ahead of their files. Its tag is the greatest
 /// number of idle handles.
-type IdleLock<T> = TagLock<Box<IdleFiles<T>>, SoMany>;
+type IdleLock<T> = TagLock<Box<IdleFiles<T>>, HandleLimit>;
 
 /// The files of a folder, used by many workers. Clauses see its board, the greatest number of idle
 /// handles, and the cut that its files are used under. It owns no tap: `T` only names the world and
@@ -130,7 +130,7 @@ impl<T: Tap> Files<T> {
         ensures once { OpensIfAtAll (T.state tap.old) (T.state tap.new) }
     {
         let least = self.board.look(view, file);
-        let _seen = view.seen(file);
+        let _ = view.seen(file);
         let known = match self.known(waiter, file, least) {
             Ok(known) => known,
             Err(busy) => return Err(FileError::Busy(busy)),
@@ -170,7 +170,7 @@ impl<T: Tap> Files<T> {
     {
         let lock = &self.records[file as usize];
         let mut known = lock.take(waiter)?;
-        let _forgotten = known.forget();
+        let _ = known.forget();
         put_back(lock, waiter, known);
         Ok(())
     }
@@ -239,7 +239,7 @@ impl<T: Tap> Files<T> {
         };
         let lock = &self.records[file as usize];
         if let Ok(mut known) = lock.take(waiter) {
-            let _older = known.keep(shared);
+            let _ = known.keep(shared);
             put_back(lock, waiter, known);
         }
     }

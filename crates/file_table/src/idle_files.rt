@@ -28,8 +28,8 @@ impl<T: Tap> IdleFiles<T> {
 }
 
 /// The lock's rule: the tag is the greatest number of idle handles.
-pub(crate) struct SoMany;
+pub(crate) struct HandleLimit;
 
-impl<T: Tap> TagRule<Box<IdleFiles<T>>> for SoMany {
+impl<T: Tap> TagRule<Box<IdleFiles<T>>> for HandleLimit {
     ghost fits = { λ tag idle. idle.value.handles.cap ≡ tag };
 }

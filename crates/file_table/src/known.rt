@@ -16,11 +16,11 @@ pub(crate) struct KnownRecord<W: World> {
 }
 
 /// The lock's rule: the record is that of the file whose number is the tag.
-pub(crate) struct OfFile<W> {
+pub(crate) struct SameFile<W> {
     world: PhantomData<W>,
 }
 
-impl<W: World> TagRule<KnownRecord<W>> for OfFile<W> {
+impl<W: World> TagRule<KnownRecord<W>> for SameFile<W> {
     ghost fits = { λ file known. IfSome known.record (λ r. r.value.file ≡ file) };
 }
 

@@ -3,12 +3,12 @@ ghost use Rattle.std.specs.Prelude.{◌≡◌, ◌<◌, ◌≤◌, IfOk, IfErr, 
 ghost use Rattle.tex_world.specs.World.{IsFile, IsReal};
 ghost use Rattle.file_table.specs.Calls.{sighted, RaisesIfAtAll, OpensIfAtAll, OpensOnce};
 ghost use Rattle.file_table.specs.Aheads.{max_aheads};
-ghost use Rattle.file_table.specs.Calls.{IsOfExactly, LendCause, MovesOnlyAgain};
+ghost use Rattle.file_table.specs.Calls.{IsOfExactly, IsLentFor, LendCause, MovesOnlyAgain};
 ghost use Rattle.tap_reader.specs.ReadAhead.{IsOf};
 
 use crate::error::{FileError, NotSettled};
 use crate::files::Files;
-use crate::home::put_back;
+use crate::put_back::put_back;
 use gen_board::View;
 use tap_reader::{OpenFile, ReadAhead};
 use tex_world::{Tap, TapHandle};
@@ -32,8 +32,7 @@ impl<T: Tap> Files<T> {
         requires file { file < self.now.board.files }
         requires told { IsFile T.W.files file }
         requires real { IsReal T.W.files file generation }
-        ensures ok { IfOk result (λ f. IsOfExactly file generation (T.Handle.named f.handle)) }
-        ensures ahead { IfOk result (λ f. IsOf file generation f.ahead) }
+        ensures ok { IfOk result (λ f. IsLentFor file generation (T.Handle.named f.handle) f.ahead) }
         ensures cause { IfErr result (LendCause T.W.files file generation
             (sighted view.old (T.state tap.old)) (sighted view.new (T.state tap.new))) }
 
@@ -76,8 +75,8 @@ impl<T: Tap> Files<T> {
             Err(busy) => return Err(NotSettled { file, busy }),
         };
         let OpenFile { handle, ahead } = file;
-        let _closed = idle.handles.settle(handle);
-        let _left = idle.aheads.keep(ahead);
+        let _ = idle.handles.settle(handle);
+        let _ = idle.aheads.keep(ahead);
         put_back(&self.idle, waiter, idle);
         Ok(())
     }
@@ -87,7 +86,7 @@ impl<T: Tap> Files<T> {
     pub(crate) fn settle_read<V: Waiter>(&self, waiter: &V, handle: Option<T::Handle>) {
         if let Some(handle) = handle {
             let ahead = ReadAhead::none(self.alloc, handle.file(), handle.generation());
-            let _closed = self.settle(waiter, OpenFile { handle, ahead });
+            let _ = self.settle(waiter, OpenFile { handle, ahead });
         }
     }
 
@@ -99,8 +98,8 @@ impl<T: Tap> Files<T> {
     {
         let forgotten = self.forget(waiter, file);
         let mut idle = self.idle.take(waiter)?;
-        let _closed = idle.handles.take(file);
-        let _forgotten = idle.aheads.forget(file);
+        let _ = idle.handles.take(file);
+        let _ = idle.aheads.forget(file);
         put_back(&self.idle, waiter, idle);
         forgotten
     }

@@ -5,13 +5,14 @@
 mod aheads;
 mod error;
 mod files;
-mod home;
 mod idle;
 mod idle_files;
 mod known;
 mod known_level;
 mod lending;
 mod open;
+mod picture;
+mod put_back;
 mod record;
 
 pub use aheads::Aheads;
@@ -19,4 +20,5 @@ pub use error::{FileError, NotSettled};
 pub use files::Files;
 pub use idle::IdleHandles;
 pub use known_level::KnownLevel;
+pub use picture::{Picture, Unreadable};
 pub use record::Record;

@@ -10,7 +10,8 @@ use crate::record::Record;
 use std::alloc::Global;
 use tap_reader::{AheadReader, ReadAhead};
 use tex_world::{ReadError, Tap, TapHandle};
-use tiff_dirs::{DirsError, read_dirs};
+use tiff_dirs::read_dirs;
+use tiff_entries::DirsError;
 use tiff_format::Cut;
 use tile_layout::Layout;
 
@@ -51,7 +52,8 @@ fn read_record<T: Tap, B>(
     mut handle: T::Handle,
     cut: Cut,
 ) -> Result<Opened<T>, FileError<B>>
-    requires { IsCut cut }
+    requires told { IsFile T.W.files (T.Handle.named handle).file }
+    requires cut { IsCut cut }
     ensures ok { let named = T.Handle.named handle in IfOk result (λ o. (o.record.file ≡ named.file)
         × (o.record.generation ≡ named.generation) × (o.record.cut ≡ cut)) }
     ensures reads { ReadsOnly (T.state tap.old) (T.state tap.new) }

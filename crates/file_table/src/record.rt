@@ -1,7 +1,7 @@
 //! The record of one generation of a file.
-ghost use Rattle.std.specs.Prelude.{◌≡◌, ℕ, ◌^◌, ◌<◌, ◌≤◌, length, Ok, Err, MatchResult, IfOk};
+ghost use Rattle.std.specs.Prelude.{◌≡◌, ◌^◌, ◌<◌, ◌≤◌, length, Ok, Err, MatchResult, IfOk, IfErr, OnOk};
 ghost use Rattle.std.specs.Option.{ForSome};
-ghost use Rattle.tex_world.specs.World.{IsReal, last_generation, max_files};
+ghost use Rattle.tex_world.specs.World.{IsFile, IsReal, last_generation, max_files};
 ghost use Rattle.tiff_format.specs.Level.{max_levels};
 ghost use Rattle.tiff_format.specs.Cut.{IsCut};
 ghost use Rattle.tile_layout.specs.Grid.{shown_grid};
@@ -11,8 +11,10 @@ ghost use Rattle.tile_layout.specs.Cell.{channels_in, bit_depth_in};
 ghost use Rattle.tiff_format.specs.Facts.{IsChannelCount};
 ghost use Rattle.file_table.specs.Record.{layout_of, HasCutLevel, CountsLevels, CutsLevel};
 ghost use Rattle.file_table.specs.Record.{TellsFit, AreLevelsOf};
+ghost use Rattle.file_table.specs.Picture.{MayServe, UnreadableCause};
 
 use crate::known_level::KnownLevel;
+use crate::picture::{Picture, Unreadable};
 use std::alloc::{AllocError, Global};
 use std::marker::{Model, PhantomData};
 use tex_world::World;
@@ -99,6 +101,7 @@ impl<W: World> Record<W> {
         cut: Cut,
         layout: Result<Layout, TiffFault>,
     ) -> Result<Record<W>, AllocError>
+        requires told { IsFile W.files file }
         requires real { IsReal W.files file generation }
         requires cut { IsCut cut }
         requires layout { ForSome (W.files.held file generation) (λ bytes.
@@ -138,6 +141,15 @@ impl<W: World> Record<W> {
         ensures told { IsRecord W.files self.now }
     {
         self.generation
+    }
+
+    /// Does nothing; its contract gives the proof what is true of every record: if the world is
+    /// modelled, its layout is that of its generation's bytes.
+    #[inline(always)]
+    pub fn know(&self)
+        ensures told { IsRecord W.files self.now }
+    {
+        let _file = self.file;
     }
 
     /// The cut that the record is used under.
@@ -207,5 +219,24 @@ impl<W: World> Record<W> {
         ensures { TellsFit self.now result }
     {
         self.fits
+    }
+
+    /// Its picture, if its texels can be read.
+    pub fn picture(&self) -> Result<Picture<'_, W>, Unreadable>
+        ensures ok { IfOk result (λ picture. picture ≡ self.now) }
+        ensures serves { OnOk result (MayServe self.now) }
+        ensures err { IfErr result (UnreadableCause self.now) }
+    {
+        let generation = self.generation();
+        if let Err(fault) = self.layout() {
+            return Err(Unreadable::BadFile {
+                generation,
+                fault: *fault,
+            });
+        }
+        if self.fits() {
+            return Ok(Picture::of(self));
+        }
+        Err(Unreadable::TileTooLarge { generation })
     }
 }

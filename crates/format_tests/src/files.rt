@@ -1,270 +1,287 @@
-//! The files of the tests. A text describes a file: the name of one that is written out here or in
-//! `built_files`, and then changes to it, as in `A 18=5 102=2,0`.
+//! The files that several tables read.
 
-use crate::built_files::{chain, pages};
-use std::alloc::{AllocError, Global};
-use std::test::Fail;
+use test_files::Edit::{Append, Put, Resize};
+use test_files::{Base, ImageFile};
 
-/// 4 by 4, 8 bits, one channel, one strip, little-endian; texel (x, y) is 16 * y + x.
-const SMALL: [u8; 138] = [
-    0x49, 0x49, 0x2a, 0, 8, 0, 0, 0, // header, the directory at 8
-    9, 0, // entries
-    0x00, 1, 3, 0, 1, 0, 0, 0, 4, 0, 0, 0, // at 10: ImageWidth 4
-    0x01, 1, 3, 0, 1, 0, 0, 0, 4, 0, 0, 0, // at 22: ImageLength 4
-    0x02, 1, 3, 0, 1, 0, 0, 0, 8, 0, 0, 0, // at 34: BitsPerSample 8
-    0x03, 1, 3, 0, 1, 0, 0, 0, 1, 0, 0, 0, // at 46: Compression 1
-    0x06, 1, 3, 0, 1, 0, 0, 0, 1, 0, 0, 0, // at 58: BlackIsZero
-    0x11, 1, 4, 0, 1, 0, 0, 0, 122, 0, 0, 0, // at 70: StripOffsets 122
-    0x15, 1, 3, 0, 1, 0, 0, 0, 1, 0, 0, 0, // at 82: SamplesPerPixel 1
-    0x16, 1, 3, 0, 1, 0, 0, 0, 4, 0, 0, 0, // at 94: RowsPerStrip 4
-    0x17, 1, 4, 0, 1, 0, 0, 0, 16, 0, 0, 0, // at 106: StripByteCounts 16
-    0, 0, 0, 0, // at 118: no further directory
-    0x00, 0x01, 0x02, 0x03, 0x10, 0x11, 0x12, 0x13, // at 122: samples
-    0x20, 0x21, 0x22, 0x23, 0x30, 0x31, 0x32, 0x33,
-];
+/// 4 by 4, 8 bits, one channel, in one strip at 122; texel (x, y) is 16 * y + x.
+pub(crate) const SMALL: ImageFile = ImageFile {
+    name: "4 by 4",
+    base: Base::Small,
+    edits: &[],
+};
 
-/// The file `A`, big-endian.
-const SMALL_BIG: [u8; 138] = [
-    0x4d, 0x4d, 0, 0x2a, 0, 0, 0, 8, // header, the directory at 8
-    0, 9, // entries
-    1, 0x00, 0, 3, 0, 0, 0, 1, 0, 4, 0, 0, // at 10: ImageWidth 4
-    1, 0x01, 0, 3, 0, 0, 0, 1, 0, 4, 0, 0, // at 22: ImageLength 4
-    1, 0x02, 0, 3, 0, 0, 0, 1, 0, 8, 0, 0, // at 34: BitsPerSample 8
-    1, 0x03, 0, 3, 0, 0, 0, 1, 0, 1, 0, 0, // at 46: Compression 1
-    1, 0x06, 0, 3, 0, 0, 0, 1, 0, 1, 0, 0, // at 58: BlackIsZero
-    1, 0x11, 0, 4, 0, 0, 0, 1, 0, 0, 0, 122, // at 70: StripOffsets 122
-    1, 0x15, 0, 3, 0, 0, 0, 1, 0, 1, 0, 0, // at 82: SamplesPerPixel 1
-    1, 0x16, 0, 3, 0, 0, 0, 1, 0, 4, 0, 0, // at 94: RowsPerStrip 4
-    1, 0x17, 0, 4, 0, 0, 0, 1, 0, 0, 0, 16, // at 106: StripByteCounts 16
-    0, 0, 0, 0, // at 118: no further directory
-    0x00, 0x01, 0x02, 0x03, 0x10, 0x11, 0x12, 0x13, // at 122: samples
-    0x20, 0x21, 0x22, 0x23, 0x30, 0x31, 0x32, 0x33,
-];
+/// `SMALL`, highest byte first.
+pub(crate) const SMALL_BIG: ImageFile = ImageFile {
+    name: "4 by 4, highest byte first",
+    base: Base::SmallBig,
+    edits: &[],
+};
 
-/// A second directory, to be placed at 138: 2 by 2, 8 bits, one strip at 204, everything else by
-/// default.
-const HALF: [u8; 70] = [
-    5, 0, // entries
-    0x00, 1, 3, 0, 1, 0, 0, 0, 2, 0, 0, 0, // at 140: ImageWidth 2
-    0x01, 1, 3, 0, 1, 0, 0, 0, 2, 0, 0, 0, // at 152: ImageLength 2
-    0x02, 1, 3, 0, 1, 0, 0, 0, 8, 0, 0, 0, // at 164: BitsPerSample 8
-    0x11, 1, 3, 0, 1, 0, 0, 0, 204, 0, 0, 0, // at 176: StripOffsets 204
-    0x11, 1, 3, 0, 1, 0, 0, 0, 6, 0, 0, 0, // at 188: the same tag again, which does not count
-    0, 0, 0, 0, // at 200: no further directory
-    200, 201, 202, 203, // at 204: samples
-];
+/// `SMALL`, and a level of half its size: 200 + 2 * y + x.
+pub(crate) const TWO_LEVELS: ImageFile = ImageFile {
+    name: "two levels",
+    base: Base::TwoLevels,
+    edits: &[],
+};
 
-/// The file `A` as BigTIFF.
-const WIDE: [u8; 228] = [
-    0x49, 0x49, 43, 0, 8, 0, 0, 0, // header, the bytes of an offset, 0
-    16, 0, 0, 0, 0, 0, 0, 0, // the directory at 16
-    9, 0, 0, 0, 0, 0, 0, 0, // entries
-    0, 1, 3, 0, 1, 0, 0, 0, 0, 0, 0, 0, // at 24: ImageWidth 4
-    4, 0, 0, 0, 0, 0, 0, 0, //
-    1, 1, 3, 0, 1, 0, 0, 0, 0, 0, 0, 0, // at 44: ImageLength 4
-    4, 0, 0, 0, 0, 0, 0, 0, //
-    2, 1, 3, 0, 1, 0, 0, 0, 0, 0, 0, 0, // at 64: BitsPerSample 8
-    8, 0, 0, 0, 0, 0, 0, 0, //
-    3, 1, 3, 0, 1, 0, 0, 0, 0, 0, 0, 0, // at 84: Compression 1
-    1, 0, 0, 0, 0, 0, 0, 0, //
-    6, 1, 3, 0, 1, 0, 0, 0, 0, 0, 0, 0, // at 104: BlackIsZero
-    1, 0, 0, 0, 0, 0, 0, 0, //
-    17, 1, 16, 0, 1, 0, 0, 0, 0, 0, 0, 0, // at 124: StripOffsets 212, LONG8
-    212, 0, 0, 0, 0, 0, 0, 0, //
-    21, 1, 3, 0, 1, 0, 0, 0, 0, 0, 0, 0, // at 144: SamplesPerPixel 1
-    1, 0, 0, 0, 0, 0, 0, 0, //
-    22, 1, 3, 0, 1, 0, 0, 0, 0, 0, 0, 0, // at 164: RowsPerStrip 4
-    4, 0, 0, 0, 0, 0, 0, 0, //
-    23, 1, 4, 0, 1, 0, 0, 0, 0, 0, 0, 0, // at 184: StripByteCounts 16
-    16, 0, 0, 0, 0, 0, 0, 0, //
-    0, 0, 0, 0, 0, 0, 0, 0, // at 204: no further directory
-    0x00, 0x01, 0x02, 0x03, 0x10, 0x11, 0x12, 0x13, // at 212: samples
-    0x20, 0x21, 0x22, 0x23, 0x30, 0x31, 0x32, 0x33,
-];
+/// `SMALL` as BigTIFF.
+pub(crate) const WIDE: ImageFile = ImageFile {
+    name: "BigTIFF",
+    base: Base::Wide,
+    edits: &[],
+};
 
-/// The file `A` as big-endian BigTIFF.
-const WIDE_BIG: [u8; 228] = [
-    0x4d, 0x4d, 0, 43, 0, 8, 0, 0, // header, the bytes of an offset, 0
-    0, 0, 0, 0, 0, 0, 0, 16, // the directory at 16
-    0, 0, 0, 0, 0, 0, 0, 9, // entries
-    1, 0, 0, 3, 0, 0, 0, 0, 0, 0, 0, 1, // at 24: ImageWidth 4
-    0, 4, 0, 0, 0, 0, 0, 0, //
-    1, 1, 0, 3, 0, 0, 0, 0, 0, 0, 0, 1, // at 44: ImageLength 4
-    0, 4, 0, 0, 0, 0, 0, 0, //
-    1, 2, 0, 3, 0, 0, 0, 0, 0, 0, 0, 1, // at 64: BitsPerSample 8
-    0, 8, 0, 0, 0, 0, 0, 0, //
-    1, 3, 0, 3, 0, 0, 0, 0, 0, 0, 0, 1, // at 84: Compression 1
-    0, 1, 0, 0, 0, 0, 0, 0, //
-    1, 6, 0, 3, 0, 0, 0, 0, 0, 0, 0, 1, // at 104: BlackIsZero
-    0, 1, 0, 0, 0, 0, 0, 0, //
-    1, 17, 0, 16, 0, 0, 0, 0, 0, 0, 0, 1, // at 124: StripOffsets 212, LONG8
-    0, 0, 0, 0, 0, 0, 0, 212, //
-    1, 21, 0, 3, 0, 0, 0, 0, 0, 0, 0, 1, // at 144: SamplesPerPixel 1
-    0, 1, 0, 0, 0, 0, 0, 0, //
-    1, 22, 0, 3, 0, 0, 0, 0, 0, 0, 0, 1, // at 164: RowsPerStrip 4
-    0, 4, 0, 0, 0, 0, 0, 0, //
-    1, 23, 0, 4, 0, 0, 0, 0, 0, 0, 0, 1, // at 184: StripByteCounts 16
-    0, 0, 0, 16, 0, 0, 0, 0, //
-    0, 0, 0, 0, 0, 0, 0, 0, // at 204: no further directory
-    0x00, 0x01, 0x02, 0x03, 0x10, 0x11, 0x12, 0x13, // at 212: samples
-    0x20, 0x21, 0x22, 0x23, 0x30, 0x31, 0x32, 0x33,
-];
+/// `SMALL` as BigTIFF, highest byte first.
+pub(crate) const WIDE_BIG: ImageFile = ImageFile {
+    name: "BigTIFF, highest byte first",
+    base: Base::WideBig,
+    edits: &[],
+};
 
-/// A second BigTIFF directory, to be placed at 228: 2 by 2, 8 bits, one strip at 344, everything
-/// else by default.
-const WIDE_HALF: [u8; 120] = [
-    5, 0, 0, 0, 0, 0, 0, 0, // entries
-    0, 1, 16, 0, 1, 0, 0, 0, 0, 0, 0, 0, // at 236: ImageWidth 2, LONG8
-    2, 0, 0, 0, 0, 0, 0, 0, //
-    1, 1, 4, 0, 1, 0, 0, 0, 0, 0, 0, 0, // at 256: ImageLength 2, LONG
-    2, 0, 0, 0, 0, 0, 0, 0, //
-    2, 1, 3, 0, 1, 0, 0, 0, 0, 0, 0, 0, // at 276: BitsPerSample 8
-    8, 0, 0, 0, 0, 0, 0, 0, //
-    17, 1, 16, 0, 1, 0, 0, 0, 0, 0, 0, 0, // at 296: StripOffsets 344, LONG8
-    88, 1, 0, 0, 0, 0, 0, 0, //
-    17, 1, 3, 0, 1, 0, 0, 0, 0, 0, 0, 0, // at 316: the same tag again, which does not count
-    6, 0, 0, 0, 0, 0, 0, 0, //
-    0, 0, 0, 0, 0, 0, 0, 0, // at 336: no further directory
-    200, 201, 202, 203, // at 344: samples
-];
+/// `TWO_LEVELS` as BigTIFF.
+pub(crate) const WIDE_TWO: ImageFile = ImageFile {
+    name: "BigTIFF of two levels",
+    base: Base::WideTwoLevels,
+    edits: &[],
+};
 
-/// The bytes before the tiles of the file `B`.
-const TILED_HEAD: [u8; 184] = [
-    0x4d, 0x4d, 0, 0x2a, 0, 0, 0, 8, // header, the directory at 8
-    0, 11, // entries
-    1, 0x00, 0, 3, 0, 0, 0, 1, 0, 80, 0, 0, // ImageWidth 80
-    1, 0x01, 0, 3, 0, 0, 0, 1, 0, 48, 0, 0, // ImageLength 48
-    1, 0x02, 0, 3, 0, 0, 0, 3, 0, 0, 0, 146, // BitsPerSample, three values at 146
-    1, 0x03, 0, 3, 0, 0, 0, 1, 0, 1, 0, 0, // Compression 1
-    1, 0x06, 0, 3, 0, 0, 0, 1, 0, 2, 0, 0, // RGB
-    1, 0x15, 0, 3, 0, 0, 0, 1, 0, 3, 0, 0, // SamplesPerPixel 3
-    1, 0x1c, 0, 3, 0, 0, 0, 1, 0, 1, 0, 0, // chunky
-    1, 0x42, 0, 3, 0, 0, 0, 1, 0, 64, 0, 0, // TileWidth 64
-    1, 0x43, 0, 3, 0, 0, 0, 1, 0, 32, 0, 0, // TileLength 32
-    1, 0x44, 0, 4, 0, 0, 0, 4, 0, 0, 0, 152, // TileOffsets, four values at 152
-    1, 0x45, 0, 4, 0, 0, 0, 4, 0, 0, 0, 168, // TileByteCounts
-    0, 0, 0, 0, // at 142: no further directory
-    0, 16, 0, 16, 0, 16, // at 146
-    0, 0, 0, 0xb8, 0, 0, 0x30, 0xb8, // at 152: 184, 12472,
-    0, 0, 0x60, 0xb8, 0, 0, 0x90, 0xb8, // 24760, 37048
-    0, 0, 0x30, 0, 0, 0, 0x30, 0, 0, 0, 0x30, 0, 0, 0, 0x30, 0, // at 168: 12288 each
-];
+/// 80 by 48, 16 bits, three channels, highest byte first, in tiles of 64 by 32; channel c of texel
+/// (x, y) is 20000 * c + 100 * y + x.
+pub(crate) const TILED: ImageFile = ImageFile {
+    name: "tiles",
+    base: Base::Tiled,
+    edits: &[],
+};
 
-/// Channel c of texel (x, y) of the file `B`, or its padding.
-fn tiled_sample(x: u16, y: u16, c: u16) -> u16 {
-    if x < 80 && y < 48 && c < 3 {
-        20000 * c + 100 * y + x
-    } else {
-        65535
-    }
-}
+/// 100 by 80 in a strip, and a second page of that size.
+pub(crate) const PAGES: ImageFile = ImageFile {
+    name: "two pages",
+    base: Base::Pages,
+    edits: &[],
+};
 
-/// Appends a row of 64 texels of a tile.
-fn push_tile_row(file: &mut Vec<u8>, left: u16, y: u16) -> Result<(), AllocError> {
-    for column in 0..64u16 {
-        for c in 0..3u16 {
-            let sample = tiled_sample(left.wrapping_add(column), y, c);
-            file.extend_from_slice(&sample.to_be_bytes())?;
-        }
-    }
-    Ok(())
-}
+/// `SMALL` with WhiteIsZero.
+pub(crate) const WHITE: ImageFile = ImageFile {
+    name: "WhiteIsZero",
+    base: Base::Small,
+    edits: &[Put(66, &[0])],
+};
 
-/// Appends a tile of 64 by 32 texels, given its first texel.
-fn push_tile(file: &mut Vec<u8>, left: u16, top: u16) -> Result<(), AllocError> {
-    for row in 0..32u16 {
-        push_tile_row(file, left, top.wrapping_add(row))?;
-    }
-    Ok(())
-}
+/// 2 by 4, 16 bits, lowest byte first: the bytes of `SMALL`.
+pub(crate) const WORDS: ImageFile = ImageFile {
+    name: "16 bits, lowest byte first",
+    base: Base::Small,
+    edits: &[Put(18, &[2]), Put(42, &[16])],
+};
 
-/// 80 by 48, 16 bits, three channels, big-endian, tiles of 64 by 32; channel c of texel (x, y) is
-/// 20000 * c + 100 * y + x, and the padding is 65535.
-fn tiled(alloc: Global) -> Result<Vec<u8>, AllocError> {
-    let mut file = Vec::from_slice(alloc, &TILED_HEAD)?;
-    push_tile(&mut file, 0, 0)?;
-    push_tile(&mut file, 64, 0)?;
-    push_tile(&mut file, 0, 32)?;
-    push_tile(&mut file, 64, 32)?;
-    Ok(file)
-}
+/// 2 by 4, 16 bits, highest byte first: the bytes of `SMALL`.
+pub(crate) const WORDS_BIG: ImageFile = ImageFile {
+    name: "16 bits, highest byte first",
+    base: Base::SmallBig,
+    edits: &[Put(19, &[2]), Put(43, &[16])],
+};
 
-/// The file `A`, followed by a level of half its size.
-fn two(alloc: Global) -> Result<Vec<u8>, AllocError> {
-    let mut file = Vec::from_slice(alloc, &SMALL)?;
-    file.extend_from_slice(&HALF)?;
-    if let Some(next) = file.get_mut(118) {
-        *next = 138;
-    }
-    Ok(file)
-}
+/// `WORDS` with WhiteIsZero.
+pub(crate) const WHITE_WORDS: ImageFile = ImageFile {
+    name: "WhiteIsZero of 16 bits",
+    base: Base::Small,
+    edits: &[Put(18, &[2]), Put(42, &[16]), Put(66, &[0])],
+};
 
-/// The BigTIFF form of `A`, followed by a level of half its size.
-fn wide_two(alloc: Global) -> Result<Vec<u8>, AllocError> {
-    let mut file = Vec::from_slice(alloc, &WIDE)?;
-    file.extend_from_slice(&WIDE_HALF)?;
-    if let Some(next) = file.get_mut(204) {
-        *next = 228;
-    }
-    Ok(file)
-}
+/// 3 by 1: 10, 21, 30.
+pub(crate) const ROW: ImageFile = ImageFile {
+    name: "3 by 1",
+    base: Base::Small,
+    edits: &[Put(18, &[3]), Put(30, &[1]), Put(122, &[10, 21, 30])],
+};
 
-/// The file with a name.
-fn named(alloc: Global, name: &str) -> Result<Vec<u8>, Fail> {
-    match name {
-        "A" => Ok(Vec::from_slice(alloc, &SMALL)?),
-        "BigA" => Ok(Vec::from_slice(alloc, &SMALL_BIG)?),
-        "B" => Ok(tiled(alloc)?),
-        "Two" => Ok(two(alloc)?),
-        "Wide" => Ok(Vec::from_slice(alloc, &WIDE)?),
-        "BigWide" => Ok(Vec::from_slice(alloc, &WIDE_BIG)?),
-        "WideTwo" => Ok(wide_two(alloc)?),
-        "Pages" => Ok(pages(alloc)?),
-        "Chain" => Ok(chain(alloc)?),
-        _ => Err("no file of this name".into()),
-    }
-}
+/// 2 by 1, two channels, WhiteIsZero: 10 20, 250 60.
+pub(crate) const TWO_CHANNELS: ImageFile = ImageFile {
+    name: "WhiteIsZero of two channels",
+    base: Base::Small,
+    edits: &[
+        Put(18, &[2]),
+        Put(30, &[1]),
+        Put(38, &[2]),
+        Put(44, &[8]),
+        Put(66, &[0]),
+        Put(90, &[2]),
+        Put(122, &[10, 20, 250, 60]),
+    ],
+};
 
-/// Replaces bytes from a place on. Their numbers are separated by commas.
-fn put(file: &mut [u8], place: usize, bytes: &str) -> Result<(), Fail> {
-    let mut at = place;
-    for byte in bytes.split(',') {
-        let there = file.get_mut(at).ok_or("a change past the end")?;
-        *there = byte.parse()?;
-        at = at.wrapping_add(1);
-    }
-    Ok(())
-}
+/// 131072 by 1.
+pub(crate) const WIDEST: ImageFile = ImageFile {
+    name: "131072 by 1",
+    base: Base::Small,
+    edits: &[
+        Resize(131194),
+        Put(12, &[4]),
+        Put(18, &[0, 0, 2, 0]),
+        Put(30, &[1]),
+        Put(102, &[1]),
+    ],
+};
 
-/// Appends a two-byte number, lowest byte first, this many times.
-fn push_shorts(file: &mut Vec<u8>, short: u16, count: u32) -> Result<(), AllocError> {
-    for _ in 0..count {
-        file.extend_from_slice(&short.to_le_bytes())?;
-    }
-    Ok(())
-}
+/// 5 by 4, 16 bits, three channels, WhiteIsZero, in strips of two rows at 100 and 300. A row has 30
+/// bytes.
+pub(crate) const RGB_STRIPS: ImageFile = ImageFile {
+    name: "three channels in strips",
+    base: Base::Small,
+    edits: &[
+        Resize(400),
+        Put(18, &[5]),
+        Put(42, &[16]),
+        Put(66, &[0]),
+        Put(72, &[3]),
+        Put(74, &[2]),
+        Put(78, &[100, 0, 44, 1]),
+        Put(90, &[3]),
+        Put(102, &[2]),
+    ],
+};
 
-/// Applies one change: `to=7` keeps the first 7 bytes, or adds zeros up to 7; `8*3000` appends the
-/// number 8 3000 times; `18=5,0` puts 5 and 0 at 18 and 19.
-fn change(file: &mut Vec<u8>, word: &str) -> Result<(), Fail> {
-    if let Some((short, count)) = word.split_once('*') {
-        push_shorts(file, short.parse()?, count.parse()?)?;
-        return Ok(());
-    }
-    let (place, bytes) = word.split_once('=').ok_or("no change")?;
-    if place == "to" {
-        file.resize(bytes.parse()?, 0)?;
-        return Ok(());
-    }
-    put(file, place.parse()?, bytes)
-}
+/// 20 by 17, 16 bits, two channels, in tiles of 16 by 16 at 184, 12472, 24760 and 37048. A row of a
+/// tile has 64 bytes.
+pub(crate) const EDGES: ImageFile = ImageFile {
+    name: "edge tiles",
+    base: Base::Tiled,
+    edits: &[
+        Put(19, &[20]),
+        Put(31, &[17]),
+        Put(79, &[2]),
+        Put(103, &[16]),
+        Put(115, &[16]),
+    ],
+};
 
-/// The file that a text describes.
-pub(crate) fn file_of(alloc: Global, text: &str) -> Result<Vec<u8>, Fail> {
-    let mut words = text.split_whitespace();
-    let mut file = named(alloc, words.next().ok_or("no name")?)?;
-    for word in words {
-        change(&mut file, word)?;
-    }
-    Ok(file)
-}
+/// 4 by 6 in three strips of two rows, at 122, 130 and 138; texel (x, y) is 16 * y + x.
+pub(crate) const STRIPS: ImageFile = ImageFile {
+    name: "three strips",
+    base: Base::Small,
+    edits: &[
+        Append(16704, 1),
+        Append(17218, 1),
+        Append(20816, 1),
+        Append(21330, 1),
+        Append(122, 1),
+        Append(130, 1),
+        Append(138, 1),
+        Put(30, &[6]),
+        Put(72, &[3]),
+        Put(74, &[3]),
+        Put(78, &[146]),
+        Put(102, &[2]),
+    ],
+};
+
+/// `STRIPS` with its last strip one byte later, at 139.
+pub(crate) const GAP: ImageFile = ImageFile {
+    name: "a gap before the last strip",
+    base: Base::Small,
+    edits: &[
+        Append(16639, 1),
+        Append(16961, 1),
+        Append(20547, 1),
+        Append(21073, 1),
+        Append(83, 1),
+        Append(122, 1),
+        Append(130, 1),
+        Append(139, 1),
+        Put(30, &[6]),
+        Put(72, &[3]),
+        Put(74, &[3]),
+        Put(78, &[148]),
+        Put(102, &[2]),
+    ],
+};
+
+/// `STRIPS` with its last strip at 130, before the second at 138.
+pub(crate) const SHUFFLED: ImageFile = ImageFile {
+    name: "strips in another order",
+    base: Base::Small,
+    edits: &[
+        Resize(130),
+        Append(16704, 1),
+        Append(17218, 1),
+        Append(20816, 1),
+        Append(21330, 1),
+        Append(8480, 1),
+        Append(8994, 1),
+        Append(12592, 1),
+        Append(13106, 1),
+        Append(122, 1),
+        Append(138, 1),
+        Append(130, 1),
+        Put(30, &[6]),
+        Put(72, &[3]),
+        Put(74, &[3]),
+        Put(78, &[146]),
+        Put(102, &[2]),
+    ],
+};
+
+/// `TILED` with 8 bits: the bytes of its samples one after another, highest first. So a tile is the
+/// first half of one of `TILED`.
+pub(crate) const BYTES: ImageFile = ImageFile {
+    name: "tiles of 8 bits",
+    base: Base::Tiled,
+    edits: &[Put(147, &[8]), Put(149, &[8]), Put(151, &[8])],
+};
+
+/// Two planes of two strips each, the second strip with one row, WhiteIsZero.
+pub(crate) const PLANES: ImageFile = ImageFile {
+    name: "planes, WhiteIsZero",
+    base: Base::Small,
+    edits: &[
+        Put(66, &[0]),
+        Put(74, &[4]),
+        Put(78, &[138]),
+        Put(90, &[2]),
+        Put(102, &[3]),
+        Put(106, &[28]),
+        Put(114, &[2]),
+        Resize(170),
+        Put(
+            138,
+            &[
+                122, 0, 0, 0, 134, 0, 0, 0, 154, 0, 0, 0, 166, 0, 0, 0, 200, 201, 202, 203, 204,
+                205, 206, 207, 208, 209, 210, 211, 212,
+            ],
+        ),
+    ],
+};
+
+/// `PLANES` with BlackIsZero.
+pub(crate) const BLACK_PLANES: ImageFile = ImageFile {
+    name: "planes",
+    base: Base::Small,
+    edits: &[
+        Put(74, &[4]),
+        Put(78, &[138]),
+        Put(90, &[2]),
+        Put(102, &[3]),
+        Put(106, &[28]),
+        Put(114, &[2]),
+        Resize(170),
+        Put(
+            138,
+            &[
+                122, 0, 0, 0, 134, 0, 0, 0, 154, 0, 0, 0, 166, 0, 0, 0, 200, 201, 202, 203, 204,
+                205, 206, 207, 208, 209, 210, 211, 212,
+            ],
+        ),
+    ],
+};
+
+/// 8192 by 4096, one channel of 8 bits.
+pub(crate) const LARGE: ImageFile = ImageFile {
+    name: "8192 by 4096",
+    base: Base::Small,
+    edits: &[
+        Resize(33554554),
+        Put(18, &[0, 32]),
+        Put(30, &[0, 16]),
+        Put(102, &[0, 16]),
+    ],
+};

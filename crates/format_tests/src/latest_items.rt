@@ -1,6 +1,8 @@
 //! The microcache: the last two items of a caller that asks for cells.
+use crate::latest_items::Answer::{Hit, InPlaceOf, New};
 use micro::{Keyed, Micro};
 use std::test::Fail;
+use test_files::Checks;
 use tile_layout::TileKey;
 
 // An item made for a cell.
@@ -35,115 +37,203 @@ enum Answer {
 fn ask(items: &mut Micro<Made>, cell: u8) -> Answer {
     let key = cell_key(cell);
     if items.find(key) {
-        return Answer::Hit;
+        return Hit;
     }
     match items.place(Made { cell, key }) {
-        Some(made) => Answer::InPlaceOf(made.cell),
-        None => Answer::New,
+        Some(made) => InPlaceOf(made.cell),
+        None => New,
     }
 }
 
-fn is_first(items: &Micro<Made>, cell: u8) -> bool {
-    matches!(items.first(), Some(made) if made.cell == cell)
+// The cell of an item, or 0 without one.
+fn cell_of(made: Option<&Made>) -> u64 {
+    match made {
+        Some(made) => u64::from(made.cell),
+        None => 0,
+    }
 }
 
-fn shows(items: &Micro<Made>, cell: u8) -> bool {
-    let shown = matches!(items.peek(cell_key(cell)), Some(made) if made.cell == cell);
-    shown == items.has(cell_key(cell)) && shown
+// A cell that is asked for, and the answer.
+struct Asked {
+    cell: u8,
+    answer: Answer,
 }
 
-fn is_last(items: &mut Micro<Made>, cell: u8) -> bool {
-    matches!(items.take_last(), Some(made) if made.cell == cell)
+// The cells asked for, and the cells of the items at the end, the latest first. No case asks for
+// cell 9 or 0.
+struct Case {
+    name: &'static str,
+    asked: &'static [Asked],
+    left: &'static [u8],
 }
 
-// The name of a case, the cells asked for with the answers, and the cells of the items at the end,
-// the latest first. No case asks for cell 9.
-type Row = (&'static str, &'static [(u8, Answer)], &'static [u8]);
-
-static ROWS: &[Row] = &[
-    ("no cell", &[], &[]),
-    (
-        "one cell again and again",
-        &[(5, Answer::New), (5, Answer::Hit), (5, Answer::Hit)],
-        &[5],
-    ),
-    (
-        "two cells in turn",
-        &[
-            (1, Answer::New),
-            (2, Answer::New),
-            (1, Answer::Hit),
-            (2, Answer::Hit),
+static CASES: &[Case] = &[
+    Case {
+        name: "no cell",
+        asked: &[],
+        left: &[],
+    },
+    Case {
+        name: "one cell again and again",
+        asked: &[
+            Asked {
+                cell: 5,
+                answer: Answer::New,
+            },
+            Asked {
+                cell: 5,
+                answer: Answer::Hit,
+            },
+            Asked {
+                cell: 5,
+                answer: Answer::Hit,
+            },
         ],
-        &[2, 1],
-    ),
-    (
-        "three cells in turn",
-        &[
-            (1, Answer::New),
-            (2, Answer::New),
-            (3, Answer::InPlaceOf(1)),
-            (1, Answer::InPlaceOf(2)),
-            (2, Answer::InPlaceOf(3)),
-            (3, Answer::InPlaceOf(1)),
+        left: &[5],
+    },
+    Case {
+        name: "two cells in turn",
+        asked: &[
+            Asked {
+                cell: 1,
+                answer: Answer::New,
+            },
+            Asked {
+                cell: 2,
+                answer: Answer::New,
+            },
+            Asked {
+                cell: 1,
+                answer: Answer::Hit,
+            },
+            Asked {
+                cell: 2,
+                answer: Answer::Hit,
+            },
         ],
-        &[3, 2],
-    ),
-    (
-        "a hit is the latest",
-        &[
-            (1, Answer::New),
-            (2, Answer::New),
-            (1, Answer::Hit),
-            (3, Answer::InPlaceOf(2)),
-            (1, Answer::Hit),
-            (2, Answer::InPlaceOf(3)),
+        left: &[2, 1],
+    },
+    Case {
+        name: "three cells in turn",
+        asked: &[
+            Asked {
+                cell: 1,
+                answer: Answer::New,
+            },
+            Asked {
+                cell: 2,
+                answer: Answer::New,
+            },
+            Asked {
+                cell: 3,
+                answer: Answer::InPlaceOf(1),
+            },
+            Asked {
+                cell: 1,
+                answer: Answer::InPlaceOf(2),
+            },
+            Asked {
+                cell: 2,
+                answer: Answer::InPlaceOf(3),
+            },
+            Asked {
+                cell: 3,
+                answer: Answer::InPlaceOf(1),
+            },
         ],
-        &[2, 1],
-    ),
-    (
-        "the latest once more",
-        &[
-            (1, Answer::New),
-            (2, Answer::New),
-            (2, Answer::Hit),
-            (3, Answer::InPlaceOf(1)),
+        left: &[3, 2],
+    },
+    Case {
+        name: "a hit is the latest",
+        asked: &[
+            Asked {
+                cell: 1,
+                answer: Answer::New,
+            },
+            Asked {
+                cell: 2,
+                answer: Answer::New,
+            },
+            Asked {
+                cell: 1,
+                answer: Answer::Hit,
+            },
+            Asked {
+                cell: 3,
+                answer: Answer::InPlaceOf(2),
+            },
+            Asked {
+                cell: 1,
+                answer: Answer::Hit,
+            },
+            Asked {
+                cell: 2,
+                answer: Answer::InPlaceOf(3),
+            },
         ],
-        &[3, 2],
-    ),
+        left: &[2, 1],
+    },
+    Case {
+        name: "the latest once more",
+        asked: &[
+            Asked {
+                cell: 1,
+                answer: Answer::New,
+            },
+            Asked {
+                cell: 2,
+                answer: Answer::New,
+            },
+            Asked {
+                cell: 2,
+                answer: Answer::Hit,
+            },
+            Asked {
+                cell: 3,
+                answer: Answer::InPlaceOf(1),
+            },
+        ],
+        left: &[3, 2],
+    },
 ];
 
-fn answers(items: &mut Micro<Made>, asked: &[(u8, Answer)]) -> bool {
-    for (cell, answer) in asked {
-        if ask(items, *cell) != *answer || !is_first(items, *cell) {
-            return false;
-        }
+// Asks for the cells of a case. Each is the latest then.
+fn check_answers(checks: &mut Checks, items: &mut Micro<Made>, case: &Case) {
+    for asked in case.asked {
+        checks.holds("an answer", ask(items, asked.cell) == asked.answer);
+        checks.equal("the latest", cell_of(items.first()), u64::from(asked.cell));
     }
-    true
+    checks.holds("cell 9 is there", !items.has(cell_key(9)));
+    checks.holds("cell 9 is shown", items.peek(cell_key(9)).is_none());
 }
 
-fn leaves(items: &mut Micro<Made>, left: &[u8]) -> bool {
-    for cell in left {
-        if !shows(items, *cell) {
-            return false;
-        }
+// Shows what is left, and takes it out, the latest at the end.
+fn check_left(checks: &mut Checks, items: &mut Micro<Made>, case: &Case) {
+    for cell in case.left {
+        checks.holds("what is left is there", items.has(cell_key(*cell)));
+        let shown = cell_of(items.peek(cell_key(*cell)));
+        checks.equal("what is left", shown, u64::from(*cell));
     }
-    for cell in left.iter().rev() {
-        if !is_last(items, *cell) {
-            return false;
-        }
+    for cell in case.left.iter().rev() {
+        let last = items.take_last();
+        checks.equal(
+            "what is taken out",
+            cell_of(last.as_ref()),
+            u64::from(*cell),
+        );
     }
-    items.take_last().is_none() && items.first().is_none()
+    checks.holds("nothing is left to take", items.take_last().is_none());
+    checks.holds("nothing is left to show", items.first().is_none());
 }
 
 #[test]
 fn keeps_the_two_latest(rt: HostRuntime) -> Result<(), Fail> {
-    for (said, asked, left) in ROWS {
+    let mut checks = Checks::new();
+    for case in CASES {
         let mut items = Micro::new();
-        assert!(rt; answers(&mut items, asked), "{said}, the answers");
-        assert!(rt; !items.has(cell_key(9)), "{said}, another cell");
-        assert!(rt; items.peek(cell_key(9)).is_none(), "{said}, its item");
-        assert!(rt; leaves(&mut items, left), "{said}, what is left");
+        checks.case(case.name);
+        check_answers(&mut checks, &mut items, case);
+        check_left(&mut checks, &mut items, case);
     }
-    Ok(())
+    checks.result()
 }

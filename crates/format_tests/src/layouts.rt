@@ -5,24 +5,14 @@ ghost use Rattle.tiff_format.specs.Cut.{IsCut};
 ghost use Rattle.tile_layout.specs.Kept.{stored_count};
 ghost use Rattle.tile_layout.specs.Pieces.{LiesOnLevel};
 
-use crate::files::file_of;
-use crate::mem_reader::MemReader;
+use crate::files::{EDGES, PAGES, RGB_STRIPS, SMALL, TILED, TWO_LEVELS, WIDEST};
 use std::alloc::Global;
 use std::test::Fail;
+use test_files::Edit::{Put, Resize};
+use test_files::{Base, Checks, ImageFile, MemReader};
 use tiff_dirs::read_dirs;
 use tiff_format::{Cut, Rect};
-use tile_layout::{Layout, Piece, TexelFormat};
-
-/// An image of 131072 by 1.
-const WIDEST: &str = "A to=131194 12=4 18=0,0,2,0 30=1 102=1";
-
-/// 5 by 4, 16 bits, three channels, WhiteIsZero, in strips of two rows at 100 and 300. A row has 30
-/// bytes.
-const STRIPS: &str = "A to=400 18=5 42=16 66=0 72=3 74=2 78=100,0,44,1 90=3 102=2";
-
-/// 20 by 17, 16 bits, two channels, in tiles of 16 by 16 at 184, 12472, 24760 and 37048. A row of a
-/// tile has 64 bytes.
-const EDGES: &str = "B 19=20 31=17 79=2 103=16 115=16";
+use tile_layout::{Layout, Piece};
 
 /// The cut with squares of this side, if that is allowed.
 pub(crate) fn cut_of(autotile: u32, automip: bool) -> Option<Cut>
@@ -42,22 +32,42 @@ pub(crate) fn layout_in(alloc: Global, bytes: &[u8]) -> Result<Layout, Fail> {
     }
 }
 
-pub(crate) fn layout_of(alloc: Global, file: &str) -> Result<Layout, Fail> {
-    let bytes = file_of(alloc, file)?;
+pub(crate) fn layout_of(alloc: Global, file: &ImageFile) -> Result<Layout, Fail> {
+    let bytes = file.bytes(alloc)?;
     layout_in(alloc, &bytes)
 }
 
 /// A file, the number of stored levels, and the sizes of all levels.
-type LevelsRow = (&'static str, u32, &'static [(u32, u32)]);
+struct LevelsCase {
+    file: ImageFile,
+    stored: u32,
+    sizes: &'static [(u32, u32)],
+}
 
-static LEVELS: &[LevelsRow] = &[
-    ("A", 1, &[(4, 4), (2, 2), (1, 1)]),
-    ("A to=142 18=5", 1, &[(5, 4), (2, 2), (1, 1)]),
-    ("Two", 2, &[(4, 4), (2, 2)]),
-    (
-        "Pages",
-        1,
-        &[
+static LEVELS: &[LevelsCase] = &[
+    LevelsCase {
+        file: SMALL,
+        stored: 1,
+        sizes: &[(4, 4), (2, 2), (1, 1)],
+    },
+    LevelsCase {
+        file: ImageFile {
+            name: "5 by 4",
+            base: Base::Small,
+            edits: &[Resize(142), Put(18, &[5])],
+        },
+        stored: 1,
+        sizes: &[(5, 4), (2, 2), (1, 1)],
+    },
+    LevelsCase {
+        file: TWO_LEVELS,
+        stored: 2,
+        sizes: &[(4, 4), (2, 2)],
+    },
+    LevelsCase {
+        file: PAGES,
+        stored: 1,
+        sizes: &[
             (100, 80),
             (50, 40),
             (25, 20),
@@ -66,11 +76,11 @@ static LEVELS: &[LevelsRow] = &[
             (3, 2),
             (1, 1),
         ],
-    ),
-    (
-        WIDEST,
-        1,
-        &[
+    },
+    LevelsCase {
+        file: WIDEST,
+        stored: 1,
+        sizes: &[
             (131072, 1),
             (65536, 1),
             (32768, 1),
@@ -90,148 +100,312 @@ static LEVELS: &[LevelsRow] = &[
             (2, 1),
             (1, 1),
         ],
-    ),
+    },
 ];
 
-/// Whether there is such a level, and it has this size.
-fn has_size(layout: &Layout, cut: Cut, level: u32, size: (u32, u32)) -> bool
-    requires { IsCut cut }
-{
-    if level >= layout.levels(cut) {
-        return false;
-    }
-    let (width, height) = layout.size(level);
-    width == size.0 && height == size.1
-}
-
-/// How many levels, from 0 on, have the sizes of a case.
-fn levels_of(layout: &Layout, cut: Cut, sizes: &[(u32, u32)]) -> u32
-    requires { IsCut cut }
-{
-    let mut level = 0u32;
-    for size in sizes {
-        if !has_size(layout, cut, level, *size) {
-            return level;
+fn check_levels(checks: &mut Checks, layout: &Layout, case: &LevelsCase) {
+    let halved = Cut {
+        autotile: 64,
+        automip: true,
+    };
+    let as_stored = Cut {
+        autotile: 0,
+        automip: false,
+    };
+    let stored = u64::from(case.stored);
+    checks.equal("stored levels", u64::from(layout.stored()), stored);
+    let levels = layout.levels(as_stored);
+    checks.equal("levels without automip", u64::from(levels), stored);
+    let levels = layout.levels(halved);
+    checks.equal("levels", u64::from(levels), case.sizes.len() as u64);
+    let mut level = 0;
+    for size in case.sizes {
+        if level < levels {
+            let (width, height) = layout.size(level);
+            checks.equal("a level's width", u64::from(width), u64::from(size.0));
+            checks.equal("a level's height", u64::from(height), u64::from(size.1));
+            level += 1;
         }
-        level = level.saturating_add(1);
     }
-    level
 }
 
-#[test]
-fn counts_the_levels(rt: HostRuntime) -> Result<(), Fail> {
-    let halved = cut_of(64, true).ok_or("no such cut")?;
-    let as_stored = cut_of(0, false).ok_or("no such cut")?;
-    for (file, stored, sizes) in LEVELS {
-        let layout = layout_of(rt.alloc(), file)?;
-        assert_eq!(rt; layout.stored(), *stored, "{file}");
-        assert_eq!(rt; layout.levels(as_stored), *stored, "{file}");
-        let levels = layout.levels(halved);
-        assert_eq!(rt; levels as usize, sizes.len(), "{file}");
-        let right = levels_of(&layout, halved, sizes);
-        assert_eq!(rt; right, levels, "{file}, the first level of another size");
-    }
-    Ok(())
+/// A file, and how level 0 stores its samples. `big` is whether numbers have their highest byte
+/// first, `invert` how many channels are inverted.
+struct SamplesCase {
+    file: ImageFile,
+    depth: u32,
+    channels: u32,
+    white: bool,
+    big: bool,
+    invert: usize,
+    texel_bytes: usize,
 }
 
-/// A file; the depth and channels of its level 0, and whether it is WhiteIsZero; whether numbers
-/// have their highest byte first; how many channels are inverted, and the bytes of a texel.
-type SamplesRow = (&'static str, (u32, u32, bool), bool, (usize, usize));
-
-static SAMPLES: &[SamplesRow] = &[
-    ("A", (8, 1, false), false, (0, 1)),
-    ("A 18=2 30=1 66=0 90=2", (8, 2, true), false, (2, 2)),
-    (STRIPS, (16, 3, true), false, (3, 6)),
-    ("B", (16, 3, false), true, (0, 6)),
-    (EDGES, (16, 2, false), true, (0, 4)),
+static SAMPLES: &[SamplesCase] = &[
+    SamplesCase {
+        file: SMALL,
+        depth: 8,
+        channels: 1,
+        white: false,
+        big: false,
+        invert: 0,
+        texel_bytes: 1,
+    },
+    SamplesCase {
+        file: ImageFile {
+            name: "two channels, WhiteIsZero",
+            base: Base::Small,
+            edits: &[Put(18, &[2]), Put(30, &[1]), Put(66, &[0]), Put(90, &[2])],
+        },
+        depth: 8,
+        channels: 2,
+        white: true,
+        big: false,
+        invert: 2,
+        texel_bytes: 2,
+    },
+    SamplesCase {
+        file: RGB_STRIPS,
+        depth: 16,
+        channels: 3,
+        white: true,
+        big: false,
+        invert: 3,
+        texel_bytes: 6,
+    },
+    SamplesCase {
+        file: TILED,
+        depth: 16,
+        channels: 3,
+        white: false,
+        big: true,
+        invert: 0,
+        texel_bytes: 6,
+    },
+    SamplesCase {
+        file: EDGES,
+        depth: 16,
+        channels: 2,
+        white: false,
+        big: true,
+        invert: 0,
+        texel_bytes: 4,
+    },
 ];
 
-/// Whether the layout has the samples of a case.
-fn has_samples(layout: &Layout, row: &SamplesRow) -> bool {
-    let (_, (depth, channels, white), big, _) = row;
-    layout.stored() > 0
-        && layout.depth() == *depth
-        && layout.channels() == *channels
-        && layout.white(0) == *white
-        && layout.big() == *big
-}
-
-/// Whether a format has the samples of a case.
-fn is_format(format: &TexelFormat, row: &SamplesRow) -> bool {
-    let (_, (depth, channels, white), big, (invert, texel_bytes)) = row;
-    format.depth == *depth
-        && format.channels == *channels as usize
-        && (format.invert != 0) == *white
-        && format.big == *big
-        && format.invert == *invert
-        && format.texel_bytes == *texel_bytes
-}
-
-/// Whether the format of level 0 has the samples of a case.
-fn has_format(layout: &Layout, row: &SamplesRow) -> bool {
-    layout.stored() > 0 && layout.planes(0) > 0 && is_format(&layout.format(0, 0), row)
-}
-
-#[test]
-fn shows_the_samples(rt: HostRuntime) -> Result<(), Fail> {
-    for row in SAMPLES {
-        let layout = layout_of(rt.alloc(), row.0)?;
-        assert!(rt; has_samples(&layout, row), "{}", row.0);
-        assert!(rt; has_format(&layout, row), "{}, its format", row.0);
+fn check_samples(checks: &mut Checks, layout: &Layout, case: &SamplesCase) {
+    if layout.stored() == 0 || layout.planes(0) == 0 {
+        checks.holds("a stored level", false);
+        return;
     }
-    Ok(())
+    let (depth, channels) = (u64::from(case.depth), u64::from(case.channels));
+    checks.equal("depth", u64::from(layout.depth()), depth);
+    checks.equal("channels", u64::from(layout.channels()), channels);
+    checks.holds("white", layout.white(0) == case.white);
+    checks.holds("big", layout.big() == case.big);
+    let format = layout.format(0, 0);
+    checks.part("format");
+    checks.equal("depth", u64::from(format.depth), depth);
+    checks.equal("channels", format.channels as u64, channels);
+    checks.holds("big", format.big == case.big);
+    checks.equal("invert", format.invert as u64, case.invert as u64);
+    checks.equal(
+        "texel_bytes",
+        format.texel_bytes as u64,
+        case.texel_bytes as u64,
+    );
 }
 
-/// A place in the file, a column and a row, and how many texels follow one another there.
-type Texels = (u64, u32, u32, u32);
-
-/// Column, row, width and height.
+/// The column, the row, the width and the height of a rectangle.
 pub(crate) type Place = (u32, u32, u32, u32);
 
-/// A file, a level, a rectangle, and its pieces.
-type PiecesRow = (&'static str, u32, Place, &'static [Texels]);
+pub(crate) fn rect_of((x, y, w, h): Place) -> Rect {
+    Rect { x, y, w, h }
+}
 
-static PIECES: &[PiecesRow] = &[
-    (
-        "A",
-        0,
-        (0, 0, 4, 4),
-        &[
-            (122, 0, 0, 4),
-            (126, 0, 1, 4),
-            (130, 0, 2, 4),
-            (134, 0, 3, 4),
+/// A file, a level, a rectangle, and its pieces.
+struct PiecesCase {
+    file: ImageFile,
+    level: u32,
+    place: Place,
+    pieces: &'static [Piece],
+}
+
+static PIECES: &[PiecesCase] = &[
+    PiecesCase {
+        file: SMALL,
+        level: 0,
+        place: (0, 0, 4, 4),
+        pieces: &[
+            Piece {
+                at: 122,
+                x: 0,
+                y: 0,
+                n: 4,
+            },
+            Piece {
+                at: 126,
+                x: 0,
+                y: 1,
+                n: 4,
+            },
+            Piece {
+                at: 130,
+                x: 0,
+                y: 2,
+                n: 4,
+            },
+            Piece {
+                at: 134,
+                x: 0,
+                y: 3,
+                n: 4,
+            },
         ],
-    ),
-    ("A", 0, (3, 2, 1, 1), &[(133, 3, 2, 1)]),
-    ("A", 0, (1, 1, 0, 3), &[]),
-    ("A", 0, (1, 1, 3, 0), &[]),
-    ("A", 0, (4, 4, 0, 0), &[]),
-    ("Two", 1, (0, 0, 2, 2), &[(204, 0, 0, 2), (206, 0, 1, 2)]),
+    },
+    PiecesCase {
+        file: SMALL,
+        level: 0,
+        place: (3, 2, 1, 1),
+        pieces: &[Piece {
+            at: 133,
+            x: 3,
+            y: 2,
+            n: 1,
+        }],
+    },
+    PiecesCase {
+        file: SMALL,
+        level: 0,
+        place: (1, 1, 0, 3),
+        pieces: &[],
+    },
+    PiecesCase {
+        file: SMALL,
+        level: 0,
+        place: (1, 1, 3, 0),
+        pieces: &[],
+    },
+    PiecesCase {
+        file: SMALL,
+        level: 0,
+        place: (4, 4, 0, 0),
+        pieces: &[],
+    },
+    PiecesCase {
+        file: TWO_LEVELS,
+        level: 1,
+        place: (0, 0, 2, 2),
+        pieces: &[
+            Piece {
+                at: 204,
+                x: 0,
+                y: 0,
+                n: 2,
+            },
+            Piece {
+                at: 206,
+                x: 0,
+                y: 1,
+                n: 2,
+            },
+        ],
+    },
     // texel (1, 1) is the seventh of strip 0, (1, 2) the second of strip 1
-    (STRIPS, 0, (1, 1, 3, 2), &[(136, 1, 1, 3), (306, 1, 2, 3)]),
-    // texel (79, 47) is in tile 3, at column 15 and row 15 of it
-    ("B", 0, (79, 47, 1, 1), &[(42898, 79, 47, 1)]),
-    // around the corner where the four tiles meet
-    (
-        "B",
-        0,
-        (60, 31, 20, 2),
-        &[
-            (12448, 60, 31, 4),
-            (24376, 64, 31, 16),
-            (25120, 60, 32, 4),
-            (37048, 64, 32, 16),
+    PiecesCase {
+        file: RGB_STRIPS,
+        level: 0,
+        place: (1, 1, 3, 2),
+        pieces: &[
+            Piece {
+                at: 136,
+                x: 1,
+                y: 1,
+                n: 3,
+            },
+            Piece {
+                at: 306,
+                x: 1,
+                y: 2,
+                n: 3,
+            },
         ],
-    ),
-    (
-        EDGES,
-        0,
-        (0, 16, 20, 1),
-        &[(24760, 0, 16, 16), (37048, 16, 16, 4)],
-    ),
+    },
+    // texel (79, 47) is in tile 3, at column 15 and row 15 of it
+    PiecesCase {
+        file: TILED,
+        level: 0,
+        place: (79, 47, 1, 1),
+        pieces: &[Piece {
+            at: 42898,
+            x: 79,
+            y: 47,
+            n: 1,
+        }],
+    },
+    // around the corner where the four tiles meet
+    PiecesCase {
+        file: TILED,
+        level: 0,
+        place: (60, 31, 20, 2),
+        pieces: &[
+            Piece {
+                at: 12448,
+                x: 60,
+                y: 31,
+                n: 4,
+            },
+            Piece {
+                at: 24376,
+                x: 64,
+                y: 31,
+                n: 16,
+            },
+            Piece {
+                at: 25120,
+                x: 60,
+                y: 32,
+                n: 4,
+            },
+            Piece {
+                at: 37048,
+                x: 64,
+                y: 32,
+                n: 16,
+            },
+        ],
+    },
+    PiecesCase {
+        file: EDGES,
+        level: 0,
+        place: (0, 16, 20, 1),
+        pieces: &[
+            Piece {
+                at: 24760,
+                x: 0,
+                y: 16,
+                n: 16,
+            },
+            Piece {
+                at: 37048,
+                x: 16,
+                y: 16,
+                n: 4,
+            },
+        ],
+    },
     // column 2 and row 3 of tile 1
-    (EDGES, 0, (18, 3, 2, 1), &[(12672, 18, 3, 2)]),
+    PiecesCase {
+        file: EDGES,
+        level: 0,
+        place: (18, 3, 2, 1),
+        pieces: &[Piece {
+            at: 12672,
+            x: 18,
+            y: 3,
+            n: 2,
+        }],
+    },
 ];
 
 /// Whether `count` texels from `from` on lie on a side.
@@ -241,53 +415,51 @@ fn lies_on(from: u32, count: u32, side: u32) -> bool
     from <= side && count <= side - from
 }
 
-/// The rectangle of a place, if the level is stored and contains it.
-pub(crate) fn rect_on(layout: &Layout, level: u32, place: Place) -> Option<Rect>
-    ensures stored { IfSome result (λ rect. level < stored_count layout.now) }
-    ensures inside { IfSome result (λ rect. LiesOnLevel layout.now level rect) }
+/// Whether the level is stored and contains the rectangle.
+pub(crate) fn has_rect(layout: &Layout, level: u32, rect: Rect) -> bool
+    ensures stored { IsTrue result → level < stored_count layout.now }
+    ensures inside { IsTrue result → LiesOnLevel layout.now level rect }
 {
-    let (x, y, w, h) = place;
     if level >= layout.stored() {
-        return None;
+        return false;
     }
     let (width, height) = layout.size(level);
-    if lies_on(x, w, width) && lies_on(y, h, height) {
-        Some(Rect { x, y, w, h })
-    } else {
-        None
-    }
+    lies_on(rect.x, rect.w, width) && lies_on(rect.y, rect.h, height)
 }
 
-fn is_at(piece: &Piece, wanted: &Texels) -> bool {
-    let (at, x, y, n) = wanted;
-    piece.at == *at && piece.x == *x && piece.y == *y && piece.n == *n
-}
-
-/// Whether the stored level contains the rectangle, and its pieces are the expected ones.
-fn has_pieces(layout: &Layout, level: u32, place: Place, wanted: &[Texels]) -> bool {
-    let Some(rect) = rect_on(layout, level, place) else {
-        return false;
-    };
-    let mut count = 0usize;
-    for piece in layout.pieces(level, rect) {
-        if count >= wanted.len() || !is_at(&piece, &wanted[count]) {
-            return false;
+fn check_pieces(checks: &mut Checks, layout: &Layout, case: &PiecesCase) {
+    let mut count = 0;
+    let rect = rect_of(case.place);
+    if has_rect(layout, case.level, rect) {
+        for piece in layout.pieces(case.level, rect) {
+            if let Some(wanted) = case.pieces.get(count) {
+                checks.equal("a piece's place", piece.at, wanted.at);
+                checks.equal("a piece's column", u64::from(piece.x), u64::from(wanted.x));
+                checks.equal("a piece's row", u64::from(piece.y), u64::from(wanted.y));
+                checks.equal("a piece's texels", u64::from(piece.n), u64::from(wanted.n));
+            }
+            count = count.saturating_add(1);
         }
-        count = count.saturating_add(1);
+    } else {
+        checks.holds("a stored level with the rectangle", false);
     }
-    count == wanted.len()
+    checks.equal("pieces", count as u64, case.pieces.len() as u64);
 }
 
 #[test]
-fn places_the_pieces(rt: HostRuntime) -> Result<(), Fail> {
-    for (file, level, place, wanted) in PIECES {
-        let layout = layout_of(rt.alloc(), file)?;
-        let is_so = has_pieces(&layout, *level, *place, wanted);
-        assert!(rt;
-            is_so,
-            "{file}, {} {} {} {}",
-            place.0, place.1, place.2, place.3
-        );
+fn lays_out_levels_samples_and_pieces(rt: HostRuntime) -> Result<(), Fail> {
+    let mut checks = Checks::new();
+    for case in LEVELS {
+        checks.case(case.file.name);
+        check_levels(&mut checks, &layout_of(rt.alloc(), &case.file)?, case);
     }
-    Ok(())
+    for case in SAMPLES {
+        checks.case(case.file.name);
+        check_samples(&mut checks, &layout_of(rt.alloc(), &case.file)?, case);
+    }
+    for case in PIECES {
+        checks.case(case.file.name);
+        check_pieces(&mut checks, &layout_of(rt.alloc(), &case.file)?, case);
+    }
+    checks.result()
 }

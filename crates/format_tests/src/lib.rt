@@ -4,8 +4,6 @@
 #![tactic(auto)]
 
 #[cfg(test)]
-mod built_files;
-#[cfg(test)]
 mod cell_loads;
 #[cfg(test)]
 mod cells;
@@ -20,17 +18,15 @@ mod layouts;
 #[cfg(test)]
 mod made_textures;
 #[cfg(test)]
-mod mem_reader;
-#[cfg(test)]
 mod plain_rects;
 #[cfg(test)]
 mod plain_shard;
 #[cfg(test)]
 mod reads;
 #[cfg(test)]
-mod rects;
+mod rect_cases;
 #[cfg(test)]
-mod rooms;
+mod rects;
 #[cfg(test)]
 mod shard_calls;
 #[cfg(test)]
@@ -38,10 +34,6 @@ mod shards;
 #[cfg(test)]
 mod texels;
 #[cfg(test)]
-mod tiled;
-#[cfg(test)]
 mod tiles;
 #[cfg(test)]
 mod unpacking;
-#[cfg(test)]
-mod untold;

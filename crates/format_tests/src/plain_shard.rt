@@ -1,9 +1,9 @@
 //! Compares thousands of calls on shards of 1 to 40 slots with a plain list that is searched each
 //! time.
-use crate::shard_calls::{counts, find, insert, release};
-use crate::untold::{OneShard, gray, one_shard};
+use crate::shard_calls::{Call, Cell, OneShard, answer, counts};
 use std::alloc::{AllocError, Global};
 use std::test::Fail;
+use test_files::Checks;
 use tile_layout::TileKey;
 
 // One tile of the list, which has the most recently used tile first.
@@ -95,9 +95,34 @@ fn counted(list: &Vec<Listed>) -> [u64; 3] {
     [list.len() as u64, pins, loose(list)]
 }
 
-// One of 24 keys, over two files and three generations.
-fn one_key(number: u32) -> TileKey {
-    TileKey::new(1 + number % 3, number / 3 % 2, 0, number / 6 % 4)
+// Makes a call on the list, and returns its answer. A tile has 6 bytes a texel.
+fn list_answer(list: &mut Vec<Listed>, call: Call, slots: u32) -> Result<bool, AllocError> {
+    match call {
+        Call::Find(cell) => pin(list, cell.key()),
+        Call::Insert(cell, side) => {
+            if counted(list)[1] >= u64::from(slots) {
+                return Ok(false);
+            }
+            let side = u64::from(side);
+            add(list, cell.key(), 6 * side * side, slots as usize)?;
+            Ok(true)
+        }
+        Call::Release(cell, share) => Ok(unpin(list, cell.key(), share)),
+        Call::Purge(file, below) => {
+            let (file, below) = (u32::from(file), u32::from(below));
+            list.retain(|e| e.pins > 0 || e.key.file() != file || e.key.generation() >= below);
+            Ok(true)
+        }
+    }
+}
+
+// One of 24 cells, over two files and three generations.
+fn one_cell(number: u32) -> Cell {
+    Cell {
+        generation: (1 + number % 3) as u8,
+        file: (number / 3 % 2) as u8,
+        index: (number / 6 % 4) as u8,
+    }
 }
 
 // The next random number.
@@ -108,48 +133,23 @@ fn next(seed: &mut u64) -> u32 {
     (*seed >> 33) as u32
 }
 
-// Makes the same call on both, and returns whether they answered alike.
-fn find_both(
-    shard: &mut OneShard,
-    list: &mut Vec<Listed>,
-    key: TileKey,
-) -> Result<bool, AllocError> {
-    let found = find(shard, key);
-    Ok(pin(list, key)? == found)
-}
-
-fn insert_both(
-    alloc: Global,
-    shard: &mut OneShard,
-    list: &mut Vec<Listed>,
-    key: TileKey,
-    slots: u32,
-) -> Result<bool, AllocError> {
-    let side = 1 + key.index() % 4;
-    let full = counted(list)[1] >= slots as u64;
-    let kept = insert(shard, gray(alloc, key, side, side)?, slots);
-    if kept {
-        add(list, key, 6 * (side * side) as u64, slots as usize)?;
+// The next random call.
+fn next_call(seed: &mut u64) -> Call {
+    let cell = one_cell(next(seed));
+    let number = next(seed);
+    match next(seed) % 8 {
+        0 | 1 => Call::Find(cell),
+        2 | 3 => Call::Insert(cell, 1 + cell.index % 4),
+        4 => Call::Purge((number % 2) as u8, (number / 2 % 5) as u8),
+        _ => Call::Release(cell, u64::from(number % 200)),
     }
-    Ok(kept != full)
-}
-
-fn purge_both(shard: &mut OneShard, list: &mut Vec<Listed>, file: u32, below: u32) -> bool {
-    shard.purge(file, below);
-    list.retain(|e| e.pins > 0 || e.key.file() != file || e.key.generation() >= below);
-    true
-}
-
-fn release_both(shard: &mut OneShard, list: &mut Vec<Listed>, key: TileKey, share: u64) -> bool {
-    let released = release(shard, key, share);
-    unpin(list, key, share) == released
 }
 
 // Whether both have the same counts and the same pinned keys, and every key there has a slot.
 fn are_alike(shard: &OneShard, list: &Vec<Listed>) -> bool {
     let mut alike = counts(shard) == counted(list);
     for number in 0..24 {
-        let key = one_key(number);
+        let key = one_cell(number).key();
         let pinned = match place(list, key) {
             Some(i) => i < list.len() && list[i].pins > 0,
             None => false,
@@ -160,38 +160,53 @@ fn are_alike(shard: &OneShard, list: &Vec<Listed>) -> bool {
     alike
 }
 
-// Makes one call on both.
-fn call_both(
-    alloc: Global,
-    shard: &mut OneShard,
-    list: &mut Vec<Listed>,
-    seed: &mut u64,
-    slots: u32,
-) -> Result<bool, AllocError> {
-    let key = one_key(next(seed));
-    let number = next(seed);
-    match next(seed) % 8 {
-        0 | 1 => find_both(shard, list, key),
-        2 | 3 => insert_both(alloc, shard, list, key, slots),
-        4 => Ok(purge_both(shard, list, number % 2, number / 2 % 5)),
-        _ => Ok(release_both(shard, list, key, (number % 200) as u64)),
-    }
-}
-
-#[test]
-fn keeps_what_a_plain_list_keeps(rt: HostRuntime) -> Result<(), Fail> {
-    let mut seed = 2026u64;
-    // 1 slot is always taken or free, 5 and 12 are often full, and 40 never are
-    for slots in [1, 5, 12, 40] {
-        let mut shard = one_shard(rt.alloc(), slots)?;
-        let mut list = Vec::new(rt.alloc());
-        for call in 0..3000 {
-            let alike = call_both(rt.alloc(), &mut shard, &mut list, &mut seed, slots)?;
-            assert!(rt;
-                alike && are_alike(&shard, &list),
-                "{slots} slots, at call {call}"
-            );
+// Makes 3000 calls on both.
+fn check_calls(alloc: Global, checks: &mut Checks, seed: &mut u64, slots: u32) -> Result<(), Fail> {
+    let mut shard = OneShard::with_slots(alloc, slots)?;
+    let mut list = Vec::new(alloc);
+    for number in 0..3000u64 {
+        let call = next_call(seed);
+        let answers = list_answer(&mut list, call, slots)?
+            == answer(alloc, &mut shard, call, slots)?;
+        if !answers || !are_alike(&shard, &list) {
+            checks.equal("the first call after which they differ", number, u64::MAX);
         }
     }
     Ok(())
+}
+
+// 1 slot is always taken or free, 5 and 12 are often full, and 40 never are.
+struct Case {
+    name: &'static str,
+    slots: u32,
+}
+
+static CASES: &[Case] = &[
+    Case {
+        name: "1 slot",
+        slots: 1,
+    },
+    Case {
+        name: "5 slots",
+        slots: 5,
+    },
+    Case {
+        name: "12 slots",
+        slots: 12,
+    },
+    Case {
+        name: "40 slots",
+        slots: 40,
+    },
+];
+
+#[test]
+fn keeps_what_a_plain_list_keeps(rt: HostRuntime) -> Result<(), Fail> {
+    let mut checks = Checks::new();
+    let mut seed = 2026u64;
+    for case in CASES {
+        checks.case(case.name);
+        check_calls(rt.alloc(), &mut checks, &mut seed, case.slots)?;
+    }
+    checks.result()
 }

@@ -1,101 +1,320 @@
 //! Samples and values of texels, by the plain reader.
 
-use crate::files::file_of;
+use crate::files::{
+    ROW, SMALL, SMALL_BIG, TILED, TWO_CHANNELS, TWO_LEVELS, WHITE_WORDS, WIDE, WIDE_BIG, WIDE_TWO,
+    WORDS_BIG,
+};
 use std::test::Fail;
+use test_files::Edit::Put;
+use test_files::{Base, Checks, ImageFile};
 use tiff_format::Form;
 use tiff_plain::{directory_place, first_fault, sample_at, stored_levels, value_at};
 
-/// A file, level, column, row and channel, and the sample and the value there.
-type Row = (&'static str, (u32, u32, u32, u32), (u32, u16));
+/// A texel of a level of a file, and the sample and the value of a channel.
+struct TexelCase {
+    file: ImageFile,
+    level: u32,
+    texel: (u32, u32),
+    channel: u32,
+    sample: u32,
+    value: u16,
+}
 
-static ROWS: &[Row] = &[
+static CASES: &[TexelCase] = &[
     // texel (x, y) is 16 * y + x
-    ("A", (0, 0, 0, 0), (0, 0)),
-    ("A", (0, 3, 0, 0), (3, 771)),
-    ("A", (0, 1, 2, 0), (33, 8481)),
-    ("A", (0, 3, 3, 0), (51, 13107)),
-    ("BigA", (0, 1, 2, 0), (33, 8481)),
-    ("BigA", (0, 3, 3, 0), (51, 13107)),
-    ("Wide", (0, 1, 2, 0), (33, 8481)),
-    ("BigWide", (0, 3, 3, 0), (51, 13107)),
-    ("WideTwo", (1, 1, 0, 0), (201, 51657)),
+    TexelCase {
+        file: SMALL,
+        level: 0,
+        texel: (0, 0),
+        channel: 0,
+        sample: 0,
+        value: 0,
+    },
+    TexelCase {
+        file: SMALL,
+        level: 0,
+        texel: (3, 0),
+        channel: 0,
+        sample: 3,
+        value: 771,
+    },
+    TexelCase {
+        file: SMALL,
+        level: 0,
+        texel: (1, 2),
+        channel: 0,
+        sample: 33,
+        value: 8481,
+    },
+    TexelCase {
+        file: SMALL,
+        level: 0,
+        texel: (3, 3),
+        channel: 0,
+        sample: 51,
+        value: 13107,
+    },
+    TexelCase {
+        file: SMALL_BIG,
+        level: 0,
+        texel: (1, 2),
+        channel: 0,
+        sample: 33,
+        value: 8481,
+    },
+    TexelCase {
+        file: SMALL_BIG,
+        level: 0,
+        texel: (3, 3),
+        channel: 0,
+        sample: 51,
+        value: 13107,
+    },
+    TexelCase {
+        file: WIDE,
+        level: 0,
+        texel: (1, 2),
+        channel: 0,
+        sample: 33,
+        value: 8481,
+    },
+    TexelCase {
+        file: WIDE_BIG,
+        level: 0,
+        texel: (3, 3),
+        channel: 0,
+        sample: 51,
+        value: 13107,
+    },
+    TexelCase {
+        file: WIDE_TWO,
+        level: 1,
+        texel: (1, 0),
+        channel: 0,
+        sample: 201,
+        value: 51657,
+    },
     // in level 1 it is 200 + 2 * y + x
-    ("Two", (1, 0, 0, 0), (200, 51400)),
-    ("Two", (1, 1, 0, 0), (201, 51657)),
-    ("Two", (1, 0, 1, 0), (202, 51914)),
-    ("Two", (1, 1, 1, 0), (203, 52171)),
+    TexelCase {
+        file: TWO_LEVELS,
+        level: 1,
+        texel: (0, 0),
+        channel: 0,
+        sample: 200,
+        value: 51400,
+    },
+    TexelCase {
+        file: TWO_LEVELS,
+        level: 1,
+        texel: (1, 0),
+        channel: 0,
+        sample: 201,
+        value: 51657,
+    },
+    TexelCase {
+        file: TWO_LEVELS,
+        level: 1,
+        texel: (0, 1),
+        channel: 0,
+        sample: 202,
+        value: 51914,
+    },
+    TexelCase {
+        file: TWO_LEVELS,
+        level: 1,
+        texel: (1, 1),
+        channel: 0,
+        sample: 203,
+        value: 52171,
+    },
     // 3 by 1: 10, 21, 30
-    ("A 18=3 30=1 122=10,21,30", (0, 1, 0, 0), (21, 5397)),
-    ("A 18=3 30=1 122=10,21,30", (0, 2, 0, 0), (30, 7710)),
+    TexelCase {
+        file: ROW,
+        level: 0,
+        texel: (1, 0),
+        channel: 0,
+        sample: 21,
+        value: 5397,
+    },
+    TexelCase {
+        file: ROW,
+        level: 0,
+        texel: (2, 0),
+        channel: 0,
+        sample: 30,
+        value: 7710,
+    },
     // 2 by 1, two channels, WhiteIsZero: 10 20, 250 60
-    (
-        "A 18=2 30=1 38=2 44=8 66=0 90=2 122=10,20,250,60",
-        (0, 0, 0, 0),
-        (245, 62965),
-    ),
-    (
-        "A 18=2 30=1 38=2 44=8 66=0 90=2 122=10,20,250,60",
-        (0, 0, 0, 1),
-        (20, 5140),
-    ),
-    (
-        "A 18=2 30=1 38=2 44=8 66=0 90=2 122=10,20,250,60",
-        (0, 1, 0, 0),
-        (5, 1285),
-    ),
-    (
-        "A 18=2 30=1 38=2 44=8 66=0 90=2 122=10,20,250,60",
-        (0, 1, 0, 1),
-        (60, 15420),
-    ),
+    TexelCase {
+        file: TWO_CHANNELS,
+        level: 0,
+        texel: (0, 0),
+        channel: 0,
+        sample: 245,
+        value: 62965,
+    },
+    TexelCase {
+        file: TWO_CHANNELS,
+        level: 0,
+        texel: (0, 0),
+        channel: 1,
+        sample: 20,
+        value: 5140,
+    },
+    TexelCase {
+        file: TWO_CHANNELS,
+        level: 0,
+        texel: (1, 0),
+        channel: 0,
+        sample: 5,
+        value: 1285,
+    },
+    TexelCase {
+        file: TWO_CHANNELS,
+        level: 0,
+        texel: (1, 0),
+        channel: 1,
+        sample: 60,
+        value: 15420,
+    },
     // 2 by 4, 16 bits, WhiteIsZero: 0x0100 is the first and 0x3332 the last
-    ("A 18=2 42=16 66=0", (0, 0, 0, 0), (65279, 65279)),
-    ("A 18=2 42=16 66=0", (0, 1, 3, 0), (52429, 52429)),
-    ("BigA 19=2 43=16", (0, 0, 0, 0), (0x0001, 0x0001)),
-    ("BigA 19=2 43=16", (0, 1, 3, 0), (0x3233, 0x3233)),
+    TexelCase {
+        file: WHITE_WORDS,
+        level: 0,
+        texel: (0, 0),
+        channel: 0,
+        sample: 65279,
+        value: 65279,
+    },
+    TexelCase {
+        file: WHITE_WORDS,
+        level: 0,
+        texel: (1, 3),
+        channel: 0,
+        sample: 52429,
+        value: 52429,
+    },
+    TexelCase {
+        file: WORDS_BIG,
+        level: 0,
+        texel: (0, 0),
+        channel: 0,
+        sample: 0x0001,
+        value: 0x0001,
+    },
+    TexelCase {
+        file: WORDS_BIG,
+        level: 0,
+        texel: (1, 3),
+        channel: 0,
+        sample: 0x3233,
+        value: 0x3233,
+    },
     // channel c of texel (x, y) is 20000 * c + 100 * y + x
-    ("B", (0, 0, 0, 0), (0, 0)),
-    ("B", (0, 63, 31, 0), (3163, 3163)),
-    ("B", (0, 64, 31, 1), (23164, 23164)),
-    ("B", (0, 63, 32, 2), (43263, 43263)),
-    ("B", (0, 64, 32, 0), (3264, 3264)),
-    ("B", (0, 79, 0, 1), (20079, 20079)),
-    ("B", (0, 0, 47, 1), (24700, 24700)),
-    ("B", (0, 79, 47, 2), (44779, 44779)),
+    TexelCase {
+        file: TILED,
+        level: 0,
+        texel: (0, 0),
+        channel: 0,
+        sample: 0,
+        value: 0,
+    },
+    TexelCase {
+        file: TILED,
+        level: 0,
+        texel: (63, 31),
+        channel: 0,
+        sample: 3163,
+        value: 3163,
+    },
+    TexelCase {
+        file: TILED,
+        level: 0,
+        texel: (64, 31),
+        channel: 1,
+        sample: 23164,
+        value: 23164,
+    },
+    TexelCase {
+        file: TILED,
+        level: 0,
+        texel: (63, 32),
+        channel: 2,
+        sample: 43263,
+        value: 43263,
+    },
+    TexelCase {
+        file: TILED,
+        level: 0,
+        texel: (64, 32),
+        channel: 0,
+        sample: 3264,
+        value: 3264,
+    },
+    TexelCase {
+        file: TILED,
+        level: 0,
+        texel: (79, 0),
+        channel: 1,
+        sample: 20079,
+        value: 20079,
+    },
+    TexelCase {
+        file: TILED,
+        level: 0,
+        texel: (0, 47),
+        channel: 1,
+        sample: 24700,
+        value: 24700,
+    },
+    TexelCase {
+        file: TILED,
+        level: 0,
+        texel: (79, 47),
+        channel: 2,
+        sample: 44779,
+        value: 44779,
+    },
 ];
 
-/// Whether the file is valid, the level stored, and these are the sample and the value.
-fn has_texel(
-    bytes: &[u8],
-    (l, x, y, c): (u32, u32, u32, u32),
-    (sample, value): (u32, u16),
-) -> bool {
-    first_fault(bytes).is_none()
-        && l < stored_levels(bytes)
-        && sample_at(bytes, l, x, y, c) == sample
-        && value_at(bytes, l, x, y, c) == value
-}
-
-#[test]
-fn answers_texels(rt: HostRuntime) -> Result<(), Fail> {
-    for (file, place, wanted) in ROWS {
-        let bytes = file_of(rt.alloc(), file)?;
-        let (l, x, y, c) = place;
-        assert!(rt;
-            has_texel(&bytes, *place, *wanted),
-            "{file}, {l} {x} {y} {c}"
-        );
+/// Checks the sample and the value, if the file is valid and the level stored.
+fn check_texel(checks: &mut Checks, bytes: &[u8], case: &TexelCase) {
+    let (level, (x, y), channel) = (case.level, case.texel, case.channel);
+    if first_fault(bytes).is_some() || level >= stored_levels(bytes) {
+        checks.holds("a valid file with the level", false);
+        return;
     }
-    Ok(())
+    let sample = sample_at(bytes, level, x, y, channel);
+    checks.equal("sample", u64::from(sample), u64::from(case.sample));
+    let value = value_at(bytes, level, x, y, channel);
+    checks.equal("value", u64::from(value), u64::from(case.value));
 }
 
-#[test]
-fn follows_a_loop(rt: HostRuntime) -> Result<(), Fail> {
-    let bytes = file_of(rt.alloc(), "A 118=8")?;
+/// The third directory of a file whose only directory, at 8, leads back to itself.
+fn third_in_loop(bytes: &[u8]) -> u64 {
     let form = Form {
         big: false,
         wide: false,
     };
-    assert_eq!(rt; directory_place(form, &bytes, 3), Some(8));
-    Ok(())
+    directory_place(form, bytes, 3).unwrap_or(0)
+}
+
+/// `SMALL` whose directory leads back to itself.
+const LOOP: ImageFile = ImageFile {
+    name: "a directory that leads to itself",
+    base: Base::Small,
+    edits: &[Put(118, &[8])],
+};
+
+#[test]
+fn answers_texels(rt: HostRuntime) -> Result<(), Fail> {
+    let mut checks = Checks::new();
+    for case in CASES {
+        checks.case(case.file.name);
+        check_texel(&mut checks, &case.file.bytes(rt.alloc())?, case);
+    }
+    checks.case(LOOP.name);
+    let third = third_in_loop(&LOOP.bytes(rt.alloc())?);
+    checks.equal("the place of directory 3", third, 8);
+    checks.result()
 }

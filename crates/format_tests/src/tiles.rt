@@ -1,7 +1,7 @@
 //! The texels of a tile.
-use crate::untold::Untold;
 use std::alloc::{AllocError, Global};
 use std::test::Fail;
+use test_files::{Checks, Untold};
 use tiff_format::Rect;
 use tile_layout::TileKey;
 use tile_store::{Row, Tile};
@@ -49,60 +49,62 @@ const RECT: Rect = Rect {
     h: 2,
 };
 
-// A tile with two samples per texel.
-fn tile_of(alloc: Global, key: TileKey) -> Result<Tile<Untold>, AllocError> {
-    Ok(Tile::new(key, RECT, 2, SAMPLES.to_vec(alloc)?))
+// A tile with two samples per texel, of one byte each or two.
+fn tile_of(alloc: Global, key: TileKey, has_bytes: bool) -> Result<Tile<Untold>, AllocError> {
+    if has_bytes {
+        Ok(Tile::of_bytes(key, RECT, 2, BYTES.to_vec(alloc)?))
+    } else {
+        Ok(Tile::new(key, RECT, 2, SAMPLES.to_vec(alloc)?))
+    }
 }
 
-// The same tile with one byte per sample.
-fn tile_of_bytes(alloc: Global, key: TileKey) -> Result<Tile<Untold>, AllocError> {
-    Ok(Tile::of_bytes(key, RECT, 2, BYTES.to_vec(alloc)?))
-}
-
-// Whether the tile has these samples, and counts two bytes for each.
-fn has_samples(tile: &Tile<Untold>) -> bool {
-    tile.channels() == 2
-        && tile.bytes() == 24
-        && has_sample(tile, (8, 4, 0), 10)
-        && has_sample(tile, (9, 4, 1), 21)
-        && has_sample(tile, (10, 5, 1), 61)
-        && has_row(tile, (9, 5, 2), &[50, 51, 60, 61])
-        && has_row(tile, (8, 4, 0), &[])
-}
-
-// Whether copying a row of the tile gives these samples.
-fn copies(tile: &Tile<Untold>, y: u32, samples: &[u16; 6]) -> bool {
+// Copies a row of the tile; zeros if it has no such row.
+fn copied(tile: &Tile<Untold>, y: u32) -> [u16; 6] {
+    let mut out = [0; 6];
     let rect = tile.rect();
     if rect.w != 3 || tile.channels() != 2 || y < rect.y || y - rect.y >= rect.h {
-        return false;
+        return out;
     }
-    let mut out = [0; 6];
     let row = tile.row(rect.x, y, rect.w);
-    if row.count() != out.len() {
-        return false;
+    if row.count() == out.len() {
+        row.copy_to(&mut out);
     }
-    row.copy_to(&mut out);
-    out == *samples
+    out
 }
 
 #[test]
-fn shows_its_texels(rt: HostRuntime) -> Result<(), Fail> {
+fn shows_its_texels_and_counts_two_bytes_a_sample(rt: HostRuntime) -> Result<(), Fail> {
+    let mut checks = Checks::new();
     let key = TileKey::new(1, 2, 3, 4);
-    let tile = tile_of(rt.alloc(), key)?;
-    assert!(rt; tile.key() == key);
-    assert!(rt; !tile.has_bytes());
-    assert!(rt; has_samples(&tile));
-    assert!(rt; copies(&tile, 4, &[10, 11, 20, 21, 30, 31]));
-    Ok(())
-}
-
-#[test]
-fn keeps_a_byte_a_sample(rt: HostRuntime) -> Result<(), Fail> {
-    let key = TileKey::new(1, 2, 3, 4);
-    let tile = tile_of_bytes(rt.alloc(), key)?;
-    assert!(rt; tile.key() == key);
-    assert!(rt; tile.has_bytes());
-    assert!(rt; has_samples(&tile));
-    assert!(rt; copies(&tile, 5, &[40, 41, 50, 51, 60, 61]));
-    Ok(())
+    for has_bytes in [false, true] {
+        checks.case(if has_bytes {
+            "a byte a sample"
+        } else {
+            "two bytes a sample"
+        });
+        let tile = tile_of(rt.alloc(), key, has_bytes)?;
+        checks.holds("the key", tile.key() == key);
+        checks.holds("has_bytes", tile.has_bytes() == has_bytes);
+        checks.equal("channels", u64::from(tile.channels()), 2);
+        checks.equal("bytes", tile.bytes(), 24);
+        checks.holds("the first sample", has_sample(&tile, (8, 4, 0), 10));
+        checks.holds("sample 1 of texel (9, 4)", has_sample(&tile, (9, 4, 1), 21));
+        checks.holds("the last sample", has_sample(&tile, (10, 5, 1), 61));
+        checks.holds(
+            "a part of row 5",
+            has_row(&tile, (9, 5, 2), &[50, 51, 60, 61]),
+        );
+        checks.holds("nothing of row 4", has_row(&tile, (8, 4, 0), &[]));
+        checks.samples(
+            "row 4, copied",
+            &copied(&tile, 4),
+            &[10, 11, 20, 21, 30, 31],
+        );
+        checks.samples(
+            "row 5, copied",
+            &copied(&tile, 5),
+            &[40, 41, 50, 51, 60, 61],
+        );
+    }
+    checks.result()
 }

@@ -8,11 +8,10 @@ use Rattle.std.proofs.lemmas.Nat.{mul-add-lt}
 use Rattle.std.proofs.Common.{take, drop}
 use Rattle.std.proofs.lemmas.List.FromFn.{map-range_with_len_more}
 use Rattle.tex_world.specs.World.{Files}
-use Rattle.tex_world.specs.Tap.{TapState}
 use Rattle.tiff_format.specs.declared.rect.Rect.{Rect}
 use Rattle.tile_layout.specs.Cell.{HoldsTexel}
 use Rattle.tile_store.specs.Tile.{CachedTile}
-use Rattle.gen_board.specs.View.{ViewState, KeepsLooks}
+use Rattle.gen_board.specs.View.{ViewState}
 use Rattle.file_table.specs.Record.{RecordState}
 use Rattle.file_table.specs.Calls.{KeepsView}
 use Rattle.micro.specs.Runs.{AreAsked}
@@ -25,9 +24,9 @@ use Rattle.texel_values.specs.Area.{IsZeroBeside, area_cell}
 use Rattle.texel_values.specs.Region.{value_at}
 use Rattle.tile_layout.specs.Value.{channel_value_of}
 use Rattle.texel_values.specs.Window.{column_of, row_of, HasValuesOn, KeepsOthersOn}
-use Rattle.image_cache.specs.Pass.{CacheState, PassState, SamePlace, IsPassOf}
-use Rattle.image_cache.specs.Pass.{counted_together, max_count, SameCounts}
-use Rattle.image_cache.specs.Call.{Needs, AfterNeed, LeavesNoHand, NoneFalls}
+use Rattle.tile_source.specs.Pass.{PassState}
+use Rattle.tile_source.specs.Pass.{counted_together, max_count, SameCounts}
+use Rattle.tile_source.specs.Call.{Needs}
 use Rattle.image_cache.specs.Call.{KeepsGiven}
 use Rattle.image_cache.specs.Region.{area_keys, HasArea, HasAreaAt, HasAreaOf, ReadsRegion}
 use Rattle.tiff_format.specs.declared.fault.TiffFault.{TiffFault}
@@ -46,98 +45,6 @@ use Rattle.texel_values.specs.Region.{AreRegionValues}
 use Rattle.texel_values.proofs.AreaLemmas.{region_values}
 use Rattle.std.specs.Prelude.{IsOkAnd, IfOk, IsSomeAnd}
 use Rattle.std.proofs.Common.{◌*◌, Option, Some, Result, Ok, Err, replicate}
-
--- ---- what is left
-
-pub keeps_view_chain : (file : ℕ) (a b c : ViewState) → KeepsView file a b → KeepsView file b c
-    → KeepsView file a c
-keeps_view_chain file a b c ab bc = record {
-  board = bc.board ∙ ab.board;
-  later = λ f. omega (arith, ab.later f, bc.later f);
-  seen_others = λ f other. bc.seen_others f other ∙ ab.seen_others f other;
-  steps_others = λ f other. bc.steps_others f other ∙ ab.steps_others f other;
-}
-
-pub looks_chain : (a b c : ViewState) → KeepsLooks a b → KeepsLooks b c → KeepsLooks a c
-looks_chain a b c ab bc = record { looks = bc.looks ∙ ab.looks; looked = bc.looked ∙ ab.looked }
-
--- the view is the same
-pub looks_same : (a b : ViewState) → b ≡ a → KeepsLooks a b
-looks_same a b same = record {
-  looks = ap (λ (v : ViewState). v.looks) same;
-  looked = ap (λ (v : ViewState). v.looked) same;
-}
-
-pub after_chain : (file : ℕ) (a b c : PassState) → AfterNeed file a b → AfterNeed file b c
-    → AfterNeed file a c
-after_chain file a b c ab bc = record {
-  place = record {
-    board = bc.place.board ∙ ab.place.board;
-    gate = bc.place.gate ∙ ab.place.gate;
-    cut = bc.place.cut ∙ ab.place.cut;
-    permits = bc.place.permits ∙ ab.place.permits;
-    joined = bc.place.joined ∙ ab.place.joined;
-  };
-  view = keeps_view_chain file a.view b.view c.view ab.view bc.view;
-  looks = looks_chain a.view b.view c.view ab.looks bc.looks;
-  steps = omega (arith, ab.steps, bc.steps);
-  few = bc.few;
-  holds = bc.holds ∙ ab.holds;
-  latest = bc.latest ∙ ab.latest;
-}
-
-pub after_none : (file : ℕ) (pass : PassState) → length pass.pinned.recent ≤ 2
-    → AfterNeed file pass pass
-after_none file pass few = record {
-  place = record { board = refl; gate = refl; cut = refl; permits = refl; joined = refl };
-  view = record {
-    board = refl;
-    later = λ f. omega arith;
-    seen_others = λ f other. refl;
-    steps_others = λ f other. refl;
-  };
-  looks = record { looks = refl; looked = refl };
-  steps = omega arith;
-  few = few;
-  holds = refl;
-  latest = refl;
-}
-
-pub none_fell : (tap : TapState) → NoneFalls tap tap
-none_fell tap = record {
-  faults = omega arith;
-  calls = omega arith;
-  opens = omega arith;
-  moves = omega arith;
-  asks = refl;
-  newest = refl;
-}
-
-pub same_cache : (cache : CacheState) (old new : PassState) → SamePlace old new
-    → IsPassOf cache old → IsPassOf cache new
-same_cache cache old new place of = record {
-  board = place.board ∙ of.board;
-  gate = place.gate ∙ of.gate;
-  cut = place.cut ∙ of.cut;
-}
-
-pub hand_chain : (Busy : Type 0) (a b c : PassState) → LeavesNoHand Busy a b
-    → LeavesNoHand Busy b c → LeavesNoHand Busy a c
-hand_chain Busy a b c ab (inl none) = inl none
-hand_chain Busy a b c (inl none) (inr (inl same)) = inl (same ∙ none)
-hand_chain Busy a b c (inr (inl before)) (inr (inl same)) = inr (inl (same ∙ before))
-hand_chain Busy a b c (inr (inr busy)) (inr (inl same)) = inr (inr busy)
-hand_chain Busy a b c ab (inr (inr busy)) = inr (inr busy)
-
-pub none_falls_chain : (a b c : TapState) → NoneFalls a b → NoneFalls b c → NoneFalls a c
-none_falls_chain a b c ab bc = record {
-  faults = omega (arith, ab.faults, bc.faults);
-  calls = omega (arith, ab.calls, bc.calls);
-  opens = omega (arith, ab.opens, bc.opens);
-  moves = omega (arith, ab.moves, bc.moves);
-  asks = bc.asks ∙ ab.asks;
-  newest = bc.newest ∙ ab.newest;
-}
 
 -- ---- needs
 

@@ -10,27 +10,19 @@ use Rattle.shard_gate.specs.Gate.{GateState}
 use Rattle.file_table.specs.Record.{RecordState}
 use Rattle.file_table.specs.Calls.{KeepsView, LooksOnce, GivesRecord, OpensIfAtAll}
 use Rattle.file_table.specs.Calls.{sighted}
-use Rattle.image_cache.specs.Pass.{PassState}
-use Rattle.image_cache.specs.Pass.{KeepsAllBut, view_and_record}
-use Rattle.image_cache.specs.Call.{AfterCall, IsOfLook, KeepsOne, LeavesNoHand, NoneFalls}
-use Rattle.image_cache.specs.declared.error.CacheError.{CacheError}
-use Rattle.image_cache.specs.declared.error.CacheError.TheVariants as refused
-use Rattle.image_cache.specs.Cause.{Around, MetAgain, MetNewer, RestsOnGiven, HasCause}
-use Rattle.image_cache.specs.Cause.{StepCause, OpeningCause}
-use Rattle.image_cache.proofs.TexelLemmas.{cause_since, rises_since}
-use Rattle.image_cache.specs.Reading.{PassTap, ReadsOn, pass_tap}
-use Rattle.image_cache.proofs.FillLemmas.{keeps_view_chain, none_fell, none_falls_chain, hand_chain}
-
-pub opens_falls : (a b : TapState) → OpensIfAtAll a b → NoneFalls a b
-opens_falls a b (inl same) = subst (λ (s : TapState). NoneFalls a s) (sym same) (none_fell a)
-opens_falls a b (inr once) = record {
-  faults = once.faults;
-  calls = once.calls.later;
-  opens = omega (arith, once.opens);
-  moves = once.moves;
-  asks = once.asks;
-  newest = once.newest;
-}
+use Rattle.tile_source.specs.Pass.{PassState}
+use Rattle.tile_source.specs.Pass.{KeepsAllBut, view_and_record}
+use Rattle.tile_source.specs.Call.{LeavesNoHand, NoneFalls}
+use Rattle.image_cache.specs.Call.{AfterCall, IsOfLook, KeepsOne}
+use Rattle.tile_source.specs.declared.error.CacheError.{CacheError}
+use Rattle.tile_source.specs.declared.error.CacheError.TheVariants as refused
+use Rattle.tile_source.specs.Cause.{MetNewer}
+use Rattle.image_cache.specs.Cause.{Around, MetAgain, RestsOnGiven, HasCause}
+use Rattle.tile_source.specs.Cause.{StepCause}
+use Rattle.image_cache.specs.Cause.{OpeningCause}
+use Rattle.tile_source.proofs.TexelLemmas.{cause_since, rises_since}
+use Rattle.tile_source.specs.Source.{PassTap, ReadsOn, pass_tap}
+use Rattle.tile_source.proofs.StepLemmas.{keeps_view_chain, none_falls_chain, hand_chain, opens_falls}
 
 -- the tap after both
 pub falls_behind : {files : Files} {gate : GateState} {known : RecordState} {a b : PassTap}

@@ -29,16 +29,16 @@ use Rattle.pinned_tiles.specs.Pinned.{key_in, AsksFor, IsAskedFor, StaysAskedFor
 use Rattle.pinned_tiles.specs.Cell.{has_cell, StandsFirst}
 use Rattle.micro.specs.Items.{key_first}
 use Rattle.pinned_tiles.proofs.TurnLemmas.{stands_has}
-use Rattle.image_cache.specs.Pass.{PassState, counted, counted_together}
-use Rattle.image_cache.specs.Texel.{cell_number_at, cell_of, IsCellIn, IsCellAt, has_cell_by}
-use Rattle.image_cache.specs.Texel.{has_cell_at, IsTexelOf, IsTexelIn}
-use Rattle.image_cache.specs.Call.{CountsNeed, Needs}
-use Rattle.image_cache.specs.Pass.{KeepsAllBut, recent_and_counts}
+use Rattle.tile_source.specs.Pass.{PassState, counted, counted_together}
+use Rattle.tile_source.specs.Texel.{cell_number_at, cell_of, IsCellIn, IsCellAt, has_cell_by}
+use Rattle.tile_source.specs.Texel.{has_cell_at, IsTexelOf, IsTexelIn}
+use Rattle.tile_source.specs.Call.{CountsNeed, Needs}
+use Rattle.tile_source.specs.Pass.{KeepsAllBut, recent_and_counts}
 use Rattle.image_cache.specs.Square.{left_top, right_top, left_bottom, right_bottom}
 use Rattle.image_cache.specs.Square.{LieInOne, LieInOneOf, IsShownAt, AreShown}
 use Rattle.image_cache.specs.Square.{MeetsAt, MeetsSquare, MeetsRest}
-use Rattle.image_cache.proofs.NeedLemmas.{needs_hit}
-use Rattle.image_cache.proofs.TexelLemmas.{at_cell, asks_at, told_by_record}
+use Rattle.tile_source.proofs.NeedLemmas.{needs_hit}
+use Rattle.tile_source.proofs.TexelLemmas.{at_cell, asks_at, told_by_record}
 
 -- ---- their cell
 

@@ -5,12 +5,13 @@ use Rattle.tex_world.specs.World.{Files}
 use Rattle.tex_world.specs.Tap.{TapState}
 use Rattle.gen_board.specs.View.{ViewState}
 use Rattle.file_table.specs.Record.{RecordState}
-use Rattle.image_cache.specs.declared.error.CacheError.{CacheError}
-use Rattle.image_cache.specs.declared.error.CacheError.TheVariants as refused
-use Rattle.image_cache.specs.Pass.{PassState}
-use Rattle.image_cache.specs.Pass.{KeepsAllBut, view_and_record}
+use Rattle.tile_source.specs.declared.error.CacheError.{CacheError}
+use Rattle.tile_source.specs.declared.error.CacheError.TheVariants as refused
+use Rattle.tile_source.specs.Pass.{PassState}
+use Rattle.tile_source.specs.Pass.{KeepsAllBut, view_and_record}
 use Rattle.image_cache.specs.Call.{KeepsRecent}
-use Rattle.image_cache.specs.Cause.{FetchCause, KeepsRecentAt}
+use Rattle.tile_source.specs.Cause.{FetchCause}
+use Rattle.image_cache.specs.Cause.{KeepsRecentAt}
 
 -- a call that leaves all but the record leaves them
 pub recent_of : (old new : PassState) → KeepsAllBut view_and_record old new → KeepsRecent old new

@@ -1,22 +1,21 @@
 -- What does it leave to fetch a texel for a lookup?
-use Rattle.std.specs.Prelude.{◌≡◌, ◌≤◌, true, false}
-use Rattle.tex_world.specs.declared.tap.Tap as a_tap
-use Rattle.tex_world.specs.declared.tap.TapHandle as a_handle
-use Rattle.waiter.specs.declared.waiting.Waiter as a_waiter
+use Rattle.std.specs.Prelude.{◌≡◌, ◌⊎◌, ◌≤◌, true, false, Result, IsTrue, IfErr, OnOk, OnErr}
 use Rattle.tex_world.specs.World.{Files}
 use Rattle.file_table.specs.Record.{RecordState}
+use Rattle.file_table.specs.Calls.{sighted}
 use Rattle.shard_gate.specs.Gate.{GateState}
 use Rattle.shard_gate.specs.Since.{PurgesNone}
 use Rattle.texel_filter.specs.Image.{Texel}
 use Rattle.texel_values.specs.declared.texel_at.TexelAt.{TexelAt}
-use Rattle.image_cache.specs.declared.error.CacheError.{CacheError}
-use Rattle.image_cache.specs.Pass.{PassState}
-use Rattle.image_cache.specs.Texel.{has_cell_at, IsStoredAt}
-use Rattle.image_cache.specs.Call.{CountsNeed, AsksForCellAt, NeedsCellAt, AfterNeed, NoneFalls}
-use Rattle.image_cache.specs.Call.{MovesCellAt, NoneApart, MayBeApart}
-use Rattle.image_cache.specs.Cause.{FetchCause, WantsByOpening}
-use Rattle.image_cache.specs.declared.reading.Reading.{Reading}
-use Rattle.image_cache.specs.Reading.{PassTap, IsSameCall, moment}
+use Rattle.tile_source.specs.declared.error.CacheError.{CacheError}
+use Rattle.tile_source.specs.Pass.{PassState}
+use Rattle.tile_source.specs.Texel.{has_cell_at, IsStoredAt}
+use Rattle.tile_source.specs.Call.{CountsNeed, AsksForCellAt, NeedsCellAt, AfterNeed, NoneFalls}
+use Rattle.tile_source.specs.Call.{MovesCellAt, NoneUncached, MayBeUncached, LeavesNoHand, HasNoCall}
+use Rattle.tile_source.specs.Call.{MissesCellAt, HoldsCellAt}
+use Rattle.tile_source.specs.Cause.{FetchCause, MovesOnlyAgain, AnswersFromHold, WantsByOpening}
+use Rattle.tile_source.specs.Source.{PassTap, IsNeededAt}
+use Rattle.image_cache.specs.Call.{AnswersWarm}
 
 -- the place of an image's texel, as the cache names it
 abbrev pub at_of : Texel → TexelAt
@@ -27,10 +26,10 @@ at_of texel = record { level = texel.level; x = texel.x; y = texel.y }
 pub record AsksForCell (files : Files) (state : RecordState) (texel : Texel) (old new : PassState)
     : Type 0 where
   pub need : CountsNeed (has_cell_at state (at_of texel) old.pinned.recent) old new
-  pub apart : MayBeApart files old new
-  pub asked : NoneApart old new
+  pub apart : MayBeUncached files old new
+  pub asked : NoneUncached old new
       → AsksForCellAt state (at_of texel) old.pinned.recent new.pinned.recent
-  pub needs : NoneApart old new → NeedsCellAt files state (at_of texel) old new
+  pub needs : NoneUncached old new → NeedsCellAt files state (at_of texel) old new
 
 -- The tap was not called, the pass has checked no generation, and the tile was moved to the front
 -- of its microcache.
@@ -64,18 +63,37 @@ pub record Refuses {B : Type 0} (files : Files) (gate : GateState) (state : Reco
   pub apart : old.pass.apart ≤ new.pass.apart
   pub memory : IsStoredAt state (at_of texel) → WantsByOpening old.tap new.tap e
 
--- ---- the state of a call on a record
-
-module _ {V T Busy W H : Type 0} {v : a_waiter.Ghosts V Busy} {t : a_tap.Ghosts T W H}
-    {h : a_handle.Ghosts H W} where
-  -- A texel of the call's record was fetched.
-  pub record FetchesBy (files : Files) (old : Reading V T Busy W H v t h) (texel : Texel)
-      (new : Reading V T Busy W H v t h) : Type 0 where
-    pub call : IsSameCall old new
-    pub left : Fetches files old.cache.now.gate old.known.now (moment old) texel (moment new)
-
-  -- A texel of the call's record was not fetched, for this error.
-  pub record RefusesBy (files : Files) (old : Reading V T Busy W H v t h) (texel : Texel)
-      (e : CacheError Busy) (new : Reading V T Busy W H v t h) : Type 0 where
-    pub call : IsSameCall old new
-    pub left : Refuses files old.cache.now.gate old.known.now (moment old) texel e (moment new)
+-- What fetching a texel of a record leaves, whatever it answers.
+pub record FetchesTexel {B : Type 0} (files : Files) (gate : GateState) (known : RecordState)
+    (at : TexelAt) (old new : PassTap) (result : Result (Unit {0}) (CacheError B)) : Type 0 where
+  pub cause : IfErr result (FetchCause files known new.pass.view old.tap new.tap)
+  pub moves : MovesOnlyAgain old.tap new.tap result
+  pub tap : NoneFalls old.tap new.tap
+  pub same : AfterNeed known.file old.pass new.pass
+  pub hand : LeavesNoHand B old.pass new.pass
+  -- one need is counted, and a hit if the microcache had the cell
+  pub need : CountsNeed (has_cell_at known at old.pass.pinned.recent) old.pass new.pass
+  pub apart : OnOk result (MayBeUncached files old.pass new.pass)
+  pub needed : OnOk result (NoneUncached old.pass new.pass
+      → IsNeededAt files known at old.pass new.pass)
+  pub later : old.pass.apart ≤ new.pass.apart
+  -- Neither a hit nor an error in a generated level is counted as uncached.
+  pub hit : IsTrue (has_cell_at known at old.pass.pinned.recent)
+      → new.pass.apart ≡ old.pass.apart
+  pub refused : (IsStoredAt known at → ⊥) → OnErr result (new.pass.apart ≡ old.pass.apart)
+  -- It visits shards only to pin, unpin and count tiles; it purges nothing. If the world is
+  -- modelled, it calls the tap only if a shard lacked the cell or the need was uncached.
+  pub visits : PurgesNone gate old.pass.pinned.seat new.pass.pinned.seat
+  pub missed : IsTrue files.tells → NoneUncached old.pass new.pass
+      → HasNoCall old.tap new.tap ⊎ MissesCellAt gate known at old.pass new.pass
+  -- If the pass holds the cell, the tap is not called, and only a waiter that gives up makes it
+  -- fail.
+  pub held : IsTrue files.tells → HoldsCellAt known at old.pass
+      → AnswersFromHold old.tap new.tap result
+  -- If the level is stored, it runs out of memory only if it opened a file.
+  pub memory : IsStoredAt known at → IfErr result (WantsByOpening old.tap new.tap)
+  -- If the microcache has the cell, it calls no tap and allocates nothing.
+  pub warm : IsTrue (has_cell_at known at old.pass.pinned.recent) → AnswersWarm
+      (sighted old.pass.view old.tap) (sighted new.pass.view new.tap) result
+  pub moved : IsTrue (has_cell_at known at old.pass.pinned.recent)
+      → MovesCellAt known at old.pass.pinned.recent new.pass.pinned.recent

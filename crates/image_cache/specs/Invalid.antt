@@ -9,9 +9,9 @@ use Rattle.file_table.specs.Calls.{KeepsView}
 use Rattle.shard_gate.specs.Gate.{GateState, PinSeatState}
 use Rattle.shard_gate.specs.Given.{AtFirst, Purges}
 use Rattle.shard_gate.specs.Since.{PurgesNone}
-use Rattle.image_cache.specs.declared.error.CacheError.{CacheError}
-use Rattle.image_cache.specs.declared.error.CacheError.TheVariants as refused
-use Rattle.image_cache.specs.Pass.{PassState, SamePlace, SameTiles, SameCounts}
+use Rattle.tile_source.specs.declared.error.CacheError.{CacheError}
+use Rattle.tile_source.specs.declared.error.CacheError.TheVariants as refused
+use Rattle.tile_source.specs.Pass.{PassState, SamePlace, SameTiles, SameCounts}
 
 -- ---- what is asked for
 

@@ -4,10 +4,10 @@ use Rattle.std.specs.Prelude.{◌≡◌, ◌⊎◌, ℕ, ◌+◌, ◌<◌, zero,
 use Rattle.tex_world.specs.World.{Files, IsReal}
 use Rattle.shard_gate.specs.Gate.{GateState}
 use Rattle.shard_gate.specs.Since.{PurgesNone}
-use Rattle.image_cache.specs.declared.error.CacheError.{CacheError}
-use Rattle.image_cache.specs.declared.error.CacheError.TheVariants as refused
-use Rattle.image_cache.specs.Pass.{PassState}
-use Rattle.image_cache.specs.Reading.{PassTap, pass_tap}
+use Rattle.tile_source.specs.declared.error.CacheError.{CacheError}
+use Rattle.tile_source.specs.declared.error.CacheError.TheVariants as refused
+use Rattle.tile_source.specs.Pass.{PassState}
+use Rattle.tile_source.specs.Source.{PassTap, pass_tap}
 use Rattle.image_cache.specs.Invalid.{KeepsButSight, AsksOnce, LooksAt, Leaves, RisesBy}
 use Rattle.image_cache.specs.Invalid.{seen_count}
 

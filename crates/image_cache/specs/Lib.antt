@@ -3,11 +3,9 @@ pub use Rattle.pinned_tiles.specs.Cell
 pub use Rattle.texel_values.specs.Values
 pub mod Options
 pub mod Pass
-pub mod Texel
 pub mod Facts
 pub mod Call
-pub mod Making
-pub mod Reading
+pub mod Hold
 pub mod Square
 pub mod Invalid
 pub mod InvalidAll
@@ -15,4 +13,6 @@ pub mod Cause
 pub mod Region
 pub mod Sizes
 pub mod Fetches
-pub mod Apart
+pub mod Caller
+pub mod Reads
+pub mod Holds

@@ -1,5 +1,5 @@
 -- What is read for a region of a record?
-use Rattle.std.specs.Prelude.{◌≡◌, ℕ, ◌<◌, List, map, Ok, IsOkAnd}
+use Rattle.std.specs.Prelude.{◌≡◌, ℕ, ◌+◌, ◌<◌, ◌≤◌, List, map, Ok, IsOkAnd}
 use Rattle.std.specs.List.{range_with_len}
 use Rattle.tex_world.specs.World.{Files}
 use Rattle.tile_layout.specs.Grid.{shown_grid}
@@ -11,13 +11,18 @@ use Rattle.file_table.specs.Record.{RecordState}
 use Rattle.texel_values.specs.declared.area.Area.{Area}
 use Rattle.texel_values.specs.declared.region.Region.{Region}
 use Rattle.texel_values.specs.Area.{IsAreaOf, area_cell, area_cells}
-use Rattle.image_cache.specs.Pass.{PassState}
-use Rattle.image_cache.specs.Call.{Needs}
+use Rattle.tile_source.specs.Pass.{PassState}
+use Rattle.tile_source.specs.Call.{Needs}
 
 -- the keys of the first n cells that an area meets, row by row
 abbrev pub area_keys : RecordState → Area → ℕ → List ℕ
 area_keys r area n =
     map (λ k. key_of r.generation r.file area.level (area_cell area k)) (range_with_len 0 n)
+
+-- the texels that the level has lie within the area
+pub record IsWithin (area : Area) : Type 0 where
+  pub across : area.window.columns.before + area.window.columns.inside ≤ area.window.width
+  pub down : area.window.rows.before + area.window.rows.inside ≤ area.height
 
 -- the file is valid and has the level of the area, which is divided in this way
 abbrev pub HasAreaAt : Area → RecordState → Type 0

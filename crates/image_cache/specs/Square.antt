@@ -9,11 +9,11 @@ use Rattle.tile_layout.specs.Kept.{Kept}
 use Rattle.tile_store.specs.Tile.{CachedTile}
 use Rattle.file_table.specs.Record.{RecordState}
 use Rattle.texel_values.specs.declared.texel_at.TexelAt.{TexelAt}
-use Rattle.image_cache.specs.Pass.{PassState}
-use Rattle.image_cache.specs.Texel.{cell_number_at, cell_of, has_cell_at, IsTexelIn}
-use Rattle.image_cache.specs.Call.{CountsNeed, AsksForCellAt, TurnsToCellAt, MovesCellAt}
-use Rattle.image_cache.specs.Call.{NeedsCellAt}
-use Rattle.image_cache.specs.Pass.{KeepsAllBut, recent_and_counts}
+use Rattle.tile_source.specs.Pass.{PassState}
+use Rattle.tile_source.specs.Texel.{cell_number_at, cell_of, has_cell_at, IsTexelIn}
+use Rattle.tile_source.specs.Call.{CountsNeed, AsksForCellAt, TurnsToCellAt, MovesCellAt}
+use Rattle.tile_source.specs.Call.{NeedsCellAt}
+use Rattle.tile_source.specs.Pass.{KeepsAllBut, recent_and_counts}
 
 -- ---- the four texels
 

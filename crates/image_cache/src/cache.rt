@@ -5,17 +5,17 @@ ghost use Rattle.tile_store.specs.Tag.{tag_of};
 ghost use Rattle.shard_gate.specs.Gate.{IsSameSeat, JoinsVisits, max_shards};
 ghost use Rattle.shard_gate.specs.Given.{AtShard, Counts};
 ghost use Rattle.image_cache.specs.Options.{NewCause, first_bad};
-ghost use Rattle.image_cache.specs.Pass.{IsPassOf, IsNewCache, IsFirstPass, IsSecondPass};
+ghost use Rattle.tile_source.specs.Pass.{IsPassOf};
+ghost use Rattle.image_cache.specs.Pass.{IsNewCache, IsFirstPass, IsSecondPass};
 ghost use Rattle.image_cache.specs.Pass.{PassAfterSplit, PassAfterJoin, SeesBoth, JoinsReleased};
 ghost use Rattle.shard_gate.specs.Everyone.{FindsPinsOfAll};
 ghost use Rattle.shard_gate.specs.Since.{PurgesNone};
-ghost use Rattle.image_cache.specs.Pass.{KeepsAllBut, nothing, the_view, its_visits, its_tiles};
+ghost use Rattle.tile_source.specs.Pass.{KeepsAllBut, nothing, the_view, its_visits, its_tiles};
 ghost use Rattle.image_cache.specs.Cause.{SplitCause};
 ghost use Rattle.pinned_tiles.specs.Pinned.{LeavesPart, tiles_at};
 
 use crate::error::{NotJoined, SplitError};
 use crate::options::{NewError, Options};
-use crate::pass::Pass;
 use file_table::Files;
 use pinned_tiles::Pinned;
 use shard_gate::Gate;
@@ -24,33 +24,28 @@ use std::marker::Model;
 use tex_world::{NoMemory, Tap};
 use tiff_format::{Cut, ShardCount};
 use tile_slots::Slots;
+use tile_source::{Pass, Store};
 use waiter::Waiter;
 
 /// The texels of a folder's files, shared by many passes. Clauses see its files and its tiles. It
 /// owns no tap: `T` only names the world and the kind of idle handles.
 #[derive(Drop)]
 pub struct Cache<T: Tap> {
-    pub(crate) alloc: Global,
-    pub(crate) files: Files<T>,
-    pub(crate) gate: Gate<T::W>,
-    pub(crate) slots: Slots<T::W>,
-    pub(crate) cut: Cut,
+    pub(crate) store: Store<T>,
     shards: u32,
 }
 
 impl<T: Tap> Model for Cache<T> {
     ghost use Rattle.std.specs.Prelude.{◌≡◌, ◌<◌, ◌≤◌, length};
     ghost use Rattle.shard_gate.specs.Gate.{max_shards};
-    ghost use Rattle.image_cache.specs.Pass.{CacheState, cache_state, IsCache};
+    ghost use Rattle.tile_source.specs.Pass.{CacheState};
 
     ghost Value = { CacheState };
 
-    ghost view = { λ c. cache_state c.files c.gate c.slots };
+    ghost view = { λ c. c.store };
 
     ghost invariant = { λ c.
-        (IsCache (cache_state c.files c.gate c.slots)
-        × ((c.shards ≡ length c.gate.id) × ((0 < c.shards) × (c.shards ≤ max_shards))))
-        × (c.cut ≡ c.gate.cut) };
+        (c.shards ≡ length c.store.gate.id) × ((0 < c.shards) × (c.shards ≤ max_shards)) };
 }
 
 impl<T: Tap> Cache<T> {
@@ -73,11 +68,19 @@ impl<T: Tap> Cache<T> {
         Ok(made)
     }
 
+    /// What its passes share.
+    #[inline(always)]
+    pub(crate) fn store(&self) -> &Store<T>
+        ensures { result.now ≡ self.now }
+    {
+        &self.store
+    }
+
     /// The cut: how the levels of its files are divided into cells.
     pub fn cut(&self) -> Cut
         ensures { result ≡ self.now.gate.cut }
     {
-        self.cut
+        self.store.cut
     }
 
     /// The number of shards, 1 to 64.
@@ -116,7 +119,7 @@ impl<T: Tap> Cache<T> {
         ensures err { OnErr result (IsSameSeat pass.old.pinned.seat pass.new.pinned.seat) }
         ensures same { KeepsAllBut its_visits pass.old pass.new }
     {
-        pass.pinned.count(&self.gate, waiter, shard)
+        pass.pinned.count(&self.store.gate, waiter, shard)
     }
 
     /// Makes a second pass. It gets one permit of `pass` and starts with what `pass` has seen.
@@ -145,7 +148,7 @@ impl<T: Tap> Cache<T> {
         ensures same { KeepsAllBut nothing from.old from.new }
         ensures err { OnErr result (KeepsAllBut nothing to.old to.new) }
     {
-        let board = self.files.board();
+        let board = self.store.files.board();
         let seen = board.split(&mut from.view)?;
         board.join(&mut to.view, seen);
         Ok(())
@@ -172,7 +175,7 @@ impl<T: Tap> Cache<T> {
         ensures visits { IfErr result (λ e.
             PurgesNone self.now.gate other.pinned.seat e.other.pinned.seat) }
     {
-        let released = other.pinned.release_all(&self.gate, waiter);
+        let released = other.pinned.release_all(&self.store.gate, waiter);
         if let Err(busy) = released {
             return Err(NotJoined { other, busy });
         }
@@ -196,8 +199,8 @@ impl<T: Tap> Cache<T> {
             hits,
             apart,
         } = other;
-        self.files.board().join(&mut keep.view, view);
-        keep.pinned.join(&self.gate, pinned);
+        self.store.files.board().join(&mut keep.view, view);
+        keep.pinned.join(&self.store.gate, pinned);
         keep.needs = keep.needs.saturating_add(needs);
         keep.hits = keep.hits.saturating_add(hits);
         keep.apart = keep.apart.saturating_add(apart);
@@ -211,8 +214,8 @@ impl<T: Tap> Cache<T> {
         ensures kept { OnOk result (PassAfterSplit pass.old pass.new) }
         ensures err { OnErr result (KeepsAllBut nothing pass.old pass.new) }
     {
-        let view = self.files.board().split(&mut pass.view)?;
-        let pinned = pass.pinned.split(self.alloc, &self.gate)?;
+        let view = self.store.files.board().split(&mut pass.view)?;
+        let pinned = pass.pinned.split(self.store.alloc, &self.store.gate)?;
         pinned.know();
         Ok(Pass::of(view, pinned))
     }
@@ -236,11 +239,13 @@ fn made<T: Tap>(
     pinned.know();
     let slots = Slots::new(alloc, options.slots)?;
     let cache = Cache {
-        alloc,
-        files,
-        gate,
-        slots,
-        cut,
+        store: Store {
+            alloc,
+            files,
+            gate,
+            slots,
+            cut,
+        },
         shards: options.shards,
     };
     Ok((cache, Pass::of(view, pinned)))

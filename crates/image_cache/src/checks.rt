@@ -3,31 +3,23 @@ ghost use Rattle.std.specs.Prelude.{◌≡◌, ◌<◌, OnOk, IfOk, IfErr, IsOkA
 ghost use Rattle.tile_layout.specs.Level.{level_count_in};
 ghost use Rattle.tile_layout.specs.Cell.{CellsFit};
 ghost use Rattle.file_table.specs.Record.{CutsLevel};
-ghost use Rattle.image_cache.specs.Texel.{IsTexelOf};
+ghost use Rattle.file_table.specs.Picture.{MayServe};
+ghost use Rattle.tile_source.specs.Texel.{IsTexelOf};
 ghost use Rattle.image_cache.specs.Cause.{LookupRefuses, PixelsRefuses, TileRefuses};
 
-use crate::error::CacheError;
-use file_table::Record;
+use file_table::{Picture, Record};
 use tex_world::World;
 use texel_values::TexelAt;
 use tile_layout::Grid;
+use tile_source::CacheError;
 
-/// Fails unless the file is valid and all its cells are small enough.
-pub fn fits_cut<W: World, B>(known: &Record<W>) -> Result<(), CacheError<B>>
-    ensures ok { OnOk result (IsOkAnd known.now.layout (λ kept. CellsFit kept known.now.cut)) }
+/// The picture of a record. Fails unless the file is valid and all its cells are small enough.
+pub fn picture_of<W: World, B>(known: &Record<W>) -> Result<Picture<'_, W>, CacheError<B>>
+    ensures ok { IfOk result (λ picture. picture ≡ known.now) }
+    ensures serves { OnOk result (MayServe known.now) }
     ensures err { IfErr result (LookupRefuses known.now) }
 {
-    let generation = known.generation();
-    if let Err(fault) = known.layout() {
-        return Err(CacheError::BadFile {
-            generation,
-            fault: *fault,
-        });
-    }
-    if known.fits() {
-        return Ok(());
-    }
-    Err(CacheError::TileTooLarge { generation })
+    Ok(known.picture()?)
 }
 
 /// The division of one level into cells. Fails unless the file is valid, its cells are small enough
@@ -38,13 +30,13 @@ pub(crate) fn level_in<W: World, B>(known: &Record<W>, level: u32) -> Result<Gri
     ensures grid { IfOk result (CutsLevel known.now level) }
     ensures err { IfErr result (PixelsRefuses level known.now) }
 {
-    fits_cut(known)?;
-    let levels = known.levels();
+    let picture = picture_of(known)?;
+    let levels = picture.levels();
     if level < levels {
-        return Ok(known.grid(level));
+        return Ok(picture.grid(level));
     }
     Err(CacheError::NoLevel {
-        generation: known.generation(),
+        generation: picture.generation(),
         levels,
     })
 }

@@ -2,18 +2,18 @@
 ghost use Rattle.std.specs.Prelude.{◌≡◌, ◌<◌, IfOk, IfErr, IsOkAnd};
 ghost use Rattle.tex_world.specs.World.{IsFile};
 ghost use Rattle.file_table.specs.Calls.{LooksOnce, OpensIfAtAll};
-ghost use Rattle.image_cache.specs.Pass.{IsPassOf};
-ghost use Rattle.image_cache.specs.Pass.{KeepsAllBut, view_and_record};
+ghost use Rattle.tile_source.specs.Pass.{IsPassOf};
+ghost use Rattle.tile_source.specs.Pass.{KeepsAllBut, view_and_record};
 ghost use Rattle.image_cache.specs.Facts.{info_of};
 ghost use Rattle.image_cache.specs.Call.{IsOfLook, KeepsGiven, KeepsOne};
-ghost use Rattle.image_cache.specs.Cause.{around, HasCause, Never, InfoRefuses};
+ghost use Rattle.tile_source.specs.Cause.{Never};
+ghost use Rattle.image_cache.specs.Cause.{around, HasCause, InfoRefuses};
 
 use crate::cache::Cache;
-use crate::error::CacheError;
-use crate::pass::Pass;
 use file_table::Record;
 use tex_world::{Tap, World};
 use tiff_format::Info;
+use tile_source::{CacheError, Pass};
 use waiter::Waiter;
 
 impl<T: Tap> Cache<T> {

@@ -1,28 +1,31 @@
 //! The tiles that a pass holds.
-ghost use Rattle.std.specs.Prelude.{◌≡◌, ◌⊎◌, ◌<◌, ◌≤◌, ◌++◌, ◌∷◌, [], length, slice_index};
+ghost use Rattle.std.specs.Prelude.{◌≡◌, ◌<◌, ◌≤◌, ◌++◌, ◌∷◌, [], length};
 ghost use Rattle.std.specs.Prelude.{None, Err, IfOk, IfErr, IfSome, IsSome, OnOk, OnErr};
 ghost use Rattle.std.specs.List.{remove};
 ghost use Rattle.tex_world.specs.World.{IsFile};
 ghost use Rattle.shard_gate.specs.Since.{PurgesNone};
-ghost use Rattle.image_cache.specs.Pass.{IsPassOf};
-ghost use Rattle.image_cache.specs.Texel.{IsGivenBy, IsCellOf};
-ghost use Rattle.image_cache.specs.Reading.{refusal, moment, IsSameCall, TakesHold, HoldsOn};
-ghost use Rattle.image_cache.specs.Call.{AfterCall, AfterRecordStep, KeepsGiven, KeepsOne, KeepsRecent};
-ghost use Rattle.image_cache.specs.Call.{HoldsCell, IsOfLook, LeavesNoHand, NoneFalls};
-ghost use Rattle.image_cache.specs.Pass.{KeepsAllBut, its_hand, its_holds};
-ghost use Rattle.image_cache.specs.Cause.{around, HasCause, NoFurtherHold, TileRefuses};
-ghost use Rattle.image_cache.specs.Cause.{StepCause, ReleaseCause};
+ghost use Rattle.tile_source.specs.Pass.{IsPassOf};
+ghost use Rattle.tile_source.specs.Texel.{IsGivenBy, IsCellOf};
+ghost use Rattle.tile_source.specs.Source.{refusal, moment, IsSameCall};
+ghost use Rattle.image_cache.specs.Hold.{TakesHold, HoldsOn};
+ghost use Rattle.image_cache.specs.Call.{AfterHoldStep};
+ghost use Rattle.image_cache.specs.Caller.{call, caller_state};
+ghost use Rattle.image_cache.specs.Holds.{HoldsTile, LeavesHold};
+ghost use Rattle.tile_source.specs.Call.{LeavesNoHand, NoneFalls};
+ghost use Rattle.image_cache.specs.Call.{HoldsCell};
+ghost use Rattle.tile_source.specs.Pass.{KeepsAllBut, its_hand, its_holds};
+ghost use Rattle.image_cache.specs.Cause.{TileRefuses};
+ghost use Rattle.tile_source.specs.Cause.{StepCause};
+ghost use Rattle.image_cache.specs.Cause.{ReleaseCause};
 
 use crate::cache::Cache;
 use crate::checks::inside;
-use crate::error::{CacheError, NotReleased};
-use crate::file_record::FileRecord;
-use crate::pass::Pass;
-use crate::reading::Reading;
-use file_table::Record;
+use crate::error::NotReleased;
+use file_table::{Picture, Record};
 use pinned_tiles::{CellAt, MAX_HOLDS};
 use tex_world::Tap;
 use texel_values::TexelAt;
+use tile_source::{CacheError, Pass, TileSource};
 use waiter::Waiter;
 
 impl<T: Tap> Cache<T> {
@@ -39,24 +42,12 @@ impl<T: Tap> Cache<T> {
         requires pass { IsPassOf self.now pass.old }
         requires file { file < self.now.files.board.files }
         requires told { IsFile T.W.files file }
-        ensures ok { IfOk result (λ generation. KeepsGiven T.W.files file self.now.gate.cut
-            pass.old pass.new generation (HoldsCell T.W.files at pass.old pass.new)) }
-        ensures as_new { IfOk result (IsOfLook file pass.old.view pass.new.view) }
-        ensures cause { IfErr result (HasCause (around T.W.files file self.now.gate.cut
-            pass.old pass.new (T.state tap.old) (T.state tap.new)) (NoFurtherHold pass.old)
-            (TileRefuses at)) }
-        ensures full { length pass.old.pinned.holds ≡ 4 → (result ≡ Err CacheError.HoldsFull)
-            × (pass.new ≡ pass.old) × (T.state tap.new ≡ T.state tap.old) }
-        // The state after the call. Before an answer the board was read.
-        ensures looked { OnOk result (slice_index pass.old.view.steps file
-            < slice_index pass.new.view.steps file) }
-        ensures err { OnErr result (pass.new.pinned.holds ≡ pass.old.pinned.holds) }
-        ensures latest { KeepsOne T.W.files file self.now.gate.cut pass.old pass.new
-            (T.state tap.old) (T.state tap.new) }
-        ensures same { AfterCall file pass.old pass.new × KeepsRecent pass.old pass.new }
-        ensures hand { LeavesNoHand V.Busy pass.old pass.new }
-        ensures visits { PurgesNone self.now.gate pass.old.pinned.seat pass.new.pinned.seat }
-        ensures tap { NoneFalls (T.state tap.old) (T.state tap.new) }
+        ensures answers { HoldsTile file at
+            (call T.W.files T.state (caller_state self.now pass.old tap.old)
+            (caller_state self.now pass.new tap.new)) result }
+        ensures leaves { LeavesHold file
+            (call T.W.files T.state (caller_state self.now pass.old tap.old)
+            (caller_state self.now pass.new tap.new)) result }
     {
         if pass.pinned.held_count() == MAX_HOLDS {
             return Err(CacheError::HoldsFull);
@@ -85,25 +76,23 @@ impl<T: Tap> Cache<T> {
             (T.state tap.old) (T.state tap.new) (TileRefuses at)) }
         // The state after the call.
         ensures err { OnErr result (pass.new.pinned.holds ≡ pass.old.pinned.holds) }
-        ensures same { AfterRecordStep known.now.file pass.old pass.new }
-        ensures recent { KeepsRecent pass.old pass.new }
+        ensures same { AfterHoldStep known.now.file pass.old pass.new }
         ensures hand { LeavesNoHand V.Busy pass.old pass.new }
         ensures visits { PurgesNone self.now.gate pass.old.pinned.seat pass.new.pinned.seat }
         ensures tap { NoneFalls (T.state tap.old) (T.state tap.new) }
     {
         inside(known, at)?;
-        // needed by the proof: ties the record's layout to the file's bytes
-        let _known = known.generation();
+        known.know();
         let cell = self.cell(known, at);
-        let lent = FileRecord::of(known);
-        let mut reading = Reading {
-            cache: self,
+        let picture = Picture::of(known);
+        let mut source = TileSource {
+            store: self.store(),
             waiter,
             pass,
             tap,
-            known: &lent,
+            picture: &picture,
         };
-        reading.hold(&cell)?;
+        hold(&mut source, &cell)?;
         Ok(known.generation())
     }
 
@@ -127,7 +116,7 @@ impl<T: Tap> Cache<T> {
         if place >= pass.pinned.held_count() {
             return Err(NotReleased::NothingHeld);
         }
-        match pass.pinned.release_hold(&self.gate, waiter, place) {
+        match pass.pinned.release_hold(&self.store.gate, waiter, place) {
             Ok(()) => Ok(()),
             Err(busy) => Err(NotReleased::Busy(busy)),
         }
@@ -141,42 +130,43 @@ impl<T: Tap> Cache<T> {
         ensures same { KeepsAllBut its_hand pass.old pass.new }
         ensures visits { PurgesNone self.now.gate pass.old.pinned.seat pass.new.pinned.seat }
     {
-        pass.pinned.release_hand(&self.gate, waiter)
+        pass.pinned.release_hand(&self.store.gate, waiter)
     }
 }
 
-impl<'a, V: Waiter, T: Tap> Reading<'a, V, T> {
-    /// Pins the tile of a cell as the latest hold of the pass.
-    fn hold(&mut self, cell: &CellAt) -> Result<(), CacheError<V::Busy>>
-        requires cell { IsCellOf self.old.known.now cell.now }
-        requires room { length self.old.pass.now.pinned.holds < 4 }
-        ensures ok { OnOk result (TakesHold T.W.files self.old.cache.now.gate.cut cell.now.key
-            self.old.pass.now self.new.pass.now) }
-        ensures err { OnErr result
-            (self.new.pass.now.pinned.holds ≡ self.old.pass.now.pinned.holds) }
-        ensures call { IsSameCall self.old self.new }
-        ensures left { HoldsOn T.W.files self.old.cache.now.gate self.old.known.now
-            (moment self.old) (moment self.new) (refusal result) }
-    {
-        self.take_in_hand(cell)?;
-        self.keep_hold();
-        Ok(())
-    }
+/// Pins the tile of a cell as the latest hold of the pass.
+fn hold<V: Waiter, T: Tap>(
+    source: &mut TileSource<'_, V, T>,
+    cell: &CellAt,
+) -> Result<(), CacheError<V::Busy>>
+    requires cell { IsCellOf source.old.picture.now cell.now }
+    requires room { length source.old.pass.now.pinned.holds < 4 }
+    ensures ok { OnOk result (TakesHold T.W.files source.old.store.now.gate.cut cell.now.key
+        source.old.pass.now source.new.pass.now) }
+    ensures err { OnErr result
+        (source.new.pass.now.pinned.holds ≡ source.old.pass.now.pinned.holds) }
+    ensures call { IsSameCall source.old source.new }
+    ensures left { HoldsOn T.W.files source.old.store.now.gate source.old.picture.now
+        (moment source.old) (moment source.new) (refusal result) }
+{
+    source.take_in_hand(cell)?;
+    keep_hold(source);
+    Ok(())
+}
 
-    /// Makes the tile in hand the latest hold of the pass.
-    fn keep_hold(&mut self)
-        requires hand { IsSome self.old.pass.now.pinned.hand }
-        requires room { length self.old.pass.now.pinned.holds < 4 }
-        ensures held { IfSome self.old.pass.now.pinned.hand (λ tile.
-            self.new.pass.now.pinned.holds ≡ self.old.pass.now.pinned.holds ++ tile ∷ []) }
-        ensures hand { self.new.pass.now.pinned.hand ≡ None }
-        ensures call { IsSameCall self.old self.new }
-        ensures tap { self.new.tap.now ≡ self.old.tap.now }
-        ensures seat { self.new.pass.now.pinned.seat ≡ self.old.pass.now.pinned.seat }
-        ensures same { KeepsAllBut its_holds self.old.pass.now self.new.pass.now }
-        ensures view { self.new.pass.now.view ≡ self.old.pass.now.view }
-    {
-        let pass = &mut *self.pass;
-        pass.pinned.hold();
-    }
+/// Makes the tile in hand the latest hold of the pass.
+fn keep_hold<V: Waiter, T: Tap>(source: &mut TileSource<'_, V, T>)
+    requires hand { IsSome source.old.pass.now.pinned.hand }
+    requires room { length source.old.pass.now.pinned.holds < 4 }
+    ensures held { IfSome source.old.pass.now.pinned.hand (λ tile.
+        source.new.pass.now.pinned.holds ≡ source.old.pass.now.pinned.holds ++ tile ∷ []) }
+    ensures hand { source.new.pass.now.pinned.hand ≡ None }
+    ensures call { IsSameCall source.old source.new }
+    ensures tap { source.new.tap.now ≡ source.old.tap.now }
+    ensures seat { source.new.pass.now.pinned.seat ≡ source.old.pass.now.pinned.seat }
+    ensures same { KeepsAllBut its_holds source.old.pass.now source.new.pass.now }
+    ensures view { source.new.pass.now.view ≡ source.old.pass.now.view }
+{
+    let pass = &mut *source.pass;
+    pass.pinned.hold();
 }

@@ -7,18 +7,17 @@ ghost use Rattle.file_table.specs.Calls.{KeepsView};
 ghost use Rattle.shard_gate.specs.Given.{AtFirst, Purges};
 ghost use Rattle.shard_gate.specs.Since.{PurgesNone};
 ghost use Rattle.pinned_tiles.specs.Pinned.{KeepsTiles};
-ghost use Rattle.image_cache.specs.Pass.{IsPassOf, SameCounts};
+ghost use Rattle.tile_source.specs.Pass.{IsPassOf, SameCounts};
 ghost use Rattle.image_cache.specs.Invalid.{invalid, IsEmptied, MakesInvalid, AsksIfKnown};
 ghost use Rattle.image_cache.specs.Invalid.{InvalidCause, Renews, KeepsButSight, MayAsk};
 ghost use Rattle.image_cache.specs.InvalidAll.{MakesAllInvalid, RenewsFile, FailsAt, EndsAtFault};
 ghost use Rattle.image_cache.specs.InvalidAll.{AtReadFault};
-ghost use Rattle.image_cache.specs.Reading.{pass_tap};
+ghost use Rattle.tile_source.specs.Source.{pass_tap};
 ghost use Rattle.image_cache.specs.Invalid as spec;
 
 use crate::cache::Cache;
-use crate::error::CacheError;
-use crate::pass::Pass;
 use tex_world::{LAST_GENERATION, Tap};
+use tile_source::{CacheError, Pass};
 use waiter::Waiter;
 
 /// A file to check, with or without force.
@@ -62,7 +61,7 @@ impl<T: Tap> Cache<T> {
             return Err(CacheError::Busy(busy));
         }
         let asked = Invalid { file, force };
-        let looked = self.files.board().look(&mut pass.view, asked.file);
+        let looked = self.store.files.board().look(&mut pass.view, asked.file);
         self.renew(waiter, pass, tap, asked, looked)
     }
 
@@ -92,7 +91,7 @@ impl<T: Tap> Cache<T> {
         if let Err(busy) = self.empty(waiter, pass) {
             return Err(CacheError::Busy(busy));
         }
-        for file in 0..self.files.board().files() {
+        for file in 0..self.store.files.board().files() {
             if let Err(e) = self.renew_known(waiter, pass, tap, file) {
                 return Err(e);
             }
@@ -121,7 +120,7 @@ impl<T: Tap> Cache<T> {
         ensures same { KeepsButSight file pass.old pass.new }
         ensures tap { MayAsk (T.state tap.old) (T.state tap.new) }
     {
-        let looked = self.files.board().look(&mut pass.view, file);
+        let looked = self.store.files.board().look(&mut pass.view, file);
         if looked == 0 {
             return Ok(());
         }
@@ -157,7 +156,10 @@ impl<T: Tap> Cache<T> {
             return Err(CacheError::ReadFault);
         };
         if looked < newest {
-            self.files.board().raise(&mut pass.view, asked.file, newest);
+            self.store
+                .files
+                .board()
+                .raise(&mut pass.view, asked.file, newest);
         }
         if asked.force || looked < newest {
             let below = stale_below(asked.force, newest);
@@ -177,7 +179,7 @@ impl<T: Tap> Cache<T> {
         ensures visits { PurgesNone self.now.gate pass.old.pinned.seat pass.new.pinned.seat }
     {
         pass.latest = None;
-        pass.pinned.release_recent(&self.gate, waiter)
+        pass.pinned.release_recent(&self.store.gate, waiter)
     }
 
     /// Drops what is kept of a file: its record, its idle handle, and its unpinned tiles of
@@ -199,8 +201,8 @@ impl<T: Tap> Cache<T> {
         ensures counts { SameCounts pass.old pass.new }
         ensures view { pass.new.view ≡ pass.old.view }
     {
-        self.files.drop_idle(waiter, file)?;
-        pass.pinned.purge(&self.gate, waiter, file, below)
+        self.store.files.drop_idle(waiter, file)?;
+        pass.pinned.purge(&self.store.gate, waiter, file, below)
     }
 }
 

@@ -2,36 +2,23 @@
 //! and chooses how to wait for locks.
 #![tactic(auto)]
 
-mod apart;
 mod cache;
 mod checks;
 mod error;
 mod facts;
 mod fetching;
-mod file_record;
-mod fitting;
 mod holding;
 mod invalidating;
-mod loading;
-mod making;
-mod needing;
 mod opening;
 mod options;
-mod pass;
 mod pixels;
-mod reading;
 mod shown;
 mod squares;
-mod texel;
-mod texels;
 
 pub use cache::Cache;
-pub use checks::fits_cut;
-pub use error::{CacheError, NotJoined, NotReleased, SplitError};
-pub use file_record::FileRecord;
-pub use fitting::Fitting;
+pub use checks::picture_of;
+pub use error::{NotJoined, NotReleased, SplitError};
 pub use options::{NewError, Options};
-pub use pass::Pass;
 pub use pixels::Pixels;
-pub use reading::Reading;
 pub use texel_values::{Region, TexelAt};
+pub use tile_source::{CacheError, Pass};

@@ -1,21 +1,18 @@
 //! The record of a file: opened, kept by a pass, and taken out again.
-ghost use Rattle.std.specs.Prelude.{◌≡◌, ◌↔◌, ◌<◌, ◌≤◌, None, Some, IfOk, IfErr, OnOk, OnErr};
+ghost use Rattle.std.specs.Prelude.{◌≡◌, ◌↔◌, ◌<◌, ◌≤◌, None, Some, IfOk, IfErr, OnOk};
 ghost use Rattle.std.specs.Prelude.{IsSome, IsNone, IfSome, IsSomeAnd, length, slice_index};
 ghost use Rattle.tex_world.specs.World.{IsFile};
-ghost use Rattle.gen_board.specs.View.{AfterStep};
 ghost use Rattle.file_table.specs.Calls.{sighted, GivesRecord, IsAsSeen, IsAsNew, IsFaultless};
-ghost use Rattle.file_table.specs.Calls.{LooksOnce, OpensIfAtAll};
-ghost use Rattle.image_cache.specs.Pass.{IsPassOf, IsKeptBy};
-ghost use Rattle.image_cache.specs.Pass.{KeepsAllBut, view_and_record};
-ghost use Rattle.image_cache.specs.Call.{Serves};
+ghost use Rattle.tile_source.specs.Pass.{IsPassOf, IsKeptBy};
+ghost use Rattle.tile_source.specs.Pass.{KeepsAllBut, view_and_record};
+ghost use Rattle.image_cache.specs.Call.{Serves, TakesLatest, AfterOpen, AfterLook};
 ghost use Rattle.image_cache.specs.Cause.{OpeningCause};
 
 use crate::cache::Cache;
-use crate::error::CacheError;
-use crate::pass::Pass;
 use file_table::Record;
 use std::sync::Arc;
 use tex_world::Tap;
+use tile_source::{CacheError, Pass};
 use waiter::Waiter;
 
 impl<T: Tap> Cache<T> {
@@ -39,13 +36,10 @@ impl<T: Tap> Cache<T> {
         ensures cause { IfErr result (OpeningCause T.W.files file
             (sighted pass.old.view (T.state tap.old)) (sighted pass.new.view (T.state tap.new))) }
         // The state after the call.
-        ensures taken { OnOk result (pass.new.latest ≡ None) }
-        ensures err { OnErr result (pass.new.latest ≡ pass.old.latest) }
-        ensures same { KeepsAllBut view_and_record pass.old pass.new }
-        ensures looks { LooksOnce file pass.old.view pass.new.view }
-        ensures once { OpensIfAtAll (T.state tap.old) (T.state tap.new) }
+        ensures latest { TakesLatest pass.old pass.new result }
+        ensures leaves { AfterOpen file pass.old pass.new (T.state tap.old) (T.state tap.new) }
     {
-        let known = self.files.record(waiter, &mut pass.view, tap, file)?;
+        let known = self.store.files.record(waiter, &mut pass.view, tap, file)?;
         pass.latest = None;
         Ok(known)
     }
@@ -76,11 +70,9 @@ impl<T: Tap> Cache<T> {
         // The state after the call.
         ensures taken { IsSome result → pass.new.latest ≡ None }
         ensures none { IsNone result → pass.new.latest ≡ pass.old.latest }
-        ensures same { KeepsAllBut view_and_record pass.old pass.new }
-        ensures look { AfterStep file (slice_index pass.new.view.seen file)
-            pass.old.view pass.new.view }
+        ensures leaves { AfterLook file pass.old pass.new }
     {
-        let newest = self.files.board().look(&mut pass.view, file);
+        let newest = self.store.files.board().look(&mut pass.view, file);
         let serves = match &pass.latest {
             Some(known) => known.file() == file && known.generation() == newest && known.fits(),
             None => false,

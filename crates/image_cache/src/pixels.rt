@@ -1,38 +1,35 @@
 //! Reads the values of a region of a level, cell by cell.
-ghost use Rattle.std.specs.Prelude.{◌≡◌, ℕ, ◌+◌, ◌*◌, ◌<◌, ◌≤◌, ◌++◌, [], ◌∷◌, length, replicate};
-ghost use Rattle.std.specs.Prelude.{Err, IfOk, IfErr, IsOkAnd, IsTrue, OnOk, OnErr, slice_index};
+ghost use Rattle.std.specs.Prelude.{◌≡◌, ◌+◌, ◌*◌, ◌<◌, ◌≤◌, ◌++◌, [], ◌∷◌, length, replicate};
+ghost use Rattle.std.specs.Prelude.{Err, IfOk, IfErr, IsOkAnd, IsTrue, OnOk, OnErr};
 ghost use Rattle.std.specs.Option.{ForSome};
 ghost use Rattle.tex_world.specs.World.{IsFile, max_files};
 ghost use Rattle.tiff_format.specs.Facts.{IsChannelCount};
-ghost use Rattle.texel_values.specs.Region.{max_texels, AreRegionValues, Appends};
+ghost use Rattle.texel_values.specs.Region.{max_texels, AreRegionValues};
 ghost use Rattle.texel_values.specs.Window.{HasValues, HasValuesOn, KeepsOthersOn};
 ghost use Rattle.texel_values.specs.Area.{IsAreaOf, IsPainted, IsZeroBeside, area_cell, area_cells};
 ghost use Rattle.tile_layout.specs.Grid.{shown_grid};
 ghost use Rattle.tile_layout.specs.Key.{key_of, level_of};
 ghost use Rattle.tile_layout.specs.Cell.{CellsFit, cell_rect};
-ghost use Rattle.shard_gate.specs.Since.{PurgesNone};
 ghost use Rattle.pinned_tiles.specs.Cell.{is_tile_of, StandsFirst};
-ghost use Rattle.image_cache.specs.Pass.{IsPassOf};
-ghost use Rattle.image_cache.specs.Texel.{IsGivenBy, IsCellOf};
-ghost use Rattle.image_cache.specs.Call.{AfterCall, IsOfLook, KeepsGiven, KeepsOne};
-ghost use Rattle.image_cache.specs.Call.{LeavesNoHand, Needs, NoneFalls};
-ghost use Rattle.image_cache.specs.Region.{ReadsRegion, HasAreaAt, HasAreaOf, area_keys};
-ghost use Rattle.image_cache.specs.Reading.{refusal, pass_tap, ReadsOn, IsSameCall, Reads};
-ghost use Rattle.image_cache.specs.Cause.{around, HasCause, TooManyTexels, PixelsRefuses};
-ghost use Rattle.image_cache.specs.Cause.{StepCause, KeepsRecentAt};
+ghost use Rattle.tile_source.specs.Pass.{IsPassOf};
+ghost use Rattle.tile_source.specs.Texel.{IsGivenBy, IsCellOf};
+ghost use Rattle.image_cache.specs.Caller.{call, caller_state};
+ghost use Rattle.image_cache.specs.Reads.{ReadsPixels, LeavesPixels};
+ghost use Rattle.tile_source.specs.Call.{Needs};
+ghost use Rattle.image_cache.specs.Region.{ReadsRegion, HasAreaAt, HasAreaOf, IsWithin, area_keys};
+ghost use Rattle.tile_source.specs.Source.{refusal, pass_tap, ReadsOn, IsSameCall, Reads};
+ghost use Rattle.image_cache.specs.Cause.{PixelsRefuses};
+ghost use Rattle.tile_source.specs.Cause.{StepCause};
+ghost use Rattle.image_cache.specs.Cause.{KeepsRecentAt};
 
 use crate::cache::Cache;
 use crate::checks::level_in;
-use crate::error::CacheError;
-use crate::file_record::FileRecord;
-use crate::pass::Pass;
-use crate::reading::Reading;
-use crate::texel::{channels_of, depth_of};
-use file_table::Record;
+use file_table::{Picture, Record};
 use pinned_tiles::CellAt;
 use std::alloc::Global;
 use tex_world::{NoMemory, Tap, World};
 use texel_values::{Area, Region, paint};
+use tile_source::{CacheError, Pass, TileSource};
 use tile_store::Tile;
 use waiter::Waiter;
 
@@ -68,34 +65,13 @@ impl<T: Tap> Cache<T> {
         requires pass { IsPassOf self.now pass.old }
         requires file { file < self.now.files.board.files }
         requires told { IsFile T.W.files file }
-        ensures ok { IfOk result (λ pixels. KeepsGiven T.W.files file self.now.gate.cut
-            pass.old pass.new pixels.generation
-            (ReadsRegion T.W.files region.now pixels.channels pass.old pass.new)) }
-        ensures count { IfOk result (λ pixels. length out.new.items ≡ length out.old.items
-            + region.now.h * (region.now.w * pixels.channels)) }
-        ensures value { IfOk result (λ pixels. ForSome (T.W.files.held file pixels.generation)
-            (λ bytes. Appends (AreRegionValues bytes region.now) out.old.items out.new.items)) }
-        ensures as_new { IfOk result (λ pixels.
-            IsOfLook file pass.old.view pass.new.view pixels.generation) }
-        // Each error, with its cause and what it leaves of the output.
-        ensures cause { IfErr result (HasCause (around T.W.files file self.now.gate.cut
-            pass.old pass.new (T.state tap.old) (T.state tap.new))
-            (TooManyTexels region.now.w region.now.h) (PixelsRefuses region.now.level)) }
-        ensures too_large { max_texels < region.now.w * region.now.h
-            → (result ≡ Err CacheError.RegionTooLarge)
-            × (pass.new ≡ pass.old) × (T.state tap.new ≡ T.state tap.old) }
-        ensures err { OnErr result (out.new.items ≡ out.old.items) }
-        ensures unread { IfErr result (KeepsRecentAt pass.old pass.new) }
-        // The state after the call. Before an answer the board was read.
-        ensures looked { OnOk result (slice_index pass.old.view.steps file
-            < slice_index pass.new.view.steps file) }
-        ensures latest { KeepsOne T.W.files file self.now.gate.cut pass.old pass.new
-            (T.state tap.old) (T.state tap.new) }
-        ensures same { AfterCall file pass.old pass.new
-            × (pass.new.pinned.holds ≡ pass.old.pinned.holds) }
-        ensures hand { LeavesNoHand V.Busy pass.old pass.new }
-        ensures visits { PurgesNone self.now.gate pass.old.pinned.seat pass.new.pinned.seat }
-        ensures tap { NoneFalls (T.state tap.old) (T.state tap.new) }
+        ensures answers { ReadsPixels file region.now
+            (call T.W.files T.state (caller_state self.now pass.old tap.old)
+            (caller_state self.now pass.new tap.new))
+            out.old.items out.new.items result }
+        ensures leaves { LeavesPixels file
+            (call T.W.files T.state (caller_state self.now pass.old tap.old)
+            (caller_state self.now pass.new tap.new)) result }
     {
         if region.is_too_large() {
             return Err(CacheError::RegionTooLarge);
@@ -138,18 +114,17 @@ impl<T: Tap> Cache<T> {
             (pass_tap pass.old (T.state tap.old)) (pass_tap pass.new (T.state tap.new)) V.Busy }
     {
         pass.know();
-        // needed by the proof: ties the record's layout to the file's bytes
-        let _known = known.generation();
+        known.know();
         let area = area_of(known, region)?;
-        let known = FileRecord::of(known);
-        let mut reading = Reading {
-            cache: self,
+        let picture = Picture::of(known);
+        let mut source = TileSource {
+            store: self.store(),
             waiter,
             pass,
             tap,
-            known: &known,
+            picture: &picture,
         };
-        let values = reading.values_of(&area)?;
+        let values = values_of(&mut source, &area)?;
         Ok(RegionValues {
             values,
             channels: area.window.channels,
@@ -157,132 +132,131 @@ impl<T: Tap> Cache<T> {
     }
 }
 
-impl<'a, V: Waiter, T: Tap> Reading<'a, V, T> {
-    /// The values of an area.
-    fn values_of(&mut self, area: &Area) -> Result<Vec<u16>, CacheError<V::Busy>>
-        requires area { HasAreaAt area.now self.old.known.now }
-        requires few { area.now.window.width * area.now.height ≤ max_texels }
-        requires channels { IsChannelCount area.now.window.channels }
-        requires across { area.now.window.columns.before + area.now.window.columns.inside
-            ≤ area.now.window.width }
-        requires down { area.now.window.rows.before + area.now.window.rows.inside
-            ≤ area.now.height }
-        ensures count { IfOk result (λ values. length values.items
-            ≡ area.now.height * (area.now.window.width * area.now.window.channels)) }
-        ensures beside { IfOk result (λ values. IsZeroBeside area.now values.items) }
-        ensures value { IfOk result (λ values.
-            ForSome (T.W.files.held self.old.known.now.file self.old.known.now.generation)
-            (λ bytes. IsPainted bytes area.now values.items)) }
-        ensures needs { OnOk result (Needs T.W.files
-            (area_keys self.old.known.now area.now (area_cells area.now))
-            self.old.pass.now self.new.pass.now) }
-        ensures call { IsSameCall self.old self.new }
-        ensures left { Reads T.W.files self.old self.new (refusal result) }
-    {
-        self.know();
-        let cache = self.cache;
-        let mut values = zeros(cache.alloc, area)?;
-        self.fill(area, values.as_mut_slice())?;
-        Ok(values)
-    }
+/// The values of an area.
+fn values_of<V: Waiter, T: Tap>(
+    source: &mut TileSource<'_, V, T>,
+    area: &Area,
+) -> Result<Vec<u16>, CacheError<V::Busy>>
+    requires area { HasAreaAt area.now source.old.picture.now }
+    requires few { area.now.window.width * area.now.height ≤ max_texels }
+    requires channels { IsChannelCount area.now.window.channels }
+    requires within { IsWithin area.now }
+    ensures count { IfOk result (λ values. length values.items
+        ≡ area.now.height * (area.now.window.width * area.now.window.channels)) }
+    ensures beside { IfOk result (λ values. IsZeroBeside area.now values.items) }
+    ensures value { IfOk result (λ values.
+        ForSome (T.W.files.held source.old.picture.now.file source.old.picture.now.generation)
+        (λ bytes. IsPainted bytes area.now values.items)) }
+    ensures needs { OnOk result (Needs T.W.files
+        (area_keys source.old.picture.now area.now (area_cells area.now))
+        source.old.pass.now source.new.pass.now) }
+    ensures call { IsSameCall source.old source.new }
+    ensures left { Reads T.W.files source.old source.new (refusal result) }
+{
+    source.know();
+    let store = source.store;
+    let mut values = zeros(store.alloc, area)?;
+    fill(source, area, values.as_mut_slice())?;
+    Ok(values)
+}
 
-    /// Writes the values of all texels of the region that lie in the level.
-    fn fill(&mut self, area: &Area, values: &mut [u16]) -> Result<(), CacheError<V::Busy>>
-        requires area { HasAreaAt area.now self.old.known.now }
-        requires values { HasValues area.now.window area.now.height values.old }
-        ensures long { length values.new ≡ length values.old }
-        ensures beside { IsZeroBeside area.now values.old → IsZeroBeside area.now values.new }
-        ensures value { OnOk result (ForSome
-            (T.W.files.held self.old.known.now.file self.old.known.now.generation)
-            (λ bytes. IsPainted bytes area.now values.new)) }
-        ensures needs { OnOk result (Needs T.W.files
-            (area_keys self.old.known.now area.now (area_cells area.now))
-            self.old.pass.now self.new.pass.now) }
-        ensures left { Reads T.W.files self.old self.new (refusal result) }
-    {
-        self.know();
-        'cells: for k in 0..area.cells() {
-            self.fill_cell(area, k, values)?;
-        }
-        Ok(())
+/// Writes the values of all texels of the region that lie in the level.
+fn fill<V: Waiter, T: Tap>(
+    source: &mut TileSource<'_, V, T>,
+    area: &Area,
+    values: &mut [u16],
+) -> Result<(), CacheError<V::Busy>>
+    requires area { HasAreaAt area.now source.old.picture.now }
+    requires values { HasValues area.now.window area.now.height values.old }
+    ensures long { length values.new ≡ length values.old }
+    ensures beside { IsZeroBeside area.now values.old → IsZeroBeside area.now values.new }
+    ensures value { OnOk result (ForSome
+        (T.W.files.held source.old.picture.now.file source.old.picture.now.generation)
+        (λ bytes. IsPainted bytes area.now values.new)) }
+    ensures needs { OnOk result (Needs T.W.files
+        (area_keys source.old.picture.now area.now (area_cells area.now))
+        source.old.pass.now source.new.pass.now) }
+    ensures left { Reads T.W.files source.old source.new (refusal result) }
+{
+    source.know();
+    'cells: for k in 0..area.cells() {
+        fill_cell(source, area, k, values)?;
     }
+    Ok(())
+}
 
-    /// Writes the values of the region's texels in one cell, which is needed once.
-    fn fill_cell(
-        &mut self,
-        area: &Area,
-        k: u64,
-        values: &mut [u16],
-    ) -> Result<(), CacheError<V::Busy>>
-        requires area { HasAreaAt area.now self.old.known.now }
-        requires cell { k < area_cells area.now }
-        requires values { HasValues area.now.window area.now.height values.old }
-        ensures long { length values.new ≡ length values.old }
-        ensures others { KeepsOthersOn (cell_rect (shown_grid area.now.grid) (area_cell area.now k))
-            area.now.window area.now.height values.old values.new }
-        ensures value { OnOk result (ForSome
-            (T.W.files.held self.old.known.now.file self.old.known.now.generation)
-            (λ bytes. HasValuesOn bytes area.now.level
-            (cell_rect (shown_grid area.now.grid) (area_cell area.now k))
-            area.now.window area.now.height values.new)) }
-        ensures needs { OnOk result (Needs T.W.files (key_of self.old.known.now.generation
-            self.old.known.now.file area.now.level (area_cell area.now k) ∷ [])
-            self.old.pass.now self.new.pass.now) }
-        ensures left { Reads T.W.files self.old self.new (refusal result) }
-    {
-        let cell = self.cell_of(area, k);
-        match self.need_counted(&cell)? {
-            Some(alone) => paint_part(&alone, self.known.record(), &cell, area, values),
-            None => self.paint_local(&cell, area, values),
-        }
-        Ok(())
+/// Writes the values of the region's texels in one cell, which is needed once.
+fn fill_cell<V: Waiter, T: Tap>(
+    source: &mut TileSource<'_, V, T>,
+    area: &Area,
+    k: u64,
+    values: &mut [u16],
+) -> Result<(), CacheError<V::Busy>>
+    requires area { HasAreaAt area.now source.old.picture.now }
+    requires cell { k < area_cells area.now }
+    requires values { HasValues area.now.window area.now.height values.old }
+    ensures long { length values.new ≡ length values.old }
+    ensures others { KeepsOthersOn (cell_rect (shown_grid area.now.grid) (area_cell area.now k))
+        area.now.window area.now.height values.old values.new }
+    ensures value { OnOk result (ForSome
+        (T.W.files.held source.old.picture.now.file source.old.picture.now.generation)
+        (λ bytes. HasValuesOn bytes area.now.level
+        (cell_rect (shown_grid area.now.grid) (area_cell area.now k))
+        area.now.window area.now.height values.new)) }
+    ensures needs { OnOk result (Needs T.W.files (key_of source.old.picture.now.generation
+        source.old.picture.now.file area.now.level (area_cell area.now k) ∷ [])
+        source.old.pass.now source.new.pass.now) }
+    ensures left { Reads T.W.files source.old source.new (refusal result) }
+{
+    let cell = cell_of(source, area, k);
+    match source.need_counted(&cell)? {
+        Some(alone) => paint_part(&alone, source.picture, &cell, area, values),
+        None => paint_local(source, &cell, area, values),
     }
+    Ok(())
+}
 
-    /// The k-th cell that a region meets.
-    fn cell_of(&self, area: &Area, k: u64) -> CellAt
-        requires area { HasAreaAt area.now self.now.known.now }
-        requires cell { k < area_cells area.now }
-        ensures of { IsCellOf self.now.known.now result }
-        ensures key { result.key ≡ key_of self.now.known.now.generation self.now.known.now.file
-            area.now.level (area_cell area.now k) }
-        ensures level { level_of result.key ≡ area.now.level }
-        ensures rect { result.rect ≡ cell_rect (shown_grid area.now.grid) (area_cell area.now k) }
-        ensures right { result.rect.x + result.rect.w ≤ area.now.grid.across.size }
-        ensures bottom { result.rect.y + result.rect.h ≤ area.now.grid.down.size }
-        ensures channels { result.channels ≡ area.now.window.channels }
-    {
-        // needed by the proof: bounds the number of files
-        let cache = self.cache;
-        let _files = cache.files.board();
-        cell_met(self.known.record(), area, k)
-    }
+/// The k-th cell that a region meets.
+fn cell_of<V: Waiter, T: Tap>(source: &TileSource<'_, V, T>, area: &Area, k: u64) -> CellAt
+    requires area { HasAreaAt area.now source.now.picture.now }
+    requires cell { k < area_cells area.now }
+    ensures of { IsCellOf source.now.picture.now result }
+    ensures key { result.key ≡ key_of source.now.picture.now.generation source.now.picture.now.file
+        area.now.level (area_cell area.now k) }
+    ensures level { level_of result.key ≡ area.now.level }
+    ensures rect { result.rect ≡ cell_rect (shown_grid area.now.grid) (area_cell area.now k) }
+    ensures right { result.rect.x + result.rect.w ≤ area.now.grid.across.size }
+    ensures bottom { result.rect.y + result.rect.h ≤ area.now.grid.down.size }
+    ensures channels { result.channels ≡ area.now.window.channels }
+{
+    source.store.know();
+    cell_met(source.picture, area, k)
+}
 
-    /// Writes the values of the region's texels in one cell, whose tile is the first of the
-    /// microcache.
-    fn paint_local(&self, cell: &CellAt, area: &Area, values: &mut [u16])
-        requires first { StandsFirst cell.now self.now.pass.now.pinned.recent }
-        requires cell { IsCellOf self.now.known.now cell.now }
-        requires right { cell.now.rect.x + cell.now.rect.w ≤ area.now.grid.across.size }
-        requires bottom { cell.now.rect.y + cell.now.rect.h ≤ area.now.grid.down.size }
-        requires channels { cell.now.channels ≡ area.now.window.channels }
-        requires values { HasValues area.now.window area.now.height values.old }
-        ensures long { length values.new ≡ length values.old }
-        ensures others { KeepsOthersOn cell.now.rect area.now.window area.now.height
-            values.old values.new }
-        ensures value { ForSome
-            (T.W.files.held self.now.known.now.file self.now.known.now.generation)
-            (λ bytes. HasValuesOn bytes (level_of cell.now.key) cell.now.rect area.now.window
-            area.now.height values.new) }
-    {
-        let pass = &*self.pass;
-        paint_part(
-            pass.pinned.latest(cell),
-            self.known.record(),
-            cell,
-            area,
-            values,
-        );
-    }
+/// Writes the values of the region's texels in one cell, whose tile is the first of the
+/// microcache.
+fn paint_local<V: Waiter, T: Tap>(
+    source: &TileSource<'_, V, T>,
+    cell: &CellAt,
+    area: &Area,
+    values: &mut [u16],
+)
+    requires first { StandsFirst cell.now source.now.pass.now.pinned.recent }
+    requires cell { IsCellOf source.now.picture.now cell.now }
+    requires right { cell.now.rect.x + cell.now.rect.w ≤ area.now.grid.across.size }
+    requires bottom { cell.now.rect.y + cell.now.rect.h ≤ area.now.grid.down.size }
+    requires channels { cell.now.channels ≡ area.now.window.channels }
+    requires values { HasValues area.now.window area.now.height values.old }
+    ensures long { length values.new ≡ length values.old }
+    ensures others { KeepsOthersOn cell.now.rect area.now.window area.now.height
+        values.old values.new }
+    ensures value { ForSome
+        (T.W.files.held source.now.picture.now.file source.now.picture.now.generation)
+        (λ bytes. HasValuesOn bytes (level_of cell.now.key) cell.now.rect area.now.window
+        area.now.height values.new) }
+{
+    let pass = &*source.pass;
+    paint_part(pass.pinned.latest(cell), source.picture, cell, area, values);
 }
 
 /// The area of a region on a level. Fails unless the file is valid, its cells are small enough and
@@ -297,7 +271,7 @@ fn area_of<W: World, B>(known: &Record<W>, region: &Region) -> Result<Area, Cach
     ensures err { IfErr result (PixelsRefuses region.now.level known.now) }
 {
     let grid = level_in(known, region.level)?;
-    Ok(Area::new(grid, region, channels_of(known)))
+    Ok(Area::new(grid, region, Picture::of(known).channels()))
 }
 
 /// The values of an area, all 0.
@@ -330,12 +304,12 @@ fn append(out: &mut Vec<u16>, values: &Vec<u16>) -> Result<(), NoMemory>
 }
 
 /// The k-th cell that a region meets.
-fn cell_met<W: World>(known: &Record<W>, area: &Area, k: u64) -> CellAt
-    requires file { known.now.file < max_files }
-    requires area { HasAreaAt area.now known.now }
+fn cell_met<W: World>(picture: &Picture<'_, W>, area: &Area, k: u64) -> CellAt
+    requires file { picture.now.file < max_files }
+    requires area { HasAreaAt area.now picture.now }
     requires cell { k < area_cells area.now }
-    ensures of { IsCellOf known.now result }
-    ensures key { result.key ≡ key_of known.now.generation known.now.file area.now.level
+    ensures of { IsCellOf picture.now result }
+    ensures key { result.key ≡ key_of picture.now.generation picture.now.file area.now.level
         (area_cell area.now k) }
     ensures level { level_of result.key ≡ area.now.level }
     ensures rect { result.rect ≡ cell_rect (shown_grid area.now.grid) (area_cell area.now k) }
@@ -345,7 +319,7 @@ fn cell_met<W: World>(known: &Record<W>, area: &Area, k: u64) -> CellAt
 {
     let (column, row) = area.place(k);
     CellAt {
-        key: known.key(area.level, area.grid.index(column, row)),
+        key: picture.key(area.level, area.grid.index(column, row)),
         rect: area.grid.rect(column, row),
         channels: area.window.channels,
     }
@@ -354,14 +328,14 @@ fn cell_met<W: World>(known: &Record<W>, area: &Area, k: u64) -> CellAt
 /// Writes the values of the region's texels in one cell, from a tile of that cell.
 fn paint_part<W: World>(
     tile: &Tile<W>,
-    known: &Record<W>,
+    picture: &Picture<'_, W>,
     cell: &CellAt,
     area: &Area,
     values: &mut [u16],
 )
     requires keyed { tile.now.key ≡ cell.now.key }
     requires of_cell { IsTrue (is_tile_of cell.now tile.now) }
-    requires cell { IsCellOf known.now cell.now }
+    requires cell { IsCellOf picture.now cell.now }
     requires right { cell.now.rect.x + cell.now.rect.w ≤ area.now.grid.across.size }
     requires bottom { cell.now.rect.y + cell.now.rect.h ≤ area.now.grid.down.size }
     requires channels { cell.now.channels ≡ area.now.window.channels }
@@ -369,10 +343,10 @@ fn paint_part<W: World>(
     ensures long { length values.new ≡ length values.old }
     ensures others { KeepsOthersOn cell.now.rect area.now.window area.now.height
         values.old values.new }
-    ensures value { ForSome (W.files.held known.now.file known.now.generation)
+    ensures value { ForSome (W.files.held picture.now.file picture.now.generation)
         (λ bytes. HasValuesOn bytes (level_of cell.now.key) cell.now.rect area.now.window
         area.now.height values.new) }
 {
-    let depth = depth_of(known, cell.key.level());
+    let depth = picture.depth(cell.key.level());
     paint(tile, depth, &area.window, area.height, values);
 }

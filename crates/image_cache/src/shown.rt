@@ -3,22 +3,19 @@ ghost use Rattle.std.specs.Prelude.{◌≡◌, ◌↔◌, IsTrue, IsSome, IfSome
 ghost use Rattle.std.specs.Option.{ForSome};
 ghost use Rattle.texel_values.specs.Values.{AreValuesAt};
 ghost use Rattle.micro.specs.Items.{HasKey};
-ghost use Rattle.pinned_tiles.specs.Cell.{is_tile_of};
 ghost use Rattle.pinned_tiles.specs.Pinned.{key_in};
-ghost use Rattle.image_cache.specs.Pass.{IsPassOf, KeepsAllBut, recent_and_counts};
-ghost use Rattle.image_cache.specs.Call.{CountsHits, turned_to};
-ghost use Rattle.image_cache.specs.Texel.{IsKnownTo, IsTexelIn, IsCellAt, has_cell_at};
+ghost use Rattle.tile_source.specs.Pass.{IsPassOf, KeepsAllBut, recent_and_counts};
+ghost use Rattle.tile_source.specs.Call.{CountsHits};
+ghost use Rattle.image_cache.specs.Call.{turned_to};
+ghost use Rattle.tile_source.specs.Texel.{IsKnownTo, IsTexelIn, has_cell_at};
 ghost use Rattle.image_cache.specs.Square.{IsShownAt};
 
 use crate::cache::Cache;
-use crate::pass::Pass;
-use crate::texel::depth_of;
-use file_table::Record;
-use pinned_tiles::CellAt;
+use file_table::{Picture, Record};
 use tex_world::Tap;
-use texel_values::{TexelAt, write_values};
+use texel_values::TexelAt;
 use tile_layout::TileKey;
-use tile_store::Tile;
+use tile_source::{Pass, write_texel};
 
 impl<T: Tap> Cache<T> {
     /// Writes the values of a texel if the microcache has its cell, and returns the cell's key.
@@ -43,28 +40,8 @@ impl<T: Tap> Cache<T> {
         let Some(tile) = pass.tile_of(&cell) else {
             return None;
         };
-        self.write_shown(tile, known, &cell, at, out);
+        write_texel(tile, &Picture::of(known), &cell, at, out);
         Some(cell.key)
-    }
-
-    /// Writes the values of a texel from a tile of its cell.
-    #[inline(always)]
-    fn write_shown(
-        &self,
-        tile: &Tile<T::W>,
-        known: &Record<T::W>,
-        cell: &CellAt,
-        at: TexelAt,
-        out: &mut [u16],
-    )
-        requires keyed { tile.now.key ≡ cell.now.key }
-        requires of_cell { IsTrue (is_tile_of cell.now tile.now) }
-        requires cell { IsCellAt known.now at cell.now }
-        ensures { ForSome (T.W.files.held known.now.file known.now.generation) (λ bytes.
-            AreValuesAt bytes at out.new) }
-    {
-        let depth = depth_of(known, at.level);
-        write_values(tile, depth, at, out);
     }
 
     /// Counts `needs` hits, and moves the tile of the last key to the front. The result is the same

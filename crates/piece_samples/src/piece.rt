@@ -13,7 +13,7 @@ ghost use Rattle.piece_samples.specs.Unpacked.{KeepsDepth};
 use crate::places::Places;
 use crate::samples::{clear_to, unpack_to};
 use crate::span::Span;
-use tiff_dirs::ByteReader;
+use tiff_entries::ByteReader;
 use tile_layout::{Piece, TexelFormat};
 
 /// The most bytes of a row: 64 texels of 8 samples of 16 bits.

@@ -13,7 +13,7 @@ ghost use Rattle.piece_samples.specs.Row.{AfterReads, IsReadSample, IsRow, row_r
 
 use crate::piece::read_piece;
 use crate::places::Places;
-use tiff_dirs::ByteReader;
+use tiff_entries::ByteReader;
 use tiff_format::Rect;
 use tile_layout::Layout;
 

@@ -145,7 +145,7 @@ module _ (files : Files) (cut : Cut) where
   room_is seat recent holds are = omega (
     arith,
     count_is seat recent holds None are,
-    are.lately,
+    are.two_latest,
     are.few,
     are.some,
   )
@@ -158,7 +158,7 @@ module _ (files : Files) (cut : Cut) where
     arith,
     count_is seat recent holds hand are,
     one_in_hand hand,
-    are.lately,
+    are.two_latest,
     are.few,
     two,
   )
@@ -191,7 +191,7 @@ module _ (files : Files) (cut : Cut) where
     hand_cell = tt;
     recent_cells = are.recent_cells;
     hold_cells = are.hold_cells;
-    lately = are.lately;
+    two_latest = are.two_latest;
     few = are.few;
     some = omega (arith, are.some, less.permits);
   }
@@ -210,7 +210,7 @@ module _ (files : Files) (cut : Cut) where
     hand_cell = fits;
     recent_cells = are.recent_cells;
     hold_cells = are.hold_cells;
-    lately = are.lately;
+    two_latest = are.two_latest;
     few = are.few;
     some = omega (arith, are.some, more.permits);
   }
@@ -241,7 +241,7 @@ module _ (files : Files) (cut : Cut) where
     hand_cell = are.hand_cell;
     recent_cells = are.recent_cells;
     hold_cells = are.hold_cells;
-    lately = are.lately;
+    two_latest = are.two_latest;
     few = are.few;
     some = omega (arith, are.some, same.permits);
   }
@@ -267,7 +267,7 @@ module _ (files : Files) (cut : Cut) where
         hand_cell = cells.1;
         recent_cells = cells.0;
         hold_cells = are.hold_cells;
-        lately = omega (arith, ap length is, length-take 2 (t ∷ old));
+        two_latest = omega (arith, ap length is, length-take 2 (t ∷ old));
         few = are.few;
         some = are.some;
       }
@@ -293,9 +293,9 @@ module _ (files : Files) (cut : Cut) where
             (All-filter own (FitsCut files cut) recent are.recent_cells)
             (All-filter others (FitsCut files cut) recent are.recent_cells);
         hold_cells = are.hold_cells;
-        lately = omega (
+        two_latest = omega (
           arith,
-          are.lately,
+          are.two_latest,
           ones (key_first key_in key recent),
           ones recent,
           sum_by-append (λ (t : CachedTile). 1) (filter own recent) (filter others recent),
@@ -324,9 +324,9 @@ module _ (files : Files) (cut : Cut) where
         hand_cell = cells.1;
         recent_cells = cells.0;
         hold_cells = are.hold_cells;
-        lately = omega (
+        two_latest = omega (
           arith,
-          are.lately,
+          are.two_latest,
           ap length kept,
           length-append new (option_to_list last),
         );
@@ -353,7 +353,7 @@ module _ (files : Files) (cut : Cut) where
         hand_cell = cells.1;
         recent_cells = are.recent_cells;
         hold_cells = cells.0;
-        lately = are.lately;
+        two_latest = are.two_latest;
         few = omega (arith, are.few, ap length kept, length-append new (option_to_list last));
         some = are.some;
       }
@@ -365,7 +365,7 @@ module _ (files : Files) (cut : Cut) where
     hand_cell = tt;
     recent_cells = All-nil (FitsCut files cut);
     hold_cells = All-nil (FitsCut files cut);
-    lately = omega arith;
+    two_latest = omega arith;
     few = omega arith;
     some = permits;
   }
@@ -397,7 +397,7 @@ module _ (files : Files) (cut : Cut) where
         (All-get_or (FitsCut files cut) old i t place are.hold_cells);
     recent_cells = are.recent_cells;
     hold_cells = All-remove (FitsCut files cut) old i are.hold_cells;
-    lately = are.lately;
+    two_latest = are.two_latest;
     few = omega (arith, are.few, length-remove old i place);
     some = are.some;
   }
@@ -414,7 +414,7 @@ module _ (files : Files) (cut : Cut) where
     recent_cells = are.recent_cells;
     hold_cells = All-append (FitsCut files cut) old (t ∷ []) are.hold_cells
         (All-cons (FitsCut files cut) t [] are.hand_cell (All-nil (FitsCut files cut)));
-    lately = are.lately;
+    two_latest = are.two_latest;
     few = omega (arith, room, length-append old (t ∷ []));
     some = are.some;
   }

@@ -77,7 +77,7 @@ pub record ArePinned (files : Files) (p : PinnedState) : Type 0 where
   pub hand_cell : IfSome p.hand (FitsCut files p.cut)
   pub recent_cells : All (FitsCut files p.cut) p.recent
   pub hold_cells : All (FitsCut files p.cut) p.holds
-  pub lately : length p.recent ≤ 2
+  pub two_latest : length p.recent ≤ 2
   pub few : length p.holds ≤ max_holds
   pub some : 1 ≤ p.seat.permits
 
@@ -99,6 +99,12 @@ pub record KeepsTiles (old new : PinnedState) : Type 0 where
   pub seat : SameSeat old new
   pub recent : new.recent ≡ old.recent
   pub holds : new.holds ≡ old.holds
+
+-- The same tiles are pinned, in the same places.
+pub record KeepsPinned (old new : PinnedState) : Type 0 where
+  pub pins : new.seat.pins ≡ old.seat.pins
+  pub hand : new.hand ≡ old.hand
+  pub tiles : KeepsTiles old new
 
 -- The microcache is unchanged.
 pub record KeepsRecent (old new : PinnedState) : Type 0 where

@@ -47,7 +47,7 @@ impl<W: World> Pinned<W> {
         ensures visits { PurgesNone gate.now self.old.seat self.new.seat }
         ensures are { ArePinned W.files self.new }
     {
-        let _given_back = self.release_hand(gate, waiter);
+        let _ = self.release_hand(gate, waiter);
     }
 
     /// The tile in hand, if it is the tile of the cell.

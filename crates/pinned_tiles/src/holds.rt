@@ -66,9 +66,7 @@ impl<W: World> Pinned<W> {
         ensures visits { PurgesNone gate.now self.old.seat self.new.seat }
         ensures are { ArePinned W.files self.new }
     {
-        if let Err(busy) = self.release_hand(gate, waiter) {
-            return Err(busy);
-        }
+        self.release_hand(gate, waiter)?;
         self.take_hold_at(place);
         self.try_hand(gate, waiter);
         Ok(())
@@ -94,13 +92,9 @@ impl<W: World> Pinned<W> {
         ensures visits { PurgesNone gate.now self.old.seat self.new.seat }
         ensures are { ArePinned W.files self.new }
     {
-        if let Err(busy) = self.release_recent(gate, waiter) {
-            return Err(busy);
-        }
+        self.release_recent(gate, waiter)?;
         'holds: while self.take_hold() {
-            if let Err(busy) = self.release_hand(gate, waiter) {
-                return Err(busy);
-            }
+            self.release_hand(gate, waiter)?;
         }
         self.know_none();
         Ok(())
@@ -111,7 +105,7 @@ impl<W: World> Pinned<W> {
         ensures { self.now.recent ≡ [] → self.now.holds ≡ [] → self.now.hand ≡ None
             → self.now.seat.pins ≡ [] }
     {
-        let _permits = self.seat.permits();
+        let _ = self.seat.permits();
     }
 
     /// Takes the latest hold in hand. False if none exists.

@@ -5,9 +5,9 @@
 mod cell;
 mod hand;
 mod holds;
-mod lately;
 mod pinned;
 mod recent;
+mod recent_tile;
 
 pub use cell::{CellAt, is_tile_of};
 pub use pinned::{MAX_HOLDS, Pinned};

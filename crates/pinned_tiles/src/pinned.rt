@@ -4,11 +4,11 @@ ghost use Rattle.std.specs.Prelude.{OnOk, OnErr, IfOk};
 ghost use Rattle.tile_store.specs.Tag.{tag_of};
 ghost use Rattle.shard_gate.specs.Gate.{IsSameSeat, JoinsVisits};
 ghost use Rattle.shard_gate.specs.Everyone.{FindsPinsOfAll};
-ghost use Rattle.shard_gate.specs.Given.{AtShard, AtFirst, AtSome, Counts, Purges};
-ghost use Rattle.pinned_tiles.specs.Pinned.{max_holds, ArePinned, PinsAt, KeepsTiles, tiles_at};
+ghost use Rattle.shard_gate.specs.Given.{AtShard, AtFirst, AtSome, Counts, FitsShare, Purges};
+ghost use Rattle.pinned_tiles.specs.Pinned.{max_holds, ArePinned, PinsAt, KeepsTiles, KeepsPinned, tiles_at};
 ghost use Rattle.pinned_tiles.specs.Pinned.{IsNewPart, IsSecondPart, KeepsAllButPermits};
 
-use crate::lately::Lately;
+use crate::recent_tile::RecentTile;
 use micro::Micro;
 use shard_gate::{Gate, Pin, PinSeat};
 use std::alloc::Global;
@@ -29,14 +29,13 @@ pub const MAX_HOLDS: usize = 4;
 pub struct Pinned<W: World> {
     pub(crate) seat: PinSeat<W>,
     pub(crate) cut: Cut,
-    pub(crate) recent: Micro<Lately<W>>,
+    pub(crate) recent: Micro<RecentTile<W>>,
     pub(crate) holds: Vec<Pin<W>>,
     pub(crate) hand: Option<Pin<W>>,
 }
 
 impl<W: World> Model for Pinned<W> {
-    ghost use Rattle.std.specs.Prelude.{◌≤◌, map, vec_capacity};
-    ghost use Rattle.std.specs.Option.{option_map};
+    ghost use Rattle.std.specs.Prelude.{◌≤◌, vec_capacity};
     ghost use Rattle.pinned_tiles.specs.Pinned.{PinnedState, max_holds};
     ghost use Rattle.pinned_tiles.specs.Pinned.{pinned_state, ArePinned};
 
@@ -89,7 +88,7 @@ impl<W: World> Pinned<W> {
     pub fn know(&self)
         ensures { ArePinned W.files self.now }
     {
-        let _permits = self.seat.permits();
+        let _ = self.seat.permits();
     }
 
     /// The permits of the seat.
@@ -112,8 +111,7 @@ impl<W: World> Pinned<W> {
         ensures lawful { IfOk result (λ count. AtShard shard
             (Counts W.files (tag_of gate.now.share gate.now.cut) count)
             self.old.seat.visits self.new.seat.visits) }
-        ensures share { IfOk result (λ count. count.share ≡ gate.now.share) }
-        ensures within { IfOk result (λ count. count.loose ≤ count.share) }
+        ensures fits { IfOk result (FitsShare gate.now.share) }
         // The pins of its own tiles are among them. If it has all permits, there are no others.
         ensures own { IfOk result (λ count.
             tiles_at (length gate.now.id) shard self.old ≤ count.pins) }
@@ -122,10 +120,8 @@ impl<W: World> Pinned<W> {
         // Each entry has as many pins as all callers' seats have on its key, and no seat has others.
         ensures everyone { OnOk result (FindsPinsOfAll shard self.old.seat self.new.seat) }
         // The state after the call.
-        ensures pins { self.new.seat.pins ≡ self.old.seat.pins }
+        ensures kept { KeepsPinned self.old self.new }
         ensures err { OnErr result (IsSameSeat self.old.seat self.new.seat) }
-        ensures hand { self.new.hand ≡ self.old.hand }
-        ensures same { KeepsTiles self.old self.new }
         ensures are { ArePinned W.files self.new }
     {
         gate.count(waiter, &mut self.seat, shard)

@@ -11,8 +11,8 @@ ghost use Rattle.pinned_tiles.specs.Pinned.{StaysAskedFor};
 ghost use Rattle.pinned_tiles.specs.Cell.{is_tile_of, has_cell, HasFirst, StandsFirst};
 
 use crate::cell::{CellAt, is_tile_of};
-use crate::lately::Lately;
 use crate::pinned::Pinned;
+use crate::recent_tile::RecentTile;
 use shard_gate::Gate;
 use tex_world::World;
 use tile_layout::TileKey;
@@ -44,7 +44,7 @@ impl<W: World> Pinned<W> {
         ensures fits { IfSome result (λ tile. FitsCut W.files self.now.cut tile.now) }
     {
         match self.recent.peek(cell.key) {
-            Some(lately) if is_tile_of(lately.tile(), cell) => Some(lately.tile()),
+            Some(recent) if is_tile_of(recent.tile(), cell) => Some(recent.tile()),
             _ => None,
         }
     }
@@ -66,7 +66,7 @@ impl<W: World> Pinned<W> {
         ensures are { ArePinned W.files self.new }
     {
         // needed by the proof: the two tiles have different keys
-        let _has = self.recent.has(cell.key);
+        let _ = self.recent.has(cell.key);
         // usually it is the first already
         if self.is_latest(cell) {
             return true;
@@ -86,7 +86,7 @@ impl<W: World> Pinned<W> {
         ensures of_cell { IsTrue (is_tile_of cell.now result.now) }
     {
         match self.recent.first() {
-            Some(lately) => lately.tile(),
+            Some(recent) => recent.tile(),
             None => unreachable!(),
         }
     }
@@ -97,7 +97,7 @@ impl<W: World> Pinned<W> {
         ensures { IsTrue result ↔ StandsFirst cell.now self.now.recent }
     {
         match self.recent.first() {
-            Some(lately) => lately.tile().key() == cell.key && is_tile_of(lately.tile(), cell),
+            Some(recent) => recent.tile().key() == cell.key && is_tile_of(recent.tile(), cell),
             None => false,
         }
     }
@@ -109,9 +109,9 @@ impl<W: World> Pinned<W> {
         ensures has { IsTrue result → HasKey key_in cell.now.key self.now.recent }
     {
         // needed by the proof: the two tiles have different keys
-        let _has = self.recent.has(cell.key);
+        let _ = self.recent.has(cell.key);
         match self.recent.second() {
-            Some(lately) => lately.tile().key() == cell.key && is_tile_of(lately.tile(), cell),
+            Some(recent) => recent.tile().key() == cell.key && is_tile_of(recent.tile(), cell),
             None => false,
         }
     }
@@ -156,7 +156,7 @@ impl<W: World> Pinned<W> {
         let Some(pin) = self.hand.take() else {
             unreachable!()
         };
-        if let Some(left) = self.recent.place(Lately { pin }) {
+        if let Some(left) = self.recent.place(RecentTile { pin }) {
             self.hand = Some(left.into_pin());
         }
     }
@@ -171,13 +171,9 @@ impl<W: World> Pinned<W> {
         ensures visits { PurgesNone gate.now self.old.seat self.new.seat }
         ensures are { ArePinned W.files self.new }
     {
-        if let Err(busy) = self.release_hand(gate, waiter) {
-            return Err(busy);
-        }
+        self.release_hand(gate, waiter)?;
         'tiles: while self.take_recent() {
-            if let Err(busy) = self.release_hand(gate, waiter) {
-                return Err(busy);
-            }
+            self.release_hand(gate, waiter)?;
         }
         Ok(())
     }

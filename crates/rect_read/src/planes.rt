@@ -23,7 +23,7 @@ use crate::rows::Rows;
 use crate::samples::Samples;
 use crate::texels::Texels;
 use std::alloc::{AllocError, Global};
-use tiff_dirs::ByteReader;
+use tiff_entries::ByteReader;
 use tiff_format::Rect;
 use tile_layout::TexelFormat;
 

@@ -26,7 +26,7 @@ use crate::samples::Samples;
 use crate::window::{Window, ready};
 use piece_samples::Span;
 use std::alloc::{AllocError, Global};
-use tiff_dirs::ByteReader;
+use tiff_entries::ByteReader;
 use tiff_format::Rect;
 use tile_layout::{Piece, Pieces, TexelFormat};
 

@@ -18,7 +18,7 @@ use crate::planes::{read_chunky, read_planes};
 use crate::rect_error::RectError;
 use crate::texels::{Texels, narrowed};
 use std::alloc::Global;
-use tiff_dirs::ByteReader;
+use tiff_entries::ByteReader;
 use tiff_format::Rect;
 use tile_layout::{Layout, TexelFormat};
 

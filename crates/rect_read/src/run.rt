@@ -25,7 +25,7 @@ use crate::texels::Texels;
 use crate::window::Window;
 use piece_samples::Span;
 use std::alloc::AllocError;
-use tiff_dirs::ByteReader;
+use tiff_entries::ByteReader;
 use tile_layout::TexelFormat;
 
 /// Texels that follow one another in the file: `texels` of them, from `at` on.

@@ -10,7 +10,7 @@ use crate::rect_error::RectError;
 use crate::rows::RowsBehind;
 use piece_samples::Span;
 use std::alloc::{AllocError, Global};
-use tiff_dirs::ByteReader;
+use tiff_entries::ByteReader;
 
 /// The most bytes between the pieces of two rows that are still read together. Reading that many
 /// costs about as much as another call.

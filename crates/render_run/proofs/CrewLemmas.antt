@@ -7,7 +7,7 @@ use Rattle.std.proofs.lemmas.List.{get_or-map, get_or_default, length-map, lengt
 use Rattle.std.proofs.lemmas.List.Sums.{sum_by-cons}
 use Rattle.render_run.specs.Around.{Sight, SourceState, sight_at, no_sight, source_of_crew}
 use Rattle.render_run.specs.Answering.{SeesNoLess}
-use Rattle.image_cache.specs.Pass.{PassState}
+use Rattle.tile_source.specs.Pass.{PassState}
 use Rattle.render_run.specs.Crew.{GivesOn, SeeNoLess, SightsOn, AreCarried}
 use Rattle.render_run.proofs.Sums.{at_same, at_other}
 use mathlib.Core.Logic.{dite}

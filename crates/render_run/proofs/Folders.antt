@@ -13,7 +13,8 @@ use Rattle.render_run.specs.declared.answering.Unfinished.{Unfinished}
 use Rattle.render_run.specs.declared.answering.Unfinished.TheVariants.{NotWritten}
 use Rattle.render_run.specs.declared.answering.Unfinished.TheVariants as unfinished
 use Rattle.render_run.specs.Status as status
-use Rattle.render_run.specs.Around.{SinkState, SourceState, Terms, Setup, FeedState}
+use Rattle.render_run.specs.Around.{SourceState, Terms, Setup, FeedState}
+use Rattle.answer_page.specs.Page.{SinkState}
 use Rattle.render_run.specs.Around.{source_of_folder, setup_of, progress_of, terms_for}
 use Rattle.render_run.specs.Around.{around_of, inputs_of, no_sight}
 use Rattle.render_run.specs.Crew.{MakesMore, TakesBack}

@@ -11,7 +11,8 @@ use Rattle.tile_layout.specs.Cell.{CellsFit}
 use Rattle.gen_board.specs.View.{ViewState}
 use Rattle.file_table.specs.Record.{RecordState, layout_of}
 use Rattle.file_table.specs.Calls.{GivesRecord}
-use Rattle.image_cache.specs.Cause.{Around, CellTooLarge, LacksLevel}
+use Rattle.file_table.specs.Picture.{CellTooLarge}
+use Rattle.image_cache.specs.Cause.{Around, LacksLevel}
 use Rattle.texture_sys.proofs.LookLemmas.{good_layout, bad_layout}
 use Rattle.request_lang.specs.declared.answer.Answer.TheVariants as line
 use Rattle.render_run.specs.declared.question.Question.{Question}

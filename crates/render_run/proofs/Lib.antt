@@ -1,5 +1,4 @@
 mod Manned
-mod Passing
 mod Taken
 mod Counting
 mod DealingLemmas

@@ -7,44 +7,40 @@ use Rattle.std.proofs.lemmas.List.Elements.{All-push, All-set, All-map}
 use Rattle.std.proofs.lemmas.List.Sums.{sum_by_push, sum_by-cons}
 use Rattle.tex_world.specs.Tap.{TapState}
 use Rattle.tex_world.specs.Folder.{FolderState, KeepsFiles, AfterBack}
-use Rattle.image_cache.specs.Pass.{CacheState, PassState, IsPassOf, IsFresh}
+use Rattle.tile_source.specs.Pass.{CacheState, PassState}
+use Rattle.image_cache.specs.Pass.{IsFresh}
 use Rattle.render_run.specs.declared.round.Post.{Post}
 use Rattle.render_run.specs.Around.{Sight, SourceState, source_of_crew, no_sight}
 use Rattle.render_run.specs.Around.{tally_of, no_tally}
 use Rattle.render_run.specs.Crew.{IsNewPost, MakesMore, TakesBack, GivesMore, AreIdle}
 use Rattle.render_run.specs.Answering.{HasAllAlone}
-use Rattle.render_run.specs.Posts.{AddsPost, AreNew, ArePassesOf, HasPermitsAlone, sight, sights_of}
+use Rattle.render_run.specs.Posts.{AddsPost, AreNew, AreCallersOf, HasPermitsAlone, sight, sights_of}
 use Rattle.render_run.specs.Written.{LeavesTaps}
 
 -- ---- made
 
-module _ {T W H : Type 0} (state : T → TapState) (cache : CacheState) where
+module _ {R T W H : Type 0} (state : T → TapState) (cache : CacheState) where
   -- one more
-  module _ (pass : PassState) (posts new : List (Post T W H))
-      (adds : AddsPost state pass posts new) where
+  module _ (pass : PassState) (posts new : List (Post R T W H))
+      (adds : AddsPost state cache pass posts new) where
     pub posts_longer : length new ≡ length posts + 1
     posts_longer = ap length adds.all ∙ length-append posts (adds.post ∷ [])
 
     -- one more new worker
-    pub posts_more : IsPassOf cache pass → IsFresh pass → AreNew state cache posts
-        → AreNew state cache new
-    posts_more of fresh all =
+    pub posts_more : IsFresh pass → AreNew state cache posts → AreNew state cache new
+    posts_more fresh all =
         rw adds.all
-        (All-push (λ (p : Post T W H). IsNewPost cache p.worker.pass (state p.worker.tap)) posts
-        adds.post all
-        (record {
-          of = subst (IsPassOf cache) (sym adds.has) of;
-          fresh = subst IsFresh (sym adds.has) fresh;
-          unused = adds.unused;
-        }))
+        (All-push (λ (p : Post R T W H). (p.caller.cache ≡ cache)
+        × IsNewPost p.caller.pass (state p.caller.tap)) posts adds.post all
+        (adds.of, record { fresh = subst IsFresh (sym adds.has) fresh; unused = adds.unused }))
 
   -- the first is as new as before
-  pub posts_split : (posts : List (Post T W H)) (post : Post T W H)
-      → IsNewPost cache post.worker.pass (state post.worker.tap) → AreNew state cache posts
-      → AreNew state cache (set posts 0 post)
-  posts_split posts post one all =
-      All-set (λ (p : Post T W H). IsNewPost cache p.worker.pass (state p.worker.tap)) posts 0 post
-      one all
+  pub posts_split : (posts : List (Post R T W H)) (post : Post R T W H)
+      → post.caller.cache ≡ cache → IsNewPost post.caller.pass (state post.caller.tap)
+      → AreNew state cache posts → AreNew state cache (set posts 0 post)
+  posts_split posts post of one all =
+      All-set (λ (p : Post R T W H). (p.caller.cache ≡ cache)
+      × IsNewPost p.caller.pass (state p.caller.tap)) posts 0 post (of, one) all
 
 -- the files stay over two calls
 files_kept : (f0 f1 f2 : FolderState) → KeepsFiles f0 f1 → KeepsFiles f1 f2 → KeepsFiles f0 f2
@@ -89,44 +85,44 @@ sum_none f (x ∷ xs) all =
 same_tally : (pass : PassState) → IsFresh pass → tally_of pass ≡ no_tally
 same_tally pass fresh = rw (fresh.recent, fresh.needs, fresh.hits, fresh.apart) refl
 
-module _ {T W H : Type 0} (state : T → TapState) (cache : CacheState) where
+module _ {R T W H : Type 0} (state : T → TapState) (cache : CacheState) where
   -- the taps of new workers have done nothing
-  pub crew_none : (posts : List (Post T W H)) → AreNew state cache posts
+  pub crew_none : (posts : List (Post R T W H)) → AreNew state cache posts
       → source_of_crew (sights_of state posts) ≡ no_sight.source
   crew_none posts all =
       rw (
         sum_none (λ (s : Sight). s.source.faults) (sights_of state posts)
-            (All-map (λ (s : Sight). s.source.faults ≡ 0) (λ p. sight state p.worker) posts
-            (λ k d lt. (all k d lt).unused.faults)),
+            (All-map (λ (s : Sight). s.source.faults ≡ 0) (λ (p : Post R T W H). sight state p.caller) posts
+            (λ k d lt. (all k d lt).1.unused.faults)),
         sum_none (λ (s : Sight). s.source.moves) (sights_of state posts)
-            (All-map (λ (s : Sight). s.source.moves ≡ 0) (λ p. sight state p.worker) posts
-            (λ k d lt. (all k d lt).unused.moves)),
+            (All-map (λ (s : Sight). s.source.moves ≡ 0) (λ (p : Post R T W H). sight state p.caller) posts
+            (λ k d lt. (all k d lt).1.unused.moves)),
       ) refl
 
   -- new workers hold nothing and have counted nothing
-  pub crew_idle : (posts : List (Post T W H)) → AreNew state cache posts
+  pub crew_idle : (posts : List (Post R T W H)) → AreNew state cache posts
       → AreIdle (sights_of state posts)
   crew_idle [] all w = record { holds = refl; tally = refl }
   crew_idle (p ∷ ps) all zero = record {
-    holds = ap length (all 0 p (omega arith)).fresh.holds;
-    tally = same_tally p.worker.pass (all 0 p (omega arith)).fresh;
+    holds = ap length (all 0 p (omega arith)).1.fresh.holds;
+    tally = same_tally p.caller.pass (all 0 p (omega arith)).1.fresh;
   }
   crew_idle (p ∷ ps) all (suc w) = crew_idle ps (λ k d lt. all (suc k) d (omega arith)) w
 
   -- one alone has all permits
-  pub crew_alone : (workers passes : ℕ) (pass : PassState) (posts : List (Post T W H))
+  pub crew_alone : (workers passes : ℕ) (pass : PassState) (posts : List (Post R T W H))
       → length posts ≡ workers → pass.pinned.seat.permits ≡ passes
       → HasPermitsAlone workers pass posts → HasAllAlone passes (sights_of state posts)
   crew_alone workers passes pass [] long all has single = absurd (cc single)
   crew_alone workers passes pass (p ∷ ps) long all has single =
       let count : workers ≡ 1 = sym long
-      ∙ sym (length-map (p ∷ ps) (λ q. sight state q.worker)) ∙ single in
+      ∙ sym (length-map (p ∷ ps) (λ q. sight state q.caller)) ∙ single in
       has count 0 p (omega arith) ∙ all
 
-  -- the pass of each is one of the cache's
-  pub crew_passes : (posts : List (Post T W H)) → AreNew state cache posts
-      → ArePassesOf cache posts
-  crew_passes posts all = λ k d lt. (all k d lt).of
+  -- each is a caller of the cache
+  pub crew_passes : (posts : List (Post R T W H)) → AreNew state cache posts
+      → AreCallersOf cache posts
+  crew_passes posts all = λ k d lt. (all k d lt).0
 
 -- what is written back past the end is dropped
 pub written_back : {A : Type 0} (m : ℕ) (new old : List A) → m ≡ length new

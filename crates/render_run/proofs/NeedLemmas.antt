@@ -29,10 +29,11 @@ use Rattle.texel_values.specs.Region.{max_texels}
 use Rattle.texel_values.specs.Overlap.{IsOverlap}
 use Rattle.texel_values.specs.Area.{area_cells}
 use Rattle.texel_values.specs.Met.{cells_met, count_met}
-use Rattle.image_cache.specs.declared.error.CacheError.{CacheError}
-use Rattle.image_cache.specs.declared.error.CacheError.TheVariants as refused
-use Rattle.image_cache.specs.Pass.{PassState, counted_together}
-use Rattle.image_cache.specs.Call.{Needs, KeepsRecent, CountsOn, KeepsGiven, NoneApart}
+use Rattle.tile_source.specs.declared.error.CacheError.{CacheError}
+use Rattle.tile_source.specs.declared.error.CacheError.TheVariants as refused
+use Rattle.tile_source.specs.Pass.{PassState, counted_together}
+use Rattle.tile_source.specs.Call.{Needs, CountsOn, NoneUncached}
+use Rattle.image_cache.specs.Call.{KeepsRecent, KeepsGiven}
 use Rattle.image_cache.specs.Cause.{KeepsRecentAt}
 use Rattle.image_cache.specs.Region.{ReadsRegion, area_keys}
 use Rattle.image_cache.specs.Sizes.{sizes_by, sizes_in}
@@ -211,7 +212,7 @@ needs_tally files cut task line keys old new are few count later needs kept = re
 }
 
 -- a pass without uncached needs has none in a single call either
-none_apart : (old new : PassState) → old.apart ≤ new.apart → new.apart ≡ 0 → NoneApart old new
+none_apart : (old new : PassState) → old.apart ≤ new.apart → new.apart ≡ 0 → NoneUncached old new
 none_apart old new later none = record {
   same = omega (arith, later, none);
   low = omega (arith, later, none);
@@ -344,7 +345,7 @@ module _ (files : Files) (cut : Cut) (file generation : ℕ) (old new : PassStat
     look_at : (state : RecordState) → GivesRecord files file cut old.view new.view state
         → state.generation ≡ generation
         → new.needs ≡ counted_together old.needs (length (visits_on state (One (Coarse r))))
-        → (NoneApart old new → NeedsCells files state (visits_on state (One (Coarse r))) old new)
+        → (NoneUncached old new → NeedsCells files state (visits_on state (One (Coarse r))) old new)
         → (layout : Result Kept TiffFault) → state.layout ≡ layout
         → TalliesAnswer files cut (Ask (Some file) (Lookup r)) (tally_of old) (tally_of new)
         answer

@@ -7,8 +7,8 @@ use Rattle.tiff_format.specs.declared.shard_count.ShardCount.{ShardCount}
 use Rattle.tile_store.specs.Tile.{CachedTile}
 use Rattle.pinned_tiles.specs.Pinned.{PinnedState, tiles_at, tiles_in}
 use Rattle.pinned_tiles.proofs.TileSums.{at_least_tiles, exactly_tiles}
-use Rattle.image_cache.specs.declared.error.CacheError.{CacheError}
-use Rattle.image_cache.specs.declared.error.CacheError.TheVariants as refused
+use Rattle.tile_source.specs.declared.error.CacheError.{CacheError}
+use Rattle.tile_source.specs.declared.error.CacheError.TheVariants as refused
 use Rattle.render_run.specs.Pins.{HavePins, TellsPins}
 use Rattle.render_run.specs.Refusal.{refusal_of}
 

@@ -10,13 +10,14 @@ use Rattle.file_table.specs.Record.{RecordState}
 use Rattle.file_table.specs.Calls.{GivesRecord}
 use Rattle.texel_values.specs.declared.region.Region.{Region}
 use Rattle.texel_values.specs.Region.{max_texels, AreRegionValues, Appends}
-use Rattle.image_cache.specs.declared.error.CacheError.{CacheError}
-use Rattle.image_cache.specs.declared.error.CacheError.TheVariants as refused
-use Rattle.image_cache.specs.Pass.{PassState}
+use Rattle.tile_source.specs.declared.error.CacheError.{CacheError}
+use Rattle.tile_source.specs.declared.error.CacheError.TheVariants as refused
+use Rattle.tile_source.specs.Pass.{PassState}
 use Rattle.image_cache.specs.Region.{ReadsRegion}
 use Rattle.image_cache.specs.Call.{KeepsGiven}
+use Rattle.file_table.specs.Picture.{ShowsFault, CellTooLarge}
 use Rattle.image_cache.specs.Cause.{Around, HasCause, TooManyTexels, PixelsRefuses}
-use Rattle.image_cache.specs.Cause.{ShowsFault, CellTooLarge, LacksLevel}
+use Rattle.image_cache.specs.Cause.{LacksLevel}
 use Rattle.request_lang.specs.declared.answer.Answer.TheVariants as line
 use Rattle.request_lang.specs.Basis.{basis_of}
 use Rattle.render_run.specs.declared.question.Question.TheVariants.{Values}

@@ -14,7 +14,7 @@ use Rattle.std.proofs.lemmas.List.{get_or-map}
 use Rattle.std.proofs.lemmas.List.Sums.{sum_by_push, sum_by-append, sum_by-cons, sum_by-le, sum_by-le-sum_by}
 use Rattle.tex_world.specs.Tap.{TapState}
 use Rattle.texel_values.specs.Region.{max_texels}
-use Rattle.image_cache.specs.Pass.{max_count}
+use Rattle.tile_source.specs.Pass.{max_count}
 use Rattle.request_lang.specs.declared.closing.Counts.{Counts}
 use Rattle.request_lang.specs.Closing.{closing_lines}
 use Rattle.request_lang.specs.Grammar.{max_requests}
@@ -26,7 +26,8 @@ use Rattle.tex_world.specs.Stream.{Appends}
 use Rattle.tex_world.specs.World.{Files}
 use Rattle.tex_world.specs.Folder.{FolderState}
 use Rattle.render_run.specs.declared.round.Post.{Post}
-use Rattle.render_run.specs.Around.{SourceState, SinkState, Sight, Progress, Setup, Terms}
+use Rattle.render_run.specs.Around.{SourceState, Sight, Progress, Setup, Terms}
+use Rattle.answer_page.specs.Page.{SinkState, Passes, PutsPart, outgoing_of}
 use Rattle.render_run.specs.Around.{progress_of, setup_of, source_of_crew, sight_at, no_sight}
 use Rattle.render_run.specs.Around.{counts_of}
 use Rattle.render_run.specs.Crew.{AnswersRound, AreIdle, SeeNoLess}
@@ -38,10 +39,9 @@ use Rattle.render_run.specs.Held.{one_if}
 use Rattle.render_run.specs.Counted.{needs_by, hits_by, AreCountsOf, no_counts}
 use Rattle.render_run.specs.Run.{Answers, Closes, Finishes, PartWritten, RoundsWritten}
 use Rattle.render_run.specs.Run.{lines_text, refusals}
-use Rattle.render_run.specs.Page.{Passes, PutsPart, outgoing_of}
 use Rattle.render_run.specs.Answering.{AreInTurn, HasAllAlone, SoFar, answers_text, in_turn}
 use Rattle.render_run.proofs.DealingLemmas.{later_rounds}
-use Rattle.render_run.proofs.Passing.{none_passed, passes_more, passes_part, rest_part}
+use Rattle.answer_page.proofs.Passing.{none_passed, passes_more, passes_part, rest_part}
 use Rattle.render_run.proofs.TallyLemmas.{none_tallied}
 use Rattle.render_run.proofs.CrewLemmas.{one_of}
 use Rattle.render_run.proofs.OneMore.{placed, round_more, placed_places, placed_answers}
@@ -426,38 +426,38 @@ module _ (setup : Setup) (requests : List Request) (crew : List Sight) (old mid 
             };
       }
 
-module _ {T W H : Type 0} (state : T → TapState) (posts : List (Post T W H)) (setup : Setup)
+module _ {R T W H : Type 0} (state : T → TapState) (posts : List (Post R T W H)) (setup : Setup)
     (requests : List Request) (old mid : Progress) (page : List ℕ) (refused : ℕ)
     (some : 0 < length posts)
     (so_far : SoFar setup requests (length requests) (sights_of state posts) old mid page refused)
     (short : length requests ≤ max_requests)
-    (few : All (λ p. p.worker.pass.hits ≤ p.worker.pass.needs) posts) where
+    (few : All (λ p. p.caller.pass.hits ≤ p.caller.pass.needs) posts) where
   -- the text of the lines that close the run
   abbrev text : List ℕ
   text = closing_lines (all_counts posts) (length requests) refused
 
   count : length posts ≡ setup.workers
-  count = sym (length-map posts (λ p. sight state p.worker)) ∙ so_far.so_far.workers
+  count = sym (length-map posts (λ p. sight state p.caller)) ∙ so_far.so_far.workers
 
   closes_so_far : Closes setup.files setup.workers so_far.lines text
   closes_so_far = record {
     counts = all_counts posts;
-    each = length-map posts (λ p. counts_of p.worker.pass) ∙ count;
+    each = length-map posts (λ p. counts_of p.caller.pass) ∙ count;
     counted = λ w low.
         let d = one_of posts some in
         let here : w < length posts = omega (arith, low, count) in
-        let sight_is = get_or-map (λ p. sight state p.worker) posts w d no_sight here in
-        rw (get_or-map (λ p. counts_of p.worker.pass) posts w d no_counts here)
+        let sight_is = get_or-map (λ p. sight state p.caller) posts w d no_sight here in
+        rw (get_or-map (λ p. counts_of p.caller.pass) posts w d no_counts here)
         (counts_told setup requests (sights_of state posts) old mid page refused so_far short w low
-        (counts_of (get_or posts w d).worker.pass) (few w d here)
+        (counts_of (get_or posts w d).caller.pass) (few w d here)
         (sym (ap (λ (s : Sight). s.tally.needs) sight_is))
         (sym (ap (λ (s : Sight). s.tally.hits) sight_is))
         (sym (ap (λ (s : Sight). s.tally.apart) sight_is)));
     pins = λ w low tells none.
         let d = one_of posts some in
         let here : w < length posts = omega (arith, low, count) in
-        let sight_is = get_or-map (λ p. sight state p.worker) posts w d no_sight here in
-        let counts_is = get_or-map (λ p. counts_of p.worker.pass) posts w d no_counts here in
+        let sight_is = get_or-map (λ p. sight state p.caller) posts w d no_sight here in
+        let counts_is = get_or-map (λ p. counts_of p.caller.pass) posts w d no_counts here in
         so_far.so_far.pins w low tells (ap (λ (s : Sight). s.tally.apart) sight_is
         ∙ sym (ap (λ (c : Counts). c.apart) counts_is) ∙ none);
     tells = rw (so_far.count, ← so_far.refusal) refl;

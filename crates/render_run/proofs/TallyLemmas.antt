@@ -16,7 +16,7 @@ use Rattle.micro.proofs.ItemLemmas.{no_items, recent_none, first_found, placed_n
 use Rattle.micro.proofs.RunLemmas.{is_run}
 use Rattle.tile_store.specs.Tile.{CachedTile}
 use Rattle.pinned_tiles.specs.Pinned.{key_in}
-use Rattle.image_cache.specs.Pass.{max_count}
+use Rattle.tile_source.specs.Pass.{max_count}
 use Rattle.request_lang.specs.Basis.{basis_of}
 use Rattle.render_run.specs.declared.question.Task.{Task}
 use Rattle.render_run.specs.Around.{Tally, no_tally}

@@ -16,13 +16,14 @@ use Rattle.tile_layout.specs.Cell.{CellsFit}
 use Rattle.file_table.specs.Record.{RecordState}
 use Rattle.file_table.specs.Calls.{GivesRecord}
 use Rattle.texel_values.specs.declared.texel_at.TexelAt.{TexelAt}
-use Rattle.image_cache.specs.declared.error.CacheError.{CacheError}
-use Rattle.image_cache.specs.declared.error.CacheError.TheVariants as refused
-use Rattle.image_cache.specs.Pass.{PassState}
-use Rattle.image_cache.specs.Texel.{IsTexelOf, cell_of}
+use Rattle.tile_source.specs.declared.error.CacheError.{CacheError}
+use Rattle.tile_source.specs.declared.error.CacheError.TheVariants as refused
+use Rattle.tile_source.specs.Pass.{PassState}
+use Rattle.tile_source.specs.Texel.{IsTexelOf, cell_of}
 use Rattle.image_cache.specs.Call.{KeepsGiven, HoldsCell}
+use Rattle.file_table.specs.Picture.{ShowsFault, CellTooLarge}
 use Rattle.image_cache.specs.Cause.{Around, HasCause, NoFurtherHold, TileRefuses}
-use Rattle.image_cache.specs.Cause.{ShowsFault, CellTooLarge, LacksLevel, LacksTexel}
+use Rattle.image_cache.specs.Cause.{LacksLevel, LacksTexel}
 use Rattle.request_lang.specs.declared.answer.Answer.TheVariants as line
 use Rattle.request_lang.specs.Basis.{basis_of}
 use Rattle.render_run.specs.declared.question.Question.TheVariants.{Hold}

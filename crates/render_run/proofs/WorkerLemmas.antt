@@ -2,14 +2,13 @@
 use Rattle.std.proofs.Common.{◌≡◌, ◌+◌, ℕ, [], Some, None, inl, false, length, refl, ap, arith}
 use Rattle.tex_world.specs.World.{Files}
 use Rattle.tex_world.specs.Tap.{TapState}
-use Rattle.image_cache.specs.Pass.{CacheState, IsPassOf}
+use Rattle.image_cache.specs.Caller.{CallerState}
 use Rattle.request_lang.specs.declared.answer.Answer.{Answer}
 use Rattle.request_lang.specs.declared.answer.Answer.TheVariants.{NoSuchFile, Synced, NoMemory}
 use Rattle.request_lang.specs.Basis.{basis_of}
 use Rattle.render_run.specs.declared.question.Question.{Question}
 use Rattle.render_run.specs.declared.question.Task.{Task}
 use Rattle.render_run.specs.declared.question.Task.TheVariants.{Ask, Tile, Sync, Unnamed}
-use Rattle.render_run.specs.declared.worker.Worker.{Worker}
 use Rattle.render_run.specs.Around.{Sight, tally_of, terms_of}
 use Rattle.render_run.specs.Question.{file_in}
 use Rattle.render_run.specs.Held.{one_if, is_hold, is_drop}
@@ -32,57 +31,56 @@ idle_after line s same cause = record {
   counts = record { faults = omega arith; moves = omega arith };
 }
 
-module _ {T W H : Type 0} (state : T → TapState) (files : Files) (cache : CacheState)
-    (w : Worker T W H) (of : IsPassOf cache w.pass) where
+module _ {T : Type 0} (state : T → TapState) (files : Files) (w : CallerState T) where
   -- a task that asks nothing
   idle_answers : (task : Task) (line : Answer) → file_in task ≡ None
-      → MeetsTask files (terms_of cache.gate) (length w.pass.pinned.holds) task line
+      → MeetsTask files (terms_of w.cache.gate) (length w.pass.pinned.holds) task line
       → is_drop line ≡ is_hold line
       → HasCause (sight state w).source (sight state w).source (basis_of line)
-      → AreNeeded files cache.gate.cut task line [] → empties line ≡ false
+      → AreNeeded files w.cache.gate.cut task line [] → empties line ≡ false
       → LetsGo task w.pass.pinned.holds w.pass.pinned.holds → shards_in line ≡ None
-      → WorkerAnswers state files cache task w w line
+      → WorkerAnswers state files task w w line
   idle_answers task line none meets same cause needed full oldest no_shards = record {
     answer = record {
       meets = meets;
       pins = λ shards is. absurd (cc (no_shards, is));
       after = rw none (idle_after line (sight state w) same cause);
-      tallies = keeps_tally files cache.gate.cut task (tally_of w.pass) (tally_of w.pass) line
+      tallies = keeps_tally files w.cache.gate.cut task (tally_of w.pass) (tally_of w.pass) line
           needed refl refl refl refl full;
     };
-    pass = of;
+    cache = refl;
     oldest = oldest;
   }
 
   -- a question to no file
-  pub none_found : (q : Question) → WorkerAnswers state files cache (Ask None q) w w NoSuchFile
+  pub none_found : (q : Question) → WorkerAnswers state files (Ask None q) w w NoSuchFile
   none_found q = idle_answers (Ask None q) NoSuchFile refl refl refl tt refl refl tt refl
 
   -- no file for a UDIM tile
-  pub no_tile_found : (q : Question) → WorkerAnswers state files cache (Tile None q) w w NoSuchFile
+  pub no_tile_found : (q : Question) → WorkerAnswers state files (Tile None q) w w NoSuchFile
   no_tile_found q = idle_answers (Tile None q) NoSuchFile refl (inl refl) refl tt refl refl tt refl
 
   -- the end of a round
-  pub synced : WorkerAnswers state files cache Sync w w Synced
+  pub synced : WorkerAnswers state files Sync w w Synced
   synced = idle_answers Sync Synced refl refl refl tt refl refl tt refl
 
   -- out of memory for the name of a UDIM tile
-  pub unnamed : WorkerAnswers state files cache Unnamed w w NoMemory
+  pub unnamed : WorkerAnswers state files Unnamed w w NoMemory
   unnamed = idle_answers Unnamed NoMemory refl refl refl tt refl refl tt refl
 
 -- a question to the file of a tile is one to any file
-pub in_tile : {T W H : Type 0} (state : T → TapState) (files : Files) (cache : CacheState) (n : ℕ)
-    (q : Question) (old new : Worker T W H) (line : Answer)
-    → WorkerAnswers state files cache (Ask (Some n) q) old new line
-    → WorkerAnswers state files cache (Tile (Some n) q) old new line
-in_tile state files cache n q old new line a = record {
+pub in_tile : {T : Type 0} (state : T → TapState) (files : Files) (n : ℕ) (q : Question)
+    (old new : CallerState T) (line : Answer)
+    → WorkerAnswers state files (Ask (Some n) q) old new line
+    → WorkerAnswers state files (Tile (Some n) q) old new line
+in_tile state files n q old new line a = record {
   answer = record {
     meets = a.answer.meets;
     pins = a.answer.pins;
     after = a.answer.after;
-    tallies = tile_tally files cache.gate.cut n q (tally_of old.pass) (tally_of new.pass) line
+    tallies = tile_tally files old.cache.gate.cut n q (tally_of old.pass) (tally_of new.pass) line
         a.answer.tallies;
   };
-  pass = a.pass;
+  cache = a.cache;
   oldest = a.oldest;
 }

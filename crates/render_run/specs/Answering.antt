@@ -14,7 +14,7 @@ use Rattle.request_lang.specs.declared.answer.Answer.{Answer}
 use Rattle.request_lang.specs.declared.answer.Answer.TheVariants.{Synced}
 use Rattle.request_lang.specs.Line.{line_of}
 use Rattle.request_lang.specs.Grammar.{max_requests}
-use Rattle.image_cache.specs.Pass.{CacheState}
+use Rattle.tile_source.specs.Pass.{CacheState}
 use Rattle.request_lang.specs.Basis.{Basis, OnNewer, OnFault, basis_of, latest}
 use Rattle.render_run.specs.declared.question.Task.{Task}
 use Rattle.render_run.specs.Around.{SourceState, Sight, Terms, Progress, Setup, sight_at}
@@ -28,7 +28,7 @@ use Rattle.render_run.specs.Counted.{TellTheirPins}
 use Rattle.render_run.specs.Pins.{TellsPins}
 use Rattle.render_run.specs.Tallied.{TalliesAnswer, IsTallied}
 use Rattle.render_run.specs.Run.{read_faults, agains, refusals, lines_text}
-use Rattle.render_run.specs.Page.{Passes, outgoing_of}
+use Rattle.answer_page.specs.Page.{Passes, outgoing_of}
 
 -- ---- one request
 

@@ -2,25 +2,20 @@
 use Rattle.std.specs.Prelude.{ℕ, ◌/◌, List, [], Option, length, slice_index_or}
 use Rattle.std.specs.List.{sum_by}
 use Rattle.tex_world.specs.World.{Files}
-use Rattle.tex_world.specs.declared.sink.Sink as a_sink
+use Rattle.answer_page.specs.Page.{SinkState}
 use Rattle.tex_world.specs.Tap.{TapState}
 use Rattle.tex_world.specs.Folder.{FolderState}
 use Rattle.tiff_format.specs.declared.cut.Cut.{Cut}
 use Rattle.command_line.specs.declared.options.Options.{Options}
 use Rattle.tile_store.specs.Tile.{CachedTile}
 use Rattle.shard_gate.specs.Gate.{GateState}
-use Rattle.image_cache.specs.Pass.{PassState}
+use Rattle.tile_source.specs.Pass.{PassState}
 use Rattle.request_lang.specs.declared.closing.Counts.{Counts}
 
 -- a feed: how often it has failed and, if it is modelled, the bytes that are left
 pub record FeedState : Type 0 where
   pub faults : ℕ
   pub left : Option (List ℕ)
-
--- a sink: how often it has failed and, if it is modelled, the bytes that it has
-pub record SinkState : Type 0 where
-  pub faults : ℕ
-  pub holds : Option (List ℕ)
 
 -- the source of the files: how many I/O errors it has had, and how often it met a newer generation
 pub record SourceState : Type 0 where
@@ -30,14 +25,6 @@ pub record SourceState : Type 0 where
 -- a feed, as its ghost members describe it
 abbrev pub feed_state : {I : Type 0} → (I → ℕ) → (I → Option (List ℕ)) → I → FeedState
 feed_state faults left feed = record { faults = faults feed; left = left feed }
-
--- a sink, as its ghost members describe it
-abbrev pub sink_state : {O : Type 0} → (O → ℕ) → (O → Option (List ℕ)) → O → SinkState
-sink_state faults holds sink = record { faults = faults sink; holds = holds sink }
-
--- a sink, as its ghost members describe it, given as one value
-abbrev pub sink_of : {O : Type 0} → a_sink.Ghosts O → O → SinkState
-sink_of s sink = sink_state s.faults s.holds sink
 
 -- the source made of a folder and the taps given back to it
 abbrev pub source_of_folder : FolderState → SourceState

@@ -4,7 +4,8 @@ use Rattle.tex_world.specs.Counts.{last_count}
 use Rattle.tex_world.specs.World.{Files}
 use Rattle.tex_world.specs.Tap.{TapState, IsNew}
 use Rattle.tex_world.specs.Folder.{FolderState, KeepsFiles}
-use Rattle.image_cache.specs.Pass.{CacheState, PassState, IsPassOf, IsFresh}
+use Rattle.tile_source.specs.Pass.{PassState}
+use Rattle.image_cache.specs.Pass.{IsFresh}
 use Rattle.image_cache.specs.Invalid.{RisesBy}
 use Rattle.request_lang.specs.declared.answer.Answer.{Answer}
 use Rattle.render_run.specs.declared.question.Task.{Task}
@@ -78,9 +79,8 @@ pub record AnswersRound (setup : Setup) (requests : List Request) (lists : List 
 
 -- ---- the taps
 
--- A worker is new: its pass belongs to the cache and is empty, and its tap has done nothing.
-pub record IsNewPost (cache : CacheState) (pass : PassState) (tap : TapState) : Type 0 where
-  pub of : IsPassOf cache pass
+-- A worker is new: its pass is empty, and its tap has done nothing.
+pub record IsNewPost (pass : PassState) (tap : TapState) : Type 0 where
   pub fresh : IsFresh pass
   pub unused : IsNew tap
 

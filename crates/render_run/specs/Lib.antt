@@ -13,7 +13,6 @@ pub mod ListRead
 pub mod Ending
 pub mod Run
 pub mod Complete
-pub mod Page
 pub mod Pins
 pub mod Answering
 pub mod Crew

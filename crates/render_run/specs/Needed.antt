@@ -12,7 +12,7 @@ use Rattle.texel_values.specs.declared.overlap.Overlap.{Overlap}
 use Rattle.texel_values.specs.declared.region.Region.{Region}
 use Rattle.texel_values.specs.Overlap.{IsOverlap}
 use Rattle.texel_values.specs.Met.{cell_met, count_met}
-use Rattle.image_cache.specs.Texel.{cell_of}
+use Rattle.tile_source.specs.Texel.{cell_of}
 use Rattle.texture_sys.specs.declared.lookup_request.LookupRequest.{LookupRequest}
 use Rattle.texture_sys.specs.declared.lookup_request.LookupRequest.TheVariants.{Point, Footprint}
 use Rattle.texture_sys.specs.Asked.{asked_visits}

@@ -1,6 +1,6 @@
 -- Which line reports an error of the cache?
-use Rattle.image_cache.specs.declared.error.CacheError.{CacheError}
-use Rattle.image_cache.specs.declared.error.CacheError.TheVariants as refused
+use Rattle.tile_source.specs.declared.error.CacheError.{CacheError}
+use Rattle.tile_source.specs.declared.error.CacheError.TheVariants as refused
 use Rattle.request_lang.specs.declared.answer.Answer.{Answer}
 use Rattle.request_lang.specs.declared.answer.Answer.TheVariants as line
 

@@ -16,7 +16,7 @@ use Rattle.texel_values.specs.declared.texel_at.TexelAt.{TexelAt}
 use Rattle.texel_values.specs.declared.region.Region.{Region}
 use Rattle.texel_values.specs.Region.{AreRegionValues}
 use Rattle.image_cache.specs.Facts.{info_of}
-use Rattle.image_cache.specs.Texel.{IsTexelOf}
+use Rattle.tile_source.specs.Texel.{IsTexelOf}
 use Rattle.texture_sys.specs.declared.lookup_request.LookupRequest.TheVariants.{Point, Footprint}
 use Rattle.texture_sys.specs.Asked.{one_point, one_footprint}
 use Rattle.texture_sys.specs.Call.{IsLookupOn}

@@ -13,7 +13,7 @@ use Rattle.render_run.specs.declared.prepare.Ending.{Ending}
 use Rattle.render_run.specs.Status as status
 use Rattle.render_run.specs.Around.{SourceState, Around, Inputs, Progress, Setup, inputs_of}
 use Rattle.render_run.specs.Around.{setup_of, progress_of, source_of_folder, terms_for}
-use Rattle.render_run.specs.Page.{PutsPart}
+use Rattle.answer_page.specs.Page.{PutsPart}
 use Rattle.request_lang.specs.Line.{line_of}
 use Rattle.request_lang.specs.Basis.{is_refusal, basis_of, is_fault, is_move}
 use Rattle.render_run.specs.Dealing.{AreWholeRounds, places_of}

@@ -8,7 +8,7 @@ use Rattle.micro.specs.Recent.{AreRecent}
 use Rattle.micro.specs.Runs.{AreAsked}
 use Rattle.pinned_tiles.specs.Pinned.{key_in}
 use Rattle.texel_values.specs.Region.{max_texels}
-use Rattle.image_cache.specs.Pass.{max_count, counted_together}
+use Rattle.tile_source.specs.Pass.{max_count, counted_together}
 use Rattle.request_lang.specs.declared.answer.Answer.{Answer}
 use Rattle.request_lang.specs.Basis.{basis_of}
 use Rattle.render_run.specs.declared.question.Task.{Task}

@@ -10,8 +10,8 @@ use Rattle.request_lang.specs.declared.request.Request.{Request}
 use Rattle.render_run.specs.declared.answering.Unfinished.{Unfinished}
 use Rattle.render_run.specs.declared.answering.Unfinished.TheVariants.{NotWritten}
 use Rattle.render_run.specs.declared.answering.Unfinished.TheVariants as unfinished
-use Rattle.render_run.specs.Around.{SinkState, Setup, Sight, Progress}
-use Rattle.render_run.specs.Page.{PutsPart}
+use Rattle.render_run.specs.Around.{Setup, Sight, Progress}
+use Rattle.answer_page.specs.Page.{SinkState, PutsPart}
 use Rattle.render_run.specs.Run.{Finishes, PartWritten, RoundsWritten, GivesTapsBack}
 use Rattle.render_run.specs.Answering.{SoFar}
 use Rattle.render_run.specs.Ending.{status_of, ending_text}

@@ -4,20 +4,21 @@ ghost use Rattle.std.specs.Prelude.{◌≡◌, ◌+◌, ◌<◌, ◌≤◌, [], 
 ghost use Rattle.std.specs.Prelude.{IfOk, IfErr, OnOk, OnErr, IsSome};
 ghost use Rattle.std.specs.List.{All};
 ghost use Rattle.request_lang.specs.Grammar.{max_requests};
-ghost use Rattle.render_run.specs.Around.{setup_of, sink_of, terms_of};
+ghost use Rattle.render_run.specs.Around.{setup_of, terms_of};
+ghost use Rattle.answer_page.specs.Page.{sink_of};
 ghost use Rattle.render_run.specs.Question.{MayAsk};
 ghost use Rattle.render_run.specs.Answering.{AreDealt, HasAllAlone, MayBeAnswered, SoFar};
 ghost use Rattle.render_run.specs.Crew.{max_workers, AnswersRound, AreCarried, AreIdle, SeeNoLess};
-ghost use Rattle.render_run.specs.Posts.{ArePassesOf, HaveRoom, answers_of, progress_by, sights_of};
+ghost use Rattle.render_run.specs.Posts.{AreCallersOf, HaveRoom, answers_of, progress_by, sights_of};
 ghost use Rattle.render_run.specs.Written.{EndsEarly, Leaves};
 
 use crate::closing::close;
 use crate::crew::carry_all;
 use crate::dealing::round_len;
 use crate::hook::Hook;
-use crate::page::Page;
 use crate::question::Task;
 use crate::round::{Post, Setting, answer_round, deal, make_room, write_round};
+use answer_page::Page;
 use image_cache::Cache;
 use request_lang::Request;
 use std::sync::Wait;
@@ -38,7 +39,7 @@ pub(crate) enum Unfinished {
 pub(crate) fn answer_list<R: Threads + Wait + Sync, F: Folder, O: Sink, K: Hook + Sync>(
     setting: &Setting<'_, R, F::Tap, K>,
     folder: &F,
-    posts: &mut [Post<F::Tap>],
+    posts: &mut [Post<&R, F::Tap>],
     requests: &[Request],
     page: &mut Page,
     out: &mut O,
@@ -48,7 +49,7 @@ where
     <F::Tap as Tap>::Handle: Send + Sync,
     F::W: Send + Sync,
     requires may { MayBeAnswered (F.state folder.now) setting.now.cache.now requests.now }
-    requires pass { ArePassesOf setting.now.cache.now posts.old }
+    requires callers { AreCallersOf setting.now.cache.now posts.old }
     requires crew { (0 < length posts.old) × (length posts.old ≤ max_workers) }
     requires idle { AreIdle (sights_of F.Tap.state posts.old) }
     requires alone { HasAllAlone setting.now.cache.now.gate.passes
@@ -76,7 +77,7 @@ where
 fn answer_rounds<R: Threads + Wait + Sync, F: Folder, O: Sink, K: Hook + Sync>(
     setting: &Setting<'_, R, F::Tap, K>,
     folder: &F,
-    posts: &mut [Post<F::Tap>],
+    posts: &mut [Post<&R, F::Tap>],
     requests: &[Request],
     page: &mut Page,
     out: &mut O,
@@ -86,7 +87,7 @@ where
     <F::Tap as Tap>::Handle: Send + Sync,
     F::W: Send + Sync,
     requires may { MayBeAnswered (F.state folder.now) setting.now.cache.now requests.now }
-    requires pass { ArePassesOf setting.now.cache.now posts.old }
+    requires callers { AreCallersOf setting.now.cache.now posts.old }
     requires crew { (0 < length posts.old) × (length posts.old ≤ max_workers) }
     requires idle { AreIdle (sights_of F.Tap.state posts.old) }
     requires alone { HasAllAlone setting.now.cache.now.gate.passes
@@ -132,7 +133,7 @@ where
 fn answer_next<R: Threads + Wait + Sync, F: Folder, K: Hook + Sync>(
     setting: &Setting<'_, R, F::Tap, K>,
     folder: &F,
-    posts: &mut [Post<F::Tap>],
+    posts: &mut [Post<&R, F::Tap>],
     requests: &[Request],
     first: usize,
     tasks: &mut Vec<Task>,
@@ -143,7 +144,7 @@ where
     F::W: Send + Sync,
     requires entered { IsSome (F.state folder.now).entered }
     requires files { setting.now.cache.now.files.board.files ≡ (F.state folder.now).size }
-    requires pass { ArePassesOf setting.now.cache.now posts.old }
+    requires callers { AreCallersOf setting.now.cache.now posts.old }
     requires crew { (0 < length posts.old) × (length posts.old ≤ max_workers) }
     requires asked { All MayAsk requests.now }
     requires few { first + length requests.now ≤ max_requests }
@@ -153,7 +154,7 @@ where
         (sights_of F.Tap.state posts.new)) }
     ensures err { OnErr result (SeeNoLess (sights_of F.Tap.state posts.old)
         (sights_of F.Tap.state posts.new)) }
-    ensures pass { ArePassesOf setting.now.cache.now posts.new }
+    ensures callers { AreCallersOf setting.now.cache.now posts.new }
 {
     begin(setting.cache, folder, posts, requests, tasks)?;
     answer_round(setting, posts, tasks, first);
@@ -162,15 +163,15 @@ where
 
 /// Begins a round: the workers exchange what they have seen, the names of the requests are looked
 /// up, and memory for the answers is reserved.
-fn begin<F: Folder>(
+fn begin<R: Wait, F: Folder>(
     cache: &Cache<F::Tap>,
     folder: &F,
-    posts: &mut [Post<F::Tap>],
+    posts: &mut [Post<R, F::Tap>],
     requests: &[Request],
     tasks: &mut Vec<Task>,
 ) -> Result<(), NoMemory>
     requires entered { IsSome (F.state folder.now).entered }
-    requires pass { ArePassesOf cache.now posts.old }
+    requires callers { AreCallersOf cache.now posts.old }
     requires some { 0 < length posts.old }
     requires asked { All MayAsk requests.now }
     requires few { length requests.now ≤ max_requests }
@@ -180,7 +181,7 @@ fn begin<F: Folder>(
     ensures ok { OnOk result (AreCarried (sights_of F.Tap.state posts.old)
         (sights_of F.Tap.state posts.new)) }
     ensures kept { SeeNoLess (sights_of F.Tap.state posts.old) (sights_of F.Tap.state posts.new) }
-    ensures pass { ArePassesOf cache.now posts.new }
+    ensures callers { AreCallersOf cache.now posts.new }
 {
     carry_all(cache, posts)?;
     let Ok(()) = deal(folder, requests, tasks) else {

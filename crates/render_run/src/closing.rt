@@ -4,19 +4,20 @@ ghost use Rattle.std.specs.Prelude.{◌≡◌, ◌≤◌, [], length, OnOk};
 ghost use Rattle.std.specs.List.{All};
 ghost use Rattle.request_lang.specs.Closing.{closing_lines, worker_lines};
 ghost use Rattle.render_run.specs.Crew.{max_workers};
-ghost use Rattle.render_run.specs.Page.{outgoing, PassesOn};
+ghost use Rattle.answer_page.specs.Page.{outgoing, PassesOn};
 ghost use Rattle.render_run.specs.Posts.{all_counts};
 
-use crate::page::Page;
 use crate::round::Post;
+use answer_page::Page;
 use request_lang::Counts;
+use std::sync::Wait;
 use tex_world::{Failed, Sink, Tap};
 
 /// Writes the closing lines, and then all that is still on the page. For each worker: the numbers
 /// of needs, hits and uncached needs. Then the numbers of lines and of refusals.
-pub(crate) fn close<T: Tap, O: Sink>(
+pub(crate) fn close<R: Wait, T: Tap, O: Sink>(
     page: &mut Page,
-    posts: &[Post<T>],
+    posts: &[Post<R, T>],
     total: usize,
     refused: usize,
     out: &mut O,
@@ -25,7 +26,7 @@ pub(crate) fn close<T: Tap, O: Sink>(
     ensures passed { PassesOn (closing_lines (all_counts posts.now) total refused)
         (outgoing O.Sink page.old out.old) (outgoing O.Sink page.new out.new) result }
     ensures empty { OnOk result (page.new ≡ []) }
-    ensures few { All (λ p. p.worker.pass.hits ≤ p.worker.pass.needs) posts.now }
+    ensures few { All (λ p. p.caller.pass.hits ≤ p.caller.pass.needs) posts.now }
 {
     know_counts(posts);
     if let Err(failed) = pass_workers(page, posts, out) {
@@ -38,18 +39,18 @@ pub(crate) fn close<T: Tap, O: Sink>(
 }
 
 /// Does nothing; its contract gives the proof what is true of each worker's counts.
-fn know_counts<T: Tap>(posts: &[Post<T>])
-    ensures { All (λ p. p.worker.pass.hits ≤ p.worker.pass.needs) posts.now }
+fn know_counts<R: Wait, T: Tap>(posts: &[Post<R, T>])
+    ensures { All (λ p. p.caller.pass.hits ≤ p.caller.pass.needs) posts.now }
 {
     for post in posts {
-        let _hits = post.worker.pass.hits();
+        let _ = post.caller.pass().hits();
     }
 }
 
 /// Writes the lines of the workers.
-fn pass_workers<T: Tap, O: Sink>(
+fn pass_workers<R: Wait, T: Tap, O: Sink>(
     page: &mut Page,
-    posts: &[Post<T>],
+    posts: &[Post<R, T>],
     out: &mut O,
 ) -> Result<(), Failed>
     requires { length posts.now ≤ max_workers }
@@ -57,7 +58,7 @@ fn pass_workers<T: Tap, O: Sink>(
         (outgoing O.Sink page.old out.old) (outgoing O.Sink page.new out.new) result }
 {
     for w in 0..posts.len() {
-        let pass = &posts[w].worker.pass;
+        let pass = posts[w].caller.pass();
         let counts = Counts {
             needs: pass.needs(),
             hits: pass.hits(),

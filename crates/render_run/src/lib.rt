@@ -8,7 +8,6 @@ mod crew;
 mod dealing;
 mod hook;
 mod list;
-mod page;
 mod prepare;
 mod question;
 mod round;

@@ -1,12 +1,12 @@
 //! Reads the bytes of the list from the feed.
 
-ghost use Rattle.std.specs.Prelude.{◌≡◌, ◌<◌, ◌≤◌, length, IfOk, IfErr};
+ghost use Rattle.std.specs.Prelude.{◌≡◌, ◌<◌, length, IfOk, IfErr};
 ghost use Rattle.render_run.specs.declared.list.ListError.TheVariants.{NoMemory};
 ghost use Rattle.render_run.specs.Around.{feed_state};
 ghost use Rattle.render_run.specs.ListRead.{IsRead, ListCause};
 
 use std::alloc::{AllocError, Global};
-use tex_world::Feed;
+use tex_world::{Failed, Feed};
 
 /// The most bytes that a list may have.
 const MAX_LIST_BYTES: usize = 16777216;
@@ -31,6 +31,16 @@ impl From<AllocError> for ListError {
     }
 }
 
+impl From<Failed> for ListError {
+    ghost use Rattle.render_run.specs.declared.list.ListError.TheVariants as list;
+
+    ghost from_gives = { λ _ e. e ≡ list.Failed };
+
+    fn from(_e: Failed) -> ListError {
+        ListError::Failed
+    }
+}
+
 /// Reads all bytes of the feed. It stops if they are more than a list may have.
 pub(crate) fn read_list<I: Feed>(alloc: Global, feed: &mut I) -> Result<Vec<u8>, ListError>
     ensures read { IfOk result
@@ -52,10 +62,7 @@ fn read_chunks<I: Feed>(alloc: Global, feed: &mut I, chunk: &mut [u8]) -> Result
 {
     let mut bytes = Vec::new(alloc);
     'more: while bytes.len() <= MAX_LIST_BYTES {
-        let n = match feed.read(chunk) {
-            Ok(n) => n,
-            Err(_failed) => return Err(ListError::Failed),
-        };
+        let n = feed.read(chunk)?;
         if n == 0 {
             return Ok(bytes);
         }

@@ -49,10 +49,8 @@ fn invocation<'a>(alloc: Global, words: &'a [String]) -> Result<Invocation<'a>, 
     ensures in_range { IfOk result (λ i. IsInRange i.options) }
     ensures cause { IfErr result (WordsCause (path_in (asked_by words.entry.now))) }
 {
-    match invocation_of(alloc, words) {
-        Ok(invocation) => Ok(invocation),
-        Err(error) => Err(error),
-    }
+    let invocation = invocation_of(alloc, words)?;
+    Ok(invocation)
 }
 
 /// Enters the folder that the arguments name, and returns their options.
@@ -124,12 +122,7 @@ pub(crate) fn prepare<F: Folder, I: Feed>(
         (inputs_of (F.state folder.new) (feed_state I.faults I.left feed.new))) }
     ensures taps { KeepsTaps (F.state folder.old) (F.state folder.new) }
 {
-    let options = match enter_folder(alloc, words, folder) {
-        Ok(options) => options,
-        Err(ending) => return Err(ending),
-    };
-    match read_requests(alloc, feed) {
-        Ok(requests) => Ok(Prepared { options, requests }),
-        Err(ending) => Err(ending),
-    }
+    let options = enter_folder(alloc, words, folder)?;
+    let requests = read_requests(alloc, feed)?;
+    Ok(Prepared { options, requests })
 }

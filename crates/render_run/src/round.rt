@@ -4,7 +4,6 @@
 ghost use Rattle.std.specs.Prelude.{◌≡◌, ◌+◌, ◌*◌, ◌<◌, ◌≤◌, [], length, map, vec_capacity};
 ghost use Rattle.std.specs.Prelude.{IfOk, OnOk, IsSome};
 ghost use Rattle.std.specs.List.{All, count_by};
-ghost use Rattle.image_cache.specs.Pass.{IsPassOf};
 ghost use Rattle.request_lang.specs.Basis.{is_refusal};
 ghost use Rattle.request_lang.specs.Grammar.{max_requests};
 ghost use Rattle.render_run.specs.Around.{terms_of};
@@ -12,14 +11,15 @@ ghost use Rattle.render_run.specs.Question.{MayAsk};
 ghost use Rattle.render_run.specs.Answering.{AnswersEach, AreDealt, MayBeGiven, AreFiles, share_of};
 ghost use Rattle.render_run.specs.Answering.{answers_text, in_turn, AreInTurn};
 ghost use Rattle.render_run.specs.Crew.{max_workers, AnswersShares};
-ghost use Rattle.render_run.specs.Page.{outgoing, PassesOn};
-ghost use Rattle.render_run.specs.Posts.{ArePassesOf, HaveRoom, WorkerAnswers, answers_of};
+ghost use Rattle.answer_page.specs.Page.{outgoing, PassesOn};
+ghost use Rattle.render_run.specs.Posts.{AreCallersOf, HaveRoom, WorkerAnswers, answers_of};
 ghost use Rattle.render_run.specs.Posts.{sight, sights_of};
 
 use crate::hook::Hook;
-use crate::page::Page;
 use crate::question::{Task, next_task};
-use crate::worker::{Desk, Worker};
+use crate::worker::answer;
+use answer_page::Page;
+use caller::Caller;
 use image_cache::Cache;
 use request_lang::{Answer, Request};
 use std::alloc::{AllocError, Global};
@@ -28,14 +28,15 @@ use std::thread::{Threads, for_each_mut};
 use tex_world::{Failed, Folder, Sink, Tap};
 use waiter::Forever;
 
-/// A worker, and its answers of a round.
+/// A worker: a caller of the cache that waits for ever, and its answers of a round.
 #[derive(Drop)]
-pub(crate) struct Post<T: Tap> {
-    pub(crate) worker: Worker<T>,
+pub(crate) struct Post<R: Wait, T: Tap> {
+    pub(crate) caller: Caller<Forever<R>, T>,
     pub(crate) answers: Vec<Answer>,
 }
 
-/// What the workers of a run share: the runtime, the allocator, the cache, and the hook.
+/// What the workers of a run share: the runtime, the allocator, the cache, and the hook. The cache
+/// is read by clauses alone: each worker's caller has it.
 #[derive(Drop)]
 pub(crate) struct Setting<'a, R, T: Tap, K> {
     pub(crate) rt: &'a R,
@@ -75,11 +76,14 @@ pub(crate) fn deal<F: Folder>(
 }
 
 /// Reserves memory for the answers to `count` requests, which the workers take in turn.
-pub(crate) fn make_room<T: Tap>(posts: &mut [Post<T>], count: usize) -> Result<(), AllocError>
+pub(crate) fn make_room<R: Wait, T: Tap>(
+    posts: &mut [Post<R, T>],
+    count: usize,
+) -> Result<(), AllocError>
     requires some { 0 < length posts.old }
     requires few { count ≤ max_requests }
     ensures room { OnOk result (HaveRoom (length posts.old) count posts.new) }
-    ensures same { map (λ p. p.worker) posts.new ≡ map (λ p. p.worker) posts.old }
+    ensures same { map (λ p. p.caller) posts.new ≡ map (λ p. p.caller) posts.old }
 {
     let each = count / posts.len() + 1;
     for post in posts.iter_mut() {
@@ -107,14 +111,14 @@ fn threads_for(workers: usize, tasks: &[Task]) -> usize
 /// one request is dealt.
 pub(crate) fn answer_round<R: Threads + Wait + Sync, T: Tap + Send, K: Hook + Sync>(
     setting: &Setting<'_, R, T, K>,
-    posts: &mut [Post<T>],
+    posts: &mut [Post<&R, T>],
     tasks: &[Task],
     first: usize,
 )
 where
     T::Handle: Send + Sync,
     T::W: Send + Sync,
-    requires pass { ArePassesOf setting.now.cache.now posts.old }
+    requires callers { AreCallersOf setting.now.cache.now posts.old }
     requires room { HaveRoom (length posts.old) (length tasks.now) posts.old }
     requires given { All (MayBeGiven T.W.files setting.now.cache.now.files.board.files) tasks.now }
     requires files { AreFiles T.W.files setting.now.cache.now.files.board.files }
@@ -122,7 +126,7 @@ where
     requires few { first + length tasks.now ≤ max_requests }
     ensures shares { AnswersShares T.W.files (terms_of setting.now.cache.now.gate) tasks.now
         (answers_of posts.new) (sights_of T.state posts.old) (sights_of T.state posts.new) }
-    ensures pass { ArePassesOf setting.now.cache.now posts.new }
+    ensures callers { AreCallersOf setting.now.cache.now posts.new }
 {
     let workers = posts.len();
     for_each_mut(
@@ -131,7 +135,7 @@ where
         threads_for(workers, tasks),
         &|worker, post|
             requires { (worker < workers) × (workers ≤ max_workers)
-                × IsPassOf setting.now.cache.now post.old.worker.pass
+                × (post.old.caller.cache ≡ setting.now.cache.now)
                 × (post.old.answers.items ≡ [])
                 × (length tasks.now ≤ workers * vec_capacity post.old.answers)
                 × All (MayBeGiven T.W.files setting.now.cache.now.files.board.files) tasks.now
@@ -139,8 +143,8 @@ where
                 × (first + length tasks.now ≤ max_requests) }
             ensures { AnswersEach T.W.files (terms_of setting.entry.now.cache.now.gate)
                 (share_of workers worker tasks.entry.now) post.new.answers.items
-                (sight T.state post.old.worker) (sight T.state post.new.worker)
-                × IsPassOf setting.entry.now.cache.now post.new.worker.pass }
+                (sight T.state post.old.caller) (sight T.state post.new.caller)
+                × (post.new.caller.cache ≡ setting.entry.now.cache.now) }
         {
             let turn = Turn {
                 worker,
@@ -156,11 +160,11 @@ where
 /// already reserved.
 fn answer_share<R: Wait, T: Tap, K: Hook>(
     setting: &Setting<'_, R, T, K>,
-    post: &mut Post<T>,
+    post: &mut Post<&R, T>,
     tasks: &[Task],
     turn: Turn,
 )
-    requires pass { IsPassOf setting.now.cache.now post.old.worker.pass }
+    requires caller { post.old.caller.cache ≡ setting.now.cache.now }
     requires empty { post.old.answers.items ≡ [] }
     requires room { length tasks.now ≤ turn.workers * vec_capacity post.old.answers }
     requires given { All (MayBeGiven T.W.files setting.now.cache.now.files.board.files) tasks.now }
@@ -169,26 +173,13 @@ fn answer_share<R: Wait, T: Tap, K: Hook>(
     requires few { turn.first + length tasks.now ≤ max_requests }
     ensures each { AnswersEach T.W.files (terms_of setting.now.cache.now.gate)
         (share_of turn.workers turn.worker tasks.now) post.new.answers.items
-        (sight T.state post.old.worker) (sight T.state post.new.worker) }
-    ensures pass { IsPassOf setting.now.cache.now post.new.worker.pass }
+        (sight T.state post.old.caller) (sight T.state post.new.caller) }
+    ensures caller { post.new.caller.cache ≡ setting.now.cache.now }
 {
-    let waiter = Forever::new(setting.rt);
-    let desk = Desk {
-        alloc: setting.alloc,
-        cache: setting.cache,
-        waiter: &waiter,
-    };
     let mut k = turn.worker;
     'share: while k < tasks.len() {
-        let index = (turn.first + k) as u32;
-        let answer = answer_hooked(
-            setting,
-            &desk,
-            &mut post.worker,
-            &tasks[k],
-            turn.worker as u32,
-            index,
-        );
+        let (number, index) = (turn.worker as u32, (turn.first + k) as u32);
+        let answer = answer_hooked(setting, &mut post.caller, &tasks[k], number, index);
         if let Err(_refused) = post.answers.push(answer) {
             unreachable!()
         }
@@ -199,31 +190,28 @@ fn answer_share<R: Wait, T: Tap, K: Hook>(
 /// Answers one request, and calls the hook before and after, except for `sync`.
 fn answer_hooked<R: Wait, T: Tap, K: Hook>(
     setting: &Setting<'_, R, T, K>,
-    desk: &Desk<'_, &R, T>,
-    worker: &mut Worker<T>,
+    caller: &mut Caller<Forever<&R>, T>,
     task: &Task,
     number: u32,
     index: u32,
 ) -> Answer
-    requires pass { IsPassOf desk.now.cache.now worker.old.pass }
-    requires given { MayBeGiven T.W.files desk.now.cache.now.files.board.files task.now }
-    requires files { AreFiles T.W.files desk.now.cache.now.files.board.files }
-    ensures { WorkerAnswers T.state T.W.files desk.now.cache.now task.now worker.old worker.new
-        result }
+    requires given { MayBeGiven T.W.files caller.old.cache.files.board.files task.now }
+    requires files { AreFiles T.W.files caller.old.cache.files.board.files }
+    ensures { WorkerAnswers T.state T.W.files task.now caller.old caller.new result }
 {
     if let Task::Sync = task {
         return Answer::Synced;
     }
     setting.hook.before(setting.rt, number, index);
-    let answer = worker.answer(desk, task);
+    let answer = answer(caller, setting.alloc, task);
     setting.hook.after(setting.rt, number, index);
     answer
 }
 
 /// Writes the lines of a round, and counts the refusals. The workers took its requests in turn.
-pub(crate) fn write_round<T: Tap, O: Sink>(
+pub(crate) fn write_round<R: Wait, T: Tap, O: Sink>(
     page: &mut Page,
-    posts: &[Post<T>],
+    posts: &[Post<R, T>],
     count: usize,
     out: &mut O,
 ) -> Result<usize, Failed>

@@ -2,12 +2,14 @@
 
 ghost use Rattle.std.specs.Prelude.{◌≡◌, ◌≤◌, length, IfOk, OnOk, IsSome, IsTrue};
 ghost use Rattle.request_lang.specs.Grammar.{max_requests};
+ghost use Rattle.std.specs.Arc.{arc_value};
 ghost use Rattle.std.specs.List.{All};
 ghost use Rattle.render_run.specs.Question.{MayAsk};
 ghost use Rattle.tex_world.specs.World.{max_files};
 ghost use Rattle.command_line.specs.Options.{IsInRange};
 ghost use Rattle.image_cache.specs.Pass.{IsFirstPass};
-ghost use Rattle.render_run.specs.Around.{feed_state, sink_state, sink_of, around_of, progress_of};
+ghost use Rattle.render_run.specs.Around.{feed_state, around_of, progress_of};
+ghost use Rattle.answer_page.specs.Page.{sink_state, sink_of};
 ghost use Rattle.render_run.specs.Around.{source_of_folder, setup_of, terms_for, terms_of};
 ghost use Rattle.render_run.specs.Ending.{asked_by};
 ghost use Rattle.render_run.specs.Run.{MakesTaps, Runs};
@@ -17,14 +19,14 @@ ghost use Rattle.render_run.specs.Written.{StatusWritten, EndedAs, Leaves, Leave
 use crate::answering::{Unfinished, answer_list};
 use crate::crew::{crew_of, give_back};
 use crate::hook::Hook;
-use crate::page::Page;
 use crate::prepare::{Ending, Prepared, prepare};
 use crate::round::Setting;
+use answer_page::Page;
 use command_line::Options;
 use image_cache::{Cache, NewError, Options as CacheOptions, Pass};
 use request_lang::{BadList, bad_list_text};
 use std::alloc::Global;
-use std::sync::Wait;
+use std::sync::{Arc, Wait};
 use std::thread::Threads;
 use tex_world::{Feed, Folder, NoMemory, Sink, Tap};
 
@@ -88,17 +90,18 @@ fn put_ending<O: Sink>(alloc: Global, out: &mut O, ending: Ending) -> u8
     }
 }
 
-/// A cache for the files of a folder, with the given options, and its first pass.
+/// A shared cache for the files of a folder, with the given options, and its first pass.
 fn cache_of<T: Tap>(
     alloc: Global,
     options: &Options,
     files: u32,
-) -> Result<(Cache<T>, Pass<T::W>), NoMemory>
+) -> Result<(Arc<Cache<T>>, Pass<T::W>), NoMemory>
     requires options { IsInRange options.now }
     requires files { files ≤ max_files }
-    ensures files { IfOk result (λ made. made.0.files.board.files ≡ files) }
-    ensures terms { IfOk result (λ made. terms_of made.0.gate ≡ terms_for options.now) }
-    ensures pass { IfOk result (λ made. IsFirstPass made.0 made.1) }
+    ensures files { IfOk result (λ made. (arc_value made.0).files.board.files ≡ files) }
+    ensures terms { IfOk result (λ made.
+        terms_of (arc_value made.0).gate ≡ terms_for options.now) }
+    ensures pass { IfOk result (λ made. IsFirstPass (arc_value made.0) made.1) }
 {
     let options = CacheOptions {
         budget: options.budget,
@@ -109,7 +112,10 @@ fn cache_of<T: Tap>(
         slots: options.slots,
     };
     match Cache::new(alloc, options, files) {
-        Ok(made) => Ok(made),
+        Ok((cache, pass)) => match Arc::new(alloc, cache) {
+            Ok(cache) => Ok((cache, pass)),
+            Err(_) => Err(NoMemory),
+        },
         Err(NewError::NoMemory) => Err(NoMemory),
         Err(NewError::BadOptions(_)) => unreachable!(),
     }
@@ -148,13 +154,14 @@ where
         return Err(Unfinished::NoMemory);
     };
     let workers = asked.options.workers as usize;
-    let Ok(mut posts) = crew_of(alloc, &cache, pass, folder, workers) else {
+    let Ok(mut posts) = crew_of(rt, alloc, &cache, pass, folder, workers) else {
         return Err(Unfinished::NoMemory);
     };
+    let shared: &Cache<F::Tap> = &cache;
     let setting = Setting {
         rt,
         alloc,
-        cache: &cache,
+        cache: shared,
         hook,
     };
     let answered = answer_list(

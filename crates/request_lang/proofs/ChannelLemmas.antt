@@ -9,7 +9,8 @@ use Rattle.request_lang.specs.declared.request.Request.TheVariants.{Info, Drop, 
 use Rattle.request_lang.specs.declared.request.Request.TheVariants.{InvalidateAll, Stat, Sync}
 use Rattle.request_lang.specs.declared.cause.Cause.TheVariants.{OutOfRange}
 use Rattle.request_lang.specs.LineField.{min_channels, within, number_within, channel_count}
-use Rattle.request_lang.specs.LineField.{digits_number, signed, unsigned, footprint_number}
+use Rattle.short_text.specs.Digits.{digits_number}
+use Rattle.request_lang.specs.LineField.{signed, unsigned, footprint_number}
 use Rattle.request_lang.specs.LineField.{wrap_mode, filter_mode, field, next_field, name_field}
 use Rattle.request_lang.specs.RequestForm.{tex, texd, pixels, hold, forms, has_channels}
 use Rattle.request_lang.specs.Grammar.{list_of}

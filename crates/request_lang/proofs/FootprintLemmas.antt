@@ -12,7 +12,8 @@ use Rattle.request_lang.specs.declared.request.Request.TheVariants.{Info, Drop, 
 use Rattle.request_lang.specs.declared.request.Request.TheVariants.{InvalidateAll, Stat, Sync}
 use Rattle.request_lang.specs.declared.cause.Cause.{Cause}
 use Rattle.request_lang.specs.LineField.{min_channels, number_within, channel_count, mapped}
-use Rattle.request_lang.specs.LineField.{digits_number, signed, unsigned, footprint_number}
+use Rattle.short_text.specs.Digits.{digits_number}
+use Rattle.request_lang.specs.LineField.{signed, unsigned, footprint_number}
 use Rattle.request_lang.specs.LineField.{max_footprint_below, max_footprint_above}
 use Rattle.request_lang.specs.LineField.{wrap_mode, filter_mode, field, next_field, name_field}
 use Rattle.request_lang.specs.RequestForm.{tex, texd, pixels, hold, forms, HasFootprint}

@@ -10,7 +10,7 @@ use Rattle.request_lang.specs.declared.cause.Cause.{Cause}
 use Rattle.request_lang.specs.declared.cause.Cause.TheVariants.{TrailingText, NotUtf8}
 use Rattle.request_lang.specs.declared.cause.Cause.TheVariants.{TooManyRequests, TooLong}
 use Rattle.request_lang.specs.LineField.{spelled, mapped, name_field, meaning}
-use Rattle.request_lang.specs.LineField.{before_space, from_space}
+use Rattle.short_text.specs.Words.{before_space, from_space}
 use Rattle.request_lang.specs.RequestForm.{RequestForm, then_with, named, alone}
 use Rattle.request_lang.specs.RequestForm.{forms, formed, request_of}
 use Rattle.request_lang.specs.Grammar.{Parsed, requests_of, list_of, lines_of, behind, before_rest}

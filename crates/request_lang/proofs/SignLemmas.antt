@@ -4,10 +4,11 @@ use Rattle.std.proofs.Common.{Bool, true, false, List, [], ◌∷◌, length, ta
 use Rattle.std.proofs.Common.{Result, Ok, Err, refl, sym, ap, ◌∙◌, arith, true≢false}
 use Rattle.std.specs.Prelude.{ℤ, pos, neg_ℤ}
 use Rattle.std.proofs.lemmas.Bool.{eqb-true}
-use Rattle.request_lang.specs.LineField.{before_space, from_space}
-use Rattle.request_lang.specs.LineField.{cut, spelled, mapped, signed_within, number_within}
+use Rattle.short_text.specs.Words.{before_space, from_space}
+use Rattle.short_text.specs.Words.{cut}
+use Rattle.request_lang.specs.LineField.{spelled, mapped, signed_within, number_within}
 use Rattle.request_lang.specs.declared.cause.Cause.{Cause}
-use Rattle.request_lang.proofs.SpaceLemmas.{space_at-is, space_at_cons}
+use Rattle.short_text.proofs.SpaceLemmas.{space_at-is, space_at_cons}
 
 -- the first byte of a field is that of the text, or a space or the end
 pub first_minus : (text : List ℕ)

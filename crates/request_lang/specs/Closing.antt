@@ -1,7 +1,7 @@
 -- What do the closing lines of a run say? (docs/REQUESTS.md, "The closing lines")
 use Rattle.std.specs.Prelude.{ℕ, ◌+◌, ◌==◌, if◌then◌else◌, codes, List, [], ◌∷◌, ◌++◌}
 use Rattle.request_lang.specs.Grammar.{line_feed}
-use Rattle.request_lang.specs.Line.{fields}
+use Rattle.short_text.specs.Number.{fields}
 use Rattle.request_lang.specs.declared.closing.Counts.{Counts}
 
 -- the number of uncached needs, if it is not 0

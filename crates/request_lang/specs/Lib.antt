@@ -10,5 +10,3 @@ pub mod Line
 pub mod KeptValues
 pub mod Closing
 pub mod Appending
-pub mod Digits
-pub mod PaddedText

@@ -1,7 +1,6 @@
 -- What is the text of an answer? (docs/REQUESTS.md, "The answer lines")
 use Rattle.std.specs.Prelude.{ℕ, codes, List, [], ◌∷◌, ◌++◌}
 use Rattle.std.specs.List.{flat_map}
-use Rattle.std.specs.Fmt.{decimal}
 use Rattle.tiff_format.specs.Fault.{code_of}
 use Rattle.tiff_format.specs.declared.fault.TiffFault.{TiffFault}
 use Rattle.tiff_format.specs.declared.fault.TiffFault.TheVariants.{FieldMissing, FieldShape}
@@ -10,7 +9,7 @@ use Rattle.tiff_format.specs.declared.info.Info as layout
 use Rattle.tiff_format.specs.declared.rect.Rect.{Rect}
 use Rattle.tiff_format.specs.declared.shard_count.ShardCount.{ShardCount}
 use Rattle.request_lang.specs.declared.cause.BadList.{BadList}
-use Rattle.request_lang.specs.LineField.{space}
+use Rattle.short_text.specs.Number.{fields, numbers_behind}
 use Rattle.request_lang.specs.Grammar.{line_feed}
 use Rattle.request_lang.specs.declared.answer.Answer.{Answer}
 use Rattle.request_lang.specs.declared.answer.Answer.TheVariants.{Tex, Texd, Pixels, Info, Held}
@@ -20,20 +19,6 @@ use Rattle.request_lang.specs.declared.answer.Answer.TheVariants.{NoSuchFile, Ba
 use Rattle.request_lang.specs.declared.answer.Answer.TheVariants.{NoLevel, Outside, RegionTooLarge}
 use Rattle.request_lang.specs.declared.answer.Answer.TheVariants.{HoldsFull, NothingHeld, Again}
 use Rattle.request_lang.specs.declared.answer.Answer.TheVariants.{ReadFault, NoMemory}
-
--- ---- numbers
-
--- a byte and a number, in decimal without leading zeros
-abbrev pub number_behind : ℕ → ℕ → List ℕ
-number_behind byte n = byte ∷ decimal n
-
--- numbers, each after the byte
-abbrev pub numbers_behind : ℕ → List ℕ → List ℕ
-numbers_behind byte ns = flat_map (number_behind byte) ns
-
--- numbers, each after a space
-abbrev pub fields : List ℕ → List ℕ
-fields ns = numbers_behind space ns
 
 -- ---- parts of a line
 

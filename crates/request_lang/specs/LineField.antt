@@ -1,13 +1,13 @@
 -- What do the fields of a line mean? (docs/REQUESTS.md, "Fields")
-use Rattle.std.specs.Prelude.{ℕ, ◌+◌, ◌-◌, ◌*◌, ◌^◌, ◌==◌}
-use Rattle.std.specs.Prelude.{◌&&◌, nat_le, nat_lt, ℤ, pos, neg_ℤ, codes}
-use Rattle.std.specs.Prelude.{List, [], ◌∷◌, length, take}
-use Rattle.std.specs.Prelude.{drop, slice_index, fold, position, Option}
-use Rattle.std.specs.Prelude.{Some, None, Result, Ok, Err, if◌then◌else◌, Bool, not}
-use Rattle.std.specs.Option.{unwrap_or, option_map, ok_or}
-use Rattle.std.specs.Char.{is_ascii_digit}
-use Rattle.std.specs.List.{list_all}
+use Rattle.std.specs.Prelude.{ℕ, ◌-◌, ◌^◌, ◌==◌}
+use Rattle.std.specs.Prelude.{◌&&◌, nat_le, ℤ, pos, neg_ℤ, codes}
+use Rattle.std.specs.Prelude.{List, [], ◌∷◌, length}
+use Rattle.std.specs.Prelude.{drop, slice_index, Option}
+use Rattle.std.specs.Prelude.{Some, None, Result, Ok, Err, if◌then◌else◌}
+use Rattle.std.specs.Option.{option_map, ok_or}
 use Rattle.std.specs.Str.{bytes_eq}
+use Rattle.short_text.specs.Words.{behind_space, cut}
+use Rattle.short_text.specs.Digits.{digits_number}
 use Rattle.tiff_format.specs.Limits.{max_channels}
 use Rattle.texel_filter.specs.declared.mode.Wrap.{Wrap}
 use Rattle.texel_filter.specs.declared.mode.Wrap.TheVariants.{Black, Clamp, Periodic, Mirror}
@@ -24,34 +24,6 @@ mapped f (Err cause) = Err cause
 
 -- ---- where a field is
 
--- the byte before a field
-abbrev pub space : ℕ
-space = 32
-
--- the number of bytes before the first space; all bytes if none exists
-abbrev pub space_at : List ℕ → ℕ
-space_at text = unwrap_or (position (λ b. b == space) text) (length text)
-
--- whether the text has no space
-abbrev pub has_no_space : List ℕ → Bool
-has_no_space text = list_all (λ b. not (b == space)) text
-
--- the text before the first space
-abbrev pub before_space : List ℕ → List ℕ
-before_space text = take (space_at text) text
-
--- the text from the first space on
-abbrev pub from_space : List ℕ → List ℕ
-from_space text = drop (space_at text) text
-
--- the text after its first byte, if that is a space
-abbrev pub behind_space : List ℕ → Option (List ℕ)
-behind_space rest = if slice_index rest 0 == space then Some (drop 1 rest) else None
-
--- splits a text at its first space
-abbrev pub cut : List ℕ → List ℕ × List ℕ
-cut text = (before_space text, from_space text)
-
 -- The next field, and what follows it: the field comes after one space, and ends before the next.
 unfoldable pub next_field : List ℕ → Result (List ℕ × List ℕ) Cause
 next_field rest = ok_or (option_map cut (behind_space rest)) MissingField
@@ -61,14 +33,6 @@ next_field rest = ok_or (option_map cut (behind_space rest)) MissingField
 -- the byte before a negative number
 abbrev pub minus : ℕ
 minus = 45
-
--- the byte of the digit 0
-abbrev pub zero_digit : ℕ
-zero_digit = 48
-
--- the most digits of a number
-abbrev pub max_digits : ℕ
-max_digits = 10
 
 -- the greatest number in a field that allows no `-`
 abbrev pub max_unsigned : ℕ
@@ -93,12 +57,6 @@ max_footprint_below = 2 ^ 30
 -- the least number of channels of a lookup
 abbrev pub min_channels : ℕ
 min_channels = 1
-
--- the number that 1 to `max_digits` decimal digits make
-unfoldable pub digits_number : List ℕ → Option ℕ
-digits_number text =
-    if nat_lt 0 (length text) && (nat_le (length text) max_digits && list_all is_ascii_digit text)
-    then Some (fold (λ n digit. n * 10 + (digit - zero_digit)) 0 text) else None
 
 -- the number, if it is a number and in its range
 abbrev pub within : ℕ → ℕ → Option ℕ → Result ℕ Cause

@@ -9,7 +9,8 @@ use Rattle.request_lang.specs.declared.request.Request.TheVariants.{Invalidate, 
 use Rattle.request_lang.specs.declared.request.Request.TheVariants.{InvalidateAll, Stat, Sync}
 use Rattle.request_lang.specs.declared.cause.Cause.{Cause}
 use Rattle.request_lang.specs.declared.cause.Cause.TheVariants.{UnknownWord, TrailingText, NotUtf8}
-use Rattle.request_lang.specs.LineField.{before_space, from_space, field, name_field, mapped}
+use Rattle.short_text.specs.Words.{before_space, from_space}
+use Rattle.request_lang.specs.LineField.{field, name_field, mapped}
 use Rattle.request_lang.specs.LineField.{meaning}
 use Rattle.request_lang.specs.LineField.{min_channels, signed, unsigned, channel_count, wrap_mode, filter_mode}
 use Rattle.request_lang.specs.LineField.{footprint_number}

@@ -1,11 +1,12 @@
 //! Prints the closing lines of a run.
 
 ghost use Rattle.std.specs.Prelude.{◌≡◌, ◌++◌, ◌≤◌, OnOk, OnErr};
-ghost use Rattle.request_lang.specs.Appending.{Pushes, Fits, max_part_bytes, max_apart_bytes};
+ghost use Rattle.short_text.specs.Appending.{Pushes, Fits};
+ghost use Rattle.request_lang.specs.Appending.{max_part_bytes, max_apart_bytes};
 ghost use Rattle.request_lang.specs.Closing.{worker_line, total_line, apart_field};
 
 use crate::line::push_line;
-use crate::number::push_text;
+use short_text::push_text;
 use std::alloc::AllocError;
 use tex_world::NoMemory;
 
@@ -29,7 +30,7 @@ fn push_apart(out: &mut Vec<u8>, apart: u64) -> Result<(), AllocError>
 }
 
 /// Appends the line of a worker, with its line feed.
-#[tactic(auto, using(crate::proofs::AppendLemmas::kept))]
+#[tactic(auto, using(short_text::proofs::AppendLemmas::kept))]
 fn push_worker(out: &mut Vec<u8>, worker: u32, counts: Counts) -> Result<(), AllocError>
     ensures text { Pushes (worker_line worker counts) out.old.items out.new.items result }
     ensures fits { Fits max_part_bytes out.old out.new result }
@@ -42,7 +43,7 @@ fn push_worker(out: &mut Vec<u8>, worker: u32, counts: Counts) -> Result<(), All
 }
 
 /// Appends the line with the numbers of requests and refusals, with its line feed.
-#[tactic(auto, using(crate::proofs::AppendLemmas::kept))]
+#[tactic(auto, using(short_text::proofs::AppendLemmas::kept))]
 fn push_total(out: &mut Vec<u8>, total: u64, refused: u64) -> Result<(), AllocError>
     ensures text { Pushes (total_line total refused) out.old.items out.new.items result }
     ensures fits { Fits max_part_bytes out.old out.new result }

@@ -5,23 +5,17 @@
 mod answer;
 mod cause;
 mod closing;
-mod digits;
 mod line;
 mod line_field;
 mod list;
-mod number;
 mod request;
 mod request_form;
-mod short_text;
-mod value_texts;
 mod values;
 
 pub use answer::{Answer, Shards, Values};
 pub use cause::{BadList, ParseError};
 pub use closing::{Counts, total_text, worker_text};
-pub use digits::digits_number;
 pub use line::{bad_list_text, head_text, line_text, short_line_text};
 pub use list::parse;
 pub use request::{Name, Request};
-pub use value_texts::ValueTexts;
 pub use values::{FEW_VALUES, MAX_PART_BYTES, PART_VALUES, values_text};

@@ -5,15 +5,16 @@ ghost use Rattle.std.specs.Prelude.{OnOk, OnErr, IsOk};
 ghost use Rattle.std.specs.List.{flat_map};
 ghost use Rattle.request_lang.specs.Grammar.{line_feed};
 ghost use Rattle.request_lang.specs.Line as spec;
-ghost use Rattle.request_lang.specs.Appending.{Pushes, Fits, max_number_bytes, max_shard_bytes};
+ghost use Rattle.short_text.specs.Number.{fields};
+ghost use Rattle.short_text.specs.Appending.{Pushes, Fits, max_number_bytes};
+ghost use Rattle.request_lang.specs.Appending.{max_shard_bytes};
 ghost use Rattle.request_lang.specs.Appending.{max_head_bytes, max_part_bytes, few_values};
 ghost use Rattle.request_lang.specs.Line.{values_in};
 
 use crate::answer::Answer;
 use crate::cause::BadList;
-use crate::number::{push_numbers, push_text};
-use crate::value_texts::ValueTexts;
 use crate::values::{push_last, push_lookup, push_values};
+use short_text::{ValueTexts, push_numbers, push_text};
 use std::alloc::AllocError;
 use tex_world::NoMemory;
 use tiff_format::{Info, ShardCount, TiffFault};
@@ -22,9 +23,9 @@ use tiff_format::{Info, ShardCount, TiffFault};
 const MAX_SHORT_GENERATION: u32 = u16::MAX as u32;
 
 /// Appends a word and numbers, each number after a space.
-#[tactic(auto, using(crate::proofs::AppendLemmas::kept))]
+#[tactic(auto, using(short_text::proofs::AppendLemmas::kept))]
 pub(crate) fn push_line(out: &mut Vec<u8>, word: &str, numbers: &[u64]) -> Result<(), AllocError>
-    ensures text { Pushes (word.now ++ spec.fields numbers.now) out.old.items out.new.items result }
+    ensures text { Pushes (word.now ++ fields numbers.now) out.old.items out.new.items result }
     ensures fits { Fits (length word.now + max_number_bytes * length numbers.now)
         out.old out.new result }
 {
@@ -33,7 +34,7 @@ pub(crate) fn push_line(out: &mut Vec<u8>, word: &str, numbers: &[u64]) -> Resul
 }
 
 /// Appends the counts of a shard.
-#[tactic(auto, using(crate::proofs::AppendLemmas::kept))]
+#[tactic(auto, using(short_text::proofs::AppendLemmas::kept))]
 fn push_shard(out: &mut Vec<u8>, shard: &ShardCount) -> Result<(), AllocError>
     ensures text { Pushes (spec.shard_text shard.now) out.old.items out.new.items result }
     ensures fits { Fits max_shard_bytes out.old out.new result }
@@ -47,7 +48,7 @@ fn push_shard(out: &mut Vec<u8>, shard: &ShardCount) -> Result<(), AllocError>
 }
 
 /// Appends the counts of all shards, in order.
-#[tactic(auto, using(crate::proofs::AppendLemmas::kept))]
+#[tactic(auto, using(short_text::proofs::AppendLemmas::kept))]
 fn push_shards(out: &mut Vec<u8>, shards: &[ShardCount]) -> Result<(), AllocError>
     ensures text { Pushes (flat_map spec.shard_text shards.now) out.old.items out.new.items result }
     ensures fits { Fits (max_shard_bytes * length shards.now) out.old out.new result }
@@ -59,7 +60,7 @@ fn push_shards(out: &mut Vec<u8>, shards: &[ShardCount]) -> Result<(), AllocErro
 }
 
 /// Appends a word and the counts of all shards.
-#[tactic(auto, using(crate::proofs::AppendLemmas::kept))]
+#[tactic(auto, using(short_text::proofs::AppendLemmas::kept))]
 fn push_shards_line(out: &mut Vec<u8>, word: &str, shards: &[ShardCount]) -> Result<(), AllocError>
     ensures text { Pushes (word.now ++ flat_map spec.shard_text shards.now)
         out.old.items out.new.items result }
@@ -71,9 +72,9 @@ fn push_shards_line(out: &mut Vec<u8>, word: &str, shards: &[ShardCount]) -> Res
 }
 
 /// Appends the size and the levels of a file.
-#[tactic(auto, using(crate::proofs::AppendLemmas::kept))]
+#[tactic(auto, using(short_text::proofs::AppendLemmas::kept))]
 fn push_info(out: &mut Vec<u8>, info: &Info) -> Result<(), AllocError>
-    ensures text { Pushes (codes "info" ++ spec.fields (spec.info_numbers info.now))
+    ensures text { Pushes (codes "info" ++ fields (spec.info_numbers info.now))
         out.old.items out.new.items result }
     ensures fits { Fits max_head_bytes out.old out.new result }
 {
@@ -90,10 +91,10 @@ fn push_info(out: &mut Vec<u8>, info: &Info) -> Result<(), AllocError>
 }
 
 /// Appends a file fault: its number in the order of checks, and its own numbers.
-#[tactic(auto, using(crate::proofs::AppendLemmas::kept))]
+#[tactic(auto, using(short_text::proofs::AppendLemmas::kept))]
 fn push_fault(out: &mut Vec<u8>, generation: u32, fault: &TiffFault) -> Result<(), AllocError>
     ensures text { Pushes
-        (codes "bad file" ++ spec.fields (generation ∷ spec.fault_numbers fault.now))
+        (codes "bad file" ++ fields (generation ∷ spec.fault_numbers fault.now))
         out.old.items out.new.items result }
     ensures fits { Fits max_head_bytes out.old out.new result }
 {
@@ -118,7 +119,7 @@ fn push_fault(out: &mut Vec<u8>, generation: u32, fault: &TiffFault) -> Result<(
 }
 
 /// Appends the line of an answer up to its values.
-#[tactic(auto, unfolding(crate::specs::Line::head_of), using(crate::proofs::AppendLemmas::kept))]
+#[tactic(auto, unfolding(crate::specs::Line::head_of), using(short_text::proofs::AppendLemmas::kept))]
 fn push_head(out: &mut Vec<u8>, answer: &Answer) -> Result<(), AllocError>
     ensures text { Pushes (spec.head_of answer.now) out.old.items out.new.items result }
     ensures fits { Fits max_head_bytes out.old out.new result }
@@ -180,7 +181,7 @@ fn push_head(out: &mut Vec<u8>, answer: &Answer) -> Result<(), AllocError>
 }
 
 /// Appends the line of an answer without its line feed.
-#[tactic(auto, using(crate::proofs::AppendLemmas::kept))]
+#[tactic(auto, using(short_text::proofs::AppendLemmas::kept))]
 fn push_answer(texts: &ValueTexts, out: &mut Vec<u8>, answer: &Answer) -> Result<(), AllocError>
     ensures { Pushes (spec.text_of answer.now) out.old.items out.new.items result }
 {
@@ -248,7 +249,7 @@ pub fn short_line_text(
 /// Appends the line, or a first part of it if memory runs out. The line of a lookup, whose
 /// generation usually fits 16 bits, is made in few steps.
 #[inline(always)]
-#[tactic(auto, unfolding(crate::specs::Line::head_of), using(crate::proofs::AppendLemmas::kept))]
+#[tactic(auto, unfolding(crate::specs::Line::head_of), using(short_text::proofs::AppendLemmas::kept))]
 fn push_short_line(texts: &ValueTexts, answer: &Answer, out: &mut Vec<u8>) -> Result<(), AllocError>
     requires { length (values_in answer.now) ≤ few_values }
     ensures text { Pushes (spec.line_of answer.now) out.old.items out.new.items result }
@@ -266,7 +267,7 @@ fn push_short_line(texts: &ValueTexts, answer: &Answer, out: &mut Vec<u8>) -> Re
 }
 
 /// Appends the line of any answer with at most a few values, or a first part of it.
-#[tactic(auto, using(crate::proofs::AppendLemmas::kept))]
+#[tactic(auto, using(short_text::proofs::AppendLemmas::kept))]
 fn push_other_line(texts: &ValueTexts, answer: &Answer, out: &mut Vec<u8>) -> Result<(), AllocError>
     requires { length (values_in answer.now) ≤ few_values }
     ensures text { Pushes (spec.line_of answer.now) out.old.items out.new.items result }

@@ -1,15 +1,14 @@
 //! Reads the fields of a line. Each field follows a single space.
 
-ghost use Rattle.std.specs.Prelude.{◌≡◌, ◌≤◌, ◌==◌, true, false, IfOk};
-ghost use Rattle.std.specs.Prelude.{pos, neg_ℤ, ℤ, ℕ, List, slice_index, IsTrue, length, take};
-ghost use Rattle.std.specs.Option.{IfSome, IfNone, option_map};
-ghost use Rattle.std.specs.Str.{bytes_eq};
+ghost use Rattle.std.specs.Prelude.{◌≡◌, ◌≤◌, ◌==◌, IfOk};
+ghost use Rattle.std.specs.Prelude.{pos, neg_ℤ, ℤ, ℕ, List, slice_index};
 ghost use Rattle.request_lang.specs.LineField as spec;
 ghost use Rattle.request_lang.specs.Parsing.{Gives};
+ghost use Rattle.short_text.specs.Words.{cut};
 
 use crate::cause::{Cause, Refusal};
-use crate::digits::{leading_digits, within};
 use crate::request::Name;
+use short_text::{behind_space, behind_word, number_field};
 use std::alloc::Global;
 use texel_filter::{Filter, Wrap};
 use tiff_format::MAX_CHANNELS;
@@ -32,81 +31,18 @@ const MAX_FOOTPRINT_BELOW: u32 = 1 << 30;
 /// The least number of channels of a lookup.
 const MIN_CHANNELS: u32 = 1;
 
-/// Whether the bytes begin with a word. The word is a constant at each call, so each of its bytes
-/// is compared directly.
-#[inline(always)]
-#[tactic(auto, using(crate::proofs::WordLemmas::beginnings))]
-fn begins_with(bytes: &[u8], word: &[u8]) -> bool
-    ensures few { IsTrue result → length word.now ≤ length bytes.now }
-    ensures value { result ≡ bytes_eq word.now (take (length word.now) bytes.now) }
+/// Checks that a number is in a range.
+fn within(least: u32, most: u32, number: Option<u64>) -> Result<u32, Cause>
+    ensures value { result ≡ spec.within least most number }
+    ensures high { IfOk result (λ n. n ≤ most) }
 {
-    if bytes.len() < word.len() {
-        return false;
+    let Some(number) = number else {
+        return Err(Cause::NotANumber);
+    };
+    if number < u64::from(least) || number > u64::from(most) {
+        return Err(Cause::OutOfRange);
     }
-    let mut at = 0;
-    'word: while at < word.len() {
-        if bytes[at] != word[at] {
-            return false;
-        }
-        at += 1;
-    }
-    true
-}
-
-/// The rest of a line after a word. `None` if the line's first word is another one.
-#[inline(always)]
-#[tactic(auto, using(crate::proofs::WordLemmas::words))]
-pub(crate) fn behind_word<'a>(text: &'a str, word: &str) -> Option<&'a str>
-    requires { spec.has_no_space word.now ≡ true }
-    ensures same { IfSome result (λ _. bytes_eq (spec.before_space text.now) word.now ≡ true) }
-    ensures back { IfSome result (λ rest. rest.now ≡ spec.from_space text.now) }
-    ensures other { IfNone result (bytes_eq (spec.before_space text.now) word.now ≡ false) }
-{
-    let bytes = text.as_bytes();
-    let end = word.len();
-    if !begins_with(bytes, word.as_bytes()) {
-        return None;
-    }
-    if end == bytes.len() {
-        return Some("");
-    }
-    if bytes[end] != b' ' {
-        return None;
-    }
-    Some(&text[end..])
-}
-
-/// The rest after the space with which it begins.
-fn behind_space(rest: &str) -> Option<&str>
-    ensures { option_map (λ s. s.now) result ≡ spec.behind_space rest.now }
-{
-    let bytes = rest.as_bytes();
-    if 0 < bytes.len() && bytes[0] == b' ' {
-        Some(&rest[1..])
-    } else {
-        None
-    }
-}
-
-/// The number that a text spells before its first space, and the rest from there on.
-#[inline(always)]
-fn number_field(text: &str) -> Option<(u64, &str)>
-    ensures number { option_map (λ f. f.0) result
-        ≡ spec.digits_number (spec.before_space text.now) }
-    ensures back { IfSome result (λ f. f.1.now ≡ spec.from_space text.now) }
-{
-    let bytes = text.as_bytes();
-    let (number, count) = leading_digits(bytes);
-    if count == 0 {
-        return None;
-    }
-    if count == bytes.len() {
-        return Some((number, ""));
-    }
-    if bytes[count] != b' ' {
-        return None;
-    }
-    Some((number, &text[count..]))
+    Ok(number as u32)
 }
 
 /// The number in a range that a text spells before its first space, and the rest from there on.
@@ -114,7 +50,7 @@ fn number_field(text: &str) -> Option<(u64, &str)>
 #[tactic(auto, unfolding(crate::specs::LineField::number_within))]
 fn number_within(least: u32, most: u32, text: &str) -> Result<(u32, &str), Cause>
     ensures value { spec.mapped (λ f. (f.0, f.1.now)) result
-        ≡ spec.spelled (spec.number_within least most) (Ok (spec.cut text.now)) }
+        ≡ spec.spelled (spec.number_within least most) (Ok (cut text.now)) }
     ensures high { IfOk result (λ f. f.0 ≤ most) }
 {
     match number_field(text) {
@@ -172,7 +108,7 @@ fn negative(most: u32, text: &str) -> Result<(i32, &str), Cause>
     requires { most ≤ spec.max_below }
     ensures { spec.mapped (λ f. (f.0, f.1.now)) result
         ≡ spec.mapped {B = ℤ × List ℕ} (λ f. (neg_ℤ (pos f.0), f.1))
-        (spec.spelled (spec.number_within 0 most) (Ok (spec.cut text.now))) }
+        (spec.spelled (spec.number_within 0 most) (Ok (cut text.now))) }
 {
     match number_within(0, most, text) {
         Ok((number, rest)) => Ok((below_zero(number), rest)),
@@ -185,7 +121,7 @@ fn positive(most: u32, text: &str) -> Result<(i32, &str), Cause>
     requires { most ≤ spec.max_above }
     ensures { spec.mapped (λ f. (f.0, f.1.now)) result
         ≡ spec.mapped {B = ℤ × List ℕ} (λ f. (pos f.0, f.1))
-        (spec.spelled (spec.number_within 0 most) (Ok (spec.cut text.now))) }
+        (spec.spelled (spec.number_within 0 most) (Ok (cut text.now))) }
 {
     match number_within(0, most, text) {
         Ok((number, rest)) => Ok((above_zero(number), rest)),
@@ -207,7 +143,7 @@ fn signed_field(below: u32, above: u32, text: &str) -> Result<(i32, &str), Cause
     requires below { below ≤ spec.max_below }
     requires above { above ≤ spec.max_above }
     ensures { spec.mapped (λ f. (f.0, f.1.now)) result
-        ≡ spec.spelled (spec.signed_within below above) (Ok (spec.cut text.now)) }
+        ≡ spec.spelled (spec.signed_within below above) (Ok (cut text.now)) }
 {
     if begins_with_minus(text) {
         return negative(below, &text[1..]);
@@ -242,7 +178,7 @@ pub(crate) fn footprint_number(rest: &str) -> Result<(i32, &str), Cause>
 #[tactic(auto, unfolding(crate::specs::LineField::wrap_mode))]
 fn wrap_of(text: &str) -> Result<(Wrap, &str), Cause>
     ensures { spec.mapped (λ f. (f.0, f.1.now)) result
-        ≡ spec.spelled spec.wrap_mode (Ok (spec.cut text.now)) }
+        ≡ spec.spelled spec.wrap_mode (Ok (cut text.now)) }
 {
     if let Some(rest) = behind_word(text, "black") {
         return Ok((Wrap::Black, rest));
@@ -264,7 +200,7 @@ fn wrap_of(text: &str) -> Result<(Wrap, &str), Cause>
 #[tactic(auto, unfolding(crate::specs::LineField::filter_mode))]
 fn filter_of(text: &str) -> Result<(Filter, &str), Cause>
     ensures { spec.mapped (λ f. (f.0, f.1.now)) result
-        ≡ spec.spelled spec.filter_mode (Ok (spec.cut text.now)) }
+        ≡ spec.spelled spec.filter_mode (Ok (cut text.now)) }
 {
     if let Some(rest) = behind_word(text, "closest") {
         return Ok((Filter::Closest, rest));

@@ -3,7 +3,7 @@
 ghost use Rattle.std.specs.Prelude.{◌≡◌, List, ℕ, IfOk};
 ghost use Rattle.std.specs.String.{string_bytes};
 
-use crate::short_text::{MAX_SHORT, ShortText};
+use short_text::{MAX_SHORT, ShortText};
 use std::alloc::{AllocError, Global};
 use std::marker::Model;
 use texel_filter::{DerivRequest, TexRequest};

@@ -4,14 +4,16 @@ ghost use Rattle.std.specs.Prelude.{◌≡◌, true, false, drop};
 ghost use Rattle.std.specs.Option.{IfNone, IfSome};
 ghost use Rattle.std.specs.Str.{IsAscii, is_utf8};
 ghost use Rattle.request_lang.specs.RequestForm as spec;
-ghost use Rattle.request_lang.specs.LineField.{before_space, from_space, meaning};
+ghost use Rattle.short_text.specs.Words.{before_space, from_space};
+ghost use Rattle.request_lang.specs.LineField.{meaning};
 ghost use Rattle.request_lang.specs.Parsing.{Gives};
 
 use crate::cause::{Cause, Refusal};
 use crate::line_field::{
-    behind_word, channel_count, filter_mode, footprint_number, name, signed, unsigned, wrap_mode,
+    channel_count, filter_mode, footprint_number, name, signed, unsigned, wrap_mode,
 };
 use crate::request::Request;
+use short_text::behind_word;
 use std::alloc::Global;
 use std::str::{from_utf8, from_utf8_unchecked};
 use texel_filter::{DerivRequest, TexRequest};
@@ -166,7 +168,7 @@ fn of_text(alloc: Global, text: &str) -> Result<Request, Refusal>
 }
 
 /// A line as text, if it is UTF-8. A line that is known to be ASCII is not checked.
-#[tactic(auto, using(crate::proofs::TextLemmas::utf8_tests))]
+#[tactic(auto, using(short_text::proofs::TextLemmas::utf8_tests))]
 fn text_of(line: &[u8], is_ascii: bool) -> Option<&str>
     requires { is_ascii ≡ true → IsAscii line.now }
     ensures some { IfSome result (λ t. (t.now ≡ line.now) × (is_utf8 line.now ≡ true)) }

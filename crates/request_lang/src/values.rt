@@ -2,12 +2,12 @@
 
 ghost use Rattle.std.specs.Prelude.{◌≡◌, ◌+◌, ◌*◌, ◌≤◌, ◌++◌, ◌∷◌, [], length, take, drop, OnOk};
 ghost use Rattle.request_lang.specs.Grammar.{line_feed};
-ghost use Rattle.request_lang.specs.Line.{fields};
-ghost use Rattle.request_lang.specs.PaddedText.{padded_bytes, max_value_bytes};
-ghost use Rattle.request_lang.specs.Appending.{Pushes, Fits, room_values, few_values, max_part_bytes};
+ghost use Rattle.short_text.specs.Number.{fields};
+ghost use Rattle.short_text.specs.PaddedText.{padded_bytes, max_value_bytes};
+ghost use Rattle.short_text.specs.Appending.{Pushes, Fits};
+ghost use Rattle.request_lang.specs.Appending.{room_values, few_values, max_part_bytes};
 
-use crate::number::push_text;
-use crate::value_texts::{COUNT_AT, PADDED_BYTES, ValueTexts};
+use short_text::{COUNT_AT, PADDED_BYTES, ValueTexts, push_text};
 use std::alloc::AllocError;
 use tex_world::NoMemory;
 
@@ -60,7 +60,7 @@ fn put_values(texts: &ValueTexts, room: &mut [u8], from: usize, values: &[u16]) 
 
 /// Appends a few values, each after a space, and ends the line.
 #[inline(always)]
-#[tactic(auto, using(crate::proofs::AppendLemmas::kept))]
+#[tactic(auto, using(short_text::proofs::AppendLemmas::kept))]
 pub(crate) fn push_last(
     texts: &ValueTexts,
     out: &mut Vec<u8>,
@@ -78,7 +78,7 @@ pub(crate) fn push_last(
 
 /// Appends a word, a 16-bit generation and a few values, each after a space, and ends the line.
 #[inline(always)]
-#[tactic(auto, using(crate::proofs::AppendLemmas::kept))]
+#[tactic(auto, using(short_text::proofs::AppendLemmas::kept))]
 pub(crate) fn push_lookup(
     texts: &ValueTexts,
     out: &mut Vec<u8>,
@@ -102,7 +102,7 @@ pub(crate) fn push_lookup(
 }
 
 /// Appends values that fit the buffer, each after a space.
-#[tactic(auto, using(crate::proofs::AppendLemmas::kept))]
+#[tactic(auto, using(short_text::proofs::AppendLemmas::kept))]
 fn push_part(
     texts: &ValueTexts,
     out: &mut Vec<u8>,
@@ -118,7 +118,7 @@ fn push_part(
 }
 
 /// Appends values, each after a space, one buffer at a time.
-#[tactic(auto, using(crate::proofs::AppendLemmas::kept))]
+#[tactic(auto, using(short_text::proofs::AppendLemmas::kept))]
 fn push_parts(
     texts: &ValueTexts,
     out: &mut Vec<u8>,
@@ -139,7 +139,7 @@ fn push_parts(
 
 /// Appends some values of an answer, each after a space. Allocates nothing if `MAX_PART_BYTES`
 /// bytes are reserved.
-#[tactic(auto, using(crate::proofs::AppendLemmas::kept))]
+#[tactic(auto, using(short_text::proofs::AppendLemmas::kept))]
 pub fn values_text(texts: &ValueTexts, values: &[u16], out: &mut Vec<u8>) -> Result<(), NoMemory>
     requires { length values.now ≤ room_values }
     ensures ok { OnOk result (out.new.items ≡ out.old.items ++ fields values.now) }
@@ -157,7 +157,7 @@ pub fn values_text(texts: &ValueTexts, values: &[u16], out: &mut Vec<u8>) -> Res
 }
 
 /// Appends values, each after a space. Memory is reserved once, before the first.
-#[tactic(auto, using(crate::proofs::AppendLemmas::kept))]
+#[tactic(auto, using(short_text::proofs::AppendLemmas::kept))]
 pub(crate) fn push_values(
     texts: &ValueTexts,
     out: &mut Vec<u8>,

@@ -1,7 +1,8 @@
 //! Lines of answers with large numbers, which no small run has: generations, sides, counts and
 //! values.
 
-use request_lang::{Answer, Shards, ValueTexts, Values, line_text};
+use request_lang::{Answer, Shards, Values, line_text};
+use short_text::ValueTexts;
 use std::alloc::{AllocError, Global};
 use std::process::Abort;
 use std::test::Fail;

@@ -2,10 +2,11 @@
 ghost use Rattle.tex_world.specs.World.{IsFile};
 
 use render_run::{NoHook, run};
+use sample_folder::SampleFolder;
 use std::alloc::Global;
 use std::str::from_utf8;
 use std::test::Fail;
-use tex_world::{Folder, MemFeed, MemSink, SampleFolder, Tap, TapHandle};
+use tex_world::{Folder, MemFeed, MemSink, Tap, TapHandle};
 
 // The byte at a place of a file.
 fn byte_at<T: Tap>(tap: &mut T, alloc: Global, file: u32, at: u64) -> Result<u8, &'static str>

@@ -6,7 +6,8 @@ use Rattle.std.specs.Prelude.{ℤ}
 use Rattle.std.specs.List.{list_all, position_or_len}
 use Rattle.std.proofs.Math.Seq.{take-append_seam, drop-append_seam}
 use Rattle.std.proofs.lemmas.Bool.{and_parts, lt-ltb}
-use Rattle.request_lang.specs.LineField.{space_at, before_space, from_space, next_field}
+use Rattle.short_text.specs.Words.{space_at, before_space, from_space}
+use Rattle.request_lang.specs.LineField.{next_field}
 use Rattle.request_lang.specs.LineField.{signed, unsigned, wrap_mode, filter_mode, channel_count}
 use Rattle.request_lang.specs.RequestForm.{RequestForm, ◌>>=◌}
 use Rattle.texel_filter.specs.declared.mode.Wrap.{Wrap}

@@ -10,7 +10,8 @@ use Rattle.std.proofs.lemmas.Bool.{and_from, and_parts, lt-ltb, le-leb, leb-true
 use Rattle.std.proofs.lemmas.List.Sums.{fold-append, AllPass-from_list_all}
 use Rattle.std.proofs.lemmas.List.Folds.{list_all-append}
 use Rattle.std.proofs.lemmas.Fmt.{decimal_by_steps, length-decimal-le, decimal_nonempty}
-use Rattle.request_lang.specs.LineField.{digits_number, number_within, signed}
+use Rattle.short_text.specs.Digits.{digits_number}
+use Rattle.request_lang.specs.LineField.{number_within, signed}
 use Rattle.request_lang.specs.LineField.{max_above, max_below}
 use Rattle.sample_run.proofs.PlainLemmas.{ArePlain}
 

@@ -3,11 +3,11 @@ use Rattle.std.proofs.Common.{◌≡◌, ℕ, ◌≤◌, true, List, []}
 use Rattle.std.proofs.Common.{length, Some, refl, lit<}
 use Rattle.std.specs.Prelude.{IsTrue}
 use Rattle.tex_world.specs.Folder.{IsNewFolder}
-use Rattle.tex_world.specs.SampleFolder.{sample_folder}
-use Rattle.tex_world.specs.declared.sample_folder.SampleFolder.{SampleFolder}
+use Rattle.sample_folder.specs.SampleFolder.{sample_folder}
+use Rattle.sample_folder.specs.declared.sample_folder.SampleFolder.{SampleFolder}
 use Rattle.command_line.specs.Invocation.{invocation_of}
 use Rattle.request_lang.specs.Grammar.{max_list_bytes}
-use Rattle.render_run.specs.Around.{SinkState}
+use Rattle.answer_page.specs.Page.{SinkState}
 use Rattle.render_run.specs.Run.{Runs}
 use Rattle.render_run.specs.Complete.{StaysAt, IsCalm, HasAList, Completes}
 use Rattle.sample_run.specs.declared.size.Size.{Size}

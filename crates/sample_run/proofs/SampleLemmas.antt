@@ -4,7 +4,7 @@ use Rattle.std.specs.Prelude.{Some, None}
 use Rattle.std.specs.Option.{IsSomeAnd}
 use Rattle.request_lang.specs.Grammar.{max_list_bytes}
 use Rattle.render_run.specs.Status as status
-use Rattle.render_run.specs.Around.{SinkState}
+use Rattle.answer_page.specs.Page.{SinkState}
 use Rattle.sample_run.specs.declared.size.Size.{Size}
 use Rattle.sample_run.specs.Size.{size_in}
 use Rattle.sample_run.specs.MadeList.{made_list}

@@ -6,7 +6,7 @@ use Rattle.std.proofs.lemmas.Bool.{agree_below, agree_below_at, ne_eqb}
 use Rattle.clap.proofs.OnLiterals.{clap_on_literals}
 use Rattle.command_line.specs.Command.{command}
 use Rattle.command_line.specs.Invocation.{invocation_of}
-use Rattle.request_lang.specs.LineField.{digits_number}
+use Rattle.short_text.specs.Digits.{digits_number}
 use Rattle.sample_run.specs.Size.{run_words, max_workers}
 
 -- the arguments for this many workers are valid, or there are none

@@ -7,7 +7,7 @@ use Rattle.texel_filter.specs.declared.mode.Wrap.{Wrap}
 use Rattle.texel_filter.specs.declared.mode.Wrap.TheVariants.{Black, Clamp, Periodic, Mirror}
 use Rattle.texel_filter.specs.declared.request.Filter.{Filter}
 use Rattle.texel_filter.specs.declared.request.Filter.TheVariants.{Closest, Bilinear, Trilinear}
-use Rattle.request_lang.specs.LineField.{space}
+use Rattle.short_text.specs.Words.{space}
 use Rattle.sample_run.specs.declared.lookup.Lookup.{Lookup}
 use Rattle.sample_run.specs.Draw.{next_state, drawn}
 

@@ -8,14 +8,15 @@ use Rattle.tex_world.specs.Counts.{Rises}
 use Rattle.tex_world.specs.Stream.{Appends, AppendsPart}
 use Rattle.tex_world.specs.Table.{table_files}
 use Rattle.tex_world.specs.Names.{name_at}
-use Rattle.tex_world.specs.Sample.{sample_count, sample_names, sample_len_of, sample_byte}
-use Rattle.tex_world.specs.SampleFolder.{sample_folder}
+use Rattle.sample_folder.specs.Sample.{sample_count, sample_names, sample_len_of, sample_byte}
+use Rattle.sample_folder.specs.SampleFolder.{sample_folder}
 use Rattle.tex_world.specs.Folder.{IsNewFolder}
-use Rattle.tex_world.specs.declared.sample_folder.SampleFolder.{SampleFolder}
+use Rattle.sample_folder.specs.declared.sample_folder.SampleFolder.{SampleFolder}
 use Rattle.command_line.specs.Invocation.{Asked, invocation_of}
 use Rattle.request_lang.specs.Grammar.{line_feed, max_list_bytes}
 use Rattle.render_run.specs.Status as status
-use Rattle.render_run.specs.Around.{Around, SinkState, around_of}
+use Rattle.render_run.specs.Around.{Around, around_of}
+use Rattle.answer_page.specs.Page.{SinkState}
 use Rattle.render_run.specs.Run.{Runs}
 use Rattle.render_run.specs.Complete.{Completes}
 use Rattle.sample_run.specs.declared.size.Size.{Size}

@@ -1,7 +1,7 @@
 -- What do the arguments ask for? (docs/REQUESTS.md, "The sample program")
 use Rattle.std.specs.Prelude.{ℕ, ◌≤◌, ◌&&◌, nat_le, List, [], ◌∷◌, Option, Some, None}
 use Rattle.std.specs.Prelude.{if◌then◌else◌, option_and_then, option_map, codes, decimal}
-use Rattle.request_lang.specs.LineField.{digits_number}
+use Rattle.short_text.specs.Digits.{digits_number}
 use Rattle.request_lang.specs.Grammar.{max_requests}
 use Rattle.sample_run.specs.declared.size.Size.{Size}
 

@@ -4,7 +4,7 @@ ghost use Rattle.std.specs.Prelude.{◌≡◌, ◌<◌, ◌^◌, map, IfSome};
 ghost use Rattle.std.specs.String.{string_bytes};
 ghost use Rattle.sample_run.specs.Size as spec;
 
-use request_lang::digits_number;
+use short_text::digits_number;
 
 /// The most requests.
 const MAX_REQUESTS: u64 = 1048576;

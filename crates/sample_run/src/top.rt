@@ -2,7 +2,7 @@
 
 ghost use Rattle.std.specs.Prelude.{◌≡◌, ◌≤◌, map, length, string_bytes, Some, IfOk};
 ghost use Rattle.request_lang.specs.Grammar.{max_list_bytes};
-ghost use Rattle.render_run.specs.Around.{sink_state};
+ghost use Rattle.answer_page.specs.Page.{sink_state};
 ghost use Rattle.sample_run.specs.Size.{IsInRange, run_words};
 ghost use Rattle.sample_run.specs.MadeList as spec_list;
 ghost use Rattle.render_run.specs.Status.{with_refusals};
@@ -13,10 +13,11 @@ use crate::made_list::made_list;
 use crate::size::{Size, size_in};
 use crate::summary::summary;
 use render_run::{NoHook, run};
+use sample_folder::SampleFolder;
 use std::alloc::{AllocError, Global};
 use std::sync::Wait;
 use std::thread::Threads;
-use tex_world::{MemSink, NoMemory, SampleFolder, Sink};
+use tex_world::{MemSink, NoMemory, Sink};
 
 /// Some line of the run is a refusal.
 const WITH_REFUSALS: u8 = 1;

@@ -22,6 +22,11 @@ pub record IsCountOf (es : Entries) (count : ShardCount) : Type 0 where
   pub pins : count.pins ≡ pin_sum es
   pub loose : count.loose ≡ loose_bytes es
 
+-- The count is of this share of the budget, and the unpinned tiles fit it.
+pub record FitsShare (share : ℕ) (count : ShardCount) : Type 0 where
+  pub same : count.share ≡ share
+  pub within : count.loose ≤ count.share
+
 -- Each entry is in a slot, which has its key, and no two slots have the same key.
 pub record HaveSlots (keys : List ℕ) (es : Entries) : Type 0 where
   pub some : (key : ℕ) → IsSome (entry_at key es) → Contains keys key

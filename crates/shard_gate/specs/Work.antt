@@ -1,12 +1,12 @@
 -- What does a visit to a shard answer, and which entries does it leave?
 use Rattle.std.specs.Prelude.{◌≡◌, ◌≢◌, ℕ, ◌+◌, ◌*◌, ◌<◌, ◌≤◌, true, false, List, [], ◌∷◌}
-use Rattle.std.specs.Prelude.{length}
+use Rattle.std.specs.Prelude.{◌^◌, length}
 use Rattle.std.specs.Prelude.{slice_index, Result, Option}
 use Rattle.std.specs.Prelude.{None, IfOk}
 use Rattle.tex_world.specs.World.{Files}
 use Rattle.tile_store.specs.Tile.{CachedTile}
 use Rattle.tile_store.specs.Tag.{cut_of}
-use Rattle.tile_store.specs.Entry.{Entries}
+use Rattle.tile_store.specs.Entry.{Entries, pin_sum}
 use Rattle.tile_store.specs.Links.{is_in}
 use Rattle.tile_store.specs.Keys.{key_in}
 use Rattle.tile_store.specs.Slots.{ShardState}
@@ -24,6 +24,11 @@ pub record IsSeatOf (old new : SeatAt) : Type 0 where
   pub shard : new.shard ≡ old.shard
   pub permits : new.permits ≡ old.permits
   pub joined : new.joined ≡ old.joined
+
+-- One more tile can be pinned: not every slot has a pin, and the pins can still be counted.
+pub record HasRoom (s : ShardState) : Type 0 where
+  pub slot : pin_sum s.entries < length s.slots
+  pub count : pin_sum s.entries + 1 < 2 ^ 32
 
 -- A tile that was found has the key, and fits the cut in the tag.
 abbrev pub FoundUnder

@@ -4,7 +4,7 @@ ghost use Rattle.std.specs.Prelude.{IfOk, IfErr, OnOk, OnErr, OnSome, IsSome, op
 ghost use Rattle.shard_gate.specs.Gate.{max_pins, shard_of, AreLimits, IsNewGate, IsFirstSeat};
 ghost use Rattle.shard_gate.specs.Gate.{IsTileOf, HasCellRect, SamePins, OnePinMore, OnePinLess};
 ghost use Rattle.shard_gate.specs.Gate.{IsSameSeat, slots_of, own_pins};
-ghost use Rattle.shard_gate.specs.Given.{Finds, Inserts, Releases, Purges, Counts};
+ghost use Rattle.shard_gate.specs.Given.{Finds, Inserts, Releases, Purges, Counts, FitsShare};
 ghost use Rattle.shard_gate.specs.Given.{AtShard, AtFirst, AtSome};
 ghost use Rattle.shard_gate.specs.Everyone.{FindsPinsOfAll};
 ghost use Rattle.shard_gate.specs.Calls.{tile_of, VisitsAt, IfNotPinned, IfNotInserted};
@@ -107,10 +107,9 @@ impl<W: World> Gate<W> {
             VisitsAt self.now key (Finds key (option_map tile_of found)) p.old p.new) }
         ensures refused { IfErr result (λ e. VisitsAt self.now key (IfNotPinned e) p.old p.new) }
     {
-        match self.find(waiter, p, key) {
-            Ok(Some(tile)) => Ok(Some(Pin { tile })),
-            Ok(None) => Ok(None),
-            Err(e) => Err(e),
+        match self.find(waiter, p, key)? {
+            Some(tile) => Ok(Some(Pin { tile })),
+            None => Ok(None),
         }
     }
 
@@ -137,10 +136,8 @@ impl<W: World> Gate<W> {
             VisitsAt self.now tile.key (IfNotInserted e) p.old p.new) }
     {
         let key = tile.key();
-        match self.insert(waiter, p, key, tile) {
-            Ok(tile) => Ok(Pin { tile }),
-            Err(e) => Err(e),
-        }
+        let tile = self.insert(waiter, p, key, tile)?;
+        Ok(Pin { tile })
     }
 
     /// Gives back a pin. The tile stays in its shard while the unpinned tiles fit its share.
@@ -202,8 +199,7 @@ impl<W: World> Gate<W> {
         // One record ties together the counts, the entries counted, and the visit that found them.
         ensures lawful { IfOk result (λ count. AtShard shard
             (Counts W.files (tag_of self.now.share self.now.cut) count) p.old.visits p.new.visits) }
-        ensures share { IfOk result (λ count. count.share ≡ self.now.share) }
-        ensures within { IfOk result (λ count. count.loose ≤ count.share) }
+        ensures fits { IfOk result (FitsShare self.now.share) }
         // The seat's own pins are among them. If it has all permits, there are no others.
         ensures own { IfOk result (λ count.
             own_pins (length self.now.id) shard p.old.pins ≤ count.pins) }

@@ -47,7 +47,7 @@ pub(crate) fn laid<W: World>(
             return Err(AllocError);
         };
         // needed by the proof: each tile is in a slot
-        let _tiles = shard.tiles();
+        let _ = shard.tiles();
         let (table, seat) = TurnTable::new(alloc, terms, CachePadded::new(shard))?;
         tables.push_reserved(table);
         seats.push_reserved(seat);

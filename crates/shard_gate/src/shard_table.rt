@@ -1,14 +1,14 @@
 //! Visits to one shard: lock it, work on its tiles, write the changes into the words of the slots,
 //! and unlock it.
-ghost use Rattle.std.specs.Prelude.{◌≡◌, ◌≢◌, ◌*◌, ◌<◌, ◌≤◌, ◌∷◌, true, length, slice_index, map};
-ghost use Rattle.std.specs.Prelude.{IfOk, IfErr, IfNone, IfSome, IsSome, OnOk, OnErr, OnSome};
+ghost use Rattle.std.specs.Prelude.{◌≡◌, ◌*◌, ◌<◌, ◌≤◌, ◌∷◌, length};
+ghost use Rattle.std.specs.Prelude.{IfOk, IfErr, IfNone, IsSome, OnOk, OnErr, OnSome};
 ghost use Rattle.std.specs.Prelude.{option_map, Contains, IsPermutation};
 ghost use Rattle.std.specs.Arc.{arc_value};
 ghost use Rattle.crossbeam_utils.specs.Padded.{padded_value};
 ghost use Rattle.tile_store.specs.Tag.{share_in_tag, cut_of};
 ghost use Rattle.tile_store.specs.Lawful.{FitsCut};
 ghost use Rattle.shard_gate.specs.Words.{max_pins, slots_of};
-ghost use Rattle.shard_gate.specs.Given.{Finds, Inserts, Releases, Purges, Counts};
+ghost use Rattle.shard_gate.specs.Given.{Finds, Inserts, Releases, Purges, Counts, FitsShare};
 ghost use Rattle.shard_gate.specs.Everyone.{ArePinsOfAll, taken_last};
 ghost use Rattle.shard_gate.specs.Work.{IsSeatOf, FoundUnder, KeptUnder, MayKeep};
 ghost use Rattle.shard_gate.specs.Work.{IsTellingOf, HasToldOf, with_kept};
@@ -46,7 +46,6 @@ pub(crate) struct LawfulShards<W> {
 
 impl<W: World> BodyRule<Slot<W>> for LawfulShards<W> {
     ghost use Rattle.crossbeam_utils.specs.Padded.{padded_value};
-    ghost use Rattle.tile_store.specs.Slots.{ShardState};
     ghost use Rattle.shard_gate.specs.Home.{IsHome, words_of};
 
     ghost lawful = { λ terms slot. IsHome W.files terms (padded_value slot) };
@@ -165,9 +164,7 @@ impl<W: World> ShardTable<W> {
         ensures ok { OnOk result (Releases share key seat.old.visits seat.new.visits) }
         ensures err { OnErr result (seat.new ≡ seat.old) }
     {
-        if let Err(busy) = self.take(waiter, &mut seat.seat) {
-            return Err(busy);
-        }
+        self.take(waiter, &mut seat.seat)?;
         let slot = seat.seat.slot_mut(&self.table.shared, 0);
         let unpinned = release_in(slot, key, share);
         self.unpin_slot(&mut seat.seat, unpinned);
@@ -205,9 +202,7 @@ impl<W: World> ShardTable<W> {
             (Purges stale.file stale.below seat.old.visits seat.new.visits) }
         ensures err { OnErr result (seat.new ≡ seat.old) }
     {
-        if let Err(busy) = self.take(waiter, &mut seat.seat) {
-            return Err(busy);
-        }
+        self.take(waiter, &mut seat.seat)?;
         let slot = seat.seat.slot_mut(&self.table.shared, 0);
         purge_in(slot, stale);
         self.tell_left(&mut seat.seat);
@@ -224,8 +219,7 @@ impl<W: World> ShardTable<W> {
     ) -> Result<ShardCount, T::Busy>
         requires shard { seat.old.shard ≡ self.now }
         requires share { share_in_tag self.now.tag ≡ share }
-        ensures share { IfOk result (λ count. count.share ≡ share) }
-        ensures within { IfOk result (λ count. count.loose ≤ count.share) }
+        ensures fits { IfOk result (FitsShare share) }
         ensures own { IfOk result (λ count. length seat.old.pins ≤ count.pins) }
         ensures alone { IfOk result (λ count. seat.old.permits ≡ self.now.passes
             → count.pins ≡ length seat.old.pins) }
@@ -237,9 +231,7 @@ impl<W: World> ShardTable<W> {
             (ArePinsOfAll seat.old.pins (taken_last seat.new.visits)) }
         ensures err { OnErr result (seat.new ≡ seat.old) }
     {
-        if let Err(busy) = self.take(waiter, &mut seat.seat) {
-            return Err(busy);
-        }
+        self.take(waiter, &mut seat.seat)?;
         let slot = seat.seat.slot_mut(&self.table.shared, 0);
         let count = count_in(slot, share);
         self.give(&mut seat.seat);

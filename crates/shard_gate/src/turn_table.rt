@@ -1,6 +1,6 @@
 //! The lock of a shard, and the words that describe its slots.
 ghost use Rattle.std.specs.Prelude.{◌≡◌, ℕ, ◌-◌, ◌*◌, ◌<◌, ◌≤◌, true, false, [], length, slice_index};
-ghost use Rattle.std.specs.Prelude.{◌∷◌, IfOk, OnOk, OnErr};
+ghost use Rattle.std.specs.Prelude.{IfOk, OnOk, OnErr};
 ghost use Rattle.shard_gate.specs.Words.{turn_word, tag_word, first_word, word_count};
 ghost use Rattle.shard_gate.specs.Words.{max_passes, max_pins, AreBlank};
 ghost use Rattle.shard_gate.specs.Steps.{HasBody, AreLawful, MayLook, MayPin, MayUnpin, MayFill};

@@ -11,7 +11,7 @@ ghost use Rattle.tile_store.specs.Lawful.{FitsTag};
 ghost use Rattle.shard_gate.specs.Words.{unpinned_words};
 ghost use Rattle.shard_gate.specs.Given.{released, IsCountOf};
 ghost use Rattle.shard_gate.specs.Home.{words_of, KeepsStored};
-ghost use Rattle.shard_gate.specs.Work.{FoundAmong, KeptAmong};
+ghost use Rattle.shard_gate.specs.Work.{FoundAmong, KeptAmong, HasRoom};
 ghost use Rattle.shard_gate.specs.Work.{PinsSlot, InsertsSlot, AreBehind};
 
 use std::sync::Arc;
@@ -54,7 +54,7 @@ pub(crate) fn find_in<W: World>(
 {
     let found = shard.find_pin(key)?;
     // needed by the proof: each entry is in a slot
-    let _tiles = shard.tiles();
+    let _ = shard.tiles();
     match found {
         Some(tile) => {
             let slot = slot_in(shard, key);
@@ -83,8 +83,7 @@ pub(crate) fn insert_in<W: World>(
 ) -> Result<InSlot<W>, NoMemory>
     requires slots { AreInSlots shard.old }
     requires left { shard.old.left ≡ [] }
-    requires pins { pin_sum shard.old.entries + 1 < 2 ^ 32 }
-    requires room { pin_sum shard.old.entries < length shard.old.slots }
+    requires room { HasRoom shard.old }
     ensures kept { IfOk result (λ kept. arc_value kept.tile ≡ kept_tile tile shard.old.entries) }
     ensures ok { KeptAmong (λ f. arc_value f.tile) W.files shard.old.entries tile result }
     // The state after the call.
@@ -98,11 +97,11 @@ pub(crate) fn insert_in<W: World>(
 {
     let key = tile.key();
     // needed by the proof: no more entries are pinned than there are pins, and keys are distinct
-    let _pins = shard.pins();
-    let _tiles = shard.tiles();
+    let _ = shard.pins();
+    let _ = shard.tiles();
     let slots = shard.slots() as usize;
     let tile = shard.insert_pin(tile, slots)?;
-    let _tiles = shard.tiles();
+    let _ = shard.tiles();
     let slot = slot_in(shard, key);
     Ok(InSlot { tile, slot })
 }
@@ -118,10 +117,10 @@ pub(crate) fn release_in<W: World>(shard: &mut Shard<W>, key: TileKey, share: u6
     ensures stored { KeepsStored W.files (λ terms. share_in_tag terms.tag ≡ share)
         shard.old shard.new }
 {
-    let _tiles = shard.tiles();
+    let _ = shard.tiles();
     let slot = slot_in(shard, key);
     shard.release(key, share);
-    let _tiles = shard.tiles();
+    let _ = shard.tiles();
     slot
 }
 
@@ -133,9 +132,9 @@ pub(crate) fn purge_in<W: World>(shard: &mut Shard<W>, stale: Stale)
     ensures behind { AreBehind (words_of shard.old) shard.new }
     ensures stored { KeepsStored W.files (λ terms. ⊤) shard.old shard.new }
 {
-    let _tiles = shard.tiles();
+    let _ = shard.tiles();
     shard.purge(stale.file, stale.below);
-    let _tiles = shard.tiles();
+    let _ = shard.tiles();
 }
 
 /// Counts the tiles and pins of a shard whose unpinned tiles may take `share` bytes.

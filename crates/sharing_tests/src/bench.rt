@@ -1,12 +1,12 @@
 //! A file table over files in memory, with five taps.
 ghost use Rattle.std.specs.Prelude.{◌≡◌, ◌<◌};
 
-use crate::pictures::Pictures;
 use file_table::Files;
 use gen_board::View;
 use std::alloc::Global;
 use std::test::Fail;
-use tex_world::{FailCall, Folder, MemFolder, MemTap, Newest, Plan, Rise, Tap};
+use test_files::{Pictures, Planned, taps_of};
+use tex_world::{MemTap, Tap};
 use tiff_format::Cut;
 
 /// A table of all four files, its first view, and some taps.
@@ -19,38 +19,28 @@ pub(crate) struct Bench<T: Tap> {
     ghost board: { view.board ≡ files.board },
 }
 
-fn folder_of(alloc: Global) -> Result<MemFolder<Pictures>, Fail> {
-    let mut plan = Plan::new(alloc);
-    plan.newest.push(Newest {
+/// For tap 1 the newest generation of `A.tif` is 2; the first call of tap 2 fails; and tap 3 meets
+/// generation 2 when it first reads byte 9 of `A.tif`.
+const PLAN: &[Planned] = &[
+    Planned::Newest {
         tap: 1,
         file: 0,
         generation: 2,
-    })?;
-    plan.fail_calls.push(FailCall { tap: 2, call: 1 })?;
-    plan.rises.push(Rise {
+    },
+    Planned::FailCall { tap: 2, call: 1 },
+    Planned::Rise {
         tap: 3,
         file: 0,
         at: 9,
         to: 2,
-    })?;
-    Ok(MemFolder::new(plan))
-}
+    },
+];
 
-fn taps_of(alloc: Global) -> Result<Vec<MemTap<Pictures>>, Fail> {
-    let mut folder = folder_of(alloc)?;
-    let mut taps = Vec::new(alloc);
-    for _ in 0..5 {
-        taps.push(folder.tap(alloc)?)?;
-    }
-    Ok(taps)
-}
-
-/// Makes five taps. For tap 1 the newest generation of `A.tif` is 2; the first call of tap 2 fails;
-/// and tap 3 meets generation 2 when it first reads byte 9 of `A.tif`.
+/// Makes a table with five taps.
 pub(crate) fn memory_bench(alloc: Global, cap: usize) -> Result<Bench<MemTap<Pictures>>, Fail>
     requires { 0 < cap }
 {
-    Bench::new(alloc, cap, taps_of(alloc)?)
+    Bench::new(alloc, cap, taps_of(alloc, PLAN, 5)?)
 }
 
 impl<T: Tap + Drop> Bench<T> {

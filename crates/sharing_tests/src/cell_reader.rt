@@ -11,6 +11,7 @@ use file_table::{FileError, Record};
 use std::alloc::Global;
 use std::sync::Arc;
 use tap_reader::OpenFile;
+use test_files::Checks;
 use tex_world::{Tap, TapHandle, World};
 use tile_layout::TileKey;
 use tile_load::{LoadError, load};
@@ -36,7 +37,7 @@ pub(crate) enum Call {
 }
 
 /// What a call answers.
-#[derive(Clone, Copy, Debug, PartialEq, Eq)]
+#[derive(Clone, Copy, PartialEq, Eq)]
 pub(crate) enum Answer {
     /// The cell in this generation, with the texels of the file.
     Cell(u32),
@@ -50,6 +51,31 @@ pub(crate) enum Answer {
     Done,
     /// Anything else.
     Wrong,
+}
+
+impl Answer {
+    fn word(self) -> &'static str {
+        match self {
+            Cell(_) => "Cell",
+            Fault => "Fault",
+            Gone(_) => "Gone",
+            Again(_) => "Again",
+            Kept(_) => "Kept",
+            Done => "Done",
+            Wrong => "Wrong",
+        }
+    }
+
+    /// The number in the answer.
+    fn number(self) -> u64 {
+        match self {
+            Cell(generation) => u64::from(generation),
+            Gone(to) => u64::from(to),
+            Again(to) => u64::from(to),
+            Kept(count) => count as u64,
+            _ => 0,
+        }
+    }
 }
 
 /// A call, its answer, and how many calls its tap gets.
@@ -160,21 +186,30 @@ fn load_cell<T: Tap>(
     Some(load(alloc, tap, open, known, key, cut))
 }
 
+/// What loading a cell gave.
+fn answer_of<W: World>(loaded: Option<Result<Tile<W>, LoadError>>) -> Answer {
+    match loaded {
+        Some(Ok(tile)) if is_told(&tile) => Cell(tile.key().generation()),
+        Some(Err(LoadError::ReadFault)) => Fault,
+        Some(Err(LoadError::Gone(to))) => Gone(to),
+        _ => Wrong,
+    }
+}
+
 impl<T: Tap + Drop + Shows> Visitor<'_, T> {
-    /// The first call with a wrong answer or a wrong number of calls to its tap, and what it
-    /// answered.
-    pub(crate) fn first_wrong(&mut self, steps: &[Step]) -> Option<(usize, Answer, u64)>
+    /// Makes the calls, each as a part of the case.
+    pub(crate) fn check(&mut self, checks: &mut Checks, steps: &[Step])
         requires { (file : ℕ) → file < 9 → IsFile T.W.files file }
     {
-        for (place, (call, wanted, calls)) in steps.iter().enumerate() {
+        for (call, wanted, calls) in steps {
             let before = self.calls(*call);
             let answer = self.answer(*call);
             let rise = self.calls(*call).saturating_sub(before);
-            if answer != *wanted || rise != *calls {
-                return Some((place, answer, rise));
-            }
+            checks.part("a call");
+            checks.word("the answer", answer.word(), wanted.word());
+            checks.equal("the answer's number", answer.number(), wanted.number());
+            checks.equal("calls of the tap", rise, *calls);
         }
-        None
     }
 
     /// The number of calls of a call's tap so far.
@@ -273,20 +308,33 @@ impl<T: Tap + Drop + Shows> Visitor<'_, T> {
     fn load(&mut self, tap: usize, file: u32, texel: (u32, u32)) -> Answer
         requires { IsFile T.W.files file }
     {
-        let (known, mut open) = match self.lend(tap, file) {
-            Ok(lent) => lent,
-            Err(answer) => return answer,
-        };
-        let Some(source) = self.taps.get_mut(tap) else {
-            return Wrong;
-        };
-        match load_cell(self.alloc, source, &mut open, &known, texel) {
-            Some(Ok(tile)) if is_told(&tile) => match self.settle_file(open) {
-                Done => Cell(tile.key().generation()),
-                _ => Wrong,
+        match self.lend(tap, file) {
+            Ok((known, mut open)) => match self.load_open(tap, &known, &mut open, texel) {
+                Cell(generation) => self.settled_cell(open, generation),
+                answer => answer,
             },
-            Some(Err(LoadError::ReadFault)) => Fault,
-            Some(Err(LoadError::Gone(to))) => Gone(to),
+            Err(answer) => answer,
+        }
+    }
+
+    /// Loads a cell of an open file.
+    fn load_open(
+        &mut self,
+        tap: usize,
+        known: &Record<T::W>,
+        open: &mut OpenFile<T>,
+        texel: (u32, u32),
+    ) -> Answer {
+        match self.taps.get_mut(tap) {
+            Some(tap) => answer_of(load_cell(self.alloc, tap, open, known, texel)),
+            None => Wrong,
+        }
+    }
+
+    /// Settles the file of a cell that was loaded.
+    fn settled_cell(&self, open: OpenFile<T>, generation: u32) -> Answer {
+        match self.settle_file(open) {
+            Done => Cell(generation),
             _ => Wrong,
         }
     }

@@ -1,10 +1,11 @@
 //! The calls of a gate as the tests make them, with a seat that has at most one pin.
-ghost use Rattle.std.specs.Prelude.{◌≡◌, length, IfOk, OnOk, OnErr};
+ghost use Rattle.std.specs.Prelude.{◌≡◌, length, IfOk, OnOk};
 ghost use Rattle.shard_gate.specs.Gate.{SamePins, IfFound, IfNotFound};
 ghost use Rattle.sharing_tests.specs.Held.{IsIdleAt, HoldsAt};
 
-use crate::untold::Untold;
 use shard_gate::{Gate, NotPinned, Pin, PinError, PinSeat};
+use std::alloc::Global;
+use test_files::{Checks, Untold};
 use tiff_format::Cut;
 use tile_layout::TileKey;
 use tile_store::Tile;
@@ -27,6 +28,17 @@ pub const CUT: Cut = Cut {
 pub enum Stop {
     NoMemory,
     Busy,
+}
+
+// the bytes of each tile
+pub const TILE_BYTES: u64 = 1536;
+
+// A tile of 16 by 16 texels with three samples each, all 0.
+pub fn gray(alloc: Global, key: TileKey) -> Result<Tile<Untold>, Stop> {
+    match test_files::gray(alloc, key, 16, 16) {
+        Ok(tile) => Ok(tile),
+        Err(_) => Err(Stop::NoMemory),
+    }
 }
 
 // Pins the tile of a key, if it is there.
@@ -107,4 +119,12 @@ pub fn counts<T: Waiter>(
         sums[3] = sums[3].saturating_add(count.share);
     }
     Ok(sums)
+}
+
+// Compares the counts of all shards.
+pub fn check_counts(checks: &mut Checks, found: [u64; 4], wanted: [u64; 4]) {
+    checks.equal("tiles", found[0], wanted[0]);
+    checks.equal("pins", found[1], wanted[1]);
+    checks.equal("unpinned bytes", found[2], wanted[2]);
+    checks.equal("shares", found[3], wanted[3]);
 }

@@ -3,10 +3,10 @@ ghost use Rattle.std.specs.Prelude.{◌≡◌, ◌<◌, ◌≤◌, ◌+◌, ◌*
 ghost use Rattle.shard_gate.specs.Gate.{max_pins, OnePinMore};
 ghost use Rattle.sharing_tests.specs.Held.{SameKeys};
 
-use crate::gate_calls::{CUT, OneGate, OnePin, OneSeat, Stop, counts};
-use crate::untold::gray;
+use crate::gate_calls::{CUT, OneGate, OnePin, OneSeat, Stop, check_counts, counts, gray};
 use std::alloc::Global;
 use std::test::Fail;
+use test_files::Checks;
 use tile_layout::TileKey;
 use waiter::Tries;
 
@@ -52,9 +52,12 @@ fn counts_inside(
 #[test]
 fn counts_all_pins_of_a_permit(rt: HostRuntime) -> Result<(), Fail> {
     let (gate, mut seat) = OneGate::new(rt.alloc(), 1, 1, 1, CUT)?;
+    let mut checks = Checks::new();
+    checks.case("while all are pinned");
     let inside = counts_inside(&gate, rt.alloc(), &mut seat, 7)?;
-    assert!(rt; inside == [7, 7, 0, 1], "while all are pinned");
+    check_counts(&mut checks, inside, [7, 7, 0, 1]);
+    checks.case("after all came back");
     let left = counts(&gate, &Tries::new(1), &mut seat, 1)?;
-    assert!(rt; left == [0, 0, 0, 1], "after all came back");
-    Ok(())
+    check_counts(&mut checks, left, [0, 0, 0, 1]);
+    checks.result()
 }

@@ -1,12 +1,15 @@
 //! One caller step by step, and two callers of one tile.
-ghost use Rattle.std.specs.Prelude.{◌≡◌, [], length, OnOk, OnErr, IfOk, IfNone, IfSome};
+ghost use Rattle.std.specs.Prelude.{◌≡◌, length, OnOk, IfNone, IfSome};
 ghost use Rattle.shard_gate.specs.Gate.{IfFound, IfNotFound};
 ghost use Rattle.sharing_tests.specs.Held.{IsIdleAt, HoldsAt};
 
-use crate::gate_calls::{CUT, OneGate, OnePin, OneSeat, Stop, counts, find, keep, unpin};
-use crate::untold::gray;
+use crate::gate_calls::{
+    CUT, OneGate, OnePin, OneSeat, Stop, check_counts, counts, find, gray, keep, unpin,
+};
+use crate::gate_steps::Step::{Find, Keep, Purge};
 use std::alloc::Global;
 use std::test::Fail;
+use test_files::Checks;
 use tile_layout::TileKey;
 use waiter::Tries;
 
@@ -18,8 +21,23 @@ enum Step {
     Purge(u32, u32),
 }
 
-// A step, whether it gets a pin, the counts while it has the pin, and the counts afterwards.
-type Row = (Step, bool, [u64; 4], [u64; 4]);
+// A step, and what it leaves. The counts are tiles, pins, unpinned bytes and shares.
+struct StepCase {
+    step: Step,
+    is_pinned: bool,
+    // the counts while it has the pin
+    held: [u64; 4],
+    // the counts after the pin came back
+    after: [u64; 4],
+}
+
+// The steps of one caller of a new gate.
+struct GateCase {
+    name: &'static str,
+    budget: u64,
+    shards: u32,
+    steps: &'static [StepCase],
+}
 
 // A cell of generation 1 of file 1.
 fn cell(index: u32) -> TileKey {
@@ -63,104 +81,183 @@ fn put_back(gate: &OneGate, seat: &mut OneSeat, pin: Option<OnePin>) -> Result<(
     }
 }
 
-// Makes the step of a case. True if everything is as the case says.
-fn is_so(
+// Makes the step of a case.
+fn check_step(
     gate: &OneGate,
     alloc: Global,
+    checks: &mut Checks,
     seat: &mut OneSeat,
     shards: u32,
-    row: &Row,
-) -> Result<bool, Stop>
+    case: &StepCase,
+) -> Result<(), Stop>
     requires idle { IsIdleAt gate.now.id seat.old }
     requires shards { shards ≡ length gate.now.id }
     ensures { OnOk result (IsIdleAt gate.now.id seat.new) }
 {
-    let (step, is_pinned, while_held, afterwards) = row;
     let waiter = Tries::new(1);
-    let pin = made(gate, alloc, seat, *step)?;
-    let found = pin.is_some();
-    let held = counts(gate, &waiter, seat, shards)?;
+    let pin = made(gate, alloc, seat, case.step)?;
+    checks.holds("whether it gets a pin", pin.is_some() == case.is_pinned);
+    checks.part("with the pin");
+    check_counts(checks, counts(gate, &waiter, seat, shards)?, case.held);
     put_back(gate, seat, pin)?;
-    let after = counts(gate, &waiter, seat, shards)?;
-    Ok(found == *is_pinned && held == *while_held && after == *afterwards)
+    checks.part("after the pin");
+    check_counts(checks, counts(gate, &waiter, seat, shards)?, case.after);
+    Ok(())
 }
 
-// How many cases, from the first on, are right.
+// Makes all steps.
 fn walk(
     gate: &OneGate,
     alloc: Global,
+    checks: &mut Checks,
     seat: &mut OneSeat,
-    shards: u32,
-    rows: &[Row],
-) -> Result<usize, Stop>
+    case: &GateCase,
+) -> Result<(), Stop>
     requires idle { IsIdleAt gate.now.id seat.old }
-    requires shards { shards ≡ length gate.now.id }
+    requires shards { case.now.shards ≡ length gate.now.id }
 {
-    for at in 0..rows.len() {
-        if !is_so(gate, alloc, seat, shards, &rows[at])? {
-            return Ok(at);
-        }
+    for at in 0..case.steps.len() {
+        checks.case(case.name);
+        check_step(gate, alloc, checks, seat, case.shards, &case.steps[at])?;
     }
-    Ok(rows.len())
+    Ok(())
 }
 
-// Tiles of 1536 bytes in two shards with shares of 4000: cells 0, 2 and 4 in one, cell 1 in the
-// other.
-static TWO_SHARES: &[Row] = &[
-    (Step::Find(0), false, [0, 0, 0, 8000], [0, 0, 0, 8000]),
-    (Step::Keep(0), true, [1, 1, 0, 8000], [1, 0, 1536, 8000]),
-    (Step::Find(0), true, [1, 1, 0, 8000], [1, 0, 1536, 8000]),
-    (Step::Keep(2), true, [2, 1, 1536, 8000], [2, 0, 3072, 8000]),
-    (Step::Keep(4), true, [3, 1, 3072, 8000], [2, 0, 3072, 8000]),
-    (Step::Find(0), false, [2, 0, 3072, 8000], [2, 0, 3072, 8000]),
-    (Step::Keep(1), true, [3, 1, 3072, 8000], [3, 0, 4608, 8000]),
-    (Step::Keep(1), true, [3, 1, 3072, 8000], [3, 0, 4608, 8000]),
-    (
-        Step::Purge(1, 1),
-        false,
-        [3, 0, 4608, 8000],
-        [3, 0, 4608, 8000],
-    ),
-    (
-        Step::Purge(2, 2),
-        false,
-        [3, 0, 4608, 8000],
-        [3, 0, 4608, 8000],
-    ),
-    (Step::Find(2), true, [3, 1, 3072, 8000], [3, 0, 4608, 8000]),
-    (Step::Purge(1, 2), false, [0, 0, 0, 8000], [0, 0, 0, 8000]),
+// Makes all steps on a new gate.
+fn check_gate(alloc: Global, checks: &mut Checks, case: &GateCase) -> Result<(), Fail> {
+    if case.shards < 1 || case.shards > 64 || case.budget > 20000 {
+        return Err("no such gate".into());
+    }
+    let (gate, mut seat) = OneGate::new(alloc, case.budget, case.shards, 4, CUT)?;
+    walk(&gate, alloc, checks, &mut seat, case)?;
+    Ok(())
+}
+
+static CASES: &[GateCase] = &[
+    // Tiles of 1536 bytes, with shares of 4000: cells 0, 2 and 4 in one shard, cell 1 in the other.
+    GateCase {
+        name: "two shards",
+        budget: 8000,
+        shards: 2,
+        steps: &[
+            StepCase {
+                step: Find(0),
+                is_pinned: false,
+                held: [0, 0, 0, 8000],
+                after: [0, 0, 0, 8000],
+            },
+            StepCase {
+                step: Keep(0),
+                is_pinned: true,
+                held: [1, 1, 0, 8000],
+                after: [1, 0, 1536, 8000],
+            },
+            StepCase {
+                step: Find(0),
+                is_pinned: true,
+                held: [1, 1, 0, 8000],
+                after: [1, 0, 1536, 8000],
+            },
+            StepCase {
+                step: Keep(2),
+                is_pinned: true,
+                held: [2, 1, 1536, 8000],
+                after: [2, 0, 3072, 8000],
+            },
+            StepCase {
+                step: Keep(4),
+                is_pinned: true,
+                held: [3, 1, 3072, 8000],
+                after: [2, 0, 3072, 8000],
+            },
+            StepCase {
+                step: Find(0),
+                is_pinned: false,
+                held: [2, 0, 3072, 8000],
+                after: [2, 0, 3072, 8000],
+            },
+            StepCase {
+                step: Keep(1),
+                is_pinned: true,
+                held: [3, 1, 3072, 8000],
+                after: [3, 0, 4608, 8000],
+            },
+            StepCase {
+                step: Keep(1),
+                is_pinned: true,
+                held: [3, 1, 3072, 8000],
+                after: [3, 0, 4608, 8000],
+            },
+            StepCase {
+                step: Purge(1, 1),
+                is_pinned: false,
+                held: [3, 0, 4608, 8000],
+                after: [3, 0, 4608, 8000],
+            },
+            StepCase {
+                step: Purge(2, 2),
+                is_pinned: false,
+                held: [3, 0, 4608, 8000],
+                after: [3, 0, 4608, 8000],
+            },
+            StepCase {
+                step: Find(2),
+                is_pinned: true,
+                held: [3, 1, 3072, 8000],
+                after: [3, 0, 4608, 8000],
+            },
+            StepCase {
+                step: Purge(1, 2),
+                is_pinned: false,
+                held: [0, 0, 0, 8000],
+                after: [0, 0, 0, 8000],
+            },
+        ],
+    },
+    // With a budget of 0 a tile leaves with its last pin.
+    GateCase {
+        name: "a budget of 0",
+        budget: 0,
+        shards: 1,
+        steps: &[
+            StepCase {
+                step: Keep(0),
+                is_pinned: true,
+                held: [1, 1, 0, 0],
+                after: [0, 0, 0, 0],
+            },
+            StepCase {
+                step: Find(0),
+                is_pinned: false,
+                held: [0, 0, 0, 0],
+                after: [0, 0, 0, 0],
+            },
+            StepCase {
+                step: Keep(0),
+                is_pinned: true,
+                held: [1, 1, 0, 0],
+                after: [0, 0, 0, 0],
+            },
+        ],
+    },
 ];
 
 #[test]
 fn keeps_what_fits_each_share(rt: HostRuntime) -> Result<(), Fail> {
-    let (gate, mut seat) = OneGate::new(rt.alloc(), 8000, 2, 4, CUT)?;
-    let right = walk(&gate, rt.alloc(), &mut seat, 2, TWO_SHARES)?;
-    assert_eq!(rt; right, TWO_SHARES.len(), "the first row that differs");
-    Ok(())
+    let mut checks = Checks::new();
+    for case in CASES {
+        check_gate(rt.alloc(), &mut checks, case)?;
+    }
+    checks.result()
 }
 
-// With a budget of 0 a tile leaves with its last pin.
-static NO_BYTES: &[Row] = &[
-    (Step::Keep(0), true, [1, 1, 0, 0], [0, 0, 0, 0]),
-    (Step::Find(0), false, [0, 0, 0, 0], [0, 0, 0, 0]),
-    (Step::Keep(0), true, [1, 1, 0, 0], [0, 0, 0, 0]),
-];
-
-#[test]
-fn keeps_nothing_unpinned_in_no_bytes(rt: HostRuntime) -> Result<(), Fail> {
-    let (gate, mut seat) = OneGate::new(rt.alloc(), 0, 1, 4, CUT)?;
-    let right = walk(&gate, rt.alloc(), &mut seat, 1, NO_BYTES)?;
-    assert_eq!(rt; right, NO_BYTES.len(), "the first row that differs");
-    Ok(())
-}
-
-// The counts while two seats pin one tile, after one pin was given back, and after both were; and
-// the permits of the seats before and after they are joined.
-fn two_pins(
+// Two seats pin one tile, and give back one pin after the other. The tile stays until both did.
+fn check_two_pins(
     gate: &OneGate,
     alloc: Global,
+    checks: &mut Checks,
     mut own: OneSeat,
-) -> Result<([[u64; 4]; 3], [u32; 3]), Stop>
+) -> Result<(), Stop>
     requires idle { IsIdleAt gate.now.id own }
     requires permits { own.permits ≡ 4 }
     requires shards { length gate.now.id ≡ 1 }
@@ -169,31 +266,45 @@ fn two_pins(
     let Ok(mut other) = gate.split(&mut own) else {
         return Err(Stop::NoMemory);
     };
-    let kept = own.permits();
-    let given = other.permits();
+    checks.equal("permits that are kept", u64::from(own.permits()), 3);
+    checks.equal("permits that are given", u64::from(other.permits()), 1);
     let pin = keep(gate, &waiter, &mut own, gray(alloc, cell(0))?)?;
     let second = keep(gate, &waiter, &mut other, gray(alloc, cell(0))?)?;
-    let both = counts(gate, &waiter, &mut own, 1)?;
-    unpin(gate, &waiter, &mut own, pin)?;
-    let one = counts(gate, &waiter, &mut own, 1)?;
-    unpin(gate, &waiter, &mut other, second)?;
-    gate.join(&mut own, other);
-    let none = counts(gate, &waiter, &mut own, 1)?;
-    Ok(([both, one, none], [kept, given, own.permits()]))
+    checks.part("while both pin it");
+    check_counts(checks, counts(gate, &waiter, &mut own, 1)?, [1, 2, 0, 0]);
+    check_given_back(gate, checks, own, pin, other, second)
 }
 
-// A tile stays until both pins are given back.
+// The seats give back one pin after the other, and are joined.
+fn check_given_back(
+    gate: &OneGate,
+    checks: &mut Checks,
+    mut own: OneSeat,
+    pin: OnePin,
+    mut other: OneSeat,
+    second: OnePin,
+) -> Result<(), Stop>
+    requires own { HoldsAt gate.now.id pin.tile.key own }
+    requires other { HoldsAt gate.now.id second.tile.key other }
+    requires shards { length gate.now.id ≡ 1 }
+{
+    let waiter = Tries::new(1);
+    unpin(gate, &waiter, &mut own, pin)?;
+    checks.part("after one pin came back");
+    check_counts(checks, counts(gate, &waiter, &mut own, 1)?, [1, 1, 0, 0]);
+    unpin(gate, &waiter, &mut other, second)?;
+    gate.join(&mut own, other);
+    checks.part("after both came back");
+    check_counts(checks, counts(gate, &waiter, &mut own, 1)?, [0, 0, 0, 0]);
+    checks.equal("permits of the joined seats", u64::from(own.permits()), 4);
+    Ok(())
+}
+
 #[test]
 fn counts_the_pins_of_two_seats(rt: HostRuntime) -> Result<(), Fail> {
+    let mut checks = Checks::new();
+    checks.case("two seats");
     let (gate, seat) = OneGate::new(rt.alloc(), 0, 1, 4, CUT)?;
-    let (counts, permits) = two_pins(&gate, rt.alloc(), seat)?;
-    let [both, one, none] = counts;
-    assert!(rt; both == [1, 2, 0, 0], "while both pin it");
-    assert!(rt; one == [1, 1, 0, 0], "after one pin came back");
-    assert!(rt; none == [0, 0, 0, 0], "after both did");
-    let [kept, given, joined] = permits;
-    assert_eq!(rt; kept, 3);
-    assert_eq!(rt; given, 1);
-    assert_eq!(rt; joined, 4);
-    Ok(())
+    check_two_pins(&gate, rt.alloc(), &mut checks, seat)?;
+    checks.result()
 }

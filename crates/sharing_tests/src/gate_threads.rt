@@ -1,17 +1,18 @@
 //! Four threads that pin, insert, unpin, purge and count the tiles of one gate.
-ghost use Rattle.std.specs.Prelude.{◌≡◌, ◌≤◌, length, IfOk, OnOk};
+ghost use Rattle.std.specs.Prelude.{◌≡◌, length, IfOk, OnOk};
 ghost use Rattle.std.specs.Thread.{IsSync};
 ghost use Rattle.shard_gate.specs.Gate.{SamePins};
 ghost use Rattle.sharing_tests.specs.Held.{IsIdleAt, HoldsAt};
 
-use crate::gate_calls::{CUT, OneGate, OnePin, OneSeat, Stop, counts, find, keep, unpin};
-use crate::untold::{TILE_BYTES, gray};
+use crate::gate_calls::{
+    CUT, OneGate, OnePin, OneSeat, Stop, TILE_BYTES, counts, find, gray, keep, unpin,
+};
 use std::alloc::Global;
-use std::process::Abort;
 use std::sync::Wait;
 use std::test::Fail;
 use std::thread;
 use std::thread::Threads;
+use test_files::Checks;
 use tile_layout::TileKey;
 use waiter::{Forever, Waiter};
 
@@ -346,75 +347,107 @@ fn four_threads<R: Threads + Wait + Sync>(
     left_by(gate, &Forever::new(rt), work.shards, left?, right?)
 }
 
+// Four threads on a new gate.
+#[derive(Clone, Copy)]
+struct ThreadsCase {
+    name: &'static str,
+    work: Work,
+    budget: u64,
+    // the most tiles that fit the shares
+    most: u64,
+}
+
+// A share of 6666 bytes fits four tiles of 1536 bytes, a share of 10000 six, and a share of 20000
+// thirteen.
+static CASES: &[ThreadsCase] = &[
+    ThreadsCase {
+        name: "three shards",
+        work: Work {
+            rounds: 3000,
+            shards: 3,
+        },
+        budget: 20000,
+        most: 12,
+    },
+    ThreadsCase {
+        name: "one shard",
+        work: Work {
+            rounds: 3000,
+            shards: 1,
+        },
+        budget: 20000,
+        most: 13,
+    },
+    ThreadsCase {
+        name: "no bytes",
+        work: Work {
+            rounds: 3000,
+            shards: 1,
+        },
+        budget: 0,
+        most: 0,
+    },
+    // four threads of 250000 rounds, each of at least two calls
+    ThreadsCase {
+        name: "two million calls",
+        work: Work {
+            rounds: 250000,
+            shards: 2,
+        },
+        budget: 20000,
+        most: 12,
+    },
+];
+
 // Runs four threads on a new gate.
 fn left_in<R: Threads + Wait + Sync>(
     rt: &R,
     alloc: Global,
-    work: Work,
-    budget: u64,
-) -> Result<Left, Stop>
-    requires { (1 ≤ work.shards) × (work.shards ≤ 64) × (budget ≤ 20000) }
-{
-    match OneGate::new(alloc, budget, work.shards, 4, CUT) {
-        Ok((gate, seat)) => four_threads(rt, &gate, alloc, work, seat),
+    case: ThreadsCase,
+) -> Result<Left, Stop> {
+    let (budget, shards) = (case.budget, case.work.shards);
+    if shards < 1 || shards > 64 || budget > 20000 {
+        return Err(Stop::Busy);
+    }
+    match OneGate::new(alloc, budget, shards, 4, CUT) {
+        Ok((gate, seat)) => four_threads(rt, &gate, alloc, case.work, seat),
         Err(_) => Err(Stop::NoMemory),
     }
 }
 
-// Checks that what is left fits, with at most this many tiles.
-fn assert_left(rt: &impl Abort, left: Left, most: u64) {
+// Checks that what is left fits.
+fn check_left(checks: &mut Checks, left: Left, most: u64) {
     let [tiles_held, pins_held, loose_held, _] = left.held;
     let [tiles, pins, loose, _] = left.after;
-    assert!(rt; pins_held == 4, "a pin of each thread");
+    checks.equal("pins, one of each thread", pins_held, 4);
     let bytes_held = loose_held.saturating_add(4 * TILE_BYTES);
-    assert!(rt;
-        tiles_held.saturating_mul(TILE_BYTES) == bytes_held,
-        "bytes with the pins"
+    checks.equal(
+        "bytes with the pins",
+        tiles_held.saturating_mul(TILE_BYTES),
+        bytes_held,
     );
-    assert!(rt; pins == 0, "all pins given back");
-    assert!(rt; left.settled, "no shard has a pin or too much");
-    assert!(rt; tiles.saturating_mul(TILE_BYTES) == loose, "bytes without");
-    assert!(rt; tiles == left.found, "a tile is found by its key");
-    assert!(rt; tiles <= most, "what fits the shares");
-    assert!(rt; left.permits == 4, "one seat has all permits again");
+    checks.equal("pins at the end", pins, 0);
+    checks.holds("no shard has a pin or too much", left.settled);
+    checks.equal("bytes at the end", tiles.saturating_mul(TILE_BYTES), loose);
+    checks.equal("tiles that are found by their keys", left.found, tiles);
+    checks.equal(
+        "tiles above what fits the shares",
+        tiles.saturating_sub(most),
+        0,
+    );
+    checks.equal(
+        "permits of the seat that is left",
+        u64::from(left.permits),
+        4,
+    );
 }
 
-// 3000 rounds per thread, with this many shards.
-fn short(shards: u32) -> Work
-    ensures { result.shards ≡ shards }
-{
-    Work {
-        rounds: 3000,
-        shards,
+#[test]
+fn four_threads_leave_what_fits_the_shares(rt: HostRuntime) -> Result<(), Fail> {
+    let mut checks = Checks::new();
+    for case in CASES {
+        checks.case(case.name);
+        check_left(&mut checks, left_in(&rt, rt.alloc(), *case)?, case.most);
     }
-}
-
-// A share of 6666 bytes fits four tiles of 1536 bytes, and a share of 20000 fits thirteen.
-#[test]
-fn four_threads_leave_what_fits_three_shards(rt: HostRuntime) -> Result<(), Fail> {
-    assert_left(&rt, left_in(&rt, rt.alloc(), short(3), 20000)?, 12);
-    Ok(())
-}
-
-#[test]
-fn four_threads_leave_what_fits_one_shard(rt: HostRuntime) -> Result<(), Fail> {
-    assert_left(&rt, left_in(&rt, rt.alloc(), short(1), 20000)?, 13);
-    Ok(())
-}
-
-#[test]
-fn four_threads_leave_nothing_in_no_bytes(rt: HostRuntime) -> Result<(), Fail> {
-    assert_left(&rt, left_in(&rt, rt.alloc(), short(1), 0)?, 0);
-    Ok(())
-}
-
-// Four threads of 250000 rounds, each of at least two calls.
-#[test]
-fn two_million_calls_leave_what_fits_two_shards(rt: HostRuntime) -> Result<(), Fail> {
-    let work = Work {
-        rounds: 250000,
-        shards: 2,
-    };
-    assert_left(&rt, left_in(&rt, rt.alloc(), work, 20000)?, 12);
-    Ok(())
+    checks.result()
 }

@@ -21,8 +21,6 @@ mod gate_threads;
 #[cfg(test)]
 mod locks;
 #[cfg(test)]
-mod pictures;
-#[cfg(test)]
 mod read_ahead;
 #[cfg(test)]
 mod real_folder;
@@ -41,11 +39,7 @@ mod shared_table;
 #[cfg(test)]
 mod slots;
 #[cfg(test)]
-mod strips;
-#[cfg(test)]
 mod tile_loads;
-#[cfg(test)]
-mod untold;
 #[cfg(test)]
 mod waiters;
 #[cfg(test)]

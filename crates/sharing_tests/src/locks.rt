@@ -1,5 +1,5 @@
 //! A lock around a count, whose tag is the greatest count allowed.
-ghost use Rattle.std.specs.Prelude.{◌≡◌, ◌≤◌};
+ghost use Rattle.std.specs.Prelude.{◌≤◌};
 
 use std::convert::Infallible;
 use std::sync::Wait;
@@ -7,6 +7,7 @@ use std::test::Fail;
 use std::thread;
 use std::thread::Threads;
 use tag_lock::{NotPut, TagLock, TagRule};
+use test_files::Checks;
 use waiter::{Forever, GaveUp, Tries, Waiter};
 
 // the number of times that each of two threads adds one
@@ -49,11 +50,12 @@ fn add_in_two_threads<R: Threads + Wait + Sync>(rt: &R, lock: &CountLock) {
 
 #[test]
 fn counts_what_two_threads_add(rt: HostRuntime) -> Result<(), Fail> {
+    let mut checks = Checks::new();
     let lock = CountLock::new(TOTAL, 0);
     add_in_two_threads(&rt, &lock);
-    assert_eq!(rt; lock.tag(), TOTAL);
-    assert!(rt; lock.into_inner() == Some(TOTAL));
-    Ok(())
+    checks.equal("the tag", lock.tag(), TOTAL);
+    checks.equal("the count", lock.into_inner().unwrap_or(0), TOTAL);
+    checks.result()
 }
 
 // What comes back of a value that is put, after the tries are used up.
@@ -73,13 +75,14 @@ fn put_back(lock: &CountLock, waiter: &Tries, count: u64) -> Option<u64>
 
 #[test]
 fn gives_up_after_a_few_tries(rt: HostRuntime) -> Result<(), Fail> {
+    let mut checks = Checks::new();
     let lock = CountLock::new(9, 7);
     let waiter = Tries::new(3);
-    assert!(rt; lock.take(&waiter) == Ok(7), "at home");
-    assert!(rt; lock.take(&waiter) == Err(GaveUp), "taken");
-    assert!(rt; put_back(&lock, &waiter, 8).is_none(), "by its taker");
-    assert!(rt; put_back(&lock, &waiter, 9) == Some(9), "at home again");
-    assert!(rt; lock.take(&waiter) == Ok(8), "what its taker put");
-    assert!(rt; lock.into_inner().is_none(), "taken and never put back");
-    Ok(())
+    checks.holds("at home", lock.take(&waiter) == Ok(7));
+    checks.holds("taken", lock.take(&waiter) == Err(GaveUp));
+    checks.holds("put by its taker", put_back(&lock, &waiter, 8).is_none());
+    checks.holds("at home again", put_back(&lock, &waiter, 9) == Some(9));
+    checks.holds("what its taker put", lock.take(&waiter) == Ok(8));
+    checks.holds("taken and never put back", lock.into_inner().is_none());
+    checks.result()
 }

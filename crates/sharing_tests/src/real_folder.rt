@@ -2,10 +2,9 @@
 ghost use Rattle.std.specs.Prelude.{ℕ, ◌<◌};
 ghost use Rattle.tex_world.specs.World.{IsFile};
 
-use crate::pictures::THREE;
 use crate::script::Answer::{Again, Bad, Done, Fault, Gone, Is};
 use crate::script::Call::{Forget, Lend, Read, Record, Settle};
-use crate::script::{Counts, Script, Shows, Step, Wrong, text_of};
+use crate::script::{Counts, Script, Shows, Step};
 use crate::seat::Seat;
 use crate::worker::Worker;
 use file_table::Files;
@@ -13,6 +12,7 @@ use host_folder::RealFolder;
 use std::alloc::Global;
 use std::fs;
 use std::test::Fail;
+use test_files::{Checks, THREE};
 use tex_world::{EnterError, Folder, Tap};
 use tiff_format::Cut;
 use waiter::Tries;
@@ -43,38 +43,48 @@ const FAILED: Counts = [0, 1];
 
 /// The calls of a case with their answers and counts, and what happens to the file before the next
 /// case.
-static ROWS: &[(&[Step], Change)] = &[
-    (
-        &[
+struct FolderCase {
+    name: &'static str,
+    steps: &'static [Step],
+    change: Change,
+}
+
+static CASES: &[FolderCase] = &[
+    FolderCase {
+        name: "the first file",
+        steps: &[
             (Record(0, 0), Is(1), NONE),
             (Lend(0, 0), Is(1), NONE),
             (Settle, Done, NONE),
             (Record(0, 0), Is(1), NONE),
         ],
-        Change::Longer,
-    ),
-    (
-        &[
+        change: Change::Longer,
+    },
+    FolderCase {
+        name: "a longer file in its place",
+        steps: &[
             (Record(0, 0), Is(1), NONE),
             (Forget(0), Done, NONE),
             (Lend(0, 0), Again(1, 2), MOVED),
             (Record(0, 0), Is(2), NONE),
             (Lend(0, 0), Is(2), NONE),
         ],
-        Change::Short,
-    ),
-    (
-        &[
+        change: Change::Short,
+    },
+    FolderCase {
+        name: "a file cut in its directory",
+        steps: &[
             (Read(0), Gone(3), MOVED),
             (Lend(0, 0), Again(2, 3), MOVED),
             (Record(0, 0), Bad(3), NONE),
             (Lend(0, 0), Is(3), NONE),
             (Settle, Done, NONE),
         ],
-        Change::Gone,
-    ),
-    (
-        &[
+        change: Change::Gone,
+    },
+    FolderCase {
+        name: "no file",
+        steps: &[
             (Record(0, 0), Bad(3), NONE),
             (Lend(0, 0), Is(3), NONE),
             (Read(0), Fault, FAILED),
@@ -82,8 +92,8 @@ static ROWS: &[(&[Step], Change)] = &[
             (Lend(0, 0), Fault, FAILED),
             (Record(0, 0), Fault, FAILED),
         ],
-        Change::Gone,
-    ),
+        change: Change::Gone,
+    },
 ];
 
 // Makes a tap of the folder at this path.
@@ -110,38 +120,48 @@ fn make(rt: &HostRuntime, change: Change) -> Result<(), Fail> {
     Ok(())
 }
 
-// The first case that goes wrong, and how.
-fn wrong_in<T: Tap + Drop + Shows>(rt: &HostRuntime, tap: T) -> Result<Option<(usize, Wrong)>, Fail>
+// Makes the calls of all cases, and changes the file between them.
+fn check_changes<T: Tap + Drop + Shows>(
+    rt: &HostRuntime,
+    checks: &mut Checks,
+    script: &mut Script<'_, T>,
+) -> Result<(), Fail>
     requires { (file : ℕ) → file < 3 → IsFile T.W.files file }
 {
-    let alloc = rt.alloc();
-    let mut taps = Vec::new(alloc);
+    for case in CASES {
+        checks.case(case.name);
+        script.check(checks, case.steps);
+        make(rt, case.change)?;
+    }
+    Ok(())
+}
+
+// Checks all cases on a new table with this tap alone.
+fn check_cases<T: Tap + Drop + Shows>(
+    rt: &HostRuntime,
+    checks: &mut Checks,
+    tap: T,
+) -> Result<(), Fail>
+    requires { (file : ℕ) → file < 3 → IsFile T.W.files file }
+{
+    let mut taps = Vec::new(rt.alloc());
     taps.push(tap)?;
-    let (files, view) = Files::new(alloc, 1, 4, CUT)?;
+    let (files, view) = Files::new(rt.alloc(), 1, 4, CUT)?;
     let seat = Seat {
         files: &files,
         view,
     };
-    let mut script = Script::new(alloc, seat, taps);
-    for (row, (steps, change)) in ROWS.iter().enumerate() {
-        if let Some(wrong) = script.first_wrong(steps) {
-            return Ok(Some((row, wrong)));
-        }
-        make(rt, *change)?;
-    }
-    Ok(None)
+    check_changes(rt, checks, &mut Script::new(rt.alloc(), seat, taps))
 }
 
 #[test]
 fn files_change_between_two_calls(rt: HostRuntime) -> Result<(), Fail> {
+    let mut checks = Checks::new();
     fs::create_dir(&rt, "changing")?;
     fs::write(&rt, "changing/a.tif", &THREE)?;
     let tap = tap_of(RealFolder::new(&rt), rt.alloc(), "changing")?;
-    if let Some((row, wrong)) = wrong_in(&rt, tap)? {
-        let text = text_of(rt.alloc(), Some(wrong))?;
-        assert_eq!(rt; text.as_str(), "", "row {row}");
-    }
-    Ok(())
+    check_cases(&rt, &mut checks, tap)?;
+    checks.result()
 }
 
 // A path that ends in a number.
@@ -175,34 +195,38 @@ fn write_files(rt: &HostRuntime, alloc: Global, folder: &str, count: u32) -> Res
 struct Visited {
     well: u32,
     idle: usize,
-    // The descriptors that are open with the table, and after it has ended.
+    // the descriptors that are open with the table
     opened: usize,
-    left: usize,
 }
 
+// Visits all files of a table.
+fn visit_files<T: Tap + Drop>(
+    rt: &HostRuntime,
+    worker: &mut Worker<'_, T>,
+    count: u32,
+) -> Result<Visited, Fail>
+    requires { (file : ℕ) → file < count → IsFile T.W.files file }
+{
+    let waiter = Tries::new(9);
+    let well = worker.work(&waiter, count, 25);
+    let Ok(idle) = worker.files.idle(&waiter) else {
+        return Err("busy".into());
+    };
+    let opened = open_descriptors(rt)?;
+    Ok(Visited { well, idle, opened })
+}
+
+// Visits all files of a new table, which is gone afterwards.
 fn visit_all<T: Tap + Drop>(rt: &HostRuntime, tap: T, count: u32) -> Result<Visited, Fail>
     requires { (file : ℕ) → file < count → IsFile T.W.files file }
 {
-    let before = open_descriptors(rt)?;
-    let waiter = Tries::new(9);
     let (files, view) = Files::new(rt.alloc(), count, 10, CUT)?;
     let mut worker = Worker {
         files: &files,
         view,
         tap,
     };
-    let well = worker.work(&waiter, count, 25);
-    let idle = files.idle(&waiter).map_err(|_busy| "busy")?;
-    let opened = open_descriptors(rt)?.saturating_sub(before);
-    drop(worker);
-    drop(files);
-    let left = open_descriptors(rt)?.saturating_sub(before);
-    Ok(Visited {
-        well,
-        idle,
-        opened,
-        left,
-    })
+    visit_files(rt, &mut worker, count)
 }
 
 #[test]
@@ -210,22 +234,33 @@ fn no_descriptor_stays_open(rt: HostRuntime) -> Result<(), Fail> {
     fs::create_dir(&rt, "many")?;
     write_files(&rt, rt.alloc(), "many/", 200)?;
     let tap = tap_of(RealFolder::new(&rt), rt.alloc(), "many")?;
+    let before = open_descriptors(&rt)?;
     let visited = visit_all(&rt, tap, 200)?;
-    assert_eq!(rt; visited.well, 5000, "visits");
-    assert_eq!(rt; visited.idle, 10, "handles that lie idle");
-    assert_eq!(rt; visited.opened, 10, "descriptors with the table");
-    assert_eq!(rt; visited.left, 0, "descriptors after its end");
-    Ok(())
+    let left = open_descriptors(&rt)?.saturating_sub(before);
+    let mut checks = Checks::new();
+    checks.equal("visits", u64::from(visited.well), 5000);
+    checks.equal("handles that lie idle", visited.idle as u64, 10);
+    checks.equal(
+        "descriptors with the table",
+        visited.opened.saturating_sub(before) as u64,
+        10,
+    );
+    checks.equal("descriptors after its end", left as u64, 0);
+    checks.result()
 }
 
 #[test]
 fn a_folder_has_4096_files_at_most(rt: HostRuntime) -> Result<(), Fail> {
     fs::create_dir(&rt, "full")?;
     write_files(&rt, rt.alloc(), "full/", 4096)?;
+    let mut checks = Checks::new();
     let entered = RealFolder::new(&rt).enter(rt.alloc(), "full");
-    assert_eq!(rt; entered, Ok(()), "4096 files");
+    checks.holds("4096 files are entered", entered == Ok(()));
     fs::write(&rt, "full/further", &THREE)?;
     let entered = RealFolder::new(&rt).enter(rt.alloc(), "full");
-    assert_eq!(rt; entered, Err(EnterError::TooMany), "4097 files");
-    Ok(())
+    checks.holds(
+        "4097 files are too many",
+        entered == Err(EnterError::TooMany),
+    );
+    checks.result()
 }

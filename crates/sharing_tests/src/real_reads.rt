@@ -9,6 +9,7 @@ use std::fs::{File, Files, Metadata, OpenOptions};
 use std::test::Fail;
 use std::time::{Duration, SystemTime};
 use std::{fs, io};
+use test_files::Checks;
 use tex_world::{Folder, ReadError, Tap, TapHandle};
 
 /// The file system. One of its files is rewritten right after a freshness check.
@@ -72,7 +73,7 @@ impl Files for Changing<'_> {
 }
 
 /// The rows that are read into four bytes.
-#[derive(Clone, Copy, Debug)]
+#[derive(Clone, Copy)]
 enum Rows {
     /// One row, by `read_at`.
     One,
@@ -82,19 +83,71 @@ enum Rows {
     Apart,
 }
 
+impl Rows {
+    fn word(self) -> &'static str {
+        match self {
+            Rows::One => "one row",
+            Rows::Joined => "two rows in one",
+            Rows::Apart => "two rows apart",
+        }
+    }
+}
+
 /// What is read, after how many freshness checks the file changes, and what the read gives.
-static READS: &[(Rows, u32, Result<&'static str, ReadError>)] = &[
-    (Rows::One, 0, Ok("3456")),
-    (Rows::Joined, 0, Ok("3456")),
-    (Rows::Apart, 0, Ok("3478")),
+struct ReadCase {
+    rows: Rows,
+    after: u32,
+    given: Result<&'static str, ReadError>,
+}
+
+static READS: &[ReadCase] = &[
+    ReadCase {
+        rows: Rows::One,
+        after: 0,
+        given: Ok("3456"),
+    },
+    ReadCase {
+        rows: Rows::Joined,
+        after: 0,
+        given: Ok("3456"),
+    },
+    ReadCase {
+        rows: Rows::Apart,
+        after: 0,
+        given: Ok("3478"),
+    },
     // changed between the first check and the bytes: the second check notices
-    (Rows::One, 1, Err(ReadError::Gone(2))),
-    (Rows::Joined, 1, Err(ReadError::Gone(2))),
-    (Rows::Apart, 1, Err(ReadError::Gone(2))),
+    ReadCase {
+        rows: Rows::One,
+        after: 1,
+        given: Err(ReadError::Gone(2)),
+    },
+    ReadCase {
+        rows: Rows::Joined,
+        after: 1,
+        given: Err(ReadError::Gone(2)),
+    },
+    ReadCase {
+        rows: Rows::Apart,
+        after: 1,
+        given: Err(ReadError::Gone(2)),
+    },
     // changed after the second check: the bytes were read before it
-    (Rows::One, 2, Ok("3456")),
-    (Rows::Joined, 2, Ok("3456")),
-    (Rows::Apart, 2, Ok("3478")),
+    ReadCase {
+        rows: Rows::One,
+        after: 2,
+        given: Ok("3456"),
+    },
+    ReadCase {
+        rows: Rows::Joined,
+        after: 2,
+        given: Ok("3456"),
+    },
+    ReadCase {
+        rows: Rows::Apart,
+        after: 2,
+        given: Ok("3478"),
+    },
 ];
 
 /// Reads four bytes.
@@ -138,43 +191,102 @@ fn tap_of<F: Folder + Drop>(mut folder: F, alloc: Global, path: &str) -> Result<
     }
 }
 
-#[test]
-fn a_read_checks_before_and_after_its_bytes(rt: HostRuntime) -> Result<(), Fail> {
-    fs::create_dir(&rt, "during")?;
-    let alloc = rt.alloc();
-    let left = Cell::new(0);
-    for (row, (rows, after, wanted)) in READS.iter().enumerate() {
-        fs::write(&rt, "during/a.tif", "0123456789")?;
-        left.set(0);
-        let system = Changing {
-            rt: &rt,
-            left: &left,
-        };
-        let mut tap = tap_of(RealFolder::new((system, alloc)), alloc, "during")?;
-        let given = read_anew(alloc, &mut tap, &left, *rows, *after)?;
-        let right = match (&given, wanted) {
-            (Ok(bytes), Ok(text)) => bytes.as_slice() == text.as_bytes(),
-            (Err(found), Err(error)) => found == error,
-            _ => false,
-        };
-        assert!(rt; right, "row {row}: {given:?}");
+/// Compares what a read gives.
+fn check_read<T: Tap + Drop>(
+    alloc: Global,
+    checks: &mut Checks,
+    mut tap: T,
+    left: &Cell<u32>,
+    case: &ReadCase,
+) -> Result<(), Fail>
+    requires { IsFile T.W.files 0 }
+{
+    match (
+        read_anew(alloc, &mut tap, left, case.rows, case.after)?,
+        case.given,
+    ) {
+        (Ok(bytes), Ok(text)) => checks.holds("the bytes", bytes.as_slice() == text.as_bytes()),
+        (Ok(_), Err(_)) => checks.word("the read", "bytes", "an error"),
+        (Err(ReadError::Gone(to)), given) => {
+            checks.holds(
+                "a read that meets a newer generation",
+                given == Err(ReadError::Gone(to)),
+            );
+        }
+        (Err(ReadError::Failed), _) => checks.word("the read", "failed", "bytes or a generation"),
     }
     Ok(())
 }
 
+#[test]
+fn a_read_checks_before_and_after_its_bytes(rt: HostRuntime) -> Result<(), Fail> {
+    fs::create_dir(&rt, "during")?;
+    let mut checks = Checks::new();
+    for case in READS {
+        checks.case(case.rows.word());
+        fs::write(&rt, "during/a.tif", "0123456789")?;
+        let left = Cell::new(0);
+        let system = Changing {
+            rt: &rt,
+            left: &left,
+        };
+        let tap = tap_of(RealFolder::new((system, rt.alloc())), rt.alloc(), "during")?;
+        check_read(rt.alloc(), &mut checks, tap, &left, case)?;
+    }
+    checks.result()
+}
+
 /// The length of a file and the nanoseconds of its time of change, and its generation then. All
 /// times lie in one second.
-static STAMPS: &[(usize, u32, u32)] = &[
-    (9, 500, 1),
-    (9, 500, 1),
+struct StampCase {
+    len: usize,
+    nanos: u32,
+    generation: u32,
+}
+
+static STAMPS: &[StampCase] = &[
+    StampCase {
+        len: 9,
+        nanos: 500,
+        generation: 1,
+    },
+    StampCase {
+        len: 9,
+        nanos: 500,
+        generation: 1,
+    },
     // one nanosecond later or earlier
-    (9, 501, 2),
-    (9, 500, 3),
-    (9, 499, 4),
+    StampCase {
+        len: 9,
+        nanos: 501,
+        generation: 2,
+    },
+    StampCase {
+        len: 9,
+        nanos: 500,
+        generation: 3,
+    },
+    StampCase {
+        len: 9,
+        nanos: 499,
+        generation: 4,
+    },
     // another length at the same time
-    (8, 499, 5),
-    (8, 499, 5),
-    (9, 499, 6),
+    StampCase {
+        len: 8,
+        nanos: 499,
+        generation: 5,
+    },
+    StampCase {
+        len: 8,
+        nanos: 499,
+        generation: 5,
+    },
+    StampCase {
+        len: 9,
+        nanos: 499,
+        generation: 6,
+    },
 ];
 
 /// Writes a file with this length and this time of change.
@@ -202,29 +314,38 @@ fn stamped<T: Tap>(tap: &mut T, handle: &mut T::Handle) -> (u32, u32)
     (read, tap.newest(0, 0).unwrap_or(0))
 }
 
-/// The first case with other generations, and those.
-fn wrong_stamp<T: Tap + Drop>(
+/// Compares the generations after each change.
+fn check_stamps<T: Tap + Drop>(
     rt: &HostRuntime,
+    checks: &mut Checks,
     mut tap: T,
     path: &str,
-) -> Result<Option<(usize, (u32, u32))>, Fail>
+) -> Result<(), Fail>
     requires { IsFile T.W.files 0 }
 {
     let Ok(mut handle) = tap.open(rt.alloc(), 0, 0) else {
         return Err("not opened".into());
     };
-    for (row, (len, nanos, generation)) in STAMPS.iter().enumerate() {
-        write_stamped(rt, path, *len, *nanos)?;
-        let found = stamped(&mut tap, &mut handle);
-        if found != (*generation, *generation) {
-            return Ok(Some((row, found)));
-        }
+    for case in STAMPS {
+        checks.case("a stamp");
+        write_stamped(rt, path, case.len, case.nanos)?;
+        let (read, newest) = stamped(&mut tap, &mut handle);
+        checks.equal(
+            "the generation of a read",
+            u64::from(read),
+            u64::from(case.generation),
+        );
+        checks.equal(
+            "the newest generation",
+            u64::from(newest),
+            u64::from(case.generation),
+        );
         handle = match tap.open(rt.alloc(), 0, 0) {
             Ok(handle) => handle,
             Err(_) => return Err("not opened again".into()),
         };
     }
-    Ok(None)
+    Ok(())
 }
 
 #[test]
@@ -232,7 +353,7 @@ fn a_stamp_has_length_and_nanoseconds(rt: HostRuntime) -> Result<(), Fail> {
     fs::create_dir(&rt, "stamped")?;
     write_stamped(&rt, "stamped/a.tif", 9, 500)?;
     let tap = tap_of(RealFolder::new(&rt), rt.alloc(), "stamped")?;
-    let wrong = wrong_stamp(&rt, tap, "stamped/a.tif")?;
-    assert!(rt; wrong.is_none(), "{wrong:?}");
-    Ok(())
+    let mut checks = Checks::new();
+    check_stamps(&rt, &mut checks, tap, "stamped/a.tif")?;
+    checks.result()
 }

@@ -8,6 +8,7 @@ use std::sync::atomic::{AtomicU64, Ordering};
 use std::test::Fail;
 use std::thread::Threads;
 use std::{fs, thread};
+use test_files::Checks;
 use tex_world::{Folder, Tap};
 
 /// What happens to the file before a tap is asked.
@@ -22,22 +23,84 @@ enum Change {
 
 // What happens to the file, which tap is then asked for its newest generation, and what it answers;
 // 0 if it fails.
-static ROWS: &[(Change, usize, u32)] = &[
-    (Change::Stays, 0, 1),
-    (Change::Stays, 1, 1),
+struct NewestCase {
+    change: Change,
+    tap: usize,
+    generation: u32,
+}
+
+static CASES: &[NewestCase] = &[
+    NewestCase {
+        change: Change::Stays,
+        tap: 0,
+        generation: 1,
+    },
+    NewestCase {
+        change: Change::Stays,
+        tap: 1,
+        generation: 1,
+    },
     // the second tap sees the change, and the first does not count it again
-    (Change::Written("second"), 1, 2),
-    (Change::Stays, 0, 2),
-    (Change::Stays, 1, 2),
-    (Change::Replaced("the third"), 0, 3),
-    (Change::Stays, 1, 3),
-    (Change::Written("of four"), 0, 4),
-    (Change::Written("the fourth"), 1, 5),
-    (Change::Stays, 0, 5),
-    (Change::Removed, 0, 0),
-    (Change::Stays, 1, 0),
-    (Change::Written("the fifth one"), 1, 6),
-    (Change::Stays, 0, 6),
+    NewestCase {
+        change: Change::Written("second"),
+        tap: 1,
+        generation: 2,
+    },
+    NewestCase {
+        change: Change::Stays,
+        tap: 0,
+        generation: 2,
+    },
+    NewestCase {
+        change: Change::Stays,
+        tap: 1,
+        generation: 2,
+    },
+    NewestCase {
+        change: Change::Replaced("the third"),
+        tap: 0,
+        generation: 3,
+    },
+    NewestCase {
+        change: Change::Stays,
+        tap: 1,
+        generation: 3,
+    },
+    NewestCase {
+        change: Change::Written("of four"),
+        tap: 0,
+        generation: 4,
+    },
+    NewestCase {
+        change: Change::Written("the fourth"),
+        tap: 1,
+        generation: 5,
+    },
+    NewestCase {
+        change: Change::Stays,
+        tap: 0,
+        generation: 5,
+    },
+    NewestCase {
+        change: Change::Removed,
+        tap: 0,
+        generation: 0,
+    },
+    NewestCase {
+        change: Change::Stays,
+        tap: 1,
+        generation: 0,
+    },
+    NewestCase {
+        change: Change::Written("the fifth one"),
+        tap: 1,
+        generation: 6,
+    },
+    NewestCase {
+        change: Change::Stays,
+        tap: 0,
+        generation: 6,
+    },
 ];
 
 fn make(rt: &HostRuntime, change: Change) -> Result<(), Fail> {
@@ -63,24 +126,27 @@ fn newest<T: Tap>(tap: &mut T, file: u32) -> u32
     }
 }
 
-// The first case with another answer, and that answer.
-fn wrong_row<T: Tap>(rt: &HostRuntime, mut taps: (T, T)) -> Result<Option<(usize, u32)>, Fail>
+// Makes each change, and asks a tap.
+fn check_newest<T: Tap>(rt: &HostRuntime, checks: &mut Checks, mut taps: (T, T)) -> Result<(), Fail>
 where
     T: Drop,
     requires { IsFile T.W.files 0 }
 {
-    for (row, (change, tap, wanted)) in ROWS.iter().enumerate() {
-        make(rt, *change)?;
-        let answer = if *tap == 0 {
+    for case in CASES {
+        checks.case("a change and a question");
+        make(rt, case.change)?;
+        let answer = if case.tap == 0 {
             newest(&mut taps.0, 0)
         } else {
             newest(&mut taps.1, 0)
         };
-        if answer != *wanted {
-            return Ok(Some((row, answer)));
-        }
+        checks.equal(
+            "the generation",
+            u64::from(answer),
+            u64::from(case.generation),
+        );
     }
-    Ok(None)
+    Ok(())
 }
 
 // Makes two taps of the folder at this path.
@@ -107,73 +173,231 @@ fn taps_of_a_folder_see_one_generation(rt: HostRuntime) -> Result<(), Fail> {
     fs::create_dir(&rt, "twice")?;
     fs::write(&rt, "twice/a.tif", "first")?;
     let taps = taps_of(RealFolder::new(&rt), rt.alloc(), "twice")?;
-    let wrong = wrong_row(&rt, taps)?;
-    assert!(rt; wrong.is_none(), "{wrong:?}");
-    Ok(())
+    let mut checks = Checks::new();
+    check_newest(&rt, &mut checks, taps)?;
+    checks.result()
 }
 
 /// One more than the greatest stamp: a word has the stamp in its lowest 44 bits.
 const STAMPS: u64 = 1 << 44;
 
-// A word with a generation and a stamp.
-fn word(generation: u64, stamp: u64) -> u64 {
-    generation.wrapping_mul(STAMPS).wrapping_add(stamp)
+// What a shared word holds.
+#[derive(Clone, Copy)]
+struct Word {
+    generation: u64,
+    stamp: u64,
 }
 
-// What another tap does to a word during a freshness check: the generation and stamp that were
-// read, those found at the exchange, the stamp of the file, and the resulting generation; 0 if the
-// call fails.
-static EXCHANGES: &[((u64, u64), (u64, u64), u64, u32)] = &[
+impl Word {
+    fn packed(self) -> u64 {
+        self.generation
+            .wrapping_mul(STAMPS)
+            .wrapping_add(self.stamp)
+    }
+}
+
+// What another tap does to a word during a freshness check: the word that was read, the one found at
+// the exchange, the stamp of the file, and the resulting generation; 0 if the call fails.
+struct Exchange {
+    loaded: Word,
+    found: Word,
+    stamp: u64,
+    generation: u64,
+}
+
+static EXCHANGES: &[Exchange] = &[
     // the stamp is unchanged
-    ((3, 7), (3, 7), 7, 3),
+    Exchange {
+        loaded: Word {
+            generation: 3,
+            stamp: 7,
+        },
+        found: Word {
+            generation: 3,
+            stamp: 7,
+        },
+        stamp: 7,
+        generation: 3,
+    },
     // this tap exchanges the word first
-    ((0, 0), (0, 0), 5, 1),
-    ((0, 0), (0, 0), 0, 1),
-    ((3, 7), (3, 7), 8, 4),
-    ((1048574, 7), (1048574, 7), 8, 1048575),
-    ((1048575, 7), (1048575, 7), 8, 0),
+    Exchange {
+        loaded: Word {
+            generation: 0,
+            stamp: 0,
+        },
+        found: Word {
+            generation: 0,
+            stamp: 0,
+        },
+        stamp: 5,
+        generation: 1,
+    },
+    Exchange {
+        loaded: Word {
+            generation: 0,
+            stamp: 0,
+        },
+        found: Word {
+            generation: 0,
+            stamp: 0,
+        },
+        stamp: 0,
+        generation: 1,
+    },
+    Exchange {
+        loaded: Word {
+            generation: 3,
+            stamp: 7,
+        },
+        found: Word {
+            generation: 3,
+            stamp: 7,
+        },
+        stamp: 8,
+        generation: 4,
+    },
+    Exchange {
+        loaded: Word {
+            generation: 1048574,
+            stamp: 7,
+        },
+        found: Word {
+            generation: 1048574,
+            stamp: 7,
+        },
+        stamp: 8,
+        generation: 1048575,
+    },
+    Exchange {
+        loaded: Word {
+            generation: 1048575,
+            stamp: 7,
+        },
+        found: Word {
+            generation: 1048575,
+            stamp: 7,
+        },
+        stamp: 8,
+        generation: 0,
+    },
     // another tap was first, with the same stamp
-    ((3, 7), (4, 8), 8, 4),
-    ((3, 7), (9, 8), 8, 9),
-    ((0, 0), (1, 0), 0, 1),
-    ((1048574, 7), (1048575, 8), 8, 1048575),
+    Exchange {
+        loaded: Word {
+            generation: 3,
+            stamp: 7,
+        },
+        found: Word {
+            generation: 4,
+            stamp: 8,
+        },
+        stamp: 8,
+        generation: 4,
+    },
+    Exchange {
+        loaded: Word {
+            generation: 3,
+            stamp: 7,
+        },
+        found: Word {
+            generation: 9,
+            stamp: 8,
+        },
+        stamp: 8,
+        generation: 9,
+    },
+    Exchange {
+        loaded: Word {
+            generation: 0,
+            stamp: 0,
+        },
+        found: Word {
+            generation: 1,
+            stamp: 0,
+        },
+        stamp: 0,
+        generation: 1,
+    },
+    Exchange {
+        loaded: Word {
+            generation: 1048574,
+            stamp: 7,
+        },
+        found: Word {
+            generation: 1048575,
+            stamp: 8,
+        },
+        stamp: 8,
+        generation: 1048575,
+    },
     // another tap was first, with another stamp
-    ((3, 7), (4, 9), 8, 0),
-    ((0, 0), (1, 6), 5, 0),
-    ((3, 7), (5, 7), 8, 0),
+    Exchange {
+        loaded: Word {
+            generation: 3,
+            stamp: 7,
+        },
+        found: Word {
+            generation: 4,
+            stamp: 9,
+        },
+        stamp: 8,
+        generation: 0,
+    },
+    Exchange {
+        loaded: Word {
+            generation: 0,
+            stamp: 0,
+        },
+        found: Word {
+            generation: 1,
+            stamp: 6,
+        },
+        stamp: 5,
+        generation: 0,
+    },
+    Exchange {
+        loaded: Word {
+            generation: 3,
+            stamp: 7,
+        },
+        found: Word {
+            generation: 5,
+            stamp: 7,
+        },
+        stamp: 8,
+        generation: 0,
+    },
 ];
 
-#[test]
-fn what_follows_an_exchange(rt: HostRuntime) -> Result<(), Fail> {
-    for (row, (loaded, found, stamp, wanted)) in EXCHANGES.iter().enumerate() {
-        let (loaded, found) = (word(loaded.0, loaded.1), word(found.0, found.1));
-        let answer = generation_after(loaded, found, *stamp % STAMPS).unwrap_or(0);
-        assert!(rt; answer == *wanted, "row {row}: {answer}");
-    }
-    Ok(())
+// An exchange that is lost leaves the other tap's word and does not count as won.
+fn check_exchange(checks: &mut Checks, case: &Exchange) {
+    let (loaded, found) = (case.loaded.packed(), case.found.packed());
+    let stamp = case.stamp % STAMPS;
+    let after = generation_after(loaded, found, stamp).unwrap_or(0);
+    checks.equal("the generation", u64::from(after), case.generation);
+    let shared = AtomicU64::new(found);
+    let settled = settle_word(&shared, loaded, stamp).unwrap_or(0);
+    checks.equal(
+        "the generation after an exchange",
+        u64::from(settled),
+        case.generation,
+    );
+    let own = Word {
+        generation: case.generation,
+        stamp,
+    };
+    let is_won = loaded == found && case.generation != 0;
+    let left = if is_won { own.packed() } else { found };
+    checks.equal("the word that is left", shared.load(Ordering::SeqCst), left);
 }
 
-// The same cases with a shared word, which has changed since it was read if another tap was first. An
-// exchange that is lost leaves the other tap's word and does not count as won.
 #[test]
 fn an_exchange_is_won_or_lost(rt: HostRuntime) -> Result<(), Fail> {
-    for (row, (loaded, found, stamp, wanted)) in EXCHANGES.iter().enumerate() {
-        let is_won = loaded == found && *wanted != 0;
-        let (loaded, found) = (word(loaded.0, loaded.1), word(found.0, found.1));
-        let shared = AtomicU64::new(found);
-        let answer = settle_word(&shared, loaded, *stamp % STAMPS).unwrap_or(0);
-        assert!(rt; answer == *wanted, "row {row}: {answer}");
-        let left = if is_won {
-            word(u64::from(*wanted), *stamp)
-        } else {
-            found
-        };
-        assert!(rt;
-            shared.load(Ordering::SeqCst) == left,
-            "row {row}: the word"
-        );
+    let mut checks = Checks::new();
+    for case in EXCHANGES {
+        checks.case("an exchange");
+        check_exchange(&mut checks, case);
     }
-    Ok(())
+    checks.result()
 }
 
 /// The number of files that two threads ask for at once, both in the same order.
@@ -223,26 +447,34 @@ where
     )
 }
 
-// The counts for each generation that the files get.
-fn raced<T: Tap + Send + Drop>(
+// Compares the counts for each generation that the files get.
+fn check_race<T: Tap + Send + Drop>(
     rt: &HostRuntime,
     threads: &impl Threads,
+    checks: &mut Checks,
     mut taps: (T, T),
-    files: u32,
-) -> Result<Option<(usize, (u32, u32))>, Fail>
+) -> Result<(), Fail>
 where
     T::Handle: Send,
     T::W: Send,
-    requires { (file : ℕ) → file < files → IsFile T.W.files file }
+    requires { (file : ℕ) → file < 300 → IsFile T.W.files file }
 {
     for generation in 1..5u32 {
-        write_all(rt, files, generation as usize)?;
-        let counts = counts_of(threads, &mut taps, files, generation);
-        if counts != (files, files) {
-            return Ok(Some((generation as usize, counts)));
-        }
+        checks.case("a generation of all files");
+        write_all(rt, FILES, generation as usize)?;
+        let counts = counts_of(threads, &mut taps, FILES, generation);
+        checks.equal(
+            "files that one tap sees",
+            u64::from(counts.0),
+            u64::from(FILES),
+        );
+        checks.equal(
+            "files that the other sees",
+            u64::from(counts.1),
+            u64::from(FILES),
+        );
     }
-    Ok(None)
+    Ok(())
 }
 
 // Each file has the next generation for both taps, whichever of them saw it first.
@@ -251,7 +483,7 @@ fn an_exchange_that_is_lost_gives_the_same_generation(rt: HostRuntime) -> Result
     fs::create_dir(&rt, "raced")?;
     write_all(&rt, FILES, 9)?;
     let taps = taps_of(RealFolder::new(&rt), rt.alloc(), "raced")?;
-    let wrong = raced(&rt, &rt, taps, FILES)?;
-    assert!(rt; wrong.is_none(), "{wrong:?}");
-    Ok(())
+    let mut checks = Checks::new();
+    check_race(&rt, &rt, &mut checks, taps)?;
+    checks.result()
 }

@@ -7,8 +7,8 @@ use file_table::{FileError, Record};
 use host_folder::RealTap;
 use std::alloc::Global;
 use std::sync::Arc;
-use std::test::Fail;
 use tap_reader::OpenFile;
+use test_files::Checks;
 use tex_world::{FileTable, MemTap, ReadError, Tap, TapHandle};
 use waiter::{GaveUp, Tries};
 
@@ -56,7 +56,7 @@ pub(crate) enum Call {
 }
 
 /// What a call answers.
-#[derive(Clone, Copy, Debug, PartialEq, Eq)]
+#[derive(Clone, Copy)]
 pub(crate) enum Answer {
     /// The generation of a valid record or of a handle, or a number.
     Is(u32),
@@ -72,24 +72,35 @@ pub(crate) enum Answer {
     Nothing,
 }
 
-/// A call, its answer, and how much each count of its tap rises.
-pub(crate) type Step = (Call, Answer, Counts);
+impl Answer {
+    fn word(self) -> &'static str {
+        match self {
+            Answer::Is(_) => "Is",
+            Answer::Bad(_) => "Bad",
+            Answer::Done => "Done",
+            Answer::Fault => "Fault",
+            Answer::Again(_, _) => "Again",
+            Answer::Gone(_) => "Gone",
+            Answer::NoMemory => "NoMemory",
+            Answer::Busy => "Busy",
+            Answer::Nothing => "Nothing",
+        }
+    }
 
-/// A step whose call gave another answer than expected.
-#[derive(Clone, Copy, Debug)]
-pub(crate) struct Wrong {
-    step: usize,
-    answer: Answer,
-    rises: Counts,
-}
-
-/// A text of what was wrong; empty if nothing was.
-pub(crate) fn text_of(alloc: Global, wrong: Option<Wrong>) -> Result<String, Fail> {
-    match wrong {
-        Some(wrong) => Ok(format!(in alloc; "{wrong:?}")?),
-        None => Ok(String::new(alloc)),
+    /// The number in the answer; of two, 1000 times the first and the second.
+    fn number(self) -> u64 {
+        match self {
+            Answer::Is(number) => u64::from(number),
+            Answer::Bad(generation) => u64::from(generation),
+            Answer::Again(from, to) => u64::from(from) * 1000 + u64::from(to),
+            Answer::Gone(to) => u64::from(to),
+            _ => 0,
+        }
     }
 }
+
+/// A call, its answer, and how much each count of its tap rises.
+pub(crate) type Step = (Call, Answer, Counts);
 
 /// A table with a view, some taps, the first and the latest record, and the lent handles.
 #[derive(Drop)]
@@ -124,14 +135,6 @@ fn tap_of(call: Call) -> usize {
     }
 }
 
-// How much each count rose.
-fn rises(before: Counts, after: Counts) -> Counts {
-    [
-        after[0].saturating_sub(before[0]),
-        after[1].saturating_sub(before[1]),
-    ]
-}
-
 fn why_refused(error: FileError<GaveUp>) -> Answer {
     match error {
         FileError::ReadFault => Answer::Fault,
@@ -147,24 +150,23 @@ fn one_of<'x, X>(first: &'x Option<X>, latest: &'x Option<X>, is_first: bool) ->
 }
 
 impl<T: Tap + Drop + Shows> Script<'_, T> {
-    /// Makes the calls until one gives another answer than expected.
-    pub(crate) fn first_wrong(&mut self, steps: &[Step]) -> Option<Wrong>
+    /// Makes the calls, each as a part of the case.
+    pub(crate) fn check(&mut self, checks: &mut Checks, steps: &[Step])
         requires { (file : ℕ) → file < 3 → IsFile T.W.files file }
     {
-        for (step, (call, wanted, rise)) in steps.iter().enumerate() {
+        for (call, wanted, rises) in steps {
             let tap = tap_of(*call);
             let before = self.shown(tap);
             let answer = self.answer(*call);
-            let rises = rises(before, self.shown(tap));
-            if answer != *wanted || rises != *rise {
-                return Some(Wrong {
-                    step,
-                    answer,
-                    rises,
-                });
-            }
+            let after = self.shown(tap);
+            checks.part("a call");
+            checks.word("the answer", answer.word(), wanted.word());
+            checks.equal("the answer's number", answer.number(), wanted.number());
+            let rose = after[0].saturating_sub(before[0]);
+            checks.equal("the first count's rise", rose, rises[0]);
+            let rose = after[1].saturating_sub(before[1]);
+            checks.equal("the second count's rise", rose, rises[1]);
         }
-        None
     }
 
     /// Makes a call.

@@ -1,5 +1,5 @@
 //! One caller of a file table.
-ghost use Rattle.std.specs.Prelude.{◌≡◌, ℕ, ◌<◌};
+ghost use Rattle.std.specs.Prelude.{◌≡◌, ◌<◌};
 ghost use Rattle.tex_world.specs.World.{IsFile};
 
 use file_table::{FileError, Files, Record};

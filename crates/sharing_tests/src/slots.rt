@@ -1,18 +1,19 @@
 //! Texels in slots: call by call over files in memory, and with two threads on the same slots.
 ghost use Rattle.std.specs.Prelude.{◌≡◌, ◌/◌, ◌<◌};
 ghost use Rattle.std.specs.Option.{ForSome};
+ghost use Rattle.tex_world.specs.World.{IsFile};
 ghost use Rattle.tile_load.specs.Load.{IsLayoutOf};
 
-use crate::pictures::Pictures;
+use crate::slots::Call::{Fill, Show};
+use sample_folder::SampleFolder;
 use std::alloc::Global;
 use std::marker::PhantomData;
 use std::test::Fail;
 use std::thread;
 use std::thread::Threads;
 use tap_reader::TapReader;
-use tex_world::{
-    FailByte, Folder, MemFolder, MemTap, Plan, Rise, SampleFolder, Tap, TapHandle, World,
-};
+use test_files::{Checks, Pictures, Planned, taps_of};
+use tex_world::{Folder, Tap, TapHandle, World};
 use tiff_dirs::read_dirs;
 use tile_layout::Layout;
 use tile_slots::{FillError, PartKey, Slots};
@@ -130,100 +131,183 @@ fn is_answered<T: Tap>(
     }
 }
 
-/// Calls one after another. Texel (x, y) of `A.tif` is 16 * y + x. Reading its row 1 fails the
-/// first time, and its row 3 meets generation 2.
-static ONE_SLOT: &[(&str, Call)] = &[
-    ("nothing is there yet", Call::Show((2, 0), None)),
-    ("the first part", Call::Fill((2, 0), Ok((true, 2)))),
-    ("another texel of it", Call::Show((3, 0), Some(3))),
-    ("another row", Call::Show((0, 1), None)),
-    (
-        "a read that fails",
-        Call::Fill((0, 1), Err(FillError::ReadFault)),
-    ),
-    ("the slot holds what it held", Call::Show((3, 0), Some(3))),
-    ("once more", Call::Fill((0, 1), Ok((true, 16)))),
-    ("in place of the other row", Call::Show((3, 0), None)),
-    ("the last texel", Call::Show((3, 1), Some(19))),
-    (
-        "a read that meets a newer generation",
-        Call::Fill((1, 3), Err(FillError::Gone(2))),
-    ),
-    ("the slot holds what it held", Call::Show((2, 1), Some(18))),
+/// A call with a name.
+struct SlotCall {
+    name: &'static str,
+    call: Call,
+}
+
+/// Calls one after another on slots of one file.
+struct SlotsCase {
+    name: &'static str,
+    slots: u32,
+    file: u32,
+    calls: &'static [SlotCall],
+}
+
+static CASES: &[SlotsCase] = &[
+    // Texel (x, y) of `A.tif` is 16 * y + x. Reading its row 1 fails the first time, and its row 3
+    // meets generation 2.
+    SlotsCase {
+        name: "one slot",
+        slots: 1,
+        file: 0,
+        calls: &[
+            SlotCall {
+                name: "nothing is there yet",
+                call: Show((2, 0), None),
+            },
+            SlotCall {
+                name: "the first part",
+                call: Fill((2, 0), Ok((true, 2))),
+            },
+            SlotCall {
+                name: "another texel of it",
+                call: Show((3, 0), Some(3)),
+            },
+            SlotCall {
+                name: "another row",
+                call: Show((0, 1), None),
+            },
+            SlotCall {
+                name: "a read that fails",
+                call: Fill((0, 1), Err(FillError::ReadFault)),
+            },
+            SlotCall {
+                name: "the slot holds what it held",
+                call: Show((3, 0), Some(3)),
+            },
+            SlotCall {
+                name: "once more",
+                call: Fill((0, 1), Ok((true, 16))),
+            },
+            SlotCall {
+                name: "in place of the other row",
+                call: Show((3, 0), None),
+            },
+            SlotCall {
+                name: "the last texel",
+                call: Show((3, 1), Some(19)),
+            },
+            SlotCall {
+                name: "a read that meets a newer generation",
+                call: Fill((1, 3), Err(FillError::Gone(2))),
+            },
+            SlotCall {
+                name: "the slot holds what it held",
+                call: Show((2, 1), Some(18)),
+            },
+        ],
+    },
+    SlotsCase {
+        name: "no slot",
+        slots: 0,
+        file: 0,
+        calls: &[
+            SlotCall {
+                name: "no slot",
+                call: Show((2, 0), None),
+            },
+            SlotCall {
+                name: "read, and put nowhere",
+                call: Fill((2, 0), Ok((false, 2))),
+            },
+            SlotCall {
+                name: "no slot holds it",
+                call: Show((2, 0), None),
+            },
+        ],
+    },
+    // Texel (x, 0) of `B.tif` is x + 5 up to column 15, which is in the first tile. Column 16 is the
+    // first byte of the second tile.
+    SlotsCase {
+        name: "two tiles",
+        slots: 8,
+        file: 3,
+        calls: &[
+            SlotCall {
+                name: "of the second tile",
+                call: Fill((17, 0), Ok((true, 11))),
+            },
+            SlotCall {
+                name: "of the first one",
+                call: Show((15, 0), Some(20)),
+            },
+            SlotCall {
+                name: "of the second one",
+                call: Show((16, 0), Some(10)),
+            },
+            SlotCall {
+                name: "row 1",
+                call: Fill((0, 1), Ok((true, 21))),
+            },
+            SlotCall {
+                name: "row 0 has a slot of its own",
+                call: Show((0, 0), Some(5)),
+            },
+        ],
+    },
 ];
 
-/// Calls on a cache without slots.
-static NO_SLOT: &[(&str, Call)] = &[
-    ("no slot", Call::Show((2, 0), None)),
-    ("read, and put nowhere", Call::Fill((2, 0), Ok((false, 2)))),
-    ("no slot holds it", Call::Show((2, 0), None)),
-];
-
-/// Texel (x, 0) of `B.tif` is x + 5 up to column 15, which is in the first tile. Column 16 is the
-/// first byte of the second tile.
-static TWO_TILES: &[(&str, Call)] = &[
-    ("of the second tile", Call::Fill((17, 0), Ok((true, 11)))),
-    ("of the first one", Call::Show((15, 0), Some(20))),
-    ("of the second one", Call::Show((16, 0), Some(10))),
-    ("row 1", Call::Fill((0, 1), Ok((true, 21)))),
-    ("row 0 has a slot of its own", Call::Show((0, 0), Some(5))),
-];
-
-/// Makes a tap for which the first read of byte 126 of `A.tif` fails, and which meets generation 2
-/// at byte 134; and a second one.
-fn taps_of(alloc: Global) -> Result<(MemTap<Pictures>, MemTap<Pictures>), Fail> {
-    let mut plan = Plan::new(alloc);
-    plan.fail_bytes.push(FailByte {
+/// For tap 0 the first read of byte 126 of `A.tif` fails, and it meets generation 2 at byte 134.
+const PLAN: &[Planned] = &[
+    Planned::FailByte {
         tap: 0,
         file: 0,
         at: 126,
-    })?;
-    plan.rises.push(Rise {
+    },
+    Planned::Rise {
         tap: 0,
         file: 0,
         at: 134,
         to: 2,
-    })?;
-    let mut folder = MemFolder::new(plan);
-    let first = folder.tap(alloc)?;
-    let second = folder.tap(alloc)?;
-    Ok((first, second))
-}
+    },
+];
 
-/// The first call that gives another answer, with this many slots. The layout is read through a
-/// separate tap.
-fn wrong_call(
+/// Makes all calls through the first tap. The layout is read through the second.
+fn check_calls<T: Tap>(
     alloc: Global,
-    count: u32,
-    file: u32,
-    calls: &'static [(&'static str, Call)],
-) -> Result<Option<&'static str>, Fail>
-    requires count { count < 9 }
-    requires file { file < 4 }
+    checks: &mut Checks,
+    case: &SlotsCase,
+    tap: &mut T,
+    other: &mut T,
+) -> Result<(), Fail>
+    requires { IsFile T.W.files case.now.file }
 {
-    let (mut tap, mut other) = taps_of(alloc)?;
-    let mut handle = tap.open(alloc, file, 0).map_err(|_e| "not open")?;
-    let mut known = other.open(alloc, file, 0).map_err(|_e| "not open")?;
-    let picture = picture_of(alloc, &mut other, &mut known)?;
-    let slots = Slots::new(alloc, count)?;
-    for (name, call) in calls {
-        if !is_answered(&slots, &picture, (&mut tap, &mut handle), *call) {
-            return Ok(Some(*name));
-        }
+    if case.slots > 8 {
+        return Err("too many slots".into());
     }
-    Ok(None)
+    let Ok(mut handle) = tap.open(alloc, case.file, 0) else {
+        return Err("not open".into());
+    };
+    let Ok(mut known) = other.open(alloc, case.file, 0) else {
+        return Err("not open".into());
+    };
+    let picture = picture_of(alloc, other, &mut known)?;
+    let slots = Slots::new(alloc, case.slots)?;
+    for call in case.calls {
+        checks.part(call.name);
+        let answered = is_answered(&slots, &picture, (&mut *tap, &mut handle), call.call);
+        checks.holds("the answer", answered);
+    }
+    Ok(())
 }
 
 #[test]
-fn shows_and_fills_as_each_row_says(rt: HostRuntime) -> Result<(), Fail> {
-    let alloc = rt.alloc();
-    let one = wrong_call(alloc, 1, 0, ONE_SLOT)?;
-    assert!(rt; one.is_none(), "one slot: {one:?}");
-    let none = wrong_call(alloc, 0, 0, NO_SLOT)?;
-    assert!(rt; none.is_none(), "no slot: {none:?}");
-    let two = wrong_call(alloc, 8, 3, TWO_TILES)?;
-    assert!(rt; two.is_none(), "two tiles: {two:?}");
-    Ok(())
+fn shows_and_fills_as_each_case_says(rt: HostRuntime) -> Result<(), Fail> {
+    let mut checks = Checks::new();
+    for case in CASES {
+        checks.case(case.name);
+        let mut taps = taps_of::<Pictures>(rt.alloc(), PLAN, 2)?;
+        if let [first, second] = taps.as_mut_slice()
+            && case.file < 4
+        {
+            check_calls(rt.alloc(), &mut checks, case, first, second)?;
+        } else {
+            return Err("no taps".into());
+        }
+    }
+    checks.result()
 }
 
 /// The rounds of a thread, each of which makes one or two calls.
@@ -319,6 +403,8 @@ fn two_threads_see_no_wrong_texel(rt: HostRuntime) -> Result<(), Fail> {
     let picture = picture_of(alloc, &mut tap, &mut handle)?;
     let slots = Slots::new(alloc, 8)?;
     let wrong = wrong_in_two_threads(&rt, &slots, &picture, (tap, handle), (other, second));
-    assert_eq!(rt; wrong, (0, 0));
-    Ok(())
+    let mut checks = Checks::new();
+    checks.equal("wrong texels of one thread", wrong.0, 0);
+    checks.equal("wrong texels of the other", wrong.1, 0);
+    checks.result()
 }

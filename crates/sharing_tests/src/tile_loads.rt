@@ -1,16 +1,13 @@
 //! Tiles loaded for records of a file in memory.
 
-use crate::pictures::Pictures;
 use crate::seat::Seat;
 use file_table::{Files, Record};
 use std::alloc::Global;
 use std::test::Fail;
 use tap_reader::OpenFile;
-use tex_world::{
-    FailByte, FileTable, Folder, MemFolder, MemTap, Newest, Plan, Rise, TableWorld, Tap, TapHandle,
-    World,
-};
-use tiff_format::Cut;
+use test_files::{Checks, Pictures, Planned, taps_of};
+use tex_world::{MemTap, TableWorld, Tap, TapHandle, World};
+use tiff_format::{Cut, Rect};
 use tile_layout::TileKey;
 use tile_load::{LoadError, load};
 use tile_store::{Row, Tile};
@@ -23,33 +20,26 @@ type Told = TableWorld<Pictures>;
 /// `B.tif`.
 const B: u32 = 3;
 
-/// Makes four taps: tap 1 knows generation 2, a read of byte 272 fails for tap 2, and at byte 512
-/// tap 3 meets generation 2.
-fn taps_of(alloc: Global) -> Result<Vec<Source>, Fail> {
-    let mut plan = Plan::new(alloc);
-    plan.newest.push(Newest {
+/// Tap 1 knows generation 2, a read of byte 272 fails for tap 2, and at byte 512 tap 3 meets
+/// generation 2.
+const PLAN: &[Planned] = &[
+    Planned::Newest {
         tap: 1,
         file: B,
         generation: 2,
-    })?;
-    plan.fail_bytes.push(FailByte {
+    },
+    Planned::FailByte {
         tap: 2,
         file: B,
         at: 272,
-    })?;
-    plan.rises.push(Rise {
+    },
+    Planned::Rise {
         tap: 3,
         file: B,
         at: 512,
         to: 2,
-    })?;
-    let mut folder = MemFolder::new(plan);
-    let mut taps = Vec::new(alloc);
-    for _ in 0..4 {
-        taps.push(folder.tap(alloc)?)?;
-    }
-    Ok(taps)
-}
+    },
+];
 
 /// Loads the tile of the cell at a column of the first row.
 fn loaded<T: Tap>(
@@ -81,11 +71,19 @@ fn loaded<T: Tap>(
     Ok(load(alloc, tap, open, known, key, cut))
 }
 
+/// A tile: its generation and index, its rectangle, and its samples.
+#[derive(Clone, Copy)]
+struct LoadedTile {
+    generation: u32,
+    index: u32,
+    rect: Rect,
+    samples: &'static [u16],
+}
+
 /// The expected result of loading.
 #[derive(Clone, Copy)]
 enum Wanted {
-    /// A tile with this generation and index, its column, row, width and height, and its samples.
-    Tile((u32, u32), (u32, u32, u32, u32), &'static [u16]),
+    Tile(LoadedTile),
     Fault,
     Gone(u32),
 }
@@ -124,25 +122,20 @@ fn has_samples<W: World>(tile: &Tile<W>, samples: &[u16]) -> bool {
 }
 
 /// Whether the tile has this generation, index and rectangle.
-fn is_cell<W: World>(
-    tile: &Tile<W>,
-    (generation, index): (u32, u32),
-    place: (u32, u32, u32, u32),
-) -> bool {
+fn is_cell<W: World>(tile: &Tile<W>, wanted: LoadedTile) -> bool {
     let (key, rect) = (tile.key(), tile.rect());
-    let (x, y, w, h) = place;
-    key.generation() == generation
-        && key.index() == index
-        && rect.x == x
-        && rect.y == y
-        && rect.w == w
-        && rect.h == h
+    key.generation() == wanted.generation
+        && key.index() == wanted.index
+        && rect.x == wanted.rect.x
+        && rect.y == wanted.rect.y
+        && rect.w == wanted.rect.w
+        && rect.h == wanted.rect.h
 }
 
 fn is_wanted<W: World>(answer: Result<Tile<W>, LoadError>, wanted: Wanted) -> bool {
     match (answer, wanted) {
-        (Ok(tile), Wanted::Tile(cell, place, samples)) => {
-            is_cell(&tile, cell, place) && has_samples(&tile, samples)
+        (Ok(tile), Wanted::Tile(wanted)) => {
+            is_cell(&tile, wanted) && has_samples(&tile, wanted.samples)
         }
         (Err(LoadError::ReadFault), Wanted::Fault) => true,
         (Err(LoadError::Gone(to)), Wanted::Gone(met)) => to == met,
@@ -150,17 +143,13 @@ fn is_wanted<W: World>(answer: Result<Tile<W>, LoadError>, wanted: Wanted) -> bo
     }
 }
 
-/// What loading answers for the record that a new table reads through this tap.
-fn answer(alloc: Global, tap: &mut Source, x: u32) -> Result<Result<Tile<Told>, LoadError>, Fail> {
-    let cut = Cut {
-        autotile: 16,
-        automip: false,
-    };
-    let (files, view) = Files::<Source>::new(alloc, Pictures::count(), 1, cut)?;
-    let mut seat = Seat {
-        files: &files,
-        view,
-    };
+/// What loading answers for the record that a table reads through this tap.
+fn load_first(
+    alloc: Global,
+    seat: &mut Seat<'_, Source>,
+    tap: &mut Source,
+    x: u32,
+) -> Result<Result<Tile<Told>, LoadError>, Fail> {
     let waiter = Tries::new(9);
     let Ok(known) = seat.record(&waiter, tap, B) else {
         return Err("no record".into());
@@ -171,58 +160,126 @@ fn answer(alloc: Global, tap: &mut Source, x: u32) -> Result<Result<Tile<Told>, 
     loaded(alloc, tap, &mut open, &known, x)
 }
 
-/// The name of a case, a tap, a column, and what loading the cell there answers.
-static ROWS: &[(&str, usize, u32, Wanted)] = &[
-    (
-        "a tile, without the rows below the level",
-        0,
-        15,
-        Wanted::Tile(
-            (1, 0),
-            (0, 0, 16, 2),
-            &[
+/// What loading answers for a new table.
+fn answer(alloc: Global, tap: &mut Source, x: u32) -> Result<Result<Tile<Told>, LoadError>, Fail> {
+    let cut = Cut {
+        autotile: 16,
+        automip: false,
+    };
+    let (files, view) = Files::<Source>::new(alloc, 4, 1, cut)?;
+    let mut seat = Seat {
+        files: &files,
+        view,
+    };
+    load_first(alloc, &mut seat, tap, x)
+}
+
+/// Loading the cell at a column of the first row through a tap.
+struct LoadCase {
+    name: &'static str,
+    tap: usize,
+    x: u32,
+    wanted: Wanted,
+}
+
+static CASES: &[LoadCase] = &[
+    LoadCase {
+        name: "a tile, without the rows below the level",
+        tap: 0,
+        x: 15,
+        wanted: Wanted::Tile(LoadedTile {
+            generation: 1,
+            index: 0,
+            rect: Rect {
+                x: 0,
+                y: 0,
+                w: 16,
+                h: 2,
+            },
+            samples: &[
                 5, 6, 7, 8, 9, 10, 11, 12, 13, 14, 15, 16, 17, 18, 19, 20, 21, 22, 23, 24, 25, 26,
                 27, 28, 29, 30, 31, 32, 33, 34, 35, 36,
             ],
-        ),
-    ),
-    (
-        "an edge tile",
-        0,
-        17,
-        Wanted::Tile((1, 1), (16, 0, 2, 2), &[10, 11, 26, 27]),
-    ),
-    (
-        "a cell of a strip",
-        1,
-        2,
-        Wanted::Tile((2, 0), (0, 0, 3, 1), &[10, 21, 30]),
-    ),
-    ("a read that fails", 2, 0, Wanted::Fault),
-    (
-        "the byte that fails is in another tile",
-        2,
-        16,
-        Wanted::Tile((1, 1), (16, 0, 2, 2), &[10, 11, 26, 27]),
-    ),
-    (
-        "a read that meets a newer generation",
-        3,
-        16,
-        Wanted::Gone(2),
-    ),
+        }),
+    },
+    LoadCase {
+        name: "an edge tile",
+        tap: 0,
+        x: 17,
+        wanted: Wanted::Tile(LoadedTile {
+            generation: 1,
+            index: 1,
+            rect: Rect {
+                x: 16,
+                y: 0,
+                w: 2,
+                h: 2,
+            },
+            samples: &[10, 11, 26, 27],
+        }),
+    },
+    LoadCase {
+        name: "a cell of a strip",
+        tap: 1,
+        x: 2,
+        wanted: Wanted::Tile(LoadedTile {
+            generation: 2,
+            index: 0,
+            rect: Rect {
+                x: 0,
+                y: 0,
+                w: 3,
+                h: 1,
+            },
+            samples: &[10, 21, 30],
+        }),
+    },
+    LoadCase {
+        name: "a read that fails",
+        tap: 2,
+        x: 0,
+        wanted: Wanted::Fault,
+    },
+    LoadCase {
+        name: "the byte that fails is in another tile",
+        tap: 2,
+        x: 16,
+        wanted: Wanted::Tile(LoadedTile {
+            generation: 1,
+            index: 1,
+            rect: Rect {
+                x: 16,
+                y: 0,
+                w: 2,
+                h: 2,
+            },
+            samples: &[10, 11, 26, 27],
+        }),
+    },
+    LoadCase {
+        name: "a read that meets a newer generation",
+        tap: 3,
+        x: 16,
+        wanted: Wanted::Gone(2),
+    },
 ];
 
-#[test]
-fn loads_as_each_row_says(rt: HostRuntime) -> Result<(), Fail> {
-    for (what, tap, x, wanted) in ROWS {
-        let mut taps = taps_of(rt.alloc())?;
-        if *tap >= taps.len() {
-            return Err("no such tap".into());
-        }
-        let mut source = taps.remove(*tap);
-        let answer = answer(rt.alloc(), &mut source, *x)?;
-        assert!(rt; is_wanted(answer, *wanted), "{what}");
-    }
+fn check_load(alloc: Global, checks: &mut Checks, case: &LoadCase) -> Result<(), Fail> {
+    let mut taps = taps_of(alloc, PLAN, 4)?;
+    let Some(source) = taps.get_mut(case.tap) else {
+        return Err("no such tap".into());
+    };
+    let answer = answer(alloc, source, case.x)?;
+    checks.holds("the answer", is_wanted(answer, case.wanted));
     Ok(())
+}
+
+#[test]
+fn loads_as_each_case_says(rt: HostRuntime) -> Result<(), Fail> {
+    let mut checks = Checks::new();
+    for case in CASES {
+        checks.case(case.name);
+        check_load(rt.alloc(), &mut checks, case)?;
+    }
+    checks.result()
 }

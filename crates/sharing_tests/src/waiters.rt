@@ -8,6 +8,7 @@ use file_table::Files;
 use gen_board::View;
 use std::cell::Cell;
 use std::test::Fail;
+use test_files::Checks;
 use tex_world::Tap;
 use waiter::{GaveUp, Tries, Waiter};
 
@@ -42,13 +43,6 @@ impl<T: Tap> Waiter for Nosy<'_, T> {
     }
 }
 
-impl<T: Tap> Nosy<'_, T> {
-    /// How often it dropped what is idle, and how often a lock was taken.
-    fn counted(&self) -> (u32, u32) {
-        (self.done.get(), self.busy.get())
-    }
-}
-
 /// The generation of the record of the first file; 0 if none exists.
 fn generation<T: Tap>(files: &Files<T>, view: View<T::W>, tap: &mut T, nosy: &Nosy<'_, T>) -> u32
     requires board { view.board ≡ files.now.board }
@@ -69,25 +63,42 @@ fn is_idle<T: Tap>(files: &Files<T>, nosy: &Nosy<'_, T>) -> bool {
     }
 }
 
+// A record is taken and put back, and so once more; then the idle handles are counted.
+fn check_busy<T: Tap>(checks: &mut Checks, files: &Files<T>, view: View<T::W>, tap: &mut T)
+    requires some { 0 < files.now.board.files }
+    requires board { view.board ≡ files.now.board }
+    requires first { IsFile T.W.files 0 }
+{
+    let nosy = Nosy {
+        files,
+        done: Cell::new(0),
+        busy: Cell::new(0),
+    };
+    checks.case("a record");
+    checks.equal(
+        "its generation",
+        u64::from(generation(files, view, tap, &nosy)),
+        1,
+    );
+    checks.equal("calls that worked", u64::from(nosy.done.get()), 2);
+    checks.equal("busy calls", u64::from(nosy.busy.get()), 2);
+    checks.case("the idle handles");
+    checks.holds("none is idle", is_idle(files, &nosy));
+    checks.equal("calls that worked", u64::from(nosy.done.get()), 3);
+    checks.equal("busy calls", u64::from(nosy.busy.get()), 3);
+}
+
 #[test]
 fn a_call_inside_a_lock_is_busy(rt: HostRuntime) -> Result<(), Fail> {
+    let mut checks = Checks::new();
     let Bench {
         files,
         view,
         mut taps,
     } = memory_bench(rt.alloc(), 4)?;
-    let mut tap = taps.pop().ok_or("no tap")?;
-    let nosy = Nosy {
-        files: &files,
-        done: Cell::new(0),
-        busy: Cell::new(0),
-    };
-    assert_eq!(rt; generation(&files, view, &mut tap, &nosy), 1);
-    assert!(rt;
-        nosy.counted() == (2, 2),
-        "taken, put back, and so once more"
-    );
-    assert!(rt; is_idle(&files, &nosy));
-    assert!(rt; nosy.counted() == (3, 3), "taken and put back");
-    Ok(())
+    match taps.last_mut() {
+        Some(tap) => check_busy(&mut checks, &files, view, tap),
+        None => checks.holds("a tap", false),
+    }
+    checks.result()
 }

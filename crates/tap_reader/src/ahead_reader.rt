@@ -11,7 +11,7 @@ use crate::planning::Band;
 use crate::read_ahead::ReadAhead;
 use crate::rows::Rows;
 use tex_world::{ReadError, Tap, TapHandle};
-use tiff_dirs::ByteReader;
+use tiff_entries::ByteReader;
 
 /// The reader of one file: a tap, a handle and the file's read-ahead, all borrowed. Bytes in the
 /// read-ahead cost no call to the tap. Read errors are those of the tap, also if a read of more than

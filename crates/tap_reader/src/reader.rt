@@ -6,7 +6,7 @@ ghost use Rattle.tap_reader.specs.TapReaderLaws.{KeepsTap-itself, KeepsTap-chain
 ghost use Rattle.tap_reader.specs.TapReaderLaws.{same_len, same_held};
 
 use tex_world::{ReadError, Tap, TapHandle};
-use tiff_dirs::ByteReader;
+use tiff_entries::ByteReader;
 
 /// The reader of one file: a borrowed tap and handle. Read errors are those of the tap.
 #[derive(Drop)]

@@ -6,8 +6,8 @@ use Rattle.std_alloc.proofs.BoxSteps.Form.{Bx}
 use Rattle.std_heap.specs.contracts.Global as Heap
 use Rattle.std_heap.specs.contracts.GlobalAllocator.TheImpl.{ghosts, dict}
 use Rattle.std_heap.proofs.Global.TheLaws as heap
-use Rattle.tex_c.specs.contracts.client.Client as Client
-use Rattle.tex_c.proofs.client.Client.TheLaws as client
+use Rattle.supplied_client.specs.contracts.client.Client as Client
+use Rattle.supplied_client.proofs.client.Client.TheLaws as client
 use Rattle.tex_c.specs.contracts.parts.Parts as Parts
 use Rattle.tex_c.specs.contracts.held.Held as Held
 

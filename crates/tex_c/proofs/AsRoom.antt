@@ -6,8 +6,8 @@ use Rattle.std_alloc.proofs.BoxSteps.Form.{Bx}
 use Rattle.std_heap.specs.contracts.Global as Heap
 use Rattle.std_heap.specs.contracts.GlobalAllocator.TheImpl.{ghosts, dict}
 use Rattle.std_heap.proofs.Global.TheLaws as heap
-use Rattle.tex_c.specs.contracts.bytes.Bytes as Bytes
-use Rattle.tex_c.proofs.bytes.Bytes.TheLaws as bytes
+use Rattle.supplied_client.specs.contracts.bytes.Bytes as Bytes
+use Rattle.supplied_client.proofs.bytes.Bytes.TheLaws as bytes
 use Rattle.tex_c.specs.contracts.parts.Parts as Parts
 use Rattle.tex_c.specs.contracts.room.Room as Room
 

@@ -7,7 +7,7 @@ use Rattle.std.specs.Coded.{coded_option}
 use Rattle.std.specs.Box.Ownership.{box_owns}
 use Rattle.std.specs.Global.{Global}
 use Rattle.std_heap.specs.contracts.GlobalAllocator.TheImpl.{ghosts}
-use Rattle.tex_c.specs.contracts.client.Client.{the_row}
+use Rattle.supplied_client.specs.contracts.client.Client.{the_row}
 
 -- a handle with a client owns the box of the client
 abbrev pub held_owns : Global → Ptr → Option the_row.Denot → Fml

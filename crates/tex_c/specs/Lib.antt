@@ -1,15 +1,3 @@
-pub mod SuppliedWorld
-pub mod SuppliedHandle
-pub mod Truth
-pub mod Supply
-pub mod SuppliedTap
-pub mod Client
 pub mod Held
 pub mod Room
-pub mod Code
-pub mod Answer
-pub mod Request
-pub mod Unanswered
-pub mod Calls
-pub mod Batch
 pub mod Exports

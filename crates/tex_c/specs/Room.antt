@@ -7,7 +7,7 @@ use Rattle.std.specs.Coded.{coded_option}
 use Rattle.std.specs.Box.Ownership.{box_owns}
 use Rattle.std.specs.Global.{Global}
 use Rattle.std_heap.specs.contracts.GlobalAllocator.TheImpl.{ghosts}
-use Rattle.tex_c.specs.contracts.bytes.Bytes.{the_row}
+use Rattle.supplied_client.specs.contracts.bytes.Bytes.{the_row}
 
 -- a buffer with bytes owns the box of the bytes
 abbrev pub room_owns : Global → Ptr → Option the_row.Denot → Fml

@@ -1,20 +1,20 @@
 //! The calls for C on files and lookups. Each takes a handle by value and returns it through `to`.
 ghost use Rattle.std.specs.Prelude.{◌≡◌, IsNone, IsSome, IsSomeAnd};
 ghost use Rattle.texture_sys.specs.Asked.{one_point, one_footprint};
-ghost use Rattle.tex_c.specs.Calls.{Hands, SaysLookup, SaysLocally, SaysInfo, SaysRegion};
-ghost use Rattle.tex_c.specs.Calls.{SaysInvalid, SaysAllInvalid};
+ghost use Rattle.supplied_client.specs.Calls.{Hands, SaysLookup, SaysLocally, SaysInfo, SaysRegion};
+ghost use Rattle.supplied_client.specs.Calls.{SaysInvalid, SaysAllInvalid};
 ghost use Rattle.tex_c.specs.Exports.{IsMade, IsNotMade, IsSplitOff, SaysSplit};
-ghost use Rattle.tex_c.specs.Client.{LeavesFile, LeavesChecked};
-ghost use Rattle.tex_c.specs.Request.{IsPoint, IsFootprint, point_of, footprint_of};
+ghost use Rattle.supplied_client.specs.Client.{LeavesFile, LeavesChecked};
+ghost use Rattle.supplied_client.specs.Request.{IsPoint, IsFootprint, point_of, footprint_of};
 
-use crate::answer::{ANSWERED, BAD_OPTIONS, BAD_REQUEST, NO_MEMORY, NO_PERMIT, TexAnswer};
-use crate::client::Client;
 use crate::held::Held;
 use crate::options::TexOptions;
-use crate::request::TexLookup;
-use crate::saying::{TexInfo, TexRegion};
 use image_cache::{NewError, SplitError};
 use std::alloc::Global;
+use supplied_client::{
+    ANSWERED, BAD_OPTIONS, BAD_REQUEST, Client, NO_MEMORY, NO_PERMIT, TexAnswer, TexInfo,
+    TexLookup, TexRegion,
+};
 
 /// The greatest number of files of a folder.
 const MAX_FILES: u32 = 4096;

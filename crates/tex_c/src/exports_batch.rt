@@ -1,11 +1,11 @@
 //! The call for C that answers many lookups of one file.
 ghost use Rattle.std.specs.Prelude.{IsSome};
-ghost use Rattle.tex_c.specs.Calls.{Hands};
-ghost use Rattle.tex_c.specs.Batch.{SaysBatch};
-ghost use Rattle.tex_c.specs.Client.{LeavesFile};
+ghost use Rattle.supplied_client.specs.Calls.{Hands};
+ghost use Rattle.supplied_client.specs.Batch.{SaysBatch};
+ghost use Rattle.supplied_client.specs.Client.{LeavesFile};
 
-use crate::batch::{TexBatch, TexBatchAnswer};
 use crate::held::Held;
+use supplied_client::{TexBatch, TexBatchAnswer};
 use texture_sys::Place;
 
 /// Looks up the values at several places of one file, on one generation. The values of each lookup

@@ -1,16 +1,17 @@
 //! The calls for C that supply what a call needs, and the buffers for it.
 ghost use Rattle.std.specs.Prelude.{◌≡◌, length, IfSome, IsNone, IsSome, IsSomeAnd};
-ghost use Rattle.tex_c.specs.Calls.{Hands};
-ghost use Rattle.tex_c.specs.Exports.{KeepsClient, HasBytes, IsLent, SaysFault};
-ghost use Rattle.tex_c.specs.Exports.{SaysLook, SaysLooks, SaysBytes, SaysRows};
-ghost use Rattle.tex_c.specs.Supply.{FitsLook, FitsBytes, FitsRows};
-ghost use Rattle.tex_c.specs.Truth.{IsTrueLook, AreTrueLooks, AreTrueBytes, AreTrueRows};
+ghost use Rattle.supplied_client.specs.Calls.{Hands};
+ghost use Rattle.supplied_client.specs.Supplies.{KeepsClient, SaysLook, SaysLooks, SaysBytes};
+ghost use Rattle.supplied_client.specs.Supplies.{SaysRows, SaysFault};
+ghost use Rattle.tex_c.specs.Exports.{HasBytes, IsLent};
+ghost use Rattle.supplied_tap.specs.Supply.{FitsLook, FitsBytes, FitsRows};
+ghost use Rattle.supplied_tap.specs.Truth.{IsTrueLook, AreTrueLooks, AreTrueBytes, AreTrueRows};
 
-use crate::answer::{ANSWERED, NO_MEMORY};
 use crate::held::Held;
 use crate::room::Room;
-use crate::supply::{RowsAt, Seen};
 use std::alloc::Global;
+use supplied_client::{ANSWERED, NO_MEMORY};
+use supplied_tap::{RowsAt, Seen};
 
 /// Supplies the generation and the length of a file.
 #[unsafe(no_mangle)]

@@ -1,13 +1,12 @@
 //! The calls for C on held tiles and on counts.
 ghost use Rattle.std.specs.Prelude.{◌≡◌, IsSome};
-ghost use Rattle.tex_c.specs.Calls.{Hands, SaysTile, SaysHeld, SaysRow, SaysRelease};
-ghost use Rattle.tex_c.specs.Calls.{SaysCounts, SaysShard};
-ghost use Rattle.tex_c.specs.Client.{LeavesFile};
-ghost use Rattle.tex_c.specs.Request.{texel_of};
+ghost use Rattle.supplied_client.specs.Calls.{Hands, SaysTile, SaysHeld, SaysRow, SaysRelease};
+ghost use Rattle.supplied_client.specs.Calls.{SaysCounts, SaysShard};
+ghost use Rattle.supplied_client.specs.Client.{LeavesFile};
+ghost use Rattle.supplied_client.specs.Request.{texel_of};
 
-use crate::answer::TexAnswer;
 use crate::held::Held;
-use crate::holds::{TexCounts, TexShard, TexTexel, TexTile};
+use supplied_client::{TexAnswer, TexCounts, TexShard, TexTexel, TexTile};
 
 /// Pins the tile that holds a texel, as the latest hold of the pass.
 #[unsafe(no_mangle)]

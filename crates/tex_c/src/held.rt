@@ -1,12 +1,12 @@
 //! The handle that C code keeps: a pointer to its client.
 ghost use Rattle.std.specs.Prelude.{◌≡◌, Option, Some, IsSome};
-ghost use Rattle.tex_c.specs.Client.{ClientState};
+ghost use Rattle.supplied_client.specs.Client.{ClientState};
 ghost use Rattle.tex_c.specs.Held.{held_coded, held_owns};
 
-use crate::client::Client;
 use crate::parts::Parts;
 use std::alloc::Global;
 use std::marker::Model;
+use supplied_client::Client;
 
 /// A C handle: empty, or owning a client. Calls take it by value and return it through a pointer.
 /// Dropping it frees nothing: a client is freed only after `into_box`.

@@ -1,12 +1,12 @@
 //! A buffer that C fills and hands back.
 ghost use Rattle.std.specs.Prelude.{◌≡◌, Option, Some, IsSome};
-ghost use Rattle.tex_c.specs.declared.bytes.Bytes.{Bytes};
+ghost use Rattle.supplied_client.specs.declared.bytes.Bytes.{Bytes};
 ghost use Rattle.tex_c.specs.Room.{room_coded, room_owns};
 
-use crate::bytes::Bytes;
 use crate::parts::Parts;
 use std::alloc::Global;
 use std::marker::Model;
+use supplied_client::Bytes;
 
 /// A buffer: empty, or bytes that belong to the caller until it hands them back. Dropping it frees
 /// nothing: bytes are freed only after `into_box`.

@@ -1,8 +1,8 @@
 -- Where are the rows of a level among its samples?
-use Rattle.std.proofs.Common.{◌≡◌, ℕ, ◌+◌, ◌-◌, ◌*◌, ◌<◌, ◌≤◌, List, ◌++◌, length, slice_index}
-use Rattle.std.proofs.Common.{take, drop, ap, sym, ◌∙◌, arith}
+use Rattle.std.proofs.Common.{◌≡◌, ℕ, ◌+◌, ◌-◌, ◌*◌, ◌<◌, ◌≤◌, List, slice_index}
+use Rattle.std.proofs.Common.{take, drop, ap, ◌∙◌, arith}
 use Rattle.std.proofs.Math.Nat.{mul-le-mul_right}
-use Rattle.std.proofs.lemmas.List.{get_or_append_left, get_or-append-add, get_or-take, get_or-drop}
+use Rattle.std.proofs.lemmas.List.{get_or-take, get_or-drop}
 use Rattle.std.proofs.lemmas.Nat.{mul-add-lt}
 
 -- k texels of row y from column x on lie within the h rows
@@ -23,10 +23,3 @@ row_sample_is samples x y w n c across channel =
     get_or-take _ (drop (y * (w * n)) samples) (x * n + c) 0 (omega arith)
     ∙ get_or-drop (y * (w * n)) samples (x * n + c) 0
     ∙ ap (slice_index samples) at
-
--- an element in the middle of a list
-pub in_middle : (a b c : List ℕ) (start k : ℕ) → length a ≡ start → k < length b
-    → slice_index (a ++ (b ++ c)) (start + k) ≡ slice_index b k
-in_middle a b c start k is below =
-    ap (λ (q : ℕ). slice_index (a ++ (b ++ c)) (q + k)) (sym is)
-    ∙ get_or-append-add a (b ++ c) k 0 ∙ get_or_append_left b c 0 k below

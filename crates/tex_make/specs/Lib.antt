@@ -4,7 +4,6 @@ pub mod PlainLevel
 pub mod Level
 pub mod Pyramid
 pub mod Side
-pub mod Quarters
 pub mod HalfRows
 pub mod Row
 pub mod Field

@@ -4,8 +4,9 @@ ghost use Rattle.std.specs.Prelude.{◌≡◌};
 ghost use Rattle.tiff_format.specs.Level.{halved};
 ghost use Rattle.tex_make.specs.PlainLevel.{IsPlainLevel, plain_level};
 
-use crate::quarters::{TwoRows, halve_row_at};
+use half_rows::halve_row_at;
 use std::alloc::{AllocError, Global};
+use tile_store::TwoRows;
 
 /// The samples of a level, row by row, all samples of a texel together.
 #[derive(Debug, Drop)]
@@ -86,10 +87,7 @@ impl Level {
             → slice_index out.new (y * (halved self.now.width * self.now.channels)
             + (x * self.now.channels + c)) ≡ half_sample (shown self.now) x y c }
     {
-        let rows = TwoRows {
-            top: self.row(2 * y),
-            bottom: self.row(2 * y + 1),
-        };
+        let rows = TwoRows::Shorts(self.row(2 * y), self.row(2 * y + 1));
         let channels = self.channels as usize;
         let start = y as usize * (half_side(self.width) as usize * channels);
         halve_row_at(&rows, self.width as usize, channels, start, out);

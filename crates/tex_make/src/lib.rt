@@ -8,7 +8,6 @@ mod field;
 mod head;
 mod level;
 mod picture;
-mod quarters;
 mod reading;
 mod row;
 mod texture;

@@ -23,7 +23,8 @@ use crate::level::Level;
 use crate::picture::Pyramid;
 use rect_read::{RectError, read_rect};
 use std::alloc::{AllocError, Global};
-use tiff_dirs::{ByteReader, DirsError, read_dirs};
+use tiff_dirs::read_dirs;
+use tiff_entries::{ByteReader, DirsError};
 use tiff_format::{Dir, Dirs, Rect};
 use tile_layout::Layout;
 

@@ -1,3 +1,2 @@
-mod TableLemmas
+pub mod TableLemmas
 mod PlanLemmas
-pub mod SampleLemmas

@@ -16,6 +16,3 @@ pub mod MemHandle
 pub mod MemTap
 pub mod MemFolder
 pub mod FolderLaws
-pub mod Sample
-pub mod SampleFolder
-pub mod SampleLaws

@@ -23,7 +23,7 @@ pub struct MemHandle<T: FileTable> {
 
 impl<T: FileTable> MemHandle<T> {
     /// A handle of a generation that the table has, with its length.
-    pub(crate) fn new(file: u32, generation: u32, len: u64) -> Self
+    pub fn new(file: u32, generation: u32, len: u64) -> Self
         requires of_table { file < T.count_of }
         requires low { 1 ≤ generation }
         requires high { generation ≤ last_generation }

@@ -280,8 +280,8 @@ impl<T: FileTable> Tap for MemTap<T> {
     }
 }
 
-// Fills the buffer with the bytes of the handle's generation at `at`.
-pub(crate) fn fill<T: FileTable>(h: &MemHandle<T>, at: u64, buf: &mut [u8])
+/// Fills the buffer with the bytes of the handle's generation at `at`.
+pub fn fill<T: FileTable>(h: &MemHandle<T>, at: u64, buf: &mut [u8])
     requires { at + length buf.old ≤ h.now.len }
     ensures { (k : ℕ) → k < length buf.new →
         slice_index buf.new k ≡ T.byte_of h.now.file h.now.generation (at + k) }
@@ -293,15 +293,9 @@ pub(crate) fn fill<T: FileTable>(h: &MemHandle<T>, at: u64, buf: &mut [u8])
     }
 }
 
-// Fills the buffer with rows of the handle's generation. The first is at `at`, and each begins
-// `stride` bytes after the one before.
-pub(crate) fn fill_rows<T: FileTable>(
-    h: &MemHandle<T>,
-    at: u64,
-    stride: u64,
-    row: usize,
-    buf: &mut [u8],
-)
+/// Fills the buffer with rows of the handle's generation. The first is at `at`, and each begins
+/// `stride` bytes after the one before.
+pub fn fill_rows<T: FileTable>(h: &MemHandle<T>, at: u64, stride: u64, row: usize, buf: &mut [u8])
     requires { AreRows at stride row (length buf.old) h.now.len }
     ensures { (k : ℕ) → k < length buf.new → slice_index buf.new k
         ≡ T.byte_of h.now.file h.now.generation (place_in_rows at stride row k) }

@@ -79,7 +79,7 @@ pub(crate) fn is_held<T: FileTable>(file: u32, generation: u32) -> bool
 }
 
 /// The number of the file with this name.
-pub(crate) fn number_of<T: FileTable>(name: &str) -> Option<u32>
+pub fn number_of<T: FileTable>(name: &str) -> Option<u32>
     ensures { result ≡ number_in (table_names T.count_of T.name_of) name.now }
 {
     for n in 0..T::count() {

@@ -24,7 +24,7 @@ pub fn paint<W: World>(tile: &Tile<W>, depth: u32, window: &Window, height: u32,
     ensures told { PaintsTold W.files tile.now depth window.now height values.new }
 {
     // needed by the proof: ties the tile's samples to its file
-    let _key = tile.key();
+    let _ = tile.key();
     paint_tile(tile, depth, window, height, values);
 }
 
@@ -46,7 +46,7 @@ fn paint_tile<W: World>(
     ensures paints { Paints tile.now depth window.now height values.old values.new }
 {
     // needed by the proof: bounds the places of the values
-    let _count = values.len();
+    let _ = values.len();
     let rect = tile.rect();
     let (columns, rows) = (&window.columns, &window.rows);
     let left = rect.x.max(columns.first);

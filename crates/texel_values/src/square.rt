@@ -25,7 +25,7 @@ pub fn write_square<W: World>(
     ensures { AreToldCorners W.files tile.now depth square.now channels out.new }
 {
     // needed by the proof: ties the tile's samples to its file
-    let _key = tile.key();
+    let _ = tile.key();
     let from = square.left.min(square.right);
     let texels = square.left.max(square.right) - from + 1;
     let rows = tile.two_rows(from, square.top, square.bottom, texels);
@@ -89,7 +89,7 @@ fn channel_sample(samples: &Row<'_>, from: usize, wide: usize, c: usize) -> u16
     ensures { result ≡ texel_at (samples_of samples.now) from wide c }
 {
     // needed by the proof: the index below fits in a word
-    let _count = samples.count();
+    let _ = samples.count();
     if c < wide {
         samples.sample(from + c)
     } else {

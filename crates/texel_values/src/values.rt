@@ -83,6 +83,6 @@ pub fn write_values<W: World>(tile: &Tile<W>, depth: u32, at: TexelAt, out: &mut
     ensures long { length out.new ≡ length out.old }
 {
     // needed by the proof: ties the tile's samples to its file
-    let _key = tile.key();
+    let _ = tile.key();
     write_texel(&tile.row(at.x, at.y, 1), depth, out);
 }

@@ -4,13 +4,13 @@
 ghost use Rattle.std.specs.Prelude.{◌≡◌, length};
 ghost use Rattle.texel_filter.specs.Image.{IsChannelCount};
 
+use caller::Caller;
 use host_folder::RealFolder;
-use image_cache::{Cache, Options};
+use image_cache::Options;
 use std::env;
 use std::process::ExitCode;
 use tex_world::Folder;
 use texel_filter::{Filter, TexRequest, Wrap};
-use texture_sys::texture;
 use tiff_format::Cut;
 use waiter::Tries;
 
@@ -85,20 +85,13 @@ fn values_of(
 {
     let alloc = rt.alloc();
     let mut folder = RealFolder::new(rt);
-    if let Err(_) = folder.enter(alloc, path) {
-        return Err(LookError::NoFile);
-    }
-    let Some(file) = folder.find(name) else {
-        return Err(LookError::NoFile);
-    };
-    let Ok((cache, mut pass)) = Cache::new(alloc, OPTIONS, folder.count()) else {
+    folder.enter(alloc, path).map_err(|_| LookError::NoFile)?;
+    let file = folder.find(name).ok_or(LookError::NoFile)?;
+    let tap = folder.tap(alloc).map_err(|_| LookError::Failed)?;
+    let Ok(mut caller) = Caller::new(alloc, OPTIONS, folder.count(), Tries::new(100), tap) else {
         return Err(LookError::Failed);
     };
-    let Ok(mut tap) = folder.tap(alloc) else {
-        return Err(LookError::Failed);
-    };
-    let waiter = Tries::new(100);
-    let looked = texture(&cache, &waiter, &mut pass, &mut tap, file, request, values);
-    folder.back(tap);
+    let looked = caller.texture(file, request, values);
+    folder.back(caller.into_tap());
     looked.map_err(|_| LookError::Refused)
 }

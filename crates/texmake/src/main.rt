@@ -40,6 +40,6 @@ fn words(rt: &HostRuntime) -> io::Result<Vec<String>> {
         Err(e) if e.kind() == ErrorKind::OutOfMemory => return Err(e),
         Err(_) => return Ok(Vec::new(rt.alloc())),
     };
-    let _program = words.next();
+    let _ = words.next();
     Ok(words.collect(rt.alloc())?)
 }

@@ -7,19 +7,19 @@ use Rattle.tile_layout.specs.Kept.{Kept}
 use Rattle.tile_store.specs.Tile.{CachedTile}
 use Rattle.file_table.specs.Record.{RecordState}
 use Rattle.texel_filter.specs.Image.{Texel}
-use Rattle.image_cache.specs.Pass.{PassState, SameCounts, counted, counted_together}
-use Rattle.image_cache.specs.Pass.{KeepsAllBut, view_and_record}
-use Rattle.image_cache.specs.Texel.{has_cell_at}
-use Rattle.image_cache.specs.Call.{AsksForCellAt, Needs, NoneApart}
+use Rattle.tile_source.specs.Pass.{PassState, SameCounts, counted, counted_together}
+use Rattle.tile_source.specs.Pass.{KeepsAllBut, view_and_record}
+use Rattle.tile_source.specs.Texel.{has_cell_at}
+use Rattle.tile_source.specs.Call.{AsksForCellAt, Needs, NoneUncached}
 use Rattle.image_cache.proofs.FillLemmas.{if_ok, needs_between}
 use Rattle.image_cache.specs.Fetches.{at_of}
 use Rattle.texture_sys.specs.Needs.{lookup_keys_on, AsksForEach, AsksForCells}
 
 -- no need was uncached up to a moment with the same counts
-none_to : (a b c : PassState) → SameCounts b c → NoneApart a c → NoneApart a b
+none_to : (a b c : PassState) → SameCounts b c → NoneUncached a c → NoneUncached a b
 none_to a b c same none = record { same = sym same.apart ∙ none.same; low = none.low }
 
-none_from : (a b c : PassState) → SameCounts a b → NoneApart a c → NoneApart b c
+none_from : (a b c : PassState) → SameCounts a b → NoneUncached a c → NoneUncached b c
 none_from a b c same none = record {
   same = none.same ∙ sym same.apart;
   low = omega (arith, same.apart, none.low);

@@ -11,18 +11,19 @@ use Rattle.tile_store.specs.Tile.{CachedTile}
 use Rattle.file_table.specs.Record.{RecordState}
 use Rattle.texel_filter.specs.Image.{Texel}
 use Rattle.texel_filter.specs.Calls.{EachAnswered, OneRefused, LeftBy}
-use Rattle.image_cache.specs.declared.error.CacheError.{CacheError}
-use Rattle.image_cache.specs.Pass.{PassState}
-use Rattle.image_cache.specs.Texel.{has_cell_at, IsStoredAt}
+use Rattle.tile_source.specs.declared.error.CacheError.{CacheError}
+use Rattle.tile_source.specs.Pass.{PassState}
+use Rattle.tile_source.specs.Texel.{has_cell_at, IsStoredAt}
 use Rattle.std.specs.List.{All}
-use Rattle.image_cache.specs.Call.{MovesCellAt, CountsOn}
-use Rattle.image_cache.specs.declared.error.CacheError.TheVariants as refused
-use Rattle.image_cache.specs.Cause.{FetchCause, StepCause, LookupRefuses, KeepsRecentAt}
-use Rattle.image_cache.specs.Cause.{WantsByOpening}
-use Rattle.image_cache.proofs.TexelLemmas.{cause_since, wants_since}
+use Rattle.tile_source.specs.Call.{MovesCellAt, CountsOn}
+use Rattle.tile_source.specs.declared.error.CacheError.TheVariants as refused
+use Rattle.tile_source.specs.Cause.{FetchCause, StepCause}
+use Rattle.image_cache.specs.Cause.{LookupRefuses, KeepsRecentAt}
+use Rattle.tile_source.specs.Cause.{WantsByOpening}
+use Rattle.tile_source.proofs.TexelLemmas.{cause_since, wants_since}
 use Rattle.image_cache.proofs.UnreadLemmas.{at_fetch}
 use Rattle.image_cache.specs.Fetches.{at_of, Fetches, Refuses}
-use Rattle.image_cache.specs.Reading.{PassTap}
+use Rattle.tile_source.specs.Source.{PassTap}
 use Rattle.texture_sys.specs.Needs.{HasCell, HasCells, AsksForEach, AsksForCells}
 use Rattle.texture_sys.proofs.Counted.{AreCounts, need_counts, counts_chain, each_counts}
 use Rattle.texture_sys.proofs.Counted.{asks_cells}

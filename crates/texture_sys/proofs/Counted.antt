@@ -7,9 +7,9 @@ use Rattle.tiff_format.specs.declared.fault.TiffFault.{TiffFault}
 use Rattle.tile_layout.specs.Kept.{Kept}
 use Rattle.file_table.specs.Record.{RecordState}
 use Rattle.texel_filter.specs.Image.{Texel}
-use Rattle.image_cache.specs.Pass.{PassState, counted_together, max_count}
-use Rattle.image_cache.specs.Texel.{has_cell_at, cell_of}
-use Rattle.image_cache.specs.Call.{CountsNeed, CountsOn, Needs, NoneApart}
+use Rattle.tile_source.specs.Pass.{PassState, counted_together, max_count}
+use Rattle.tile_source.specs.Texel.{has_cell_at, cell_of}
+use Rattle.tile_source.specs.Call.{CountsNeed, CountsOn, Needs, NoneUncached}
 use Rattle.image_cache.proofs.FillLemmas.{needs_between, needs_chain, no_needs}
 use Rattle.image_cache.specs.Fetches.{at_of}
 use Rattle.texture_sys.specs.Needs.{lookup_keys_on, NeedsCells, AsksForEach, AsksForCells}
@@ -54,13 +54,13 @@ pub counts_none : (pass : PassState) → CountsOn pass pass
 counts_none pass = record { needs = omega arith; hits = omega arith; apart = omega arith }
 
 -- if no need was uncached in two steps, none was in either of them
-none_first : (a b c : PassState) → a.apart ≤ b.apart → b.apart ≤ c.apart → NoneApart a c
-    → NoneApart a b
+none_first : (a b c : PassState) → a.apart ≤ b.apart → b.apart ≤ c.apart → NoneUncached a c
+    → NoneUncached a b
 none_first a b c first later none =
     record { same = omega (arith, first, later, none.same); low = none.low }
 
-none_then : (a b c : PassState) → a.apart ≤ b.apart → b.apart ≤ c.apart → NoneApart a c
-    → NoneApart b c
+none_then : (a b c : PassState) → a.apart ≤ b.apart → b.apart ≤ c.apart → NoneUncached a c
+    → NoneUncached b c
 none_then a b c first later none = record {
   same = omega (arith, first, later, none.same);
   low = omega (arith, first, later, none.same, none.low);
@@ -93,7 +93,7 @@ module _ (files : Files) (state : RecordState) where
 
   -- the microcache was asked for the keys of the cells in order
   keys_in : (kept : Kept) → state.layout ≡ Ok kept → (texels : List Texel) (old new : PassState)
-      → AreCounts old → NoneApart old new → AsksForEach files state texels old new
+      → AreCounts old → NoneUncached old new → AsksForEach files state texels old new
       → Needs files (lookup_keys_on state.generation state.file state.cut kept texels) old new
   keys_in kept is [] old new are none (same, recent) =
       needs_between files [] old old old new refl (record { needs = refl; hits = refl; apart = refl })
@@ -111,7 +111,7 @@ module _ (files : Files) (state : RecordState) where
       (keys_in kept is texels mid new further.are
       (none_then old mid new first.apart.later later none) rest)
 
-  each_keys : (texels : List Texel) (old new : PassState) → AreCounts old → NoneApart old new
+  each_keys : (texels : List Texel) (old new : PassState) → AreCounts old → NoneUncached old new
       → AsksForEach files state texels old new → NeedsCells files state texels old new
   each_keys texels old new are none each = by state.layout refl
     where

@@ -8,13 +8,15 @@ use Rattle.tiff_format.specs.declared.cut.Cut.{Cut}
 use Rattle.file_table.specs.Record.{RecordState}
 use Rattle.file_table.specs.Calls.{Sighted, sighted, GivesRecord, KeepsView}
 use Rattle.texture_sys.specs.declared.lookup.Lookups.{Lookups}
-use Rattle.image_cache.specs.declared.error.CacheError.{CacheError}
-use Rattle.image_cache.specs.declared.error.CacheError.TheVariants as refused
-use Rattle.image_cache.specs.Pass.{PassState}
-use Rattle.image_cache.specs.Pass.{KeepsAllBut, view_and_record}
-use Rattle.image_cache.specs.Call.{IsUnopened, KeepsOne, NoneFalls}
-use Rattle.image_cache.specs.Cause.{OpeningCause, StepCause, LookupRefuses, MetNewer}
-use Rattle.image_cache.proofs.TexelLemmas.{cause_since}
+use Rattle.tile_source.specs.declared.error.CacheError.{CacheError}
+use Rattle.tile_source.specs.declared.error.CacheError.TheVariants as refused
+use Rattle.tile_source.specs.Pass.{PassState}
+use Rattle.tile_source.specs.Pass.{KeepsAllBut, view_and_record}
+use Rattle.tile_source.specs.Call.{NoneFalls}
+use Rattle.image_cache.specs.Call.{IsUnopened, KeepsOne}
+use Rattle.tile_source.specs.Cause.{StepCause, MetNewer}
+use Rattle.image_cache.specs.Cause.{OpeningCause, LookupRefuses}
+use Rattle.tile_source.proofs.TexelLemmas.{cause_since}
 use Rattle.texture_sys.specs.Needs.{visits_on, AsksForCells}
 use Rattle.texture_sys.specs.Call.{TextureCause}
 use Rattle.texture_sys.specs.Call.{IsLookedUp, IsRefused, IsOutdated, KeepsAfter, KeepsRecord}

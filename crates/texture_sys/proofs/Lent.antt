@@ -9,10 +9,10 @@ use Rattle.waiter.specs.declared.waiting.Waiter as a_waiter
 use Rattle.tex_world.specs.World.{Files}
 use Rattle.shard_gate.specs.Gate.{GateState}
 use Rattle.file_table.specs.Record.{RecordState}
-use Rattle.image_cache.specs.declared.error.CacheError.{CacheError}
-use Rattle.image_cache.specs.declared.reading.Reading.{Reading}
+use Rattle.tile_source.specs.declared.error.CacheError.{CacheError}
+use Rattle.texture_sys.specs.declared.cached_texels.CachedTexels.{CachedTexels}
 use Rattle.image_cache.specs.Fetches.{Fetches, Refuses}
-use Rattle.image_cache.specs.Reading.{IsSameCall, moment}
+use Rattle.texture_sys.specs.Texels.{IsSameCall, moment}
 
 module _ {S E X : Type 0} (leaves : S → Texel → S → Type 0)
     (declines : S → Texel → E → S → Type 0) (f : S → X)
@@ -89,27 +89,27 @@ left_as b a texels (Err e) leaves declines left k d rel dec kept refused =
 -- ---- a lookup on a record
 
 module _ {V T Busy W H R : Type 0} {v : a_waiter.Ghosts V Busy} {t : a_tap.Ghosts T W H}
-    {h : a_handle.Ghosts H W} (files : Files) (b a : Reading V T Busy W H v t h)
+    {h : a_handle.Ghosts H W} (files : Files) (b a : CachedTexels V T Busy W H v t h)
     (texels : RecordState → List Texel) (result : Result R (CacheError Busy))
-    (leaves : Reading V T Busy W H v t h → Texel → Reading V T Busy W H v t h → Type 0)
-    (declines : Reading V T Busy W H v t h → Texel → CacheError Busy
-    → Reading V T Busy W H v t h → Type 0)
-    (left : LeftBy leaves declines a (texels a.known.now) b result)
-    (kept : (a b : Reading V T Busy W H v t h) (t : Texel) → leaves a t b → IsSameCall a b
-    × Fetches files a.cache.now.gate a.known.now (moment a) t (moment b))
-    (refused : (a b : Reading V T Busy W H v t h) (t : Texel) (e : CacheError Busy)
+    (leaves : CachedTexels V T Busy W H v t h → Texel → CachedTexels V T Busy W H v t h → Type 0)
+    (declines : CachedTexels V T Busy W H v t h → Texel → CacheError Busy
+    → CachedTexels V T Busy W H v t h → Type 0)
+    (left : LeftBy leaves declines a (texels a.picture.now) b result)
+    (kept : (a b : CachedTexels V T Busy W H v t h) (t : Texel) → leaves a t b → IsSameCall a b
+    × Fetches files a.cache.now.gate a.picture.now (moment a) t (moment b))
+    (refused : (a b : CachedTexels V T Busy W H v t h) (t : Texel) (e : CacheError Busy)
     → declines a t e b → IsSameCall a b
-    × Refuses files a.cache.now.gate a.known.now (moment a) t e (moment b)) where
-  same_of : {X : Type 0} (f : Reading V T Busy W H v t h → X)
-      → ((a b : Reading V T Busy W H v t h) → IsSameCall a b → f b ≡ f a) → f b ≡ f a
-  same_of f each = left_same b a (texels a.known.now) result leaves declines left f
+    × Refuses files a.cache.now.gate a.picture.now (moment a) t e (moment b)) where
+  same_of : {X : Type 0} (f : CachedTexels V T Busy W H v t h → X)
+      → ((a b : CachedTexels V T Busy W H v t h) → IsSameCall a b → f b ≡ f a) → f b ≡ f a
+  same_of f each = left_same b a (texels a.picture.now) result leaves declines left f
       (λ x y s p. each x y (kept x y s p).0) (λ x y s e p. each x y (refused x y s e p).0)
 
   -- the call that follows has the same cache, record, pass and tap
   pub same_after : IsSameCall a b
   same_after = record {
     cache = same_of (λ r. r.cache) (λ x y call. call.cache);
-    known = same_of (λ r. r.known) (λ x y call. call.known);
+    picture = same_of (λ r. r.picture) (λ x y call. call.picture);
     pass_name = same_of (λ r. r.pass.ghost_name) (λ x y call. call.pass_name);
     tap_name = same_of (λ r. r.tap.ghost_name) (λ x y call. call.tap_name);
   }
@@ -118,22 +118,22 @@ module _ {V T Busy W H R : Type 0} {v : a_waiter.Ghosts V Busy} {t : a_tap.Ghost
   abbrev Stays : Type 0
   Stays = GateState × RecordState
 
-  abbrev stays_of : Reading V T Busy W H v t h → Stays
-  stays_of r = (r.cache.now.gate, r.known.now)
+  abbrev stays_of : CachedTexels V T Busy W H v t h → Stays
+  stays_of r = (r.cache.now.gate, r.picture.now)
 
-  stays : (x y : Reading V T Busy W H v t h) → IsSameCall x y → stays_of y ≡ stays_of x
+  stays : (x y : CachedTexels V T Busy W H v t h) → IsSameCall x y → stays_of y ≡ stays_of x
   stays x y call =
-      ap (λ (g : GateState). let p : Stays = (g, y.known.now) in p) (ap (λ k. k.now.gate) call.cache)
+      ap (λ (g : GateState). let p : Stays = (g, y.picture.now) in p) (ap (λ k. k.now.gate) call.cache)
       ∙ ap (λ (k : RecordState). let p : Stays = (x.cache.now.gate, k) in p)
-      (ap (λ k. k.now) call.known)
+      (ap (λ k. k.now) call.picture)
 
   -- what the lookup leaves, in terms of the pass and the tap
-  pub left_known : (k : RecordState) → a.known.now ≡ k
+  pub left_known : (k : RecordState) → a.picture.now ≡ k
       → LeftBy (Fetches files a.cache.now.gate k) (Refuses files a.cache.now.gate k)
       (moment a) (texels k) (moment b) result
   left_known k is = subst (λ (x : RecordState). LeftBy (Fetches files a.cache.now.gate x)
       (Refuses files a.cache.now.gate x) (moment a) (texels x) (moment b) result) is
-      (left_as b a (texels a.known.now) result leaves declines left
+      (left_as b a (texels a.picture.now) result leaves declines left
       stays_of moment (λ (x : Stays). Fetches files x.0 x.1)
       (λ (x : Stays). Refuses files x.0 x.1)
       (λ x y s p. (stays x y (kept x y s p).0, (kept x y s p).1))

@@ -12,3 +12,5 @@ mod KeptRecord
 mod Warm
 mod Visits
 mod BatchLemmas
+mod FetchLemmas
+mod LooksLemmas

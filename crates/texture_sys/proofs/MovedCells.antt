@@ -14,9 +14,9 @@ use Rattle.micro.specs.Items.{has_key, key_first}
 use Rattle.texel_values.specs.declared.texel_at.TexelAt.{TexelAt}
 use Rattle.pinned_tiles.specs.declared.cell.CellAt.{CellAt}
 use Rattle.pinned_tiles.specs.Pinned.{key_in}
-use Rattle.image_cache.specs.Texel.{has_cell_at, has_cell_by, cell_of}
+use Rattle.tile_source.specs.Texel.{has_cell_at, has_cell_by, cell_of}
 use Rattle.pinned_tiles.specs.Cell.{has_cell, is_tile_of}
-use Rattle.image_cache.specs.Call.{MovesCellAt}
+use Rattle.tile_source.specs.Call.{MovesCellAt}
 
 module _ {A : Type 0} (p q : A → Bool) where
   kept_step : (x : A) (xs : List A) (a b : Bool) → (p x ≡ true → q x ≡ true) → p x ≡ a → q x ≡ b

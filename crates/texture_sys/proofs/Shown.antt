@@ -15,13 +15,14 @@ use Rattle.pinned_tiles.specs.Cell.{has_cell}
 use Rattle.texel_filter.specs.Image.{Texel}
 use Rattle.texel_filter.specs.Calls.{EachAnswered, OneRefused}
 use Rattle.texel_values.specs.declared.texel_at.TexelAt.{TexelAt}
-use Rattle.image_cache.specs.Pass.{PassState, SameCounts, counted, counted_together}
-use Rattle.image_cache.specs.Texel.{has_cell_at, has_cell_by, cell_of, IsCellIn}
-use Rattle.image_cache.specs.Call.{CountsNeed, CountsHits, Needs, turned_to}
+use Rattle.tile_source.specs.Pass.{PassState, SameCounts, counted, counted_together}
+use Rattle.tile_source.specs.Texel.{has_cell_at, has_cell_by, cell_of, IsCellIn}
+use Rattle.tile_source.specs.Call.{CountsNeed, CountsHits, Needs}
+use Rattle.image_cache.specs.Call.{turned_to}
 use Rattle.image_cache.specs.Square.{IsShownAt}
 use Rattle.image_cache.specs.Fetches.{at_of, AsksForCell}
-use Rattle.image_cache.proofs.NeedLemmas.{needs_hit}
-use Rattle.image_cache.proofs.TexelLemmas.{at_cell, asks_at}
+use Rattle.tile_source.proofs.NeedLemmas.{needs_hit}
+use Rattle.tile_source.proofs.TexelLemmas.{at_cell, asks_at}
 use Rattle.image_cache.proofs.SquareLemmas.{has_at}
 use Rattle.texture_sys.specs.Needs.{HasCell, HasCells, AsksForEach, AsksForCells}
 use Rattle.texture_sys.specs.Fetches.{Walk, walk_of, ShowsTexel, LacksTexel}

@@ -3,9 +3,9 @@ use Rattle.std.proofs.Common.{◌≡◌, ℕ, ◌≤◌, refl, sym, subst, lengt
 use Rattle.shard_gate.specs.Gate.{GateState}
 use Rattle.shard_gate.specs.Since.{PurgesNone}
 use Rattle.shard_gate.proofs.SinceLemmas.{purges_none, purges_none_chain}
-use Rattle.image_cache.specs.Call.{AfterNeed, NoneFalls}
-use Rattle.image_cache.specs.Reading.{PassTap}
-use Rattle.image_cache.proofs.FillLemmas.{after_chain, after_none, none_fell, none_falls_chain}
+use Rattle.tile_source.specs.Call.{AfterNeed, NoneFalls}
+use Rattle.tile_source.specs.Source.{PassTap}
+use Rattle.tile_source.proofs.StepLemmas.{after_chain, after_none, none_fell, none_falls_chain}
 
 -- what a fetch leaves, whatever it answers
 pub record Leaves (gate : GateState) (file : ℕ) (old new : PassTap) : Type 0 where

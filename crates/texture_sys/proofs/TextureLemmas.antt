@@ -12,11 +12,12 @@ use Rattle.tile_layout.specs.Cell.{CellsFit}
 use Rattle.file_table.specs.Record.{RecordState}
 use Rattle.file_table.specs.Calls.{sighted, GivesRecord, KeepsView}
 use Rattle.texture_sys.specs.declared.lookup.Lookups.{Lookups}
-use Rattle.image_cache.specs.declared.error.CacheError.{CacheError}
-use Rattle.image_cache.specs.declared.error.CacheError.TheVariants as refused
-use Rattle.image_cache.specs.Call.{NoneFalls}
-use Rattle.image_cache.specs.Cause.{StepCause, LookupRefuses}
-use Rattle.image_cache.proofs.TexelLemmas.{cause_since}
+use Rattle.tile_source.specs.declared.error.CacheError.{CacheError}
+use Rattle.tile_source.specs.declared.error.CacheError.TheVariants as refused
+use Rattle.tile_source.specs.Call.{NoneFalls}
+use Rattle.tile_source.specs.Cause.{StepCause}
+use Rattle.image_cache.specs.Cause.{LookupRefuses}
+use Rattle.tile_source.proofs.TexelLemmas.{cause_since}
 use Rattle.texture_sys.specs.declared.stopped.Stopped.{Stopped}
 use Rattle.texture_sys.specs.Asked.{AreFirstOn}
 use Rattle.texture_sys.specs.Look.{picture_of}

@@ -8,7 +8,7 @@ use Rattle.tile_store.specs.Tile.{CachedTile}
 use Rattle.file_table.specs.Record.{RecordState}
 use Rattle.file_table.specs.Calls.{sighted}
 use Rattle.texture_sys.specs.declared.lookup.Lookups.{Lookups}
-use Rattle.image_cache.specs.Pass.{PassState}
+use Rattle.tile_source.specs.Pass.{PassState}
 use Rattle.texture_sys.specs.Needs.{visits_on, HasCells}
 use Rattle.texture_sys.specs.Call.{IsReady, IsWarm}
 use Rattle.texture_sys.specs.Call.{AnswersWarm}

@@ -14,12 +14,14 @@ use Rattle.file_table.specs.Calls.{Sighted, sighted, MeetsNewer, GivesRecord, Ke
 use Rattle.texture_sys.specs.declared.lookup.Lookups.{Lookups}
 use Rattle.texture_sys.specs.declared.stopped.Stopped.{Stopped}
 use Rattle.texture_sys.specs.Asked.{AreValuesOn, AreFirstOn}
-use Rattle.image_cache.specs.declared.error.CacheError.{CacheError}
-use Rattle.image_cache.specs.declared.error.CacheError.TheVariants as refused
-use Rattle.image_cache.specs.Pass.{PassState, SamePlace}
-use Rattle.image_cache.specs.Call.{Serves, CountsOn, IsUnopened, KeepsOne, NoneApart}
-use Rattle.image_cache.specs.Cause.{RefusedFor, LookupRefuses, MetNewer, MetAtOpening}
-use Rattle.image_cache.specs.Cause.{WantsByOpening}
+use Rattle.tile_source.specs.declared.error.CacheError.{CacheError}
+use Rattle.tile_source.specs.declared.error.CacheError.TheVariants as refused
+use Rattle.tile_source.specs.Pass.{PassState, SamePlace}
+use Rattle.tile_source.specs.Call.{CountsOn, NoneUncached}
+use Rattle.image_cache.specs.Call.{Serves, IsUnopened, KeepsOne}
+use Rattle.tile_source.specs.Cause.{RefusedFor, MetNewer}
+use Rattle.image_cache.specs.Cause.{LookupRefuses, MetAtOpening}
+use Rattle.tile_source.specs.Cause.{WantsByOpening}
 use Rattle.texture_sys.specs.Look.{picture_of}
 use Rattle.texture_sys.specs.Needs.{visits_on, HasCells, AsksForCells, NeedsCells, VisitsStored}
 
@@ -103,7 +105,7 @@ pub record IsLookedUp (files : Files) (file : ℕ) (cut : Cut) (r : Lookups) (ol
   pub given : GivesRecord files file cut old.view new.view state
   pub of : state.generation ≡ generation
   pub asks : AsksForCells files state (visits_on state r) old new
-  pub needs : NoneApart old new → NeedsCells files state (visits_on state r) old new
+  pub needs : NoneUncached old new → NeedsCells files state (visits_on state r) old new
 
 -- The record is that of the generation for which the lookup failed.
 pub record IsRefused {B : Type 0} (files : Files) (file : ℕ) (cut : Cut) (old new : PassState)

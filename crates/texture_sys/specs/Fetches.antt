@@ -2,8 +2,8 @@
 use Rattle.std.specs.Prelude.{◌≡◌, ℕ, true, false, Option, Some, IfOk}
 use Rattle.file_table.specs.Record.{RecordState}
 use Rattle.texel_filter.specs.Image.{Texel}
-use Rattle.image_cache.specs.Pass.{PassState, counted}
-use Rattle.image_cache.specs.Texel.{has_cell_at, cell_of}
+use Rattle.tile_source.specs.Pass.{PassState, counted}
+use Rattle.tile_source.specs.Texel.{has_cell_at, cell_of}
 use Rattle.image_cache.specs.Fetches.{at_of}
 
 -- The state of such a lookup: the pass, how many texels were read, and the key of the last one's

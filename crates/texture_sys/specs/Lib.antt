@@ -5,3 +5,5 @@ pub mod Needs
 pub mod Fetches
 pub mod Call
 pub mod Steps
+pub mod Texels
+pub mod Lookups

@@ -10,9 +10,9 @@ use Rattle.file_table.specs.Record.{RecordState}
 use Rattle.texture_sys.specs.declared.lookup.Lookups.{Lookups}
 use Rattle.texel_filter.specs.Image.{Texel}
 use Rattle.texture_sys.specs.Asked.{all_visits}
-use Rattle.image_cache.specs.Pass.{PassState, SameCounts, counted_together}
-use Rattle.image_cache.specs.Texel.{has_cell_at, cell_of, IsStoredAt}
-use Rattle.image_cache.specs.Call.{Needs, NoneApart}
+use Rattle.tile_source.specs.Pass.{PassState, SameCounts, counted_together}
+use Rattle.tile_source.specs.Texel.{has_cell_at, cell_of, IsStoredAt}
+use Rattle.tile_source.specs.Call.{Needs, NoneUncached}
 use Rattle.image_cache.specs.Sizes.{sizes_known}
 use Rattle.image_cache.specs.Fetches.{at_of, AsksForCell}
 
@@ -61,4 +61,4 @@ pub record AsksForCells (files : Files) (state : RecordState) (texels : List Tex
     (old new : PassState) : Type 0 where
   pub each : AsksForEach files state texels old new
   pub needs : new.needs ≡ counted_together old.needs (length texels)
-  pub keys : NoneApart old new → NeedsCells files state texels old new
+  pub keys : NoneUncached old new → NeedsCells files state texels old new

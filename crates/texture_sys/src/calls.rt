@@ -1,17 +1,12 @@
 //! The two public lookups through the cache: at a place, and along a pixel's footprint.
-ghost use Rattle.std.specs.Prelude.{◌≡◌, ◌<◌, length, IfOk, IfErr, IfSome, OnErr};
+ghost use Rattle.std.specs.Prelude.{◌≡◌, ◌<◌, length};
 ghost use Rattle.tex_world.specs.World.{IsFile};
-ghost use Rattle.file_table.specs.Calls.{sighted};
 ghost use Rattle.texel_filter.specs.Image.{IsChannelCount};
 ghost use Rattle.texel_filter.specs.Deriv.{IsDerivRequest};
-ghost use Rattle.shard_gate.specs.Since.{PurgesNone};
-ghost use Rattle.image_cache.specs.Pass.{IsPassOf};
-ghost use Rattle.image_cache.specs.Call.{NoneFalls};
-ghost use Rattle.image_cache.specs.Cause.{KeepsRecentAt};
-ghost use Rattle.texture_sys.specs.Call.{Answers, TextureCause, MemoryCause, AfterLookup};
-ghost use Rattle.texture_sys.specs.Call.{KeepsRecord};
-ghost use Rattle.texture_sys.specs.Call.{IsWarm, AnswersWarm};
+ghost use Rattle.tile_source.specs.Pass.{IsPassOf};
 ghost use Rattle.texture_sys.specs.Asked.{one_point, one_footprint};
+ghost use Rattle.image_cache.specs.Caller.{call, caller_state};
+ghost use Rattle.texture_sys.specs.Lookups.{LooksUp, LeavesLookup};
 
 use crate::lookup::{FileLookups, Lookup, Lookups};
 use crate::lookup_request::LookupRequest;
@@ -38,27 +33,12 @@ pub fn texture<V: Waiter, T: Tap>(
     requires told { IsFile T.W.files file }
     requires count { length out.old ≡ r.now.nch }
     requires channels { IsChannelCount r.now.nch }
-    ensures value { IfOk result (Answers T.W.files file cache.now.gate.cut
-        (one_point r.now) pass.old.view pass.new.view out.new) }
-    ensures cause { IfErr result (TextureCause T.W.files file cache.now.gate.cut
-        (sighted pass.old.view (T.state tap.old)) (sighted pass.new.view (T.state tap.new))) }
-    ensures err { OnErr result (out.new ≡ out.old) }
-    ensures unread { IfErr result (KeepsRecentAt pass.old pass.new) }
-    // The state after the call.
-    ensures same { AfterLookup file pass.old pass.new }
-    ensures kept { KeepsRecord T.W.files file cache.now.gate.cut (one_point r.now)
-        pass.old pass.new (T.state tap.old) (T.state tap.new) result }
-    ensures tap { NoneFalls (T.state tap.old) (T.state tap.new) }
-    // It visits shards only to pin, unpin and count tiles; it purges nothing.
-    ensures visits { PurgesNone cache.now.gate pass.old.pinned.seat pass.new.pinned.seat }
-    // If it visits only stored levels, it runs out of memory only while it opens a file.
-    ensures memory { MemoryCause (one_point r.now) pass.new (T.state tap.old)
-        (T.state tap.new) result }
-    // If the microcache has every cell that it needs, it makes no call to the tap.
-    ensures warm { IfSome pass.old.latest (λ known. IsWarm file (one_point r.now)
-        pass.old known → AnswersWarm file known.generation
-        (sighted pass.old.view (T.state tap.old)) (sighted pass.new.view (T.state tap.new))
-        result) }
+    ensures answers { LooksUp file (one_point r.now)
+        (call T.W.files T.state (caller_state cache.now pass.old tap.old)
+        (caller_state cache.now pass.new tap.new)) out.old out.new result }
+    ensures leaves { LeavesLookup file (one_point r.now)
+        (call T.W.files T.state (caller_state cache.now pass.old tap.old)
+        (caller_state cache.now pass.new tap.new)) result }
 {
     let lookups = Lookups::One(Lookup::Coarse(LookupRequest::Point(*r)));
     let at = FileLookups { file, lookups };
@@ -81,27 +61,12 @@ pub fn texture_d<V: Waiter, T: Tap>(
     requires told { IsFile T.W.files file }
     requires count { length out.old ≡ r.now.nch }
     requires request { IsDerivRequest r.now }
-    ensures value { IfOk result (Answers T.W.files file cache.now.gate.cut
-        (one_footprint r.now) pass.old.view pass.new.view out.new) }
-    ensures cause { IfErr result (TextureCause T.W.files file cache.now.gate.cut
-        (sighted pass.old.view (T.state tap.old)) (sighted pass.new.view (T.state tap.new))) }
-    ensures err { OnErr result (out.new ≡ out.old) }
-    ensures unread { IfErr result (KeepsRecentAt pass.old pass.new) }
-    // The state after the call.
-    ensures same { AfterLookup file pass.old pass.new }
-    ensures kept { KeepsRecord T.W.files file cache.now.gate.cut (one_footprint r.now)
-        pass.old pass.new (T.state tap.old) (T.state tap.new) result }
-    ensures tap { NoneFalls (T.state tap.old) (T.state tap.new) }
-    // It visits shards only to pin, unpin and count tiles; it purges nothing.
-    ensures visits { PurgesNone cache.now.gate pass.old.pinned.seat pass.new.pinned.seat }
-    // If it visits only stored levels, it runs out of memory only while it opens a file.
-    ensures memory { MemoryCause (one_footprint r.now) pass.new (T.state tap.old)
-        (T.state tap.new) result }
-    // If the microcache has every cell that it needs, it makes no call to the tap.
-    ensures warm { IfSome pass.old.latest (λ known. IsWarm file (one_footprint r.now)
-        pass.old known → AnswersWarm file known.generation
-        (sighted pass.old.view (T.state tap.old)) (sighted pass.new.view (T.state tap.new))
-        result) }
+    ensures answers { LooksUp file (one_footprint r.now)
+        (call T.W.files T.state (caller_state cache.now pass.old tap.old)
+        (caller_state cache.now pass.new tap.new)) out.old out.new result }
+    ensures leaves { LeavesLookup file (one_footprint r.now)
+        (call T.W.files T.state (caller_state cache.now pass.old tap.old)
+        (caller_state cache.now pass.new tap.new)) result }
 {
     let lookups = Lookups::One(Lookup::Coarse(LookupRequest::Footprint(*r)));
     let at = FileLookups { file, lookups };

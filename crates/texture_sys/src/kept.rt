@@ -1,11 +1,12 @@
 //! A source of texels that reads the microcache alone.
 ghost use Rattle.std.specs.Prelude.{◌≡◌};
-ghost use Rattle.image_cache.specs.Pass.{IsPassOf};
-ghost use Rattle.image_cache.specs.Texel.{IsUnder};
+ghost use Rattle.tile_source.specs.Pass.{IsPassOf};
+ghost use Rattle.tile_source.specs.Texel.{IsUnder};
 ghost use Rattle.image_cache.specs.Sizes.{sizes_known, values_known};
 ghost use Rattle.texture_sys.specs.Fetches.{walk_of, ShowsTexel, LacksTexel};
 
-use image_cache::{Cache, Fitting, Pass, TexelAt};
+use file_table::Picture;
+use image_cache::{Cache, Pass, TexelAt};
 use tex_world::Tap;
 use texel_filter::{Corners, Fetch, Square};
 use tile_layout::TileKey;
@@ -20,12 +21,12 @@ pub(crate) struct Lacking;
 pub(crate) struct KeptTexels<'a, T: Tap> {
     pub(crate) cache: &'a Cache<T>,
     pub(crate) pass: &'a Pass<T::W>,
-    pub(crate) known: &'a Fitting<'a, T::W>,
+    pub(crate) picture: &'a Picture<'a, T::W>,
     /// How many texels were read, and the key of the cell that was read last.
     pub(crate) reads: u64,
     pub(crate) latest: Option<TileKey>,
     ghost of_cache: { IsPassOf cache.now pass.now },
-    ghost under: { IsUnder cache.now known.now },
+    ghost under: { IsUnder cache.now picture.now },
 }
 
 impl<'a, T: Tap> Fetch for KeptTexels<'a, T> {
@@ -33,31 +34,34 @@ impl<'a, T: Tap> Fetch for KeptTexels<'a, T> {
 
     type Error = Lacking;
 
-    ghost sizes = { λ f. sizes_known f.known.now };
+    ghost sizes = { λ f. sizes_known f.picture.now };
 
-    ghost values = { λ f. values_known T.W.files f.known.now };
+    ghost values = { λ f. values_known T.W.files f.picture.now };
 
-    ghost leaves = { λ old texel new. (new.known.now ≡ old.known.now)
-        × ShowsTexel old.known.now (walk_of old.pass.now old.reads old.latest) texel
+    ghost leaves = { λ old texel new. (new.picture.now ≡ old.picture.now)
+        × ShowsTexel old.picture.now (walk_of old.pass.now old.reads old.latest) texel
         (walk_of new.pass.now new.reads new.latest) };
 
-    ghost refuses = { λ old texel e new. (new.known.now ≡ old.known.now)
-        × LacksTexel old.known.now (walk_of old.pass.now old.reads old.latest) texel e
+    ghost refuses = { λ old texel e new. (new.picture.now ≡ old.picture.now)
+        × LacksTexel old.picture.now (walk_of old.pass.now old.reads old.latest) texel e
         (walk_of new.pass.now new.reads new.latest) };
 
     fn levels(&self) -> u32 {
-        self.known.levels()
+        self.picture.know();
+        self.picture.levels()
     }
 
     fn size(&self, level: u32) -> (u32, u32) {
-        self.known.size(level)
+        self.picture.know();
+        let grid = self.picture.grid(level);
+        (grid.across.size, grid.down.size)
     }
 
     fn texel(&mut self, level: u32, x: u32, y: u32, out: &mut [u16]) -> Result<(), Lacking> {
         let at = TexelAt { level, x, y };
         match self
             .cache
-            .show_local(self.pass, self.known.record(), at, out)
+            .show_local(self.pass, self.picture.record(), at, out)
         {
             Some(key) => {
                 self.reads = self.reads.saturating_add(1);
@@ -78,7 +82,7 @@ impl<'a, T: Tap> Fetch for KeptTexels<'a, T> {
         // usually one cell holds all four, and is searched for once
         if let Some(key) = self
             .cache
-            .show_square_local(self.pass, self.known.record(), square, channels, out)
+            .show_square_local(self.pass, self.picture.record(), square, channels, out)
         {
             self.reads = self.reads.saturating_add(4);
             self.latest = Some(key);

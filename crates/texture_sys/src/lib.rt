@@ -3,12 +3,14 @@
 
 mod asking;
 mod batch;
+mod cached_texels;
 mod calls;
 mod kept;
 mod local;
 mod lookup;
 mod lookup_request;
 mod stopped;
+mod texels;
 mod texturing;
 
 pub use batch::{Batch, BatchOptions, FootprintOptions, Place, PointOptions};

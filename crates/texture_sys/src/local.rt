@@ -1,28 +1,27 @@
 //! A lookup from the microcache alone. It does not wait, makes no call to a tap and allocates
 //! nothing.
-ghost use Rattle.std.specs.Prelude.{◌≡◌, ◌↔◌, ◌<◌, ◌≤◌, length, slice_index, IsTrue, IsFalse};
-ghost use Rattle.std.specs.Prelude.{IsSome, IsNone, IfSome, IsSomeAnd, None};
+ghost use Rattle.std.specs.Prelude.{◌≡◌, ◌↔◌, ◌<◌, ◌≤◌, length, IsTrue, IsFalse};
+ghost use Rattle.std.specs.Prelude.{IsSome, IsNone, IfSome, None};
 ghost use Rattle.std.specs.Option.{ForSome};
-ghost use Rattle.gen_board.specs.View.{AfterStep};
 ghost use Rattle.texel_filter.specs.Image.{IsChannelCount};
 ghost use Rattle.texel_filter.specs.Calls.{EachAnswered};
-ghost use Rattle.image_cache.specs.Pass.{IsPassOf};
-ghost use Rattle.image_cache.specs.Pass.{KeepsAllBut, the_view, recent_and_counts};
-ghost use Rattle.image_cache.specs.Call.{CountsOn};
+ghost use Rattle.tile_source.specs.Pass.{IsPassOf};
 ghost use Rattle.texture_sys.specs.Asked.{channels_in, IsInRange};
 ghost use Rattle.texture_sys.specs.Asked.{one_point};
 ghost use Rattle.texture_sys.specs.declared.lookup.Lookups.TheVariants.{One};
-ghost use Rattle.image_cache.specs.Texel.{IsUnder};
+ghost use Rattle.tile_source.specs.Texel.{IsUnder};
 ghost use Rattle.texture_sys.specs.Needs.{visits_on, HasCells, AsksForCells};
 ghost use Rattle.texture_sys.specs.Fetches.{walk_of, ShowsTexel};
-ghost use Rattle.texture_sys.specs.Call.{Answers, IsLookupOn, IsLookedUp, AfterLookup};
-ghost use Rattle.texture_sys.specs.Call.{ServesLocally};
+ghost use Rattle.texture_sys.specs.Call.{IsLookupOn};
+ghost use Rattle.texture_sys.specs.Steps.{CountsShown};
+ghost use Rattle.texture_sys.specs.Lookups.{LooksUpLocally, LeavesLocally};
 
 use crate::asking::lookup_for;
 use crate::kept::{KeptTexels, Lacking};
 use crate::lookup::{FileLookup, Lookup};
 use crate::lookup_request::LookupRequest;
-use image_cache::{Cache, Fitting, Pass};
+use file_table::Picture;
+use image_cache::{Cache, Pass};
 use tex_world::Tap;
 use texel_filter::TexRequest;
 use tile_layout::TileKey;
@@ -40,26 +39,17 @@ pub fn local_at<T: Tap>(
     requires file { at.now.file < cache.now.files.board.files }
     requires count { length out.old ≡ channels_in at.now.lookup }
     requires asked { IsInRange at.now.lookup }
-    ensures some { IsSome result
-        ↔ IsSomeAnd pass.old.latest (ServesLocally at.now.file (One at.now.lookup) pass.old pass.new) }
-    ensures value { IfSome result (Answers T.W.files at.now.file cache.now.gate.cut
-        (One at.now.lookup) pass.old.view pass.new.view out.new) }
-    ensures none { IsNone result
-        → (out.new ≡ out.old) × KeepsAllBut the_view pass.old pass.new }
-    // The state after the call.
-    ensures same { AfterLookup at.now.file pass.old pass.new }
-    ensures look { AfterStep at.now.file (slice_index pass.new.view.seen at.now.file)
-        pass.old.view pass.new.view }
-    ensures kept { IfSome result (λ generation. IsSomeAnd pass.new.latest (IsLookedUp T.W.files
-        at.now.file cache.now.gate.cut (One at.now.lookup) pass.old pass.new generation)) }
-    ensures latest { pass.new.latest ≡ pass.old.latest }
+    ensures answers { LooksUpLocally T.W.files at.now.file cache.now.gate.cut (One at.now.lookup)
+        pass.old pass.new out.old out.new result }
+    ensures leaves { LeavesLocally T.W.files at.now.file cache.now.gate.cut (One at.now.lookup)
+        pass.old pass.new result }
 {
     let Some(known) = cache.local(pass, at.file) else {
         return None;
     };
     let generation = known.generation();
-    let fitting = Fitting::of(&known);
-    let looked = lookup_local(cache, pass, &fitting, &at.lookup, out);
+    let picture = Picture::of(&known);
+    let looked = lookup_local(cache, pass, &picture, &at.lookup, out);
     cache.keep(pass, known);
     if looked { Some(generation) } else { None }
 }
@@ -78,19 +68,10 @@ pub fn texture_local<T: Tap>(
     requires file { file < cache.now.files.board.files }
     requires count { length out.old ≡ r.now.nch }
     requires channels { IsChannelCount r.now.nch }
-    ensures some { IsSome result
-        ↔ IsSomeAnd pass.old.latest (ServesLocally file (one_point r.now) pass.old pass.new) }
-    ensures value { IfSome result (Answers T.W.files file cache.now.gate.cut
-        (one_point r.now) pass.old.view pass.new.view out.new) }
-    ensures none { IsNone result
-        → (out.new ≡ out.old) × KeepsAllBut the_view pass.old pass.new }
-    // The state after the call.
-    ensures same { AfterLookup file pass.old pass.new }
-    ensures look { AfterStep file (slice_index pass.new.view.seen file)
-        pass.old.view pass.new.view }
-    ensures kept { IfSome result (λ generation. IsSomeAnd pass.new.latest (IsLookedUp T.W.files
-        file cache.now.gate.cut (one_point r.now) pass.old pass.new generation)) }
-    ensures latest { pass.new.latest ≡ pass.old.latest }
+    ensures answers { LooksUpLocally T.W.files file cache.now.gate.cut (one_point r.now)
+        pass.old pass.new out.old out.new result }
+    ensures leaves { LeavesLocally T.W.files file cache.now.gate.cut (one_point r.now)
+        pass.old pass.new result }
 {
     let lookup = Lookup::Coarse(LookupRequest::Point(*r));
     local_at(cache, pass, &FileLookup { file, lookup }, out)
@@ -100,31 +81,28 @@ pub fn texture_local<T: Tap>(
 fn lookup_local<T: Tap>(
     cache: &Cache<T>,
     pass: &mut Pass<T::W>,
-    known: &Fitting<'_, T::W>,
+    picture: &Picture<'_, T::W>,
     r: &Lookup,
     out: &mut [u16],
 ) -> bool
     requires pass { IsPassOf cache.now pass.old }
     requires few { length pass.old.pinned.recent ≤ 2 }
-    requires under { IsUnder cache.now known.now }
+    requires under { IsUnder cache.now picture.now }
     requires count { length out.old ≡ channels_in r.now }
     requires asked { IsInRange r.now }
     ensures has { IsTrue result
-        ↔ HasCells known.now pass.old.pinned.recent (visits_on known.now (One r.now)) }
+        ↔ HasCells picture.now pass.old.pinned.recent (visits_on picture.now (One r.now)) }
     ensures value { IsTrue result →
-        ForSome (T.W.files.held known.now.file known.now.generation) (λ bytes.
-        IsLookupOn known.now.cut bytes (One r.now) out.new) }
+        ForSome (T.W.files.held picture.now.file picture.now.generation) (λ bytes.
+        IsLookupOn picture.now.cut bytes (One r.now) out.new) }
     ensures same { IsFalse result → (out.new ≡ out.old) × (pass.new ≡ pass.old) }
     // The state after the call.
-    ensures asks { IsTrue result → AsksForCells T.W.files known.now (visits_on known.now (One r.now))
+    ensures asks { IsTrue result → AsksForCells T.W.files picture.now (visits_on picture.now (One r.now))
         pass.old pass.new }
-    ensures counts { CountsOn pass.old pass.new }
-    ensures kept { KeepsAllBut recent_and_counts pass.old pass.new }
+    ensures kept { CountsShown pass.old pass.new }
 {
-    // needed by the proof: the counts fit 64 bits
-    let _needs = pass.needs();
-    let _hits = pass.hits();
-    let Some(shown) = show(cache, pass, known, r, out) else {
+    pass.know();
+    let Some(shown) = show(cache, pass, picture, r, out) else {
         return false;
     };
     cache.count_shown(pass, shown.reads, shown.latest);
@@ -143,30 +121,29 @@ struct Shown {
 fn show<T: Tap>(
     cache: &Cache<T>,
     pass: &Pass<T::W>,
-    known: &Fitting<'_, T::W>,
+    picture: &Picture<'_, T::W>,
     r: &Lookup,
     out: &mut [u16],
 ) -> Option<Shown>
     requires pass { IsPassOf cache.now pass.now }
-    requires under { IsUnder cache.now known.now }
+    requires under { IsUnder cache.now picture.now }
     requires count { length out.old ≡ channels_in r.now }
     requires asked { IsInRange r.now }
     ensures has { IsSome result
-        ↔ HasCells known.now pass.now.pinned.recent (visits_on known.now (One r.now)) }
+        ↔ HasCells picture.now pass.now.pinned.recent (visits_on picture.now (One r.now)) }
     ensures value { IsSome result →
-        ForSome (T.W.files.held known.now.file known.now.generation) (λ bytes.
-        IsLookupOn known.now.cut bytes (One r.now) out.new) }
-    ensures each { IfSome result (λ shown. EachAnswered (ShowsTexel known.now)
-        (walk_of pass.now 0 None) (visits_on known.now (One r.now))
+        ForSome (T.W.files.held picture.now.file picture.now.generation) (λ bytes.
+        IsLookupOn picture.now.cut bytes (One r.now) out.new) }
+    ensures each { IfSome result (λ shown. EachAnswered (ShowsTexel picture.now)
+        (walk_of pass.now 0 None) (visits_on picture.now (One r.now))
         (walk_of pass.now shown.reads shown.latest)) }
     ensures none { IsNone result → out.new ≡ out.old }
 {
-    // needed by the proof: ties the record's layout to the file's bytes
-    let _record = known.record();
+    picture.know();
     let mut texels = KeptTexels {
         cache,
         pass,
-        known,
+        picture,
         reads: 0,
         latest: None,
     };

@@ -1,5 +1,4 @@
 //! What a lookup through the cache asks for, in any form.
-ghost use Rattle.std.specs.Prelude.{◌≡◌};
 
 use crate::batch::Batch;
 use crate::lookup_request::LookupRequest;

@@ -4,39 +4,17 @@ use Rattle.std.proofs.Common.{get_or, Option, Some, None, take, min, refl, sym, 
 use Rattle.std.proofs.Common.{subst}
 use Rattle.std.proofs.Common.{zero-add, inl, inr, ◌+◌, ◌-◌, ◌≤◌}
 use Rattle.std.specs.Prelude.{find}
-use Rattle.std.specs.List.{list_all, range_with_len}
+use Rattle.std.specs.List.{range_with_len}
 use Rattle.std.proofs.lemmas.List.FromFn.{get_or-range_with_len, length-range_with_len}
-use Rattle.std.proofs.lemmas.Bool.{and_parts, cases_lt, not_from_true}
+use Rattle.std.proofs.lemmas.Bool.{cases_lt, not_from_true}
 use Rattle.std.proofs.lemmas.List.{get_or-take, length-take}
 use Rattle.std.proofs.lemmas.Option.{none-some}
 use Rattle.tiff_dirs.specs.Values.{IsFirstOther}
-
-pub find_none : (test : ℕ → Bool) (xs : List ℕ)
-    → ((k : ℕ) → k < length xs → test (get_or xs k 0) ≡ false) → find test xs ≡ None
-find_none test [] h = refl
-find_none test (x ∷ xs) h =
-    let first : test x ≡ false = h 0 (omega arith) in
-    rw first (find_none test xs (λ k lt. h (suc k) (omega arith)))
-
-pub find_first : (test : ℕ → Bool) (xs : List ℕ) (k : ℕ) → k < length xs
-    → ((j : ℕ) → j < k → test (get_or xs j 0) ≡ false) → test (get_or xs k 0) ≡ true
-    → find test xs ≡ Some (get_or xs k 0)
-find_first test [] k lt before here = absurd (omega arith)
-find_first test (x ∷ xs) zero lt before here = rw here refl
-find_first test (x ∷ xs) (suc k) lt before here =
-    let first : test x ≡ false = before 0 (omega arith) in
-    rw first (find_first test xs k (omega arith) (λ j below. before (suc j) (omega arith)) here)
+use Rattle.tiff_entries.proofs.Finding.{find_none, find_first}
 
 pub find_same : (p q : ℕ → Bool) (xs : List ℕ) → ((v : ℕ) → p v ≡ q v) → find p xs ≡ find q xs
 find_same p q [] same = refl
 find_same p q (x ∷ xs) same = rw (same x, find_same p q xs same) refl
-
-pub all_at : (test : ℕ → Bool) (xs : List ℕ) → list_all test xs ≡ true → (k : ℕ) → k < length xs
-    → test (get_or xs k 0) ≡ true
-all_at test [] h k lt = absurd (omega arith)
-all_at test (x ∷ xs) h zero lt = (and_parts (test x) (list_all test xs) h).0
-all_at test (x ∷ xs) h (suc k) lt =
-    all_at test xs (and_parts (test x) (list_all test xs) h).1 k (omega arith)
 
 -- the first value that fails a test is found among the first values of a list
 pub other_found : (test : ℕ → Bool) (value : ℕ → ℕ) (n count : ℕ) (all : List ℕ) (o : Option ℕ)

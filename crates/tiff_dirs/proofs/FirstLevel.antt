@@ -2,16 +2,16 @@
 use Rattle.std.proofs.Common.{◌≡◌, ℕ, List, [], ◌∷◌, refl, ap, ◌∙◌}
 use Rattle.std.specs.Option.{option_or}
 use Rattle.tiff_format.specs.declared.form.Form.{Form}
-use Rattle.tiff_dirs.specs.declared.place.Place.{Place}
+use Rattle.tiff_entries.specs.declared.place.Place.{Place}
 use Rattle.tiff_dirs.specs.declared.read_level.ReadLevel.{ReadLevel}
 use Rattle.tiff_format.specs.Form.{form_of}
 use Rattle.tiff_format.specs.Directory.{directory_place}
 use Rattle.tiff_format.specs.Block.{level_at}
 use Rattle.tiff_format.specs.DirectoryFault.{first_of, directory_fault}
-use Rattle.tiff_dirs.specs.Header.{IsHeader}
+use Rattle.tiff_entries.specs.Header.{IsHeader}
 use Rattle.tiff_format.specs.Fault.{header_fault, data_faults, first_fault}
 use Rattle.tiff_format.specs.Level.{level_place, directory_level}
-use Rattle.tiff_dirs.specs.Entries.{IsLinkAt}
+use Rattle.tiff_entries.specs.Entries.{IsLinkAt}
 use Rattle.tiff_dirs.specs.ReadLevel.{IsLevelAt, seen_level}
 use Rattle.tiff_dirs.specs.Chain.{IsEnd}
 

@@ -1,11 +1,5 @@
-pub mod Products
-pub mod Entries
-pub mod Covering
-pub mod Parts
-pub mod FieldValues
 pub mod Finding
 pub mod Gathering
-pub mod Shown
 pub mod Saying
 pub mod Order
 pub mod Ends

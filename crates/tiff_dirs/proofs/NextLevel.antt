@@ -6,15 +6,15 @@ use Rattle.std.specs.Option.{option_map_or}
 use Rattle.std.proofs.lemmas.Bool.{ne_eqb}
 use Rattle.tiff_format.specs.declared.form.Form.{Form}
 use Rattle.tiff_format.specs.declared.fault.TiffFault.{TiffFault}
-use Rattle.tiff_dirs.specs.declared.error.DirsError.{DirsError}
-use Rattle.tiff_dirs.specs.declared.error.DirsError.TheVariants.{Fault, Reader, NoMemory}
+use Rattle.tiff_entries.specs.declared.error.DirsError.{DirsError}
+use Rattle.tiff_entries.specs.declared.error.DirsError.TheVariants.{Fault, Reader, NoMemory}
 use Rattle.tiff_dirs.specs.declared.read_level.ReadLevel.{ReadLevel}
 use Rattle.tiff_format.specs.Form.{offset_at}
 use Rattle.tiff_format.specs.Directory.{lies_inside, next_place, next_directory}
 use Rattle.tiff_format.specs.Block.{LevelShape, Level, shape_at, level_at}
 use Rattle.tiff_format.specs.DirectoryFault.{directory_fault}
 use Rattle.tiff_format.specs.Level.{halved, is_single, is_next_level}
-use Rattle.tiff_dirs.specs.Calls.{Finds}
+use Rattle.tiff_entries.specs.Calls.{Finds}
 use Rattle.tiff_dirs.specs.NextLevel.{is_half_of, FindsHalf, is_followed, IsNext}
 
 and_false : (a : Bool) → (a && false) ≡ false

@@ -18,7 +18,8 @@ use Rattle.tiff_format.specs.DirectoryFault.{zero_fault, large_fault, tile_fault
 use Rattle.tiff_format.specs.DirectoryFault.{bits_fault, compression_fault, photometric_fault}
 use Rattle.tiff_format.specs.DirectoryFault.{planar_fault, format_fault}
 use Rattle.tiff_dirs.specs.Values.{first_other}
-use Rattle.tiff_dirs.specs.Numbers.{AreNumbersAt, value_fault, size_fault, entries_fault}
+use Rattle.tiff_dirs.specs.Numbers.{AreNumbersAt, value_fault, size_fault}
+use Rattle.tiff_entries.specs.Entries.{entries_fault}
 use Rattle.tiff_dirs.specs.Numbers.{numbers_fault, fields_fault, numbers_shape}
 use Rattle.tiff_format.proofs.FirstFault.{or_assoc, or_none, first_of_both}
 use Rattle.tiff_dirs.proofs.Finding.{find_same}

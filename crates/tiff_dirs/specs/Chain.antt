@@ -1,12 +1,12 @@
 -- What is true of the levels of a file while they are being read?
 use Rattle.std.specs.Prelude.{◌≡◌, ℕ, ◌<◌, true, List, map, None}
 use Rattle.std.specs.List.{range_with_len}
-use Rattle.tiff_dirs.specs.declared.place.Place.{Place}
+use Rattle.tiff_entries.specs.declared.place.Place.{Place}
 use Rattle.tiff_format.specs.Form.{form_of}
 use Rattle.tiff_format.specs.Block.{Level}
 use Rattle.tiff_format.specs.DirectoryFault.{data_fault}
 use Rattle.tiff_format.specs.Level.{is_level, directory_level, level_place, levels_of, IsWholeChain}
-use Rattle.tiff_dirs.specs.Entries.{IsLinkAt}
+use Rattle.tiff_entries.specs.Entries.{IsLinkAt}
 
 -- the first n directories are levels, their blocks lie in the file, and these are the levels
 pub record AreLevels (bytes : List ℕ) (n : ℕ) (levels : List Level) : Type 0 where

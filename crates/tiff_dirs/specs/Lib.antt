@@ -1,11 +1,7 @@
-pub mod Reader
-pub mod Header
 pub mod Dirs
-pub mod Entries
 pub mod Values
 pub mod Shape
 pub mod Numbers
 pub mod ReadLevel
 pub mod NextLevel
 pub mod Chain
-pub mod Calls

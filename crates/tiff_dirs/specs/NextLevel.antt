@@ -4,8 +4,8 @@ use Rattle.std.specs.Prelude.{Ok, Err, ⊤}
 use Rattle.std.specs.Option.{option_map_or}
 use Rattle.tiff_format.specs.declared.form.Form.{Form}
 use Rattle.tiff_dirs.specs.declared.read_level.ReadLevel.{ReadLevel}
-use Rattle.tiff_dirs.specs.declared.error.DirsError.{DirsError}
-use Rattle.tiff_dirs.specs.declared.error.DirsError.TheVariants.{Fault, Reader, NoMemory}
+use Rattle.tiff_entries.specs.declared.error.DirsError.{DirsError}
+use Rattle.tiff_entries.specs.declared.error.DirsError.TheVariants.{Fault, Reader, NoMemory}
 use Rattle.tiff_format.specs.Directory.{next_directory}
 use Rattle.tiff_format.specs.Block.{LevelShape, shape_at}
 use Rattle.tiff_format.specs.DirectoryFault.{directory_fault}

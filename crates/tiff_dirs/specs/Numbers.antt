@@ -4,7 +4,7 @@ use Rattle.std.specs.Prelude.{map, Option, Some, None}
 use Rattle.std.specs.Option.{option_map_or}
 use Rattle.std.specs.Bool.{then_some}
 use Rattle.tiff_format.specs.declared.form.Form.{Form}
-use Rattle.tiff_dirs.specs.declared.tag.TheConstants.{NUMBERS}
+use Rattle.tiff_entries.specs.declared.tag.TheConstants.{NUMBERS}
 use Rattle.tiff_dirs.specs.declared.numbers.Numbers.{Numbers}
 use Rattle.tiff_format.specs.declared.fault.TiffFault.{TiffFault}
 use Rattle.tiff_format.specs.declared.fault.TiffFault.TheVariants.{Unsupported, ZeroSize, TooLarge}
@@ -16,7 +16,8 @@ use Rattle.tiff_format.specs.Field.{field_value}
 use Rattle.tiff_format.specs.Block.{LevelShape, shape_of, tile_of, strip_rows, planes_by}
 use Rattle.tiff_format.specs.DirectoryFault.{first_of, is_tile_side}
 use Rattle.tiff_format.specs.Limits.{max_side, max_channels}
-use Rattle.tiff_format.specs.DirectoryFault.{missing_fault, shape_fault, unsupported_fault}
+use Rattle.tiff_format.specs.DirectoryFault.{unsupported_fault}
+use Rattle.tiff_entries.specs.Entries.{entries_fault}
 use Rattle.tiff_format.specs.DirectoryFault.{zero_fault, large_fault, tile_fault}
 
 -- the first values of the fields that are read in every directory
@@ -75,10 +76,6 @@ size_fault n = first_of
 -- ---- the faults of the directory at a place
 
 module _ (form : Form) (bytes : List ℕ) (at : ℕ) where
-  -- 5 and 6
-  abbrev pub entries_fault : Option TiffFault
-  entries_fault = first_of (missing_fault form bytes at ∷ shape_fault form bytes at ∷ [])
-
   -- 7 to 10
   abbrev pub numbers_fault : Option TiffFault
   numbers_fault = first_of
@@ -87,4 +84,4 @@ module _ (form : Form) (bytes : List ℕ) (at : ℕ) where
 
   -- 5 to 10: the faults of the fields, except too few offsets
   abbrev pub fields_fault : Option TiffFault
-  fields_fault = first_of (entries_fault ∷ numbers_fault ∷ [])
+  fields_fault = first_of (entries_fault form bytes at ∷ numbers_fault ∷ [])

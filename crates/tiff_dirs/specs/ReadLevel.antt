@@ -9,7 +9,7 @@ use Rattle.tiff_format.specs.declared.fault.TiffFault.TheVariants.{DataOutside}
 use Rattle.tiff_format.specs.Form.{header_bytes}
 use Rattle.tiff_format.specs.Block.{Level, level_at, level_with, blocks_of, block_bytes}
 use Rattle.tiff_dirs.specs.Shape.{seen_shape}
-use Rattle.tiff_dirs.specs.Entries.{IsLinkAt}
+use Rattle.tiff_entries.specs.Entries.{IsLinkAt}
 
 -- the shape and the offsets as plain data
 abbrev pub seen_level : ReadLevel → Level

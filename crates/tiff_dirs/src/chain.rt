@@ -10,26 +10,22 @@ ghost use Rattle.tiff_format.specs.Level.{halved as spec_halved, directory_level
 ghost use Rattle.tiff_format.specs.Level.{is_single};
 ghost use Rattle.tiff_format.specs.Fault.{data_faults};
 ghost use Rattle.tiff_format.specs.Facts.{IsChain};
-ghost use Rattle.tiff_dirs.specs.Dirs.{Leaves};
-ghost use Rattle.tiff_dirs.specs.Header.{IsHeader};
-ghost use Rattle.tiff_dirs.specs.Entries.{IsLinkAt};
+ghost use Rattle.tiff_entries.specs.Calls.{Finds, Reads, Leaves};
+ghost use Rattle.tiff_entries.specs.Header.{IsHeader};
+ghost use Rattle.tiff_entries.specs.Entries.{IsLinkAt};
 ghost use Rattle.tiff_dirs.specs.Shape.{seen_shape};
 ghost use Rattle.tiff_dirs.specs.ReadLevel.{IsLevelAt};
 ghost use Rattle.tiff_dirs.specs.NextLevel.{is_half_of, FindsHalf, IsNext};
 ghost use Rattle.tiff_dirs.specs.Chain.{IsEnd, AreAll};
 ghost use Rattle.tiff_format.specs.Shown.{shown, shown_shape};
-ghost use Rattle.tiff_dirs.specs.Calls.{Finds, Reads};
 
-use crate::directory::read_directory;
-use crate::error::DirsError;
 use crate::fields::first_value;
 use crate::level::{read_level, read_shape};
-use crate::place::Place;
 use crate::read_level::ReadLevel;
-use crate::reader::ByteReader;
 use crate::shape::ReadShape;
-use crate::tag::SAMPLES_PER_PIXEL;
 use std::alloc::{AllocError, Global};
+use tiff_entries::tag::SAMPLES_PER_PIXEL;
+use tiff_entries::{ByteReader, DirsError, Place, read_directory};
 use tiff_format::Dir;
 
 /// Sides are at most 131072 and halve from level to level, so there are at most 18 levels.

@@ -4,19 +4,15 @@ ghost use Rattle.std.specs.Prelude.{◌≡◌, ℕ, ◌^◌, ◌<◌, ◌≤◌,
 ghost use Rattle.std.specs.Option.{ForSome};
 ghost use Rattle.tiff_format.specs.Field.{entry_value, field_value};
 ghost use Rattle.tiff_format.specs.Block.{tile_of, strip_rows};
-ghost use Rattle.tiff_dirs.specs.Dirs.{Leaves};
-ghost use Rattle.tiff_dirs.specs.Entries.{IsEntry, is_shaped, is_known};
+ghost use Rattle.tiff_entries.specs.Calls.{Reads, OfEntries, Leaves};
+ghost use Rattle.tiff_entries.specs.Entries.{IsEntry, is_shaped, is_known};
 ghost use Rattle.tiff_dirs.specs.Numbers.{numbers_at, AreNumbersAt};
-ghost use Rattle.tiff_dirs.specs.Calls.{Reads, OfEntries};
 
-use crate::entry::{Entry, LONG8_BYTES};
-use crate::error::DirsError;
-use crate::found::Found;
 use crate::numbers::Numbers;
-use crate::reader::ByteReader;
-use crate::tag::{
+use tiff_entries::tag::{
     ALL_ROWS, NUMBER_COUNT, NUMBERS, ROWS_PER_STRIP, TILE_LENGTH, TILE_WIDTH, default_value,
 };
+use tiff_entries::{ByteReader, DirsError, Entry, Found, LONG8_BYTES};
 
 /// The first value of an entry. Reads at most once.
 fn value_of_entry<B: ByteReader>(b: &mut B, entry: &Entry) -> Result<u64, DirsError<B::Error>>

@@ -5,23 +5,19 @@ ghost use Rattle.std.specs.Option.{ForSome};
 ghost use Rattle.tiff_format.specs.declared.form.Form.{Form};
 ghost use Rattle.tiff_format.specs.Block.{shape_at};
 ghost use Rattle.tiff_format.specs.DirectoryFault.{count_fault};
-ghost use Rattle.tiff_dirs.specs.Dirs.{Leaves};
-ghost use Rattle.tiff_dirs.specs.Entries.{IsDirectoryAt};
+ghost use Rattle.tiff_entries.specs.Calls.{Finds, OfEntries, Leaves};
+ghost use Rattle.tiff_entries.specs.Entries.{IsDirectoryAt};
 ghost use Rattle.tiff_dirs.specs.Shape.{seen_shape};
 ghost use Rattle.tiff_dirs.specs.Numbers.{numbers_fault, fields_fault};
 ghost use Rattle.tiff_dirs.specs.ReadLevel.{IsLevelAt};
-ghost use Rattle.tiff_dirs.specs.Calls.{Finds, OfEntries};
 
-use crate::directory::Directory;
-use crate::error::DirsError;
 use crate::fields::read_numbers;
-use crate::found::Found;
 use crate::offsets::read_offsets;
 use crate::read_level::ReadLevel;
-use crate::reader::ByteReader;
 use crate::sample_fields::{test_bits, test_formats};
 use crate::shape::ReadShape;
 use std::alloc::Global;
+use tiff_entries::{ByteReader, Directory, DirsError, Found};
 
 /// The shape given by the numbers of a directory.
 fn shape_of_numbers<B: ByteReader>(

@@ -5,13 +5,13 @@ ghost use Rattle.tiff_format.specs.Facts.{IsDepth};
 ghost use Rattle.tiff_format.specs.DirectoryFault.{is_tile_side as spec_tile_side};
 ghost use Rattle.tiff_format.specs.Block.{planes_by};
 ghost use Rattle.tiff_dirs.specs.Shape.{seen_shape};
-ghost use Rattle.tiff_dirs.specs.Calls.{Tests};
+ghost use Rattle.tiff_entries.specs.Calls.{Tests};
 ghost use Rattle.tiff_format.specs.declared.fault.TiffFault.TheVariants.{Unsupported};
 ghost use Rattle.tiff_dirs.specs.Numbers.{value_fault, size_fault, is_bad_tile, is_large};
 ghost use Rattle.tiff_dirs.specs.Numbers.{numbers_shape};
 
 use crate::shape::ReadShape;
-use crate::tag::{COMPRESSION, PHOTOMETRIC, PLANAR_CONFIGURATION};
+use tiff_entries::tag::{COMPRESSION, PHOTOMETRIC, PLANAR_CONFIGURATION};
 use tiff_format::{MAX_CHANNELS, MAX_SIDE, TILE_STEP, TiffFault};
 
 /// Compression: none.

@@ -5,19 +5,15 @@ ghost use Rattle.std.specs.Prelude.{OnOk, min, vec_len, vec_capacity, take};
 ghost use Rattle.std.specs.Option.{ForSome};
 ghost use Rattle.tiff_format.specs.Block.{shape_at, blocks_of, offsets_tag};
 ghost use Rattle.tiff_format.specs.DirectoryFault.{count_fault};
-ghost use Rattle.tiff_dirs.specs.Dirs.{Leaves};
+ghost use Rattle.tiff_entries.specs.Calls.{Finds, Reads, OfEntries, Leaves};
 ghost use Rattle.tiff_format.specs.Field.{type_size, is_read, entry_value, field_values};
-ghost use Rattle.tiff_dirs.specs.Entries.{IsEntry, is_shaped, part_value};
+ghost use Rattle.tiff_entries.specs.Entries.{IsEntry, is_shaped, part_value};
 ghost use Rattle.tiff_dirs.specs.Values.{AppendsNumbers, AreFirstValues, max_values as spec_values};
 ghost use Rattle.tiff_dirs.specs.Shape.{seen_shape};
-ghost use Rattle.tiff_dirs.specs.Calls.{Finds, Reads, OfEntries};
 
-use crate::entry::{Entry, LONG_BYTES, LONG8_BYTES};
-use crate::error::DirsError;
-use crate::found::Found;
-use crate::reader::{ByteReader, MAX_READ_BYTES};
 use crate::shape::ReadShape;
 use std::alloc::Global;
+use tiff_entries::{ByteReader, DirsError, Entry, Found, LONG_BYTES, LONG8_BYTES, MAX_READ_BYTES};
 use tiff_format::{Form, TiffFault};
 
 /// The number of values read at once: as many of the widest type as fit one read.

@@ -1,13 +1,12 @@
 //! Reads the directories of a file.
 
 ghost use Rattle.std.specs.Option.{ForSome};
-ghost use Rattle.tiff_dirs.specs.Dirs.{Tells, Leaves};
+ghost use Rattle.tiff_dirs.specs.Dirs.{Tells};
+ghost use Rattle.tiff_entries.specs.Calls.{Leaves};
 
 use crate::chain::read_levels;
-use crate::error::DirsError;
-use crate::header::read_header;
-use crate::reader::ByteReader;
 use std::alloc::Global;
+use tiff_entries::{ByteReader, DirsError, read_header};
 use tiff_format::Dirs;
 
 /// Reads the levels of a file, or its first fault.

@@ -4,8 +4,8 @@ ghost use Rattle.std.specs.Prelude.{◌≡◌, length};
 ghost use Rattle.tiff_format.specs.Block.{blocks_of};
 ghost use Rattle.tiff_dirs.specs.Shape.{seen_shape};
 
-use crate::place::Place;
 use crate::shape::ReadShape;
+use tiff_entries::Place;
 use tiff_format::{Dir, TiffFault};
 
 /// A level whose strips or tiles have not been checked yet.
@@ -22,7 +22,7 @@ impl ReadLevel {
     ghost use Rattle.std.specs.Prelude.{◌<◌, ◌≤◌, ◌^◌};
     ghost use Rattle.tiff_dirs.specs.ReadLevel.{seen_level, blocks_fault};
     ghost use Rattle.tiff_format.specs.Shown.{shown};
-    ghost use Rattle.tiff_dirs.specs.Calls.{Tests};
+    ghost use Rattle.tiff_entries.specs.Calls.{Tests};
 
     /// The directory of this level, if all its strips and tiles lie in a file of this length.
     /// `number` is the level's number, for the fault.

@@ -6,23 +6,19 @@ ghost use Rattle.std.specs.Option.{ForSome, option_map};
 ghost use Rattle.tiff_format.specs.declared.form.Form.{Form};
 ghost use Rattle.tiff_format.specs.declared.fault.TiffFault.TheVariants.{Unsupported};
 ghost use Rattle.tiff_format.specs.Field.{type_size, is_read, entry_value, default_of};
-ghost use Rattle.tiff_dirs.specs.Dirs.{Leaves};
+ghost use Rattle.tiff_entries.specs.Calls.{Finds, Reads, OfEntries, Leaves};
 ghost use Rattle.tiff_format.specs.Facts.{IsDepth};
 ghost use Rattle.tiff_format.specs.DirectoryFault.{bits_fault, format_fault};
-ghost use Rattle.tiff_dirs.specs.Entries.{IsEntry, HasEntries, is_shaped, is_known, part_value};
+ghost use Rattle.tiff_entries.specs.Entries.{IsEntry, HasEntries, is_shaped, is_known, part_value};
 ghost use Rattle.tiff_dirs.specs.Values.{is_allowed, IsFirstOther, first_other};
 ghost use Rattle.tiff_dirs.specs.Numbers.{AreNumbersAt};
-ghost use Rattle.tiff_dirs.specs.Calls.{Finds, Reads, OfEntries};
 
-use crate::entry::Entry;
-use crate::error::DirsError;
-use crate::found::Found;
 use crate::numbers::{Numbers, unsupported};
 use crate::offsets::max_values;
-use crate::reader::ByteReader;
 use crate::shape::BYTE_BITS;
-use crate::tag::{BITS_PER_SAMPLE, SAMPLE_FORMAT, default_value};
 use std::alloc::Global;
+use tiff_entries::tag::{BITS_PER_SAMPLE, SAMPLE_FORMAT, default_value};
+use tiff_entries::{ByteReader, DirsError, Entry, Found};
 
 /// The bits of a sample that takes two bytes.
 const SHORT_BITS: u64 = 16;

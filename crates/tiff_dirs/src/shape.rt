@@ -4,7 +4,7 @@ ghost use Rattle.std.specs.Prelude.{◌≡◌, ◌≤◌};
 ghost use Rattle.tiff_format.specs.Block.{shape_of, pieces_over};
 ghost use Rattle.tiff_format.specs.Facts.{IsLevelShape, IsSide};
 
-use crate::tag::{STRIP_OFFSETS, TILE_OFFSETS};
+use tiff_entries::tag::{STRIP_OFFSETS, TILE_OFFSETS};
 use tiff_format::{Dir, Form};
 
 /// The numbers of a level that say where its samples are in its strips or tiles.

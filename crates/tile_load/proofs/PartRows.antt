@@ -1,22 +1,14 @@
 -- The rows of half of a part, by the places of their samples among those of the cell.
-use Rattle.std.proofs.Common.{◌≡◌, ℕ, ◌+◌, ◌-◌, ◌*◌, ◌<◌, ◌≤◌, List, ◌++◌, length, slice_index}
+use Rattle.std.proofs.Common.{◌≡◌, ℕ, ◌+◌, ◌-◌, ◌*◌, ◌<◌, ◌≤◌, List, length, slice_index}
 use Rattle.std.proofs.Common.{refl, sym, ap, ◌∙◌, subst, arith, inl, inr}
 use Rattle.std.proofs.lemmas.Bool.{cases_lt}
-use Rattle.std.proofs.lemmas.List.{get_or_append_left, get_or-append-add}
 use Rattle.std.proofs.lemmas.Nat.{mul-add-lt, mul-le}
 use Rattle.tiff_format.specs.Level.{halved}
 use Rattle.tiff_format.specs.declared.rect.Rect.{Rect}
 use Rattle.tile_layout.specs.Texel.{average, clamped, quarter}
 use Rattle.tile_store.specs.Tile.{CachedTile, AreSamples}
 use Rattle.tile_load.specs.PartPlace.{IsPartPlace, HalvesRows, left_of, top_of, sample_on}
-use Rattle.tile_load.specs.Quarters.{row_sample, row_average}
-
--- an element in the middle of a list
-pub in_middle : (a b c : List ℕ) (start k : ℕ) → length a ≡ start → k < length b
-    → slice_index (a ++ (b ++ c)) (start + k) ≡ slice_index b k
-in_middle a b c start k is below =
-    ap (λ (q : ℕ). slice_index (a ++ (b ++ c)) (q + k)) (sym is)
-    ∙ get_or-append-add a (b ++ c) k 0 ∙ get_or_append_left b c 0 k below
+use Rattle.half_rows.specs.Quarters.{row_sample, row_average}
 
 -- ---- places
 

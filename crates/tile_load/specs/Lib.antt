@@ -2,6 +2,5 @@ pub mod Load
 pub mod LoadError
 pub mod CellTile
 pub mod Halving
-pub mod Quarters
 pub mod PartPlace
 pub mod Halved

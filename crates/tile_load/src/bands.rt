@@ -91,7 +91,7 @@ pub(crate) fn next_bands<W: World>(
         };
         match next_band(ahead, &alone) {
             Some(band) => {
-                let _full = bands.push(band);
+                let _ = bands.push(band);
             }
             None => add_parts(ahead, &alone, &mut bands),
         }
@@ -160,7 +160,7 @@ fn add_parts<W: World>(ahead: &mut ReadAhead<W>, place: &Place<'_>, bands: &mut 
         };
         done = done.saturating_add(part.rect.h);
         if let Some(band) = next_band(ahead, &part) {
-            let _full = bands.push(band);
+            let _ = bands.push(band);
         }
     }
 }

@@ -76,9 +76,9 @@ impl<'a, W: World> Halving<'a, W> {
             unreachable!();
         };
         // needed by the proof: there is a stored level, and the key has a generation
-        let _stored = layout.stored();
-        let _levels = layout.levels(cut);
-        let _generation = key.generation();
+        let _ = layout.stored();
+        let _ = layout.levels(cut);
+        let _ = key.generation();
         let level = key.level();
         let source = layout.grid(level - 1, cut);
         let rect = layout.cell_rect(level, cut, key.index());
@@ -133,7 +133,7 @@ impl<'a, W: World> Halving<'a, W> {
             (self.old.done + 1) }
     {
         // needed by the proof: ties the part's samples to its level
-        let _told = tile.key();
+        let _ = tile.key();
         let place = PartPlace {
             part: tile.rect(),
             cell: self.rect,

@@ -10,7 +10,6 @@ mod loading;
 mod narrow;
 mod part_place;
 mod part_span;
-mod quarters;
 mod tiles;
 
 pub use halving::Halving;

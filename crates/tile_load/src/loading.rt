@@ -92,11 +92,11 @@ pub fn load_at<T: Tap>(
         (lent_of (T.Handle.named file.new.handle) (T.state tap.new)) result }
 {
     // needed by the proof: the cells of every stored level are small enough
-    let _levels = layout.levels(cut);
+    let _ = layout.levels(cut);
     let level = key.level();
     let rect = layout.cell_rect(level, cut, key.index());
     // needed by the proof: each stored level has a first plane
-    let _planes = layout.planes(level);
+    let _ = layout.planes(level);
     let place = Place {
         layout,
         level,

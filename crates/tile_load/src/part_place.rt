@@ -16,13 +16,6 @@ pub(crate) struct PartPlace {
 }
 
 impl PartPlace {
-    /// The number of columns that are made from the source cell.
-    pub(crate) fn columns(&self) -> u32
-        ensures { result ≡ halved self.now.part.w }
-    {
-        (self.part.w / 2).max(1)
-    }
-
     /// The number of rows that are made from the source cell.
     pub(crate) fn rows(&self) -> u32
         ensures { result ≡ halved self.now.part.h }

@@ -163,7 +163,7 @@ impl<W: World> Slots<W> {
         let Some(claim) = claim_to_write(slot) else {
             return false;
         };
-        let _before = claim.put(part, PRESENT);
+        let _ = claim.put(part, PRESENT);
         true
     }
 }

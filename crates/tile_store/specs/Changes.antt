@@ -63,6 +63,11 @@ with_pin tile es =
 abbrev pub kept_tile : CachedTile → Entries → CachedTile
 kept_tile tile es = option_map_or (λ entry. entry.tile) (entry_at tile.key es) tile
 
+-- The tile is the one that is kept under the key of `tile`, and has that key.
+pub record IsKept (tile : CachedTile) (es : Entries) (kept : CachedTile) : Type 0 where
+  pub value : kept ≡ kept_tile tile es
+  pub keyed : kept.key ≡ tile.key
+
 -- The entry of the key has one pin less, and keeps its place.
 abbrev pub unpinned_once : ℕ → Entries → Entries
 unpinned_once key es =

@@ -17,7 +17,7 @@ fn evict<W: World>(order: &mut Order<W>) -> u64
     ensures bytes { loose_bytes order.new.entries + result ≡ loose_bytes order.old.entries }
 {
     // needed by the proof: keys are distinct, so exactly one entry leaves
-    let _count = order.len();
+    let _ = order.len();
     match order.last_unpinned() {
         Some(last) => {
             order.pop(last.key);

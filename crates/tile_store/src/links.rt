@@ -119,7 +119,7 @@ impl Links {
         ensures { self.new ≡ linked (place ∷ without place self.old.order) self.old.places }
     {
         // needed by the proof: no place is in the order twice
-        let _count = self.len();
+        let _ = self.len();
         self.remove(place);
         self.push_front(place);
     }

@@ -1,6 +1,6 @@
 //! Marks the files that may have tiles in a shard, so that a purge of another file looks at no
 //! tile.
-ghost use Rattle.std.specs.Prelude.{◌≡◌, ◌<◌, IfOk, false, length, replicate, if◌then◌else◌};
+ghost use Rattle.std.specs.Prelude.{◌≡◌, ◌<◌, false, length, if◌then◌else◌};
 ghost use Rattle.tile_layout.specs.Key.{file_of};
 ghost use Rattle.tile_store.specs.Marks.{is_marked, marked, unmarked};
 

@@ -1,5 +1,5 @@
 //! The entries of a shard in fixed slots, found by key, in the order of their last use.
-ghost use Rattle.std.specs.Prelude.{◌≡◌, ℕ, ◌+◌, ◌<◌, ◌≤◌, ◌^◌, ◌++◌, ◌==◌, [], length, nat_eq};
+ghost use Rattle.std.specs.Prelude.{◌≡◌, ◌+◌, ◌<◌, ◌≤◌, ◌^◌, ◌==◌, [], length, nat_eq};
 ghost use Rattle.std.specs.Prelude.{◌∷◌, IfOk, IfSome, None, IsNone, IsFalse, false, option_map};
 ghost use Rattle.std.specs.Option.{option_copied};
 ghost use Rattle.std.specs.Map.{keys_of, remove_entry};
@@ -140,7 +140,7 @@ impl<W: World> Order<W> {
             return 0;
         };
         // needed by the proof: no slot is in the order twice
-        let _count = self.links.len();
+        let _ = self.links.len();
         let Some(entry) = &mut self.slots[slot as usize] else {
             return 0;
         };
@@ -161,7 +161,7 @@ impl<W: World> Order<W> {
             return 0;
         };
         // needed by the proof: no slot is in the order twice
-        let _count = self.links.len();
+        let _ = self.links.len();
         let Some(entry) = &mut self.slots[slot as usize] else {
             return 0;
         };
@@ -198,7 +198,7 @@ impl<W: World> Order<W> {
             return;
         };
         // needed by the proof: no slot is in the order twice
-        let _count = self.links.len();
+        let _ = self.links.len();
         self.slots[slot as usize] = None;
         self.free.push_reserved(slot);
         self.links.remove(slot);
@@ -211,7 +211,7 @@ impl<W: World> Order<W> {
     {
         if let Some(slot) = self.keys.find(key) {
             // needed by the proof: no slot is in the order twice
-            let _count = self.links.len();
+            let _ = self.links.len();
             self.links.to_front(slot);
         }
     }

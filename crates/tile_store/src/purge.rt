@@ -31,7 +31,7 @@ fn take_or_turn<W: World>(order: &mut Order<W>, file: u32, below: u32) -> u64
     ensures bytes { loose_bytes order.new.entries + result ≡ loose_bytes order.old.entries }
 {
     // needed by the proof: keys are distinct, so the entry of the last key is the last one
-    let _count = order.len();
+    let _ = order.len();
     let Some(entry) = order.last() else {
         return 0;
     };

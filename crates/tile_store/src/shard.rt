@@ -4,8 +4,8 @@ ghost use Rattle.std.specs.Prelude.{OnOk, OnErr, IfOk, IfSome, IsTrue, ◌↔◌
 ghost use Rattle.std.specs.Arc.{arc_value};
 ghost use Rattle.tile_store.specs.Entry.{entry_at, tile_at, HasPin, pin_sum, loose_bytes};
 ghost use Rattle.tile_store.specs.Entry.{pinned_count, AreEntries};
-ghost use Rattle.tile_store.specs.Changes.{pinned_first, inserted, kept_tile, unpinned_once};
-ghost use Rattle.tile_store.specs.Changes.{kept_within, without_stale, with_pin, KeepsPinned};
+ghost use Rattle.tile_store.specs.Changes.{pinned_first, inserted, unpinned_once};
+ghost use Rattle.tile_store.specs.Changes.{kept_within, without_stale, with_pin, KeepsPinned, IsKept};
 ghost use Rattle.tile_store.specs.Keys.{slot_of};
 ghost use Rattle.tile_store.specs.Slots.{empty_shard, AreInSlots, SameSlots, SlotsAfterInsert};
 ghost use Rattle.tile_store.specs.Slots.{FillsSlot, EmptiesSlots, TellsSlot};
@@ -84,7 +84,7 @@ impl<W: World> Shard<W> {
         self.loose -= self.order.pin(key);
         self.pins += 1;
         // needed by the proof: keys are distinct
-        let _count = self.order.len();
+        let _ = self.order.len();
         Ok(Some(tile))
     }
 
@@ -95,8 +95,7 @@ impl<W: World> Shard<W> {
         requires left { self.old.left ≡ [] }
         requires room { pinned_count self.old.entries < slots }
         requires pins { pin_sum self.old.entries + 1 < 2 ^ 32 }
-        ensures kept { IfOk result (λ kept. arc_value kept ≡ kept_tile tile self.old.entries) }
-        ensures keyed { IfOk result (λ kept. (arc_value kept).key ≡ tile.key) }
+        ensures kept { IfOk result (λ kept. IsKept tile self.old.entries (arc_value kept)) }
         // The state after the call.
         ensures entries { OnOk result (self.new.entries ≡ inserted tile slots self.old.entries) }
         ensures pinned { OnOk result
@@ -133,11 +132,11 @@ impl<W: World> Shard<W> {
         let kept = owned(self.alloc, tile)?;
         let entry = Entry::pinned(another(&kept)?);
         self.loose -= make_room(&mut self.order);
-        let _slot = self.order.put(entry);
+        let _ = self.order.put(entry);
         self.marks.mark(key);
         self.pins += 1;
         // needed by the proof: keys are distinct
-        let _count = self.order.len();
+        let _ = self.order.len();
         Ok(kept)
     }
 
@@ -157,7 +156,7 @@ impl<W: World> Shard<W> {
         self.pins -= 1;
         self.loose = evict_past(&mut self.order, loose, share);
         // needed by the proof: keys are distinct
-        let _count = self.order.len();
+        let _ = self.order.len();
     }
 
     /// Removes the file's unpinned tiles whose generation is below the bound, and no others.
@@ -184,7 +183,7 @@ impl<W: World> Shard<W> {
         let stays = self.order.has_file(file);
         self.marks.keep(file, stays);
         // needed by the proof: keys are distinct
-        let _count = self.order.len();
+        let _ = self.order.len();
     }
 
     /// Whether the tile of a key is there and pinned.

@@ -1,11 +1,11 @@
-use Rattle.std.proofs.Common.{map, ◌∙◌}
+use Rattle.std.proofs.Common.{map, ◌∙◌, rules}
 use Rattle.std.specs.String.{string_bytes}
 use Rattle.command_line.proofs.InvocationLemmas.{asked_of_matches, reads_found, reads_refused}
 use Rattle.command_line.proofs.invocation.invocation_of.Goals as goal
 
-pub returns-in-Ok-clause-exact : goal.returns-in-Ok-clause-exact
-returns-in-Ok-clause-exact c =
-    let takes = c.in-Ok.ensures in
+pub returns-clause-exact : goal.returns-clause-exact
+returns-clause-exact c =
+    let takes = c.in_ok-matches.ensures in
     rw c.ok_or.ensures.value
     (
     reads_found c.asked_for.result _
@@ -15,6 +15,8 @@ returns-in-Ok-clause-exact c =
     )
     )
 
-pub returns-in-Err-clause-exact : goal.returns-in-Err-clause-exact
-returns-in-Err-clause-exact c =
-    reads_refused (map string_bytes c.args.words.now) c.in-Err.error c.in-Err.ensures
+pub returns-in_err-matches-clause-exact : goal.returns-in_err-matches-clause-exact
+returns-in_err-matches-clause-exact c =
+    let refused = reads_refused (map string_bytes c.args.words.now) c.in_err-matches.field-0.0
+    c.in_err-matches.ensures in
+    search rules

@@ -1,4 +1,4 @@
-use Rattle.render_run.specs.Around.{sink_of}
+use Rattle.answer_page.specs.Page.{sink_of}
 use Rattle.render_run.proofs.Rounds.{rounds_finish, close_cut, rounds_put, rounds_cut}
 use Rattle.render_run.proofs.answering.answer_list.Goals as goal
 

@@ -41,11 +41,11 @@ returns-clause-ok g c =
     record {
       before = sights_of g.F.Tap.Tap.state c.begin.new.posts;
       carried = c.in_ok-begin.ensures.ok;
-      there = turns_there (λ p. sight g.F.Tap.Tap.state p.worker) files terms
+      there = turns_there (λ p. sight g.F.Tap.Tap.state p.caller) files terms
           c.deref.result.now lists n (length rs) c.begin.new.posts c.answer_round.new.posts
           c.begin.auto.posts c.requires.crew.0 long c.answer_round.ensures.shares;
       turns = turns_named files terms number_of n 0 rs c.deref.result.now _ _ _ given
-          (turns_taken (λ p. sight g.F.Tap.Tap.state p.worker) files terms c.deref.result.now
+          (turns_taken (λ p. sight g.F.Tap.Tap.state p.caller) files terms c.deref.result.now
           lists n (length rs) c.begin.new.posts c.answer_round.new.posts c.begin.auto.posts
           c.requires.crew.0 long c.answer_round.ensures.shares);
     }

@@ -1,6 +1,7 @@
 use Rattle.std.proofs.Common.{◌≡◌, ◌+◌, ◌-◌, ◌≤◌, length, take, drop, refl, arith}
 use Rattle.std.proofs.lemmas.List.{take_all, length-drop, length-map}
-use Rattle.render_run.specs.Around.{sink_of, setup_of, terms_of}
+use Rattle.render_run.specs.Around.{setup_of, terms_of}
+use Rattle.answer_page.specs.Page.{sink_of}
 use Rattle.render_run.specs.Posts.{answers_of, progress_by, sights_of}
 use Rattle.render_run.proofs.Rounds.{none_yet, round_at, there_at, rounds_more, rounds_part, rounds_kept}
 use Rattle.render_run.proofs.answering.answer_rounds.Goals as goal
@@ -16,7 +17,7 @@ rounds-init g c = record {
       (length-map c.args.posts.now _) c.requires.idle c.requires.alone refl);
   within = omega arith;
   few = omega arith;
-  pass = c.requires.pass;
+  callers = c.requires.callers;
 }
 
 pub returns-in-Err-clause-err : goal.returns-in-Err-clause-err
@@ -78,7 +79,7 @@ rounds-preserved g c =
           c.in-Ok.ensures.passed c.in-Ok.ensures.refusal refl;
       within = within;
       few = omega (arith, c.rounds.invariant.few, c.in-Ok.ensures.few);
-      pass = c.answer_next.ensures.pass;
+      callers = c.answer_next.ensures.callers;
     }
 
 pub returns-in-Err-write_round-clause-err : goal.returns-in-Err-write_round-clause-err

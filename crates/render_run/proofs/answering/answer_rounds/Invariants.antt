@@ -1,7 +1,8 @@
 use Rattle.std.proofs.Common.{◌≤◌, ◌-◌, length}
-use Rattle.render_run.specs.Around.{sink_of, setup_of, terms_of}
+use Rattle.render_run.specs.Around.{setup_of, terms_of}
+use Rattle.answer_page.specs.Page.{sink_of}
 use Rattle.render_run.specs.Answering.{SoFar}
-use Rattle.render_run.specs.Posts.{ArePassesOf, progress_by, sights_of}
+use Rattle.render_run.specs.Posts.{AreCallersOf, progress_by, sights_of}
 use Rattle.render_run.proofs.answering.answer_rounds.Given as goal
 
 -- some first rounds are answered
@@ -14,7 +15,7 @@ invariant-rounds g l = record {
       (progress_by g.F.Tap.Tap.state l.posts (sink_of g.O.Sink l.out)) l.page l.refused;
   within : l.done ≤ length l.requests;
   few : l.refused ≤ l.done;
-  pass : ArePassesOf l.setting.cache.now l.posts;
+  callers : AreCallersOf l.setting.cache.now l.posts;
 }
 
 abbrev pub decreases-rounds : goal.decreases-rounds

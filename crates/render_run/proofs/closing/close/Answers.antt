@@ -1,10 +1,9 @@
 use Rattle.std.proofs.Common.{[], ◌++◌, refl}
 use Rattle.std.proofs.lemmas.List.{append-nil}
 use Rattle.request_lang.specs.Closing.{closing_lines, worker_lines, total_line}
-use Rattle.render_run.specs.Around.{sink_of}
-use Rattle.render_run.specs.Page.{outgoing}
+use Rattle.answer_page.specs.Page.{sink_of, outgoing}
 use Rattle.render_run.specs.Posts.{all_counts}
-use Rattle.render_run.proofs.Passing.{passes_more, passes_longer, rest_longer, then_adds}
+use Rattle.answer_page.proofs.Passing.{passes_more, passes_longer, rest_longer, then_adds}
 use Rattle.render_run.proofs.closing.close.Goals as goal
 
 pub returns-in-Err-clause-passed : goal.returns-in-Err-clause-passed

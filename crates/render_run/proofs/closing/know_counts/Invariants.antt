@@ -5,5 +5,5 @@ use Rattle.render_run.proofs.closing.know_counts.Given as goal
 -- it holds for the workers so far
 abbrev pub invariant-loop-post : goal.invariant-loop-post
 invariant-loop-post g l = record {
-  so_far : All (λ p. p.worker.pass.hits ≤ p.worker.pass.needs) (take l.post-index l.posts);
+  so_far : All (λ p. p.caller.pass.hits ≤ p.caller.pass.needs) (take l.post-index l.posts);
 }

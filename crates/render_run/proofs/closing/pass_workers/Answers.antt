@@ -4,10 +4,10 @@ use Rattle.std.proofs.Common.{append_assoc}
 use Rattle.std.proofs.lemmas.List.{drop_more, get_or-map, length-map}
 use Rattle.request_lang.specs.declared.closing.Counts.{Counts}
 use Rattle.request_lang.specs.Closing.{worker_line, worker_lines}
-use Rattle.render_run.specs.Around.{sink_of, counts_of}
-use Rattle.render_run.specs.Page.{outgoing}
+use Rattle.render_run.specs.Around.{counts_of}
+use Rattle.answer_page.specs.Page.{sink_of, outgoing}
 use Rattle.render_run.specs.Posts.{all_counts}
-use Rattle.render_run.proofs.Passing.{passes_more, rest_longer, none_passed}
+use Rattle.answer_page.proofs.Passing.{passes_more, rest_longer, none_passed}
 use Rattle.render_run.proofs.closing.pass_workers.Goals as goal
 
 -- the lines from a worker on are its own and those of the others
@@ -44,8 +44,8 @@ loop-w-preserved g c =
     } in
     let low : c.loop-w.w < length posts = c.loop-w-test.true in
     let here : get_or (all_counts posts) c.loop-w.w one ≡ one =
-    get_or-map (λ p. counts_of p.worker.pass) posts c.loop-w.w c.index-posts-w.result one low
-    ∙ rw (c.needs.ensures, c.hits.ensures.value, c.apart.ensures) refl in
+    get_or-map (λ p. counts_of p.caller.pass) posts c.loop-w.w c.index-posts-w.result one low
+    ∙ rw (c.needs.ensures, c.hits.ensures.value, c.apart.ensures, c.pass-pass.ensures.value) refl in
     record {
       front = c.loop-w.invariant.front ++ worker_line c.loop-w.w one;
       split = lines_split c.loop-w.invariant.front _ c.loop-w.w (all_counts posts) one one

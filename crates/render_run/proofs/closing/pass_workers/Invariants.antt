@@ -1,6 +1,6 @@
 use Rattle.std.proofs.Common.{◌≡◌, ◌++◌, List, ℕ, drop}
 use Rattle.request_lang.specs.Closing.{worker_lines}
-use Rattle.render_run.specs.Page.{Passes, outgoing}
+use Rattle.answer_page.specs.Page.{Passes, outgoing}
 use Rattle.render_run.specs.Posts.{all_counts}
 use Rattle.render_run.proofs.closing.pass_workers.Given as goal
 

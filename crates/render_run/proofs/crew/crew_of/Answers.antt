@@ -4,4 +4,4 @@ use Rattle.render_run.proofs.crew.crew_of.Goals as goal
 
 pub returns-in-Err-clause-back : goal.returns-in-Err-clause-back
 returns-in-Err-clause-back g c =
-    taps_back (length c.man.new.posts.items) _ _ _ _ c.man.ensures.made c.give_back.ensures
+    taps_back (length c.fill_crew.new.posts.items) _ _ _ _ c.fill_crew.ensures.made c.give_back.ensures

@@ -3,5 +3,4 @@ use Rattle.render_run.proofs.round.answer_hooked.Goals as goal
 
 pub returns-in-Sync : goal.returns-in-Sync
 returns-in-Sync g c =
-    rw c.in-Sync.is (synced g.T.Tap.state g.T.W.World.files c.args.desk.now.cache.now
-    c.args.worker.now c.requires.pass)
+    rw c.in-Sync.is (synced g.T.Tap.state g.T.W.World.files c.args.caller.now)

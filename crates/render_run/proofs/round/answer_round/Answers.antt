@@ -14,7 +14,7 @@ returns-clause-shares g c = record {
       let few : w < length c.args.posts.now = rw length-map at low in
       let d = one_of c.args.posts.now c.requires.some.0 in
       let at = (c.for_each_mut.ensures w d few).1 in
-      share_is (λ p. sight g.T.Tap.state p.worker) (λ p. p.answers.items) g.T.W.World.files
+      share_is (λ p. sight g.T.Tap.state p.caller) (λ p. p.answers.items) g.T.W.World.files
       (terms_of c.args.setting.now.cache.now.gate) c.args.tasks.now c.args.posts.now
       c.for_each_mut.new.s c.for_each_mut.auto.s w at.argument.now at.after_call.now d few
       at.argument_is at.left at.call.0;

@@ -1,7 +1,6 @@
 -- What was answered so far, and then what is left, is the whole share.
 use Rattle.std.proofs.Common.{◌≡◌, ◌+◌, ◌*◌, ◌-◌, ◌≤◌, ◌++◌, List, length, drop}
 use Rattle.std.specs.Prelude.{vec_capacity}
-use Rattle.image_cache.specs.Pass.{IsPassOf}
 use Rattle.request_lang.specs.declared.answer.Answer.{Answer}
 use Rattle.render_run.specs.Around.{Sight, terms_of}
 use Rattle.render_run.specs.Answering.{AnswersEach, share_of}
@@ -13,13 +12,13 @@ invariant-share g l = record {
   so_far : (rest : List Answer) (end : Sight)
       → AnswersEach g.T.W.World.files (terms_of l.setting.cache.now.gate)
       (share_of l.turn.workers 0 (drop l.k l.tasks)) rest
-      (sight g.T.Tap.state l.post.worker) end
+      (sight g.T.Tap.state l.post.caller) end
       → AnswersEach g.T.W.World.files (terms_of l.setting.cache.now.gate)
       (share_of l.turn.workers l.turn.worker l.tasks) (l.post.answers.items ++ rest)
-      (sight g.T.Tap.state l.initial.post.worker) end;
+      (sight g.T.Tap.state l.initial.post.caller) end;
   place : l.k ≡ l.turn.worker + length l.post.answers.items * l.turn.workers;
   room : length l.tasks ≤ l.turn.workers * vec_capacity l.post.answers;
-  pass : IsPassOf l.setting.cache.now l.post.worker.pass;
+  caller : l.post.caller.cache ≡ l.setting.cache.now;
 }
 
 abbrev pub decreases-share : goal.decreases-share

@@ -16,11 +16,11 @@ loop-post-preserved g c = record {
         room_enough (length c.args.posts.now) c.args.count (vec_capacity c.reserve.new.self)
             c.requires.some (omega (arith, c.in_ok-reserve.ensures.ok, c.clear.ensures.len)),
       );
-  same = map-set_same (λ p. p.worker) c.loop-post.posts c.loop-post.post-index _
+  same = map-set_same (λ p. p.caller) c.loop-post.posts c.loop-post.post-index _
       c.post-item.result refl ∙ c.loop-post.invariant.same;
 }
 
 pub returns-in_err-reserve-clause-same : goal.returns-in_err-reserve-clause-same
 returns-in_err-reserve-clause-same g c =
-    map-set_same (λ p. p.worker) c.loop-post.posts c.loop-post.post-index _ c.post-item.result refl
+    map-set_same (λ p. p.caller) c.loop-post.posts c.loop-post.post-index _ c.post-item.result refl
     ∙ c.loop-post.invariant.same

@@ -8,5 +8,5 @@ abbrev pub invariant-loop-post : goal.invariant-loop-post
 invariant-loop-post g l = record {
   room : AllWithin (λ p. (p.answers.items ≡ [])
       × (l.count ≤ length l.initial.posts * vec_capacity p.answers)) l.posts 0 l.post-index;
-  same : map (λ p. p.worker) l.posts ≡ map (λ p. p.worker) l.initial.posts;
+  same : map (λ p. p.caller) l.posts ≡ map (λ p. p.caller) l.initial.posts;
 }

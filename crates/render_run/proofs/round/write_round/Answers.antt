@@ -7,10 +7,10 @@ use Rattle.std.proofs.Math.Nat.{mod-lt}
 use Rattle.std.proofs.lemmas.List.Concat.{flat_map-append}
 use Rattle.request_lang.specs.declared.answer.Answer.{Answer}
 use Rattle.request_lang.specs.Line.{line_of}
-use Rattle.render_run.specs.Around.{sink_of}
+use Rattle.answer_page.specs.Page.{sink_of, outgoing}
 use Rattle.render_run.specs.Posts.{answers_of}
 use Rattle.render_run.specs.Answering.{answers_text, in_turn}
-use Rattle.render_run.proofs.Passing.{passes_more, passes_part, passes_longer}
+use Rattle.answer_page.proofs.Passing.{passes_more, passes_part, passes_longer, none_passed}
 use Rattle.render_run.proofs.Rounds.{text_more, count_more}
 use Rattle.render_run.proofs.Shares.{in_turn_append, in_turn_push, answer_in, answer_is}
 use Rattle.render_run.proofs.round.write_round.Goals as goal
@@ -52,6 +52,13 @@ one_of_byte false n is = is
 one_low : (b : Bool) → one_if b ≤ 1
 one_low true = omega arith
 one_low false = omega arith
+
+pub loop-i-init : goal.loop-i-init
+loop-i-init g c = record {
+  passed = none_passed (outgoing g.O.Sink c.args.page.now c.args.out.now);
+  refusal = refl;
+  few = omega arith;
+}
 
 pub loop-i-preserved : goal.loop-i-preserved
 loop-i-preserved g c =

@@ -2,7 +2,7 @@ use Rattle.std.proofs.Common.{◌≡◌, ◌≤◌, length}
 use Rattle.std.specs.List.{count_by}
 use Rattle.request_lang.specs.Basis.{is_refusal}
 use Rattle.render_run.specs.Answering.{answers_text, in_turn}
-use Rattle.render_run.specs.Page.{Passes, outgoing}
+use Rattle.answer_page.specs.Page.{Passes, outgoing}
 use Rattle.render_run.specs.Posts.{answers_of}
 use Rattle.render_run.proofs.round.write_round.Given as goal
 

@@ -1,5 +1,7 @@
-use Rattle.std.proofs.Common.{◌≡◌, ◌∙◌, ℕ, length, ap, subst, arith}
-use Rattle.render_run.specs.Around.{sink_of, source_of_crew, terms_for, terms_of}
+use Rattle.std.proofs.Common.{sym, ◌≡◌, ◌∙◌, ℕ, length, ap, subst, arith}
+use Rattle.std.specs.Arc.{arc_value}
+use Rattle.render_run.specs.Around.{source_of_crew, terms_for, terms_of}
+use Rattle.answer_page.specs.Page.{sink_of}
 use Rattle.render_run.specs.Crew.{TakesBack}
 use Rattle.render_run.specs.Posts.{sights_of}
 use Rattle.render_run.proofs.Manned.{crew_alone, crew_idle, crew_none, crew_passes, taps_back}
@@ -33,23 +35,33 @@ returns-in_default-crew_of g c = record {
   taps = c.in_default-crew_of.ensures.back;
 }
 
+pub answer_list-answered-requires-clause-may : goal.answer_list-answered-requires-clause-may
+answer_list-answered-requires-clause-may g c κs within =
+    rw c.deref-shared.ensures (record {
+      entered = rw c.in-Ok-crew_of.ensures.made.files.entered c.requires.entered;
+      files = c.in-Ok-cache_of.ensures.files ∙ c.count.ensures
+          ∙ sym c.in-Ok-crew_of.ensures.made.files.size;
+      asked = rw c.deref.ensures.value c.requires.may;
+      few = rw c.deref.ensures.value c.requires.few;
+    })
+
 pub answer_list-answered-requires-clause-idle : goal.answer_list-answered-requires-clause-idle
 answer_list-answered-requires-clause-idle g c κs within =
     rw c.deref_mut.ensures.value
-    (crew_idle g.F.Tap.Tap.state c.in-Ok-cache_of.cache c.in-Ok-crew_of.posts.items
+    (crew_idle g.F.Tap.Tap.state (arc_value c.in-Ok-cache_of.cache) c.in-Ok-crew_of.posts.items
     c.in-Ok-crew_of.ensures.new)
 
-pub answer_list-answered-requires-clause-pass : goal.answer_list-answered-requires-clause-pass
-answer_list-answered-requires-clause-pass g c κs within =
-    rw c.deref_mut.ensures.value
-    (crew_passes g.F.Tap.Tap.state c.in-Ok-cache_of.cache c.in-Ok-crew_of.posts.items
+pub answer_list-answered-requires-clause-callers : goal.answer_list-answered-requires-clause-callers
+answer_list-answered-requires-clause-callers g c κs within =
+    rw (c.deref_mut.ensures.value, c.deref-shared.ensures)
+    (crew_passes g.F.Tap.Tap.state (arc_value c.in-Ok-cache_of.cache) c.in-Ok-crew_of.posts.items
     c.in-Ok-crew_of.ensures.new)
 
 pub answer_list-answered-requires-clause-alone : goal.answer_list-answered-requires-clause-alone
 answer_list-answered-requires-clause-alone g c κs within =
-    rw c.deref_mut.ensures.value
-    (crew_alone g.F.Tap.Tap.state c.in-Ok-cache_of.cache c.args.asked.now.options.workers
-    c.in-Ok-cache_of.cache.gate.passes c.in-Ok-cache_of.pass c.in-Ok-crew_of.posts.items
+    rw (c.deref_mut.ensures.value, c.deref-shared.ensures)
+    (crew_alone g.F.Tap.Tap.state (arc_value c.in-Ok-cache_of.cache) c.args.asked.now.options.workers
+    (arc_value c.in-Ok-cache_of.cache).gate.passes c.in-Ok-cache_of.pass c.in-Ok-crew_of.posts.items
     c.in-Ok-crew_of.ensures.count c.in-Ok-cache_of.ensures.pass.permits
     c.in-Ok-crew_of.ensures.alone)
 
@@ -70,17 +82,17 @@ returns g c =
     ap length c.deref_mut.ensures.value ∙ c.in-Ok-crew_of.ensures.count in
     record {
       left =
-          leaves_through g.F.W.World.files (terms_of c.in-Ok-cache_of.cache.gate)
+          leaves_through g.F.W.World.files (terms_of (arc_value c.in-Ok-cache_of.cache).gate)
           (terms_for c.args.asked.now.options) (length after) (length before) workers
           c.args.asked.now.requests.items
           (source_of_crew (sights_of g.F.Tap.Tap.state before)) seen f0 f1 f2
           (rw c.deref_mut.ensures.value
-          (crew_none g.F.Tap.Tap.state c.in-Ok-cache_of.cache c.in-Ok-crew_of.posts.items
+          (crew_none g.F.Tap.Tap.state (arc_value c.in-Ok-cache_of.cache) c.in-Ok-crew_of.posts.items
           c.in-Ok-crew_of.ensures.new))
           made given c.in-Ok-cache_of.ensures.terms count
           (sink_of g.O.Sink c.args.out.now) (sink_of g.O.Sink c.answer_list-answered.new.out)
           c.answer_list-answered.result
-          (rw c.deref.ensures.value at c.answer_list-answered.ensures);
+          (rw (c.deref.ensures.value, c.deref-shared.ensures) at c.answer_list-answered.ensures);
       made = taps_made (length after) workers seen f0 f1 f2 made given
           c.answer_list-answered.result;
       taps = taps_back workers seen f0 f1 f2 made

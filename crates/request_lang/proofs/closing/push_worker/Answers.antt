@@ -1,8 +1,8 @@
 use Rattle.std.proofs.Common.{ℕ, List, [], ◌∷◌, ◌++◌, codes, refl, sym, ◌∙◌, append_assoc, rules}
 use Rattle.request_lang.specs.Grammar.{line_feed}
-use Rattle.request_lang.specs.Line.{fields}
+use Rattle.short_text.specs.Number.{fields}
 use Rattle.request_lang.specs.Closing.{worker_line, apart_field}
-use Rattle.request_lang.proofs.AppendLemmas.{pushes_then, pushes_refused, begins_same, begins_on}
+use Rattle.short_text.proofs.AppendLemmas.{pushes_then, pushes_refused, begins_same, begins_on}
 use Rattle.request_lang.proofs.closing.push_worker.Goals as goal
 
 pub returns-in_err-push_line-3-clause-text : goal.returns-in_err-push_line-3-clause-text

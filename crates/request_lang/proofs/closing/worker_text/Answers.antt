@@ -1,7 +1,7 @@
 use Rattle.std.proofs.Common.{ℕ, length, take, ap, ◌∙◌}
 use Rattle.request_lang.specs.Closing.{worker_line}
-use Rattle.request_lang.proofs.AppendLemmas.{pushes_keep}
-use Rattle.request_lang.specs.Appending.{Begins}
+use Rattle.short_text.proofs.AppendLemmas.{pushes_keep}
+use Rattle.short_text.specs.Appending.{Begins}
 use Rattle.request_lang.proofs.closing.worker_text.Goals as goal
 
 pub returns-in-Err-clause-err : goal.returns-in-Err-clause-err

@@ -1,5 +1,5 @@
 use Rattle.std.proofs.Common.{length, ap, arith}
-use Rattle.request_lang.proofs.AppendLemmas.{pushes_few, cut_back}
+use Rattle.short_text.proofs.AppendLemmas.{pushes_few, cut_back}
 use Rattle.request_lang.proofs.line.line_text.Goals as goal
 
 pub end_line-requires : goal.end_line-requires

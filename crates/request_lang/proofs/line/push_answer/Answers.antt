@@ -1,6 +1,7 @@
 use Rattle.std.proofs.Common.{ℕ, List, ◌++◌, ap}
-use Rattle.request_lang.specs.Line.{fields, head_of}
-use Rattle.request_lang.proofs.AppendLemmas.{pushes_then}
+use Rattle.short_text.specs.Number.{fields}
+use Rattle.request_lang.specs.Line.{head_of}
+use Rattle.short_text.proofs.AppendLemmas.{pushes_then}
 use Rattle.request_lang.proofs.line.push_answer.Goals as goal
 
 pub returns : goal.returns

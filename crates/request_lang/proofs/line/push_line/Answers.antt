@@ -1,6 +1,6 @@
 use Rattle.std.proofs.Common.{ℕ, List, ◌++◌, ap}
-use Rattle.request_lang.specs.Line.{fields}
-use Rattle.request_lang.proofs.AppendLemmas.{pushes_then}
+use Rattle.short_text.specs.Number.{fields}
+use Rattle.short_text.proofs.AppendLemmas.{pushes_then}
 use Rattle.request_lang.proofs.line.push_line.Goals as goal
 
 pub returns-clause-text : goal.returns-clause-text

@@ -1,7 +1,8 @@
 use Rattle.std.proofs.Common.{ℕ, List, [], ◌∷◌, ◌++◌, sym, ap, ◌∙◌, append_assoc}
 use Rattle.request_lang.specs.Grammar.{line_feed}
-use Rattle.request_lang.specs.Line.{fields, head_of}
-use Rattle.request_lang.proofs.AppendLemmas.{pushes_then}
+use Rattle.short_text.specs.Number.{fields}
+use Rattle.request_lang.specs.Line.{head_of}
+use Rattle.short_text.proofs.AppendLemmas.{pushes_then}
 use Rattle.request_lang.proofs.line.push_other_line.Goals as goal
 
 pub returns-clause-text : goal.returns-clause-text

@@ -1,6 +1,7 @@
 use Rattle.std.proofs.Common.{[], ◌∷◌, refl}
-use Rattle.request_lang.specs.Line.{fields, numbers_behind, comma}
-use Rattle.request_lang.proofs.AppendLemmas.{pushes_then}
+use Rattle.short_text.specs.Number.{fields, numbers_behind}
+use Rattle.request_lang.specs.Line.{comma}
+use Rattle.short_text.proofs.AppendLemmas.{pushes_then}
 use Rattle.request_lang.proofs.line.push_shard.Goals as goal
 
 pub returns-clause-text : goal.returns-clause-text

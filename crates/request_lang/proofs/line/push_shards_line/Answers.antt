@@ -1,7 +1,7 @@
 use Rattle.std.proofs.Common.{ℕ, List, ◌++◌, ap}
 use Rattle.std.specs.List.{flat_map}
 use Rattle.request_lang.specs.Line.{shard_text}
-use Rattle.request_lang.proofs.AppendLemmas.{pushes_then}
+use Rattle.short_text.proofs.AppendLemmas.{pushes_then}
 use Rattle.request_lang.proofs.line.push_shards_line.Goals as goal
 
 pub returns-clause-text : goal.returns-clause-text

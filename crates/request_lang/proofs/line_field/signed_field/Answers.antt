@@ -2,7 +2,8 @@ use Rattle.std.proofs.Common.{◌≡◌, ℕ, List, get_or, ap, sym, ◌∙◌, 
 use Rattle.std.specs.Prelude.{ℤ, pos, neg_ℤ}
 use borrow.Author.Tests.{eqb-true}
 use Rattle.std.proofs.lemmas.Str.{IsCharBoundary-after_ascii}
-use Rattle.request_lang.specs.LineField.{cut, mapped, number_within, spelled}
+use Rattle.short_text.specs.Words.{cut}
+use Rattle.request_lang.specs.LineField.{mapped, number_within, spelled}
 use Rattle.request_lang.proofs.SignLemmas.{signed_minus, signed_plain, some_text}
 use Rattle.request_lang.proofs.line_field.signed_field.Goals as goal
 

@@ -1,7 +1,7 @@
 use Rattle.std.proofs.Common.{◌≡◌, ℕ, ◌+◌, List, [], ◌∷◌, ◌++◌, take, set, subst, ap, ◌∙◌, arith}
 use Rattle.std.proofs.lemmas.List.{take_more_set}
 use Rattle.request_lang.specs.Grammar.{line_feed}
-use Rattle.request_lang.specs.Appending.{Pushes}
+use Rattle.short_text.specs.Appending.{Pushes}
 use Rattle.request_lang.proofs.values.push_last.Goals as goal
 
 pub returns-clause-text : goal.returns-clause-text

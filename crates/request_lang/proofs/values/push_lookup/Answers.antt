@@ -2,9 +2,9 @@ use Rattle.std.proofs.Common.{◌≡◌, ℕ, ◌+◌, List, [], ◌∷◌, ◌+
 use Rattle.std.proofs.Common.{append_assoc, arith}
 use Rattle.std.proofs.lemmas.List.{take_more_set}
 use Rattle.request_lang.specs.Grammar.{line_feed}
-use Rattle.request_lang.specs.Line.{fields}
-use Rattle.request_lang.specs.Appending.{Pushes}
-use Rattle.request_lang.proofs.AppendLemmas.{pushes_then}
+use Rattle.short_text.specs.Number.{fields}
+use Rattle.short_text.specs.Appending.{Pushes}
+use Rattle.short_text.proofs.AppendLemmas.{pushes_then}
 use Rattle.request_lang.proofs.values.push_lookup.Goals as goal
 
 pub returns-clause-text : goal.returns-clause-text

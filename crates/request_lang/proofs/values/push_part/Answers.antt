@@ -1,5 +1,5 @@
 use Rattle.std.proofs.Common.{ℕ, List, subst}
-use Rattle.request_lang.specs.Appending.{Pushes}
+use Rattle.short_text.specs.Appending.{Pushes}
 use Rattle.request_lang.proofs.values.push_part.Goals as goal
 
 pub returns-clause-text : goal.returns-clause-text

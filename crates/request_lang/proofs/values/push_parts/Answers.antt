@@ -1,6 +1,6 @@
 use Rattle.std.proofs.Common.{◌≡◌, ◌++◌, take, drop, arith}
 use Rattle.std.proofs.lemmas.List.{take-append-drop}
-use Rattle.request_lang.proofs.AppendLemmas.{pushes_refused, begins_on, one_part}
+use Rattle.short_text.proofs.AppendLemmas.{pushes_refused, begins_on, one_part}
 use Rattle.request_lang.proofs.values.push_parts.Goals as goal
 
 pub returns-in_err-push_part : goal.returns-in_err-push_part

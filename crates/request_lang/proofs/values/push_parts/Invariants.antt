@@ -1,6 +1,6 @@
 use Rattle.std.proofs.Common.{◌≡◌, ◌++◌, length}
-use Rattle.request_lang.specs.Line.{fields}
-use Rattle.request_lang.specs.Appending.{Begins}
+use Rattle.short_text.specs.Number.{fields}
+use Rattle.short_text.specs.Appending.{Begins}
 use Rattle.request_lang.proofs.values.push_parts.Given as goal
 
 abbrev pub invariant-parts : goal.invariant-parts

@@ -1,8 +1,8 @@
 use Rattle.std.proofs.Common.{ℕ, List, get_or, take, refl, ap, sym, ◌∙◌, arith, drop, ◌+◌, ◌++◌, append_assoc}
 use Rattle.std.proofs.lemmas.List.{append-nil}
-use Rattle.request_lang.specs.LineField.{space}
-use Rattle.request_lang.specs.Line.{fields, number_behind}
-use Rattle.request_lang.proofs.PaddedTextLemmas.{one_value_more, fields_more}
+use Rattle.short_text.specs.Words.{space}
+use Rattle.short_text.specs.Number.{fields, number_behind}
+use Rattle.short_text.proofs.PaddedTextLemmas.{one_value_more, fields_more}
 use Rattle.request_lang.proofs.values.put_values.Goals as goal
 
 pub loop-value-init : goal.loop-value-init

@@ -1,6 +1,6 @@
 use Rattle.std.proofs.Common.{◌≡◌, ◌+◌, ◌*◌, ◌≤◌, ◌++◌, length, take}
-use Rattle.request_lang.specs.Line.{fields}
-use Rattle.request_lang.specs.PaddedText.{max_value_bytes}
+use Rattle.short_text.specs.Number.{fields}
+use Rattle.short_text.specs.PaddedText.{max_value_bytes}
 use Rattle.request_lang.proofs.values.put_values.Given as goal
 
 abbrev pub invariant-loop-value : goal.invariant-loop-value

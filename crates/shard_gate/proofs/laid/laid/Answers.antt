@@ -15,7 +15,7 @@ new-requires-in-loop-shard-clause-lawful g c =
     subst (λ (t : ShardState). IsHome g.W.World.files c.args.terms.now t) (sym c.new.ensures)
     (blank_home g.W.World.files c.args.terms.now c.in-Ok.shard
     (c.in-Ok.ensures.value ∙ ap empty_shard c.slots.ensures)
-    (c.in-Ok.ensures.lawful c.args.terms.now.tag) c.tiles-tiles.ensures.slots)
+    (c.in-Ok.ensures.lawful c.args.terms.now.tag) c.tiles.ensures.slots)
 
 pub new-requires-in-loop-shard-clause-blank : goal.new-requires-in-loop-shard-clause-blank
 new-requires-in-loop-shard-clause-blank g c =

@@ -10,13 +10,13 @@ use Rattle.shard_gate.proofs.work.insert_in.Goals as goal
 pub returns-clause-ok : goal.returns-clause-ok
 returns-clause-ok g c = λ tag lawful fits.
     kept_is g.W.World.files (cut_of tag) c.args.tile (arc_value c.in_ok-tile.tile)
-    c.args.shard.now.entries lawful.cells fits c.in_ok-tile.ensures.kept c.in_ok-tile.ensures.keyed
+    c.args.shard.now.entries lawful.cells fits c.in_ok-tile.ensures.kept.value c.in_ok-tile.ensures.kept.keyed
 
 pub returns-clause-words : goal.returns-clause-words
 returns-clause-words g c =
     inserts_slot c.args.shard.now c.insert_pin.new.self c.requires.slots c.args.tile _
-    c.slot_in-slot.result c.tiles-tiles-2.ensures.slots
+    c.slot_in-slot.result c.tiles.ensures.slots
     (ap (λ k. slot_of k c.insert_pin.new.self.slots) (sym c.key-key.ensures.value)
     ∙ c.slot_in-slot.ensures.value)
     c.in_ok-tile.ensures.entries c.in_ok-tile.ensures.slots c.in_ok-tile.ensures.pinned
-    c.tiles-tiles.ensures.valid.distinct c.tiles-tiles-2.ensures.valid.distinct
+    c.tiles-slots.ensures.valid.distinct c.tiles.ensures.valid.distinct

@@ -11,6 +11,6 @@ returns-clause-behind g c =
     (λ (e : EntryState). 1 ≤ e.pins) c.requires.pin in
     behind_release c.args.shard.now c.release.new.self c.requires.slots c.args.key
     c.slot_in-slot.result entry.0 c.slot_in-slot.ensures.value entry.1 entry.2
-    c.tiles-tiles-2.ensures.slots c.requires.left c.release.ensures.slots
-    c.tiles-tiles.ensures.valid.distinct c.tiles-tiles-2.ensures.valid.distinct
+    c.tiles-2.ensures.slots c.requires.left c.release.ensures.slots
+    c.tiles.ensures.valid.distinct c.tiles-2.ensures.valid.distinct
     c.release.ensures.pinned

@@ -1,5 +1,5 @@
 -- With one more pin one fewer is allowed, and a pin is there as long as its key is.
-use Rattle.std.proofs.Common.{rules, arith, ◌∙◌, ◌≤◌, ℕ}
+use Rattle.std.proofs.Common.{arith, ◌∙◌, ◌≤◌}
 use Rattle.sharing_tests.proofs.HeldLemmas.{room_inside, still_there}
 use Rattle.sharing_tests.proofs.gate_pins.+counts_inside.Goals as goal
 

@@ -23,8 +23,8 @@ returns g c tells =
     let out = c.write_samples.new.out in
     let narrow = depth == 8 in
     let h = c.requires.inside in
-    let own = c.key-key.ensures.tile in
-    let told = c.key-key.ensures.told in
+    let own = c.key.ensures.tile in
+    let told = c.key.ensures.told in
     let are = c.write_samples.ensures in
     let wide = c.channels-wide.ensures.value in
     let from = c.min-from.result in

@@ -11,5 +11,5 @@ returns-clause-values g c =
 pub returns-clause-told : goal.returns-clause-told
 returns-clause-told g c =
     told_values g.W.World.files c.args.tile.now c.args.depth c.args.at (samples_of c.row.result)
-    c.write_texel.new.out c.key-key.ensures.told c.row.ensures.value c.row.ensures.told
+    c.write_texel.new.out c.key.ensures.told c.row.ensures.value c.row.ensures.told
     c.write_texel.ensures.values

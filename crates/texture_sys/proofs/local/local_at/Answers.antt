@@ -13,37 +13,46 @@ use Rattle.texture_sys.proofs.local.local_at.Goals as goal
 abbrev ok_of : ℕ → Result ℕ ℕ
 ok_of g = Ok g
 
-pub returns-then-looked-clause-kept : goal.returns-then-looked-clause-kept
-returns-then-looked-clause-kept g c =
-    let k : RecordState = c.in-Some.known.value in
-    let of_generation : c.deref.result.now ≡ k = search rules in
-    let of_fitting : c.deref-2.result.now ≡ k = search rules in
-    let given : GivesRecord g.T.W.World.files c.args.at.now.file c.args.cache.now.gate.cut
-    c.args.pass.now.view c.keep.new.pass.view c.in-Some.known.value = search rules in
-    local_kept g.T.W.World.files c.args.at.now.file c.args.cache.now.gate.cut (One c.args.at.now.lookup)
-    c.args.pass.now c.local.new.pass c.lookup_local-looked.new.pass c.keep.new.pass k
-    c.generation-generation.result given
-    c.keep.ensures.kept
-    (sym (c.generation-generation.ensures.value ∙ ap (λ (k : RecordState). k.generation)
-    of_generation))
-    c.in-Some.ensures.same
-    (subst (λ (k : RecordState). AsksForCells g.T.W.World.files k (visits_on k (One c.args.at.now.lookup)) c.local.new.pass
-    c.lookup_local-looked.new.pass) (c.of-fitting.ensures ∙ of_fitting) (c.if-looked.ensures.asks refl))
-    c.keep.ensures.same
+pub returns-then-looked-clause-leaves : goal.returns-then-looked-clause-leaves
+returns-then-looked-clause-leaves g c = record {
+  same = search rules;
+  look = search rules;
+  kept =
+      let k : RecordState = c.in-Some.known.value in
+      let of_generation : c.deref.result.now ≡ k = search rules in
+      let of_fitting : c.deref-2.result.now ≡ k = search rules in
+      let given : GivesRecord g.T.W.World.files c.args.at.now.file c.args.cache.now.gate.cut
+      c.args.pass.now.view c.keep.new.pass.view c.in-Some.known.value = search rules in
+      local_kept g.T.W.World.files c.args.at.now.file c.args.cache.now.gate.cut (One c.args.at.now.lookup)
+      c.args.pass.now c.local.new.pass c.lookup_local-looked.new.pass c.keep.new.pass k
+      c.generation-generation.result given
+      c.keep.ensures.kept
+      (sym (c.generation-generation.ensures.value ∙ ap (λ (k : RecordState). k.generation)
+      of_generation))
+      c.in-Some.ensures.leaves.same
+      (subst (λ (k : RecordState). AsksForCells g.T.W.World.files k (visits_on k (One c.args.at.now.lookup)) c.local.new.pass
+      c.lookup_local-looked.new.pass) (c.of-picture.ensures ∙ of_fitting) (c.if-looked.ensures.asks refl))
+      c.keep.ensures.same;
+  latest = search rules;
+}
 
-pub returns-then-looked-clause-value : goal.returns-then-looked-clause-value
-returns-then-looked-clause-value g c =
-    let k : RecordState = c.in-Some.known.value in
-    let of_generation : c.deref.result.now ≡ k = search rules in
-    let of_fitting : c.deref-2.result.now ≡ k = search rules in
-    let given : GivesRecord g.T.W.World.files c.args.at.now.file c.args.cache.now.gate.cut
-    c.args.pass.now.view c.local.new.pass.view c.in-Some.known.value = search rules in
-    texture_value g.T.W.World.files c.args.at.now.file c.args.cache.now.gate.cut c.args.pass.now.view
-    c.local.new.pass.view c.keep.new.pass.view k given (search rules) (One c.args.at.now.lookup)
-    c.lookup_local-looked.new.out (ok_of c.generation-generation.result)
-    (c.generation-generation.ensures.value ∙ ap (λ (k : RecordState). k.generation)
-    of_generation)
-    (λ bytes held. subst (λ (k : RecordState).
-    g.T.W.World.files.held k.file k.generation ≡ Some bytes
-    → IsLookupOn k.cut bytes (One c.args.at.now.lookup) c.lookup_local-looked.new.out) (c.of-fitting.ensures ∙ of_fitting)
-    (c.if-looked.ensures.value refl bytes) held)
+pub returns-then-looked-clause-answers : goal.returns-then-looked-clause-answers
+returns-then-looked-clause-answers g c = record {
+  some = search rules;
+  value =
+      let k : RecordState = c.in-Some.known.value in
+      let of_generation : c.deref.result.now ≡ k = search rules in
+      let of_fitting : c.deref-2.result.now ≡ k = search rules in
+      let given : GivesRecord g.T.W.World.files c.args.at.now.file c.args.cache.now.gate.cut
+      c.args.pass.now.view c.local.new.pass.view c.in-Some.known.value = search rules in
+      texture_value g.T.W.World.files c.args.at.now.file c.args.cache.now.gate.cut c.args.pass.now.view
+      c.local.new.pass.view c.keep.new.pass.view k given (search rules) (One c.args.at.now.lookup)
+      c.lookup_local-looked.new.out (ok_of c.generation-generation.result)
+      (c.generation-generation.ensures.value ∙ ap (λ (k : RecordState). k.generation)
+      of_generation)
+      (λ bytes held. subst (λ (k : RecordState).
+      g.T.W.World.files.held k.file k.generation ≡ Some bytes
+      → IsLookupOn k.cut bytes (One c.args.at.now.lookup) c.lookup_local-looked.new.out) (c.of-picture.ensures ∙ of_fitting)
+      (c.if-looked.ensures.value refl bytes) held);
+  none = search rules;
+}

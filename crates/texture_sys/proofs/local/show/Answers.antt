@@ -13,17 +13,17 @@ pub returns-in-Ok-clause-has : goal.returns-in-Ok-clause-has
 returns-in-Ok-clause-has g c =
     let f = c.lookup_for.new.f in
     let p = c.args.pass.now in (
-      λ _. cells_each g.T.W.World.files c.args.known.now p (visits_on c.args.known.now (One c.args.r.now))
+      λ _. cells_each g.T.W.World.files c.args.picture.now p (visits_on c.args.picture.now (One c.args.r.now))
           (walk_of p 0 None) (walk_of f.pass.now f.reads f.latest) refl
-          (each_walked f _ _ _ c.in-Ok.ensures.left (λ f. f.known.now)
+          (each_walked f _ _ _ c.in-Ok.ensures.left (λ f. f.picture.now)
           (λ f. walk_of f.pass.now f.reads f.latest) (λ a b t p. (p.0, p.1))),
       λ _. refl,
     )
 
 pub returns-in-Ok-clause-value : goal.returns-in-Ok-clause-value
 returns-in-Ok-clause-value g c = λ _ bytes held.
-    lookups_told g.T.W.World.files c.args.known.now (One c.args.r.now) c.lookup_for.new.out bytes
-    c.record-record.ensures.told c.record-record.ensures.serves held
+    lookups_told g.T.W.World.files c.args.picture.now (One c.args.r.now) c.lookup_for.new.out bytes
+    c.know.ensures.told c.know.ensures.serves held
     (one_told _ c.args.r.now c.lookup_for.new.out (omega arith)
     (c.in-Ok.ensures.told (channel_value_of bytes) (ap (option_map channel_value_of) held)))
 
@@ -31,9 +31,9 @@ pub returns-in-Ok-clause-each : goal.returns-in-Ok-clause-each
 returns-in-Ok-clause-each g c =
     let f = c.lookup_for.new.f in
     let p = c.args.pass.now in
-    with_pass c.args.known.now (visits_on c.args.known.now (One c.args.r.now)) (walk_of p 0 None)
+    with_pass c.args.picture.now (visits_on c.args.picture.now (One c.args.r.now)) (walk_of p 0 None)
     (walk_of f.pass.now f.reads f.latest)
-    (each_walked f _ _ _ c.in-Ok.ensures.left (λ f. f.known.now)
+    (each_walked f _ _ _ c.in-Ok.ensures.left (λ f. f.picture.now)
     (λ f. walk_of f.pass.now f.reads f.latest) (λ a b t p. (p.0, p.1)))
 
 pub returns-in-Err-clause-has : goal.returns-in-Err-clause-has
@@ -41,10 +41,10 @@ returns-in-Err-clause-has g c =
     let f = c.lookup_for.new.f in
     let p = c.args.pass.now in (
       λ is. absurd cc,
-      λ has. absurd (cells_none g.T.W.World.files c.args.known.now p
-          (visits_on c.args.known.now (One c.args.r.now)) (walk_of p 0 None)
+      λ has. absurd (cells_none g.T.W.World.files c.args.picture.now p
+          (visits_on c.args.picture.now (One c.args.r.now)) (walk_of p 0 None)
           (walk_of f.pass.now f.reads f.latest) c.in-Err.field-0 refl has
-          (one_walked f _ _ c.in-Err.field-0 _ _ c.in-Err.ensures.left (λ f. f.known.now)
+          (one_walked f _ _ c.in-Err.field-0 _ _ c.in-Err.ensures.left (λ f. f.picture.now)
           (λ f. walk_of f.pass.now f.reads f.latest) (λ a b t p. (p.0, p.1))
           (λ a b t e p. (p.0, p.1)))),
     )

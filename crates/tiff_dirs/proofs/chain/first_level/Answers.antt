@@ -5,10 +5,10 @@ use Rattle.tiff_dirs.specs.declared.shape.ReadShape.{ReadShape}
 use Rattle.tiff_format.specs.Block.{shape_at}
 use Rattle.tiff_format.specs.DirectoryFault.{directory_fault, outside_fault, count_fault}
 use Rattle.tiff_dirs.specs.Shape.{seen_shape}
-use Rattle.tiff_dirs.specs.Entries.{IsDirectoryAt}
+use Rattle.tiff_entries.specs.Entries.{IsDirectoryAt}
 use Rattle.tiff_dirs.specs.Numbers.{fields_fault}
 use Rattle.tiff_dirs.specs.ReadLevel.{IsLevelAt}
-use Rattle.tiff_dirs.proofs.Saying.{finds_err, finds_so, leaves_err, leaves_more}
+use Rattle.tiff_entries.proofs.Saying.{finds_err, finds_so, leaves_err, leaves_more}
 use Rattle.tiff_dirs.proofs.Order.{directory_is}
 use Rattle.tiff_dirs.proofs.chain.first_level.Goals as goal
 

@@ -9,11 +9,11 @@ use Rattle.tiff_dirs.specs.declared.read_level.ReadLevel.{ReadLevel}
 use Rattle.tiff_format.specs.Level.{level_place, max_levels}
 use Rattle.tiff_format.specs.Fault.{data_faults}
 use Rattle.tiff_dirs.specs.NextLevel.{IsNext, is_followed, is_half_of}
-use Rattle.tiff_dirs.specs.Entries.{IsLinkAt}
+use Rattle.tiff_entries.specs.Entries.{IsLinkAt}
 use Rattle.tiff_format.specs.Block.{Level}
 use Rattle.tiff_dirs.specs.Chain.{AreLevels, AreAll}
 use Rattle.tiff_format.specs.Shown.{shown, shown_shape}
-use Rattle.tiff_dirs.proofs.Saying.{finds_err, leaves_err}
+use Rattle.tiff_entries.proofs.Saying.{finds_err, leaves_err}
 use Rattle.tiff_dirs.proofs.Chaining.{chain_one, chain_next}
 use Rattle.tiff_dirs.proofs.Leading.{one_level}
 use Rattle.tiff_dirs.proofs.LevelFaults.{tested_is, faults_at, no_faults}

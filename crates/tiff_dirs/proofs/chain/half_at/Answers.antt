@@ -4,12 +4,12 @@ use Rattle.tiff_dirs.specs.declared.read_level.ReadLevel.{ReadLevel}
 use Rattle.tiff_dirs.specs.declared.shape.ReadShape.{ReadShape}
 use Rattle.tiff_format.specs.Block.{shape_at}
 use Rattle.tiff_format.specs.DirectoryFault.{outside_fault, count_fault}
-use Rattle.tiff_dirs.specs.Entries.{IsDirectoryAt}
+use Rattle.tiff_entries.specs.Entries.{IsDirectoryAt}
 use Rattle.tiff_dirs.specs.Numbers.{fields_fault}
 use Rattle.tiff_dirs.specs.Shape.{seen_shape}
 use Rattle.tiff_dirs.specs.ReadLevel.{IsLevelAt}
 use Rattle.tiff_format.specs.Shown.{shown_shape}
-use Rattle.tiff_dirs.proofs.Saying.{leaves_err}
+use Rattle.tiff_entries.proofs.Saying.{leaves_err}
 use Rattle.tiff_dirs.proofs.Order.{directory_is}
 use Rattle.tiff_dirs.proofs.NextLevel.{half_by, half_err}
 use Rattle.tiff_dirs.proofs.chain.half_at.Goals as goal

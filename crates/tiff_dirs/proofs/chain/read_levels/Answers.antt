@@ -12,7 +12,7 @@ use Rattle.tiff_format.specs.Fault.{data_faults}
 use Rattle.tiff_dirs.specs.ReadLevel.{IsLevelAt}
 use Rattle.tiff_dirs.specs.Chain.{AreAll}
 use Rattle.tiff_format.specs.Shown.{shown}
-use Rattle.tiff_dirs.proofs.Saying.{finds_err, leaves_err}
+use Rattle.tiff_entries.proofs.Saying.{finds_err, leaves_err}
 use Rattle.tiff_format.proofs.FirstFault.{or_none}
 use Rattle.tiff_dirs.proofs.LevelFaults.{tested_is, faults_at_first}
 use Rattle.tiff_dirs.proofs.FirstLevel.{fault_there, first_there, end_there}

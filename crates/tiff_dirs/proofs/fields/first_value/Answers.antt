@@ -1,9 +1,9 @@
 use Rattle.std.proofs.Common.{◌≡◌, ℕ, true, false, length, get_or, List, None, refl, sym, ap, ◌∙◌}
 use Rattle.tiff_format.specs.Field.{entry_value, field_value}
-use Rattle.tiff_dirs.specs.Entries.{is_shaped}
-use Rattle.tiff_dirs.proofs.Saying.{finds_so}
-use Rattle.tiff_dirs.proofs.FieldValues.{absent_values, misshapen_values, shaped_values}
-use Rattle.tiff_dirs.proofs.FieldValues.{default_first}
+use Rattle.tiff_entries.specs.Entries.{is_shaped}
+use Rattle.tiff_entries.proofs.Saying.{finds_so}
+use Rattle.tiff_entries.proofs.FieldValues.{absent_values, misshapen_values, shaped_values}
+use Rattle.tiff_entries.proofs.FieldValues.{default_first}
 use Rattle.tiff_dirs.proofs.fields.first_value.Goals as goal
 
 pub returns-in-None-clause-told : goal.returns-in-None-clause-told

@@ -2,7 +2,7 @@ use Rattle.std.proofs.Common.{◌≢◌, map, refl, sym, ◌∙◌, arith, below
 use Rattle.std.proofs.Common.{get_or-set_other, get_or-set_same, length-set}
 use Rattle.std.proofs.lemmas.Grind.{same_number_lists}
 use Rattle.std.proofs.lemmas.List.{get_or-map}
-use Rattle.tiff_dirs.specs.declared.tag.TheConstants.{NUMBERS}
+use Rattle.tiff_entries.specs.declared.tag.TheConstants.{NUMBERS}
 use Rattle.tiff_format.specs.Field.{field_value}
 use Rattle.tiff_dirs.proofs.fields.first_values.Goals as goal
 

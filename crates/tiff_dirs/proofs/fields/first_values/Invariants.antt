@@ -1,9 +1,9 @@
 use Rattle.std.proofs.Common.{◌≡◌, ℕ, ◌<◌, get_or, length}
 use Rattle.std.specs.Option.{ForSome}
 use Rattle.tiff_format.specs.declared.form.Form.{Form}
-use Rattle.tiff_dirs.specs.declared.tag.TheConstants.{NUMBER_COUNT, NUMBERS}
+use Rattle.tiff_entries.specs.declared.tag.TheConstants.{NUMBER_COUNT, NUMBERS}
 use Rattle.tiff_format.specs.Field.{field_value}
-use Rattle.tiff_dirs.specs.Entries.{HasEntries}
+use Rattle.tiff_entries.specs.Entries.{HasEntries}
 use Rattle.tiff_dirs.proofs.fields.first_values.Given as goal
 
 abbrev pub invariant-loop-i : goal.invariant-loop-i

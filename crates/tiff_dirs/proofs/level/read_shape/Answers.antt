@@ -3,7 +3,7 @@ use Rattle.tiff_dirs.specs.declared.shape.ReadShape.{ReadShape}
 use Rattle.tiff_format.specs.Block.{shape_at}
 use Rattle.tiff_dirs.specs.Shape.{seen_shape}
 use Rattle.tiff_dirs.specs.Numbers.{numbers_fault, fields_fault}
-use Rattle.tiff_dirs.proofs.Saying.{finds_so}
+use Rattle.tiff_entries.proofs.Saying.{finds_so}
 use Rattle.tiff_dirs.proofs.Order.{fields_are}
 use Rattle.tiff_dirs.proofs.level.read_shape.Goals as goal
 

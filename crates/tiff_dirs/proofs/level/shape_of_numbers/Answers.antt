@@ -5,7 +5,7 @@ use Rattle.tiff_dirs.specs.Numbers.{numbers_fault}
 use Rattle.tiff_dirs.specs.declared.shape.ReadShape.{ReadShape}
 use Rattle.tiff_format.specs.Block.{shape_at}
 use Rattle.tiff_dirs.specs.Shape.{seen_shape}
-use Rattle.tiff_dirs.proofs.Saying.{finds_err}
+use Rattle.tiff_entries.proofs.Saying.{finds_err}
 use Rattle.tiff_dirs.proofs.Order.{numbers_are, shape_is_at}
 use Rattle.tiff_dirs.proofs.level.shape_of_numbers.Goals as goal
 

@@ -1,5 +1,5 @@
 use Rattle.std.proofs.Common.{◌≡◌, vec_capacity}
-use Rattle.tiff_dirs.specs.Entries.{part_value}
+use Rattle.tiff_entries.specs.Entries.{part_value}
 use Rattle.tiff_dirs.specs.Values.{AppendsNumbers}
 use Rattle.tiff_dirs.proofs.offsets.append_values.Given as goal
 

@@ -1,7 +1,7 @@
 use Rattle.std.proofs.Common.{ℕ, ◌-◌, ◌≤◌, length, vec_len, vec_capacity}
 use Rattle.std.specs.Option.{ForSome}
 use Rattle.tiff_format.specs.Field.{entry_value}
-use Rattle.tiff_dirs.specs.Entries.{IsEntry}
+use Rattle.tiff_entries.specs.Entries.{IsEntry}
 use Rattle.tiff_dirs.specs.Values.{AreFirstValues}
 use Rattle.tiff_dirs.proofs.offsets.read_all.Given as goal
 

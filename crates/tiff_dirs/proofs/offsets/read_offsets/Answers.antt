@@ -5,10 +5,10 @@ use Rattle.tiff_format.specs.Field.{field_values, entry_value}
 use Rattle.tiff_format.specs.Block.{shape_at, blocks_of, offsets_tag}
 use Rattle.tiff_dirs.specs.Shape.{seen_shape}
 use Rattle.tiff_format.specs.DirectoryFault.{count_fault}
-use Rattle.tiff_dirs.specs.Entries.{is_shaped}
+use Rattle.tiff_entries.specs.Entries.{is_shaped}
 use Rattle.tiff_dirs.specs.Values.{AreFirstValues}
-use Rattle.tiff_dirs.proofs.Saying.{finds_so}
-use Rattle.tiff_dirs.proofs.FieldValues.{absent_values, misshapen_values, shaped_values}
+use Rattle.tiff_entries.proofs.Saying.{finds_so}
+use Rattle.tiff_entries.proofs.FieldValues.{absent_values, misshapen_values, shaped_values}
 use Rattle.tiff_dirs.proofs.Gathering.{first_is_taken}
 use Rattle.tiff_dirs.proofs.Blocks.{tag_is, blocks_are, too_few, enough, no_default}
 use Rattle.tiff_dirs.proofs.offsets.read_offsets.Goals as goal

@@ -8,7 +8,7 @@ use Rattle.tiff_format.specs.Form.{form_of}
 use Rattle.tiff_format.specs.DirectoryFault.{first_of, directory_fault}
 use Rattle.tiff_format.specs.Fault.{header_fault, data_faults}
 use Rattle.tiff_format.specs.Level.{level_place}
-use Rattle.tiff_dirs.specs.Header.{IsHeader}
+use Rattle.tiff_entries.specs.Header.{IsHeader}
 use Rattle.tiff_dirs.specs.Chain.{AreAll}
 use Rattle.tiff_format.specs.Shown.{shown}
 use Rattle.tiff_dirs.proofs.Saying.{tells_err}

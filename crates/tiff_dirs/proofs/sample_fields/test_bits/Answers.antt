@@ -6,7 +6,7 @@ use Rattle.tiff_dirs.specs.declared.sample_fields.SampleField.{SampleField}
 use Rattle.tiff_format.specs.Tag.{bits_per_sample_tag}
 use Rattle.tiff_format.specs.DirectoryFault.{bits_fault}
 use Rattle.tiff_dirs.specs.Values.{first_other}
-use Rattle.tiff_dirs.proofs.Saying.{finds_so}
+use Rattle.tiff_entries.proofs.Saying.{finds_so}
 use Rattle.tiff_dirs.proofs.Order.{bits_are, is_depth}
 use Rattle.tiff_dirs.proofs.sample_fields.test_bits.Goals as goal
 

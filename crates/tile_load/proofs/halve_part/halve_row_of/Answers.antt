@@ -33,12 +33,12 @@ returns g c =
     c.two_rows-rows.ensures.bottom in
     let start = c.start.ensures.value in
     row_written part place.cell n place.known tile.texels j c.args.samples.now
-    c.write_row.new.samples c.write_row.ensures.long
-    (rw start at c.write_row.ensures.before)
+    c.halve_row_at.new.out c.halve_row_at.ensures.long
+    (rw start at c.halve_row_at.ensures.before)
     (λ i k across channel.
-    rw start at (c.write_row.ensures.each i k across channel)
+    rw start at (c.halve_row_at.ensures.each i k across channel)
     ∙ row_quarter part n tile.texels (top_of rows) (bottom_of rows) j place.known.wide
     (row_kept tile part n (clamped part.h (2 * j)) (top_of rows) c.requires.part c.requires.channels top)
     (row_kept tile part n (clamped part.h (2 * j + 1)) (bottom_of rows) c.requires.part
     c.requires.channels bottom) i k channel)
-    (rw start at c.write_row.ensures.behind)
+    (rw start at c.halve_row_at.ensures.behind)

@@ -23,8 +23,8 @@ tile_of-requires-clause-tile g c =
     let there = c.requires.fits (level_of c.args.key)
     (omega (
       arith,
-      c.levels-levels.ensures.value,
-      c.levels-levels.ensures.stored,
+      c.levels.ensures.value,
+      c.levels.ensures.stored,
       c.requires.cell.stored,
     )) (index_of c.args.key) c.requires.cell.index in
     let file_level = level_of c.args.key in

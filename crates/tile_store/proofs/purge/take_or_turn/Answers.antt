@@ -11,18 +11,18 @@ returns-then-is_stale-clause-entries g c =
     let stale = sym c.is_stale.ensures ∙ c.if-is_stale.true in
     let turned = rw stale at (turned-last c.args.file c.args.below
     (c.in-Some.entry.now.tile.key, c.in-Some.entry.now) c.args.order.now.entries (sym c.in-Some.ensures)) in
-    let turns = last_turns _ _ c.len-count.ensures.valid (sym c.in-Some.ensures) c.requires in
+    let turns = last_turns _ _ c.len.ensures.valid (sym c.in-Some.ensures) c.requires in
     c.pop.ensures.entries ∙ ap (λ k. remove_entry (nat_eq k) c.args.order.now.entries) c.key-key.ensures ∙ turns.removed_is ∙ sym turned
 
 pub returns-then-is_stale-clause-bytes : goal.returns-then-is_stale-clause-bytes
 returns-then-is_stale-clause-bytes g c =
-    let turns = last_turns _ _ c.len-count.ensures.valid (sym c.in-Some.ensures) c.requires in
+    let turns = last_turns _ _ c.len.ensures.valid (sym c.in-Some.ensures) c.requires in
     let left = c.pop.ensures.entries ∙ ap (λ k. remove_entry (nat_eq k) c.args.order.now.entries) c.key-key.ensures ∙ turns.removed_is in
     rw (left, c.unpinned_bytes-bytes.ensures.value) turns.taken
 
 pub returns-else-is_stale-clause-entries : goal.returns-else-is_stale-clause-entries
 returns-else-is_stale-clause-entries g c =
-    let turns = last_turns _ _ c.len-count.ensures.valid (sym c.in-Some.ensures) c.requires in
+    let turns = last_turns _ _ c.len.ensures.valid (sym c.in-Some.ensures) c.requires in
     let fresh = sym c.is_stale.ensures ∙ c.if-is_stale.false in
     let turned = rw fresh at (turned-last c.args.file c.args.below
     (c.in-Some.entry.now.tile.key, c.in-Some.entry.now) c.args.order.now.entries (sym c.in-Some.ensures)) in
@@ -31,7 +31,7 @@ returns-else-is_stale-clause-entries g c =
 
 pub returns-else-is_stale-clause-bytes : goal.returns-else-is_stale-clause-bytes
 returns-else-is_stale-clause-bytes g c =
-    let turns = last_turns _ _ c.len-count.ensures.valid (sym c.in-Some.ensures) c.requires in
+    let turns = last_turns _ _ c.len.ensures.valid (sym c.in-Some.ensures) c.requires in
     let same : loose_bytes c.promote.new.self.entries ≡ loose_bytes c.args.order.now.entries =
     ap loose_bytes (c.promote.ensures.entries ∙ ap (λ k. promoted k c.args.order.now.entries) c.key-key.ensures)
     ∙ ap loose_bytes turns.promoted_is ∙ turns.turned_loose in

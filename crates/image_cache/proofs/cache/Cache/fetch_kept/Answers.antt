@@ -2,10 +2,10 @@
 use Rattle.std.proofs.Common.{ℕ, true, ◌∷◌, [], sym, subst, rules}
 use Rattle.micro.specs.Runs.{IsAsked}
 use Rattle.pinned_tiles.specs.Pinned.{key_in, PinnedState}
-use Rattle.image_cache.specs.Pass.{PassState}
-use Rattle.image_cache.specs.Call.{CountsNeed, Needs}
-use Rattle.image_cache.proofs.NeedLemmas.{needs_hit}
-use Rattle.image_cache.proofs.TexelLemmas.{at_cell}
+use Rattle.tile_source.specs.Pass.{PassState}
+use Rattle.tile_source.specs.Call.{CountsNeed, Needs}
+use Rattle.tile_source.proofs.NeedLemmas.{needs_hit}
+use Rattle.tile_source.proofs.TexelLemmas.{at_cell}
 use Rattle.image_cache.proofs.cache.Cache.fetch_kept.Goals as goal
 
 pub returns-clause-met : goal.returns-clause-met

@@ -3,22 +3,28 @@ use Rattle.std.proofs.Common.{◌≡◌, true, refl, sym, subst, ◌∙◌, rule
 use Rattle.micro.specs.Runs.{IsAsked}
 use Rattle.pinned_tiles.specs.Pinned.{key_in, PinnedState, AsksFor, StaysAskedFor}
 use Rattle.pinned_tiles.specs.Cell.{has_cell, StandsFirst}
-use Rattle.image_cache.specs.Pass.{PassState}
-use Rattle.image_cache.specs.Pass.{KeepsAllBut, recent_and_counts}
+use Rattle.tile_source.specs.Pass.{PassState}
+use Rattle.tile_source.specs.Pass.{KeepsAllBut, recent_and_counts}
+use Rattle.file_table.specs.Record.{RecordState}
+use Rattle.tile_source.specs.Texel.{IsCellIn}
+use Rattle.image_cache.specs.Square.{left_top, LieInOneOf}
 use Rattle.image_cache.proofs.SquareLemmas.{meets_rest}
 use Rattle.image_cache.proofs.cache.Cache.fetch_rest_local.Goals as goal
 
 pub returns-clause-met : goal.returns-clause-met
 returns-clause-met g c = λ _.
     let cell = c.in-Some.cell in
+    let is_cell = subst (λ (r : RecordState). IsCellIn r (left_top c.args.square.now) cell)
+    c.of-picture.ensures c.in-Some.ensures.cell.is in
+    let one = subst (λ (r : RecordState). LieInOneOf r c.args.square.now) c.of-picture.ensures
+    (c.in-Some.ensures.one.0 refl) in
     let old : PassState = c.args.pass.now in
     let new : PassState = c.count_three.new.self in
     let is = c.if-not-turn_to.false in
     let was = c.pass.view_is in
     let pinned = c.count_three.ensures.kept.pinned in
     let kept : KeepsAllBut recent_and_counts old new = search rules in
-    meets_rest g.T.W.World.files c.args.known.now c.args.square.now cell old new c.in-Some.ensures.cell.is
-    (c.in-Some.ensures.one.0 refl)
+    meets_rest g.T.W.World.files c.args.known.now c.args.square.now cell old new is_cell one
     (subst (λ (s : PassState). has_cell cell s.pinned.recent ≡ true) was
     (sym c.turn_to.ensures.has ∙ is))
     (subst (λ (s : PassState). IsAsked key_in s.pinned.recent cell.key true new.pinned.recent) was

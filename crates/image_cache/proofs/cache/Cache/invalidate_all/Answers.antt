@@ -1,7 +1,7 @@
 -- One file more.
 use Rattle.std.proofs.Common.{rules, arith}
 use Rattle.image_cache.proofs.AskLemmas.{asks_first, asks_more, steps_later, steps_more}
-use Rattle.image_cache.specs.Reading.{pass_tap}
+use Rattle.tile_source.specs.Source.{pass_tap}
 use Rattle.image_cache.proofs.InvalidLemmas.{renews_none, renews_more}
 use Rattle.image_cache.proofs.cache.Cache.invalidate_all.Goals as goal
 

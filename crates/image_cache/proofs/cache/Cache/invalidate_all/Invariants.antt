@@ -1,9 +1,9 @@
 -- The files so far were looked at, and of each that is known the newest generation was asked for.
 use Rattle.std.proofs.Common.{ℕ, ◌<◌, ◌≤◌, slice_index}
 use Rattle.gen_board.specs.View.{IsLater}
-use Rattle.image_cache.specs.Pass.{IsPassOf}
+use Rattle.tile_source.specs.Pass.{IsPassOf}
 use Rattle.image_cache.specs.Invalid.{IsEmptied, MayAsk, RisesBy, seen_count}
-use Rattle.image_cache.specs.Reading.{pass_tap}
+use Rattle.tile_source.specs.Source.{pass_tap}
 use Rattle.image_cache.specs.InvalidAll.{RenewsUpTo}
 use Rattle.image_cache.proofs.cache.Cache.invalidate_all.Given as goal
 

@@ -2,7 +2,7 @@
 use Rattle.std.proofs.Common.{rules}
 use Rattle.image_cache.proofs.FillLemmas.{reads_area, values_of_area}
 use Rattle.image_cache.proofs.UnreadLemmas.{recent_same, unread_kept}
-use Rattle.image_cache.proofs.ReadingLemmas.{reads_none}
+use Rattle.tile_source.proofs.SourceLemmas.{reads_none}
 use Rattle.image_cache.proofs.cache.Cache.read_region.Goals as goal
 
 pub returns-in_err-area-clause-unread : goal.returns-in_err-area-clause-unread
@@ -21,6 +21,6 @@ returns-clause-ok g c =
 pub returns-clause-value : goal.returns-clause-value
 returns-clause-value g c bytes held =
     values_of_area g.T.W.World.files c.args.known.now c.args.region.now c.in_ok-area.area bytes
-    c.in_ok-values.values.items c.generation-known.ensures.told held c.in_ok-area.ensures.area
+    c.in_ok-values.values.items c.know-2.ensures.told held c.in_ok-area.ensures.area
     (c.in_ok-values.ensures.value bytes (search (rules, held))) c.in_ok-values.ensures.beside
     c.in_ok-values.ensures.count

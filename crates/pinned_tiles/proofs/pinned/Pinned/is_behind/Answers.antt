@@ -14,11 +14,11 @@ pub returns-then-eq-clause-value : goal.returns-then-eq-clause-value
 returns-then-eq-clause-value g c =
     let cell = c.args.cell.now in
     let tiles = c.args.self.now.recent in
-    let b : CachedTile = c.in-Some.lately.now in
+    let b : CachedTile = c.in-Some.recent.now in
     let e : c.self.inside.recent ≡ tiles = ap (λ (p : PinnedState). p.recent) c.self.view_is in
     let at : slice_get tiles 1 ≡ Some b =
     ap (λ l. slice_get l 1) (sym e) ∙ sym c.in-Some.ensures.value in
-    let are : AreItems key_in tiles = subst (AreItems key_in) e c.has-has.ensures.valid in
+    let are : AreItems key_in tiles = subst (AreItems key_in) e c.has.ensures.valid in
     let key : nat_eq b.key cell.key ≡ true =
     ap (λ (t : CachedTile). nat_eq t.key cell.key) (sym c.tile.ensures.value)
     ∙ (ap (λ n. nat_eq n cell.key) (sym c.key.ensures.value) ∙ (sym c.eq.ensures ∙ c.if-eq.true)) in
@@ -32,7 +32,7 @@ pub returns-then-eq-clause-has : goal.returns-then-eq-clause-has
 returns-then-eq-clause-has g c = λ _.
     let cell = c.args.cell.now in
     let tiles = c.args.self.now.recent in
-    let b : CachedTile = c.in-Some.lately.now in
+    let b : CachedTile = c.in-Some.recent.now in
     let e : c.self.inside.recent ≡ tiles = ap (λ (p : PinnedState). p.recent) c.self.view_is in
     let at : slice_get tiles 1 ≡ Some b =
     ap (λ l. slice_get l 1) (sym e) ∙ sym c.in-Some.ensures.value in
@@ -45,11 +45,11 @@ pub returns-else-eq-clause-value : goal.returns-else-eq-clause-value
 returns-else-eq-clause-value g c =
     let cell = c.args.cell.now in
     let tiles = c.args.self.now.recent in
-    let b : CachedTile = c.in-Some.lately.now in
+    let b : CachedTile = c.in-Some.recent.now in
     let e : c.self.inside.recent ≡ tiles = ap (λ (p : PinnedState). p.recent) c.self.view_is in
     let at : slice_get tiles 1 ≡ Some b =
     ap (λ l. slice_get l 1) (sym e) ∙ sym c.in-Some.ensures.value in
-    let are : AreItems key_in tiles = subst (AreItems key_in) e c.has-has.ensures.valid in
+    let are : AreItems key_in tiles = subst (AreItems key_in) e c.has.ensures.valid in
     let key : nat_eq b.key cell.key ≡ false =
     ap (λ (t : CachedTile). nat_eq t.key cell.key) (sym c.tile.ensures.value)
     ∙ (ap (λ n. nat_eq n cell.key) (sym c.key.ensures.value) ∙ (sym c.eq.ensures ∙ c.if-eq.false)) in

@@ -17,8 +17,8 @@ returns-in-Some-clause-fits g c =
     subst (λ (o : Option CachedTile). IfSome o P) (sym c.peek.ensures.value)
     (found_cell P (has_key key_in c.args.cell.now.key) c.self.inside.recent
     c.self.invariant.0.recent_cells) in
-    let one : P c.in-Some.lately.now = subst (λ o. IfSome (option_copied o) P) c.in-Some.is found in
+    let one : P c.in-Some.recent.now = subst (λ o. IfSome (option_copied o) P) c.in-Some.is found in
     subst (λ (t : CachedTile). FitsCut g.W.World.files c.args.self.now.cut t)
     (sym c.tile-in-Some.ensures.value)
-    (subst (λ (cut : Cut). FitsCut g.W.World.files cut c.in-Some.lately.now)
+    (subst (λ (cut : Cut). FitsCut g.W.World.files cut c.in-Some.recent.now)
     (ap (λ (p : PinnedState). p.cut) c.self.view_is) one)

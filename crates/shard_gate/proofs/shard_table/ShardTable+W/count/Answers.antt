@@ -18,7 +18,7 @@ use Rattle.shard_gate.proofs.shard_table.ShardTable+W.count.Goals as goal
 pub returns-clause-own : goal.returns-clause-own
 returns-clause-own g c =
     let turn = in_turn padded_value g.W.World.files c.seat.inside.seat.me.0 c.take.new.seat.me
-    c.in_default.ensures.ok c.slot_mut-slot.result.now (rest c.take.new.seat.me.1)
+    c.in_ok-take.ensures.ok c.slot_mut-slot.result.now (rest c.take.new.seat.me.1)
     c.deref.result.now c.slot_mut-slot.ensures.value c.deref.ensures in
     omega (
       arith,
@@ -31,7 +31,7 @@ returns-clause-own g c =
 pub returns-clause-alone : goal.returns-clause-alone
 returns-clause-alone g c all =
     let turn = in_turn padded_value g.W.World.files c.seat.inside.seat.me.0 c.take.new.seat.me
-    c.in_default.ensures.ok c.slot_mut-slot.result.now (rest c.take.new.seat.me.1)
+    c.in_ok-take.ensures.ok c.slot_mut-slot.result.now (rest c.take.new.seat.me.1)
     c.deref.result.now c.slot_mut-slot.ensures.value c.deref.ensures in
     omega (
       arith,
@@ -53,7 +53,7 @@ returns-clause-ok g c =
     let old = c.seat.inside.seat.me.0 in
     let s = c.deref.result.now in
     let turn = in_turn padded_value g.W.World.files old c.take.new.seat.me
-    c.in_default.ensures.ok c.slot_mut-slot.result.now (rest c.take.new.seat.me.1)
+    c.in_ok-take.ensures.ok c.slot_mut-slot.result.now (rest c.take.new.seat.me.1)
     s c.slot_mut-slot.ensures.value c.deref.ensures in
     let tag : old.tag ≡ c.args.self.now.tag =
     ap (λ (v : SeatAt). v.shard.tag) c.seat.view_is ∙ ap (λ (z : ShardId). z.tag) c.requires.shard in
@@ -78,7 +78,7 @@ returns-clause-everyone g c =
     let old = c.seat.inside.seat.me.0 in
     let s = c.deref.result.now in
     let turn = in_turn padded_value g.W.World.files old c.take.new.seat.me
-    c.in_default.ensures.ok c.slot_mut-slot.result.now (rest c.take.new.seat.me.1)
+    c.in_ok-take.ensures.ok c.slot_mut-slot.result.now (rest c.take.new.seat.me.1)
     s c.slot_mut-slot.ensures.value c.deref.ensures in
     subst (λ es. ArePinsOfAll c.args.seat.now.pins es)
     (sym (ap taken_last (gave_visits padded_value g.W.World.files old c.take.new.seat.me s turn

@@ -21,26 +21,22 @@ use Rattle.shard_gate.proofs.TurnLemmas.{in_turn, pins_low, slots_left, may_keep
 use Rattle.shard_gate.proofs.TurnLemmas.{kept_pins}
 use Rattle.shard_gate.proofs.shard_table.ShardTable+W.insert.Goals as goal
 
-pub insert_in-requires-clause-pins : goal.insert_in-requires-clause-pins
-insert_in-requires-clause-pins g c =
+pub insert_in-requires-clause-room : goal.insert_in-requires-clause-room
+insert_in-requires-clause-room g c =
     let passes : c.seat.inside.seat.me.0.passes ≡ c.self.inside.table.shared.key.passes =
     ap (λ (v : SeatAt). v.shard.passes) c.seat.view_is
     ∙ (ap (λ (z : ShardId). z.passes) c.requires.shard
     ∙ sym (ap (λ (z : ShardId). z.passes) c.self.view_is)) in
-    pins_low padded_value g.W.World.files c.seat.inside.seat.me.0
-    c.take.new.seat.me c.deref_mut.result.now
-    (in_turn padded_value g.W.World.files c.seat.inside.seat.me.0 c.take.new.seat.me
+    let turn = in_turn padded_value g.W.World.files c.seat.inside.seat.me.0 c.take.new.seat.me
     c.in_default.ensures.ok c.slot_mut-slot.result.now (rest c.take.new.seat.me.1)
-    c.deref_mut.result.now c.slot_mut-slot.ensures.value c.deref_mut.ensures.value)
-    (omega (arith, passes, c.self.invariant.few))
-
-pub insert_in-requires-clause-room : goal.insert_in-requires-clause-room
-insert_in-requires-clause-room g c =
-    slots_left padded_value g.W.World.files c.seat.inside.seat.me.0
-    c.take.new.seat.me c.deref_mut.result.now
-    (in_turn padded_value g.W.World.files c.seat.inside.seat.me.0 c.take.new.seat.me
-    c.in_default.ensures.ok c.slot_mut-slot.result.now (rest c.take.new.seat.me.1)
-    c.deref_mut.result.now c.slot_mut-slot.ensures.value c.deref_mut.ensures.value)
+    c.deref_mut.result.now c.slot_mut-slot.ensures.value c.deref_mut.ensures.value in
+    record {
+      slot = slots_left padded_value g.W.World.files c.seat.inside.seat.me.0
+          c.take.new.seat.me c.deref_mut.result.now turn;
+      count = pins_low padded_value g.W.World.files c.seat.inside.seat.me.0
+          c.take.new.seat.me c.deref_mut.result.now turn
+          (omega (arith, passes, c.self.invariant.few));
+    }
 
 pub keep_slot-requires-clause-may : goal.keep_slot-requires-clause-may
 keep_slot-requires-clause-may g c =

@@ -14,7 +14,7 @@ pub tell_left-requires-clause-telling : goal.tell_left-requires-clause-telling
 tell_left-requires-clause-telling g c =
     let old = c.seat.inside.seat.me.0 in
     let turn = in_turn padded_value g.W.World.files old c.take.new.seat.me
-    c.in_default.ensures.ok c.slot_mut-slot.result.now (rest c.take.new.seat.me.1)
+    c.in_ok-take.ensures.ok c.slot_mut-slot.result.now (rest c.take.new.seat.me.1)
     c.deref_mut.result.now c.slot_mut-slot.ensures.value c.deref_mut.ensures.value in
     purging padded_value g.W.World.files old c.take.new.seat.me c.deref_mut.result.now turn
     c.seat.invariant.idle.live c.purge_in.new.shard
@@ -28,7 +28,7 @@ returns-clause-ok g c =
     let s = c.deref_mut.result.now in
     let new = c.purge_in.new.shard in
     let turn = in_turn padded_value g.W.World.files old c.take.new.seat.me
-    c.in_default.ensures.ok c.slot_mut-slot.result.now (rest c.take.new.seat.me.1)
+    c.in_ok-take.ensures.ok c.slot_mut-slot.result.now (rest c.take.new.seat.me.1)
     s c.slot_mut-slot.ensures.value c.deref_mut.ensures.value in
     let body = padded_with_value c.slot_mut-slot.result.now new in
     let told = c.tell_left.ensures.told in

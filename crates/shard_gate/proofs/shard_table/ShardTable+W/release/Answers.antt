@@ -22,7 +22,7 @@ release_in-unpinned-requires-clause-pin g c =
     own_entry padded_value g.W.World.files c.seat.inside.seat.me.0
     c.take.new.seat.me c.deref_mut.result.now
     (in_turn padded_value g.W.World.files c.seat.inside.seat.me.0 c.take.new.seat.me
-    c.in_default.ensures.ok c.slot_mut-slot.result.now (rest c.take.new.seat.me.1)
+    c.in_ok-take.ensures.ok c.slot_mut-slot.result.now (rest c.take.new.seat.me.1)
     c.deref_mut.result.now c.slot_mut-slot.ensures.value c.deref_mut.ensures.value)
     c.args.key
     (subst (λ (l : List ℕ). Contains l c.args.key) (sym (ap (λ (v : SeatAt). v.pins) c.seat.view_is))
@@ -33,7 +33,7 @@ unpin_slot-requires-clause-may g c =
     may_unpin padded_value g.W.World.files c.seat.inside.seat.me.0
     c.take.new.seat.me c.deref_mut.result.now
     (in_turn padded_value g.W.World.files c.seat.inside.seat.me.0 c.take.new.seat.me
-    c.in_default.ensures.ok c.slot_mut-slot.result.now (rest c.take.new.seat.me.1)
+    c.in_ok-take.ensures.ok c.slot_mut-slot.result.now (rest c.take.new.seat.me.1)
     c.deref_mut.result.now c.slot_mut-slot.ensures.value c.deref_mut.ensures.value)
     c.args.key c.release_in-unpinned.result
     (subst (λ (l : List ℕ). Contains l c.args.key) (sym (ap (λ (v : SeatAt). v.pins) c.seat.view_is))
@@ -44,14 +44,14 @@ unpin_slot-requires-clause-may g c =
 pub tell_left-requires-clause-telling : goal.tell_left-requires-clause-telling
 tell_left-requires-clause-telling g c =
     let turn = (in_turn padded_value g.W.World.files c.seat.inside.seat.me.0 c.take.new.seat.me
-    c.in_default.ensures.ok c.slot_mut-slot.result.now (rest c.take.new.seat.me.1)
+    c.in_ok-take.ensures.ok c.slot_mut-slot.result.now (rest c.take.new.seat.me.1)
     c.deref_mut.result.now c.slot_mut-slot.ensures.value c.deref_mut.ensures.value) in
     let tag : c.seat.inside.seat.me.0.tag ≡ c.args.self.now.tag =
     ap (λ (v : SeatAt). v.shard.tag) c.seat.view_is ∙ ap (λ (z : ShardId). z.tag) c.requires.shard in
     telling padded_value g.W.World.files c.seat.inside.seat.me.0
     c.take.new.seat.me c.deref_mut.result.now
     (in_turn padded_value g.W.World.files c.seat.inside.seat.me.0 c.take.new.seat.me
-    c.in_default.ensures.ok c.slot_mut-slot.result.now (rest c.take.new.seat.me.1)
+    c.in_ok-take.ensures.ok c.slot_mut-slot.result.now (rest c.take.new.seat.me.1)
     c.deref_mut.result.now c.slot_mut-slot.ensures.value c.deref_mut.ensures.value)
     c.args.key c.release_in-unpinned.result
     (subst (λ (l : List ℕ). Contains l c.args.key) (sym (ap (λ (v : SeatAt). v.pins) c.seat.view_is))
@@ -69,7 +69,7 @@ returns-clause-pins g c =
     let less = keys_less padded_value g.W.World.files c.seat.inside.seat.me.0
     c.take.new.seat.me c.deref_mut.result.now
     (in_turn padded_value g.W.World.files c.seat.inside.seat.me.0 c.take.new.seat.me
-    c.in_default.ensures.ok c.slot_mut-slot.result.now (rest c.take.new.seat.me.1)
+    c.in_ok-take.ensures.ok c.slot_mut-slot.result.now (rest c.take.new.seat.me.1)
     c.deref_mut.result.now c.slot_mut-slot.ensures.value c.deref_mut.ensures.value)
     c.args.key c.release_in-unpinned.result
     (subst (λ (l : List ℕ). Contains l c.args.key) (sym (ap (λ (v : SeatAt). v.pins) c.seat.view_is))
@@ -78,7 +78,7 @@ returns-clause-pins g c =
     let last = last_pins padded_value g.W.World.files c.seat.inside.seat.me.0
     c.take.new.seat.me c.deref_mut.result.now
     (in_turn padded_value g.W.World.files c.seat.inside.seat.me.0 c.take.new.seat.me
-    c.in_default.ensures.ok c.slot_mut-slot.result.now (rest c.take.new.seat.me.1)
+    c.in_ok-take.ensures.ok c.slot_mut-slot.result.now (rest c.take.new.seat.me.1)
     c.deref_mut.result.now c.slot_mut-slot.ensures.value c.deref_mut.ensures.value)
     c.release_in-unpinned.result c.unpin_slot.new.seat.me c.tell_left.new.seat.me
     c.give.new.seat.me.0
@@ -97,7 +97,7 @@ returns-clause-ok g c =
     let s = c.deref_mut.result.now in
     let new = c.release_in-unpinned.new.shard in
     let turn = in_turn padded_value g.W.World.files old c.take.new.seat.me
-    c.in_default.ensures.ok c.slot_mut-slot.result.now (rest c.take.new.seat.me.1)
+    c.in_ok-take.ensures.ok c.slot_mut-slot.result.now (rest c.take.new.seat.me.1)
     s c.slot_mut-slot.ensures.value c.deref_mut.ensures.value in
     let body = padded_with_value c.slot_mut-slot.result.now new in
     let told = c.tell_left.ensures.told in

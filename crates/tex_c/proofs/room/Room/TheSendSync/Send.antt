@@ -6,8 +6,8 @@ use denote.Param.Send.{IsSend, AllSend, owning_send, struct_send, sendable}
 use Rattle.std.proofs.Crossing as heap
 use Rattle.std_alloc.proofs.SendSync.{quiet, lies}
 use Rattle.std_heap.proofs.Global.TheSendSync as handle
-use Rattle.tex_c.specs.contracts.bytes.Bytes as Bytes
-use Rattle.tex_c.proofs.bytes.Bytes.TheSendSync.{the_send as bytes}
+use Rattle.supplied_client.specs.contracts.bytes.Bytes as Bytes
+use Rattle.supplied_client.proofs.bytes.Bytes.TheSendSync.{the_send as bytes}
 use Rattle.std.specs.Prelude.{Option, None, Some}
 use Rattle.std.specs.Global.{Global}
 use denote.RawPtr.{Ptr}

@@ -4,7 +4,7 @@ use Rattle.std.proofs.lemmas.Result.{err_from_is_err_and}
 use Rattle.file_table.specs.Record.{RecordState}
 use Rattle.texel_filter.specs.Image.{texel_of}
 use Rattle.texel_filter.proofs.CallLemmas.{first_of_part, on_ok}
-use Rattle.image_cache.specs.Pass.{counted}
+use Rattle.tile_source.specs.Pass.{counted}
 use Rattle.image_cache.specs.Square.{AreShown}
 use Rattle.image_cache.specs.Sizes.{values_known}
 use Rattle.texture_sys.specs.Fetches.{Walk, walk_of}
@@ -15,7 +15,7 @@ use Rattle.texture_sys.proofs.kept.KeptTexelsFetch.square.Goals as goal
 pub returns-in-Some-clause-left : goal.returns-in-Some-clause-left
 returns-in-Some-clause-left g c =
     let s = c.args.self.now in
-    let k = s.known.now in
+    let k = s.picture.now in
     let q = c.args.square.now in
     let key : ℕ = c.in-Some.key in
     let shown : AreShown k q s.pass.now.pinned.recent key =

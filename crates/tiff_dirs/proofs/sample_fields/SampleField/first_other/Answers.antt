@@ -3,11 +3,11 @@ use Rattle.std.proofs.Common.{refl, sym, ap, ◌∙◌, arith, min, take}
 use Rattle.std.proofs.Math.Seq.{take-nil}
 use Rattle.std.specs.Prelude.{find}
 use Rattle.tiff_format.specs.Field.{entry_value, field_values}
-use Rattle.tiff_dirs.specs.Entries.{is_shaped}
+use Rattle.tiff_entries.specs.Entries.{is_shaped}
 use Rattle.tiff_dirs.specs.Values.{is_allowed, IsFirstOther, first_other}
-use Rattle.tiff_dirs.proofs.Saying.{finds_so}
+use Rattle.tiff_entries.proofs.Saying.{finds_so}
 use Rattle.tiff_dirs.proofs.Finding.{other_found}
-use Rattle.tiff_dirs.proofs.FieldValues.{absent_values, misshapen_values, shaped_values}
+use Rattle.tiff_entries.proofs.FieldValues.{absent_values, misshapen_values, shaped_values}
 use Rattle.tiff_dirs.proofs.sample_fields.SampleField.first_other.Goals as goal
 
 pub returns-in-None-clause-told : goal.returns-in-None-clause-told

@@ -1,7 +1,7 @@
 use Rattle.std.proofs.Common.{◌≡◌, ℕ, ◌-◌, ◌*◌, ◌<◌, ◌≤◌, true, vec_len}
 use Rattle.std.specs.Option.{ForSome}
 use Rattle.tiff_format.specs.Field.{entry_value, type_size}
-use Rattle.tiff_dirs.specs.Entries.{IsEntry}
+use Rattle.tiff_entries.specs.Entries.{IsEntry}
 use Rattle.tiff_dirs.specs.Values.{is_allowed}
 use Rattle.tiff_dirs.proofs.sample_fields.SampleField.other_of_entry.Given as goal
 

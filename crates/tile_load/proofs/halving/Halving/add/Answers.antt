@@ -95,7 +95,7 @@ invariant_of-self g c =
     let samples : take a.samples.len (new ++ rest) ≡ new =
     ap (λ (k : ℕ). take k (new ++ rest)) all ∙ take-append_seam new rest in
     let told = told_more layout a.cut a.key is.cell a.done below tile own.key_is tile_rect
-    own.channels_is old new few_own long halves files is.told c.key-told.ensures.told in
+    own.channels_is old new few_own long halves files is.told c.key.ensures.told in
     subst (λ (xs : List ℕ). IsHalving files layout a.cut a.key (a.done + 1) a.source a.across a.down
     a.rect a.channels xs) (sym samples)
     (record {

@@ -20,7 +20,7 @@ overflow_sub-level g c =
       arith,
       c.level-level.ensures.value,
       level_some state layout c.args.cut c.args.key names
-          (omega (arith, c.stored-stored.ensures.value, c.stored-stored.ensures.in_range.low)),
+          (omega (arith, c.stored.ensures.value, c.stored.ensures.in_range.low)),
     )
 
 pub grid-source-requires-clause-level : goal.grid-source-requires-clause-level
@@ -29,8 +29,8 @@ grid-source-requires-clause-level g c =
     let layout = c.in-Ok.layout.now in
     let names = names_generated state layout c.in-Ok.ensures.value c.args.cut c.args.key
     c.requires.cell in
-    c.levels-levels.ensures.has (c.level-level.result - 1)
-    (omega (arith, c.level-level.ensures.value, names.level, c.levels-levels.ensures.value))
+    c.levels.ensures.has (c.level-level.result - 1)
+    (omega (arith, c.level-level.ensures.value, names.level, c.levels.ensures.value))
 
 pub cell_rect-rect-requires-clause-level : goal.cell_rect-rect-requires-clause-level
 cell_rect-rect-requires-clause-level g c =
@@ -38,8 +38,8 @@ cell_rect-rect-requires-clause-level g c =
     let layout = c.in-Ok.layout.now in
     let names = names_generated state layout c.in-Ok.ensures.value c.args.cut c.args.key
     c.requires.cell in
-    c.levels-levels.ensures.has c.level-level.result
-    (omega (arith, c.level-level.ensures.value, names.level, c.levels-levels.ensures.value))
+    c.levels.ensures.has c.level-level.result
+    (omega (arith, c.level-level.ensures.value, names.level, c.levels.ensures.value))
 
 pub of-requires-clause-inside : goal.of-requires-clause-inside
 of-requires-clause-inside g c =
@@ -51,9 +51,9 @@ of-requires-clause-inside g c =
     let grid = c.grid-source.result in
     let names = names_generated state layout c.in-Ok.ensures.value cut key c.requires.cell in
     let stored : 1 ≤ stored_count layout =
-    omega (arith, c.stored-stored.ensures.value, c.stored-stored.ensures.in_range.low) in
+    omega (arith, c.stored.ensures.value, c.stored.ensures.in_range.low) in
     let is = begun state layout cut key names stored grid rect c.level-level.result c.index.result
-    c.generation-generation.ensures.valid c.level-level.ensures.value c.index.ensures.value
+    c.generation.ensures.valid c.level-level.ensures.value c.index.ensures.value
     c.grid-source.ensures.value c.cell_rect-rect.ensures.value c.cell_rect-rect.ensures.some in
     grid_across layout cut key is.cell grid rect is.source_is is.rect_is
 
@@ -67,9 +67,9 @@ of-requires-2-clause-inside g c =
     let grid = c.grid-source.result in
     let names = names_generated state layout c.in-Ok.ensures.value cut key c.requires.cell in
     let stored : 1 ≤ stored_count layout =
-    omega (arith, c.stored-stored.ensures.value, c.stored-stored.ensures.in_range.low) in
+    omega (arith, c.stored.ensures.value, c.stored.ensures.in_range.low) in
     let is = begun state layout cut key names stored grid rect c.level-level.result c.index.result
-    c.generation-generation.ensures.valid c.level-level.ensures.value c.index.ensures.value
+    c.generation.ensures.valid c.level-level.ensures.value c.index.ensures.value
     c.grid-source.ensures.value c.cell_rect-rect.ensures.value c.cell_rect-rect.ensures.some in
     grid_down layout cut key is.cell grid rect is.source_is is.rect_is
 
@@ -83,9 +83,9 @@ invariant_of-result g c =
     let grid = c.grid-source.result in
     let names = names_generated state layout c.in-Ok.ensures.value cut key c.requires.cell in
     let stored : 1 ≤ stored_count layout =
-    omega (arith, c.stored-stored.ensures.value, c.stored-stored.ensures.in_range.low) in
+    omega (arith, c.stored.ensures.value, c.stored.ensures.in_range.low) in
     let is = begun state layout cut key names stored grid rect c.level-level.result c.index.result
-    c.generation-generation.ensures.valid c.level-level.ensures.value c.index.ensures.value
+    c.generation.ensures.valid c.level-level.ensures.value c.index.ensures.value
     c.grid-source.ensures.value c.cell_rect-rect.ensures.value c.cell_rect-rect.ensures.some in
     let channels = c.channels-channels.result in
     let samples = c.in_ok-samples.samples.items in

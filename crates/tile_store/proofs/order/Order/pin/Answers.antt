@@ -96,7 +96,7 @@ returns-clause-entries g c =
     let same_key = ap (λ x. x.tile.key) c.pin.ensures ∙ at.key_is e c.in-Some-index_mut.is in
     ap (λ l. entries_of (set s.slots.items p (Some w)) l.order) c.to_front.ensures
     ∙ written_first s.slots.items s.free.items _ s.keys s.links c.self.invariant.order key p found w same_key
-    c.len-count.ensures.distinct
+    c.len.ensures.distinct
     ∙ ap (λ l. (key, w) ∷ remove_entry (nat_eq key) l) (ap (λ o. o.entries) c.self.view_is)
     ∙ ap (λ x. (key, x) ∷ remove_entry (nat_eq key) old) c.pin.ensures
     ∙ sym (pinned_first-found key old e (at.found_is ∙ c.in-Some-index_mut.is))

@@ -83,7 +83,7 @@ invariant_of-self-2 g c =
     let slots = set s.slots.items p None in
     let index = c.take.new.self in
     let new = removed s.slots.items s.free.items (vec_capacity s.free) s.keys s.links c.self.invariant.order
-    c.args.key p (sym c.in-Some.ensures.value) index (λ k. c.in-Some.ensures.slots k) c.len-count.ensures.distinct in
+    c.args.key p (sym c.in-Some.ensures.value) index (λ k. c.in-Some.ensures.slots k) c.len.ensures.distinct in
     let size = ap length c.push_reserved.ensures.items ∙ length-append s.free.items (p ∷ []) in
     let told = c.self.invariant.told_low in
     record {
@@ -106,5 +106,5 @@ returns-clause-entries g c =
     ap (λ l. entries_of (set s.slots.items p None) l.order) c.remove.ensures
     ∙ removed_entries s.slots.items s.free.items (vec_capacity s.free) s.keys s.links c.self.invariant.order
     c.args.key p (sym c.in-Some.ensures.value) c.take.new.self (λ k. c.in-Some.ensures.slots k)
-    c.len-count.ensures.distinct
+    c.len.ensures.distinct
     ∙ ap (λ o. remove_entry (nat_eq c.args.key) o.entries) c.self.view_is

@@ -70,7 +70,7 @@ returns-clause-entries g c =
     let once : unpinned_once key old ≡ set_value (nat_eq key) old (one_less e) =
     rw (at.found_is ∙ c.in-Some-index_mut.is) refl in
     written_there s.slots.items s.free.items _ s.keys s.links c.self.invariant.order key p found w same_key
-    c.len-count.ensures.distinct
+    c.len.ensures.distinct
     ∙ ap (λ l. set_value (nat_eq key) l w) (ap (λ o. o.entries) c.self.view_is)
     ∙ ap (set_value (nat_eq key) old) c.unpin.ensures ∙ sym once
 

@@ -35,6 +35,6 @@ returns-clause-lawful g c = λ tag old.
     let files = g.W.World.files in
     let es = c.self.inside.order.entries in
     let was : Lawful files tag es = subst (Lawful files tag) (sym (ap (λ o. o.entries) c.self.view_is)) old in
-    let distinct = subst (λ l. IsDistinct nat_eq (keys_of l)) c.pin.ensures.entries c.len-count.ensures.valid in
+    let distinct = subst (λ l. IsDistinct nat_eq (keys_of l)) c.pin.ensures.entries c.len.ensures.valid in
     subst (Lawful files tag) (sym c.pin.ensures.entries)
     (lawful_pinned files tag es was c.args.key c.in-Some.entry.now (sym c.in-Some.ensures) distinct)

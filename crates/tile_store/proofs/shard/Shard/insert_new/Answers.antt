@@ -15,8 +15,8 @@ use Rattle.tile_store.specs.Slots.{FillsSlot}
 use Rattle.tile_store.proofs.LeftLemmas.{fills}
 use Rattle.tile_store.proofs.shard.Shard.insert_new.Goals as goal
 
-pub put-slot-requires-clause-absent : goal.put-slot-requires-clause-absent
-put-slot-requires-clause-absent g c =
+pub put-requires-clause-absent : goal.put-requires-clause-absent
+put-requires-clause-absent g c =
     let tile = c.args.tile in
     let es = c.self.inside.order.entries in
     let n = length c.self.inside.order.slots in
@@ -33,27 +33,27 @@ invariant_of-self g c =
     let n = length c.self.inside.order.slots in
     let entry : c.pinned-entry.result ≡ new_entry tile =
     c.pinned-entry.ensures ∙ ap new_entry (c.in_ok-another.ensures ∙ c.in_ok-kept.ensures) in
-    let to : c.put-slot.new.self.entries ≡ with_first tile (with_room n es) =
-    c.put-slot.ensures.entries ∙ ap (λ e. (e.tile.key, e) ∷ c.make_room.new.order.entries) entry
+    let to : c.put.new.self.entries ≡ with_first tile (with_room n es) =
+    c.put.ensures.entries ∙ ap (λ e. (e.tile.key, e) ∷ c.make_room.new.order.entries) entry
     ∙ ap (with_first tile) c.make_room.ensures.entries in
     let room : pinned_count es < n =
     subst (λ o. pinned_count o.entries < length o.slots) (sym c.self.view_is) c.requires.room in
-    let made : FillsSlot c.pinned-entry.result.tile.key c.self.inside.order c.put-slot.new.self =
-    fills c.pinned-entry.result.tile.key c.put-slot.result c.self.inside.order c.make_room.new.order c.put-slot.new.self
-    c.make_room.ensures.slots (ap (λ o. o.left) c.self.view_is ∙ c.requires.left) c.put-slot.ensures.slots
-    c.put-slot.ensures.last c.put-slot.ensures.left in
+    let made : FillsSlot c.pinned-entry.result.tile.key c.self.inside.order c.put.new.self =
+    fills c.pinned-entry.result.tile.key c.put.result c.self.inside.order c.make_room.new.order c.put.new.self
+    c.make_room.ensures.slots (ap (λ o. o.left) c.self.view_is ∙ c.requires.left) c.put.ensures.slots
+    c.put.ensures.last c.put.ensures.left in
     let size = ap length made.slots ∙ length-set c.self.inside.order.slots made.slot (Some c.pinned-entry.result.tile.key) in
-    let last = c.len-count.ensures.few in
+    let last = c.len.ensures.few in
     let few : n < 2 ^ 32 = omega arith in
     let marks = c.self.inside.marks in
     let known : file_of tile.key < length marks = subst (λ k. file_of k < length marks) c.key-key.ensures.value c.mark.ensures.in_range in
     let now : c.mark.new.self ≡ marked (file_of tile.key) marks =
     c.mark.ensures.marks ∙ ap (λ k. marked (file_of k) marks) c.key-key.ensures.value in
-    let is = shard_inserted es marks c.self.inside.pins c.self.inside.loose c.self.invariant c.put-slot.new.self.entries tile
+    let is = shard_inserted es marks c.self.inside.pins c.self.inside.loose c.self.invariant c.put.new.self.entries tile
     n c.make_room.result c.key-key.ensures.tile.bytes known room few to
     (ap (λ l. loose_bytes l + c.make_room.result) (sym c.make_room.ensures.entries)
     ∙ c.make_room.ensures.bytes) in
-    subst (λ m. IsShard c.put-slot.new.self.entries m (c.self.inside.pins + 1) (c.self.inside.loose - c.make_room.result)) (sym now) is
+    subst (λ m. IsShard c.put.new.self.entries m (c.self.inside.pins + 1) (c.self.inside.loose - c.make_room.result)) (sym now) is
 
 pub returns-clause-entries : goal.returns-clause-entries
 returns-clause-entries g c =
@@ -62,8 +62,8 @@ returns-clause-entries g c =
     let n = length c.self.inside.order.slots in
     let entry : c.pinned-entry.result ≡ new_entry tile =
     c.pinned-entry.ensures ∙ ap new_entry (c.in_ok-another.ensures ∙ c.in_ok-kept.ensures) in
-    let to : c.put-slot.new.self.entries ≡ with_first tile (with_room n es) =
-    c.put-slot.ensures.entries ∙ ap (λ e. (e.tile.key, e) ∷ c.make_room.new.order.entries) entry
+    let to : c.put.new.self.entries ≡ with_first tile (with_room n es) =
+    c.put.ensures.entries ∙ ap (λ e. (e.tile.key, e) ∷ c.make_room.new.order.entries) entry
     ∙ ap (with_first tile) c.make_room.ensures.entries in
     to ∙ ap (λ o. with_first tile (with_room (length o.slots) o.entries)) c.self.view_is
     ∙ sym (inserted-new tile (length c.args.self.now.slots) c.args.self.now.entries c.requires.absent)
@@ -80,11 +80,11 @@ returns-clause-lawful g c = λ tag fits old.
     let n = length c.self.inside.order.slots in
     let entry : c.pinned-entry.result ≡ new_entry tile =
     c.pinned-entry.ensures ∙ ap new_entry (c.in_ok-another.ensures ∙ c.in_ok-kept.ensures) in
-    let to : c.put-slot.new.self.entries ≡ with_first tile (with_room n es) =
-    c.put-slot.ensures.entries ∙ ap (λ e. (e.tile.key, e) ∷ c.make_room.new.order.entries) entry
+    let to : c.put.new.self.entries ≡ with_first tile (with_room n es) =
+    c.put.ensures.entries ∙ ap (λ e. (e.tile.key, e) ∷ c.make_room.new.order.entries) entry
     ∙ ap (with_first tile) c.make_room.ensures.entries in
     let was : Lawful files tag es = subst (Lawful files tag) (sym (ap (λ o. o.entries) c.self.view_is)) old in
-    let distinct = subst (λ l. IsDistinct nat_eq (keys_of l)) to c.len-count.ensures.valid in
+    let distinct = subst (λ l. IsDistinct nat_eq (keys_of l)) to c.len.ensures.valid in
     subst (Lawful files tag) (sym to) (lawful_inserted files tag es was tile n fits distinct)
 
 pub returns-clause-slots : goal.returns-clause-slots
@@ -92,9 +92,9 @@ returns-clause-slots g c =
     let tile = c.args.tile in
     let entry : c.pinned-entry.result ≡ new_entry tile =
     c.pinned-entry.ensures ∙ ap new_entry (c.in_ok-another.ensures ∙ c.in_ok-kept.ensures) in
-    let made : FillsSlot c.pinned-entry.result.tile.key c.self.inside.order c.put-slot.new.self =
-    fills c.pinned-entry.result.tile.key c.put-slot.result c.self.inside.order c.make_room.new.order c.put-slot.new.self
-    c.make_room.ensures.slots (ap (λ o. o.left) c.self.view_is ∙ c.requires.left) c.put-slot.ensures.slots
-    c.put-slot.ensures.last c.put-slot.ensures.left in
-    subst (λ o. FillsSlot tile.key o c.put-slot.new.self) c.self.view_is
-    (subst (λ e. FillsSlot e.tile.key c.self.inside.order c.put-slot.new.self) entry made)
+    let made : FillsSlot c.pinned-entry.result.tile.key c.self.inside.order c.put.new.self =
+    fills c.pinned-entry.result.tile.key c.put.result c.self.inside.order c.make_room.new.order c.put.new.self
+    c.make_room.ensures.slots (ap (λ o. o.left) c.self.view_is ∙ c.requires.left) c.put.ensures.slots
+    c.put.ensures.last c.put.ensures.left in
+    subst (λ o. FillsSlot tile.key o c.put.new.self) c.self.view_is
+    (subst (λ e. FillsSlot e.tile.key c.self.inside.order c.put.new.self) entry made)

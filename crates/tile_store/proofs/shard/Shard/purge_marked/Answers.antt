@@ -32,6 +32,6 @@ returns-clause-lawful g c = λ tag old.
     let es = c.self.inside.order.entries in
     let same = (ap (λ o. o.entries) c.self.view_is) in
     let was : Lawful files tag es = subst (Lawful files tag) (sym same) old in
-    let distinct = subst (λ l. IsDistinct nat_eq (keys_of l)) c.purge.ensures.entries c.len-count.ensures.valid in
+    let distinct = subst (λ l. IsDistinct nat_eq (keys_of l)) c.purge.ensures.entries c.len.ensures.valid in
     subst (Lawful files tag) (sym c.purge.ensures.entries)
     (lawful_purged files tag es was c.args.file c.args.below distinct)

@@ -76,7 +76,7 @@ returns-clause-lawful g c = λ tag share_is old.
     let left = c.evict_past-self-inside.ensures in
     let to : c.evict_past-self-inside.new.order.entries ≡ kept_within c.args.share (unpinned_once c.args.key es) =
     left.entries ∙ ap (kept_within c.args.share) c.unpin.ensures.entries in
-    let distinct = subst (λ l. IsDistinct nat_eq (keys_of l)) to c.len-count.ensures.valid in
+    let distinct = subst (λ l. IsDistinct nat_eq (keys_of l)) to c.len.ensures.valid in
     let within : loose_bytes c.evict_past-self-inside.new.order.entries ≤ c.args.share =
     subst (λ n. n ≤ c.args.share) left.loose left.within in
     subst (Lawful files tag) (sym to) (lawful_released files tag es was c.args.key c.args.share share_is

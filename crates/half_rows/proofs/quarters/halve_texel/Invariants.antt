@@ -1,0 +1,13 @@
+use Rattle.std.proofs.Common.{◌≡◌, ℕ, ◌+◌, ◌*◌, ◌<◌, length, slice_index}
+use Rattle.tile_store.specs.Row.{top_of, bottom_of}
+use Rattle.half_rows.specs.Quarters.{row_sample, row_average}
+use Rattle.half_rows.proofs.quarters.halve_texel.Given as goal
+
+abbrev pub invariant-loop-c : goal.invariant-loop-c
+invariant-loop-c l =
+    record {
+      long : length l.out ≡ length l.fn.out;
+      each : (c : ℕ) → c < l.c → row_sample l.channels l.out l.i c
+          ≡ row_average l.channels (top_of l.rows) (bottom_of l.rows) (2 * l.i) (2 * l.i + 1) c;
+      before : (k : ℕ) → k < l.i * l.channels → slice_index l.out k ≡ slice_index l.fn.out k;
+    }

@@ -1,5 +1,0 @@
-use Rattle.request_lang.proofs.PaddedTextLemmas.{one_digit_padded}
-use Rattle.request_lang.proofs.value_texts.one_digit.Goals as goal
-
-pub returns : goal.returns
-returns c = one_digit_padded c.args.value c.requires

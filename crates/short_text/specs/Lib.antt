@@ -1,0 +1,5 @@
+pub mod Words
+pub mod Digits
+pub mod Number
+pub mod Appending
+pub mod PaddedText

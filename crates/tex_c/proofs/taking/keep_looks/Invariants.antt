@@ -1,6 +1,0 @@
--- The looks so far follow the earlier ones.
-use Rattle.tex_c.specs.SuppliedTap.{Extends}
-use Rattle.tex_c.proofs.taking.keep_looks.Given as goal
-
-abbrev pub invariant-loop-seen : goal.invariant-loop-seen
-invariant-loop-seen l = Extends l.fn.kept.items l.kept.items

@@ -1,7 +1,0 @@
-//! A buffer of bytes that a C caller fills.
-
-/// A buffer of bytes that a C caller fills.
-#[derive(Drop)]
-pub struct Bytes {
-    pub(crate) items: Vec<u8>,
-}

@@ -1,0 +1,4 @@
+pub mod Reader
+pub mod Header
+pub mod Entries
+pub mod Calls
